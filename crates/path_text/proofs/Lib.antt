@@ -1,0 +1,5 @@
+pub mod NamesEqual
+pub mod PiecesYielded
+pub mod PrintLemmas
+pub mod SpellingLemmas
+pub mod TextLemmas

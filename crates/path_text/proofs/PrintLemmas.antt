@@ -1,0 +1,130 @@
+-- Names that are printed as a path are read back from it.
+use Rattle.std.proofs.Common.{◌≡◌, ℕ, Bool, true, false, not, ◌==◌, ◌&&◌, ◌||◌, nat_lt, List, [], ◌∷◌, ◌++◌, length, map, refl, ap, ◌∙◌, arith}
+use Rattle.std.specs.Prelude.{Some, None, All, if◌then◌else◌, codes}
+use Rattle.std.specs.List.{list_any}
+use Rattle.std.proofs.lemmas.List.Elements.{All-head, All-tail}
+use Rattle.std.proofs.lemmas.List.Folds.{list_any-append}
+use Rattle.path_text.specs.declared.errno.Errno.TheVariants.{NotFound, Invalid, TooLong}
+use Rattle.path_text.specs.declared.name.TheConstants.{SLASH, NAME_MAX}
+use Rattle.path_text.specs.declared.part.Part.TheVariants.{Cur, Up, Named}
+use Rattle.path_text.specs.declared.path.TheConstants.{TEXT_MAX}
+use Rattle.path_text.specs.Name.{NUL, same_bytes, is_component, name_fault}
+use Rattle.path_text.specs.Print.{after_slashes, printed}
+use Rattle.path_text.specs.Spelling.{Run, runs_text, IsNonSlash, AreSeparated, IsSpelling, ends_in_slashes, parts_spelled}
+use Rattle.path_text.specs.Text.{is_empty, part_of, reading_of, text_fault}
+use Rattle.path_text.proofs.SpellingLemmas.{spellings_read}
+use Rattle.path_text.proofs.TextLemmas.{and_true}
+
+-- ---- what a valid name is
+
+record IsPlain (name : List ℕ) : Type 0 where
+  spells : IsNonSlash name
+  no_nul : list_any (λ b. b == NUL) name ≡ false
+  part : part_of name ≡ Named name
+
+component_of : (c long : Bool) → (if not c then Some Invalid else (if long then Some TooLong else None)) ≡ None → c ≡ true
+component_of true long h = refl
+component_of false long h = cc
+
+not_true : (b : Bool) → not b ≡ true → b ≡ false
+not_true true h = cc
+not_true false h = refl
+
+some_byte_of : (name : List ℕ) → same_bytes name [] ≡ false → is_empty name ≡ false
+some_byte_of [] h = cc
+some_byte_of (b ∷ bs) h = refl
+
+part_named : (dot dots : Bool) (name : List ℕ) → dot ≡ false → dots ≡ false → (if dot then Cur else (if dots then Up else Named name)) ≡ Named name
+part_named dot dots name h k = rw (h, k)
+
+plain_of : (name : List ℕ) → name_fault name ≡ None → IsPlain name
+plain_of name h =
+    let empty = not (same_bytes name []) in
+    let dot = not (same_bytes name (codes ".")) in
+    let dots = not (same_bytes name (codes "..")) in
+    let slash = not (list_any (λ b. b == SLASH) name) in
+    let nul = not (list_any (λ b. b == NUL) name) in
+    let four = and_true (empty && dot && dots && slash) nul (component_of (is_component name) (nat_lt NAME_MAX (length name)) h) in
+    let three = and_true (empty && dot && dots) slash four.0 in
+    let two = and_true (empty && dot) dots three.0 in
+    let one = and_true empty dot two.0 in
+    record {
+      spells = record {
+        some_byte = some_byte_of name (not_true (same_bytes name []) one.0);
+        no_slash = not_true (list_any (λ b. b == SLASH) name) three.1;
+      };
+      no_nul = not_true (list_any (λ b. b == NUL) name) four.1;
+      part = part_named (same_bytes name (codes ".")) (same_bytes name (codes "..")) name (not_true (same_bytes name (codes ".")) one.1) (not_true (same_bytes name (codes "..")) two.1);
+    }
+
+abbrev AreNames : List (List ℕ) → Type 0
+AreNames names = All (λ name. name_fault name ≡ None) names
+
+head_plain : (name : List ℕ) (names : List (List ℕ)) → AreNames (name ∷ names) → IsPlain name
+head_plain name names h = plain_of name (All-head (λ n. name_fault n ≡ None) name names h)
+
+tail_names : (name : List ℕ) (names : List (List ℕ)) → AreNames (name ∷ names) → AreNames names
+tail_names name names h = All-tail (λ n. name_fault n ≡ None) name names h
+
+-- ---- printed names are one slash, and then names with one slash between them
+
+abbrev runs_of : List (List ℕ) → List Run
+runs_of [] = []
+runs_of (name ∷ []) = record { piece = name; slashes = 0 } ∷ []
+runs_of (name ∷ next ∷ names) = record { piece = name; slashes = 1 } ∷ runs_of (next ∷ names)
+
+after_slashes_are : (name : List ℕ) (names : List (List ℕ)) → after_slashes (name ∷ names) ≡ SLASH ∷ runs_text (runs_of (name ∷ names))
+after_slashes_are name [] = refl
+after_slashes_are name (next ∷ names) = ap (λ bs. SLASH ∷ (name ++ bs)) (after_slashes_are next names)
+
+runs_separated : (names : List (List ℕ)) → AreNames names → AreSeparated (runs_of names)
+runs_separated [] h = tt
+runs_separated (name ∷ []) h = (head_plain name [] h).spells
+runs_separated (name ∷ next ∷ []) h =
+    ((head_plain name (next ∷ []) h).spells, omega arith, runs_separated (next ∷ []) (tail_names name (next ∷ []) h))
+runs_separated (name ∷ next ∷ more ∷ names) h =
+    ((head_plain name (next ∷ more ∷ names) h).spells, omega arith, runs_separated (next ∷ more ∷ names) (tail_names name (next ∷ more ∷ names) h))
+
+printed_spells : (name : List ℕ) (names : List (List ℕ)) → AreNames (name ∷ names) → IsSpelling (printed (name ∷ names)) 1 (runs_of (name ∷ names))
+printed_spells name names h = record { text_is = after_slashes_are name names; separated = runs_separated (name ∷ names) h }
+
+parts_named : (names : List (List ℕ)) → AreNames names → parts_spelled (runs_of names) ≡ map Named names
+parts_named [] h = refl
+parts_named (name ∷ []) h = ap (λ p. p ∷ []) (head_plain name [] h).part
+parts_named (name ∷ next ∷ []) h =
+    ap (λ p. p ∷ parts_spelled (runs_of (next ∷ []))) (head_plain name (next ∷ []) h).part
+    ∙ ap (λ ps. Named name ∷ ps) (parts_named (next ∷ []) (tail_names name (next ∷ []) h))
+parts_named (name ∷ next ∷ more ∷ names) h =
+    ap (λ p. p ∷ parts_spelled (runs_of (next ∷ more ∷ names))) (head_plain name (next ∷ more ∷ names) h).part
+    ∙ ap (λ ps. Named name ∷ ps) (parts_named (next ∷ more ∷ names) (tail_names name (next ∷ more ∷ names) h))
+
+no_final_slash : (names : List (List ℕ)) → ends_in_slashes (runs_of names) ≡ false
+no_final_slash [] = refl
+no_final_slash (name ∷ []) = refl
+no_final_slash (name ∷ next ∷ []) = refl
+no_final_slash (name ∷ next ∷ more ∷ names) = no_final_slash (next ∷ more ∷ names)
+
+pub printed_read : (names : List (List ℕ)) → All (λ name. name_fault name ≡ None) names → reading_of (printed names) ≡ record { absolute = true; parts = map Named names; slash = false }
+printed_read [] h = refl
+printed_read (name ∷ names) h =
+    spellings_read (printed (name ∷ names)) 1 (runs_of (name ∷ names)) (printed_spells name names h)
+    ∙ ap (λ ps. record { absolute = true; parts = ps; slash = ends_in_slashes (runs_of (name ∷ names)) }) (parts_named (name ∷ names) h)
+    ∙ ap (λ s. record { absolute = true; parts = map Named (name ∷ names); slash = s }) (no_final_slash (name ∷ names))
+
+-- ---- they have no byte that faults
+
+after_slashes_no_nul : (names : List (List ℕ)) → AreNames names → list_any (λ b. b == NUL) (after_slashes names) ≡ false
+after_slashes_no_nul [] h = refl
+after_slashes_no_nul (name ∷ names) h =
+    list_any-append (λ b. b == NUL) name (after_slashes names)
+    ∙ ap (λ b. b || list_any (λ c. c == NUL) (after_slashes names)) (head_plain name names h).no_nul
+    ∙ after_slashes_no_nul names (tail_names name names h)
+
+fault_of : (empty nul long : Bool) → empty ≡ false → nul ≡ false → (if empty then Some NotFound else (if nul then Some Invalid else (if long then Some TooLong else None))) ≡ (if long then Some TooLong else None)
+fault_of empty nul long h k = rw (h, k)
+
+pub printed_fault : (names : List (List ℕ)) → All (λ name. name_fault name ≡ None) names → text_fault (printed names) ≡ (if nat_lt TEXT_MAX (length (printed names)) then Some TooLong else None)
+printed_fault [] h = refl
+printed_fault (name ∷ names) h =
+    let text = printed (name ∷ names) in
+    fault_of (is_empty text) (list_any (λ b. b == NUL) text) (nat_lt TEXT_MAX (length text)) refl (after_slashes_no_nul (name ∷ names) h)

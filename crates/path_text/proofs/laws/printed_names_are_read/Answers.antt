@@ -1,0 +1,8 @@
+use Rattle.path_text.proofs.PrintLemmas.{printed_read, printed_fault}
+use Rattle.path_text.proofs.laws.printed_names_are_read.Goals as goal
+
+pub returns-clause-reading : goal.returns-clause-reading
+returns-clause-reading c = printed_read
+
+pub returns-clause-fault : goal.returns-clause-fault
+returns-clause-fault c = printed_fault

@@ -1,0 +1,7 @@
+pub mod Errno
+pub mod Name
+pub mod Print
+pub mod Reading
+pub mod Spelling
+pub mod Split
+pub mod Text

@@ -1,0 +1,51 @@
+//! Taking the last name off a path.
+ghost use Rattle.std.specs.Prelude.{◌≡◌};
+ghost use Rattle.path_text.specs.Split.{parts_without_slash, split_of};
+
+use crate::errno::Errno;
+use crate::part::{Part, Parts};
+use crate::path::{Path, Rule, Split};
+
+impl Path {
+    // The parts without the `Cur` that a slash at the end gave.
+    fn parts_without_slash(self) -> Parts
+        ensures { result ≡ parts_without_slash self }
+    {
+        let mut parts = self.parts;
+        if self.slash {
+            let _ = parts.pop();
+        }
+        parts
+    }
+
+    /// The directory and the name that a path says, with the slash at its end taken away. The directory
+    /// keeps `absolute`, and takes over the parts before the name. Takes no memory.
+    ///
+    /// Errors, in this order: Invalid where no name is left at the end, but nothing, `.` or `..` (EINVAL),
+    /// NotDir of a slash at the end under `Rule::Refuse` (ENOTDIR), TooLong of a name over 255 bytes
+    /// (ENAMETOOLONG). Linux tells the first two by several errors, operation by operation.
+    pub fn split_last(self, rule: Rule) -> Result<Split, Errno>
+        ensures { result ≡ split_of self rule }
+    {
+        let (absolute, slash) = (self.absolute, self.slash);
+        let mut parts = self.parts_without_slash();
+        let Some(Part::Named(component)) = parts.pop() else {
+            return Err(Errno::Invalid);
+        };
+        if slash && rule == Rule::Refuse {
+            return Err(Errno::NotDir);
+        }
+        if component.is_too_long() {
+            return Err(Errno::TooLong);
+        }
+        Ok(Split {
+            dir: Path {
+                absolute,
+                parts,
+                slash: false,
+            },
+            name: component.into_name(),
+            slash,
+        })
+    }
+}
