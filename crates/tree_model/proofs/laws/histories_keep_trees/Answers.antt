@@ -1,0 +1,5 @@
+use Rattle.tree_model.proofs.HistoryLaws.{histories_keep_trees, objects_stay_for_good, handles_stay_among_others}
+use Rattle.tree_model.proofs.laws.histories_keep_trees.Goals as goal
+
+pub returns : goal.returns
+returns c = record { trees = histories_keep_trees; objects = objects_stay_for_good; handles = handles_stay_among_others }
