@@ -1,0 +1,6 @@
+pub mod Nodes
+pub mod Building
+pub mod Sorting
+pub mod Ways
+pub mod Built
+pub mod Stood

@@ -1,0 +1,10 @@
+use Rattle.std.proofs.Common.{◌≡◌, ◌∷◌, ◌++◌, [], drop}
+use Rattle.tree_model.specs.State.{TOP}
+use Rattle.tree_list.specs.Build.{makes_at}
+use Rattle.tree_list.proofs.build.make_at.Given as goal
+
+-- what is made at the names that are left is what is made at all
+abbrev pub invariant-loop-step : goal.invariant-loop-step
+invariant-loop-step l =
+    (makes_at l.nodes.items l.dir (drop l.step-index l.way ++ l.name ∷ []) l.object ≡ makes_at l.nodes.items TOP (l.way ++ l.name ∷ []) l.object)
+    × (l.object ≡ l.fn.object)

@@ -1,0 +1,126 @@
+//! Builds a tree of a list of entries.
+ghost use Rattle.std.specs.Prelude.{◌≡◌, ◌∷◌, ◌++◌, [], MatchResult, Ok, IfOk, OnErr};
+ghost use Rattle.tree_model.specs.State.{TOP};
+ghost use Rattle.tree_list.specs.Build.{new_fault, object_of, makes_at, adds, top_alone, built, IsFaultOf};
+ghost use Rattle.tree_list.specs.Changes.{IsGrowth, IsTry};
+
+use crate::entries::make;
+use crate::read::{child, is_dir, top};
+use path_text::{Bytes, Errno, Name, Names, NoMemory, Path};
+use std::alloc::Global;
+use thiserror::Error;
+use tree_model::{Inode, Node, Object};
+
+/// What a new entry is.
+#[derive(Debug, Drop)]
+pub enum New {
+    Dir,
+    File,
+    /// A symbolic link with that text.
+    Link(Bytes),
+}
+
+/// An entry to be built, and the names from the top at which it is to stand.
+#[derive(Debug, Drop)]
+pub struct Entry {
+    pub at: Names,
+    pub what: New,
+}
+
+/// The first entry that was refused, by its place in the list, and why.
+#[derive(Clone, Copy, Debug, PartialEq, Eq, Error)]
+#[error("entry {at}: {cause}")]
+pub struct BuildFault {
+    pub at: usize,
+    pub cause: Errno,
+}
+
+// Why the text of a new link is no path text.
+fn new_fault(what: &New) -> Option<Errno>
+    ensures { result ≡ new_fault what.now }
+{
+    match what {
+        New::Link(text) => Path::fault_of(text.as_slice()),
+        New::Dir | New::File => None,
+    }
+}
+
+// What a new entry becomes.
+fn object_of(alloc: Global, what: &New) -> Result<Object, NoMemory>
+    ensures { IfOk result (λ object. object ≡ object_of what.now) }
+{
+    Ok(match what {
+        New::Dir => Object::Dir,
+        New::File => Object::File,
+        New::Link(text) => Object::Link(text.copy(alloc)?),
+    })
+}
+
+// Makes a node at a name of the directory at the names `way` from the top.
+#[tactic(auto, using(crate::proofs::Building::makes_at_no_directory, crate::proofs::Building::makes_at_missing, crate::proofs::Building::makes_at_enters))]
+fn make_at(
+    nodes: &mut Vec<Inode>,
+    alloc: Global,
+    way: &[Name],
+    name: &Name,
+    object: Object,
+) -> Result<Result<(), Errno>, NoMemory>
+    ensures { IsGrowth nodes.old.items nodes.new.items (makes_at nodes.old.items TOP (way.now ++ name.now ∷ []) object) result }
+{
+    let mut dir = top();
+    for step in way {
+        if !is_dir(nodes, dir) {
+            return Ok(Err(Errno::NotDir));
+        }
+        let Some(next) = child(nodes, dir, step.bytes()) else {
+            return Ok(Err(Errno::NotFound));
+        };
+        dir = next;
+    }
+    make(nodes, alloc, dir, name, object)
+}
+
+// Adds an entry.
+fn add(nodes: &mut Vec<Inode>, alloc: Global, entry: &Entry) -> Result<(), Errno>
+    ensures { IsTry nodes.old.items nodes.new.items (adds nodes.old.items entry.now) result }
+{
+    if let Some(fault) = new_fault(&entry.what) {
+        return Err(fault);
+    }
+    let mut way = entry.at.copy(alloc)?.into_vec();
+    let Some(name) = way.pop() else {
+        return Err(Errno::Exists);
+    };
+    let object = object_of(alloc, &entry.what)?;
+    make_at(nodes, alloc, way.as_slice(), &name, object)?
+}
+
+/// The top alone.
+pub(crate) fn top_alone(alloc: Global) -> Result<Vec<Inode>, NoMemory>
+    ensures { IfOk result (λ nodes. nodes.items ≡ top_alone) }
+{
+    let mut nodes = Vec::new(alloc);
+    nodes.push(Inode {
+        object: Object::Dir,
+        place: None,
+    })?;
+    Ok(nodes)
+}
+
+/// The nodes of the tree with these entries, or the first that is refused, and why.
+#[tactic(auto, using(crate::proofs::Building::adds_all_more, crate::proofs::Building::adds_all_refused, crate::proofs::Building::adds_all_take_more))]
+pub(crate) fn build(alloc: Global, entries: &[Entry]) -> Result<Vec<Inode>, BuildFault>
+    ensures { MatchResult result (λ nodes. built entries.now ≡ Ok nodes.items) (λ fault. IsFaultOf entries.now fault) }
+{
+    let mut nodes = top_alone(alloc).map_err(|_| BuildFault {
+        at: 0,
+        cause: Errno::NoMemory,
+    })?;
+    for (at, entry) in entries.iter().enumerate() {
+        match add(&mut nodes, alloc, entry) {
+            Ok(()) => {}
+            Err(cause) => return Err(BuildFault { at, cause }),
+        }
+    }
+    Ok(nodes)
+}

@@ -1,0 +1,190 @@
+//! What is read off the nodes of a tree, by scans from the front.
+ghost use Rattle.std.specs.Prelude.{◌≡◌, ◌≤◌, length, insert, IfOk};
+ghost use Rattle.std.specs.Option.{option_copied};
+ghost use Rattle.tree_model.specs.Steps.{directory_at};
+ghost use Rattle.tree_model.specs.State.{TOP, place_at, object_at, is_dir, is_gone, is_at, child, parent, has_entries, is_within, name_in, names_below, names_in, insert_name, sorted_names};
+
+use path_text::{Errno, Name, Names, NoMemory};
+use std::alloc::Global;
+use tree_model::{Inode, Node, Object, Place};
+
+/// The top.
+pub(crate) fn top() -> Node
+    ensures { result ≡ TOP }
+{
+    Node::new(0)
+}
+
+/// Where a node stands.
+pub(crate) fn place_at(nodes: &[Inode], x: Node) -> Option<&Place>
+    ensures { option_copied result ≡ place_at nodes.now x }
+{
+    match nodes.get(x.number() as usize) {
+        Some(inode) => inode.place.as_ref(),
+        None => None,
+    }
+}
+
+/// Whether a node is a directory.
+pub(crate) fn is_dir(nodes: &[Inode], x: Node) -> bool
+    ensures { result ≡ is_dir nodes.now x }
+{
+    match nodes.get(x.number() as usize) {
+        Some(inode) => matches!(inode.object, Object::Dir),
+        None => false,
+    }
+}
+
+/// Whether a node is other than the top and stands nowhere.
+pub(crate) fn is_gone(nodes: &[Inode], x: Node) -> bool
+    ensures { result ≡ is_gone nodes.now x }
+{
+    x != top() && place_at(nodes, x).is_none()
+}
+
+/// The directory in which a node stands; the top is its own parent.
+pub(crate) fn parent(nodes: &[Inode], x: Node) -> Option<Node>
+    ensures { result ≡ parent nodes.now x }
+{
+    if x == top() {
+        return Some(x);
+    }
+    place_at(nodes, x).map(|place| place.parent)
+}
+
+/// Whether a place is the entry of that name in that directory.
+fn is_at(dir: Node, name: &[u8], place: &Option<Place>) -> bool
+    ensures { result ≡ is_at dir name.now place.now }
+{
+    match place {
+        Some(place) => place.parent == dir && place.name.bytes() == name,
+        None => false,
+    }
+}
+
+/// The node at the entry of that name in that directory.
+pub(crate) fn child(nodes: &[Inode], dir: Node, name: &[u8]) -> Option<Node>
+    ensures { result ≡ child nodes.now dir name.now }
+{
+    for (number, inode) in nodes.iter().enumerate() {
+        if is_at(dir, name, &inode.place) {
+            return Some(Node::new(number as u64));
+        }
+    }
+    None
+}
+
+/// Whether a directory has an entry.
+pub(crate) fn has_entries(nodes: &[Inode], dir: Node) -> bool
+    ensures { result ≡ has_entries nodes.now dir }
+{
+    nodes.iter().any(|inode| matches!(&inode.place, Some(place) if place.parent == dir))
+}
+
+/// Whether a node is `top` or stands below it.
+#[tactic(auto, using(crate::proofs::Nodes::is_within_up))]
+pub(crate) fn is_within(nodes: &[Inode], top: Node, x: Node) -> bool
+    ensures { result ≡ is_within nodes.now top x }
+{
+    let mut at = x;
+    for _ in 0..nodes.len() {
+        if at == top {
+            return true;
+        }
+        let Some(place) = place_at(nodes, at) else {
+            return false;
+        };
+        at = place.parent;
+    }
+    at == top
+}
+
+/// The names, the innermost first, at which a node stands below `top`; None where it doesn't. NoMemory
+/// where their room was refused.
+#[tactic(auto, using(crate::proofs::Nodes::names_within_more))]
+pub(crate) fn names_below(
+    alloc: Global,
+    nodes: &[Inode],
+    top: Node,
+    x: Node,
+) -> Result<Option<Names>, NoMemory>
+    ensures { IfOk result (λ names. names ≡ names_below nodes.now top x) }
+{
+    let mut names = Names::new(alloc);
+    let mut at = x;
+    for _ in 0..nodes.len() {
+        if at == top {
+            return Ok(Some(names));
+        }
+        let Some(place) = place_at(nodes, at) else {
+            return Ok(None);
+        };
+        names.push(place.name.copy(alloc)?)?;
+        at = place.parent;
+    }
+    Ok((at == top).then_some(names))
+}
+
+/// The names of a directory's entries, as the nodes are numbered. NoMemory where their room was refused.
+pub(crate) fn names_in(alloc: Global, nodes: &[Inode], dir: Node) -> Result<Vec<Name>, NoMemory>
+    ensures { IfOk result (λ names. names.items ≡ names_in nodes.now dir) }
+{
+    let mut names = Vec::new(alloc);
+    for inode in nodes {
+        match &inode.place {
+            Some(place) if place.parent == dir => names.push(place.name.copy(alloc)?)?,
+            _ => {}
+        }
+    }
+    Ok(names)
+}
+
+// Where a name goes among sorted ones.
+fn slot_of(name: &Name, sorted: &[Name]) -> usize
+    ensures within { result ≤ length sorted.now }
+    ensures placed { insert sorted.now result name.now ≡ insert_name name.now sorted.now }
+{
+    for (at, other) in sorted.iter().enumerate() {
+        if name.cmp(other).is_lt() {
+            return at;
+        }
+    }
+    sorted.len()
+}
+
+/// The names by their bytes. NoMemory where room was refused.
+#[tactic(auto, using(crate::proofs::Sorting::onto))]
+pub(crate) fn sorted(alloc: Global, names: Vec<Name>) -> Result<Names, NoMemory>
+    ensures { IfOk result (λ names_by_bytes. names_by_bytes ≡ sorted_names names.items) }
+{
+    let mut names = names;
+    let mut sorted = Vec::with_capacity(alloc, names.len())?;
+    while let Some(name) = names.pop() {
+        let at = slot_of(&name, sorted.as_slice());
+        sorted.insert(at, name)?;
+    }
+    Ok(Names::from_vec(sorted))
+}
+
+/// The directory at these names below the top, no link followed. Errors, in this order: at each name
+/// NotDir and NotFound, NotDir at the end.
+#[tactic(auto, using(crate::proofs::Ways::ways))]
+pub(crate) fn directory_at(nodes: &[Inode], names: &Names) -> Result<Node, Errno>
+    ensures { result ≡ directory_at nodes.now TOP names.now }
+{
+    let mut at = top();
+    for next in 0..names.len() {
+        if !is_dir(nodes, at) {
+            return Err(Errno::NotDir);
+        }
+        let Some(there) = child(nodes, at, names.get(next)) else {
+            return Err(Errno::NotFound);
+        };
+        at = there;
+    }
+    if is_dir(nodes, at) {
+        Ok(at)
+    } else {
+        Err(Errno::NotDir)
+    }
+}
