@@ -1,0 +1,2 @@
+pub use Rattle.path_text.specs.Name
+pub mod Objects
