@@ -1,0 +1,189 @@
+-- What a legal history holds at each of its moments, and that a walk's lines happen in it.
+use Rattle.std.specs.Prelude.{◌≡◌, ℕ, zero, suc, ◌+◌, ◌≤◌, ◌==◌, List, [], ◌∷◌, Bool, true, false, cond, length, slice_get, Option, Some, None, refl}
+use Rattle.std.proofs.Common.{sym, ap, subst, ◌∙◌, le_refl, le_trans, not-suc-le-zero, le_of_suc-le-suc, arith}
+use Rattle.std.proofs.Math.Nat.{le-suc}
+use Rattle.std.proofs.lemmas.Bool.{eqb-false}
+use Rattle.tree_model.specs.declared.answer.Answer.{Answer}
+use Rattle.tree_model.specs.declared.answer.Event.{Event}
+use Rattle.tree_model.specs.declared.inode.Object.{Object}
+use Rattle.tree_model.specs.declared.step.StepOf.{StepOf}
+use Rattle.tree_model.specs.State.{State, object_at, is_directory}
+use Rattle.tree_model.specs.Steps.{outcome, held}
+use Rattle.tree_model.specs.Trees.{IsState}
+use Rattle.tree_model.specs.History.{IsLegal, after_event, after_events, tree_at}
+use Rattle.tree_model.specs.StepLaws.{OthersHandlesStay, NodesAreLeft}
+use Rattle.tree_model.specs.PlaceLaws.{StandsAtOneWay, NamesBelowAreStanding}
+use Rattle.tree_model.specs.HistoryLaws.{HistoriesKeepTrees, ObjectsStayForGood}
+use Rattle.step_resolver.specs.Trail.{is_by}
+use Rattle.step_resolver.specs.Order.{Line, answered, short, unmade, events_of}
+use Rattle.step_resolver.specs.Ends.{Walked, begin_of, end_of, state_at, own_events, IsWalked}
+use Rattle.step_resolver.proofs.Invariant.{Lived, StepAt, Happens, held_at}
+
+-- the laws of trees that are used
+pub record TreeLaws : Type 0 where
+  pub trees : HistoriesKeepTrees
+  pub objects : ObjectsStayForGood
+  pub others : OthersHandlesStay
+  pub below : NamesBelowAreStanding
+  pub one_way : StandsAtOneWay
+  pub nodes : NodesAreLeft
+
+pub last_moment : (s : State) (events : List Event) → (m : ℕ) → length events ≤ m → tree_at s events m ≡ after_events s events
+last_moment s [] zero le = refl
+last_moment s [] (suc m) le = refl
+last_moment s (event ∷ events) zero le = absurd (not-suc-le-zero le)
+last_moment s (event ∷ events) (suc m) le = last_moment (after_event s event) events m (le_of_suc-le-suc le)
+
+-- what a node is at any moment it is at the end
+objects_to_end : TreeLaws → (s : State) (events : List Event) (m x : ℕ) (object : Object)
+    → object_at (tree_at s events m).nodes x ≡ Some object → object_at (after_events s events).nodes x ≡ Some object
+objects_to_end laws s events m x object e =
+    subst (λ t. object_at t.nodes x ≡ Some object) (last_moment s events (m + length events) (omega arith))
+    (laws.objects s events m (m + length events) x object (omega arith) e)
+
+pub begins_as_tree : TreeLaws → (w : Walked) → IsWalked w → IsState (begin_of w)
+begins_as_tree laws w is = (laws.trees w.opening w.before is.tree).0
+
+pub lived : TreeLaws → (w : Walked) → IsWalked w → Lived w
+lived laws w is = record {
+  states = λ m. (laws.trees (begin_of w) w.window begin_is).1 m;
+  objects = λ m x object e. objects_to_end laws (begin_of w) w.window m x object e;
+  below = λ m x names stands. ((laws.below (state_at w m).nodes ((laws.trees (begin_of w) w.window begin_is).1 m).tree w.root x).0 names).1 stands;
+  root = is.root;
+  root_is_dir = on (object_at (begin_of w).nodes w.root) refl;
+}
+  where
+    begin_is : IsState (begin_of w)
+    begin_is = begins_as_tree laws w is
+
+    on : (o : Option Object) → object_at (begin_of w).nodes w.root ≡ o → is_directory (object_at (end_of w).nodes w.root) ≡ true
+    on None e = cc (sym (ap is_directory e) ∙ is.root_is_dir)
+    on (Some object) e = ap is_directory (objects_to_end laws (begin_of w) w.window 0 w.root object e ∙ sym e) ∙ is.root_is_dir
+
+-- ---- the walk's lines in the window
+
+-- these events are what is left of the window at moment m, in the state as it is then
+record IsRest (w : Walked) (m : ℕ) (s : State) (rest : List Event) : Type 0 where
+  pub states : (j k : ℕ) → j ≡ m + k → state_at w j ≡ tree_at s rest k
+  pub events : (j k : ℕ) → j ≡ m + k → slice_get w.window j ≡ slice_get rest k
+  pub ends : end_of w ≡ after_events s rest
+
+one_less : {w : Walked} {m : ℕ} {s : State} {event : Event} {rest : List Event} → IsRest w m s (event ∷ rest) → IsRest w (suc m) (after_event s event) rest
+one_less is = record {
+  states = λ j k e. is.states j (suc k) (omega arith);
+  events = λ j k e. is.events j (suc k) (omega arith);
+  ends = is.ends;
+}
+
+cons_not_nil : {A : Type 0} (x : A) (xs : List A) → x ∷ xs ≡ [] → ⊥
+cons_not_nil x xs e = cc (e)
+
+head_of : {A : Type 0} → A → List A → A
+head_of d [] = d
+head_of d (x ∷ xs) = x
+
+tail_of : {A : Type 0} → List A → List A
+tail_of [] = []
+tail_of (x ∷ xs) = xs
+
+same_head : {A : Type 0} (x y : A) (xs ys : List A) → x ∷ xs ≡ y ∷ ys → x ≡ y
+unfolding head_of
+same_head x y xs ys e = ap (head_of x) e
+
+same_tail : {A : Type 0} (x y : A) (xs ys : List A) → x ∷ xs ≡ y ∷ ys → xs ≡ ys
+unfolding tail_of
+same_tail x y xs ys e = ap tail_of e
+
+-- the walk's next event, and what is left after it
+record IsNext (w : Walked) (n : ℕ) (step : StepOf ℕ) (answer : Answer) (others : List Event) : Type 0 where
+  pub t : ℕ
+  pub state : State
+  pub rest : List Event
+  pub at : StepAt w n t step answer
+  pub is_rest : IsRest w (suc t) state rest
+  pub legal : IsLegal state rest
+  pub own : own_events w.actor rest ≡ others
+  pub kept : (h : ℕ) → held state w.actor h ≡ held_at w (suc t) h
+
+module _ (laws : TreeLaws) (w : Walked) where
+  -- a step of another leaves the actor's handles
+  other_keeps : (s : State) (event : Event) → (event.actor == w.actor) ≡ false → (h : ℕ) → held (after_event s event) w.actor h ≡ held s w.actor h
+  other_keeps s event e h = laws.others s event.actor event.step w.actor h (λ q. eqb-false event.actor w.actor e (sym q))
+
+  nothing_more : (rest : List Event) (s : State) → own_events w.actor rest ≡ [] → (h : ℕ) → held (after_events s rest) w.actor h ≡ held s w.actor h
+  nothing_more [] s e h = refl
+  nothing_more (event ∷ rest) s e h = on (event.actor == w.actor) refl (λ q. nothing_more rest (after_event s event) q h)
+    where
+      on : (b : Bool) → (event.actor == w.actor) ≡ b
+          → (own_events w.actor rest ≡ [] → held (after_events (after_event s event) rest) w.actor h ≡ held (after_event s event) w.actor h)
+          → held (after_events (after_event s event) rest) w.actor h ≡ held s w.actor h
+      on true q more = absurd (cons_not_nil event (own_events w.actor rest) (sym (ap (λ b. cond b (event ∷ own_events w.actor rest) (own_events w.actor rest)) q) ∙ e))
+      on false q more =
+          more (sym (ap (λ b. cond b (event ∷ own_events w.actor rest) (own_events w.actor rest)) q) ∙ e) ∙ other_keeps s event q h
+
+  next_event : (rest : List Event) (m n : ℕ) (s : State) (step : StepOf ℕ) (answer : Answer) (others : List Event) → n ≤ m → IsRest w m s rest → IsLegal s rest
+      → ((h : ℕ) → held s w.actor h ≡ held_at w n h)
+      → own_events w.actor rest ≡ record { actor = w.actor; step = step; answer = answer } ∷ others → IsNext w n step answer others
+  next_event [] m n s step answer others le is legal kept e = absurd (cons_not_nil _ others (sym e))
+  next_event (event ∷ rest) m n s step answer others le is legal kept e =
+      on (event.actor == w.actor) refl
+      (λ k q. next_event rest (suc m) n (after_event s event) step answer others (le_trans le (le-suc m)) (one_less is) legal.1 k q)
+    where
+      same_here : state_at w m ≡ s
+      same_here = is.states m 0 (omega arith)
+
+      same_after : state_at w (suc m) ≡ after_event s event
+      same_after = is.states (suc m) 1 (omega arith)
+
+      own_step : (event.actor == w.actor) ≡ true → event ≡ record { actor = w.actor; step = step; answer = answer }
+          → own_events w.actor rest ≡ others → IsNext w n step answer others
+      own_step q same rest_same = record {
+        t = m;
+        state = after_event s event;
+        rest = rest;
+        at = record {
+          at = record { own = ap (is_by w.actor) (is.events m 0 (omega arith)) ∙ q; later = le };
+          kept = λ h. ap (λ x. held x w.actor h) same_here ∙ kept h;
+          told = sym (ap (λ v. v.answer) same) ∙ legal.0 ∙ ap (λ v. (outcome s v.actor v.step).answer) same
+              ∙ ap (λ x. (outcome x w.actor step).answer) (sym same_here);
+          after = same_after ∙ ap (λ v. (outcome s v.actor v.step).after) same ∙ ap (λ x. (outcome x w.actor step).after) (sym same_here);
+        };
+        is_rest = one_less is;
+        legal = legal.1;
+        own = rest_same;
+        kept = λ h. ap (λ x. held x w.actor h) (sym same_after);
+      }
+
+      on : (b : Bool) → (event.actor == w.actor) ≡ b
+          → (((h : ℕ) → held (after_event s event) w.actor h ≡ held_at w n h)
+          → own_events w.actor rest ≡ record { actor = w.actor; step = step; answer = answer } ∷ others → IsNext w n step answer others)
+          → IsNext w n step answer others
+      on true q more =
+          let f = sym (ap (λ b. cond b (event ∷ own_events w.actor rest) (own_events w.actor rest)) q) ∙ e in
+          own_step q (same_head event _ (own_events w.actor rest) others f) (same_tail event _ (own_events w.actor rest) others f)
+      on false q more =
+          more (λ h. other_keeps s event q h ∙ kept h) (sym (ap (λ b. cond b (event ∷ own_events w.actor rest) (own_events w.actor rest)) q) ∙ e)
+
+  happen : (lines : List Line) (rest : List Event) (m n : ℕ) (s : State) → n ≤ m → IsRest w m s rest → IsLegal s rest
+      → ((h : ℕ) → held s w.actor h ≡ held_at w n h) → own_events w.actor rest ≡ events_of w.actor lines → Happens w n lines
+  happen [] rest m n s le is legal kept own = λ h. ap (λ x. held x w.actor h) is.ends ∙ nothing_more rest s own h ∙ kept h
+  happen (answered step answer ∷ lines) rest m n s le is legal kept own =
+      let next = next_event rest m n s step answer (events_of w.actor lines) le is legal kept own in
+      (next.t, (next.at, happen lines next.rest (suc next.t) (suc next.t) next.state (le_refl (suc next.t)) next.is_rest next.legal next.kept next.own))
+  happen (short step answer ∷ lines) rest m n s le is legal kept own =
+      let next = next_event rest m n s step answer (events_of w.actor lines) le is legal kept own in
+      (next.t, (next.at, happen lines next.rest (suc next.t) (suc next.t) next.state (le_refl (suc next.t)) next.is_rest next.legal next.kept next.own))
+  happen (unmade error ∷ lines) rest m n s le is legal kept own = happen lines rest m n s le is legal kept own
+
+  -- the walk's lines happen in its window
+  pub lines_happen : IsWalked w → Happens w 0 w.lines
+  lines_happen is = happen w.lines w.window 0 0 (begin_of w) (le_refl 0)
+      (record {
+        states = λ j k e. ap (state_at w) (same_number j k e);
+        events = λ j k e. ap (slice_get w.window) (same_number j k e);
+        ends = refl;
+      })
+      is.legal (λ h. refl) is.own
+    where
+      same_number : (j k : ℕ) → j ≡ 0 + k → j ≡ k
+      same_number j k e = omega arith

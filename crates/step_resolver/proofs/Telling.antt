@@ -1,0 +1,65 @@
+-- The turns of a walk tell what its end tells, since its lines lead to them.
+use Rattle.std.proofs.Common.{◌≡◌, List, [], ◌∷◌, ◌++◌, Bool, true, false, refl, sym, ◌∙◌, ap, subst}
+use Rattle.path_text.specs.declared.errno.Errno.{Errno}
+use Rattle.path_text.specs.Reading.{Reading}
+use Rattle.tree_model.specs.declared.answer.Answer.{Answer}
+use Rattle.tree_model.specs.declared.answer.Answer.TheVariants.{Refused}
+use Rattle.step_resolver.specs.Order.{Way, Walking, opening, reading, rising, judging, duping, ending, closing, Turn, more, found, partial, failed, begins, take, Line, answered, short, unmade, LeadsTo}
+use Rattle.step_resolver.specs.Ends.{Walked, IsWalked}
+use Rattle.step_resolver.specs.Headline.{WalksTell}
+use Rattle.step_resolver.specs.FootprintLaws.{WalksMean}
+use Rattle.step_resolver.specs.Telling.{TellsAll, IsLineOf, TellsTaken, TellsBegun}
+
+-- lines that lead on from where others led
+leads_on : (way : Way) (lines : List Line) (turn mid : Turn) (others : List Line) (end : Turn) → LeadsTo way turn lines mid → LeadsTo way mid others end → LeadsTo way turn (lines ++ others) end
+leads_on way [] turn mid others end first then = subst (λ t. LeadsTo way t others end) (sym first) then
+leads_on way (answered step answer ∷ lines) (more walk) mid others end first then =
+    (first.0, leads_on way lines (take way true walk answer) mid others end first.1 then)
+leads_on way (short step answer ∷ lines) (more walk) mid others end first then =
+    (first.0, leads_on way lines (take way false walk answer) mid others end first.1 then)
+leads_on way (unmade error ∷ lines) (more walk) mid others end first then =
+    (first.0, (first.1.0, leads_on way lines (take way true walk (Refused error)) mid others end first.1.1 then))
+leads_on way (line ∷ lines) (found handle names) mid others end first then = absurd first
+leads_on way (line ∷ lines) (partial handle names rest) mid others end first then = absurd first
+leads_on way (line ∷ lines) (failed error) mid others end first then = absurd first
+
+-- a refusal brings nothing that takes room
+refusal_needs_no_room : (way : Way) (room : Bool) (walk : Walking) (error : Errno) → take way true walk (Refused error) ≡ take way room walk (Refused error)
+refusal_needs_no_room way room (opening position own follow n rest) error = refl
+refusal_needs_no_room way room (reading position link rest) error = refl
+refusal_needs_no_room way room (rising old names rest) error = refl
+refusal_needs_no_room way room (judging new names rest) error = refl
+refusal_needs_no_room way room (duping rest) error = refl
+refusal_needs_no_room way room (ending handle names rest) error = refl
+refusal_needs_no_room way room (closing h hs after) error = refl
+
+-- the line of an answer leads to the turn that the answer makes of the walk
+line_leads : (way : Way) (room : Bool) (walk : Walking) (answer : Answer) (turn : Turn) (line : Line)
+    → turn ≡ take way room walk answer → IsLineOf way room walk answer line → LeadsTo way (more walk) (line ∷ []) turn
+line_leads way room walk answer turn (answered step told) taken is =
+    (is.1, ap (λ a. take way true walk a) is.2 ∙ ap (λ r. take way r walk answer) (sym is.0) ∙ sym taken)
+line_leads way room walk answer turn (short step told) taken is =
+    (is.1, ap (λ a. take way false walk a) is.2 ∙ ap (λ r. take way r walk answer) (sym is.0) ∙ sym taken)
+line_leads way room walk answer turn (unmade error) taken is =
+    (is.0, (is.1, refusal_needs_no_room way room walk error ∙ ap (λ a. take way room walk a) (sym is.2) ∙ sym taken))
+
+-- what an end tells, and what the path means
+tells_all : WalksTell → WalksMean → (way : Way) (w : Walked) (turn : Turn) → IsWalked w → w.way ≡ way → LeadsTo way (begins way w.path) w.lines turn → TellsAll w turn
+tells_all tell mean way w turn walked same_way leads_by =
+    let leads = subst (λ (v : Way). LeadsTo v (begins v w.path) w.lines turn) (sym same_way) leads_by in
+    record { end = tell w turn walked leads; meaning = (mean w turn walked leads).0; deepest = (mean w turn walked leads).1 }
+
+pub taken_tells : WalksTell → WalksMean → (way : Way) (walk : Walking) (answer : Answer) (turn : Turn) → TellsTaken way walk answer turn
+taken_tells tell mean way walk answer turn = record {
+  tells = λ room taken w at. tells_all tell mean way w turn at.walked at.same_way
+      (subst (λ (lines : List Line). LeadsTo way (begins way w.path) lines turn) (sym at.lines)
+      (leads_on way at.before (begins way w.path) (more walk) (at.last ∷ []) turn at.led_here
+      (line_leads way room walk answer turn at.last taken at.is_last)));
+}
+
+pub begun_tells : WalksTell → WalksMean → (way : Way) (path : Reading) (turn : Turn) → turn ≡ begins way path → TellsBegun way path turn
+begun_tells tell mean way path turn begun = record {
+  tells = λ w at. tells_all tell mean way w turn at.walked at.same_way
+      (subst (λ (lines : List Line). LeadsTo way (begins way w.path) lines turn) (sym at.lines)
+      (ap (begins way) at.same_path ∙ sym begun));
+}

@@ -1,0 +1,5 @@
+use Rattle.step_resolver.proofs.FootprintLaws.{quiet_walks_mean}
+use Rattle.step_resolver.proofs.footprint_laws.quiet_walks_mean.Goals as goal
+
+pub returns : goal.returns
+returns c = quiet_walks_mean

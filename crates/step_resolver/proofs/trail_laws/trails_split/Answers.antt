@@ -1,0 +1,5 @@
+use Rattle.step_resolver.proofs.Trails.{split}
+use Rattle.step_resolver.proofs.trail_laws.trails_split.Goals as goal
+
+pub returns : goal.returns
+returns c = λ story ps qs s z next t. split story ps qs t

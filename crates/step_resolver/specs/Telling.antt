@@ -1,0 +1,47 @@
+-- What the turns of a walk tell, in every legal history in which the walk's lines led to them. openat2(2).
+use Rattle.std.specs.Prelude.{◌≡◌, List, [], ◌∷◌, ◌++◌, Bool, true, false}
+use Rattle.path_text.specs.Reading.{Reading}
+use Rattle.tree_model.specs.declared.answer.Answer.{Answer}
+use Rattle.tree_model.specs.declared.answer.Answer.TheVariants.{Refused}
+use Rattle.step_resolver.specs.Order.{Way, Walking, Turn, more, begins, take, due, is_closing, Line, answered, short, unmade, IsWant, LeadsTo}
+use Rattle.step_resolver.specs.Ends.{Walked, IsWalked, Tells, TellsMeaning, TellsDeepest}
+
+-- As an end it tells what was passed, or why it failed; and, where the entries that the path reads are left alone, it is
+-- what the path means, and so for the deepest directory.
+pub record TellsAll (w : Walked) (turn : Turn) : Type 0 where
+  pub end : Tells w turn
+  pub meaning : TellsMeaning w turn
+  pub deepest : TellsDeepest w turn
+
+-- The line that the answer to the due step is: the step was made, with room for what the answer brings or without; or it
+-- wasn't made, for a want that is handed in as its refusal. A Close is always made.
+abbrev pub IsLineOf : Way → Bool → Walking → Answer → Line → Type 0
+IsLineOf way room walking answer (answered step told) = (room ≡ true) × (step ≡ due way walking) × (told ≡ answer)
+IsLineOf way room walking answer (short step told) = (room ≡ false) × (step ≡ due way walking) × (told ≡ answer)
+IsLineOf way room walking answer (unmade error) = IsWant error × (is_closing walking ≡ false) × (answer ≡ Refused error)
+
+-- A walk on this way in a legal history was told lines that led it here, and then the line of this answer.
+pub record IsTaken (way : Way) (room : Bool) (walking : Walking) (answer : Answer) (w : Walked) : Type 0 where
+  pub walked : IsWalked w
+  pub same_way : w.way ≡ way
+  pub before : List Line
+  pub last : Line
+  pub lines : w.lines ≡ before ++ last ∷ []
+  pub led_here : LeadsTo way (begins way w.path) before (more walking)
+  pub is_last : IsLineOf way room walking answer last
+
+-- The turn that the answer makes of the walk, with room or without, tells this of each such history.
+pub record TellsTaken (way : Way) (walking : Walking) (answer : Answer) (turn : Turn) : Type 0 where
+  pub tells : (room : Bool) → turn ≡ take way room walking answer
+      → (w : Walked) → IsTaken way room walking answer w → TellsAll w turn
+
+-- A walk on this way, along this path, in a legal history was told nothing yet.
+pub record IsBegun (way : Way) (path : Reading) (w : Walked) : Type 0 where
+  pub walked : IsWalked w
+  pub same_way : w.way ≡ way
+  pub same_path : w.path ≡ path
+  pub lines : w.lines ≡ []
+
+-- The first turn tells this of each such history.
+pub record TellsBegun (way : Way) (path : Reading) (turn : Turn) : Type 0 where
+  pub tells : (w : Walked) → IsBegun way path w → TellsAll w turn

@@ -1,0 +1,148 @@
+-- How parts are passed while the tree changes: each part as the tree stood at a moment, the moments rising.
+-- path_resolution(7); openat2(2), RESOLVE_IN_ROOT, RESOLVE_BENEATH, RESOLVE_NO_SYMLINKS.
+use Rattle.std.specs.Prelude.{◌≡◌, ℕ, suc, ◌≤◌, ◌==◌, List, [], ◌∷◌, Bool, true, false, not, if◌then◌else◌, Option, Some, None, slice_get}
+use Rattle.path_text.specs.declared.flags.Flags.{Flags}
+use Rattle.path_text.specs.Text.{parts_of, begins_with_slash}
+use Rattle.tree_model.specs.declared.answer.Event.{Event}
+use Rattle.tree_model.specs.declared.inode.Inode.{Inode}
+use Rattle.tree_model.specs.declared.inode.Object.{Object}
+use Rattle.tree_model.specs.declared.inode.Object.TheVariants.{Dir, File, Link}
+use Rattle.tree_model.specs.State.{State, Stands, object_at, child, parent, is_directory}
+use Rattle.tree_model.specs.History.{after_events, tree_at}
+use Rattle.step_resolver.specs.Asked.{AskedPart, Cur, Up, Named, followed}
+use Rattle.step_resolver.specs.Meaning.{is_too_long, crosses, from_of}
+
+-- What happens to a tree, as one actor's call sees it: the nodes at each moment, which events are its own, and what
+-- each node is (it stays that for good); and where the call resolves its path. Event t reads the nodes of moment t.
+pub record Story : Type 0 where
+  pub nodes_at : ℕ → List Inode
+  pub is_own : ℕ → Bool
+  pub object_of : ℕ → Option Object
+  pub root : ℕ
+  pub flags : Flags
+
+-- where a walk is: the node, the names passed from the root on (the innermost first), the links left, and the moment
+pub record Spot : Type 0 where
+  pub node : ℕ
+  pub names : List (List ℕ)
+  pub links : ℕ
+  pub moment : ℕ
+
+-- the same spot at another moment
+abbrev pub later : ℕ → Spot → Spot
+later m s = record { node = s.node; names = s.names; links = s.links; moment = m }
+
+-- at the root, with these links left
+abbrev pub at_root : Story → ℕ → ℕ → Spot
+at_root story b m = record { node = story.root; names = []; links = b; moment = m }
+
+-- the child of that name
+abbrev pub down_to : Spot → ℕ → List ℕ → ℕ → Spot
+down_to s c n m = record { node = c; names = n ∷ s.names; links = s.links; moment = m }
+
+-- where a link's text begins: at the root where it is absolute, else in the directory that holds the link
+abbrev pub from_text : Story → Spot → List ℕ → ℕ → ℕ → Spot
+from_text story s text b m = record {
+  node = from_of story.root s.node text;
+  names = if begins_with_slash text then [] else s.names;
+  links = b;
+  moment = m;
+}
+
+-- what is entered by a name: a link only where it isn't followed
+abbrev pub is_entered : Bool → Option Object → Bool
+is_entered follow None = false
+is_entered follow (Some Dir) = true
+is_entered follow (Some File) = true
+is_entered follow (Some (Link text)) = not follow
+
+-- an event of the call's own, at or after m
+pub record IsOwnFrom (story : Story) (m t : ℕ) : Type 0 where
+  pub own : story.is_own t ≡ true
+  pub later : m ≤ t
+
+-- at the call's own event t the entry of that name in the spot, a directory, is c
+pub record IsChildAt (story : Story) (s : Spot) (n : List ℕ) (t c : ℕ) : Type 0 where
+  pub dir : is_directory (story.object_of s.node) ≡ true
+  pub short : is_too_long n ≡ false
+  pub at : IsOwnFrom story s.moment t
+  pub child : child (story.nodes_at t) s.node n ≡ Some c
+
+-- at the call's own event t that entry is a link to be followed, with links left for its text
+pub record IsLinkAt (story : Story) (s : Spot) (n : List ℕ) (t : ℕ) (text : List ℕ) (b : ℕ) : Type 0 where
+  pub link : ℕ
+  pub child : IsChildAt story s n t link
+  pub is_link : story.object_of link ≡ Some (Link text)
+  pub links : s.links ≡ suc b
+  pub allowed : story.flags.no_links ≡ false
+  pub within : crosses story.flags text ≡ false
+
+-- up from the spot, a directory with names passed: e was its parent at the call's own event t, and at a later one, u, it
+-- stood under the root at the names less the last
+pub record IsUpAt (story : Story) (s : Spot) (t u e : ℕ) (names : List (List ℕ)) : Type 0 where
+  pub dir : is_directory (story.object_of s.node) ≡ true
+  pub name : List ℕ
+  pub passed : s.names ≡ name ∷ names
+  pub at : IsOwnFrom story s.moment t
+  pub parent : parent (story.nodes_at t) s.node ≡ Some e
+  pub checked : IsOwnFrom story (suc t) u
+  pub stands : Stands (story.nodes_at u) story.root e names
+
+-- the root itself, where `..` stays
+pub record IsTop (story : Story) (s : Spot) : Type 0 where
+  pub dir : is_directory (story.object_of s.node) ≡ true
+  pub root : s.node ≡ story.root
+  pub names : s.names ≡ []
+  pub absorbed : story.flags.beneath ≡ false
+
+-- Parts are passed from one spot to another, at rising moments that are the call's own events. With no next part all of
+-- them are passed (a trail); with one, only those before it are (a stop), which may lie within a link's text.
+-- Links count at all depths, since each takes one of those left.
+pub data Trail (story : Story) : List AskedPart → Spot → Spot → Option AskedPart → Type 0 where
+  all : {s : Spot} (m : ℕ) → s.moment ≤ m → Trail story [] s (later m s) None
+  before : {p : AskedPart} {ps : List AskedPart} {s : Spot} (m : ℕ) → s.moment ≤ m
+      → Trail story (p ∷ ps) s (later m s) (Some p)
+  stay : {ps : List AskedPart} {s z : Spot} {next : Option AskedPart} → is_directory (story.object_of s.node) ≡ true
+      → Trail story ps s z next → Trail story (Cur ∷ ps) s z next
+  top : {ps : List AskedPart} {s z : Spot} {next : Option AskedPart} → IsTop story s
+      → Trail story ps s z next → Trail story (Up ∷ ps) s z next
+  climb : {ps : List AskedPart} {s z : Spot} {next : Option AskedPart} (t u e : ℕ) (names : List (List ℕ))
+      → IsUpAt story s t u e names
+      → Trail story ps (record { node = e; names = names; links = s.links; moment = suc u }) z next
+      → Trail story (Up ∷ ps) s z next
+  down : {follow : Bool} {n : List ℕ} {ps : List AskedPart} {s z : Spot} {next : Option AskedPart} (t c : ℕ)
+      → IsChildAt story s n t c → is_entered follow (story.object_of c) ≡ true
+      → Trail story ps (down_to s c n (suc t)) z next → Trail story (Named follow n ∷ ps) s z next
+  through : {n : List ℕ} {ps : List AskedPart} {s z : Spot} {next : Option AskedPart} (t : ℕ) (text : List ℕ) (b : ℕ) (mid : Spot)
+      → IsLinkAt story s n t text b → Trail story (followed (parts_of text)) (from_text story s text b (suc t)) mid None
+      → Trail story ps mid z next → Trail story (Named true n ∷ ps) s z next
+  into : {n : List ℕ} {p : AskedPart} {ps : List AskedPart} {s z : Spot} (t : ℕ) (text : List ℕ) (b : ℕ)
+      → IsLinkAt story s n t text b → Trail story (followed (parts_of text)) (from_text story s text b (suc t)) z (Some p)
+      → Trail story (Named true n ∷ ps) s z (Some p)
+
+-- ---- the stories that histories make
+
+abbrev pub is_by : ℕ → Option Event → Bool
+is_by a None = false
+is_by a (Some event) = event.actor == a
+
+-- what happens to the tree in a window of events, as a call of this actor sees it whose own these are; moments count from
+-- the window's beginning
+abbrev pub story_of : State → List Event → ℕ → ℕ → Flags → Story
+story_of s window a r flags = record {
+  nodes_at = λ m. (tree_at s window m).nodes;
+  is_own = λ t. is_by a (slice_get window t);
+  object_of = λ x. object_at (after_events s window).nodes x;
+  root = r;
+  flags = flags;
+}
+
+-- where nothing changes, and each moment may be used
+abbrev pub quiet : List Inode → ℕ → Flags → Story
+quiet nodes r flags = record {
+  nodes_at = λ m. nodes;
+  is_own = λ t. true;
+  object_of = λ x. object_at nodes x;
+  root = r;
+  flags = flags;
+}

@@ -1,0 +1,181 @@
+-- What a contract sees of a walk: the order's walk, read off its plan and what it holds.
+use Rattle.std.specs.Prelude.{◌≡◌, ◌≤◌, ◌<◌, ℕ, ◌-◌, List, [], ◌∷◌, Bool, true, false, not, length, reverse, Option, Some, None, IsTrue}
+use Rattle.path_text.specs.declared.errno.Errno.{Errno}
+use Rattle.path_text.specs.declared.errno.Errno.TheVariants.{Raced, BadHandle}
+use Rattle.path_text.specs.declared.flags.Flags.{Flags}
+use Rattle.path_text.specs.declared.name.TheConstants.{NAME_MAX}
+use Rattle.path_text.specs.declared.part.Part.{Part}
+use Rattle.path_text.specs.declared.part.Part.TheVariants as part
+use Rattle.tree_model.specs.declared.answer.Answer.{Answer}
+use Rattle.tree_model.specs.declared.answer.Answer.TheVariants.{Opened, Text, Names, NotBelow, Listed, Done, Refused}
+use Rattle.handles.specs.declared.owner.Owner.{Owner}
+use Rattle.handles.specs.Objects.{ReachedObject}
+use Rattle.walk_plan.specs.declared.goal.Goal.{Goal}
+use Rattle.walk_plan.specs.Plan.{PlanState, IsNameAnd, next_part, is_own, is_name, stayed}
+use Rattle.walk_plan.specs.Plan as plan
+use Rattle.step_resolver.specs.Asked.{AskedPart, asked, followed, follows}
+use Rattle.step_resolver.specs.Order.{Way, Handle, Position, root_itself, holds, Todo, todo, After, gives, onward, judges, Walking, opening, reading, rising, judging, duping, ending, closing, Turn, is_dir_kind, is_dir_position, names_of, goes_on, enters}
+use Rattle.step_resolver.specs.declared.walk.Root.{Root}
+use Rattle.step_resolver.specs.declared.course.Course.{Course}
+use Rattle.step_resolver.specs.declared.doing.After.{After as Then}
+use Rattle.step_resolver.specs.declared.doing.After.TheVariants.{Gives, Onward, Judges}
+use Rattle.step_resolver.specs.declared.doing.Doing.{Doing}
+use Rattle.step_resolver.specs.declared.doing.Doing.TheVariants.{Opening, Reading, Rising, Judging, Duping, Ending, Closing}
+
+-- whose walk it is, what stays the same for it, and what is due
+pub record WalkView : Type 0 where
+  pub owner : Owner
+  pub way : Way
+  pub walking : Walking
+
+abbrev pub way_from : Root → Goal → Flags → Way
+way_from root goal flags = record { root = root.handle; goal = goal; flags = flags }
+
+abbrev pub way_of : Root → PlanState → Way
+way_of root p = way_from root p.goal p.flags
+
+-- ---- what is held
+
+abbrev pub handle_of : ReachedObject → Handle
+handle_of r = record { number = r.handle; node = r.node; kind = r.kind }
+
+-- the place, at these names from the root down
+abbrev pub place_of : Option ReachedObject → List (List ℕ) → Position
+place_of None names = root_itself
+place_of (Some held) names = holds (handle_of held) (reverse names)
+
+abbrev pub numbers_of : Option ReachedObject → List ℕ
+numbers_of None = []
+numbers_of (Some held) = held.handle ∷ []
+
+abbrev pub is_directory_at : Option ReachedObject → Bool
+is_directory_at None = true
+is_directory_at (Some held) = is_dir_kind held.kind
+
+-- ---- what the plan has to do
+
+-- the caller's own parts to come
+abbrev pub own_to_come : PlanState → List AskedPart
+own_to_come p = asked (follows p.goal) p.own
+
+abbrev pub todo_of : PlanState → Todo
+todo_of p = todo (followed p.inner) (own_to_come p) p.links_left
+
+-- the bytes of the name that the next part is
+abbrev pub name_in : Option Part → List ℕ
+name_in None = []
+name_in (Some part.Cur) = []
+name_in (Some part.Up) = []
+name_in (Some (part.Named n)) = n
+
+-- at this part the walk stays where it is: at `.`, and at `..` in the root where it may
+abbrev pub stays_at : Option Part → List (List ℕ) → Flags → Bool
+stays_at None names flags = false
+stays_at (Some part.Cur) names flags = true
+stays_at (Some part.Up) [] flags = not flags.beneath
+stays_at (Some part.Up) (n ∷ names) flags = false
+stays_at (Some (part.Named n)) names flags = false
+
+abbrev pub stays : PlanState → Bool
+stays p = stays_at (next_part p) p.names p.flags
+
+-- From a directory at the names passed, the walk goes on with either plan in the same way.
+pub record SameCourse (p q : PlanState) : Type 0 where
+  pub names : q.names ≡ p.names
+  pub goal : q.goal ≡ p.goal
+  pub flags : q.flags ≡ p.flags
+  pub same : (way : Way) (position : Position) → way.flags ≡ p.flags → is_dir_position position ≡ true
+      → names_of position ≡ reverse p.names → goes_on way position (todo_of q) ≡ goes_on way position (todo_of p)
+
+-- what was opened is entered, with room for one more name or without
+abbrev pub EntersBy : Way → Position → List ℕ → Handle → Todo → Turn → Type 0
+EntersBy way position n new rest turn = (room : Bool) × (turn ≡ enters way room position n new rest)
+
+-- ---- the walk
+
+abbrev pub after_of : PlanState → Then → After
+after_of p (Gives error) = gives error
+after_of p (Onward place) = onward (place_of place p.names) (todo_of p)
+after_of p (Judges held) = judges (handle_of held) (reverse p.names) (todo_of p)
+
+abbrev pub walking_of : PlanState → Doing → Walking
+walking_of p (Opening place) =
+    opening (place_of place p.names) (is_own p) (plan.follows p) (name_in (next_part p)) (todo_of (stayed p))
+walking_of p (Reading place link) =
+    reading (place_of place p.names) (handle_of link) (todo_of (record (stayed p) { links_left = p.links_left - 1 }))
+walking_of p (Rising held) = rising (handle_of held) (reverse p.names) (todo_of p)
+walking_of p (Judging held) = judging (handle_of held) (reverse p.names) (todo_of p)
+walking_of p Duping = duping (own_to_come p)
+walking_of p (Ending held) = ending (handle_of held) (reverse p.names) (own_to_come p)
+walking_of p (Closing first second after) = closing first.handle (numbers_of second) (after_of p after)
+
+abbrev pub view_of : Course → Doing → WalkView
+view_of course doing =
+    record { owner = course.root.owner; way = way_of course.root course.plan; walking = walking_of course.plan doing }
+
+-- ---- what every walk keeps
+
+-- what is held is the owner's; and no name was passed where nothing is held
+abbrev pub IsPlace : Owner → List (List ℕ) → Option ReachedObject → Type 0
+IsPlace owner names None = names ≡ []
+IsPlace owner names (Some held) = held.owner ≡ owner
+
+abbrev pub IsAfter : Owner → List (List ℕ) → Then → Type 0
+IsAfter owner names (Gives error) = Unit {0}
+IsAfter owner names (Onward place) = IsPlace owner names place
+IsAfter owner names (Judges held) = held.owner ≡ owner
+
+-- the next part is a name that can be looked up
+abbrev pub IsAtName : PlanState → Type 0
+IsAtName p = IsNameAnd (next_part p) (λ n. length n ≤ NAME_MAX)
+
+-- a link at the next part may be followed
+pub record MayFollow (p : PlanState) : Type 0 where
+  pub named : IsTrue (is_name (next_part p))
+  pub allowed : p.flags.no_links ≡ false
+  pub left : 0 < p.links_left
+
+abbrev pub IsDoing : Owner → PlanState → Doing → Type 0
+IsDoing owner p (Opening place) = IsPlace owner p.names place × IsAtName p
+IsDoing owner p (Reading place link) = IsPlace owner p.names place × (link.owner ≡ owner) × MayFollow p
+IsDoing owner p (Rising held) = held.owner ≡ owner
+IsDoing owner p (Judging held) = held.owner ≡ owner
+IsDoing owner p Duping = (p.names ≡ []) × (p.inner ≡ [])
+IsDoing owner p (Ending held) = (held.owner ≡ owner) × (p.inner ≡ [])
+IsDoing owner p (Closing first second after) = IsAfter owner p.names after
+
+-- ---- the same of a course
+
+abbrev pub course_way : Course → Way
+course_way course = way_of course.root course.plan
+
+abbrev pub position_at : Course → Option ReachedObject → Position
+position_at course place = place_of place course.plan.names
+
+abbrev pub IsPlaceOn : Course → Option ReachedObject → Type 0
+IsPlaceOn course place = IsPlace course.root.owner course.plan.names place
+
+abbrev pub IsAfterOn : Course → Then → Type 0
+IsAfterOn course after = IsAfter course.root.owner course.plan.names after
+
+-- ---- what is due, and what answers come to
+
+-- the step is one with a name, which is copied for it
+abbrev pub opens_a_name : Walking → Bool
+opens_a_name (opening position own follow n rest) = true
+opens_a_name (reading position link rest) = false
+opens_a_name (rising handle names rest) = false
+opens_a_name (judging handle names rest) = false
+opens_a_name (duping rest) = false
+opens_a_name (ending handle names rest) = false
+opens_a_name (closing h hs after) = false
+
+-- why a check of a place failed: other names, or none
+abbrev pub check_refusal : Answer → Errno
+check_refusal (Names told) = Raced
+check_refusal NotBelow = Raced
+check_refusal (Opened h x kind) = BadHandle
+check_refusal (Text text) = BadHandle
+check_refusal (Listed names) = BadHandle
+check_refusal Done = BadHandle
+check_refusal (Refused error) = error

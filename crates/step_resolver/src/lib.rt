@@ -1,0 +1,33 @@
+//! What a path means, how it is passed while the tree changes, and the walk that passes it.
+//!
+//! A `Walk` asks for one step at a time and is told its answer, so that others may change the tree in between
+//! (openat2(2), RESOLVE_IN_ROOT; path_resolution(7)). Its `start`, `due` and `take` are exactly the order of
+//! steps of `specs/Order.antt`, and each `take` leaves fewer steps to come. The layers above use what holds of
+//! that order in every legal history: `walks_tell`, what each end of a walk tells, and `walks_mean`, that the
+//! end is what the path means where no other actor changes an entry that the path reads. `start` and `take` tell
+//! it themselves, by their clause `headline` (`specs/Telling.antt`).
+#![tactic(auto)]
+
+mod answers;
+mod course;
+mod doing;
+mod footprint_laws;
+mod laws;
+mod meaning_laws;
+mod plain;
+mod trail_laws;
+mod walk;
+
+pub use footprint_laws::{quiet_walks_mean, raced_tells_of_change, walks_mean};
+pub use laws::walks_tell;
+pub use meaning_laws::{
+    deepest_is_front_and_rest, errors_of_parts, links_are_their_texts, meaning_of_appended_parts,
+    nesting_does_not_matter,
+};
+pub use plain::resolve_whole;
+pub use trail_laws::{links_add_up, quiet_trails_mean, trails_append, trails_split};
+pub use walk::{Root, Turn, Walk};
+pub use walk_plan::Goal;
+
+#[cfg(test)]
+mod tests;
