@@ -1,0 +1,6 @@
+pub mod Handles
+pub mod Json
+pub mod Pieces
+pub mod Entries
+pub mod Roots
+pub mod Lines

@@ -1,0 +1,39 @@
+//! Reading a script to its end.
+ghost use Rattle.std.specs.Prelude.{◌≡◌, ◌≢◌, ◌<◌, ◌≤◌, length, vec_len, IfOk, IfErr, IfSome, OnOk};
+ghost use Rattle.inroot.specs.Input.{IsReadFault};
+
+use crate::fault::{RunFault, ScriptFault};
+use std::alloc::Global;
+use std::io::{ErrorKind, Read};
+
+/// The most bytes of a script.
+pub const SCRIPT_MAX: usize = 1_048_576;
+
+/// The most reads of one script, those that are interrupted counted.
+pub const READS_MAX: u32 = 2_097_152;
+
+/// All that a reader has left.
+///
+/// An interrupted read is tried again (EINTR of read(2)). Errors: `ReadFailed` where a read fails for any
+/// other cause, or after `READS_MAX` reads without an end; `Script(TooLong)` past `SCRIPT_MAX` bytes;
+/// `NoMemory`.
+pub fn read_script<R: Read>(alloc: Global, reader: &mut R) -> Result<Vec<u8>, RunFault>
+    ensures whole { IfOk result (λ script. IfSome (R.remaining reader.old) (λ input. script.items ≡ input)) }
+    ensures short { IfOk result (λ script. vec_len script ≤ SCRIPT_MAX) }
+    ensures faults { IfErr result (λ fault. IsReadFault (R.remaining reader.old) fault) }
+{
+    let mut script = Vec::new(alloc);
+    let mut block = [0u8; 4096];
+    for _ in 0..READS_MAX {
+        match reader.read(&mut block) {
+            Ok(0) => return Ok(script),
+            Ok(count) => script.extend_from_slice(&block[..count])?,
+            Err(error) if error.kind() == ErrorKind::Interrupted => {}
+            Err(_) => return Err(RunFault::ReadFailed),
+        }
+        if script.len() > SCRIPT_MAX {
+            return Err(RunFault::Script(ScriptFault::TooLong));
+        }
+    }
+    Err(RunFault::ReadFailed)
+}

@@ -1,0 +1,249 @@
+use crate::fault::{RunFault, ScriptFault};
+use crate::input::{READS_MAX, SCRIPT_MAX};
+use crate::walk::walk;
+use std::alloc::Global;
+use std::io::{self, ErrorKind, Read, Write};
+use std::process::Abort;
+use std::test::Fail;
+
+/// The tree of ten entries that the examples use, and the root `/c`.
+const BASE: &str = r#"{"version":1,"tree":[["dir","/c"],["dir","/c/a"],["dir","/c/a/b"],
+["file","/c/a/b/f"],["link","/c/abs","/a/b"],["link","/c/up","../../a"],["link","/c/loop","loop"],
+["link","/c/dang","none/x"],["dir","/secret"],["file","/secret/key"]],
+"actors":[{"root":"/c","calls":[]}]}"#;
+
+fn said(
+    rt: &impl Abort,
+    alloc: Global,
+    script: &[u8],
+    path: &[u8],
+    want: &str,
+) -> Result<(), Fail> {
+    let mut written = Vec::new(alloc);
+    walk(alloc, &mut &*script, &mut written, path)?;
+    assert_eq!(rt; written.as_slice(), want.as_bytes());
+    Ok(())
+}
+
+fn refused(rt: &impl Abort, alloc: Global, script: &[u8], want: RunFault) {
+    let mut written = Vec::new(alloc);
+    assert_eq!(rt; walk(alloc, &mut &*script, &mut written, b"a"), Err(want));
+    assert!(rt; written.is_empty());
+}
+
+#[test]
+fn walks_paths_of_names(rt: HostRuntime) -> Result<(), Fail> {
+    let alloc = rt.alloc();
+    for (path, want) in [
+        ("a/b/f", "opened file 4 /a/b/f\n"),
+        ("a//b///f", "opened file 4 /a/b/f\n"),
+        ("/a/./b", "opened dir 3 /a/b\n"),
+        ("/", "opened dir 1 /\n"),
+        ("a/", "opened dir 2 /a\n"),
+        ("", "fault ENOENT\n"),
+        ("a\0", "fault EINVAL\n"),
+        ("a/b/f/", "fault ENOTDIR\n"),
+        ("a/b/f/.", "fault ENOTDIR\n"),
+        ("none/x", "fault ENOENT\n"),
+    ] {
+        said(&rt, alloc, BASE.as_bytes(), path.as_bytes(), want)?;
+    }
+    Ok(())
+}
+
+#[test]
+fn walks_long_names(rt: HostRuntime) -> Result<(), Fail> {
+    let alloc = rt.alloc();
+    for (front, byte, count, want) in [
+        ("none/", b'x', 300, "fault ENOENT\n"),
+        ("a/", b'x', 256, "fault ENAMETOOLONG\n"),
+        ("a/", b'x', 255, "fault ENOENT\n"),
+        ("", b'/', 4095, "opened dir 1 /\n"),
+        ("", b'/', 4096, "fault ENAMETOOLONG\n"),
+    ] {
+        let mut path = Vec::from_slice(alloc, front.as_bytes())?;
+        for _ in 0..count {
+            path.push(byte)?;
+        }
+        said(&rt, alloc, BASE.as_bytes(), &path, want)?;
+    }
+    Ok(())
+}
+
+#[test]
+fn escapes_names(rt: HostRuntime) -> Result<(), Fail> {
+    let script =
+        r#"{"version":2,"tree":[["dir","/a b"],["file","/a b/c\\d\u00e9"]],"actors":[{"root":"/"}]}"#;
+    let path = "a b/c\\d\u{e9}";
+    let want = "opened file 2 /a\\x20b/c\\x5cd\\xc3\\xa9\n";
+    said(&rt, rt.alloc(), script.as_bytes(), path.as_bytes(), want)
+}
+
+#[test]
+fn refuses_scripts(rt: HostRuntime) -> Result<(), Fail> {
+    let alloc = rt.alloc();
+    for (script, want) in [
+        ("", ScriptFault::NotJson),
+        ("{", ScriptFault::NotJson),
+        ("[]", ScriptFault::NotObject),
+        ("{}", ScriptFault::Version),
+        (r#"{"version":3}"#, ScriptFault::Version),
+        (r#"{"version":true}"#, ScriptFault::Version),
+        (r#"{"version":1.0}"#, ScriptFault::Version),
+        (r#"{"version":1}"#, ScriptFault::Tree),
+        (
+            r#"{"version":1,"tree":[["dir","/x/y"]]}"#,
+            ScriptFault::TreeEntry(0),
+        ),
+        (
+            r#"{"version":1,"tree":[["dir","/x"],["dir","/x",""]]}"#,
+            ScriptFault::TreeEntry(1),
+        ),
+        (
+            r#"{"version":1,"tree":[["dir","/x"],["file","x"]]}"#,
+            ScriptFault::TreeEntry(1),
+        ),
+        (
+            r#"{"version":1,"tree":[["link","/x",""]]}"#,
+            ScriptFault::TreeEntry(0),
+        ),
+        (
+            r#"{"version":1,"tree":[["dir","/"]]}"#,
+            ScriptFault::TreeEntry(0),
+        ),
+        (
+            r#"{"version":1,"tree":[["dir","/x"],["dir","/x"],7]}"#,
+            ScriptFault::TreeEntry(1),
+        ),
+        (r#"{"version":1,"tree":[]}"#, ScriptFault::Actors),
+        (
+            r#"{"version":1,"tree":[],"actors":[]}"#,
+            ScriptFault::Actors,
+        ),
+        (
+            r#"{"version":1,"tree":[],"actors":[{}]}"#,
+            ScriptFault::Actor(0),
+        ),
+        (
+            r#"{"version":1,"tree":[],"actors":[{"root":""}]}"#,
+            ScriptFault::Actor(0),
+        ),
+        (
+            r#"{"version":1,"tree":[],"actors":[{"root":"/x"}]}"#,
+            ScriptFault::Actor(0),
+        ),
+        (
+            r#"{"version":1,"tree":[["file","/x"]],"actors":[{"root":"/x"}]}"#,
+            ScriptFault::Actor(0),
+        ),
+    ] {
+        refused(&rt, alloc, script.as_bytes(), RunFault::Script(want));
+    }
+    refused(
+        &rt,
+        alloc,
+        b"\"\xff\"",
+        RunFault::Script(ScriptFault::NotJson),
+    );
+    Ok(())
+}
+
+#[test]
+fn refuses_long_scripts(rt: HostRuntime) -> Result<(), Fail> {
+    let alloc = rt.alloc();
+    let mut script = Vec::from_slice(alloc, BASE.as_bytes())?;
+    for _ in script.len()..SCRIPT_MAX {
+        script.push(b' ')?;
+    }
+    said(&rt, alloc, &script, b"a", "opened dir 2 /a\n")?;
+    script.push(b' ')?;
+    refused(&rt, alloc, &script, RunFault::Script(ScriptFault::TooLong));
+    Ok(())
+}
+
+#[test]
+fn tells_statuses_and_texts(rt: HostRuntime) -> Result<(), Fail> {
+    for (fault, status, text) in [
+        (
+            RunFault::Script(ScriptFault::TooLong),
+            3,
+            "script: too long",
+        ),
+        (
+            RunFault::Script(ScriptFault::NotJson),
+            3,
+            "script: not json",
+        ),
+        (
+            RunFault::Script(ScriptFault::NotObject),
+            3,
+            "script: not an object",
+        ),
+        (RunFault::Script(ScriptFault::Version), 3, "script: version"),
+        (RunFault::Script(ScriptFault::Tree), 3, "script: tree"),
+        (
+            RunFault::Script(ScriptFault::TreeEntry(7)),
+            3,
+            "script: tree 7",
+        ),
+        (RunFault::Script(ScriptFault::Actors), 3, "script: actors"),
+        (
+            RunFault::Script(ScriptFault::Actor(0)),
+            3,
+            "script: actor 0",
+        ),
+        (RunFault::ReadFailed, 4, "read failed"),
+        (RunFault::WriteFailed, 4, "write failed"),
+        (RunFault::NoMemory, 4, "no memory"),
+    ] {
+        assert_eq!(rt; fault.status(), status);
+        assert_eq!(rt; format!(in rt.alloc(); "{fault}")?.as_str(), text);
+    }
+    Ok(())
+}
+
+/// A reader whose every read fails so, and which counts them.
+#[derive(Drop)]
+struct Failing {
+    kind: ErrorKind,
+    reads: u32,
+}
+
+impl Read for Failing {
+    fn read(&mut self, _block: &mut [u8]) -> io::Result<usize> {
+        self.reads = self.reads.saturating_add(1);
+        Err(io::Error::from(self.kind))
+    }
+}
+
+#[test]
+fn ends_where_reads_fail(rt: HostRuntime) {
+    for (kind, reads) in [(ErrorKind::Other, 1), (ErrorKind::Interrupted, READS_MAX)] {
+        let mut reader = Failing { kind, reads: 0 };
+        let mut written = Vec::new(rt.alloc());
+        let ended = walk(rt.alloc(), &mut reader, &mut written, b"a");
+        assert_eq!(rt; ended, Err(RunFault::ReadFailed));
+        assert_eq!(rt; reader.reads, reads);
+        assert!(rt; written.is_empty());
+    }
+}
+
+/// A writer that takes nothing.
+#[derive(Drop)]
+struct Closed;
+
+impl Write for Closed {
+    fn write(&mut self, _bytes: &[u8]) -> io::Result<usize> {
+        Err(io::Error::from(ErrorKind::BrokenPipe))
+    }
+
+    fn flush(&mut self) -> io::Result<()> {
+        Ok(())
+    }
+}
+
+#[test]
+fn ends_where_writes_fail(rt: HostRuntime) {
+    let ended = walk(rt.alloc(), &mut BASE.as_bytes(), &mut Closed, b"a");
+    assert_eq!(rt; ended, Err(RunFault::WriteFailed));
+}
