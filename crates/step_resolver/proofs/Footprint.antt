@@ -170,7 +170,7 @@ module _ {w : Setting} (fits : Fits w) where
   name_in deeper d follow n b e short = part_in deeper d (Named follow n) b e
       ∙ ap (λ x. if x then fails TooLong [] else after_reads (record { dir = d; name = n } ∷ []) (named deeper G d follow b (child w.nodes d n))) short
 
-  up_in : (deeper : Deeper) (x : ℕ) (n : List ℕ) (names : List (List ℕ)) (b : ℕ) → is_dir w.nodes x ≡ true → (way : IsWay w x (n ∷ names))
+  pub up_in : (deeper : Deeper) (x : ℕ) (n : List ℕ) (names : List (List ℕ)) (b : ℕ) → is_dir w.nodes x ≡ true → (way : IsWay w x (n ∷ names))
       → part_means deeper G x Up b ≡ object way.1.0 b []
   up_in deeper x n names b e way = part_in deeper x Up b e
       ∙ ap (λ t. if t then (if w.story.flags.beneath then fails CrossRoot [] else object x b []) else above b (parent w.nodes x))

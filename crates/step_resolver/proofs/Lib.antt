@@ -27,3 +27,4 @@ pub mod DeepEnds
 pub mod Telling
 pub mod Arrivals
 pub mod QuietTrails
+pub mod QuietMeanings

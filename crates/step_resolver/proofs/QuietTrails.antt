@@ -14,19 +14,19 @@ use Rattle.step_resolver.proofs.MeaningLaws.{deeper_at, means_by}
 use Rattle.step_resolver.proofs.Footprint.{Setting, AllAlone, Fits, IsWay, stands_on, follow}
 
 module _ (nodes : List Inode) (r : ℕ) (flags : Flags) where
-  abbrev at_rest : Setting
+  abbrev pub at_rest : Setting
   at_rest = record { story = quiet nodes r flags; nodes = nodes; IsAlone = λ e. Unit {0} }
 
   all_at_rest : (entries : List Entry) → AllAlone at_rest entries
   all_at_rest [] = tt
   all_at_rest (entry ∷ entries) = (tt, all_at_rest entries)
 
-  way_of : IsTree nodes → (x : ℕ) (names : List (List ℕ)) → Stands nodes r x names → IsWay at_rest x names
+  pub way_of : IsTree nodes → (x : ℕ) (names : List (List ℕ)) → Stands nodes r x names → IsWay at_rest x names
   way_of is x [] stands = stands
   way_of is x (n ∷ names) stands =
       (stands.0, (stands.1.0, (child-entry nodes is stands.1.0 n x stands.1.1.0, (tt, way_of is stands.1.0 names stands.1.1.1))))
 
-  rests : IsTree nodes → is_dir nodes r ≡ true → Fits at_rest
+  pub rests : IsTree nodes → is_dir nodes r ≡ true → Fits at_rest
   rests is dir = record {
     objects = λ x object e. e;
     first = refl;

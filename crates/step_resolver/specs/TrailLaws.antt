@@ -53,3 +53,16 @@ abbrev pub QuietTrailsMean : Type 0
 QuietTrailsMean = (nodes : List Inode) (r : ℕ) (flags : Flags) → IsTree nodes → is_dir nodes r ≡ true
     → (nested : ℕ) (ps : List AskedPart) (s z : Spot) → s.links ≤ nested → Stands nodes r s.node s.names
     → Trail (quiet nodes r flags) ps s z None → IsMeantThere nodes r flags nested ps s z
+
+-- and the other way round: where the parts mean an object, a trail leads to it, with the same links left
+pub record IsReachedThere (nodes : List Inode) (r : ℕ) (flags : Flags) (ps : List AskedPart) (s : Spot) (x b : ℕ) : Type 0 where
+  pub to : Spot
+  pub trail : Trail (quiet nodes r flags) ps s to None
+  pub node : to.node ≡ x
+  pub links : to.links ≡ b
+  pub stands : Stands nodes r to.node to.names
+
+abbrev pub QuietMeaningsAreReached : Type 0
+QuietMeaningsAreReached = (nodes : List Inode) (r : ℕ) (flags : Flags) → IsTree nodes → is_dir nodes r ≡ true
+    → (nested : ℕ) (ps : List AskedPart) (s : Spot) (x b : ℕ) (reads : List Entry) → Stands nodes r s.node s.names
+    → means nested (still nodes r flags) s.node ps s.links ≡ object x b reads → IsReachedThere nodes r flags ps s x b

@@ -1,5 +1,5 @@
 //! How trails and stops are put together: laws, each the contract of a function without a body.
-ghost use Rattle.step_resolver.specs.TrailLaws.{MomentsAndLinks, MoreLinksLead, QuietTrailsMean, StopsOfMore, TrailsAppend, TrailsSplit};
+ghost use Rattle.step_resolver.specs.TrailLaws.{MomentsAndLinks, MoreLinksLead, QuietMeaningsAreReached, QuietTrailsMean, StopsOfMore, TrailsAppend, TrailsSplit};
 
 /// A trail over parts, then a trail or a stop over others from where it leads, is one over both.
 pub fn trails_append()
@@ -21,7 +21,8 @@ pub fn links_add_up()
 {}
 
 /// Where nothing changes meanwhile, what a trail leads to is what its parts mean, with the same links left, and it
-/// stands at the names passed.
+/// stands at the names passed; and where the parts mean an object, a trail leads to it.
 pub fn quiet_trails_mean()
-    ensures { QuietTrailsMean }
+    ensures means { QuietTrailsMean }
+    ensures reached { QuietMeaningsAreReached }
 {}
