@@ -1,4 +1,4 @@
-pub mod Handles
+pub mod Driven
 pub mod Json
 pub mod Pieces
 pub mod Entries

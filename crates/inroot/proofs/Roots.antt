@@ -8,6 +8,8 @@ use Rattle.tree_model.specs.declared.inode.OpenHandle.{OpenHandle}
 use Rattle.tree_model.specs.State.{State, TOP, child, is_dir}
 use Rattle.tree_model.specs.Entries.{refuse_if, with_some}
 use Rattle.tree_model.specs.Steps.{directory_at, grants, grants_at, IsGrant, with_handle}
+use Rattle.tree_model.specs.StepLaws.{GrantsKeepTrees}
+use Rattle.tree_model.specs.Trees.{IsState}
 use Rattle.inroot.specs.Script.{rooted, IsAtHand, IsHolding}
 use Rattle.inroot.specs.declared.setting.TheConstants.{ACTOR}
 
@@ -26,13 +28,15 @@ is_directory nodes x y (n ∷ names) e = entered (is_dir nodes x) (child nodes x
     entered true (Some d) further q = further d q
 
 -- in a tree without open handles
-opened_at : (s t : State) (found : Result ℕ Errno) (h : ℕ) (names : List (List ℕ)) → s.handles ≡ [] → found ≡ directory_at s.nodes TOP names
+opened_at : (s t : State) (found : Result ℕ Errno) (h : ℕ) (names : List (List ℕ)) → s.handles ≡ [] → IsState t → found ≡ directory_at s.nodes TOP names
     → IsGrant s t (grants_at (record { nodes = s.nodes; handles = [] }) ACTOR found) (Ok h) → IsAtHand (rooted s.nodes found) t ACTOR h
-opened_at s t (Err error) h names none is g = cc (g.0)
-opened_at s t (Ok x) h names none is g =
+opened_at s t (Err error) h names none tree is g = cc (g.0)
+opened_at s t (Ok x) h names none tree is g =
     let number : h ≡ 0 = g.0 ∙ ap length none in
-    let at : IsHolding (record { nodes = s.nodes; root = x }) (with_handle (record { nodes = s.nodes; handles = [] }) ACTOR x) ACTOR 0 =
-    record { nodes = refl; held = record { held = refl; few = lit≤ tt }; directory = is_directory s.nodes TOP x names (sym is); handles = refl } in
+    let at : IsHolding (record { nodes = s.nodes; root = x }) (with_handle (record { nodes = s.nodes; handles = [] }) ACTOR x) ACTOR 0 = record {
+      nodes = refl;
+      opened = record { tree = subst IsState g.1 tree; held = refl; few = lit≤ tt; handles = refl; directory = is_directory s.nodes TOP x names (sym is) };
+    } in
     subst (λ (i : ℕ). IsHolding (record { nodes = s.nodes; root = x }) t ACTOR i) (sym number)
     (subst (λ (u : State). IsHolding (record { nodes = s.nodes; root = x }) u ACTOR 0) (sym g.1) at)
 
@@ -51,6 +55,15 @@ of_root s t a names gave g =
     subst (λ (u : State). IsGrant s t (grants_at u ACTOR (directory_at s.nodes TOP names)) gave) (no_handles s g.none)
     (subst (λ (b : ℕ). IsGrant s t (grants_at s b (directory_at s.nodes TOP names)) gave) g.actor g.gave)
 
-pub opened_root : (s t : State) (a h : ℕ) (names : List (List ℕ)) → IsFirstGrant s t a names (Ok h)
+-- a grant leads from a tree to a tree
+granted_tree : GrantsKeepTrees → (s t : State) (a h : ℕ) (names : List (List ℕ)) → IsState s → IsGrant s t (grants s a names) (Ok h) → IsState t
+granted_tree keep s t a h names tree gave = by (grants s a names) refl gave
+  where
+    by : (granted : Result State Errno) → grants s a names ≡ granted → IsGrant s t granted (Ok h) → IsState t
+    by (Err error) e g = cc (g.0)
+    by (Ok u) e g = subst IsState (sym g.1) (keep s u a names tree e)
+
+pub opened_root : GrantsKeepTrees → (s t : State) (a h : ℕ) (names : List (List ℕ)) → IsState s → IsFirstGrant s t a names (Ok h)
     → IsAtHand (rooted s.nodes (directory_at s.nodes TOP names)) t ACTOR h
-opened_root s t a h names g = opened_at s t (directory_at s.nodes TOP names) h names g.none refl (of_root s t a names (Ok h) g)
+opened_root keep s t a h names tree g =
+    opened_at s t (directory_at s.nodes TOP names) h names g.none (granted_tree keep s t a h names tree g.gave) refl (of_root s t a names (Ok h) g)

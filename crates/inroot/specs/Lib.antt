@@ -4,7 +4,7 @@ pub use Rattle.path_text.specs.Name
 pub use Rattle.path_text.specs.Print
 pub use Rattle.path_text.specs.Reading
 pub use Rattle.path_text.specs.Text
-pub mod Descent
+pub mod Driven
 pub mod Fault
 pub mod Input
 pub mod Output

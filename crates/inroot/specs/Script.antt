@@ -25,7 +25,7 @@ use Rattle.inroot.specs.declared.fault.RunFault.TheVariants.{Script, ReadFailed,
 use Rattle.inroot.specs.declared.fault.ScriptFault.{ScriptFault}
 use Rattle.inroot.specs.declared.fault.ScriptFault.TheVariants.{NotObject, Version, Tree, TreeEntry, Actors, Actor}
 use Rattle.inroot.specs.declared.script.TheConstants.{ENTRIES_MAX}
-use Rattle.inroot.specs.Descent.{IsHeldAlone}
+use Rattle.inroot.specs.Driven.{IsOpened}
 
 -- the data of a JSON text, if the bytes are one
 abbrev pub json_of : List ℕ → Option Data
@@ -167,9 +167,7 @@ told_by _ k = Script (TreeEntry k)
 -- the tree has those nodes, and the actor holds the root by its only handle
 pub record IsHolding (setting : Setting) (s : State) (a h : ℕ) : Type 0 where
   pub nodes : s.nodes ≡ setting.nodes
-  pub held : IsHeldAlone s a h setting.root
-  pub directory : is_dir s.nodes setting.root ≡ true
-  pub handles : length s.handles ≡ 1
+  pub opened : IsOpened s a h setting.root
 
 -- the setting that a script says is at hand
 abbrev pub IsAtHand : Result Setting ScriptFault → State → ℕ → ℕ → Type 0

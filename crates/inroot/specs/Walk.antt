@@ -1,34 +1,42 @@
--- What `inroot walk` writes, as a function of what it reads and of the path.
-use Rattle.std.specs.Prelude.{◌≡◌, ◌≢◌, ℕ, List, nat_lt, length, Option, Result, Ok, Err, MatchResult, IsOkAnd, IfSome, true, ⊤}
+-- What `inroot walk` writes, as a function of what it reads, of the path and of the restrictions.
+use Rattle.std.specs.Prelude.{◌≡◌, ◌≢◌, ℕ, List, [], nat_lt, length, reverse, Option, Result, Ok, Err, MatchResult, IsOkAnd, IfSome, true, ⊤}
 use Rattle.std.specs.Io.KnownBytes.{Appends, Keeps}
 use Rattle.serde_json.specs.Data.{Data}
-use Rattle.path_text.specs.declared.errno.Errno.{Errno}
-use Rattle.tree_model.specs.State.{State, is_dir}
+use Rattle.path_text.specs.declared.flags.Flags.{Flags}
+use Rattle.tree_model.specs.declared.inode.Inode.{Inode}
+use Rattle.tree_model.specs.State.{object_at, names_below}
+use Rattle.tree_model.specs.Steps.{kind_of}
+use Rattle.step_resolver.specs.Meaning.{Meant, object, fails, resolved}
 use Rattle.tree_model.specs.Entries.{refuse_if, with_some}
-use Rattle.inroot.specs.declared.descent.Found.{Found}
 use Rattle.inroot.specs.declared.fault.RunFault.{RunFault}
 use Rattle.inroot.specs.declared.fault.RunFault.TheVariants.{Script, ReadFailed, WriteFailed, NoMemory}
 use Rattle.inroot.specs.declared.fault.ScriptFault.{ScriptFault}
 use Rattle.inroot.specs.declared.fault.ScriptFault.TheVariants.{TooLong, NotJson}
 use Rattle.inroot.specs.declared.input.TheConstants.{SCRIPT_MAX}
-use Rattle.inroot.specs.Descent.{IsHeldAlone, node_of, led_to}
 use Rattle.inroot.specs.Output.{opened_line, fault_line}
 use Rattle.inroot.specs.Script.{json_of, setting_of, then_with}
 
--- the line of what a path led to
-abbrev pub line_of : Result Found Errno → List ℕ
-line_of (Ok found) = opened_line found.object.kind found.object.node found.names
-line_of (Err error) = fault_line error
+-- the line of the object x: what it is, its node, and the names at which it stands below the root
+abbrev pub object_line : List Inode → ℕ → ℕ → List ℕ
+object_line nodes r x =
+    with_some (object_at nodes x) [] (λ what.
+    with_some (names_below nodes r x) [] (λ names. opened_line (kind_of what) x (reverse names)))
 
--- the line for a script's data and a path text
-abbrev pub line_for : Data → List ℕ → Result (List ℕ) ScriptFault
-line_for d path = then_with (setting_of d) (λ setting. Ok (line_of (led_to setting.nodes setting.root path)))
+-- the line of what a path means: its object, or its error
+abbrev pub line_of : List Inode → ℕ → Meant → List ℕ
+line_of nodes r (object x b reads) = object_line nodes r x
+line_of nodes r (fails error reads) = fault_line error
+
+-- the line for a script's data and a path text, which is resolved below the first actor's root with these restrictions
+abbrev pub line_for : Data → List ℕ → Flags → Result (List ℕ) ScriptFault
+line_for d text flags =
+    then_with (setting_of d) (λ setting. Ok (line_of setting.nodes setting.root (resolved setting.nodes setting.root text true flags)))
 
 -- what is written for an input, or the first check of the script that fails
-abbrev pub written_for : List ℕ → List ℕ → Result (List ℕ) ScriptFault
-written_for input path =
+abbrev pub written_for : List ℕ → List ℕ → Flags → Result (List ℕ) ScriptFault
+written_for input text flags =
     refuse_if (nat_lt SCRIPT_MAX (length input)) (Err TooLong)
-    (with_some (json_of input) (Err NotJson) (λ d. line_for d path))
+    (with_some (json_of input) (Err NotJson) (λ d. line_for d text flags))
 
 -- a run's fault is the script's; or a read, a write or a growth was refused
 abbrev pub IsRunFaultOf : {A : Type 0} → Result A ScriptFault → RunFault → Type 0
@@ -43,9 +51,3 @@ abbrev pub IsRun : {T : Type 0} → (List ℕ → Result (List ℕ) ScriptFault)
 IsRun written known old new result = MatchResult result
     (λ _. IfSome known (λ input. IsOkAnd (written input) (λ text. Appends old new text)))
     (λ fault. IfSome known (λ input. IsRunFaultOf (written input) fault) × (fault ≢ WriteFailed → Keeps old new))
-
--- a tree in which the actor holds a directory by this handle alone, the only one that was ever opened
-pub record IsOpened (s : State) (a h : ℕ) : Type 0 where
-  pub held : IsHeldAlone s a h (node_of s a h)
-  pub directory : is_dir s.nodes (node_of s a h) ≡ true
-  pub handles : length s.handles ≡ 1

@@ -4,18 +4,17 @@
 #![tactic(auto)]
 
 mod command;
-mod descent;
 mod fault;
 mod input;
 mod output;
+mod resolve;
 mod script;
 mod setting;
 #[cfg(test)]
 mod tests;
 mod walk;
-mod walker;
 
-use command::{PATH, command};
+use command::{PATH, command, flags};
 use std::process::ExitCode;
 use walk::walk;
 
@@ -33,7 +32,14 @@ fn main(rt: HostRuntime) -> anyhow::Result<ExitCode> {
         return Ok(ExitCode::FAILURE);
     };
     let path = chosen.get_str(PATH).unwrap_or("");
-    match walk(alloc, &mut rt.stdin(), &mut rt.stdout(), path.as_bytes()) {
+    let flags = flags(chosen);
+    match walk(
+        alloc,
+        &mut rt.stdin(),
+        &mut rt.stdout(),
+        path.as_bytes(),
+        flags,
+    ) {
         Ok(()) => Ok(ExitCode::SUCCESS),
         Err(fault) => {
             eprintln!(rt; "inroot: {fault}")?;

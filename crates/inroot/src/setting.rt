@@ -6,6 +6,7 @@ ghost use Rattle.tree_list.specs.Build.{with_nodes};
 ghost use Rattle.tree_model.specs.declared.inode.Inode.{Inode};
 ghost use Rattle.tree_model.specs.State.{TOP};
 ghost use Rattle.tree_model.specs.Steps.{directory_at};
+ghost use Rattle.tree_model.specs.Trees.{IsState};
 ghost use Rattle.inroot.specs.Script.{IsFaultOf, told_by, tree_of, version_of, is_version, root_of, root_names_of, first_actor_of, setting_of, rooted, IsAtHand};
 
 use crate::fault::{RunFault, ScriptFault};
@@ -14,7 +15,7 @@ use path_text::{Errno, Names, NoMemory};
 use serde_json::Value;
 use std::alloc::Global;
 use tree_list::{BuildFault, ListTree};
-use tree_model::{Actor, HandleNo, Tree};
+use tree_model::{Actor, HandleNo, Tree, steps_keep_trees};
 
 /// The actor that the program walks as.
 pub const ACTOR: u32 = 0;
@@ -34,6 +35,7 @@ fn told_by(fault: BuildFault) -> RunFault
 /// the first whose shape, place or link text is refused; `NoMemory`.
 fn tree_of(alloc: Global, values: &[Value]) -> Result<ListTree, RunFault>
     ensures ok { IfOk result (λ tree. (tree_of (items_view values.now) ≡ Ok tree.nodes) × (tree.handles ≡ [])) }
+    ensures tree { IfOk result IsState }
     ensures err { IfErr result (IsFaultOf (tree_of (items_view values.now))) }
 {
     if values.len() > ENTRIES_MAX {
@@ -82,10 +84,12 @@ fn first_actor_of(script: &Value) -> Option<&Value>
 
 /// Opens the directory at these names for the actor, who has no handle yet.
 fn open_root(alloc: Global, tree: &mut ListTree, names: &Names) -> Result<HandleNo, RunFault>
-    requires { tree.old.handles ≡ [] }
+    requires none { tree.old.handles ≡ [] }
+    requires tree { IsState tree.old }
     ensures ok { IfOk result (λ root. IsAtHand (rooted tree.old.nodes (directory_at tree.old.nodes TOP names.now)) tree.new ACTOR root) }
     ensures err { IfErr result (IsFaultOf (rooted tree.old.nodes (directory_at tree.old.nodes TOP names.now))) }
 {
+    steps_keep_trees();
     match tree.grant(alloc, Actor::new(ACTOR), names) {
         Ok(root) => Ok(root),
         Err(error) => {

@@ -1,10 +1,19 @@
+//! The program's calls, on scripts; the walk's rows among another actor's steps in `races`.
+mod races;
+
 use crate::fault::{RunFault, ScriptFault};
 use crate::input::{READS_MAX, SCRIPT_MAX};
 use crate::walk::walk;
+use path_text::Flags;
 use std::alloc::Global;
 use std::io::{self, ErrorKind, Read, Write};
 use std::process::Abort;
 use std::test::Fail;
+
+const PLAIN: Flags = Flags {
+    beneath: false,
+    no_links: false,
+};
 
 /// The tree of ten entries that the examples use, and the root `/c`.
 const BASE: &str = r#"{"version":1,"tree":[["dir","/c"],["dir","/c/a"],["dir","/c/a/b"],
@@ -19,15 +28,29 @@ fn said(
     path: &[u8],
     want: &str,
 ) -> Result<(), Fail> {
+    said_with(rt, alloc, script, path, PLAIN, want)
+}
+
+fn said_with(
+    rt: &impl Abort,
+    alloc: Global,
+    script: &[u8],
+    path: &[u8],
+    flags: Flags,
+    want: &str,
+) -> Result<(), Fail> {
     let mut written = Vec::new(alloc);
-    walk(alloc, &mut &*script, &mut written, path)?;
+    walk(alloc, &mut &*script, &mut written, path, flags)?;
     assert_eq!(rt; written.as_slice(), want.as_bytes());
     Ok(())
 }
 
 fn refused(rt: &impl Abort, alloc: Global, script: &[u8], want: RunFault) {
     let mut written = Vec::new(alloc);
-    assert_eq!(rt; walk(alloc, &mut &*script, &mut written, b"a"), Err(want));
+    assert_eq!(rt;
+        walk(alloc, &mut &*script, &mut written, b"a", PLAIN),
+        Err(want)
+    );
     assert!(rt; written.is_empty());
 }
 
@@ -47,6 +70,72 @@ fn walks_paths_of_names(rt: HostRuntime) -> Result<(), Fail> {
         ("none/x", "fault ENOENT\n"),
     ] {
         said(&rt, alloc, BASE.as_bytes(), path.as_bytes(), want)?;
+    }
+    Ok(())
+}
+
+#[test]
+fn walks_links_and_parents(rt: HostRuntime) -> Result<(), Fail> {
+    let alloc = rt.alloc();
+    for (path, want) in [
+        ("/../../a", "opened dir 2 /a\n"),
+        ("abs/f", "opened file 4 /a/b/f\n"),
+        ("abs/..", "opened dir 2 /a\n"),
+        ("up", "opened dir 2 /a\n"),
+        ("loop", "fault ELOOP\n"),
+        ("dang", "fault ENOENT\n"),
+        ("a/b/f/..", "fault ENOTDIR\n"),
+        ("../secret", "fault ENOENT\n"),
+    ] {
+        said(&rt, alloc, BASE.as_bytes(), path.as_bytes(), want)?;
+    }
+    Ok(())
+}
+
+/// `/c/k1` leads to `a`, and each further link, up to `/c/k41`, to the one before it.
+fn chain_of_links(alloc: Global) -> Result<String, Fail> {
+    let mut script = String::from_str(
+        alloc,
+        r#"{"version":1,"tree":[["dir","/c"],["dir","/c/a"],["link","/c/k1","a"]"#,
+    )?;
+    for k in 2..=41u32 {
+        let before = k - 1;
+        let link = format!(in alloc; ",[\"link\",\"/c/k{k}\",\"k{before}\"]")?;
+        script.push_str(&link)?;
+    }
+    script.push_str(r#"],"actors":[{"root":"/c"}]}"#)?;
+    Ok(script)
+}
+
+#[test]
+fn follows_forty_links(rt: HostRuntime) -> Result<(), Fail> {
+    let alloc = rt.alloc();
+    let script = chain_of_links(alloc)?;
+    for (path, want) in [
+        ("k40", "opened dir 2 /a\n"),
+        ("k41", "fault ELOOP\n"),
+        ("k8/../k8/../k8/../k8/../k8", "opened dir 2 /a\n"),
+        ("k8/../k8/../k8/../k8/../k8/../k1", "fault ELOOP\n"),
+    ] {
+        said(&rt, alloc, script.as_bytes(), path.as_bytes(), want)?;
+    }
+    Ok(())
+}
+
+#[test]
+fn walks_with_restrictions(rt: HostRuntime) -> Result<(), Fail> {
+    let alloc = rt.alloc();
+    for (path, beneath, no_links, want) in [
+        ("/a", true, false, "fault EXDEV\n"),
+        ("up", true, false, "fault EXDEV\n"),
+        ("a/b/f", true, false, "opened file 4 /a/b/f\n"),
+        ("up", false, true, "fault ELOOP\n"),
+        ("/../a/b", false, true, "opened dir 3 /a/b\n"),
+        ("abs", true, true, "fault ELOOP\n"),
+        ("/a", true, true, "fault EXDEV\n"),
+    ] {
+        let flags = Flags { beneath, no_links };
+        said_with(&rt, alloc, BASE.as_bytes(), path.as_bytes(), flags, want)?;
     }
     Ok(())
 }
@@ -221,7 +310,7 @@ fn ends_where_reads_fail(rt: HostRuntime) {
     for (kind, reads) in [(ErrorKind::Other, 1), (ErrorKind::Interrupted, READS_MAX)] {
         let mut reader = Failing { kind, reads: 0 };
         let mut written = Vec::new(rt.alloc());
-        let ended = walk(rt.alloc(), &mut reader, &mut written, b"a");
+        let ended = walk(rt.alloc(), &mut reader, &mut written, b"a", PLAIN);
         assert_eq!(rt; ended, Err(RunFault::ReadFailed));
         assert_eq!(rt; reader.reads, reads);
         assert!(rt; written.is_empty());
@@ -244,6 +333,6 @@ impl Write for Closed {
 
 #[test]
 fn ends_where_writes_fail(rt: HostRuntime) {
-    let ended = walk(rt.alloc(), &mut BASE.as_bytes(), &mut Closed, b"a");
+    let ended = walk(rt.alloc(), &mut BASE.as_bytes(), &mut Closed, b"a", PLAIN);
     assert_eq!(rt; ended, Err(RunFault::WriteFailed));
 }

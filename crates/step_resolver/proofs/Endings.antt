@@ -18,6 +18,7 @@ use Rattle.step_resolver.specs.Ends.{Walked, state_at, story, start, TellsError}
 use Rattle.step_resolver.proofs.Trails.{own_earlier}
 use Rattle.step_resolver.proofs.Outcomes.{IsLess, Close-is_less, Opening, too_many, no_object, is_opened, opening_of, dup_is}
 use Rattle.step_resolver.proofs.Invariant.{Lived, StepAt, held_at, IsNotIn, handles_kept, handles_more, handles_less, root_open, held_kept, held_less, held_node, spot_at, going_later, trail_at, handles_after, GoodEnd, EndsAt, at_all, at_missing, GoodAfter, GoodClosing, GoodWalk, FoundAt, Good}
+use Rattle.step_resolver.proofs.Counted.{few_held}
 use Rattle.step_resolver.proofs.Settling.{gave_up, closes_good}
 use Rattle.step_resolver.proofs.Moments.{kept_on, more_on, position_kept, position_less}
 use Rattle.step_resolver.proofs.Risings.{judged_good}
@@ -35,7 +36,7 @@ module _ {w : Walked} (lived : Lived w) (now t : ℕ) (room : Bool) (rest : List
   on_opening (too_many f q) =
       let o = dup_is (state_at w t) w.actor w.way.root w.root root_is ∙ q in
       subst (λ v. Good w (suc t) (take w.way room (duping rest) v)) (sym (is.told ∙ ap (λ r. r.answer) o))
-      (record { when = t; at = record { own = is.at.own; later = zero-le }; full = f }, handles_kept (kept_on is (ap (λ r. r.after) o)) good.handles)
+      (record { when = t; at = record { own = is.at.own; later = zero-le }; full = f; few = few_held w t root_itself (handles_kept is.kept good.handles) }, handles_kept (kept_on is (ap (λ r. r.after) o)) good.handles)
   on_opening (no_object z q) =
       let o = held_node (state_at w t) w.actor w.way.root w.root (lived.states t) root_is in
       absurd (none-some o.0 (sym z ∙ o.1))

@@ -8,6 +8,7 @@ pub mod MeaningDeepest
 pub mod Outcomes
 pub mod Places
 pub mod Invariant
+pub mod Counted
 pub mod Settling
 pub mod Moments
 pub mod Openings

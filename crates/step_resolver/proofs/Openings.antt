@@ -18,6 +18,7 @@ use Rattle.step_resolver.specs.Ends.{Walked, state_at, story, TellsError, IsMiss
 use Rattle.step_resolver.proofs.Places.{entry, place_at-child, object_at-place}
 use Rattle.step_resolver.proofs.Outcomes.{IsMore, Opening, too_many, no_object, is_opened, opening_of, OpenCase, no_dir, no_child, at_child, open_case}
 use Rattle.step_resolver.proofs.Invariant.{Lived, StepAt, held_at, HandlesAre, handles_kept, handles_more, IsHeld, dir_at, node_at, spot_at, IsPositionHeld, Going, GoesFor, stop_at, passed_on, within_link, AllApart, GoodOpening, at_missing, Good}
+use Rattle.step_resolver.proofs.Counted.{few_held}
 use Rattle.step_resolver.proofs.Settling.{gave_up, closes_good}
 use Rattle.step_resolver.proofs.Moments.{handles_swapped, kept_on, more_on, position_open, position_kept, position_more, new_is_other}
 
@@ -201,7 +202,7 @@ module _ {w : Walked} (lived : Lived w) (now t : ℕ) (room : Bool) (want : room
       → Opening (state_at w t) w.actor c (opens (state_at w t) w.actor c)
       → Good w (suc t) (take w.way room (opening position own follow n (todo inner rest b)) answer)
   on_opening c e o (too_many f q) = answered_as (Refused TooMany) (is.told ∙ ap (λ r. r.answer) (o ∙ q))
-      (gave_up lived (handles_of position) TooMany (record { when = t; at = record { own = is.at.own; later = zero-le }; full = f })
+      (gave_up lived (handles_of position) TooMany (record { when = t; at = record { own = is.at.own; later = zero-le }; full = f; few = few_held w t position (handles_kept is.kept good.handles) })
       (handles_kept (kept_on is (ap (λ r. r.after) (o ∙ q))) good.handles))
   on_opening c e o (no_object z q) =
       absurd (object_at-place (state_at w t).nodes c (entry (node_at w position) n) (place_at-child (state_at w t).nodes (node_at w position) n c e) z)

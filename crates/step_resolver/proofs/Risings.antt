@@ -23,6 +23,7 @@ use Rattle.step_resolver.proofs.Trails.{own_earlier}
 use Rattle.step_resolver.proofs.Places.{names_below-stands}
 use Rattle.step_resolver.proofs.Outcomes.{Opening, too_many, no_object, is_opened, opening_of, ParentCase, not_dir, no_parent, at_parent, parent_case, below_is}
 use Rattle.step_resolver.proofs.Invariant.{Lived, StepAt, held_at, HandlesAre, handles_kept, handles_more, root_open, IsHeld, held_kept, old_is_other, dir_at, spot_at, Going, stop_at, passed_on, GoodRising, GoodJudging, Good}
+use Rattle.step_resolver.proofs.Counted.{few_held}
 use Rattle.step_resolver.proofs.Settling.{gave_up, goes_on_good, closes_good}
 use Rattle.step_resolver.proofs.Moments.{handles_swapped, kept_on, more_on}
 
@@ -107,7 +108,7 @@ module _ {w : Walked} (lived : Lived w) (now t : ℕ) (room : Bool) (old : Handl
       → Opening (state_at w t) w.actor e (opens (state_at w t) w.actor e)
       → Good w (suc t) (take w.way room (rising old names (todo inner rest b)) answer)
   on_opening e p o (too_many f q) = answered_as (Refused TooMany) (is.told ∙ ap (λ r. r.answer) (o ∙ q))
-      (gave_up lived (old.number ∷ []) TooMany (record { when = t; at = record { own = is.at.own; later = zero-le }; full = f })
+      (gave_up lived (old.number ∷ []) TooMany (record { when = t; at = record { own = is.at.own; later = zero-le }; full = f; few = few_held w t (holds old (good.name ∷ names)) (handles_kept is.kept good.handles) })
       (handles_kept (kept_on is (ap (λ r. r.after) (o ∙ q))) good.handles))
   on_opening e p o (no_object z q) = absurd (parent_is_something (state_at w t).nodes (lived.states t).tree old.node e p z)
   on_opening e p o (is_opened what z q) =

@@ -11,7 +11,7 @@ use Rattle.step_resolver.specs.FootprintLaws.{WalksMean}
 use Rattle.step_resolver.specs.Telling.{TellsAll, IsLineOf, TellsTaken, TellsBegun}
 
 -- lines that lead on from where others led
-leads_on : (way : Way) (lines : List Line) (turn mid : Turn) (others : List Line) (end : Turn) → LeadsTo way turn lines mid → LeadsTo way mid others end → LeadsTo way turn (lines ++ others) end
+pub leads_on : (way : Way) (lines : List Line) (turn mid : Turn) (others : List Line) (end : Turn) → LeadsTo way turn lines mid → LeadsTo way mid others end → LeadsTo way turn (lines ++ others) end
 leads_on way [] turn mid others end first then = subst (λ t. LeadsTo way t others end) (sym first) then
 leads_on way (answered step answer ∷ lines) (more walk) mid others end first then =
     (first.0, leads_on way lines (take way true walk answer) mid others end first.1 then)
@@ -34,7 +34,7 @@ refusal_needs_no_room way room (ending handle names rest) error = refl
 refusal_needs_no_room way room (closing h hs after) error = refl
 
 -- the line of an answer leads to the turn that the answer makes of the walk
-line_leads : (way : Way) (room : Bool) (walk : Walking) (answer : Answer) (turn : Turn) (line : Line)
+pub line_leads : (way : Way) (room : Bool) (walk : Walking) (answer : Answer) (turn : Turn) (line : Line)
     → turn ≡ take way room walk answer → IsLineOf way room walk answer line → LeadsTo way (more walk) (line ∷ []) turn
 line_leads way room walk answer turn (answered step told) taken is =
     (is.1, ap (λ a. take way true walk a) is.2 ∙ ap (λ r. take way r walk answer) (sym is.0) ∙ sym taken)

@@ -1,5 +1,5 @@
 -- What each end of a walk tells of the tree, while others change it. path_resolution(7); openat2(2).
-use Rattle.std.specs.Prelude.{◌≡◌, ◌≢◌, ℕ, suc, ◌<◌, ◌==◌, ◌⊎◌, List, [], ◌∷◌, ◌++◌, Bool, true, false, Some, None, slice_get}
+use Rattle.std.specs.Prelude.{◌≡◌, ◌≢◌, ℕ, suc, ◌≤◌, ◌<◌, ◌==◌, ◌⊎◌, List, [], ◌∷◌, ◌++◌, Bool, true, false, Some, None, slice_get}
 use Rattle.std.specs.List.{filter}
 use Rattle.path_text.specs.declared.errno.Errno.{Errno}
 use Rattle.path_text.specs.declared.errno.Errno.TheVariants.{NotFound, BadHandle, Raced, NoMemory, Busy, Exists, CrossRoot, NotDir, IsDir, Invalid, TooMany, BookFull, TooLong, NotEmpty, Loop}
@@ -9,7 +9,7 @@ use Rattle.tree_model.specs.declared.answer.Event.{Event}
 use Rattle.tree_model.specs.declared.inode.Object.{Object}
 use Rattle.tree_model.specs.declared.inode.Object.TheVariants.{Link}
 use Rattle.tree_model.specs.State.{State, Stands, child, parent, is_dir, is_directory}
-use Rattle.tree_model.specs.Steps.{held, is_full, kind_of}
+use Rattle.tree_model.specs.Steps.{held, held_count, is_full, kind_of}
 use Rattle.tree_model.specs.Trees.{IsState}
 use Rattle.tree_model.specs.History.{IsLegal, after_events, tree_at}
 use Rattle.step_resolver.specs.Asked.{AskedPart, Up, Named, asked, followed, follows, is_deepest}
@@ -259,11 +259,12 @@ pub record TellsRacedDeepest (w : Walked) : Type 0 where
   pub when : ℕ
   pub astray : DidNotStandAt w to (suc first) when
 
--- EMFILE: the actor could open no more, or the numbers were used up.
+-- EMFILE: the actor, which then held one handle more than before at most, could open no more, or the numbers were used up.
 pub record TellsTooMany (w : Walked) : Type 0 where
   pub when : ℕ
   pub at : IsOwnFrom (story w) 0 when
   pub full : is_full (state_at w when) w.actor ≡ true
+  pub few : held_count (state_at w when) w.actor ≤ suc (held_count (begin_of w) w.actor)
 
 -- ENOMEM and ENOSPC: a step wasn't made for that want, or what its answer brings found no memory.
 abbrev pub IsWantOf : Errno → Line → Type 0

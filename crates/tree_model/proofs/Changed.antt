@@ -1,5 +1,5 @@
 -- A change of the entries of a tree leaves a tree, with all nodes that there were.
-use Rattle.std.proofs.Common.{◌≡◌, ◌≢◌, ⊎_elim, ℕ, ◌<◌, ◌≤◌, Bool, true, false, not, nat_le, ◌==◌, ◌&&◌, cond, List, [], ◌∷◌, ◌++◌, length, Option, Some, None, is_some, Result, Ok, Err, refl, sym, ap, ◌∙◌, subst, length-append, arith}
+use Rattle.std.proofs.Common.{suc, ◌≡◌, ◌≢◌, ⊎_elim, ℕ, ◌<◌, ◌≤◌, Bool, true, false, not, nat_le, ◌==◌, ◌&&◌, cond, List, [], ◌∷◌, ◌++◌, length, Option, Some, None, is_some, Result, Ok, Err, refl, sym, ap, ◌∙◌, subst, length-append, arith}
 use Rattle.std.proofs.lemmas.Bool.{eqb-false, leb-false, not-false, and_left, and_right, and_cases, true≢false}
 use Rattle.std.proofs.lemmas.Option.{none-some}
 use Rattle.path_text.specs.declared.errno.Errno.{Errno}
@@ -215,6 +215,18 @@ Changed-grows {nodes} (removed d n c e1 e2) = Grows-put_at nodes c None
 Changed-grows {nodes} (moved d n f m c e1 e2 e3 e4 e5) = Grows-put_at nodes c _
 Changed-grows {nodes} (replaced d n f m c e e1 e2 e3 e4 e5 e6 e7) = Grows-trans (Grows-put_at nodes e None) (Grows-put_at (put_at nodes e None) c _)
 Changed-grows {nodes} (exchanged d n f m c e e1 e2 e3 e4 e5 e6 e7) = Grows-trans (Grows-put_at nodes c _) (Grows-put_at (put_at nodes c _) e _)
+
+-- a change brings at most one node
+pub Changed-by_one : {nodes new : List Inode} → Changed nodes new → length new ≤ suc (length nodes)
+Changed-by_one {nodes} kept = omega arith
+Changed-by_one {nodes} (made d n object e1 e2 e3 e4 e5) =
+    omega (arith, length-append nodes (record { object = object; place = Some (entry d n) } ∷ []))
+Changed-by_one {nodes} (removed d n c e1 e2) = omega (arith, length-put_at nodes c None)
+Changed-by_one {nodes} (moved d n f m c e1 e2 e3 e4 e5) = omega (arith, length-put_at nodes c (Some (entry f m)))
+Changed-by_one {nodes} (replaced d n f m c e e1 e2 e3 e4 e5 e6 e7) =
+    omega (arith, length-put_at nodes e None, length-put_at (put_at nodes e None) c (Some (entry f m)))
+Changed-by_one {nodes} (exchanged d n f m c e e1 e2 e3 e4 e5 e6 e7) =
+    omega (arith, length-put_at nodes c (Some (entry f m)), length-put_at (put_at nodes c (Some (entry f m))) e (Some (entry d n)))
 
 -- no change uses up more numbers than there are
 pub Changed-few : {nodes new : List Inode} → Changed nodes new → length nodes ≤ NUMBERS_MAX → length new ≤ NUMBERS_MAX

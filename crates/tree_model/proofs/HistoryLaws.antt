@@ -6,12 +6,12 @@ use Rattle.std.proofs.lemmas.Option.{none-some, same_Some}
 use Rattle.tree_model.specs.declared.answer.Event.{Event}
 use Rattle.tree_model.specs.declared.inode.Object.{Object}
 use Rattle.tree_model.specs.History.{after_event, after_events, IsLegal, tree_at}
-use Rattle.tree_model.specs.HistoryLaws.{LegalAtEachMoment, EventsLeadOn, TreesBeginAndEnd, LegalHistoriesJoin, LegalGoesOn, LegalWhenCut, HistoriesKeepTrees, ObjectsStayForGood, HandlesStayAmongOthers}
+use Rattle.tree_model.specs.HistoryLaws.{LegalAtEachMoment, EventsLeadOn, TreesBeginAndEnd, LegalHistoriesJoin, LegalGoesOn, LegalWhenCut, HistoriesKeepTrees, ObjectsStayForGood, NumbersGrowByEvents, HandlesStayAmongOthers}
 use Rattle.tree_model.specs.State.{State, object_at}
 use Rattle.tree_model.specs.Steps.{outcome, held}
 use Rattle.tree_model.specs.Trees.{IsState}
 use Rattle.tree_model.proofs.StepsKept.{steps_keep_trees}
-use Rattle.tree_model.proofs.StepLaws.{objects_stay, others_handles_stay}
+use Rattle.tree_model.proofs.StepLaws.{numbers_grow_by_one, objects_stay, others_handles_stay}
 
 -- ---- joined
 
@@ -93,6 +93,15 @@ objects_stay_for_good s [] (suc m) (suc k) x object low e = e
 objects_stay_for_good s (event ∷ events) (suc m) zero x object low e = absurd (omega arith)
 objects_stay_for_good s (event ∷ events) (suc m) (suc k) x object low e =
     objects_stay_for_good (after_event s event) events m k x object (omega arith) e
+
+pub numbers_grow_by_events : NumbersGrowByEvents
+numbers_grow_by_events s [] = (omega arith, omega arith)
+numbers_grow_by_events s (event ∷ events) =
+    let one = numbers_grow_by_one s event.actor event.step in
+    let rest = numbers_grow_by_events (after_event s event) events in
+    let nodes = one.0 in let handles = one.1 in
+    let more_nodes = rest.0 in let more_handles = rest.1 in
+    (omega (arith, nodes, more_nodes), omega (arith, handles, more_handles))
 
 others_only : (s : State) (events : List Event) (b : ℕ) → AllByRecursion (λ event. event.actor ≢ b) events → (h : ℕ) → held (after_events s events) b h ≡ held s b h
 others_only s [] b all h = refl

@@ -11,8 +11,8 @@ use Rattle.tree_model.specs.declared.step.StepOf.{StepOf}
 use Rattle.tree_model.specs.declared.step.StepOf.TheVariants.{Close}
 use Rattle.tree_model.specs.State.{State, object_at}
 use Rattle.tree_model.specs.Steps.{Outcome, node_held, held, kind_of, with_handle}
-use Rattle.tree_model.specs.StepLaws.{only_tells, is_on_entries, is_close_of, TellingChangesNothing, NodesAreLeft, HandlesAreLeft, NumbersGrow, ObjectsStay, OthersHandlesStay, OwnHandlesStay, ClosedIsClosed, OpenedIsOpen}
-use Rattle.tree_model.proofs.Changed.{Changed-grows}
+use Rattle.tree_model.specs.StepLaws.{only_tells, is_on_entries, is_close_of, TellingChangesNothing, NodesAreLeft, HandlesAreLeft, NumbersGrow, NumbersGrowByOne, ObjectsStay, OthersHandlesStay, OwnHandlesStay, ClosedIsClosed, OpenedIsOpen}
+use Rattle.tree_model.proofs.Changed.{Changed-grows, Changed-by_one}
 use Rattle.tree_model.proofs.Outcomes.{Does, refuses, tells, opens_on, closes, changes_to, does}
 
 -- ---- the tree as a whole, and the nodes
@@ -56,6 +56,17 @@ grow (changes_to nodes e1 changed) = ((Changed-grows changed).longer, omega arit
 
 pub numbers_grow : NumbersGrow
 numbers_grow s a step = grow (does s a step)
+
+by_one : {s : State} {a : ℕ} {step : StepOf ℕ} {o : Outcome} → Does s a step o
+    → (length o.after.nodes ≤ suc (length s.nodes)) × (length o.after.handles ≤ suc (length s.handles))
+by_one (refuses error) = (omega arith, omega arith)
+by_one (tells answer e') = (omega arith, omega arith)
+by_one {s} {a} (opens_on x what e1 e2 e3) = (omega arith, omega (arith, length-append s.handles (Some (record { actor = a; node = x }) ∷ [])))
+by_one {s} (closes h x e1) = (omega arith, omega (arith, length-set s.handles h None))
+by_one (changes_to nodes e1 changed) = (Changed-by_one changed, omega arith)
+
+pub numbers_grow_by_one : NumbersGrowByOne
+numbers_grow_by_one s a step = by_one (does s a step)
 
 objects_stay_by : {s : State} {a : ℕ} {step : StepOf ℕ} {o : Outcome} → Does s a step o → (x : ℕ) (object : Object)
     → object_at s.nodes x ≡ Some object → object_at o.after.nodes x ≡ Some object

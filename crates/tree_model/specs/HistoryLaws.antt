@@ -1,5 +1,5 @@
 -- What holds of histories: statements of laws.
-use Rattle.std.specs.Prelude.{◌≡◌, ◌≢◌, ◌↔◌, ℕ, suc, ◌≤◌, List, [], ◌∷◌, ◌++◌, take, drop, length, slice_get, Some}
+use Rattle.std.specs.Prelude.{◌≡◌, ◌≢◌, ◌↔◌, ℕ, suc, ◌+◌, ◌≤◌, List, [], ◌∷◌, ◌++◌, take, drop, length, slice_get, Some}
 use Rattle.std.specs.List.{All}
 use Rattle.tree_model.specs.declared.answer.Event.{Event}
 use Rattle.tree_model.specs.declared.inode.Object.{Object}
@@ -48,6 +48,12 @@ HistoriesKeepTrees = (s : State) (events : List Event) → IsState s → IsState
 abbrev pub ObjectsStayForGood : Type 0
 ObjectsStayForGood = (s : State) (events : List Event) (m k x : ℕ) (object : Object) → m ≤ k
     → object_at (tree_at s events m).nodes x ≡ Some object → object_at (tree_at s events k).nodes x ≡ Some object
+
+-- a history has at most one new node, and one new number of a handle, for each of its events
+abbrev pub NumbersGrowByEvents : Type 0
+NumbersGrowByEvents = (s : State) (events : List Event)
+    → (length (after_events s events).nodes ≤ length s.nodes + length events)
+    × (length (after_events s events).handles ≤ length s.handles + length events)
 
 -- while only others take steps, an actor's handles stay
 abbrev pub HandlesStayAmongOthers : Type 0

@@ -1,5 +1,5 @@
 -- What holds of every step on a tree: the words that the laws' statements use, and the statements.
-use Rattle.std.specs.Prelude.{◌≡◌, ◌≢◌, ℕ, ◌+◌, ◌≤◌, ◌==◌, Bool, true, false, length, Some, None, is_some}
+use Rattle.std.specs.Prelude.{◌≡◌, ◌≢◌, ℕ, suc, ◌+◌, ◌≤◌, ◌==◌, Bool, true, false, List, length, Some, None, is_some, Ok}
 use Rattle.std.specs.List.{count_by}
 use Rattle.std.specs.Option.{option_map}
 use Rattle.tree_model.specs.declared.answer.Answer.{Answer}
@@ -10,7 +10,7 @@ use Rattle.tree_model.specs.declared.step.StepOf.{StepOf}
 use Rattle.tree_model.specs.declared.step.StepOf.TheVariants.{Open, Dup, Parent, ReadLink, NameBelow, List as ListNames, Close, MakeDir, MakeFile, MakeLink, RemoveFile, RemoveDir, Rename}
 use Rattle.tree_model.specs.declared.tree.TheConstants.{HANDLES_MAX, NUMBERS_MAX}
 use Rattle.tree_model.specs.State.{State, object_at}
-use Rattle.tree_model.specs.Steps.{outcome, held, held_count, kind_of, with_handle}
+use Rattle.tree_model.specs.Steps.{outcome, held, held_count, kind_of, with_handle, grants}
 use Rattle.tree_model.specs.Trees.{IsState}
 
 -- ---- kinds of answers and steps
@@ -82,6 +82,10 @@ pub record IsWithinLimits (s : State) : Type 0 where
 abbrev pub StepsKeepTrees : Type 0
 StepsKeepTrees = (s : State) (a : ℕ) (step : StepOf ℕ) → IsState s → IsState (outcome s a step).after
 
+-- so does a handle that is granted
+abbrev pub GrantsKeepTrees : Type 0
+GrantsKeepTrees = (s t : State) (a : ℕ) (names : List (List ℕ)) → IsState s → grants s a names ≡ Ok t → IsState t
+
 -- a refused step changes nothing, and neither does one that is answered with a text, names or a listing
 abbrev pub TellingChangesNothing : Type 0
 TellingChangesNothing = (s : State) (a : ℕ) (step : StepOf ℕ) → only_tells (outcome s a step).answer ≡ true → (outcome s a step).after ≡ s
@@ -98,6 +102,11 @@ HandlesAreLeft = (s : State) (a : ℕ) (step : StepOf ℕ) → is_on_entries ste
 abbrev pub NumbersGrow : Type 0
 NumbersGrow = (s : State) (a : ℕ) (step : StepOf ℕ)
     → (length s.nodes ≤ length (outcome s a step).after.nodes) × (length s.handles ≤ length (outcome s a step).after.handles)
+
+-- and a step brings at most one of each
+abbrev pub NumbersGrowByOne : Type 0
+NumbersGrowByOne = (s : State) (a : ℕ) (step : StepOf ℕ)
+    → (length (outcome s a step).after.nodes ≤ suc (length s.nodes)) × (length (outcome s a step).after.handles ≤ suc (length s.handles))
 
 -- a node stays what it is
 abbrev pub ObjectsStay : Type 0

@@ -1,14 +1,15 @@
 //! What holds of every tree and every step: laws, each the contract of a function without a body.
 ghost use Rattle.tree_model.specs.BaseLaws.{BaseIsTree, BaseOpens, BasePlaces, BaseEntries, BaseGone, BaseRenames, BaseRenamed};
-ghost use Rattle.tree_model.specs.HistoryLaws.{LegalAtEachMoment, EventsLeadOn, TreesBeginAndEnd, LegalHistoriesJoin, LegalGoesOn, LegalWhenCut, HistoriesKeepTrees, ObjectsStayForGood, HandlesStayAmongOthers};
+ghost use Rattle.tree_model.specs.HistoryLaws.{LegalAtEachMoment, EventsLeadOn, TreesBeginAndEnd, LegalHistoriesJoin, LegalGoesOn, LegalWhenCut, HistoriesKeepTrees, ObjectsStayForGood, NumbersGrowByEvents, HandlesStayAmongOthers};
 ghost use Rattle.tree_model.specs.PlaceLaws.{ChildStandsAtEntry, GoneNodesAreEmpty, LookupsLeadToNodes, NotFoundIsMissing, StandsAtOneWay, NamesBelowAreStanding, NameBelowIsStanding, ListedAreEntries, ListedOnce};
 ghost use Rattle.tree_model.specs.RowLaws.{RowsAreInOrder, RowsAreOneList, RowsArePlaces, EntriesHaveOneRow};
-ghost use Rattle.tree_model.specs.StepLaws.{StepsKeepTrees, TellingChangesNothing, NodesAreLeft, HandlesAreLeft, NumbersGrow, ObjectsStay, OthersHandlesStay, OwnHandlesStay, ClosedIsClosed, OpenedIsOpen, HandlesAreCounted, OthersCountsStay, LimitsAreKept};
+ghost use Rattle.tree_model.specs.StepLaws.{StepsKeepTrees, GrantsKeepTrees, TellingChangesNothing, NodesAreLeft, HandlesAreLeft, NumbersGrow, NumbersGrowByOne, ObjectsStay, OthersHandlesStay, OwnHandlesStay, ClosedIsClosed, OpenedIsOpen, HandlesAreCounted, OthersCountsStay, LimitsAreKept};
 
 /// Every step leads from a tree to a tree: no entry is in what is no directory, no two nodes have one entry,
-/// and no node becomes its own ancestor.
+/// and no node becomes its own ancestor. So does a handle that is granted.
 pub fn steps_keep_trees()
-    ensures { StepsKeepTrees }
+    ensures steps { StepsKeepTrees }
+    ensures grants { GrantsKeepTrees }
 {}
 
 /// What a step leaves as it was.
@@ -18,9 +19,10 @@ pub fn steps_leave_the_rest()
     ensures handles { HandlesAreLeft }
 {}
 
-/// Numbers are never used twice, and a node stays what it is.
+/// Numbers are never used twice, a step brings at most one more of each, and a node stays what it is.
 pub fn numbers_stay()
     ensures grow { NumbersGrow }
+    ensures by_one { NumbersGrowByOne }
     ensures objects { ObjectsStay }
 {}
 
@@ -82,11 +84,12 @@ pub fn legal_histories_join()
     ensures cut { LegalWhenCut }
 {}
 
-/// At each moment of a history there is a tree, in which each node is what it was, and whose handles of one
-/// actor no other has touched.
+/// At each moment of a history there is a tree, in which each node is what it was, with at most one new number
+/// for each event, and whose handles of one actor no other has touched.
 pub fn histories_keep_trees()
     ensures trees { HistoriesKeepTrees }
     ensures objects { ObjectsStayForGood }
+    ensures numbers { NumbersGrowByEvents }
     ensures handles { HandlesStayAmongOthers }
 {}
 
