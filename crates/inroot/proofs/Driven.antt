@@ -1,6 +1,6 @@
 -- A walk that is driven on a tree where nobody else acts: it goes on step by step, and its end is what the path means.
-use Rattle.std.proofs.Common.{◌≡◌, ℕ, zero, suc, ◌+◌, ◌≤◌, ◌<◌, Bool, true, false, ◌==◌, cond, List, [], ◌∷◌, ◌++◌, length, take, refl, sym, ap, ◌∙◌, subst, inl, inr, arith, eq-eqb, length-append, ⊎_elim}
-use Rattle.std.specs.Prelude.{Option, Some, None, slice_get, reverse, Result, Ok, Err}
+use Rattle.std.proofs.Common.{◌≡◌, ℕ, zero, suc, ◌≤◌, ◌<◌, Bool, true, false, cond, List, [], ◌∷◌, ◌++◌, length, take, refl, sym, ap, ◌∙◌, subst, inl, inr, arith, eq-eqb, length-append, ⊎_elim}
+use Rattle.std.specs.Prelude.{Some, slice_get, reverse, Result, Ok, Err}
 use Rattle.std.proofs.lemmas.Bool.{leb-true, or_cases, false≢true}
 use Rattle.std.proofs.lemmas.Option.{none-some, same_Some}
 use Rattle.path_text.specs.declared.errno.Errno.{Errno}
@@ -9,11 +9,9 @@ use Rattle.path_text.specs.declared.flags.Flags.{Flags}
 use Rattle.path_text.specs.Reading.{Reading}
 use Rattle.tree_model.specs.declared.answer.Answer.{Answer}
 use Rattle.tree_model.specs.declared.answer.Event.{Event}
-use Rattle.tree_model.specs.declared.step.StepOf.{StepOf}
 use Rattle.tree_model.specs.declared.tree.TheConstants.{HANDLES_MAX, NUMBERS_MAX}
-use Rattle.tree_model.specs.declared.inode.Inode.{Inode}
 use Rattle.tree_model.specs.State.{State, object_at, Stands}
-use Rattle.tree_model.specs.Steps.{outcome, held_count, is_full}
+use Rattle.tree_model.specs.Steps.{outcome, held_count}
 use Rattle.tree_model.specs.History.{IsLegal, after_events, tree_at}
 use Rattle.tree_model.specs.HistoryLaws.{LegalHistoriesJoin, NumbersGrowByEvents}
 use Rattle.handles.specs.Objects.{StandingObject}
@@ -21,7 +19,7 @@ use Rattle.walk_plan.specs.declared.goal.Goal.{Goal}
 use Rattle.walk_plan.specs.declared.goal.Goal.TheVariants.{Follow}
 use Rattle.step_resolver.specs.Asked.{AskedPart}
 use Rattle.step_resolver.specs.Meaning.{Meant, object, fails, reading_means}
-use Rattle.step_resolver.specs.Order.{Way, Handle, Walking, Turn, more, found, partial, failed, begins, due, Line, answered, short, unmade, events_of, LeadsTo}
+use Rattle.step_resolver.specs.Order.{Way, Handle, Walking, Turn, more, found, partial, failed, begins, due, Line, answered, short, unmade, events_of}
 use Rattle.step_resolver.specs.Order.{take as takes}
 use Rattle.step_resolver.specs.Ends.{Walked, IsWalked, own_events, TellsTooMany, TellsWant, TellsError, is_want, IsMeant, IsEnd}
 use Rattle.step_resolver.specs.Headline.{WalksTell}
@@ -31,7 +29,7 @@ use Rattle.step_resolver.specs.Taken.{seen, standing_handle, steps_to_come, STEP
 use Rattle.step_resolver.specs.declared.walk.Turn.{Turn as Outcome}
 use Rattle.step_resolver.specs.declared.walk.Turn.TheVariants.{More, Found, Partial, Failed}
 use Rattle.step_resolver.proofs.Telling.{leads_on, line_leads}
-use Rattle.inroot.specs.Driven.{IsOpened, IsAnswer, steps_of, IsWithoutBook, Drives, IsWhole, IsEndOf, IsObject, Resolves}
+use Rattle.inroot.specs.Driven.{IsOpened, IsAnswer, steps_of, IsWithoutBook, Drives, IsWhole, IsEndOf, Resolves}
 
 -- ---- step by step
 

@@ -1,5 +1,5 @@
 -- From what was read, opened and resolved to the line that is written.
-use Rattle.std.proofs.Common.{◌≡◌, ◌≢◌, ℕ, List, [], true, refl, sym, ap, ◌∙◌, subst, inl, inr}
+use Rattle.std.proofs.Common.{◌≡◌, ◌≢◌, ℕ, List, [], true, sym, ap, ◌∙◌, subst, inl, inr}
 use Rattle.std.specs.Prelude.{Option, Some, None, reverse, unwrap_or, Result, Ok, Err, IfOk, MatchOption}
 use Rattle.std.proofs.lemmas.List.{reverse-reverse}
 use Rattle.serde_json.specs.Data.{Data}
@@ -23,7 +23,7 @@ use Rattle.inroot.specs.declared.fault.ScriptFault.{ScriptFault}
 use Rattle.inroot.specs.Driven.{node_of, IsOpened, Resolves}
 use Rattle.inroot.specs.Output.{opened_line, fault_line}
 use Rattle.inroot.specs.Script.{Setting, IsAtHand, setting_of, then_with}
-use Rattle.inroot.specs.Walk.{object_line, line_of, line_for}
+use Rattle.inroot.specs.Walk.{line_of, line_for}
 
 -- ---- the text
 

@@ -1,12 +1,12 @@
 -- A text cut at its first slash.
-use Rattle.std.proofs.Common.{◌≡◌, ◌≢◌, ℕ, zero, suc, ◌+◌, ◌<◌, Bool, true, false, List, [], ◌∷◌, ◌++◌, ◌-◌, length, take, drop, refl, sym, ap, ◌∙◌, arith, eq-eqb, add-one, length-drop}
+use Rattle.std.proofs.Common.{◌≡◌, ◌≢◌, ℕ, zero, suc, ◌+◌, ◌<◌, Bool, true, false, List, [], ◌∷◌, ◌-◌, length, take, drop, refl, sym, ap, ◌∙◌, arith, eq-eqb, add-one, length-drop}
 use Rattle.std.proofs.Math.Seq.{take-length}
-use Rattle.std.specs.Prelude.{if◌then◌else◌, ◌==◌, ◌&&◌, slice_index, Some, None}
+use Rattle.std.specs.Prelude.{if◌then◌else◌, ◌==◌, slice_index}
 use Rattle.std.proofs.lemmas.Bool.{eqb-true}
 use Rattle.path_text.specs.declared.name.TheConstants.{SLASH}
-use Rattle.std.specs.List.{onto_first, list_all}
+use Rattle.std.specs.List.{onto_first}
 use Rattle.path_text.specs.Text.{between_slashes}
-use Rattle.inroot.specs.Script.{HasNoSlashBefore, is_name, names_of}
+use Rattle.inroot.specs.Script.{HasNoSlashBefore}
 
 other : (b : ℕ) (test : Bool) → (b == SLASH) ≡ test → b ≢ SLASH → (b == SLASH) ≡ false
 other b true e apart = absurd (apart (eqb-true b SLASH e))
@@ -46,21 +46,3 @@ cut_at bs n within slash clear =
 pub uncut : (bs : List ℕ) → HasNoSlashBefore bs (length bs) → between_slashes bs ≡ bs ∷ []
 uncut [] clear = refl
 uncut (b ∷ bs) clear = first_byte b bs (clear 0 (omega arith)) ∙ ap (onto_first b) (uncut bs (behind b bs (length bs) clear))
-
--- ---- names among the pieces
-
-and_false : (b : Bool) → (b && false) ≡ false
-and_false true = refl
-and_false false = refl
-
-bad_within : (names more : List (List ℕ)) (piece : List ℕ) → is_name piece ≡ false → list_all is_name (names ++ piece ∷ more) ≡ false
-bad_within [] more piece e = ap (λ (b : Bool). b && list_all is_name more) e
-bad_within (n ∷ names) more piece e = ap (λ (b : Bool). is_name n && b) (bad_within names more piece e) ∙ and_false (is_name n)
-
--- a piece that is no name makes the path no path of names
-pub no_names_where : (path pieces : List ℕ) (names more : List (List ℕ)) (piece : List ℕ) → path ≡ SLASH ∷ pieces
-    → names ++ piece ∷ more ≡ between_slashes pieces → is_name piece ≡ false → None ≡ names_of path
-no_names_where path pieces names more piece path_is all bad =
-    let other_pieces : list_all is_name (between_slashes pieces) ≡ false = ap (list_all is_name) (sym all) ∙ bad_within names more piece bad in
-    let computed : names_of (SLASH ∷ pieces) ≡ None = ap (λ (b : Bool). if b then Some (between_slashes pieces) else None) other_pieces in
-    sym (ap names_of path_is ∙ computed)

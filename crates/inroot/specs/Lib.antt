@@ -4,6 +4,7 @@ pub use Rattle.path_text.specs.Name
 pub use Rattle.path_text.specs.Print
 pub use Rattle.path_text.specs.Reading
 pub use Rattle.path_text.specs.Text
+pub mod Command
 pub mod Driven
 pub mod Fault
 pub mod Input

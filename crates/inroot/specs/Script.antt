@@ -1,6 +1,6 @@
 -- What a script says, over the data that its JSON text is (RFC 8259, as serde_json reads it). The checks are made in this order,
 -- and the first that fails is told.
-use Rattle.std.specs.Prelude.{⊤, ◌≡◌, ℕ, ◌<◌, ◌≢◌, slice_index, ◌+◌, ◌==◌, ◌&&◌, ◌||◌, List, [], ◌∷◌, Bool, true, false, not, if◌then◌else◌, nat_lt, length, codes, Option, Some, None, is_none, option_map, option_and_then, Result, Ok, Err}
+use Rattle.std.specs.Prelude.{⊤, ◌≡◌, ℕ, ◌<◌, ◌≢◌, slice_index, ◌+◌, ◌==◌, ◌&&◌, ◌||◌, List, [], ◌∷◌, Bool, false, not, if◌then◌else◌, nat_lt, length, codes, Option, Some, None, is_none, option_map, option_and_then, Result, Ok, Err}
 use Rattle.std.specs.List.{list_all}
 use Rattle.std.specs.Str.{is_utf8}
 use Rattle.serde_json.specs.Data.{Data, Items, no_items, item}
@@ -12,7 +12,7 @@ use Rattle.path_text.specs.declared.name.TheConstants.{SLASH}
 use Rattle.path_text.specs.Name.{name_fault, same_bytes}
 use Rattle.path_text.specs.Text.{between_slashes}
 use Rattle.tree_model.specs.declared.inode.Inode.{Inode}
-use Rattle.tree_model.specs.State.{State, TOP, is_dir}
+use Rattle.tree_model.specs.State.{State, TOP}
 use Rattle.tree_model.specs.Entries.{with_some, refuse_if}
 use Rattle.tree_model.specs.Steps.{directory_at}
 use Rattle.tree_list.specs.declared.build.BuildFault.{BuildFault}

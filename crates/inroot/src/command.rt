@@ -1,4 +1,6 @@
 //! The command line.
+ghost use Rattle.std.specs.Prelude.{codes};
+ghost use Rattle.inroot.specs.Command.{IsOption};
 
 use clap::{Arg, ArgAction, ArgMatches, Command};
 use path_text::Flags;
@@ -44,7 +46,10 @@ pub fn command<'a>(alloc: Global) -> Result<Command<'a>, AllocError> {
 }
 
 /// The restrictions that the options of `walk` say (openat2(2)).
-pub fn flags(matches: &ArgMatches) -> Flags {
+pub fn flags(matches: &ArgMatches) -> Flags
+    ensures beneath { IsOption matches.now (codes "beneath") result.beneath }
+    ensures no_links { IsOption matches.now (codes "no-links") result.no_links }
+{
     Flags {
         beneath: matches.get_flag(BENEATH),
         no_links: matches.get_flag(NO_LINKS),

@@ -3,7 +3,7 @@ use Rattle.std.proofs.Common.{◌≡◌, ℕ, zero, suc, ◌+◌, ◌-◌, ◌<�
 use Rattle.std.specs.Prelude.{Ok, Err, Option, Some, None, slice_get, if◌then◌else◌}
 use Rattle.std.specs.Option.{option_eq, option_map, unwrap_or}
 use Rattle.std.proofs.lemmas.Bool.Decides.{nat_tests}
-use Rattle.std.proofs.lemmas.List.{drop_more, drop_all, length-drop}
+use Rattle.std.proofs.lemmas.List.{drop_more, length-drop}
 use Rattle.std.proofs.lemmas.Option.{slice_get_within, slice_get-get_or, get_or_from_slice_get}
 use native.Mathlib.Numerals.{unary_clauses}
 use Rattle.path_text.specs.declared.errno.Errno.{Errno}
@@ -13,7 +13,7 @@ use Rattle.path_text.specs.declared.part.Part.{Part}
 use Rattle.path_text.specs.declared.part.Part.TheVariants as part
 use Rattle.path_text.specs.Text.{ends_with_slash, part_of, parts_of, text_fault}
 use Rattle.step_resolver.specs.declared.plain.Arrived.{Arrived}
-use Rattle.step_resolver.specs.Asked.{AskedPart, Cur, ask, asked, followed}
+use Rattle.step_resolver.specs.Asked.{AskedPart, ask, asked, followed}
 use Rattle.step_resolver.specs.Meaning.{Ground, Entry, Meant, object, fails, after_reads, and_then, from_of, crosses, link_in, part_means, parts_mean, LINKS_MAX, path_means, resolves, resolved, is_object, is_error, resolution}
 use Rattle.step_resolver.specs.Plain.{meant, arrival}
 use Rattle.step_resolver.proofs.MeaningLaws.{LeavesAtMost, Lowers, deeper_at, deeper_at-lowers, means_by, means-lowers, part_means-lowers, parts_mean-same, nesting_does_not_matter}
@@ -117,17 +117,6 @@ module _ (g : Ground) (follow slash : Bool) (pieces : List (List ℕ)) (at : ℕ
 
   pub piece_fails : (error : Errno) → arrival first ≡ Err error → arrival whole ≡ Err error
   piece_fails error h = ap arrival one_by_one ∙ arrival-and_then_fails first onward error h
-
--- where no piece is left, there is at most the part for the slash at the end
-pub last_part : (g : Ground) (follow slash : Bool) (pieces : List (List ℕ)) (at d b : ℕ) → length pieces ≤ at
-    → arrival (parts_mean (meant g) g d (asked follow (parts_from pieces slash at)) b) ≡ (if slash then arrival (part_means (meant g) g d Cur b) else arrival (object d b []))
-last_part g follow slash pieces at d b h =
-    ap (λ ps. arrival (parts_mean (meant g) g d (asked follow (map part_of ps ++ (if slash then part.Cur ∷ [] else []))) b)) (drop_all at pieces h)
-    ∙ last_of slash
-  where
-    last_of : (s : Bool) → arrival (parts_mean (meant g) g d (asked follow (if s then part.Cur ∷ [] else [])) b) ≡ (if s then arrival (part_means (meant g) g d Cur b) else arrival (object d b []))
-    last_of true = arrival-and_then_object (part_means (meant g) g d Cur b)
-    last_of false = refl
 
 -- ---- links
 

@@ -66,11 +66,6 @@ pub alone_of : (w : Setting) (m : Meant) (onward : ℕ → ℕ → Meant) → Al
 alone_of w (object d b reads) onward a = alone_first w reads (reads_of (onward d b)) (alone_after w reads (onward d b) a)
 alone_of w (fails error reads) onward a = a
 
--- and what comes after it
-alone_onward : (w : Setting) (d b : ℕ) (reads : List Entry) (onward : ℕ → ℕ → Meant) → AllAlone w (reads_of (and_then (object d b reads) onward))
-    → AllAlone w (reads_of (onward d b))
-alone_onward w d b reads onward a = alone_second w reads (reads_of (onward d b)) (alone_after w reads (onward d b) a)
-
 pub alone_here : (w : Setting) (x : Entry) (m : Meant) → AllAlone w (reads_of (after_reads (x ∷ []) m)) → w.IsAlone x × AllAlone w (reads_of m)
 alone_here w x (object d b reads) a = (a.0, a.1)
 alone_here w x (fails error reads) a = (a.0, a.1)

@@ -197,11 +197,6 @@ GoesFor w m true p position (todo inner own b) = (inner ≡ []) × Going w m pos
 abbrev pub links_of : Todo → ℕ
 links_of (todo inner own b) = b
 
-pub goes_later : (w : Walked) {m k : ℕ} (own : Bool) (p : AskedPart) (position : Position) (rest : Todo) → m ≤ k
-    → GoesFor w m own p position rest → GoesFor w k own p position rest
-goes_later w false p position (todo inner own b) le g = going_later le g
-goes_later w true p position (todo inner own b) le g = (g.0, going_later le g.1)
-
 -- the stop before the next part
 pub stop_at : (w : Walked) {m : ℕ} (own : Bool) (p : AskedPart) (position : Position) (rest : Todo) → GoesFor w m own p position rest
     → Trail (story w) (parts_of_walk w) (start w) (spot_at w position (links_of rest) m) (Some p)

@@ -11,6 +11,7 @@ pub use Rattle.tree_model.specs.History
 pub use Rattle.tree_model.specs.StepLaws
 pub use Rattle.tree_model.specs.PlaceLaws
 pub use Rattle.tree_model.specs.HistoryLaws
+pub use Rattle.tree_model.specs.BaseTree
 pub use Rattle.handles.specs.Objects
 pub use Rattle.walk_plan.specs.Plan
 pub mod Asked
@@ -19,9 +20,9 @@ pub mod Trail
 pub mod Order
 pub mod Ends
 pub mod Headline
-pub mod BaseTree
 pub mod MeaningLaws
 pub mod TrailLaws
+pub mod WorkedPaths
 pub mod FootprintLaws
 pub mod View
 pub mod Taken

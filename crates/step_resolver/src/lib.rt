@@ -22,7 +22,7 @@ pub use footprint_laws::{quiet_walks_mean, raced_tells_of_change, walks_mean};
 pub use laws::walks_tell;
 pub use meaning_laws::{
     deepest_is_front_and_rest, errors_of_parts, links_are_their_texts, meaning_of_appended_parts,
-    nesting_does_not_matter,
+    nesting_does_not_matter, worked_paths,
 };
 pub use plain::resolve_whole;
 pub use trail_laws::{links_add_up, quiet_trails_mean, trails_append, trails_split};

@@ -1,5 +1,6 @@
 //! Laws of the meaning of a path, each the contract of a function without a body.
 ghost use Rattle.step_resolver.specs.MeaningLaws.{AppendedPartsMean, NestingDoesNotMatter, LinksNeverRise, LinksAreTheirTexts, DeepestIsFrontAndRest, DeepestMeansTheSame, PartsFailAsPaths};
+ghost use Rattle.step_resolver.specs.WorkedPaths.{NamesAreWorked, LinksAreWorked, BudgetIsWorked, SlashesAreWorked, LengthsAreWorked, BeneathIsWorked, NoLinksAreWorked, TrailIsWorked};
 
 /// Over appended parts it is the meaning of the first parts, then that of the others from there, with the
 /// entries that both read.
@@ -32,4 +33,17 @@ pub fn deepest_is_front_and_rest()
 /// (path_resolution(7), openat2(2)).
 pub fn errors_of_parts()
     ensures { PartsFailAsPaths }
+{}
+
+/// What paths of each kind come to on a small tree, computed: names and the texts that are none, links, the forty
+/// of them that are followed, slashes, long names and texts, both restrictions; and a trail through a link.
+pub fn worked_paths()
+    ensures names { NamesAreWorked }
+    ensures links { LinksAreWorked }
+    ensures budget { BudgetIsWorked }
+    ensures slashes { SlashesAreWorked }
+    ensures lengths { LengthsAreWorked }
+    ensures beneath { BeneathIsWorked }
+    ensures no_links { NoLinksAreWorked }
+    ensures trail { TrailIsWorked }
 {}

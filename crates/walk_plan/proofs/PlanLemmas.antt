@@ -70,12 +70,6 @@ link_read p text result allowed left within parsed =
 
 -- ---- what stays true of a plan
 
-pub IsPlan-stayed : (p : PlanState) → IsPlan p → IsPlan (stayed p)
-IsPlan-stayed p is_plan =
-    let own = own_after_next_shorter p.inner p.own in
-    let inner = after_first_shorter p.inner in
-    record { few_links = omega arith; few_own = omega arith; few_inner = omega arith }
-
 pub IsPlan-spliced : (p : PlanState) (text : Reading) → IsPlan p → length text.parts ≤ PARTS_MAX → 0 < p.links_left → IsPlan (spliced p text)
 IsPlan-spliced p text is_plan few left =
     let own = own_after_next_shorter p.inner p.own in

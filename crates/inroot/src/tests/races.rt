@@ -10,7 +10,7 @@ use std::process::Abort;
 use std::test::Fail;
 use step_resolver::{Goal, Root, Turn, Walk};
 use tree_list::ListTree;
-use tree_model::{Actor, Answer, HandleNo, Mode, Step, StepOf, Tree};
+use tree_model::{Actor, Answer, HandleNo, Mode, Node, Row, Step, StepOf, Tree};
 
 const BENEATH: Flags = Flags {
     beneath: true,
@@ -30,7 +30,8 @@ const OTHER: u32 = 1;
 
 const OTHERS: [&str; 4] = ["/", "/c", "/c/a", "/secret"];
 
-/// A walk; what the other does after so many of its events; its end, its events, and the handles it has then.
+/// A walk; what the other does after so many of its events; its end, its events, and the handles it has then; an
+/// entry of the tree then, by its directory, its name and its node.
 #[derive(Clone, Copy)]
 struct Case<'a> {
     path: &'a str,
@@ -40,6 +41,7 @@ struct Case<'a> {
     end: &'a str,
     events: u32,
     held: usize,
+    row: &'a str,
 }
 
 /// A step of the other, after so many events of the walk.
@@ -99,6 +101,15 @@ fn betweens_of(alloc: Global, lines: &[(u32, &str)]) -> Result<Vec<Between>, Fai
         })?;
     }
     Ok(betweens)
+}
+
+fn row_of(alloc: Global, line: &str) -> Result<Row, Fail> {
+    let words: Vec<&str> = line.split(' ').collect(alloc)?;
+    Ok(Row {
+        parent: Node::new(word(&words, 0)?.parse::<u64>()?),
+        name: name(alloc, &words, 1)?,
+        child: Node::new(word(&words, 2)?.parse::<u64>()?),
+    })
 }
 
 /// The base tree, with the handles of both.
@@ -206,6 +217,9 @@ fn check(rt: &impl Abort, alloc: Global, tree: &mut ListTree, case: &Case<'_>) -
     assert_eq!(rt; events, case.events, "{0}", case.path);
     let held = tree.held(Actor::new(WALKER));
     assert_eq!(rt; held, case.held, "{0}", case.path);
+    let row = row_of(alloc, case.row)?;
+    let rows = tree.snapshot(alloc)?.rows(alloc)?;
+    assert!(rt; rows.contains(&row), "no row {row:?}");
     Ok(())
 }
 
@@ -221,6 +235,7 @@ fn walks_among_renames(rt: HostRuntime) -> Result<(), Fail> {
             end: "fault EAGAIN\n",
             events: 7,
             held: 1,
+            row: "9 b 3",
         },
         Case {
             path: "a/b/..",
@@ -230,6 +245,7 @@ fn walks_among_renames(rt: HostRuntime) -> Result<(), Fail> {
             end: "opened dir 2 /a\n",
             events: 7,
             held: 2,
+            row: "2 b 3",
         },
         Case {
             path: "a/b/f",
@@ -243,6 +259,7 @@ fn walks_among_renames(rt: HostRuntime) -> Result<(), Fail> {
             end: "opened file 4 /a/b/f\n",
             events: 6,
             held: 2,
+            row: "0 s2 9",
         },
         Case {
             path: "a/b/..",
@@ -252,6 +269,7 @@ fn walks_among_renames(rt: HostRuntime) -> Result<(), Fail> {
             end: "opened dir 2 /a\n",
             events: 7,
             held: 2,
+            row: "9 c2 1",
         },
         Case {
             path: "e/..",
@@ -261,6 +279,7 @@ fn walks_among_renames(rt: HostRuntime) -> Result<(), Fail> {
             end: "fault EAGAIN\n",
             events: 3,
             held: 1,
+            row: "1 a 2",
         },
         Case {
             path: "a/b/f",
@@ -270,6 +289,7 @@ fn walks_among_renames(rt: HostRuntime) -> Result<(), Fail> {
             end: "fault ENOTDIR\n",
             events: 4,
             held: 1,
+            row: "2 b 11",
         },
         Case {
             path: "a/b/f",
@@ -279,6 +299,7 @@ fn walks_among_renames(rt: HostRuntime) -> Result<(), Fail> {
             end: "fault ENOENT\n",
             events: 6,
             held: 1,
+            row: "2 b 11",
         },
         Case {
             path: "abs/f",
@@ -288,6 +309,7 @@ fn walks_among_renames(rt: HostRuntime) -> Result<(), Fail> {
             end: "opened file 4 /a/b/f\n",
             events: 9,
             held: 2,
+            row: "1 up 6",
         },
     ] {
         check(&rt, alloc, &mut tree_of(alloc)?, &case)?;
@@ -326,6 +348,7 @@ fn walks_undisturbed(rt: HostRuntime) -> Result<(), Fail> {
             end,
             events,
             held: if opens { 2 } else { 1 },
+            row: "3 f 4",
         };
         check(&rt, alloc, &mut tree_of(alloc)?, &case)?;
     }
@@ -352,6 +375,7 @@ fn walks_with_few_handles_left(rt: HostRuntime) -> Result<(), Fail> {
             end,
             events,
             held,
+            row: "3 f 4",
         };
         check(&rt, alloc, &mut tree, &case)?;
     }
