@@ -11,15 +11,16 @@ use Rattle.tree_model.specs.declared.answer.Answer.{Answer}
 use Rattle.tree_model.specs.declared.answer.Event.{Event}
 use Rattle.tree_model.specs.declared.tree.TheConstants.{HANDLES_MAX, NUMBERS_MAX}
 use Rattle.tree_model.specs.State.{State, object_at, Stands}
-use Rattle.tree_model.specs.Steps.{outcome, held_count}
+use Rattle.tree_model.specs.Steps.{held, outcome, held_count}
 use Rattle.tree_model.specs.History.{IsLegal, after_events, tree_at}
+use Rattle.tree_model.specs.StepLaws.{is_on_entries, NodesAreLeft}
 use Rattle.tree_model.specs.HistoryLaws.{LegalHistoriesJoin, NumbersGrowByEvents}
 use Rattle.handles.specs.Objects.{StandingObject}
 use Rattle.walk_plan.specs.declared.goal.Goal.{Goal}
 use Rattle.walk_plan.specs.declared.goal.Goal.TheVariants.{Follow}
 use Rattle.step_resolver.specs.Asked.{AskedPart}
 use Rattle.step_resolver.specs.Meaning.{Meant, object, fails, reading_means}
-use Rattle.step_resolver.specs.Order.{Way, Handle, Walking, Turn, more, found, partial, failed, begins, due, Line, answered, short, unmade, events_of}
+use Rattle.step_resolver.specs.Order.{Way, Handle, Walking, opening, reading, rising, judging, duping, ending, closing, Turn, more, found, partial, failed, begins, due, Line, answered, short, unmade, events_of}
 use Rattle.step_resolver.specs.Order.{take as takes}
 use Rattle.step_resolver.specs.Ends.{Walked, IsWalked, own_events, TellsTooMany, TellsWant, TellsError, is_want, IsMeant, IsEnd}
 use Rattle.step_resolver.specs.Headline.{WalksTell}
@@ -29,7 +30,7 @@ use Rattle.step_resolver.specs.Taken.{seen, standing_handle, steps_to_come, STEP
 use Rattle.step_resolver.specs.declared.walk.Turn.{Turn as Outcome}
 use Rattle.step_resolver.specs.declared.walk.Turn.TheVariants.{More, Found, Partial, Failed}
 use Rattle.step_resolver.proofs.Telling.{leads_on, line_leads}
-use Rattle.inroot.specs.Driven.{IsOpened, IsAnswer, steps_of, IsWithoutBook, Drives, IsWhole, IsEndOf, Resolves}
+use Rattle.inroot.specs.Driven.{LeavesHandles, IsOpened, IsAnswer, steps_of, IsWithoutBook, Drives, IsWhole, IsEndOf, Resolves}
 
 -- ---- step by step
 
@@ -45,7 +46,18 @@ is_over goal (Found standing) not_more = tt
 is_over goal (Partial standing rest) not_more = tt
 is_over goal (Failed error) not_more = tt
 
-module _ (way : Way) (a : ℕ) (s t : State) (walking : Walking) (answer : Answer) (to : Turn) (fewer : steps_of to < steps_of (more walking)) where
+-- no step of a walk is on entries
+is_off_entries : (way : Way) (walking : Walking) → is_on_entries (due way walking) ≡ false
+is_off_entries way (opening position own follow n rest) = refl
+is_off_entries way (reading position link rest) = refl
+is_off_entries way (rising handle names rest) = refl
+is_off_entries way (judging handle names rest) = refl
+is_off_entries way (duping rest) = refl
+is_off_entries way (ending handle names rest) = refl
+is_off_entries way (closing h hs after) = refl
+
+module _ (leave : NodesAreLeft) (way : Way) (a : ℕ) (s t : State) (walking : Walking) (answer : Answer) (to : Turn)
+    (fewer : steps_of to < steps_of (more walking)) where
   made : (room : Bool) → to ≡ takes way room walking answer
       → answer ≡ (outcome s a (due way walking)).answer → t ≡ (outcome s a (due way walking)).after → Drives way a s (more walking) t to
   made true taken told after = record {
@@ -53,6 +65,7 @@ module _ (way : Way) (a : ℕ) (s t : State) (walking : Walking) (answer : Answe
     leads = line_leads way true walking answer to (answered (due way walking) answer) taken (refl, refl, refl);
     legal = (told, tt);
     after = sym after;
+    nodes = ap (λ (u : State). u.nodes) after ∙ leave s a (due way walking) (is_off_entries way walking);
     without_book = tt;
     fewer = omega (arith, fewer);
   }
@@ -61,6 +74,7 @@ module _ (way : Way) (a : ℕ) (s t : State) (walking : Walking) (answer : Answe
     leads = line_leads way false walking answer to (short (due way walking) answer) taken (refl, refl, refl);
     legal = (told, tt);
     after = sym after;
+    nodes = ap (λ (u : State). u.nodes) after ∙ leave s a (due way walking) (is_off_entries way walking);
     without_book = tt;
     fewer = omega (arith, fewer);
   }
@@ -73,15 +87,16 @@ module _ (way : Way) (a : ℕ) (s t : State) (walking : Walking) (answer : Answe
     leads = line_leads way taken.0 walking answer to (unmade NoMemory) taken.1 (inl refl, is.2, is.0);
     legal = tt;
     after = sym is.1;
+    nodes = ap (λ (u : State). u.nodes) is.1;
     without_book = (refl, tt);
     fewer = omega (arith, fewer);
   }
 
-pub advanced_to : (way : Way) (a : ℕ) (s t : State) (walking : Walking) (answer : Answer) (goal : Goal) (outcome : Outcome)
+pub advanced_to : NodesAreLeft → (way : Way) (a : ℕ) (s t : State) (walking : Walking) (answer : Answer) (goal : Goal) (outcome : Outcome)
     → steps_to_come outcome < steps_of (more walking) → IsAnswer way walking a s t answer → TakesTo way walking answer (seen goal outcome)
     → Drives way a s (more walking) t (seen goal outcome)
-advanced_to way a s t walking answer goal outcome fewer is taken =
-    advanced way a s t walking answer (seen goal outcome) (subst (λ n. n < steps_of (more walking)) (sym (seen_steps goal outcome)) fewer) is taken
+advanced_to leave way a s t walking answer goal outcome fewer is taken =
+    advanced leave way a s t walking answer (seen goal outcome) (subst (λ n. n < steps_of (more walking)) (sym (seen_steps goal outcome)) fewer) is taken
 
 -- ---- one after another
 
@@ -98,7 +113,7 @@ joined_without_book (short step answer ∷ lines) others first second = joined_w
 joined_without_book (unmade error ∷ lines) others first second = (first.0, joined_without_book lines others first.1 second)
 
 pub drives_none : (way : Way) (a : ℕ) (s : State) (turn : Turn) → Drives way a s turn s turn
-drives_none way a s turn = record { lines = []; leads = refl; legal = tt; after = refl; without_book = tt; fewer = omega arith }
+drives_none way a s turn = record { lines = []; leads = refl; legal = tt; after = refl; nodes = refl; without_book = tt; fewer = omega arith }
 
 pub drives_on : LegalHistoriesJoin → (way : Way) (a : ℕ) (s t u : State) (from mid to : Turn)
     → Drives way a s from t mid → Drives way a t mid u to → Drives way a s from u to
@@ -114,6 +129,7 @@ drives_on join way a s t u from mid to first second =
       leads = leads_on way first.lines from mid second.lines to first.leads second.leads;
       legal = subst (IsLegal s) (sym joined) (both.0.1 (first.legal, subst (λ v. IsLegal v fs) (sym first.after) second.legal));
       after = ap (after_events s) joined ∙ both.1 ∙ ap (λ v. after_events v fs) first.after ∙ second.after;
+      nodes = second.nodes ∙ first.nodes;
       without_book = joined_without_book first.lines second.lines first.without_book second.without_book;
       fewer = omega (arith, few, fewer, length-append first.lines second.lines);
     }
@@ -288,6 +304,21 @@ module _ (laws : Laws) (s t : State) (a h r : ℕ) (flags : Flags) (path : Readi
       found_as_meant standing (subst (λ z. Drives (way_at h flags) a s (begins (way_at h flags) path) t z) e d)
   resolved_by end (Err error) e d =
       failed_as_meant error (subst (λ z. Drives (way_at h flags) a s (begins (way_at h flags) path) t z) e d)
+
+  -- the handles that are open then
+  pub handles_by : (end : Turn) (result : Result StandingObject Errno) → IsEndOf end result → Drives (way_at h flags) a s (begins (way_at h flags) path) t end
+      → LeavesHandles s a t result
+  handles_by end (Ok standing) e from =
+      let d = subst (λ z. Drives (way_at h flags) a s (begins (way_at h flags) path) t z) e from in
+      let new = (laws.tell (walked _ d) _ (is_walked _ d) d.leads).new in (
+        ap (λ (u : State). held u a standing.handle) (sym d.after) ∙ new.is_open,
+        new.fresh,
+        (λ k other. ap (λ (u : State). held u a k) (sym d.after) ∙ new.others k other),
+      )
+  handles_by end (Err error) e from =
+      let d = subst (λ z. Drives (way_at h flags) a s (begins (way_at h flags) path) t z) e from in
+      let stay = (laws.tell (walked _ d) _ (is_walked _ d) d.leads).handles in
+      λ k. ap (λ (u : State). held u a k) (sym d.after) ∙ stay k
 
 -- how many steps a walk has at most, from its first turn
 pub few_steps : (way : Way) (path : Reading) (outcome : Outcome) → seen way.goal outcome ≡ begins way path → steps_to_come outcome ≤ STEPS_MAX

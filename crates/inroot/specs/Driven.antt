@@ -1,5 +1,5 @@
 -- A walk that is driven to its end on a tree, where nobody else acts meanwhile.
-use Rattle.std.specs.Prelude.{◌≡◌, ℕ, ◌+◌, ◌≤◌, ◌⊎◌, List, [], ◌∷◌, false, true, length, reverse, unwrap_or, Some, Result, Ok, Err}
+use Rattle.std.specs.Prelude.{◌≡◌, ◌≢◌, ℕ, ◌+◌, ◌≤◌, ◌⊎◌, List, [], ◌∷◌, false, true, length, reverse, unwrap_or, Some, None, Result, Ok, Err}
 use Rattle.path_text.specs.declared.errno.Errno.{Errno}
 use Rattle.path_text.specs.declared.errno.Errno.TheVariants.{NoMemory}
 use Rattle.path_text.specs.declared.flags.Flags.{Flags}
@@ -53,12 +53,14 @@ IsWithoutBook (answered step answer ∷ lines) = IsWithoutBook lines
 IsWithoutBook (short step answer ∷ lines) = IsWithoutBook lines
 IsWithoutBook (unmade error ∷ lines) = (error ≡ NoMemory) × IsWithoutBook lines
 
--- there are lines that lead from one turn to the other, and the actor's steps among them from one tree to the other
+-- there are lines that lead from one turn to the other, and the actor's steps among them from one tree to the other, which has
+-- the same nodes
 pub record Drives (way : Way) (a : ℕ) (s : State) (from : Turn) (t : State) (to : Turn) : Type 0 where
   pub lines : List Line
   pub leads : LeadsTo way from lines to
   pub legal : IsLegal s (events_of a lines)
   pub after : after_events s (events_of a lines) ≡ t
+  pub nodes : t.nodes ≡ s.nodes
   pub without_book : IsWithoutBook lines
   pub fewer : length lines + steps_of to ≤ steps_of from
 
@@ -91,7 +93,14 @@ Resolves nodes r (object x b reads) (Err error) = error ≡ NoMemory
 Resolves nodes r (fails cause reads) (Ok standing) = ⊥
 Resolves nodes r (fails cause reads) (Err error) = (error ≡ NoMemory) ⊎ (error ≡ cause)
 
--- the same of a path below the directory that the actor holds by this handle; a link at the last part is followed
+-- the actor's open handles are those from before; after an object was found one more, on the object
+abbrev pub LeavesHandles : State → ℕ → State → Result StandingObject Errno → Type 0
+LeavesHandles s a t (Ok standing) =
+    (held t a standing.handle ≡ Some standing.node) × (held s a standing.handle ≡ None)
+    × ((h : ℕ) → h ≢ standing.handle → held t a h ≡ held s a h)
+LeavesHandles s a t (Err error) = (h : ℕ) → held t a h ≡ held s a h
+
+-- what comes of a path below the directory that the actor holds by this handle; a link at the last part is followed
 abbrev pub ResolvesBelow : State → ℕ → ℕ → Reading → Flags → Result StandingObject Errno → Type 0
 ResolvesBelow s a h path flags result =
     Resolves s.nodes (node_of s a h) (reading_means (record { nodes = s.nodes; root = node_of s a h; flags = flags }) path true) result

@@ -4,13 +4,15 @@ ghost use Rattle.walk_plan.specs.declared.goal.Goal.TheVariants.{Follow};
 ghost use Rattle.step_resolver.specs.Ends.{IsEnd};
 ghost use Rattle.step_resolver.specs.Order.{more, steps_left};
 ghost use Rattle.step_resolver.specs.Taken.{seen, Keeps, steps_to_come};
-ghost use Rattle.inroot.specs.Driven.{node_of, IsOpened, IsAnswer, Drives, IsWhole, IsEndOf, ResolvesBelow};
+ghost use Rattle.inroot.specs.Driven.{node_of, IsOpened, IsAnswer, Drives, IsWhole, IsEndOf, LeavesHandles, ResolvesBelow};
 
 use handles::Standing;
 use path_text::{Errno, Flags, Path};
 use std::alloc::Global;
 use step_resolver::{Goal, Root, Turn, Walk, quiet_walks_mean, walks_tell};
-use tree_model::{Actor, Answer, Tree, histories_keep_trees, legal_histories_join};
+use tree_model::{
+    Actor, Answer, Tree, histories_keep_trees, legal_histories_join, steps_leave_the_rest,
+};
 
 /// The answer to the step that is due: the tree's, or that there was no memory to make it.
 fn answer_due<T: Tree>(alloc: Global, tree: &mut T, actor: Actor, walk: &Walk) -> Answer
@@ -31,6 +33,7 @@ fn advance<T: Tree>(alloc: Global, tree: &mut T, actor: Actor, walk: Walk) -> Tu
     ensures kept { Keeps walk.owner walk.way result }
     ensures fewer { steps_to_come result < steps_left walk.walking }
 {
+    steps_leave_the_rest();
     let answer = answer_due(alloc, tree, actor, &walk);
     walk.take(alloc, answer)
 }
@@ -65,7 +68,7 @@ fn whole(end: Turn) -> Result<Standing, Errno>
 
 /// What a path means below a root on which nobody else acts: the object, open, with the names at which it stands
 /// below the root (openat2(2), RESOLVE_IN_ROOT). A link at the last part is followed. The root's handle is the only
-/// one that was ever opened.
+/// one that was ever opened. The tree's entries stay, and all else that was opened is closed again.
 ///
 /// Errors: what `Walk::take` fails with (path_resolution(7); openat2(2)), but for Raced, TooMany and BadHandle, since
 /// nobody else acts; NoMemory.
@@ -77,7 +80,9 @@ pub fn resolve<T: Tree>(
     flags: Flags,
 ) -> Result<Standing, Errno>
     requires { IsOpened (T.state tree.old) root.owner.actor root.handle (node_of (T.state tree.old) root.owner.actor root.handle) }
-    ensures { ResolvesBelow (T.state tree.old) root.owner.actor root.handle path flags result }
+    ensures means { ResolvesBelow (T.state tree.old) root.owner.actor root.handle path flags result }
+    ensures nodes { (T.state tree.new).nodes ≡ (T.state tree.old).nodes }
+    ensures handles { LeavesHandles (T.state tree.old) root.owner.actor (T.state tree.new) result }
 {
     walks_tell();
     quiet_walks_mean();

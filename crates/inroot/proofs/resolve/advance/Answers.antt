@@ -3,5 +3,5 @@ use Rattle.inroot.proofs.resolve.advance.Goals as goal
 
 pub returns-clause-driven : goal.returns-clause-driven
 returns-clause-driven g c =
-    advanced_to c.args.walk.way c.args.actor _ _ c.args.walk.walking c.answer_due-answer.result c.args.walk.way.goal c.take.result
+    advanced_to c.steps_leave_the_rest.ensures.nodes c.args.walk.way c.args.actor _ _ c.args.walk.walking c.answer_due-answer.result c.args.walk.way.goal c.take.result
     c.take.ensures.fewer c.answer_due-answer.ensures c.take.ensures.turn
