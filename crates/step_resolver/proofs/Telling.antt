@@ -1,27 +1,37 @@
 -- The turns of a walk tell what its end tells, since its lines lead to them.
-use Rattle.std.proofs.Common.{◌≡◌, List, [], ◌∷◌, ◌++◌, Bool, true, false, refl, sym, ◌∙◌, ap, subst}
+use Rattle.std.proofs.Common.{◌≡◌, List, [], ◌∷◌, ◌++◌, ◌&&◌, Bool, true, false, if◌then◌else◌, Ok, Err, refl, sym, ◌∙◌, ap, subst}
 use Rattle.path_text.specs.declared.errno.Errno.{Errno}
+use Rattle.path_text.specs.declared.errno.Errno.TheVariants.{CrossRoot}
+use Rattle.path_text.specs.declared.flags.Flags.{Flags}
 use Rattle.path_text.specs.Reading.{Reading}
 use Rattle.tree_model.specs.declared.answer.Answer.{Answer}
 use Rattle.tree_model.specs.declared.answer.Answer.TheVariants.{Refused}
-use Rattle.step_resolver.specs.Order.{Way, Walking, opening, reading, rising, judging, duping, ending, closing, Turn, more, found, partial, failed, begins, take, Line, answered, short, unmade, LeadsTo}
+use Rattle.walk_plan.specs.declared.goal.Goal.{Goal}
+use Rattle.walk_plan.specs.Plan.{PlanState, leads_out}
+use Rattle.step_resolver.specs.declared.walk.Root.{Root}
+use Rattle.step_resolver.specs.Asked.{asked, follows}
+use Rattle.step_resolver.specs.Meaning.{LINKS_MAX}
+use Rattle.step_resolver.specs.Order.{Way, root_itself, todo, goes_on, Walking, opening, reading, rising, judging, duping, ending, closing, Turn, more, found, partial, failed, begins, take, Line, answered, short, unmade, LeadsTo}
 use Rattle.step_resolver.specs.Ends.{Walked, IsWalked}
 use Rattle.step_resolver.specs.Headline.{WalksTell}
 use Rattle.step_resolver.specs.FootprintLaws.{WalksMean}
+use Rattle.step_resolver.specs.View.{way_from}
+use Rattle.step_resolver.specs.Taken.{TakesTo}
 use Rattle.step_resolver.specs.Telling.{TellsAll, IsLineOf, TellsTaken, TellsBegun}
+use Rattle.step_resolver.proofs.WalkSteps.{swapped}
 
 -- lines that lead on from where others led
 pub leads_on : (way : Way) (lines : List Line) (turn mid : Turn) (others : List Line) (end : Turn) → LeadsTo way turn lines mid → LeadsTo way mid others end → LeadsTo way turn (lines ++ others) end
-leads_on way [] turn mid others end first then = subst (λ t. LeadsTo way t others end) (sym first) then
-leads_on way (answered step answer ∷ lines) (more walk) mid others end first then =
-    (first.0, leads_on way lines (take way true walk answer) mid others end first.1 then)
-leads_on way (short step answer ∷ lines) (more walk) mid others end first then =
-    (first.0, leads_on way lines (take way false walk answer) mid others end first.1 then)
-leads_on way (unmade error ∷ lines) (more walk) mid others end first then =
-    (first.0, (first.1.0, leads_on way lines (take way true walk (Refused error)) mid others end first.1.1 then))
-leads_on way (line ∷ lines) (found handle names) mid others end first then = absurd first
-leads_on way (line ∷ lines) (partial handle names rest) mid others end first then = absurd first
-leads_on way (line ∷ lines) (failed error) mid others end first then = absurd first
+leads_on way [] turn mid others end first onward = subst (λ t. LeadsTo way t others end) (sym first) onward
+leads_on way (answered step answer ∷ lines) (more walk) mid others end first onward =
+    (first.0, leads_on way lines (take way true walk answer) mid others end first.1 onward)
+leads_on way (short step answer ∷ lines) (more walk) mid others end first onward =
+    (first.0, leads_on way lines (take way false walk answer) mid others end first.1 onward)
+leads_on way (unmade error ∷ lines) (more walk) mid others end first onward =
+    (first.0, (first.1.0, leads_on way lines (take way true walk (Refused error)) mid others end first.1.1 onward))
+leads_on way (line ∷ lines) (found handle names) mid others end first onward = absurd first
+leads_on way (line ∷ lines) (partial handle names rest) mid others end first onward = absurd first
+leads_on way (line ∷ lines) (failed error) mid others end first onward = absurd first
 
 -- a refusal brings nothing that takes room
 refusal_needs_no_room : (way : Way) (room : Bool) (walk : Walking) (error : Errno) → take way true walk (Refused error) ≡ take way room walk (Refused error)
@@ -49,17 +59,32 @@ tells_all tell mean way w turn walked same_way leads_by =
     let leads = subst (λ (v : Way). LeadsTo v (begins v w.path) w.lines turn) (sym same_way) leads_by in
     record { end = tell w turn walked leads; meaning = (mean w turn walked leads).0; deepest = (mean w turn walked leads).1 }
 
-pub taken_tells : WalksTell → WalksMean → (way : Way) (walk : Walking) (answer : Answer) (turn : Turn) → TellsTaken way walk answer turn
-taken_tells tell mean way walk answer turn = record {
-  tells = λ room taken w at. tells_all tell mean way w turn at.walked at.same_way
+pub taken_tells : WalksTell → WalksMean → (way : Way) (walk : Walking) (answer : Answer) (turn : Turn) → TakesTo way walk answer turn → TellsTaken way walk answer turn
+taken_tells tell mean way walk answer turn taken = record {
+  room = taken.0;
+  is_turn = taken.1;
+  tells = λ w at. tells_all tell mean way w turn at.walked at.same_way
       (subst (λ (lines : List Line). LeadsTo way (begins way w.path) lines turn) (sym at.lines)
       (leads_on way at.before (begins way w.path) (more walk) (at.last ∷ []) turn at.led_here
-      (line_leads way room walk answer turn at.last taken at.is_last)));
+      (line_leads way taken.0 walk answer turn at.last taken.1 at.is_last)));
 }
 
 pub begun_tells : WalksTell → WalksMean → (way : Way) (path : Reading) (turn : Turn) → turn ≡ begins way path → TellsBegun way path turn
 begun_tells tell mean way path turn begun = record {
+  is_turn = begun;
   tells = λ w at. tells_all tell mean way w turn at.walked at.same_way
       (subst (λ (lines : List Line). LeadsTo way (begins way w.path) lines turn) (sym at.lines)
       (ap (begins way) at.same_path ∙ sym begun));
 }
+
+-- where no plan is made the walk crosses the root at once
+pub refused_begins : (root : Root) (path : Reading) (goal : Goal) (flags : Flags) (plan : PlanState) (error : Errno)
+    → Err error ≡ (if leads_out path.absolute flags then Err CrossRoot else Ok plan) → failed error ≡ begins (way_from root goal flags) path
+refused_begins root path goal flags plan error e = refused (path.absolute && flags.beneath) e ∙ ap begun (swapped path.absolute flags.beneath)
+  where
+    begun : Bool → Turn
+    begun b = if b then failed CrossRoot else goes_on (way_from root goal flags) root_itself (todo [] (asked (follows goal) path.parts) LINKS_MAX)
+
+    refused : (b : Bool) → Err error ≡ (if b then Err CrossRoot else Ok plan) → failed error ≡ begun b
+    refused true q = cc (q)
+    refused false q = cc (q)

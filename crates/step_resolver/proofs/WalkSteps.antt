@@ -209,7 +209,7 @@ pub plan_made : (b : Bool) (p q : PlanState) (error : Errno) → Ok p ≡ (if b 
 plan_made true p q error e = cc (e)
 plan_made false p q error e = (refl, cc (e))
 
-swapped : (a b : Bool) → (a && b) ≡ (b && a)
+pub swapped : (a b : Bool) → (a && b) ≡ (b && a)
 swapped true true = refl
 swapped true false = refl
 swapped false true = refl

@@ -30,10 +30,12 @@ pub record IsTaken (way : Way) (room : Bool) (walking : Walking) (answer : Answe
   pub led_here : LeadsTo way (begins way w.path) before (more walking)
   pub is_last : IsLineOf way room walking answer last
 
--- The turn that the answer makes of the walk, with room or without, tells this of each such history.
+-- The turn is what the order of steps makes of the answer, with room or without; and it tells this of each history in which
+-- the walk was led here and then told this answer. A walk that goes on has no end to tell of yet, so it is held to the order.
 pub record TellsTaken (way : Way) (walking : Walking) (answer : Answer) (turn : Turn) : Type 0 where
-  pub tells : (room : Bool) → turn ≡ take way room walking answer
-      → (w : Walked) → IsTaken way room walking answer w → TellsAll w turn
+  pub room : Bool
+  pub is_turn : turn ≡ take way room walking answer
+  pub tells : (w : Walked) → IsTaken way room walking answer w → TellsAll w turn
 
 -- A walk on this way, along this path, in a legal history was told nothing yet.
 pub record IsBegun (way : Way) (path : Reading) (w : Walked) : Type 0 where
@@ -42,6 +44,7 @@ pub record IsBegun (way : Way) (path : Reading) (w : Walked) : Type 0 where
   pub same_path : w.path ≡ path
   pub lines : w.lines ≡ []
 
--- The first turn tells this of each such history.
+-- The first turn is the one with which the order of steps begins, and it tells this of each such history.
 pub record TellsBegun (way : Way) (path : Reading) (turn : Turn) : Type 0 where
+  pub is_turn : turn ≡ begins way path
   pub tells : (w : Walked) → IsBegun way path w → TellsAll w turn
