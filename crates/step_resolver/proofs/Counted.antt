@@ -3,12 +3,16 @@ use Rattle.std.specs.Prelude.{◌≡◌, ◌≢◌, ℕ, zero, suc, ◌+◌, ◌
 use Rattle.std.specs.List.{count_by}
 use Rattle.std.proofs.Common.{sym, ap, ◌∙◌, arith}
 use Rattle.std.proofs.lemmas.List.Sums.{sum_by-cons}
+use Rattle.path_text.specs.declared.errno.Errno.TheVariants.{TooMany}
+use Rattle.tree_model.specs.declared.answer.Answer.{Answer}
+use Rattle.tree_model.specs.declared.answer.Answer.TheVariants.{Refused}
 use Rattle.tree_model.specs.declared.inode.OpenHandle.{OpenHandle}
+use Rattle.tree_model.specs.declared.step.StepOf.{StepOf}
 use Rattle.tree_model.specs.Entries.{refuse_if}
-use Rattle.tree_model.specs.Steps.{held_count, node_held, is_held_by}
+use Rattle.tree_model.specs.Steps.{outcome, held_count, node_held, is_held_by, is_full}
 use Rattle.step_resolver.specs.Order.{Position, root_itself, holds, handles_of}
-use Rattle.step_resolver.specs.Ends.{Walked, begin_of, state_at}
-use Rattle.step_resolver.proofs.Invariant.{HandlesAre}
+use Rattle.step_resolver.specs.Ends.{Walked, begin_of, state_at, MetRefusal, TellsTooMany}
+use Rattle.step_resolver.proofs.Invariant.{StepAt, HandlesAre}
 
 abbrev ones : Option ℕ → ℕ
 ones None = 0
@@ -83,3 +87,17 @@ few_held w m root_itself are =
     let same = same_count w.actor (begin_of w).handles (state_at w m).handles (λ k. are.others k tt) in omega (arith, same)
 few_held w m (holds handle names) are =
     one_more w.actor (begin_of w).handles (state_at w m).handles handle.number (λ k ne. are.others k (ne, tt))
+
+-- a step that was refused for want of handles
+pub refusal_told : {w : Walked} {m t : ℕ} {step : StepOf ℕ} {answer : Answer} → StepAt w m t step answer → MetRefusal step w.lines
+    → (outcome (state_at w t) w.actor step).answer ≡ Refused TooMany → is_full (state_at w t) w.actor ≡ true
+    → held_count (state_at w t) w.actor ≤ suc (held_count (begin_of w) w.actor) → TellsTooMany w
+refusal_told {w} {m} {t} {step} {answer} is line told full few = record {
+  step = step;
+  line = line;
+  when = t;
+  event = is.event ∙ ap (λ v. Some (record { actor = w.actor; step = step; answer = v })) (is.told ∙ told);
+  told = told;
+  full = full;
+  few = few;
+}

@@ -280,8 +280,8 @@ module _ {w : Walked} (fits : Fits (setting w)) where
       long_no_missing : (d : ℕ) (f : Bool) (name : List ℕ) → is_too_long name ≡ true → is_missing G d (Named f name) ≡ true → ⊥
       long_no_missing d f name long e = false≢true (sym (ap not long) ∙ (missing_is d f name e).1.0)
 
-      deep_crossing : w.way.flags.beneath ≡ true → (w.path.absolute ≡ true) ⊎ (TellsUpFromRoot w ⊎ TellsAbsoluteLink w) → IsMeantDeep D (failed CrossRoot)
-      deep_crossing beneath (inl absolute) = absurd (false≢true (sym inside ∙ and_from w.way.flags.beneath w.path.absolute beneath absolute))
+      deep_crossing : w.way.flags.beneath ≡ true → ((w.path.absolute ≡ true) × (w.lines ≡ [])) ⊎ (TellsUpFromRoot w ⊎ TellsAbsoluteLink w) → IsMeantDeep D (failed CrossRoot)
+      deep_crossing beneath (inl absolute) = absurd (false≢true (sym inside ∙ and_from w.way.flags.beneath w.path.absolute beneath absolute.0))
       deep_crossing beneath (inr (inl tells)) = link_stop_fails tells.to Up CrossRoot (stop_of tells.to Up tells.stop)
           (λ deeper way al. ([], root_fails fits deeper tells.to way tells.node beneath)) (λ a e. false≢true e)
       deep_crossing beneath (inr (inr tells)) = link_stop_fails tells.to (Named true tells.name) CrossRoot (stop_of tells.to (Named true tells.name) tells.stop)

@@ -1,10 +1,10 @@
 -- What the answers at the end make of a walk, and those to closings; and what it makes of steps that weren't made.
 use Rattle.std.specs.Prelude.{◌≡◌, ℕ, suc, ◌≤◌, List, [], ◌∷◌, ◌++◌, Bool, true, false, Option, Some, None, refl}
-use Rattle.std.proofs.Common.{sym, ap, subst, ◌∙◌, le_trans, append-nil, inl, inr, zero-le}
+use Rattle.std.proofs.Common.{sym, ap, subst, ◌∙◌, le_trans, append-nil, inl, inr}
 use Rattle.std.proofs.Math.Nat.{le-suc}
 use Rattle.std.proofs.lemmas.Option.{none-some}
 use Rattle.path_text.specs.declared.errno.Errno.{Errno}
-use Rattle.path_text.specs.declared.errno.Errno.TheVariants.{Raced, NoMemory, BookFull}
+use Rattle.path_text.specs.declared.errno.Errno.TheVariants.{Raced, NoMemory, TooMany, BookFull}
 use Rattle.tree_model.specs.declared.answer.Answer.{Answer}
 use Rattle.tree_model.specs.declared.answer.Answer.TheVariants.{Refused}
 use Rattle.tree_model.specs.declared.step.StepOf.TheVariants.{Dup, NameBelow, Close}
@@ -14,11 +14,11 @@ use Rattle.step_resolver.specs.Asked.{AskedPart}
 use Rattle.step_resolver.specs.Trail.{Spot, Trail}
 use Rattle.step_resolver.specs.Order.{Handle, root_itself, holds, todo, After, gives, onward, judges, Walking, opening, reading, rising, judging, duping, ending, closing, handles_of, take, is_closing, IsWant}
 use Rattle.step_resolver.specs.Order.{end_of as ends_with}
-use Rattle.step_resolver.specs.Ends.{Walked, state_at, story, start, TellsError}
+use Rattle.step_resolver.specs.Ends.{Walked, state_at, story, start, TellsError, MetRefusal}
 use Rattle.step_resolver.proofs.Trails.{own_earlier}
 use Rattle.step_resolver.proofs.Outcomes.{IsLess, Close-is_less, Opening, too_many, no_object, is_opened, opening_of, dup_is}
 use Rattle.step_resolver.proofs.Invariant.{Lived, StepAt, held_at, IsNotIn, handles_kept, handles_more, handles_less, root_open, held_kept, held_less, held_node, spot_at, going_later, trail_at, handles_after, GoodEnd, EndsAt, at_all, at_missing, GoodAfter, GoodClosing, GoodWalk, FoundAt, Good}
-use Rattle.step_resolver.proofs.Counted.{few_held}
+use Rattle.step_resolver.proofs.Counted.{few_held, refusal_told}
 use Rattle.step_resolver.proofs.Settling.{gave_up, closes_good}
 use Rattle.step_resolver.proofs.Moments.{kept_on, more_on, position_kept, position_less}
 use Rattle.step_resolver.proofs.Risings.{judged_good}
@@ -28,7 +28,7 @@ ends_later le (at_all e) = at_all e
 ends_later le (at_missing deep follow n others e short first missing past) = at_missing deep follow n others e short first missing (le_trans past le)
 
 module _ {w : Walked} (lived : Lived w) (now t : ℕ) (room : Bool) (rest : List AskedPart) (good : GoodEnd w now root_itself rest) (answer : Answer)
-    (is : StepAt w now t (Dup w.way.root) answer) where
+    (is : StepAt w now t (Dup w.way.root) answer) (met : answer ≡ Refused TooMany → MetRefusal (Dup w.way.root) w.lines) where
   root_is : held_at w t w.way.root ≡ Some w.root
   root_is = is.kept w.way.root ∙ root_open lived good.handles
 
@@ -36,7 +36,7 @@ module _ {w : Walked} (lived : Lived w) (now t : ℕ) (room : Bool) (rest : List
   on_opening (too_many f q) =
       let o = dup_is (state_at w t) w.actor w.way.root w.root root_is ∙ q in
       subst (λ v. Good w (suc t) (take w.way room (duping rest) v)) (sym (is.told ∙ ap (λ r. r.answer) o))
-      (record { when = t; at = record { own = is.at.own; later = zero-le }; full = f; few = few_held w t root_itself (handles_kept is.kept good.handles) }, handles_kept (kept_on is (ap (λ r. r.after) o)) good.handles)
+      (refusal_told is (met (is.told ∙ ap (λ r. r.answer) o)) (ap (λ r. r.answer) o) f (few_held w t root_itself (handles_kept is.kept good.handles)), handles_kept (kept_on is (ap (λ r. r.after) o)) good.handles)
   on_opening (no_object z q) =
       let o = held_node (state_at w t) w.actor w.way.root w.root (lived.states t) root_is in
       absurd (none-some o.0 (sym z ∙ o.1))

@@ -143,6 +143,7 @@ module _ (laws : TreeLaws) (w : Walked) where
         rest = rest;
         at = record {
           at = record { own = ap (is_by w.actor) (is.events m 0 (omega arith)) ∙ q; later = le };
+          event = is.events m 0 (omega arith) ∙ ap Some same;
           kept = λ h. ap (λ x. held x w.actor h) same_here ∙ kept h;
           told = sym (ap (λ v. v.answer) same) ∙ legal.0 ∙ ap (λ v. (outcome s v.actor v.step).answer) same
               ∙ ap (λ x. (outcome x w.actor step).answer) (sym same_here);

@@ -39,6 +39,7 @@ pub record Lived (w : Walked) : Type 0 where
 -- a step of the walk's own at moment t, the actor's handles having stayed since m
 pub record StepAt (w : Walked) (m t : ℕ) (step : StepOf ℕ) (answer : Answer) : Type 0 where
   pub at : IsOwnFrom (story w) m t
+  pub event : slice_get w.window t ≡ Some (record { actor = w.actor; step = step; answer = answer })
   pub kept : (h : ℕ) → held_at w t h ≡ held_at w m h
   pub told : answer ≡ (outcome (state_at w t) w.actor step).answer
   pub after : state_at w (suc t) ≡ (outcome (state_at w t) w.actor step).after

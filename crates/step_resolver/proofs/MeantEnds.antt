@@ -135,8 +135,8 @@ module _ {w : Walked} (fits : Fits (setting w)) where
           let e = fails_there f.says.deeper f.way f.says.alone in
           subst (λ m. IsMeant m (failed error)) (sym (f.says.failing error e.0 e.1)) refl
 
-      meant_crossing : w.way.flags.beneath ≡ true → (w.path.absolute ≡ true) ⊎ (TellsUpFromRoot w ⊎ TellsAbsoluteLink w) → IsMeant M (failed CrossRoot)
-      meant_crossing beneath (inl absolute) = absurd (false≢true (sym inside ∙ and_from w.way.flags.beneath w.path.absolute beneath absolute))
+      meant_crossing : w.way.flags.beneath ≡ true → ((w.path.absolute ≡ true) × (w.lines ≡ [])) ⊎ (TellsUpFromRoot w ⊎ TellsAbsoluteLink w) → IsMeant M (failed CrossRoot)
+      meant_crossing beneath (inl absolute) = absurd (false≢true (sym inside ∙ and_from w.way.flags.beneath w.path.absolute beneath absolute.0))
       meant_crossing beneath (inr (inl tells)) = stop_fails tells.to Up tells.stop CrossRoot
           (λ deeper way al. ([], root_fails deeper tells.to way tells.node beneath))
       meant_crossing beneath (inr (inr tells)) = stop_fails tells.to (Named true tells.name) tells.stop CrossRoot

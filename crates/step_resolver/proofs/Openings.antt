@@ -1,6 +1,6 @@
 -- What the answer to an Open makes of a walk.
 use Rattle.std.specs.Prelude.{◌≡◌, ℕ, zero, suc, ◌&&◌, ◌⊎◌, List, [], ◌∷◌, ◌++◌, Bool, true, false, if◌then◌else◌, length, Some, None, refl}
-use Rattle.std.proofs.Common.{sym, ap, subst, ◌∙◌, le_refl, le_trans, inl, inr, zero-le}
+use Rattle.std.proofs.Common.{sym, ap, subst, ◌∙◌, le_refl, le_trans, inl, inr}
 use Rattle.std.proofs.Math.Nat.{le-suc}
 use Rattle.std.proofs.lemmas.Bool.{false≢true, and_parts, and_from}
 use Rattle.path_text.specs.declared.errno.Errno.TheVariants.{NotFound, NoMemory, TooMany, Loop}
@@ -14,18 +14,19 @@ use Rattle.tree_model.specs.Steps.{outcome, opens, kind_of}
 use Rattle.step_resolver.specs.Asked.{AskedPart, Named, is_deepest}
 use Rattle.step_resolver.specs.Trail.{down, IsChildAt, is_entered}
 use Rattle.step_resolver.specs.Order.{Handle, Position, root_itself, holds, todo, onward, opening, Turn, names_of, handles_of, handle_at, gives_up, at_end, is_followed, follows_link, enters, opened, take, more, reading}
-use Rattle.step_resolver.specs.Ends.{Walked, state_at, story, TellsError, IsMissingAt}
+use Rattle.step_resolver.specs.Ends.{Walked, state_at, story, TellsError, IsMissingAt, MetRefusal}
 use Rattle.step_resolver.proofs.Places.{entry, place_at-child, object_at-place}
 use Rattle.step_resolver.proofs.Outcomes.{IsMore, Opening, too_many, no_object, is_opened, opening_of, OpenCase, no_dir, no_child, at_child, open_case}
 use Rattle.step_resolver.proofs.Invariant.{Lived, StepAt, held_at, HandlesAre, handles_kept, handles_more, IsHeld, dir_at, node_at, spot_at, IsPositionHeld, Going, GoesFor, stop_at, passed_on, within_link, AllApart, GoodOpening, at_missing, Good}
-use Rattle.step_resolver.proofs.Counted.{few_held}
+use Rattle.step_resolver.proofs.Counted.{few_held, refusal_told}
 use Rattle.step_resolver.proofs.Settling.{gave_up, closes_good}
 use Rattle.step_resolver.proofs.Moments.{handles_swapped, kept_on, more_on, position_open, position_kept, position_more, new_is_other}
 
 module _ {w : Walked} (lived : Lived w) (now t : ℕ) (room : Bool) (want : room ≡ false → TellsError w NoMemory)
     (position : Position) (own follow : Bool) (n : List ℕ) (inner rest : List AskedPart) (b : ℕ)
     (good : GoodOpening w now position own follow n (todo inner rest b)) (answer : Answer)
-    (is : StepAt w now t (Open (handle_at w.way position) n) answer) where
+    (is : StepAt w now t (Open (handle_at w.way position) n) answer)
+    (met : answer ≡ Refused TooMany → MetRefusal (Open (handle_at w.way position) n) w.lines) where
   is_there : held_at w t (handle_at w.way position) ≡ Some (node_at w position)
   is_there = is.kept (handle_at w.way position) ∙ position_open lived now position good.position_held good.handles
 
@@ -202,7 +203,8 @@ module _ {w : Walked} (lived : Lived w) (now t : ℕ) (room : Bool) (want : room
       → Opening (state_at w t) w.actor c (opens (state_at w t) w.actor c)
       → Good w (suc t) (take w.way room (opening position own follow n (todo inner rest b)) answer)
   on_opening c e o (too_many f q) = answered_as (Refused TooMany) (is.told ∙ ap (λ r. r.answer) (o ∙ q))
-      (gave_up lived (handles_of position) TooMany (record { when = t; at = record { own = is.at.own; later = zero-le }; full = f; few = few_held w t position (handles_kept is.kept good.handles) })
+      (gave_up lived (handles_of position) TooMany
+      (refusal_told is (met (is.told ∙ ap (λ r. r.answer) (o ∙ q))) (ap (λ r. r.answer) (o ∙ q)) f (few_held w t position (handles_kept is.kept good.handles)))
       (handles_kept (kept_on is (ap (λ r. r.after) (o ∙ q))) good.handles))
   on_opening c e o (no_object z q) =
       absurd (object_at-place (state_at w t).nodes c (entry (node_at w position) n) (place_at-child (state_at w t).nodes (node_at w position) n c e) z)

@@ -1,7 +1,7 @@
 -- What the answers to Parent, and to NameBelow after it, make of a walk.
 use Rattle.std.specs.Prelude.{◌≡◌, ℕ, suc, ◌==◌, List, [], ◌∷◌, Bool, true, false, if◌then◌else◌, length, reverse, Option, Some, None, refl}
 use Rattle.std.specs.Option.{option_map}
-use Rattle.std.proofs.Common.{sym, ap, subst, ◌∙◌, le_refl, inl, inr, zero-le}
+use Rattle.std.proofs.Common.{sym, ap, subst, ◌∙◌, le_refl, inl, inr}
 use Rattle.std.proofs.lemmas.List.{reverse-reverse}
 use Rattle.std.proofs.lemmas.Bool.{false≢true}
 use Rattle.std.proofs.lemmas.Option.{none-some, same_Some}
@@ -18,12 +18,12 @@ use Rattle.tree_model.specs.Trees.{IsTree}
 use Rattle.step_resolver.specs.Asked.{AskedPart, Up}
 use Rattle.step_resolver.specs.Trail.{climb, IsOwnFrom}
 use Rattle.step_resolver.specs.Order.{Handle, holds, todo, judges, rising, judging, Turn, gives_up, goes_on, judged, same_names, take}
-use Rattle.step_resolver.specs.Ends.{Walked, state_at, story}
+use Rattle.step_resolver.specs.Ends.{Walked, state_at, story, MetRefusal}
 use Rattle.step_resolver.proofs.Trails.{own_earlier}
 use Rattle.step_resolver.proofs.Places.{names_below-stands}
 use Rattle.step_resolver.proofs.Outcomes.{Opening, too_many, no_object, is_opened, opening_of, ParentCase, not_dir, no_parent, at_parent, parent_case, below_is}
 use Rattle.step_resolver.proofs.Invariant.{Lived, StepAt, held_at, HandlesAre, handles_kept, handles_more, root_open, IsHeld, held_kept, old_is_other, dir_at, spot_at, Going, stop_at, passed_on, GoodRising, GoodJudging, Good}
-use Rattle.step_resolver.proofs.Counted.{few_held}
+use Rattle.step_resolver.proofs.Counted.{few_held, refusal_told}
 use Rattle.step_resolver.proofs.Settling.{gave_up, goes_on_good, closes_good}
 use Rattle.step_resolver.proofs.Moments.{handles_swapped, kept_on, more_on}
 
@@ -95,7 +95,8 @@ judged_good {w} lived m u handle names turn answer is root_is handle_is taken on
         (on_test told q (kept_on is (ap (λ r. r.after) (outcome_is ∙ ap (shows (state_at w u)) q))) (same_names (reverse told) (reverse names)) refl))
 
 module _ {w : Walked} (lived : Lived w) (now t : ℕ) (room : Bool) (old : Handle) (names : List (List ℕ)) (inner rest : List AskedPart) (b : ℕ)
-    (good : GoodRising w now old names (todo inner rest b)) (answer : Answer) (is : StepAt w now t (Parent old.number) answer) where
+    (good : GoodRising w now old names (todo inner rest b)) (answer : Answer) (is : StepAt w now t (Parent old.number) answer)
+    (met : answer ≡ Refused TooMany → MetRefusal (Parent old.number) w.lines) where
   is_there : held_at w t old.number ≡ Some old.node
   is_there = is.kept old.number ∙ good.old_held.is_open
 
@@ -108,7 +109,8 @@ module _ {w : Walked} (lived : Lived w) (now t : ℕ) (room : Bool) (old : Handl
       → Opening (state_at w t) w.actor e (opens (state_at w t) w.actor e)
       → Good w (suc t) (take w.way room (rising old names (todo inner rest b)) answer)
   on_opening e p o (too_many f q) = answered_as (Refused TooMany) (is.told ∙ ap (λ r. r.answer) (o ∙ q))
-      (gave_up lived (old.number ∷ []) TooMany (record { when = t; at = record { own = is.at.own; later = zero-le }; full = f; few = few_held w t (holds old (good.name ∷ names)) (handles_kept is.kept good.handles) })
+      (gave_up lived (old.number ∷ []) TooMany
+      (refusal_told is (met (is.told ∙ ap (λ r. r.answer) (o ∙ q))) (ap (λ r. r.answer) (o ∙ q)) f (few_held w t (holds old (good.name ∷ names)) (handles_kept is.kept good.handles)))
       (handles_kept (kept_on is (ap (λ r. r.after) (o ∙ q))) good.handles))
   on_opening e p o (no_object z q) = absurd (parent_is_something (state_at w t).nodes (lived.states t).tree old.node e p z)
   on_opening e p o (is_opened what z q) =

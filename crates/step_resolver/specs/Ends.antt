@@ -5,11 +5,13 @@ use Rattle.path_text.specs.declared.errno.Errno.{Errno}
 use Rattle.path_text.specs.declared.errno.Errno.TheVariants.{NotFound, BadHandle, Raced, NoMemory, Busy, Exists, CrossRoot, NotDir, IsDir, Invalid, TooMany, BookFull, TooLong, NotEmpty, Loop}
 use Rattle.path_text.specs.Reading.{Reading}
 use Rattle.path_text.specs.Text.{parts_of, begins_with_slash}
+use Rattle.tree_model.specs.declared.answer.Answer.TheVariants.{Refused}
 use Rattle.tree_model.specs.declared.answer.Event.{Event}
 use Rattle.tree_model.specs.declared.inode.Object.{Object}
 use Rattle.tree_model.specs.declared.inode.Object.TheVariants.{Link}
+use Rattle.tree_model.specs.declared.step.StepOf.{StepOf}
 use Rattle.tree_model.specs.State.{State, Stands, child, parent, is_dir, is_directory}
-use Rattle.tree_model.specs.Steps.{held, held_count, is_full, kind_of}
+use Rattle.tree_model.specs.Steps.{held, held_count, is_full, kind_of, outcome}
 use Rattle.tree_model.specs.Trees.{IsState}
 use Rattle.tree_model.specs.History.{IsLegal, after_events, tree_at}
 use Rattle.step_resolver.specs.Asked.{AskedPart, Up, Named, asked, followed, follows, is_deepest}
@@ -200,7 +202,7 @@ pub record TellsLoop (w : Walked) : Type 0 where
   pub when : ℕ
   pub link : IsLinkThere w to name text when
 
--- EXDEV, under `beneath`: the path was absolute; or the next part was `..` with no names passed; or it was a link to be
+-- EXDEV, under `beneath`: the path was absolute, and no step was made; or the next part was `..` with no names passed; or it was a link to be
 -- followed whose text is absolute.
 pub record TellsUpFromRoot (w : Walked) : Type 0 where
   pub to : Spot
@@ -222,7 +224,7 @@ pub record TellsAbsoluteLink (w : Walked) : Type 0 where
 
 pub record TellsCrossRoot (w : Walked) : Type 0 where
   pub beneath : w.way.flags.beneath ≡ true
-  pub why : (w.path.absolute ≡ true) ⊎ (TellsUpFromRoot w ⊎ TellsAbsoluteLink w)
+  pub why : ((w.path.absolute ≡ true) × (w.lines ≡ [])) ⊎ (TellsUpFromRoot w ⊎ TellsAbsoluteLink w)
 
 -- EAGAIN: at a `..` the place was gone, or its parent didn't stand at the names less the last
 pub record TellsRacedUp (w : Walked) : Type 0 where
@@ -259,10 +261,24 @@ pub record TellsRacedDeepest (w : Walked) : Type 0 where
   pub when : ℕ
   pub astray : DidNotStandAt w to (suc first) when
 
--- EMFILE: the actor, which then held one handle more than before at most, could open no more, or the numbers were used up.
+-- a step that was made and refused for want of handles
+abbrev pub IsRefusal : StepOf ℕ → Line → Type 0
+IsRefusal step (answered made answer) = (made ≡ step) × (answer ≡ Refused TooMany)
+IsRefusal step (short made answer) = (made ≡ step) × (answer ≡ Refused TooMany)
+IsRefusal step (unmade cause) = ⊥
+
+abbrev pub MetRefusal : StepOf ℕ → List Line → Type 0
+MetRefusal step [] = ⊥
+MetRefusal step (line ∷ lines) = IsRefusal step line ⊎ MetRefusal step lines
+
+-- EMFILE: a step of the walk was refused so, by the step table too. The actor, which then held one handle more than before
+-- at most, could open no more, or the numbers were used up.
 pub record TellsTooMany (w : Walked) : Type 0 where
+  pub step : StepOf ℕ
+  pub line : MetRefusal step w.lines
   pub when : ℕ
-  pub at : IsOwnFrom (story w) 0 when
+  pub event : slice_get w.window when ≡ Some (record { actor = w.actor; step = step; answer = Refused TooMany })
+  pub told : (outcome (state_at w when) w.actor step).answer ≡ Refused TooMany
   pub full : is_full (state_at w when) w.actor ≡ true
   pub few : held_count (state_at w when) w.actor ≤ suc (held_count (begin_of w) w.actor)
 
