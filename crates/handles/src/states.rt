@@ -10,11 +10,10 @@ use tree_model::{Answer, HandleNo, Kind, Node, Step, StepOf};
 mod checked;
 mod unchecked;
 
-/// An object that was opened, by its handle: not checked. It can be judged or closed, and not let go.
-/// Contracts see it as a `ReachedObject`: the same four.
+/// An object that was opened, by its handle: not checked. It can be judged or closed, and not let go. Whose handle it
+/// is, whoever opened it knows. Contracts see it as a `ReachedObject`: the same three.
 #[derive(Debug)]
 pub struct Reached {
-    owner: Owner,
     handle: HandleNo,
     node: Node,
     kind: Kind,
@@ -25,17 +24,16 @@ impl Model for Reached {
 
     ghost Value = { ReachedObject };
 
-    ghost view = { λ r. record { owner = r.owner; handle = r.handle; node = r.node; kind = r.kind } };
+    ghost view = { λ r. record { handle = r.handle; node = r.node; kind = r.kind } };
 }
 
 impl Reached {
-    /// The object that an answer to a step of the owner opened, where it opened one.
-    pub fn of(owner: Owner, answer: &Answer) -> Option<Reached>
-        ensures { result ≡ reached_by owner answer.now }
+    /// The object that an answer to a step opened, where it opened one.
+    pub fn of(answer: &Answer) -> Option<Reached>
+        ensures { result ≡ reached_by answer.now }
     {
         match answer {
             Answer::Opened { handle, node, kind } => Some(Reached {
-                owner,
                 handle: *handle,
                 node: *node,
                 kind: *kind,
@@ -44,19 +42,19 @@ impl Reached {
         }
     }
 
-    /// Judges the answer to the question at which names the object stands below the root. It stands exactly where
-    /// these are the expected ones, all of them and no more; else the same comes back.
+    /// Judges the answer to the owner's question at which names the object stands below the root. It stands, as the
+    /// owner's, exactly where these are the expected ones, all of them and no more; else the same comes back.
     #[tactic(auto, using(crate::proofs::SameNames::same_where_equal, crate::proofs::SameNames::other_where_not))]
-    pub fn judge(self, answer: Answer, expected: &Names) -> Result<Standing, Reached>
-        ensures exact { result ≡ judged self answer expected.now }
+    pub fn judge(self, owner: Owner, answer: Answer, expected: &Names) -> Result<Standing, Reached>
+        ensures exact { result ≡ judged self owner answer expected.now }
         ensures ok { IfOk result (λ standing.
-            (answer ≡ Answer.Names expected.now) × (standing ≡ standing_at self expected.now)) }
+            (answer ≡ Answer.Names expected.now) × (standing ≡ standing_at self owner expected.now)) }
         ensures err { IfErr result (λ reached. (answer ≢ Answer.Names expected.now) × (reached ≡ self)) }
     {
         match answer {
             Answer::Names(names) => {
                 if names.same(expected) {
-                    Ok(self.standing_at(names))
+                    Ok(self.standing_at(owner, names))
                 } else {
                     Err(self)
                 }
@@ -65,16 +63,11 @@ impl Reached {
         }
     }
 
-    // The same, standing at these names.
-    fn standing_at(self, names: Names) -> Standing
-        ensures { result ≡ standing_at self names }
+    // The same, the owner's, standing at these names.
+    fn standing_at(self, owner: Owner, names: Names) -> Standing
+        ensures { result ≡ standing_at self owner names }
     {
-        let Reached {
-            owner,
-            handle,
-            node,
-            kind,
-        } = self;
+        let Reached { handle, node, kind } = self;
         Standing {
             owner,
             handle,
@@ -89,7 +82,6 @@ impl Reached {
         ensures { result ≡ StepOf.Close self.handle }
     {
         let Reached {
-            owner: _,
             handle,
             node: _,
             kind: _,
@@ -130,7 +122,6 @@ impl Standing {
         ensures { result ≡ unchecked self }
     {
         Reached {
-            owner: self.owner,
             handle: self.handle,
             node: self.node,
             kind: self.kind,

@@ -31,7 +31,6 @@ fn names(alloc: Global, list: &[&[u8]]) -> Result<Names, Errno> {
 
 // It is what `opened` tells, and its close is that of that handle.
 fn assert_reached(rt: &impl Abort, reached: Reached) {
-    assert_eq!(rt; reached.owner(), some_owner());
     assert_eq!(rt; reached.handle(), HandleNo::new(5));
     assert_eq!(rt; reached.node(), Node::new(11));
     assert_eq!(rt; reached.kind(), Kind::Dir);
@@ -62,7 +61,7 @@ fn reaches_only_what_was_opened(rt: HostRuntime) -> Result<(), Fail> {
         Answer::Refused(Errno::NotFound),
     ];
     for other in &others {
-        match Reached::of(some_owner(), other) {
+        match Reached::of(other) {
             None => {}
             Some(reached) => {
                 assert_reached(&rt, reached);
@@ -70,7 +69,7 @@ fn reaches_only_what_was_opened(rt: HostRuntime) -> Result<(), Fail> {
             }
         }
     }
-    match Reached::of(some_owner(), &opened()) {
+    match Reached::of(&opened()) {
         Some(reached) => assert_reached(&rt, reached),
         None => assert!(rt; false),
     }
@@ -79,8 +78,8 @@ fn reaches_only_what_was_opened(rt: HostRuntime) -> Result<(), Fail> {
 
 // What was opened stands at the expected names by that answer, or comes back.
 fn assert_judged(rt: &impl Abort, answer: Answer, expected: &Names, stands: bool) {
-    match Reached::of(some_owner(), &opened()) {
-        Some(reached) => match reached.judge(answer, expected) {
+    match Reached::of(&opened()) {
+        Some(reached) => match reached.judge(some_owner(), answer, expected) {
             Ok(standing) => {
                 assert!(rt; stands, "stands at {standing:?}");
                 assert_standing(rt, standing, expected);
@@ -130,8 +129,8 @@ fn goes_onward_unchecked(rt: HostRuntime) -> Result<(), Fail> {
     let alloc = rt.alloc();
     let expected = names(alloc, &[b"a"])?;
     let answer = Answer::Names(names(alloc, &[b"a"])?);
-    match Reached::of(some_owner(), &opened()) {
-        Some(reached) => match reached.judge(answer, &expected) {
+    match Reached::of(&opened()) {
+        Some(reached) => match reached.judge(some_owner(), answer, &expected) {
             Ok(standing) => {
                 let path = standing.names().print(alloc)?;
                 assert_eq!(rt; path.as_slice(), b"/a".as_slice());

@@ -6,6 +6,7 @@ use Rattle.std.proofs.lemmas.Option.{none-some, same_Some}
 use Rattle.path_text.specs.declared.errno.Errno.{Errno}
 use Rattle.path_text.specs.declared.errno.Errno.TheVariants.{NoMemory, BookFull, TooMany}
 use Rattle.path_text.specs.declared.flags.Flags.{Flags}
+use Rattle.path_text.specs.declared.path.TheConstants.{PARTS_MAX}
 use Rattle.path_text.specs.Reading.{Reading}
 use Rattle.tree_model.specs.declared.answer.Answer.{Answer}
 use Rattle.tree_model.specs.declared.answer.Event.{Event}
@@ -20,16 +21,19 @@ use Rattle.walk_plan.specs.declared.goal.Goal.{Goal}
 use Rattle.walk_plan.specs.declared.goal.Goal.TheVariants.{Follow}
 use Rattle.step_resolver.specs.Asked.{AskedPart}
 use Rattle.step_resolver.specs.Meaning.{Meant, object, fails, reading_means}
-use Rattle.step_resolver.specs.Order.{Way, Handle, Walking, opening, reading, rising, judging, duping, ending, closing, Turn, more, found, partial, failed, begins, due, Line, answered, short, unmade, events_of}
+use Rattle.step_resolver.specs.Order.{Way, Handle, Walking, opening, reading, rising, judging, duping, ending, closing, Turn, more, found, partial, failed, begins, for_walk, due, Line, answered, short, unmade, events_of, LeadsTo}
 use Rattle.step_resolver.specs.Order.{take as takes}
 use Rattle.step_resolver.specs.Ends.{Walked, IsWalked, own_events, TellsTooMany, TellsWant, TellsError, is_want, IsMeant, IsEnd}
 use Rattle.step_resolver.specs.Headline.{WalksTell}
 use Rattle.step_resolver.specs.FootprintLaws.{QuietWalksMean, IsQuiet, IsQuietEnd}
 use Rattle.step_resolver.specs.View.{WalkView}
-use Rattle.step_resolver.specs.Taken.{seen, standing_handle, steps_to_come, STEPS_MAX, TakesTo}
+use Rattle.step_resolver.specs.Taken.{seen, standing_handle, steps_to_come, STEPS_MAX, StartsTo, TakesTo}
 use Rattle.step_resolver.specs.declared.walk.Turn.{Turn as Outcome}
 use Rattle.step_resolver.specs.declared.walk.Turn.TheVariants.{More, Found, Partial, Failed}
+use Rattle.step_resolver.specs.Telling.{first_lines}
+use Rattle.step_resolver.proofs.FirstTurns.{first_lines_lead}
 use Rattle.step_resolver.proofs.Telling.{leads_on, line_leads}
+use Rattle.step_resolver.proofs.WalkSteps.{FewerThan, a_step_left, begins_few}
 use Rattle.inroot.specs.Driven.{LeavesHandles, IsOpened, IsAnswer, steps_of, IsWithoutBook, Drives, IsWhole, IsEndOf, Resolves}
 
 -- ---- step by step
@@ -320,16 +324,36 @@ module _ (laws : Laws) (s t : State) (a h r : ℕ) (flags : Flags) (path : Readi
       let stay = (laws.tell (walked _ d) _ (is_walked _ d) d.leads).handles in
       λ k. ap (λ (u : State). held u a k) (sym d.after) ∙ stay k
 
--- how many steps a walk has at most, from its first turn
-pub few_steps : (way : Way) (path : Reading) (outcome : Outcome) → seen way.goal outcome ≡ begins way path → steps_to_come outcome ≤ STEPS_MAX
-    → steps_of (begins way path) ≤ STEPS_MAX
-few_steps way path outcome e few = subst (λ n. n ≤ STEPS_MAX) (sym (seen_steps way.goal outcome) ∙ ap steps_of e) few
+-- how many steps a walk has at most
+pub few_steps : (way : Way) (path : Reading) → length path.parts ≤ PARTS_MAX → steps_of (begins way path) ≤ STEPS_MAX
+few_steps way path few = by_turn (begins way path) (begins_few way path few) where
+  by_turn : (turn : Turn) → FewerThan (suc STEPS_MAX) turn → steps_of turn ≤ STEPS_MAX
+  by_turn (more walking) few = omega arith
+  by_turn (found handle names) few = omega arith
+  by_turn (partial handle names rest) few = omega arith
+  by_turn (failed error) few = omega arith
 
--- from the first turn on
-pub drives_begun : (way : Way) (a : ℕ) (s : State) (path : Reading) (turn : Turn) → turn ≡ begins way path → Drives way a s (begins way path) s turn
-drives_begun way a s path turn e = subst (λ z. Drives way a s z s turn) e (drives_none way a s turn)
+-- from the first turn on, with room for the walk or without
+pub drives_begun : (way : Way) (a : ℕ) (s : State) (path : Reading) (turn : Turn) → StartsTo way path turn → Drives way a s (begins way path) s turn
+drives_begun way a s path turn starts =
+    subst (λ z. Drives way a s (begins way path) s z) (sym starts.1) (with_room starts.0 (begins way path) (first_lines_lead way starts.0 path)) where
+      with_room : (room : Bool) (first : Turn) → LeadsTo way first (first_lines room first) (for_walk room first) → Drives way a s first s (for_walk room first)
+      with_room true first leads = drives_none way a s first
+      with_room false (more walking) leads = record {
+        lines = unmade NoMemory ∷ [];
+        leads = leads;
+        legal = tt;
+        after = refl;
+        nodes = refl;
+        without_book = (refl, tt);
+        fewer = omega (arith, a_step_left walking);
+      }
+      with_room false (found handle names) leads = drives_none way a s (found handle names)
+      with_room false (partial handle names rest) leads = drives_none way a s (partial handle names rest)
+      with_room false (failed error) leads = drives_none way a s (failed error)
 
-pub drives_from : (way own : Way) (a : ℕ) (s t : State) (path : Reading) (walking : Walking) (outcome : Outcome) → own ≡ way
-    → more walking ≡ begins way path → Drives own a s (more walking) t (seen own.goal outcome) → Drives way a s (begins way path) t (seen way.goal outcome)
-drives_from way own a s t path walking outcome same e d =
-    subst (λ z. Drives way a s z t (seen way.goal outcome)) e (subst (λ (v : Way). Drives v a s (more walking) t (seen v.goal outcome)) same d)
+pub drives_from : LegalHistoriesJoin → (way own : Way) (a : ℕ) (s t : State) (path : Reading) (walking : Walking) (outcome : Outcome) → own ≡ way
+    → StartsTo way path (more walking) → Drives own a s (more walking) t (seen own.goal outcome) → Drives way a s (begins way path) t (seen way.goal outcome)
+drives_from join way own a s t path walking outcome same starts d =
+    drives_on join way a s s t (begins way path) (more walking) (seen way.goal outcome) (drives_begun way a s path (more walking) starts)
+    (subst (λ (v : Way). Drives v a s (more walking) t (seen v.goal outcome)) same d)

@@ -7,7 +7,7 @@ ghost use Rattle.step_resolver.specs.Taken.{seen, Keeps, steps_to_come};
 ghost use Rattle.inroot.specs.Driven.{node_of, IsOpened, IsAnswer, Drives, IsWhole, IsEndOf, LeavesHandles, ResolvesBelow};
 
 use handles::Standing;
-use path_text::{Errno, Flags, Path};
+use path_text::{Errno, Flags, PARTS_MAX, Path};
 use std::alloc::Global;
 use step_resolver::{Goal, Root, Turn, Walk, quiet_walks_mean, walks_tell};
 use tree_model::{
@@ -87,6 +87,10 @@ pub fn resolve<T: Tree>(
     walks_tell();
     quiet_walks_mean();
     histories_keep_trees();
+    legal_histories_join();
+    // A path has few parts, so that the walk has few steps and never runs out of handles' numbers.
+    let few = path.parts.len() <= PARTS_MAX;
+    prove!(few);
     let Root { owner, handle } = root;
     let actor = owner.actor;
     match Walk::start(alloc, Root { owner, handle }, path, Goal::Follow, flags) {

@@ -25,6 +25,7 @@ pub mod LeftAlone
 pub mod Footprint
 pub mod MeantEnds
 pub mod DeepEnds
+pub mod FirstTurns
 pub mod Telling
 pub mod Arrivals
 pub mod QuietTrails

@@ -16,9 +16,10 @@ use Rattle.step_resolver.specs.Ends.{Walked, IsWalked}
 use Rattle.step_resolver.specs.Headline.{WalksTell}
 use Rattle.step_resolver.specs.FootprintLaws.{WalksMean}
 use Rattle.step_resolver.specs.View.{way_from}
-use Rattle.step_resolver.specs.Taken.{TakesTo}
-use Rattle.step_resolver.specs.Telling.{TellsAll, IsLineOf, TellsTaken, TellsBegun}
+use Rattle.step_resolver.specs.Taken.{StartsTo, TakesTo}
+use Rattle.step_resolver.specs.Telling.{TellsAll, IsLineOf, TellsTaken, first_lines, TellsBegun}
 use Rattle.step_resolver.proofs.WalkSteps.{swapped}
+use Rattle.step_resolver.proofs.FirstTurns.{first_lines_lead}
 
 -- lines that lead on from where others led
 pub leads_on : (way : Way) (lines : List Line) (turn mid : Turn) (others : List Line) (end : Turn) → LeadsTo way turn lines mid → LeadsTo way mid others end → LeadsTo way turn (lines ++ others) end
@@ -69,12 +70,15 @@ taken_tells tell mean way walk answer turn taken = record {
       (line_leads way taken.0 walk answer turn at.last taken.1 at.is_last)));
 }
 
-pub begun_tells : WalksTell → WalksMean → (way : Way) (path : Reading) (turn : Turn) → turn ≡ begins way path → TellsBegun way path turn
+pub begun_tells : WalksTell → WalksMean → (way : Way) (path : Reading) (turn : Turn) → StartsTo way path turn → TellsBegun way path turn
 begun_tells tell mean way path turn begun = record {
-  is_turn = begun;
+  room = begun.0;
+  is_turn = begun.1;
   tells = λ w at. tells_all tell mean way w turn at.walked at.same_way
-      (subst (λ (lines : List Line). LeadsTo way (begins way w.path) lines turn) (sym at.lines)
-      (ap (begins way) at.same_path ∙ sym begun));
+      (subst (λ (q : Reading). LeadsTo way (begins way q) w.lines turn) (sym at.same_path)
+      (subst (λ (lines : List Line). LeadsTo way (begins way path) lines turn) (sym at.lines)
+      (subst (λ (end : Turn). LeadsTo way (begins way path) (first_lines begun.0 (begins way path)) end) (sym begun.1)
+      (first_lines_lead way begun.0 path))));
 }
 
 -- where no plan is made the walk crosses the root at once

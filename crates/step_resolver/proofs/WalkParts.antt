@@ -12,7 +12,6 @@ use Rattle.path_text.specs.declared.errno.Errno.TheVariants.{NotDir, CrossRoot, 
 use Rattle.path_text.specs.declared.name.TheConstants.{NAME_MAX}
 use Rattle.path_text.specs.declared.part.Part.{Part}
 use Rattle.path_text.specs.declared.part.Part.TheVariants as part
-use Rattle.handles.specs.declared.owner.Owner.{Owner}
 use Rattle.handles.specs.Objects.{ReachedObject}
 use Rattle.walk_plan.specs.declared.goal.Goal.{Goal}
 use Rattle.walk_plan.specs.declared.goal.Goal.TheVariants.{Follow, NoFollow, Deepest}
@@ -35,9 +34,9 @@ pub directory_at : (place : Option ReachedObject) (names : List (List ℕ)) → 
 directory_at None names = refl
 directory_at (Some held) names = refl
 
-pub names_at : (owner : Owner) (place : Option ReachedObject) (names : List (List ℕ)) → IsPlace owner names place → names_of (place_of place names) ≡ reverse names
-names_at owner None names e = sym (ap reverse e)
-names_at owner (Some held) names e = refl
+pub names_at : (place : Option ReachedObject) (names : List (List ℕ)) → IsPlace names place → names_of (place_of place names) ≡ reverse names
+names_at None names e = sym (ap reverse e)
+names_at (Some held) names e = refl
 
 -- ---- the next part
 

@@ -18,10 +18,10 @@ use Rattle.step_resolver.specs.declared.walk.Root.{Root}
 use Rattle.step_resolver.specs.View.{way_from, todo_of}
 use Rattle.step_resolver.specs.Asked.{AskedPart, Cur, Up, Named, ask, asked, followed, follows}
 use Rattle.step_resolver.specs.Meaning.{LINKS_MAX, is_too_long, crosses}
-use Rattle.step_resolver.specs.Order.{Way, Handle, Position, root_itself, holds, Todo, todo, After, gives, onward, judges, Walking, opening, reading, rising, judging, duping, ending, closing, Turn, more, found, partial, failed, names_of, handles_of, is_dir_position, is_followed, same_names, gives_up, at_end, in_directory, on_part, on_own, on_parts, goes_on, begins, comes, closes, refusal_of, with_room, follows_link, enters, refused_open, from_link, read_text, end_of, judged, refused_rise, take, steps_for, steps_after, steps_left}
+use Rattle.step_resolver.specs.Order.{Way, Handle, Position, root_itself, holds, Todo, todo, After, gives, onward, judges, Walking, opening, reading, rising, judging, duping, ending, closing, Turn, more, found, partial, failed, names_of, handles_of, is_dir_position, is_followed, same_names, gives_up, at_end, in_directory, on_part, on_own, on_parts, goes_on, begins, for_walk, comes, closes, refusal_of, with_room, follows_link, enters, refused_open, from_link, read_text, end_of, judged, refused_rise, take, steps_for, steps_after, steps_left}
 use Rattle.step_resolver.specs.declared.walk.Turn.{Turn as Outcome}
 use Rattle.step_resolver.specs.declared.walk.Turn.TheVariants.{More, Found, Partial, Failed}
-use Rattle.step_resolver.specs.Taken.{seen, TakesTo, steps_to_come, STEPS_MAX}
+use Rattle.step_resolver.specs.Taken.{seen, StartsTo, TakesTo, steps_to_come, STEPS_MAX}
 
 -- fewer than this many steps are left, where the walk goes on
 abbrev pub FewerThan : ℕ → Turn → Type 0
@@ -177,7 +177,7 @@ module _ (way : Way) where
 
 -- ---- as a walk is seen
 
-a_step_left : (walking : Walking) → 0 < steps_left walking
+pub a_step_left : (walking : Walking) → 0 < steps_left walking
 a_step_left (opening position own follow n rest) = omega arith
 a_step_left (reading position link (todo inner own b)) = omega arith
 a_step_left (rising handle names rest) = omega arith
@@ -195,9 +195,6 @@ lowers goal walking (Failed error) few = a_step_left walking
 pub taken_lowers : (way : Way) (walking : Walking) (answer : Answer) (outcome : Outcome) → TakesTo way walking answer (seen way.goal outcome) → steps_to_come outcome < steps_left walking
 taken_lowers way walking answer outcome taken =
     lowers way.goal walking outcome (subst (FewerThan (steps_left walking)) (sym taken.1) (take_lowers way taken.0 walking answer))
-
-pub closed_lowers : (way : Way) (walking : Walking) (answer : Answer) (outcome : Outcome) → seen way.goal outcome ≡ take way true walking answer → steps_to_come outcome < steps_left walking
-closed_lowers way walking answer outcome taken = taken_lowers way walking answer outcome (true, taken)
 
 asked_length : (follow : Bool) (ps : List Part) → length (asked follow ps) ≡ length ps
 asked_length follow [] = refl
@@ -222,15 +219,26 @@ begun_goes_on root path goal flags within =
     let stays_in : (flags.beneath && path.absolute) ≡ false = swapped flags.beneath path.absolute ∙ within in
     sym (rw stays_in refl)
 
-pub begins_few : (way : Way) (path : Reading) (outcome : Outcome) → length path.parts ≤ PARTS_MAX → seen way.goal outcome ≡ begins way path → steps_to_come outcome ≤ STEPS_MAX
-begins_few way path outcome few e = shown outcome (subst (FewerThan (suc STEPS_MAX)) (sym e) begun) where
-  begun : FewerThan (suc STEPS_MAX) (begins way path)
-  begun = either (suc STEPS_MAX) (way.flags.beneath && path.absolute) (failed CrossRoot) (goes_on way root_itself (todo [] (asked (follows way.goal) path.parts) LINKS_MAX)) tt
-      (weaker (4 + steps_for (todo [] (asked (follows way.goal) path.parts) LINKS_MAX)) (suc STEPS_MAX) (goes_on way root_itself (todo [] (asked (follows way.goal) path.parts) LINKS_MAX)) (omega (arith, asked_length (follows way.goal) path.parts))
-      (goes_on_few way root_itself (todo [] (asked (follows way.goal) path.parts) LINKS_MAX)))
+-- a walk begins with few steps to come
+pub begins_few : (way : Way) (path : Reading) → length path.parts ≤ PARTS_MAX → FewerThan (suc STEPS_MAX) (begins way path)
+begins_few way path few =
+    either (suc STEPS_MAX) (way.flags.beneath && path.absolute) (failed CrossRoot) (goes_on way root_itself (todo [] (asked (follows way.goal) path.parts) LINKS_MAX)) tt
+    (weaker (4 + steps_for (todo [] (asked (follows way.goal) path.parts) LINKS_MAX)) (suc STEPS_MAX) (goes_on way root_itself (todo [] (asked (follows way.goal) path.parts) LINKS_MAX)) (omega (arith, asked_length (follows way.goal) path.parts))
+    (goes_on_few way root_itself (todo [] (asked (follows way.goal) path.parts) LINKS_MAX)))
 
-  shown : (outcome : Outcome) → FewerThan (suc STEPS_MAX) (seen way.goal outcome) → steps_to_come outcome ≤ STEPS_MAX
-  shown (More w) few = omega arith
-  shown (Found standing) few = omega arith
-  shown (Partial standing rest) few = omega arith
-  shown (Failed error) few = omega arith
+for_walk_few : (k : ℕ) (room : Bool) (turn : Turn) → FewerThan k turn → FewerThan k (for_walk room turn)
+for_walk_few k true turn few = few
+for_walk_few k false (more w) few = tt
+for_walk_few k false (found handle names) few = tt
+for_walk_few k false (partial handle names rest) few = tt
+for_walk_few k false (failed error) few = tt
+
+-- so does its first turn, with room for the walk or without
+pub starts_few : (way : Way) (path : Reading) (outcome : Outcome) → length path.parts ≤ PARTS_MAX → StartsTo way path (seen way.goal outcome) → steps_to_come outcome ≤ STEPS_MAX
+starts_few way path outcome few starts =
+    shown outcome (subst (FewerThan (suc STEPS_MAX)) (sym starts.1) (for_walk_few (suc STEPS_MAX) starts.0 (begins way path) (begins_few way path few))) where
+      shown : (outcome : Outcome) → FewerThan (suc STEPS_MAX) (seen way.goal outcome) → steps_to_come outcome ≤ STEPS_MAX
+      shown (More w) few = omega arith
+      shown (Found standing) few = omega arith
+      shown (Partial standing rest) few = omega arith
+      shown (Failed error) few = omega arith

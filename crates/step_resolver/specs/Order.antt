@@ -153,6 +153,18 @@ begins way path =
     if way.flags.beneath && path.absolute then failed CrossRoot
     else goes_on way root_itself (todo [] (asked (follows way.goal) path.parts) LINKS_MAX)
 
+-- a walk under way takes room, an end doesn't
+abbrev pub for_walk : Bool → Turn → Turn
+for_walk true turn = turn
+for_walk false (more walk) = failed NoMemory
+for_walk false (found handle names) = found handle names
+for_walk false (partial handle names rest) = partial handle names rest
+for_walk false (failed error) = failed error
+
+-- The first turn; `room` is false where a walk that would go on found no memory.
+abbrev pub starts : Way → Bool → Reading → Turn
+starts way room path = for_walk room (begins way path)
+
 -- ---- closings
 
 abbrev pub comes : Way → After → Turn

@@ -1,16 +1,20 @@
 -- What a walk has come to, as the order of steps sees it.
-use Rattle.std.specs.Prelude.{◌≡◌, ℕ, ◌+◌, ◌*◌, reverse, Bool}
+use Rattle.std.specs.Prelude.{◌≡◌, ℕ, ◌+◌, ◌*◌, reverse, Bool, IsTrue}
 use Rattle.path_text.specs.declared.path.TheConstants.{PARTS_MAX}
+use Rattle.path_text.specs.Reading.{Reading}
 use Rattle.tree_model.specs.declared.answer.Answer.{Answer}
 use Rattle.handles.specs.declared.owner.Owner.{Owner}
 use Rattle.handles.specs.Objects.{StandingObject}
 use Rattle.walk_plan.specs.declared.goal.Goal.{Goal}
 use Rattle.step_resolver.specs.Asked.{asked, follows}
 use Rattle.step_resolver.specs.Meaning.{LINKS_MAX}
-use Rattle.step_resolver.specs.Order.{Way, Handle, Walking, Turn, more, found, partial, failed, take, steps_left}
-use Rattle.step_resolver.specs.View.{course_way, walking_of}
+use Rattle.step_resolver.specs.Order.{Way, Handle, Walking, Turn, more, found, partial, failed, starts, take, steps_left}
+use Rattle.walk_plan.specs.Plan.{is_own}
+use Rattle.step_resolver.specs.View.{course_way, walking_of, own_to_come, IsPendingOn}
 use Rattle.step_resolver.specs.declared.course.Course.{Course}
-use Rattle.step_resolver.specs.declared.doing.Doing.{Doing}
+use Rattle.step_resolver.specs.declared.pending.Next.{Next}
+use Rattle.step_resolver.specs.declared.pending.Next.TheVariants as next
+use Rattle.step_resolver.specs.declared.pending.Pending.{Pending}
 use Rattle.step_resolver.specs.declared.walk.Turn.{Turn as Outcome}
 use Rattle.step_resolver.specs.declared.walk.Turn.TheVariants.{More, Found, Partial, Failed}
 
@@ -31,6 +35,10 @@ Keeps owner way (Found standing) = standing.owner ≡ owner
 Keeps owner way (Partial standing rest) = standing.owner ≡ owner
 Keeps owner way (Failed error) = Unit {0}
 
+-- the turn is the first one, with room for the walk or without
+abbrev pub StartsTo : Way → Reading → Turn → Type 0
+StartsTo way path turn = (room : Bool) × (turn ≡ starts way room path)
+
 -- the turn is what the answer makes of the walk, with room for what it brings or without
 abbrev pub TakesTo : Way → Walking → Answer → Turn → Type 0
 TakesTo way walking answer turn = (room : Bool) × (turn ≡ take way room walking answer)
@@ -48,12 +56,23 @@ STEPS_MAX = 4 * (PARTS_MAX * (LINKS_MAX + 1)) + 4
 
 -- ---- the same of a course
 
-abbrev pub seen_on : Course → Outcome → Turn
-seen_on course outcome = seen course.plan.goal outcome
+-- what comes after an answer, as a turn; the rest of a partial end is in the plan
+abbrev pub next_turn : Course → Next → Turn
+next_turn course (next.Due pending) = more (walking_of course.plan pending)
+next_turn course (next.Found standing) = found (standing_handle standing) (reverse standing.names)
+next_turn course (next.Partial standing) = partial (standing_handle standing) (reverse standing.names) (own_to_come course.plan)
+next_turn course (next.Failed error) = failed error
 
-abbrev pub KeepsCourse : Course → Outcome → Type 0
-KeepsCourse course outcome = Keeps course.root.owner (course_way course) outcome
+abbrev pub IsNextOn : Course → Next → Type 0
+IsNextOn course (next.Due pending) = IsPendingOn course pending
+IsNextOn course (next.Found standing) = standing.owner ≡ course.root.owner
+IsNextOn course (next.Partial standing) = (standing.owner ≡ course.root.owner) × IsTrue (is_own course.plan)
+IsNextOn course (next.Failed error) = Unit {0}
 
-abbrev pub TakesOn : Course → Doing → Answer → Outcome → Type 0
-TakesOn course doing answer outcome =
-    TakesTo (course_way course) (walking_of course.plan doing) answer (seen_on course outcome)
+-- the root, what the walk is after and its restrictions stay the same; and what comes next is of this course
+abbrev pub KeepsCourse : Course → Course → Next → Type 0
+KeepsCourse old new next =
+    (new.root ≡ old.root) × (new.plan.goal ≡ old.plan.goal) × (new.plan.flags ≡ old.plan.flags) × IsNextOn new next
+
+abbrev pub TakesOn : Course → Pending → Answer → Course → Next → Type 0
+TakesOn old pending answer new next = TakesTo (course_way old) (walking_of old.plan pending) answer (next_turn new next)

@@ -1,9 +1,10 @@
 -- What the turns of a walk tell, in every legal history in which the walk's lines led to them. openat2(2).
 use Rattle.std.specs.Prelude.{◌≡◌, List, [], ◌∷◌, ◌++◌, Bool, true, false}
+use Rattle.path_text.specs.declared.errno.Errno.TheVariants.{NoMemory}
 use Rattle.path_text.specs.Reading.{Reading}
 use Rattle.tree_model.specs.declared.answer.Answer.{Answer}
 use Rattle.tree_model.specs.declared.answer.Answer.TheVariants.{Refused}
-use Rattle.step_resolver.specs.Order.{Way, Walking, Turn, more, begins, take, due, is_closing, Line, answered, short, unmade, IsWant, LeadsTo}
+use Rattle.step_resolver.specs.Order.{Way, Walking, Turn, more, found, partial, failed, begins, starts, take, due, is_closing, Line, answered, short, unmade, IsWant, LeadsTo}
 use Rattle.step_resolver.specs.Ends.{Walked, IsWalked, Tells, TellsMeaning, TellsDeepest}
 
 -- As an end it tells what was passed, or why it failed; and, where the entries that the path reads are left alone, it is
@@ -37,14 +38,24 @@ pub record TellsTaken (way : Way) (walking : Walking) (answer : Answer) (turn : 
   pub is_turn : turn ≡ take way room walking answer
   pub tells : (w : Walked) → IsTaken way room walking answer w → TellsAll w turn
 
--- A walk on this way, along this path, in a legal history was told nothing yet.
-pub record IsBegun (way : Way) (path : Reading) (w : Walked) : Type 0 where
+-- The lines up to the first turn: none; or, where a walk that would go on found no memory, that its first step wasn't made.
+abbrev pub first_lines : Bool → Turn → List Line
+first_lines true turn = []
+first_lines false (more walk) = unmade NoMemory ∷ []
+first_lines false (found handle names) = []
+first_lines false (partial handle names rest) = []
+first_lines false (failed error) = []
+
+-- A walk on this way, along this path, in a legal history was told no more than that.
+pub record IsBegun (way : Way) (room : Bool) (path : Reading) (w : Walked) : Type 0 where
   pub walked : IsWalked w
   pub same_way : w.way ≡ way
   pub same_path : w.path ≡ path
-  pub lines : w.lines ≡ []
+  pub lines : w.lines ≡ first_lines room (begins way path)
 
--- The first turn is the one with which the order of steps begins, and it tells this of each such history.
+-- The first turn is the one with which the order of steps begins, with room for the walk or without, and it tells this of
+-- each such history.
 pub record TellsBegun (way : Way) (path : Reading) (turn : Turn) : Type 0 where
-  pub is_turn : turn ≡ begins way path
-  pub tells : (w : Walked) → IsBegun way path w → TellsAll w turn
+  pub room : Bool
+  pub is_turn : turn ≡ starts way room path
+  pub tells : (w : Walked) → IsBegun way room path w → TellsAll w turn

@@ -17,10 +17,10 @@ use Rattle.step_resolver.specs.Asked.{AskedPart, asked, followed, follows}
 use Rattle.step_resolver.specs.Order.{Way, Handle, Position, root_itself, holds, Todo, todo, After, gives, onward, judges, Walking, opening, reading, rising, judging, duping, ending, closing, Turn, is_dir_kind, is_dir_position, names_of, goes_on, enters}
 use Rattle.step_resolver.specs.declared.walk.Root.{Root}
 use Rattle.step_resolver.specs.declared.course.Course.{Course}
-use Rattle.step_resolver.specs.declared.doing.After.{After as Then}
-use Rattle.step_resolver.specs.declared.doing.After.TheVariants.{Gives, Onward, Judges}
-use Rattle.step_resolver.specs.declared.doing.Doing.{Doing}
-use Rattle.step_resolver.specs.declared.doing.Doing.TheVariants.{Opening, Reading, Rising, Judging, Duping, Ending, Closing}
+use Rattle.step_resolver.specs.declared.pending.AfterClose.{AfterClose}
+use Rattle.step_resolver.specs.declared.pending.AfterClose.TheVariants.{Gives, Onward, Judges}
+use Rattle.step_resolver.specs.declared.pending.Pending.{Pending}
+use Rattle.step_resolver.specs.declared.pending.Pending.TheVariants.{Opening, Reading, Rising, Judging, Duping, Ending, Closing}
 
 -- whose walk it is, what stays the same for it, and what is due
 pub record WalkView : Type 0 where
@@ -93,12 +93,12 @@ EntersBy way position n new rest turn = (room : Bool) × (turn ≡ enters way ro
 
 -- ---- the walk
 
-abbrev pub after_of : PlanState → Then → After
+abbrev pub after_of : PlanState → AfterClose → After
 after_of p (Gives error) = gives error
 after_of p (Onward place) = onward (place_of place p.names) (todo_of p)
 after_of p (Judges held) = judges (handle_of held) (reverse p.names) (todo_of p)
 
-abbrev pub walking_of : PlanState → Doing → Walking
+abbrev pub walking_of : PlanState → Pending → Walking
 walking_of p (Opening place) =
     opening (place_of place p.names) (is_own p) (plan.follows p) (name_in (next_part p)) (todo_of (stayed p))
 walking_of p (Reading place link) =
@@ -109,21 +109,21 @@ walking_of p Duping = duping (own_to_come p)
 walking_of p (Ending held) = ending (handle_of held) (reverse p.names) (own_to_come p)
 walking_of p (Closing first second after) = closing first.handle (numbers_of second) (after_of p after)
 
-abbrev pub view_of : Course → Doing → WalkView
-view_of course doing =
-    record { owner = course.root.owner; way = way_of course.root course.plan; walking = walking_of course.plan doing }
+abbrev pub view_of : Course → Pending → WalkView
+view_of course pending =
+    record { owner = course.root.owner; way = way_of course.root course.plan; walking = walking_of course.plan pending }
 
 -- ---- what every walk keeps
 
--- what is held is the owner's; and no name was passed where nothing is held
-abbrev pub IsPlace : Owner → List (List ℕ) → Option ReachedObject → Type 0
-IsPlace owner names None = names ≡ []
-IsPlace owner names (Some held) = held.owner ≡ owner
+-- no name was passed where nothing is held
+abbrev pub IsPlace : List (List ℕ) → Option ReachedObject → Type 0
+IsPlace names None = names ≡ []
+IsPlace names (Some held) = Unit {0}
 
-abbrev pub IsAfter : Owner → List (List ℕ) → Then → Type 0
-IsAfter owner names (Gives error) = Unit {0}
-IsAfter owner names (Onward place) = IsPlace owner names place
-IsAfter owner names (Judges held) = held.owner ≡ owner
+abbrev pub IsAfter : List (List ℕ) → AfterClose → Type 0
+IsAfter names (Gives error) = Unit {0}
+IsAfter names (Onward place) = IsPlace names place
+IsAfter names (Judges held) = Unit {0}
 
 -- the next part is a name that can be looked up
 abbrev pub IsAtName : PlanState → Type 0
@@ -135,14 +135,25 @@ pub record MayFollow (p : PlanState) : Type 0 where
   pub allowed : p.flags.no_links ≡ false
   pub left : 0 < p.links_left
 
-abbrev pub IsDoing : Owner → PlanState → Doing → Type 0
-IsDoing owner p (Opening place) = IsPlace owner p.names place × IsAtName p
-IsDoing owner p (Reading place link) = IsPlace owner p.names place × (link.owner ≡ owner) × MayFollow p
-IsDoing owner p (Rising held) = held.owner ≡ owner
-IsDoing owner p (Judging held) = held.owner ≡ owner
-IsDoing owner p Duping = (p.names ≡ []) × (p.inner ≡ [])
-IsDoing owner p (Ending held) = (held.owner ≡ owner) × (p.inner ≡ [])
-IsDoing owner p (Closing first second after) = IsAfter owner p.names after
+abbrev pub IsPending : PlanState → Pending → Type 0
+IsPending p (Opening place) = IsPlace p.names place × IsAtName p
+IsPending p (Reading place link) = IsPlace p.names place × MayFollow p
+IsPending p (Rising held) = Unit {0}
+IsPending p (Judging held) = Unit {0}
+IsPending p Duping = (p.names ≡ []) × (p.inner ≡ [])
+IsPending p (Ending held) = p.inner ≡ []
+IsPending p (Closing first second after) = IsAfter p.names after
+
+-- no handle is held while the step is made
+abbrev pub HoldsNothing : Pending → Type 0
+HoldsNothing (Opening None) = Unit {0}
+HoldsNothing (Opening (Some held)) = ⊥
+HoldsNothing (Reading place link) = ⊥
+HoldsNothing (Rising held) = ⊥
+HoldsNothing (Judging held) = ⊥
+HoldsNothing Duping = Unit {0}
+HoldsNothing (Ending held) = ⊥
+HoldsNothing (Closing first second after) = ⊥
 
 -- ---- the same of a course
 
@@ -153,10 +164,13 @@ abbrev pub position_at : Course → Option ReachedObject → Position
 position_at course place = place_of place course.plan.names
 
 abbrev pub IsPlaceOn : Course → Option ReachedObject → Type 0
-IsPlaceOn course place = IsPlace course.root.owner course.plan.names place
+IsPlaceOn course place = IsPlace course.plan.names place
 
-abbrev pub IsAfterOn : Course → Then → Type 0
-IsAfterOn course after = IsAfter course.root.owner course.plan.names after
+abbrev pub IsAfterOn : Course → AfterClose → Type 0
+IsAfterOn course after = IsAfter course.plan.names after
+
+abbrev pub IsPendingOn : Course → Pending → Type 0
+IsPendingOn course pending = IsPending course.plan pending
 
 -- ---- what is due, and what answers come to
 

@@ -1,14 +1,13 @@
-//! A walk apart from what it is doing, and what each step's answer makes of it.
+//! A walk apart from its pending step, and what each answer comes to.
 ghost use Rattle.std.specs.Prelude.{◌≡◌, [], true, false, Some};
 ghost use Rattle.path_text.specs.declared.part.Part.TheVariants.{Up};
-ghost use Rattle.handles.specs.Objects.{reached_by};
 ghost use Rattle.walk_plan.specs.Plan.{next_part, is_own, follows, stayed};
 ghost use Rattle.step_resolver.specs.Order.{gives_up, closing, at_end, goes_on, closes, comes, handle_at, more, refused_open, follows_link, is_followed};
 ghost use Rattle.step_resolver.specs.View.{handle_of, numbers_of, is_directory_at, own_to_come, todo_of, stays, SameCourse, EntersBy, name_in, after_of, IsAtName, MayFollow};
 
 use crate::answers::{check_refusal, refusal_of};
-use crate::doing::{After, Doing};
-use crate::walk::{Root, Turn, Walk};
+use crate::pending::{AfterClose, Next, Pending};
+use crate::walk::Root;
 use handles::Reached;
 use path_text::{Errno, Part};
 use std::alloc::Global;
@@ -56,8 +55,8 @@ fn is_directory(place: &Option<Reached>) -> bool
 }
 
 impl Course {
-    ghost use Rattle.step_resolver.specs.View.{course_way, position_at, IsPlaceOn, IsAfterOn};
-    ghost use Rattle.step_resolver.specs.Taken.{seen_on, KeepsCourse, TakesOn};
+    ghost use Rattle.step_resolver.specs.View.{course_way, position_at, IsPlaceOn, IsAfterOn, IsPendingOn};
+    ghost use Rattle.step_resolver.specs.Taken.{next_turn, KeepsCourse, TakesOn};
 
     /// The handle through which the place is reached.
     pub(crate) fn handle_at(&self, place: &Option<Reached>) -> HandleNo
@@ -69,63 +68,49 @@ impl Course {
         }
     }
 
-    // What the answer to a step of the walk opened, where it opened something.
-    fn reached_by(&self, answer: &Answer) -> Option<Reached>
-        ensures { result ≡ reached_by self.now.root.owner answer.now }
-    {
-        Reached::of(self.root.owner, answer)
-    }
-
     // The first is closed, then the second.
-    fn close(self, first: Reached, second: Option<Reached>, after: After) -> Turn
-        requires { IsAfterOn self after }
-        ensures turn { seen_on self result ≡ more (closing first.handle (numbers_of second) (after_of self.plan after)) }
-        ensures kept { KeepsCourse self result }
+    fn close(&self, first: Reached, second: Option<Reached>, after: AfterClose) -> Next
+        requires { IsAfterOn self.now after }
+        ensures turn { next_turn self.now result ≡ more (closing first.handle (numbers_of second) (after_of self.now.plan after)) }
+        ensures kept { KeepsCourse self.now self.now result }
     {
-        Turn::More(Walk {
-            course: self,
-            doing: Doing::Closing {
-                first,
-                second,
-                after,
-            },
+        Next::Due(Pending::Closing {
+            first,
+            second,
+            after,
         })
     }
 
     // What is held is closed, and the walk fails.
-    fn fail(self, place: Option<Reached>, error: Errno) -> Turn
-        ensures turn { seen_on self result ≡ gives_up (numbers_of place) error }
-        ensures kept { KeepsCourse self result }
+    fn fail(&self, place: Option<Reached>, error: Errno) -> Next
+        ensures turn { next_turn self.now result ≡ gives_up (numbers_of place) error }
+        ensures kept { KeepsCourse self.now self.now result }
     {
         match place {
-            None => Turn::Failed(error),
-            Some(held) => self.close(held, None, After::Gives(error)),
+            None => Next::Failed(error),
+            Some(held) => self.close(held, None, AfterClose::Gives(error)),
         }
     }
 
     // The end, or the place in which the first part left is missing: something is held for it, and its place asked.
-    fn end(self, place: Option<Reached>) -> Turn
-        requires place { IsPlaceOn self place }
-        requires own { self.plan.inner ≡ [] }
-        ensures turn { seen_on self result ≡ at_end (position_at self place) (own_to_come self.plan) }
-        ensures kept { KeepsCourse self result }
+    fn end(&self, place: Option<Reached>) -> Next
+        requires place { IsPlaceOn self.now place }
+        requires own { self.now.plan.inner ≡ [] }
+        ensures turn { next_turn self.now result ≡ at_end (position_at self.now place) (own_to_come self.now.plan) }
+        ensures kept { KeepsCourse self.now self.now result }
     {
-        let doing = match place {
-            None => Doing::Duping,
-            Some(held) => Doing::Ending(held),
-        };
-        Turn::More(Walk {
-            course: self,
-            doing,
+        Next::Due(match place {
+            None => Pending::Duping,
+            Some(held) => Pending::Ending(held),
         })
     }
 
     /// Goes on from the place: the parts that need no step are passed, up to the step that is due.
     #[tactic(auto, using(crate::proofs::WalkParts::next_parts))]
-    pub(crate) fn go_on(mut self, place: Option<Reached>) -> Turn
-        requires { IsPlaceOn self place }
-        ensures turn { seen_on self result ≡ goes_on (course_way self) (position_at self place) (todo_of self.plan) }
-        ensures kept { KeepsCourse self result }
+    pub(crate) fn go_on(&mut self, place: Option<Reached>) -> Next
+        requires { IsPlaceOn self.old place }
+        ensures turn { next_turn self.new result ≡ goes_on (course_way self.old) (position_at self.old place) (todo_of self.old.plan) }
+        ensures kept { KeepsCourse self.old self.new result }
     {
         match self.plan.next() {
             None => self.end(place),
@@ -142,12 +127,12 @@ impl Course {
 
     // The same in a directory, where the walk doesn't stay at the next part.
     #[tactic(auto, using(crate::proofs::WalkParts::next_parts))]
-    fn move_on(self, place: Option<Reached>) -> Turn
-        requires place { IsPlaceOn self place }
+    fn move_on(&mut self, place: Option<Reached>) -> Next
+        requires place { IsPlaceOn self.old place }
         requires directory { is_directory_at place ≡ true }
-        requires moves { stays self.plan ≡ false }
-        ensures turn { seen_on self result ≡ goes_on (course_way self) (position_at self place) (todo_of self.plan) }
-        ensures kept { KeepsCourse self result }
+        requires moves { stays self.old.plan ≡ false }
+        ensures turn { next_turn self.new result ≡ goes_on (course_way self.old) (position_at self.old place) (todo_of self.old.plan) }
+        ensures kept { KeepsCourse self.old self.new result }
     {
         match self.plan.next() {
             None => self.end(place),
@@ -157,10 +142,7 @@ impl Course {
                 if name.is_too_long() {
                     self.fail(place, Errno::TooLong)
                 } else {
-                    Turn::More(Walk {
-                        course: self,
-                        doing: Doing::Opening(place),
-                    })
+                    Next::Due(Pending::Opening(place))
                 }
             }
         }
@@ -168,37 +150,56 @@ impl Course {
 
     // `..`, at which the walk doesn't stay: to the parent, or out of the root, where it may not.
     #[tactic(auto, using(crate::proofs::WalkParts::rise_crosses, crate::proofs::WalkParts::rises))]
-    fn rise(mut self, place: Option<Reached>) -> Turn
-        requires place { IsPlaceOn self place }
+    fn rise(&mut self, place: Option<Reached>) -> Next
+        requires place { IsPlaceOn self.old place }
         requires directory { is_directory_at place ≡ true }
-        requires up { next_part self.plan ≡ Some Up }
-        requires moves { stays self.plan ≡ false }
-        ensures turn { seen_on self result ≡ goes_on (course_way self) (position_at self place) (todo_of self.plan) }
-        ensures kept { KeepsCourse self result }
+        requires up { next_part self.old.plan ≡ Some Up }
+        requires moves { stays self.old.plan ≡ false }
+        ensures turn { next_turn self.new result ≡ goes_on (course_way self.old) (position_at self.old place) (todo_of self.old.plan) }
+        ensures kept { KeepsCourse self.old self.new result }
     {
         if self.plan.names().is_empty() {
             return self.fail(place, Errno::CrossRoot);
         }
         match place {
+            // No name was passed where nothing is held.
             None => unreachable!(),
             Some(held) => {
                 self.plan.went_up();
-                Turn::More(Walk {
-                    course: self,
-                    doing: Doing::Rising(held),
-                })
+                Next::Due(Pending::Rising(held))
             }
         }
     }
 
-    /// A name was opened: a link that must be followed is read, anything else entered.
-    pub(crate) fn opened(self, place: Option<Reached>, answer: Answer) -> Turn
-        requires place { IsPlaceOn self place }
-        requires named { IsAtName self.plan }
-        ensures turn { TakesOn self (Doing.Opening place) answer result }
-        ensures kept { KeepsCourse self result }
+    /// What the answer to the pending step comes to.
+    pub(crate) fn answered(&mut self, alloc: Global, pending: Pending, answer: Answer) -> Next
+        requires { IsPendingOn self.old pending }
+        ensures turn { TakesOn self.old pending answer self.new result }
+        ensures kept { KeepsCourse self.old self.new result }
     {
-        match self.reached_by(&answer) {
+        match pending {
+            Pending::Opening(place) => self.opened(place, answer),
+            Pending::Reading { place, link } => self.read(alloc, place, link, answer),
+            Pending::Rising(held) => self.risen(held, answer),
+            Pending::Judging(held) => self.judged(held, answer),
+            Pending::Duping => self.duped(answer),
+            Pending::Ending(held) => self.ended(held, answer),
+            Pending::Closing {
+                first,
+                second,
+                after,
+            } => self.closed(first, second, after),
+        }
+    }
+
+    // A name was opened: a link that must be followed is read, anything else entered.
+    fn opened(&mut self, place: Option<Reached>, answer: Answer) -> Next
+        requires place { IsPlaceOn self.old place }
+        requires named { IsAtName self.old.plan }
+        ensures turn { TakesOn self.old (Pending.Opening place) answer self.new result }
+        ensures kept { KeepsCourse self.old self.new result }
+    {
+        match Reached::of(&answer) {
             None => self.not_opened(place, refusal_of(&answer)),
             Some(new) => {
                 if self.must_follow(new.kind()) {
@@ -218,11 +219,11 @@ impl Course {
     }
 
     // The name wasn't opened. A missing one of the caller's own is where the deepest directory ends.
-    fn not_opened(self, place: Option<Reached>, error: Errno) -> Turn
-        requires place { IsPlaceOn self place }
-        requires named { IsAtName self.plan }
-        ensures turn { seen_on self result ≡ refused_open (course_way self) (position_at self place) (is_own self.plan) (follows self.plan) (name_in (next_part self.plan)) (todo_of (stayed self.plan)) error }
-        ensures kept { KeepsCourse self result }
+    fn not_opened(&self, place: Option<Reached>, error: Errno) -> Next
+        requires place { IsPlaceOn self.now place }
+        requires named { IsAtName self.now.plan }
+        ensures turn { next_turn self.now result ≡ refused_open (course_way self.now) (position_at self.now place) (is_own self.now.plan) (follows self.now.plan) (name_in (next_part self.now.plan)) (todo_of (stayed self.now.plan)) error }
+        ensures kept { KeepsCourse self.now self.now result }
     {
         if error == Errno::NotFound && self.plan.goal() == Goal::Deepest && self.plan.own() {
             self.end(place)
@@ -232,139 +233,122 @@ impl Course {
     }
 
     // A link that must be followed: its text is read, unless no link may be followed any more, or none at all.
-    fn follow(self, place: Option<Reached>, link: Reached) -> Turn
-        requires place { IsPlaceOn self place }
-        requires link { link.owner ≡ self.root.owner }
-        requires named { IsAtName self.plan }
-        ensures turn { seen_on self result ≡ follows_link (course_way self) (position_at self place) (handle_of link) (todo_of (stayed self.plan)) }
-        ensures kept { KeepsCourse self result }
+    fn follow(&self, place: Option<Reached>, link: Reached) -> Next
+        requires place { IsPlaceOn self.now place }
+        requires named { IsAtName self.now.plan }
+        ensures turn { next_turn self.now result ≡ follows_link (course_way self.now) (position_at self.now place) (handle_of link) (todo_of (stayed self.now.plan)) }
+        ensures kept { KeepsCourse self.now self.now result }
     {
         if self.plan.links_left() == 0 || self.plan.flags().no_links {
-            self.close(link, place, After::Gives(Errno::Loop))
+            self.close(link, place, AfterClose::Gives(Errno::Loop))
         } else {
-            Turn::More(Walk {
-                course: self,
-                doing: Doing::Reading { place, link },
-            })
+            Next::Due(Pending::Reading { place, link })
         }
     }
 
     // What was opened is held, and what was held is closed.
     #[tactic(auto, using(crate::proofs::WalkAnswers::name_passed))]
-    fn enter(mut self, place: Option<Reached>, new: Reached) -> Turn
-        requires place { IsPlaceOn self place }
-        requires new { new.owner ≡ self.root.owner }
-        requires named { IsAtName self.plan }
-        ensures turn { EntersBy (course_way self) (position_at self place) (name_in (next_part self.plan)) (handle_of new) (todo_of (stayed self.plan)) (seen_on self result) }
-        ensures kept { KeepsCourse self result }
+    fn enter(&mut self, place: Option<Reached>, new: Reached) -> Next
+        requires place { IsPlaceOn self.old place }
+        requires named { IsAtName self.old.plan }
+        ensures turn { EntersBy (course_way self.old) (position_at self.old place) (name_in (next_part self.old.plan)) (handle_of new) (todo_of (stayed self.old.plan)) (next_turn self.new result) }
+        ensures kept { KeepsCourse self.old self.new result }
     {
-        if self.plan.entered().is_err() {
-            return self.close(new, place, After::Gives(Errno::NoMemory));
-        }
-        match place {
-            None => self.go_on(Some(new)),
-            Some(old) => self.close(old, None, After::Onward(Some(new))),
+        match self.plan.entered() {
+            Err(_) => self.close(new, place, AfterClose::Gives(Errno::NoMemory)),
+            Ok(()) => match place {
+                None => self.go_on(Some(new)),
+                Some(old) => self.close(old, None, AfterClose::Onward(Some(new))),
+            },
         }
     }
 
-    /// The text of a link was read: its parts come before all others, from the root where it is absolute.
+    // The text of a link was read: its parts come before all others, from the root where it is absolute.
     #[tactic(auto, using(crate::proofs::WalkAnswers::texts_read))]
-    pub(crate) fn read(
-        mut self,
-        alloc: Global,
-        place: Option<Reached>,
-        link: Reached,
-        answer: Answer,
-    ) -> Turn
-        requires place { IsPlaceOn self place }
-        requires link { link.owner ≡ self.root.owner }
-        requires may { MayFollow self.plan }
-        ensures turn { TakesOn self (Doing.Reading place link) answer result }
-        ensures kept { KeepsCourse self result }
+    fn read(&mut self, alloc: Global, place: Option<Reached>, link: Reached, answer: Answer) -> Next
+        requires place { IsPlaceOn self.old place }
+        requires may { MayFollow self.old.plan }
+        ensures turn { TakesOn self.old (Pending.Reading place link) answer self.new result }
+        ensures kept { KeepsCourse self.old self.new result }
     {
         match answer {
             Answer::Text(text) => match self.plan.through(alloc, text.as_slice()) {
-                Ok(true) => self.close(link, place, After::Onward(None)),
-                Ok(false) => self.close(link, None, After::Onward(place)),
-                Err(error) => self.close(link, place, After::Gives(error)),
+                Ok(true) => self.close(link, place, AfterClose::Onward(None)),
+                Ok(false) => self.close(link, None, AfterClose::Onward(place)),
+                Err(error) => self.close(link, place, AfterClose::Gives(error)),
             },
-            other => self.close(link, place, After::Gives(refusal_of(&other))),
+            other => self.close(link, place, AfterClose::Gives(refusal_of(&other))),
         }
     }
 
-    /// The parent was opened: what was held is closed, and the parent's place asked. One without a parent was
-    /// removed, and that is Raced (EAGAIN of openat2(2)).
-    pub(crate) fn risen(self, old: Reached, answer: Answer) -> Turn
-        requires { old.owner ≡ self.root.owner }
-        ensures turn { TakesOn self (Doing.Rising old) answer result }
-        ensures kept { KeepsCourse self result }
+    // The parent was opened: what was held is closed, and the parent's place asked. One without a parent was
+    // removed, and that is Raced (EAGAIN of openat2(2)).
+    fn risen(&self, old: Reached, answer: Answer) -> Next
+        ensures turn { TakesOn self.now (Pending.Rising old) answer self.now result }
+        ensures kept { KeepsCourse self.now self.now result }
     {
-        match self.reached_by(&answer) {
-            Some(new) => self.close(old, None, After::Judges(new)),
+        match Reached::of(&answer) {
+            Some(new) => self.close(old, None, AfterClose::Judges(new)),
             None => match refusal_of(&answer) {
-                Errno::NotFound => self.close(old, None, After::Gives(Errno::Raced)),
-                error => self.close(old, None, After::Gives(error)),
+                Errno::NotFound => self.close(old, None, AfterClose::Gives(Errno::Raced)),
+                error => self.close(old, None, AfterClose::Gives(error)),
             },
         }
     }
 
-    /// The place of a parent was asked: the walk goes on from it only where it stands at the names passed.
+    // The place of a parent was asked: the walk goes on from it only where it stands at the names passed.
     #[tactic(auto, using(crate::proofs::WalkAnswers::judging_fails))]
-    pub(crate) fn judged(self, new: Reached, answer: Answer) -> Turn
-        requires { new.owner ≡ self.root.owner }
-        ensures turn { TakesOn self (Doing.Judging new) answer result }
-        ensures kept { KeepsCourse self result }
+    fn judged(&mut self, new: Reached, answer: Answer) -> Next
+        ensures turn { TakesOn self.old (Pending.Judging new) answer self.new result }
+        ensures kept { KeepsCourse self.old self.new result }
     {
         let refusal = check_refusal(&answer);
-        match new.judge(answer, self.plan.names()) {
+        match new.judge(self.root.owner, answer, self.plan.names()) {
             Ok(standing) => self.go_on(Some(standing.onward())),
-            Err(reached) => self.close(reached, None, After::Gives(refusal)),
+            Err(reached) => self.close(reached, None, AfterClose::Gives(refusal)),
         }
     }
 
-    /// The root was opened again: it is held, and its place asked.
-    pub(crate) fn duped(self, answer: Answer) -> Turn
-        requires names { self.plan.names ≡ [] }
-        requires own { self.plan.inner ≡ [] }
-        ensures turn { TakesOn self Doing.Duping answer result }
-        ensures kept { KeepsCourse self result }
+    // The root was opened again: it is held, and its place asked.
+    fn duped(&self, answer: Answer) -> Next
+        requires names { self.now.plan.names ≡ [] }
+        requires own { self.now.plan.inner ≡ [] }
+        ensures turn { TakesOn self.now Pending.Duping answer self.now result }
+        ensures kept { KeepsCourse self.now self.now result }
     {
-        match self.reached_by(&answer) {
-            Some(held) => Turn::More(Walk {
-                course: self,
-                doing: Doing::Ending(held),
-            }),
-            None => Turn::Failed(refusal_of(&answer)),
+        match Reached::of(&answer) {
+            Some(held) => Next::Due(Pending::Ending(held)),
+            None => Next::Failed(refusal_of(&answer)),
         }
     }
 
-    /// The place of what is held at the end was asked: it is the end only where it stands at the names passed.
+    // The place of what is held at the end was asked: it is the end only where it stands at the names passed.
     #[tactic(auto, using(crate::proofs::WalkAnswers::ending_fails))]
-    pub(crate) fn ended(self, held: Reached, answer: Answer) -> Turn
-        requires held { held.owner ≡ self.root.owner }
-        requires own { self.plan.inner ≡ [] }
-        ensures turn { TakesOn self (Doing.Ending held) answer result }
-        ensures kept { KeepsCourse self result }
+    fn ended(&self, held: Reached, answer: Answer) -> Next
+        requires { self.now.plan.inner ≡ [] }
+        ensures turn { TakesOn self.now (Pending.Ending held) answer self.now result }
+        ensures kept { KeepsCourse self.now self.now result }
     {
         let refusal = check_refusal(&answer);
-        match held.judge(answer, self.plan.names()) {
+        match held.judge(self.root.owner, answer, self.plan.names()) {
             Ok(standing) => {
                 if self.plan.own() {
-                    Turn::Partial(standing, self.plan.rest())
+                    Next::Partial(standing)
                 } else {
-                    Turn::Found(standing)
+                    Next::Found(standing)
                 }
             }
-            Err(reached) => self.close(reached, None, After::Gives(refusal)),
+            Err(reached) => self.close(reached, None, AfterClose::Gives(refusal)),
         }
     }
 
-    /// The first is closed, whatever was answered.
-    pub(crate) fn closed(self, first: Reached, second: Option<Reached>, after: After) -> Turn
-        requires { IsAfterOn self after }
-        ensures turn { seen_on self result ≡ closes (course_way self) (numbers_of second) (after_of self.plan after) }
-        ensures kept { KeepsCourse self result }
+    // The first is closed, whatever was answered.
+    fn closed(&mut self, first: Reached, second: Option<Reached>, after: AfterClose) -> Next
+        requires { IsAfterOn self.old after }
+        ensures turn { next_turn self.new result ≡ closes (course_way self.old) (numbers_of second) (after_of self.old.plan after) }
+        ensures kept { KeepsCourse self.old self.new result }
     {
+        // The driver has made the Close that was due.
         let _ = first.into_close();
         match second {
             Some(next) => self.close(next, None, after),
@@ -373,18 +357,15 @@ impl Course {
     }
 
     // All was closed.
-    fn come(self, after: After) -> Turn
-        requires { IsAfterOn self after }
-        ensures turn { seen_on self result ≡ comes (course_way self) (after_of self.plan after) }
-        ensures kept { KeepsCourse self result }
+    fn come(&mut self, after: AfterClose) -> Next
+        requires { IsAfterOn self.old after }
+        ensures turn { next_turn self.new result ≡ comes (course_way self.old) (after_of self.old.plan after) }
+        ensures kept { KeepsCourse self.old self.new result }
     {
         match after {
-            After::Gives(error) => Turn::Failed(error),
-            After::Onward(place) => self.go_on(place),
-            After::Judges(new) => Turn::More(Walk {
-                course: self,
-                doing: Doing::Judging(new),
-            }),
+            AfterClose::Gives(error) => Next::Failed(error),
+            AfterClose::Onward(place) => self.go_on(place),
+            AfterClose::Judges(new) => Next::Due(Pending::Judging(new)),
         }
     }
 }

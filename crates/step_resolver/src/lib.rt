@@ -10,10 +10,10 @@
 
 mod answers;
 mod course;
-mod doing;
 mod footprint_laws;
 mod laws;
 mod meaning_laws;
+mod pending;
 mod plain;
 mod trail_laws;
 mod walk;

@@ -1,14 +1,15 @@
 //! A walk along a path below a root.
-ghost use Rattle.std.specs.Prelude.{◌≡◌, ◌<◌, ◌≤◌, false, IfOk, IsOk};
+ghost use Rattle.std.specs.Prelude.{◌≡◌, ◌<◌, ◌≤◌, [], Bool, false, IfOk, IsOk};
 
 use crate::course::Course;
-use crate::doing::Doing;
 use crate::footprint_laws::walks_mean;
 use crate::laws::walks_tell;
+use crate::pending::{Next, Pending};
 use handles::{Owner, Standing};
 use path_text::{Errno, Flags, NoMemory, PARTS_MAX, Parts, Path};
-use std::alloc::Global;
+use std::alloc::{AllocFailed, Global};
 use std::marker::Model;
+use std::mem;
 use tree_model::{Answer, HandleNo, Step, StepOf};
 use walk_plan::{Goal, Plan};
 
@@ -25,8 +26,14 @@ pub struct Root {
 /// Contracts see it as a `WalkView`: whose it is, what stays the same for it, and the step that is due.
 #[derive(Debug)]
 pub struct Walk {
-    pub(crate) course: Course,
-    pub(crate) doing: Doing,
+    state: Box<State>,
+}
+
+// It stays where it is in memory while the walk goes on, so that a turn moves no more than the box.
+#[derive(Debug)]
+struct State {
+    course: Course,
+    pending: Pending,
 }
 
 impl Model for Walk {
@@ -34,11 +41,11 @@ impl Model for Walk {
 
     ghost Value = { WalkView };
 
-    ghost use Rattle.step_resolver.specs.View.{view_of, IsDoing};
+    ghost use Rattle.step_resolver.specs.View.{view_of, IsPendingOn};
 
-    ghost view = { λ w. view_of w.course w.doing };
+    ghost view = { λ w. view_of w.state.value.course w.state.value.pending };
 
-    ghost invariant = { λ w. IsDoing w.course.root.owner w.course.plan w.doing };
+    ghost invariant = { λ w. IsPendingOn w.state.value.course w.state.value.pending };
 }
 
 /// What a walk has come to.
@@ -55,30 +62,61 @@ pub enum Turn {
 }
 
 impl Walk {
-    ghost use Rattle.step_resolver.specs.Order.{begins, due, steps_left};
-    ghost use Rattle.step_resolver.specs.View.{way_from, opens_a_name};
-    ghost use Rattle.step_resolver.specs.Taken.{seen, Keeps, TakesTo, steps_to_come, STEPS_MAX};
+    ghost use Rattle.step_resolver.specs.Order.{due, for_walk, goes_on, root_itself, steps_left};
+    ghost use Rattle.step_resolver.specs.View.{way_from, course_way, opens_a_name, todo_of};
+    ghost use Rattle.step_resolver.specs.Taken.{seen, Keeps, StartsTo, TakesTo, steps_to_come, STEPS_MAX};
     ghost use Rattle.step_resolver.specs.Telling.{TellsBegun, TellsTaken};
 
-    /// Begins a walk along the path below the root (openat2(2), RESOLVE_IN_ROOT). Takes no memory.
+    /// Begins a walk along the path below the root (openat2(2), RESOLVE_IN_ROOT). One that goes on takes memory once.
     ///
     /// Errors that come before any step: CrossRoot for an absolute path under `beneath`, or for `..` at the root
-    /// (EXDEV of openat2(2)); TooLong for a first name of more than 255 bytes (ENAMETOOLONG). Such an end tells the
-    /// truth of every history in which it comes, as those of `take` do.
+    /// (EXDEV of openat2(2)); TooLong for a first name of more than 255 bytes (ENAMETOOLONG); and where none of them
+    /// comes, NoMemory, which counts as a first step that wasn't made for want of it. Such an end tells the truth of
+    /// every history in which it comes, as those of `take` do.
     #[tactic(auto, using(crate::proofs::Telling::begun_tells))]
     pub fn start(alloc: Global, root: Root, path: Path, goal: Goal, flags: Flags) -> Turn
-        ensures turn { seen goal result ≡ begins (way_from root goal flags) path }
+        ensures turn { StartsTo (way_from root goal flags) path (seen goal result) }
         ensures kept { Keeps root.owner (way_from root goal flags) result }
         ensures few { steps_to_come result ≤ STEPS_MAX }
         ensures headline { TellsBegun (way_from root goal flags) path (seen goal result) }
     {
+        // What every walk's end tells, which `headline` says of this first turn.
         walks_tell();
         walks_mean();
+        // A path has few parts, which bounds the steps to come.
         let few = path.parts.len() <= PARTS_MAX;
         prove!(few);
+        Walk::first(alloc, root, path, goal, flags)
+    }
+
+    // The same, as the order of steps has it.
+    fn first(alloc: Global, root: Root, path: Path, goal: Goal, flags: Flags) -> Turn
+        ensures turn { StartsTo (way_from root goal flags) path (seen goal result) }
+        ensures kept { Keeps root.owner (way_from root goal flags) result }
+    {
         match Plan::new(alloc, path, goal, flags) {
-            Ok(plan) => Course { root, plan }.go_on(None),
+            Ok(plan) => Walk::on_course(alloc, Course { root, plan }),
             Err(error) => Turn::Failed(error),
+        }
+    }
+
+    // The walk at its first step, or its end. Room is asked for last, so that an end never fails for want of it.
+    fn on_course(alloc: Global, mut course: Course) -> Turn
+        requires { course.plan.names ≡ [] }
+        ensures turn { (room : Bool) × (seen course.plan.goal result ≡ for_walk room (goes_on (course_way course) root_itself (todo_of course.plan))) }
+        ensures kept { Keeps course.root.owner (course_way course) result }
+    {
+        match course.go_on(None) {
+            Next::Due(pending) => match Box::new(alloc, State { course, pending }) {
+                Ok(state) => Turn::More(Walk { state }),
+                Err(AllocFailed { value }) => {
+                    let _ = value.over();
+                    Turn::Failed(Errno::NoMemory)
+                }
+            },
+            Next::Found(standing) => Turn::Found(standing),
+            Next::Partial(standing) => Turn::Partial(standing, course.plan.rest()),
+            Next::Failed(error) => Turn::Failed(error),
         }
     }
 
@@ -87,19 +125,19 @@ impl Walk {
         ensures exact { IfOk result (λ step. step ≡ due self.now.way self.now.walking) }
         ensures no_memory { opens_a_name self.now.walking ≡ false → IsOk result }
     {
-        let root = self.course.root.handle;
-        Ok(match &self.doing {
-            Doing::Opening(place) => {
-                StepOf::Open(
-                    self.course.handle_at(place),
-                    self.course.plan.next_name(alloc)?,
-                )
+        let State { course, pending } = &*self.state;
+        let root = course.root.handle;
+        Ok(match pending {
+            Pending::Opening(place) => {
+                StepOf::Open(course.handle_at(place), course.plan.next_name(alloc)?)
             }
-            Doing::Reading { place: _, link } => StepOf::ReadLink(link.handle()),
-            Doing::Rising(held) => StepOf::Parent(held.handle()),
-            Doing::Judging(held) | Doing::Ending(held) => StepOf::NameBelow(root, held.handle()),
-            Doing::Duping => StepOf::Dup(root),
-            Doing::Closing {
+            Pending::Reading { place: _, link } => StepOf::ReadLink(link.handle()),
+            Pending::Rising(held) => StepOf::Parent(held.handle()),
+            Pending::Judging(held) | Pending::Ending(held) => {
+                StepOf::NameBelow(root, held.handle())
+            }
+            Pending::Duping => StepOf::Dup(root),
+            Pending::Closing {
                 first,
                 second: _,
                 after: _,
@@ -129,21 +167,51 @@ impl Walk {
         ensures fewer { steps_to_come result < steps_left self.walking }
         ensures headline { TellsTaken self.way self.walking answer (seen self.way.goal result) }
     {
+        // What every walk's end tells, which `headline` says of this turn.
         walks_tell();
         walks_mean();
-        let Walk { course, doing } = self;
-        match doing {
-            Doing::Opening(place) => course.opened(place, answer),
-            Doing::Reading { place, link } => course.read(alloc, place, link, answer),
-            Doing::Rising(held) => course.risen(held, answer),
-            Doing::Judging(held) => course.judged(held, answer),
-            Doing::Duping => course.duped(answer),
-            Doing::Ending(held) => course.ended(held, answer),
-            Doing::Closing {
-                first,
-                second,
-                after,
-            } => course.closed(first, second, after),
+        self.taken(alloc, answer)
+    }
+
+    // The same, as the order of steps has it.
+    fn taken(self, alloc: Global, answer: Answer) -> Turn
+        ensures turn { TakesTo self.way self.walking answer (seen self.way.goal result) }
+        ensures kept { Keeps self.owner self.way result }
+    {
+        let Walk { mut state } = self;
+        // Nothing can be moved out of a box: a step that holds nothing stands in until the next one is known.
+        let pending = mem::replace(&mut state.pending, Pending::Duping);
+        match state.course.answered(alloc, pending, answer) {
+            Next::Due(pending) => {
+                // What comes back is the one that stood in. An assignment would have to drop it, and no step can be.
+                mem::replace(&mut state.pending, pending).let_go();
+                Turn::More(Walk { state })
+            }
+            Next::Found(standing) => {
+                let _ = Box::into_inner(state).over();
+                Turn::Found(standing)
+            }
+            Next::Partial(standing) => {
+                Turn::Partial(standing, Box::into_inner(state).over().plan.rest())
+            }
+            Next::Failed(error) => {
+                let _ = Box::into_inner(state).over();
+                Turn::Failed(error)
+            }
         }
+    }
+}
+
+impl State {
+    ghost use Rattle.step_resolver.specs.View.{HoldsNothing};
+
+    // What is left where nothing is held any more.
+    fn over(self) -> Course
+        requires { HoldsNothing self.pending }
+        ensures { result ≡ self.course }
+    {
+        let State { course, pending } = self;
+        pending.let_go();
+        course
     }
 }

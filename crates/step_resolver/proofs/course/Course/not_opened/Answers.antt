@@ -10,12 +10,12 @@ use Rattle.step_resolver.proofs.course.Course.not_opened.Goals as goal
 
 pub returns-else-eq-clause-turn : goal.returns-else-eq-clause-turn
 returns-else-eq-clause-turn c =
-    let p = c.args.self.plan in
+    let p = c.args.self.now.plan in
     let otherwise : c.args.error ≡ NotFound → p.goal ≡ Deepest → is_own p ≡ false =
     elim c.else-eq.branch [
       | else-eq-via-then-eq+then-eq-2+else-own w ↦ λ missing deepest. grind arith
       | else-eq-via-then-eq+else-eq-2 w ↦ λ missing deepest. grind arith
       | else-eq-via-else-eq w ↦ λ missing deepest. grind arith
     ] in
-    let refused = refused_otherwise (way_of c.args.self.root p) (place_of c.args.place p.names) (is_own p) (follows p) (name_in (next_part p)) (todo_of (stayed p)) c.args.error otherwise in
+    let refused = refused_otherwise (way_of c.args.self.now.root p) (place_of c.args.place p.names) (is_own p) (follows p) (name_in (next_part p)) (todo_of (stayed p)) c.args.error otherwise in
     c.fail.ensures.turn ∙ sym (rw (handles_at c.args.place p.names) at refused)
