@@ -18,8 +18,8 @@ use Rattle.tree_model.specs.declared.step.StepOf.TheVariants.{NameBelow, List as
 use Rattle.tree_model.specs.State.{State, TOP, object_at, place_at, child, parent, is_directory, is_dir, is_gone, has_entries, name_in, names_in, sorted_names, Stands, names_below}
 use Rattle.tree_model.specs.Entries.{refuse_if, with_some}
 use Rattle.tree_model.specs.Steps.{Outcome, refused, answered, held, is_full, kind_of, with_handle, opens, shows, on_handle, outcome}
-use Rattle.tree_model.specs.PlaceLaws.{ChildStandsAtEntry, GoneNodesAreEmpty, LookupsLeadToNodes, NotFoundIsMissing, StandsAtOneWay, NamesBelowAreStanding, NameBelowIsStanding, ListedAreEntries, ListedOnce}
-use Rattle.tree_model.specs.Trees.{Rooted, IsState, top, below}
+use Rattle.tree_model.specs.PlaceLaws.{ChildStandsAtEntry, GoneNodesAreEmpty, EntriesStand, GoneNodesAreParentless, LookupsLeadToNodes, NotFoundIsMissing, StandsAtOneWay, NamesBelowAreStanding, NameBelowIsStanding, ListedAreEntries, ListedOnce}
+use Rattle.tree_model.specs.Trees.{Rooted, IsTree, IsState, top, below}
 use Rattle.tree_model.proofs.Places.{place_at-within}
 use Rattle.tree_model.proofs.Children.{entry, place_at-child, child-entry}
 use Rattle.tree_model.proofs.Hanging.{Rooted-parent}
@@ -65,6 +65,55 @@ gone_nodes_are_empty nodes t d gone =
     by : (n : List ℕ) → ((x : ℕ) (place : Place) → place_at nodes x ≡ Some place → place.parent ≢ d) → (o : Option ℕ) → child nodes d n ≡ o → child nodes d n ≡ None
     by n nobody None e = e
     by n nobody (Some c) e = absurd (nobody c (entry d n) (place_at-child nodes d n c e) refl)
+
+-- ---- what stands leads up
+
+Rooted-stands : {nodes : List Inode} {x : ℕ} → Rooted nodes x → is_gone nodes x ≡ false
+Rooted-stands {nodes} {x} r = false_from_ne_true (is_gone nodes x) (λ gone. Rooted-is_gone r gone)
+
+no_parent : (nodes : List Inode) (x : ℕ) → parent nodes x ≡ None → is_gone nodes x ≡ true
+no_parent nodes x e = by (x == TOP) (place_at nodes x) e
+  where
+    by : (b : Bool) (o : Option Place) → cond b (Some TOP) (option_map (λ place. place.parent) o) ≡ None → (not b && not (is_some o)) ≡ true
+    by true o e = absurd (none-some TOP (sym e))
+    by false None e = refl
+    by false (Some place) e = absurd (none-some place.parent (sym e))
+
+gone-no_parent : (nodes : List Inode) (x : ℕ) → is_gone nodes x ≡ true → parent nodes x ≡ None
+gone-no_parent nodes x e = by (x == TOP) (place_at nodes x) e
+  where
+    by : (b : Bool) (o : Option Place) → (not b && not (is_some o)) ≡ true → cond b (Some TOP) (option_map (λ place. place.parent) o) ≡ None
+    by true o e = absurd (false≢true e)
+    by false None e = refl
+    by false (Some place) e = absurd (false≢true e)
+
+parent_stands : (nodes : List Inode) → IsTree nodes → (x d : ℕ) → parent nodes x ≡ Some d → is_gone nodes d ≡ false
+parent_stands nodes t x d e = by (x == TOP) (place_at nodes x) refl e
+  where
+    by : (b : Bool) (o : Option Place) → place_at nodes x ≡ o → cond b (Some TOP) (option_map (λ place. place.parent) o) ≡ Some d → is_gone nodes d ≡ false
+    by true o p e = ap (is_gone nodes) (sym (same_Some TOP d e))
+    by false None p e = absurd (none-some d e)
+    by false (Some place) p e = ap (is_gone nodes) (sym (same_Some place.parent d e)) ∙ Rooted-stands (Rooted-parent nodes t x place p)
+
+pub gone_nodes_are_parentless : GoneNodesAreParentless
+gone_nodes_are_parentless nodes t x =
+    (((λ e. no_parent nodes x e), (λ e. gone-no_parent nodes x e)), (λ d e. parent_stands nodes t x d e))
+
+-- a node that stands at an entry isn't the top
+standing-parent : (nodes : List Inode) → IsTree nodes → (x : ℕ) (place : Place) → place_at nodes x ≡ Some place → parent nodes x ≡ Some place.parent
+standing-parent nodes t x place p = by (x == TOP) refl
+  where
+    by : (b : Bool) → (x == TOP) ≡ b → cond b (Some TOP) (option_map (λ there. there.parent) (place_at nodes x)) ≡ Some place.parent
+    by true q = absurd (none-some place (sym t.top_is_free ∙ ap (place_at nodes) (sym (eqb-true x TOP q)) ∙ p))
+    by false q = ap (option_map (λ there. there.parent)) p
+
+pub entries_stand : EntriesStand
+entries_stand nodes t d n c e =
+    let p = place_at-child nodes d n c e in (
+      Rooted-stands (Rooted-parent nodes t c (entry d n) p),
+      Rooted-stands (t.rooted c (entry d n) p),
+      standing-parent nodes t c (entry d n) p,
+    )
 
 -- ---- what is looked up is there
 
@@ -117,14 +166,6 @@ missing_entry s a false o there e = cc (e)
 missing_entry s a true None there e = refl
 missing_entry s a true (Some c) there e = absurd (opens_present s a c (there c refl) e)
 
-no_parent : (s : State) (x : ℕ) → parent s.nodes x ≡ None → is_gone s.nodes x ≡ true
-no_parent s x e = by (x == TOP) (place_at s.nodes x) e
-  where
-    by : (b : Bool) (o : Option Place) → cond b (Some TOP) (option_map (λ place. place.parent) o) ≡ None → (not b && not (is_some o)) ≡ true
-    by true o e = absurd (none-some TOP (sym e))
-    by false None e = refl
-    by false (Some place) e = absurd (none-some place.parent (sym e))
-
 -- how Open and Parent go on from a node
 abbrev opens_child : State → ℕ → List ℕ → ℕ → Outcome
 opens_child s a n d = refuse_if (not (is_dir s.nodes d)) (refused s NotDir) (with_some (child s.nodes d n) (refused s NotFound) (λ c. opens s a c))
@@ -137,7 +178,7 @@ not_found_is_missing s t a h x e = (
   (λ q. opens_present s a x (held_is_node s t a h x e) (sym (ap (λ o. o.answer) (on_held s a h x (opens s a) e)) ∙ q)),
   (λ n q. missing_entry s a (is_dir s.nodes x) (child s.nodes x n) (λ c p. child_is_node s x n c p)
       (sym (ap (λ o. o.answer) (on_held s a h x (opens_child s a n) e)) ∙ q)),
-  (λ q. no_parent s x (missing_entry s a (is_dir s.nodes x) (parent s.nodes x)
+  (λ q. no_parent s.nodes x (missing_entry s a (is_dir s.nodes x) (parent s.nodes x)
       (λ d p. is_dir-is_some (object_at s.nodes d) (parent_is_directory s t x d p))
       (sym (ap (λ o. o.answer) (on_held s a h x (opens_parent s a) e)) ∙ q))),
 )

@@ -70,7 +70,8 @@ directory-within nodes x e = by (object_at nodes x) refl
     by None q = absurd (false≢true (sym (ap is_directory q) ∙ e))
     by (Some what) q = object_at-within nodes x what q
 
-directory_at-is_dir : (nodes : List Inode) (x y : ℕ) (names : List (List ℕ)) → directory_at nodes x names ≡ Ok y → is_dir nodes y ≡ true
+-- what names lead to is a directory
+pub directory_at-is_dir : (nodes : List Inode) (x y : ℕ) (names : List (List ℕ)) → directory_at nodes x names ≡ Ok y → is_dir nodes y ≡ true
 directory_at-is_dir nodes x y [] e = by (is_dir nodes x) refl e
   where
     by : (b : Bool) → is_dir nodes x ≡ b → refuse_if (not b) (Err NotDir) (Ok x) ≡ Ok y → is_dir nodes y ≡ true

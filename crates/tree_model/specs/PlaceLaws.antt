@@ -22,6 +22,17 @@ abbrev pub GoneNodesAreEmpty : Type 0
 GoneNodesAreEmpty = (nodes : List Inode) → IsTree nodes → (d : ℕ) → is_gone nodes d ≡ true
     → (has_entries nodes d ≡ false) × (names_in nodes d ≡ []) × ((n : List ℕ) → child nodes d n ≡ None)
 
+-- so the directory of an entry is not gone, and what stands there is not gone either and leads up to that directory
+abbrev pub EntriesStand : Type 0
+EntriesStand = (nodes : List Inode) → IsTree nodes → (d : ℕ) (n : List ℕ) (c : ℕ) → child nodes d n ≡ Some c
+    → (is_gone nodes d ≡ false) × (is_gone nodes c ≡ false) × (parent nodes c ≡ Some d)
+
+-- what has no parent is gone, and what is gone has none; a parent is not gone
+abbrev pub GoneNodesAreParentless : Type 0
+GoneNodesAreParentless = (nodes : List Inode) → IsTree nodes → (x : ℕ)
+    → ((parent nodes x ≡ None) ↔ (is_gone nodes x ≡ true))
+    × ((d : ℕ) → parent nodes x ≡ Some d → is_gone nodes d ≡ false)
+
 -- whatever a handle, an entry or a way up leads to is a node, and what has entries or a node below it is a directory
 abbrev pub LookupsLeadToNodes : Type 0
 LookupsLeadToNodes = (s : State) → IsState s

@@ -1,7 +1,7 @@
 //! What holds of every tree and every step: laws, each the contract of a function without a body.
 ghost use Rattle.tree_model.specs.BaseLaws.{BaseIsTree, BaseOpens, BasePlaces, BaseEntries, BaseGone, BaseRenames, BaseRenamed};
 ghost use Rattle.tree_model.specs.HistoryLaws.{LegalAtEachMoment, EventsLeadOn, TreesBeginAndEnd, LegalHistoriesJoin, LegalGoesOn, LegalWhenCut, HistoriesKeepTrees, ObjectsStayForGood, NumbersGrowByEvents, HandlesStayAmongOthers};
-ghost use Rattle.tree_model.specs.PlaceLaws.{ChildStandsAtEntry, GoneNodesAreEmpty, LookupsLeadToNodes, NotFoundIsMissing, StandsAtOneWay, NamesBelowAreStanding, NameBelowIsStanding, ListedAreEntries, ListedOnce};
+ghost use Rattle.tree_model.specs.PlaceLaws.{ChildStandsAtEntry, GoneNodesAreEmpty, EntriesStand, GoneNodesAreParentless, LookupsLeadToNodes, NotFoundIsMissing, StandsAtOneWay, NamesBelowAreStanding, NameBelowIsStanding, ListedAreEntries, ListedOnce};
 ghost use Rattle.tree_model.specs.RowLaws.{RowsAreInOrder, RowsAreOneList, RowsArePlaces, EntriesHaveOneRow};
 ghost use Rattle.tree_model.specs.StepLaws.{StepsKeepTrees, GrantsKeepTrees, TellingChangesNothing, NodesAreLeft, HandlesAreLeft, NumbersGrow, NumbersGrowByOne, ObjectsStay, OthersHandlesStay, OwnHandlesStay, ClosedIsClosed, OpenedIsOpen, HandlesAreCounted, OthersCountsStay, LimitsAreKept};
 
@@ -12,7 +12,9 @@ pub fn steps_keep_trees()
     ensures grants { GrantsKeepTrees }
 {}
 
-/// What a step leaves as it was.
+/// What a step leaves as it was: a refused one and one that only tells something leave everything (`telling`),
+/// one that isn't on entries (Open, Dup, Parent, ReadLink, NameBelow, List and Close) leaves all nodes (`nodes`),
+/// and one on entries all handles (`handles`), whoever makes it and in any state.
 pub fn steps_leave_the_rest()
     ensures telling { TellingChangesNothing }
     ensures nodes { NodesAreLeft }
@@ -34,10 +36,18 @@ pub fn handles_stay()
     ensures opened { OpenedIsOpen }
 {}
 
-/// An entry leads to the one node that stands there, and a node that is gone has no entries.
+/// An entry leads to the one node that stands there.
 pub fn entries_lead_to_nodes()
     ensures child { ChildStandsAtEntry }
-    ensures gone { GoneNodesAreEmpty }
+{}
+
+/// A node that is gone has no entries and no parent. So the directory of an entry is not gone, nor is what stands
+/// there, nor any parent: whoever looks up names and goes up from a directory that stands meets none without a
+/// parent while nothing changes, and from one that is gone he finds no entry.
+pub fn gone_nodes_have_no_entries()
+    ensures empty { GoneNodesAreEmpty }
+    ensures entries { EntriesStand }
+    ensures parents { GoneNodesAreParentless }
 {}
 
 /// Whatever a step looks up is there: NotFound only ever tells of a missing entry, or of the parent of a node

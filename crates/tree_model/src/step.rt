@@ -26,31 +26,69 @@ pub enum Mode {
 
 /// A single step. Its directories and objects are named by handles `H`, and a name is looked up in one
 /// directory alone; no step follows a link.
+///
+/// Every step is first refused BadHandle (EBADF) where a handle that it names isn't open or isn't the actor's, in
+/// the order of its handles. Then come the refusals that stand at the step, in their order; where several hold,
+/// the first is told. A refused step changes nothing. A step that opens is refused TooMany (EMFILE) where the
+/// actor has 1,024 handles open or the numbers of handles are used up.
 #[derive(Debug, Drop)]
 pub enum StepOf<H> {
-    /// Opens the child of that name.
+    /// Opens the child of that name, whatever it is: openat(2) with O_PATH and O_NOFOLLOW.
+    ///
+    /// Refused: NotDir (ENOTDIR) where the handle is on no directory, NotFound (ENOENT) where it has no such
+    /// entry, TooMany (EMFILE).
     Open(H, Name),
-    /// Opens the same node again.
+    /// Opens the same node again: dup(2). Refused: TooMany (EMFILE).
     Dup(H),
-    /// Opens the parent of a directory.
+    /// Opens the directory in which a directory stands, and for the top the top: openat(2) of `..` with O_PATH.
+    ///
+    /// Refused: NotDir (ENOTDIR) where the handle is on no directory, NotFound (ENOENT) where the directory was
+    /// removed, TooMany (EMFILE).
     Parent(H),
-    /// Reads a link's text.
+    /// Reads a link's text: readlinkat(2) with an empty path. Refused: Invalid (EINVAL) where the handle is on no
+    /// link.
     ReadLink(H),
-    /// The names from the first handle's node down to the second's.
+    /// The names from the first handle's node down to the second's; `NotBelow` where it doesn't stand below it.
+    /// Linux has no call for it; a program reads both names in `/proc/self/fd` (proc(5)). Not refused otherwise.
     NameBelow(H, H),
-    /// The names of a directory's entries.
+    /// The names of a directory's entries, by their bytes and without `.` and `..`: getdents64(2), which tells them
+    /// in any order. Refused: NotDir (ENOTDIR) where the handle is on no directory.
     List(H),
-    /// Closes the handle.
+    /// Closes the handle: close(2). Not refused otherwise.
     Close(H),
+    /// Makes an empty directory, and opens nothing: mkdirat(2).
+    ///
+    /// Refused: NotDir (ENOTDIR) where the handle is on no directory, NotFound (ENOENT) where the directory was
+    /// removed, Exists (EEXIST) where it has such an entry, TooMany (EMFILE) where the numbers of nodes are used
+    /// up.
     MakeDir(H, Name),
+    /// Makes a file, and opens nothing: openat(2) with O_CREAT and O_EXCL, or mknodat(2). Refused as `MakeDir`.
     MakeFile(H, Name),
-    /// Makes a link with that text.
+    /// Makes a link with that text: symlinkat(2).
+    ///
+    /// Refused: NotFound (ENOENT) where the text is empty, Invalid (EINVAL) where it has a NUL, TooLong
+    /// (ENAMETOOLONG) past 4,095 bytes; then as `MakeDir`.
     MakeLink(H, Name, Bytes),
-    /// Removes the entry of what is no directory.
+    /// Removes the entry of what is no directory: unlinkat(2). The node stays for its open handles.
+    ///
+    /// Refused: NotDir (ENOTDIR) where the handle is on no directory, NotFound (ENOENT) where it has no such
+    /// entry, IsDir (EISDIR) where a directory stands there.
     RemoveFile(H, Name),
-    /// Removes the entry of an empty directory.
+    /// Removes the entry of an empty directory: unlinkat(2) with AT_REMOVEDIR (rmdir(2)). The node stays for its
+    /// open handles, and gets no entries any more.
+    ///
+    /// Refused: NotDir (ENOTDIR) where the handle is on no directory, NotFound (ENOENT) where it has no such
+    /// entry, NotDir where what stands there is no directory, NotEmpty (ENOTEMPTY) where that has entries.
     RemoveDir(H, Name),
-    /// Renames the first entry to the second.
+    /// Renames the first entry to the second: renameat2(2), by the mode.
+    ///
+    /// Refused: NotDir (ENOTDIR) where the first handle is on no directory, and where the second is; NotFound
+    /// (ENOENT) where the first entry isn't there, and where the second directory was removed. Then by the mode:
+    /// NoReplace with a second entry Exists (EEXIST), Exchange without one NotFound. Where both entries are one
+    /// node, nothing changes. Then Invalid (EINVAL) where the renamed node is the second directory or above it,
+    /// and for Exchange where the other node is the first directory or above it. Then for Plain over an entry:
+    /// NotDir where a directory would replace what is none, IsDir (EISDIR) where a directory would be replaced by
+    /// what is none, NotEmpty (ENOTEMPTY) where the directory to be replaced has entries.
     Rename(H, Name, H, Name, Mode),
 }
 

@@ -1,5 +1,5 @@
-use Rattle.tree_model.proofs.PlaceLaws.{child_stands_at_entry, gone_nodes_are_empty}
+use Rattle.tree_model.proofs.PlaceLaws.{child_stands_at_entry}
 use Rattle.tree_model.proofs.laws.entries_lead_to_nodes.Goals as goal
 
 pub returns : goal.returns
-returns c = record { child = child_stands_at_entry; gone = gone_nodes_are_empty }
+returns c = record { child = child_stands_at_entry }
