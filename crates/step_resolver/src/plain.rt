@@ -1,16 +1,14 @@
 //! The meaning of a path, computed: a plain program that resolves a path in the nodes of a tree that stands
 //! still. It is slow, recurses for each link and takes no memory; a walk is compared with it.
 ghost use Rattle.std.specs.Prelude.{◌≡◌, ◌<◌, ◌||◌, nat_lt, length, slice_get, MatchResult, Some};
-ghost use Rattle.std.specs.Option.{option_copied};
 ghost use Rattle.path_text.specs.Text.{pieces, part_of, parts_of, ends_with_slash, has_final_slash, begins_with_slash};
-ghost use Rattle.tree_model.specs.State.{object_at, place_at, is_dir, is_at, child, parent};
 ghost use Rattle.step_resolver.specs.Asked.{Cur, ask, asked};
 ghost use Rattle.step_resolver.specs.Meaning.{from_of, crosses, above_of, link_in, part_means, parts_mean, resolution, is_object, is_error, resolved};
 ghost use Rattle.step_resolver.specs.Plain.{arrival, meant};
 
 use path_text::{Errno, Flags, NAME_MAX, Path, SLASH};
 use std::marker::Model;
-use tree_model::{Inode, Node, Object, Place};
+use tree_model::{Inode, Node, Object, child, is_dir, object_at, parent};
 
 /// The most links that are followed for one path (path_resolution(7)).
 const LINKS_MAX: u8 = 40;
@@ -36,65 +34,6 @@ impl<'a> Model for Ground<'a> {
 struct Arrived {
     node: Node,
     links: u8,
-}
-
-// What a node is.
-fn object_at(nodes: &[Inode], x: Node) -> Option<&Object>
-    ensures { option_copied result ≡ object_at nodes.now x }
-{
-    nodes.get(x.number() as usize).map(|inode| &inode.object)
-}
-
-// Where a node stands.
-fn place_at(nodes: &[Inode], x: Node) -> Option<&Place>
-    ensures { option_copied result ≡ place_at nodes.now x }
-{
-    match nodes.get(x.number() as usize) {
-        Some(inode) => inode.place.as_ref(),
-        None => None,
-    }
-}
-
-// Whether a node is a directory.
-fn is_dir(nodes: &[Inode], x: Node) -> bool
-    ensures { result ≡ is_dir nodes.now x }
-{
-    match nodes.get(x.number() as usize) {
-        Some(inode) => matches!(inode.object, Object::Dir),
-        None => false,
-    }
-}
-
-// The directory in which a node stands; the top is its own parent.
-fn parent(nodes: &[Inode], x: Node) -> Option<Node>
-    ensures { result ≡ parent nodes.now x }
-{
-    if x == Node::new(0) {
-        return Some(x);
-    }
-    place_at(nodes, x).map(|place| place.parent)
-}
-
-// Whether a place is the entry of that name in that directory.
-fn is_at(dir: Node, name: &[u8], place: &Option<Place>) -> bool
-    ensures { result ≡ is_at dir name.now place.now }
-{
-    match place {
-        Some(place) => place.parent == dir && place.name.bytes() == name,
-        None => false,
-    }
-}
-
-// The node at the entry of that name in that directory.
-fn child(nodes: &[Inode], dir: Node, name: &[u8]) -> Option<Node>
-    ensures { result ≡ child nodes.now dir name.now }
-{
-    for (number, inode) in nodes.iter().enumerate() {
-        if is_at(dir, name, &inode.place) {
-            return Some(Node::new(number as u64));
-        }
-    }
-    None
 }
 
 fn begins_with_slash(text: &[u8]) -> bool

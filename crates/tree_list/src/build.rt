@@ -5,11 +5,10 @@ ghost use Rattle.tree_list.specs.Build.{new_fault, object_of, makes_at, adds, to
 ghost use Rattle.tree_list.specs.Changes.{IsGrowth, IsTry};
 
 use crate::entries::make;
-use crate::read::{child, is_dir, top};
 use path_text::{Bytes, Errno, Name, Names, NoMemory, Path};
 use std::alloc::Global;
 use thiserror::Error;
-use tree_model::{Inode, Node, Object};
+use tree_model::{Inode, Object, child, is_dir, top};
 
 /// What a new entry is.
 #[derive(Debug, Drop)]

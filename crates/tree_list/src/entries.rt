@@ -4,10 +4,12 @@ ghost use Rattle.tree_model.specs.State.{put_at};
 ghost use Rattle.tree_model.specs.Entries.{makes, removes_file, removes_dir, moves, replace_fault, replaces, exchanges, renames};
 ghost use Rattle.tree_list.specs.Changes.{IsChange, IsGrowth};
 
-use crate::read::{child, has_entries, is_dir, is_gone, is_within};
+use crate::read::is_within;
 use path_text::{Errno, Name, NoMemory};
 use std::alloc::Global;
-use tree_model::{Inode, Mode, NUMBERS_MAX, Node, Object, Place};
+use tree_model::{
+    Inode, Mode, NUMBERS_MAX, Node, Object, Place, child, has_entries, is_dir, is_gone,
+};
 
 // Gives a node another place.
 #[tactic(auto, using(crate::proofs::Nodes::put_at_from_set, crate::proofs::Nodes::put_at_past))]

@@ -1,85 +1,11 @@
-//! What is read off the nodes of a tree, by scans from the front.
+//! What takes more than one look at the nodes of a tree: ways up and down, and listings.
 ghost use Rattle.std.specs.Prelude.{◌≡◌, ◌≤◌, length, insert, IfOk};
-ghost use Rattle.std.specs.Option.{option_copied};
 ghost use Rattle.tree_model.specs.Steps.{directory_at};
-ghost use Rattle.tree_model.specs.State.{TOP, place_at, object_at, is_dir, is_gone, is_at, child, parent, has_entries, is_within, name_in, names_below, names_in, insert_name, sorted_names};
+ghost use Rattle.tree_model.specs.State.{TOP, is_within, names_below, names_in, insert_name, sorted_names};
 
 use path_text::{Errno, Name, Names, NoMemory};
 use std::alloc::Global;
-use tree_model::{Inode, Node, Object, Place};
-
-/// The top.
-pub(crate) fn top() -> Node
-    ensures { result ≡ TOP }
-{
-    Node::new(0)
-}
-
-/// Where a node stands.
-pub(crate) fn place_at(nodes: &[Inode], x: Node) -> Option<&Place>
-    ensures { option_copied result ≡ place_at nodes.now x }
-{
-    match nodes.get(x.number() as usize) {
-        Some(inode) => inode.place.as_ref(),
-        None => None,
-    }
-}
-
-/// Whether a node is a directory.
-pub(crate) fn is_dir(nodes: &[Inode], x: Node) -> bool
-    ensures { result ≡ is_dir nodes.now x }
-{
-    match nodes.get(x.number() as usize) {
-        Some(inode) => matches!(inode.object, Object::Dir),
-        None => false,
-    }
-}
-
-/// Whether a node is other than the top and stands nowhere.
-pub(crate) fn is_gone(nodes: &[Inode], x: Node) -> bool
-    ensures { result ≡ is_gone nodes.now x }
-{
-    x != top() && place_at(nodes, x).is_none()
-}
-
-/// The directory in which a node stands; the top is its own parent.
-pub(crate) fn parent(nodes: &[Inode], x: Node) -> Option<Node>
-    ensures { result ≡ parent nodes.now x }
-{
-    if x == top() {
-        return Some(x);
-    }
-    place_at(nodes, x).map(|place| place.parent)
-}
-
-/// Whether a place is the entry of that name in that directory.
-fn is_at(dir: Node, name: &[u8], place: &Option<Place>) -> bool
-    ensures { result ≡ is_at dir name.now place.now }
-{
-    match place {
-        Some(place) => place.parent == dir && place.name.bytes() == name,
-        None => false,
-    }
-}
-
-/// The node at the entry of that name in that directory.
-pub(crate) fn child(nodes: &[Inode], dir: Node, name: &[u8]) -> Option<Node>
-    ensures { result ≡ child nodes.now dir name.now }
-{
-    for (number, inode) in nodes.iter().enumerate() {
-        if is_at(dir, name, &inode.place) {
-            return Some(Node::new(number as u64));
-        }
-    }
-    None
-}
-
-/// Whether a directory has an entry.
-pub(crate) fn has_entries(nodes: &[Inode], dir: Node) -> bool
-    ensures { result ≡ has_entries nodes.now dir }
-{
-    nodes.iter().any(|inode| matches!(&inode.place, Some(place) if place.parent == dir))
-}
+use tree_model::{Inode, Node, child, is_dir, place_at, top};
 
 /// Whether a node is `top` or stands below it.
 #[tactic(auto, using(crate::proofs::Nodes::is_within_up))]

@@ -5,13 +5,13 @@ ghost use Rattle.tree_model.specs.Entries.{makes};
 ghost use Rattle.tree_list.specs.Changes.{IsStep, IsStepOr, answer_of};
 
 use crate::entries::{make, remove_dir, remove_file, rename};
-use crate::read::{child, is_dir, names_below, names_in, parent, sorted};
+use crate::read::{names_below, names_in, sorted};
 use crate::tree::ListTree;
 use path_text::{Bytes, Errno, Name, Names, NoMemory, Path};
 use std::alloc::Global;
 use tree_model::{
     Actor, Answer, HANDLES_MAX, HandleNo, Mode, NUMBERS_MAX, Node, Object, OpenHandle, Place,
-    StepOf,
+    StepOf, child, is_dir, object_at, parent,
 };
 
 // The answer to a change of the entries.
@@ -69,10 +69,11 @@ impl ListTree {
         if self.is_full(actor) {
             return Ok(Answer::Refused(Errno::TooMany));
         }
-        let Some(inode) = self.nodes.get(x.number() as usize) else {
+        // Never missing in a well-formed tree (`lookups_lead_to_nodes`); the step table answers so.
+        let Some(object) = object_at(&self.nodes, x) else {
             return Ok(Answer::Refused(Errno::NotFound));
         };
-        let kind = inode.object.kind();
+        let kind = object.kind();
         let handle = self.add_handle(actor, x)?;
         Ok(Answer::Opened {
             handle,
@@ -140,12 +141,9 @@ impl ListTree {
         let Some(x) = self.node_held(actor, handle) else {
             return Ok(Answer::Refused(Errno::BadHandle));
         };
-        match self.nodes.get(x.number() as usize) {
-            Some(inode) => match &inode.object {
-                Object::Link(text) => Ok(Answer::Text(text.copy(alloc)?)),
-                Object::Dir | Object::File => Ok(Answer::Refused(Errno::Invalid)),
-            },
-            None => Ok(Answer::Refused(Errno::Invalid)),
+        match object_at(&self.nodes, x) {
+            Some(Object::Link(text)) => Ok(Answer::Text(text.copy(alloc)?)),
+            _ => Ok(Answer::Refused(Errno::Invalid)),
         }
     }
 

@@ -1,13 +1,14 @@
-//! Steps, answers and entries as lines of text, so that each test is a table.
+//! Steps, answers and entries as lines of text, so that each test is a table. The words of a line are read first,
+//! and then its value is made of them.
 mod build;
 mod handles;
 mod steps;
 
 use super::*;
-use path_text::{Bytes, Errno, Name, Names};
+use path_text::{Bytes, Errno, Name, Names, NoMemory};
 use std::alloc::Global;
 use std::process::Abort;
-use std::test::*;
+use std::test::Fail;
 use tree_model::{Actor, Answer, HandleNo, Kind, Mode, Node, Step, StepOf, Tree};
 
 /// The tree of most tests: `/c` with a directory, a file two levels down and four links, and `/secret`
@@ -43,7 +44,7 @@ const ERRORS: [Errno; 15] = [
     Errno::Loop,
 ];
 
-fn names_of(alloc: Global, path: &str) -> Result<Names, Fail> {
+fn names_of(alloc: Global, path: &str) -> Result<Names, Errno> {
     let mut names = Names::new(alloc);
     for name in path.split('/').filter(|name| !name.is_empty()) {
         names.push(Name::new(alloc, name.as_bytes())?)?;
@@ -51,19 +52,21 @@ fn names_of(alloc: Global, path: &str) -> Result<Names, Fail> {
     Ok(names)
 }
 
-fn entry(alloc: Global, kind: &str, path: &str, text: &[u8]) -> Result<Entry, Fail> {
-    let what = match kind {
-        "dir" => New::Dir,
-        "file" => New::File,
-        _ => New::Link(Bytes::from_slice(alloc, text)?),
-    };
-    Ok(Entry {
-        at: names_of(alloc, path)?,
-        what,
-    })
+fn new(alloc: Global, kind: &str, text: &[u8]) -> Result<New, NoMemory> {
+    match kind {
+        "dir" => Ok(New::Dir),
+        "file" => Ok(New::File),
+        _ => Ok(New::Link(Bytes::from_slice(alloc, text)?)),
+    }
 }
 
-fn entries(alloc: Global, rows: &[(&str, &str, &str)]) -> Result<Vec<Entry>, Fail> {
+fn entry(alloc: Global, kind: &str, path: &str, text: &[u8]) -> Result<Entry, Errno> {
+    let what = new(alloc, kind, text)?;
+    let at = names_of(alloc, path)?;
+    Ok(Entry { at, what })
+}
+
+fn entries(alloc: Global, rows: &[(&str, &str, &str)]) -> Result<Vec<Entry>, Errno> {
     let mut entries = Vec::new(alloc);
     for (kind, path, text) in rows {
         entries.push(entry(alloc, kind, path, text.as_bytes())?)?;
@@ -79,50 +82,29 @@ fn base(alloc: Global) -> Result<ListTree, Fail> {
     Ok(tree)
 }
 
-fn word<'a>(words: &[&'a str], at: usize) -> Result<&'a str, Fail> {
-    Ok(words.get(at).copied().ok_or("a word is missing")?)
+/// The top alone, and handle 0 of actor 0 on it.
+fn bare(alloc: Global) -> Result<ListTree, Fail> {
+    let mut tree = ListTree::new(alloc)?;
+    tree.grant(alloc, Actor::new(0), &Names::new(alloc))?;
+    Ok(tree)
 }
 
-fn number(words: &[&str], at: usize) -> Result<u64, Fail> {
-    Ok(word(words, at)?.parse::<u64>()?)
+/// The words of a line; one that is missing is `-`.
+fn words(line: &'static str) -> [&'static str; 6] {
+    let mut words = ["-"; 6];
+    for (place, word) in words.iter_mut().zip(line.split(' ')) {
+        *place = word;
+    }
+    words
 }
 
-fn handle(words: &[&str], at: usize) -> Result<HandleNo, Fail> {
-    Ok(HandleNo::new(number(words, at)?))
+/// A number, or for a word that is none a number that nothing has.
+fn number(word: &str) -> u64 {
+    word.parse::<u64>().unwrap_or(u64::MAX)
 }
 
-fn name(alloc: Global, words: &[&str], at: usize) -> Result<Name, Fail> {
-    Ok(Name::new(alloc, word(words, at)?.as_bytes())?)
-}
-
-fn text(alloc: Global, words: &[&str], at: usize) -> Result<Bytes, Fail> {
-    Ok(Bytes::from_slice(alloc, word(words, at)?.as_bytes())?)
-}
-
-fn step_of(alloc: Global, line: &str) -> Result<Step, Fail> {
-    let words: Vec<&str> = line.split(' ').collect(alloc)?;
-    let first = handle(&words, 1)?;
-    Ok(match word(&words, 0)? {
-        "open" => StepOf::Open(first, name(alloc, &words, 2)?),
-        "dup" => StepOf::Dup(first),
-        "parent" => StepOf::Parent(first),
-        "read_link" => StepOf::ReadLink(first),
-        "below" => StepOf::NameBelow(first, handle(&words, 2)?),
-        "list" => StepOf::List(first),
-        "close" => StepOf::Close(first),
-        "make_dir" => StepOf::MakeDir(first, name(alloc, &words, 2)?),
-        "make_file" => StepOf::MakeFile(first, name(alloc, &words, 2)?),
-        "make_link" => StepOf::MakeLink(first, name(alloc, &words, 2)?, text(alloc, &words, 3)?),
-        "remove_file" => StepOf::RemoveFile(first, name(alloc, &words, 2)?),
-        "remove_dir" => StepOf::RemoveDir(first, name(alloc, &words, 2)?),
-        _ => StepOf::Rename(
-            first,
-            name(alloc, &words, 2)?,
-            handle(&words, 3)?,
-            name(alloc, &words, 4)?,
-            mode(word(&words, 5)?),
-        ),
-    })
+fn handle(word: &str) -> HandleNo {
+    HandleNo::new(number(word))
 }
 
 fn mode(word: &str) -> Mode {
@@ -141,55 +123,102 @@ fn kind(word: &str) -> Kind {
     }
 }
 
-fn error(word: &str) -> Result<Errno, Fail> {
+/// The error of that name, or for a word that is none an error that no step tells.
+fn error(word: &str) -> Errno {
     for error in &ERRORS {
         if error.name() == word {
-            return Ok(*error);
+            return *error;
         }
     }
-    Err(Fail::new("no error has this name"))
+    Errno::Busy
 }
 
-fn listed(alloc: Global, words: &[&str]) -> Result<Names, Fail> {
-    let mut names = Names::new(alloc);
-    for name in words.iter().skip(1) {
-        names.push(Name::new(alloc, name.as_bytes())?)?;
+// A step that has no name.
+fn bare_step(word: &str, first: HandleNo, second: HandleNo) -> Option<Step> {
+    match word {
+        "dup" => Some(StepOf::Dup(first)),
+        "parent" => Some(StepOf::Parent(first)),
+        "read_link" => Some(StepOf::ReadLink(first)),
+        "below" => Some(StepOf::NameBelow(first, second)),
+        "list" => Some(StepOf::List(first)),
+        "close" => Some(StepOf::Close(first)),
+        _ => None,
     }
-    Ok(names)
 }
 
-fn answer_of(alloc: Global, line: &str) -> Result<Answer, Fail> {
-    let words: Vec<&str> = line.split(' ').collect(alloc)?;
-    Ok(match word(&words, 0)? {
-        "opened" => Answer::Opened {
-            handle: handle(&words, 1)?,
-            node: Node::new(number(&words, 2)?),
-            kind: kind(word(&words, 3)?),
-        },
-        "text" => Answer::Text(text(alloc, &words, 1)?),
-        "names" => Answer::Names(names_of(alloc, word(&words, 1)?)?),
-        "not_below" => Answer::NotBelow,
-        "listed" => Answer::Listed(listed(alloc, &words)?),
-        "done" => Answer::Done,
-        _ => Answer::Refused(error(word(&words, 1)?)?),
-    })
+// A step that has a name and nothing else.
+fn named_step(word: &str, dir: HandleNo, name: Name) -> Step {
+    match word {
+        "open" => StepOf::Open(dir, name),
+        "make_dir" => StepOf::MakeDir(dir, name),
+        "make_file" => StepOf::MakeFile(dir, name),
+        "remove_file" => StepOf::RemoveFile(dir, name),
+        _ => StepOf::RemoveDir(dir, name),
+    }
 }
 
-/// Takes an actor's steps, and compares each answer with the one that is wanted.
+fn step_of(alloc: Global, line: &'static str) -> Result<Step, Errno> {
+    let [word, first, second, third, fourth, fifth] = words(line);
+    let dir = handle(first);
+    if let Some(step) = bare_step(word, dir, handle(second)) {
+        return Ok(step);
+    }
+    let name = Name::new(alloc, second.as_bytes())?;
+    match word {
+        "make_link" => {
+            let text = Bytes::from_slice(alloc, third.as_bytes())?;
+            Ok(StepOf::MakeLink(dir, name, text))
+        }
+        "rename" => {
+            let new = Name::new(alloc, fourth.as_bytes())?;
+            Ok(StepOf::Rename(dir, name, handle(third), new, mode(fifth)))
+        }
+        _ => Ok(named_step(word, dir, name)),
+    }
+}
+
+fn answer_of(alloc: Global, line: &'static str) -> Result<Answer, Errno> {
+    let [word, first, second, third, ..] = words(line);
+    match word {
+        "opened" => Ok(Answer::Opened {
+            handle: handle(first),
+            node: Node::new(number(second)),
+            kind: kind(third),
+        }),
+        "text" => Ok(Answer::Text(Bytes::from_slice(alloc, first.as_bytes())?)),
+        "names" => Ok(Answer::Names(names_of(alloc, first)?)),
+        "listed" => Ok(Answer::Listed(names_of(alloc, first)?)),
+        "not_below" => Ok(Answer::NotBelow),
+        "done" => Ok(Answer::Done),
+        _ => Ok(Answer::Refused(error(first))),
+    }
+}
+
+/// Takes an actor's step: whether its answer is the one that is wanted.
+fn answers(
+    alloc: Global,
+    tree: &mut ListTree,
+    actor: u32,
+    line: &'static str,
+    wanted: &'static str,
+) -> Result<bool, Errno> {
+    let step = step_of(alloc, line)?;
+    let answer = tree.step(alloc, Actor::new(actor), &step)?;
+    Ok(answer.same(&answer_of(alloc, wanted)?))
+}
+
+/// Takes an actor's steps in turn.
 fn run(
     rt: &impl Abort,
     alloc: Global,
     tree: &mut ListTree,
     actor: u32,
-    rows: &[(&str, &str)],
+    rows: &[(&'static str, &'static str)],
 ) -> Result<(), Fail> {
     for (line, wanted) in rows {
-        let step = step_of(alloc, line)?;
-        let answer = tree.step(alloc, Actor::new(actor), &step)?;
-        let wanted_answer = answer_of(alloc, wanted)?;
         assert!(rt;
-            answer.same(&wanted_answer),
-            "{line} = {answer:?}, not {wanted}"
+            answers(alloc, tree, actor, line, wanted)?,
+            "{line} is not {wanted}"
         );
     }
     Ok(())

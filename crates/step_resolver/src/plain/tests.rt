@@ -6,6 +6,7 @@ use path_text::{Bytes, Name};
 use std::alloc::Global;
 use std::process::Abort;
 use std::test::Fail;
+use tree_model::Place;
 
 const PLAIN: Flags = Flags {
     beneath: false,
