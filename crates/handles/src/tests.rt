@@ -1,8 +1,7 @@
 //! Each call once, with values from outside.
 use crate::{Owner, Reached, Standing};
-use path_text::{Bytes, Errno, Name, Names};
+use path_text::{Bytes, Errno, Name, Names, NoMemory};
 use std::alloc::Global;
-use std::process::Abort;
 use std::test::Fail;
 use tree_model::{Actor, Answer, HandleNo, Kind, Node, StepOf};
 
@@ -13,12 +12,16 @@ fn some_owner() -> Owner {
     }
 }
 
-fn opened() -> Answer {
-    Answer::Opened {
-        handle: HandleNo::new(5),
-        node: Node::new(11),
-        kind: Kind::Dir,
-    }
+/// An answer, as plain data.
+#[derive(Clone, Copy)]
+enum Said<'a> {
+    Opened,
+    Text(&'a [u8]),
+    Names(&'a [&'a [u8]]),
+    NotBelow,
+    Listed(&'a [&'a [u8]]),
+    Done,
+    Refused(Errno),
 }
 
 fn names(alloc: Global, list: &[&[u8]]) -> Result<Names, Errno> {
@@ -29,119 +32,131 @@ fn names(alloc: Global, list: &[&[u8]]) -> Result<Names, Errno> {
     Ok(names)
 }
 
-// It is what `opened` tells, and its close is that of that handle.
-fn assert_reached(rt: &impl Abort, reached: Reached) {
-    assert_eq!(rt; reached.handle(), HandleNo::new(5));
-    assert_eq!(rt; reached.node(), Node::new(11));
-    assert_eq!(rt; reached.kind(), Kind::Dir);
+fn opened() -> Answer {
+    Answer::Opened {
+        handle: HandleNo::new(5),
+        node: Node::new(11),
+        kind: Kind::Dir,
+    }
+}
+
+fn answer_of(alloc: Global, said: Said<'_>) -> Result<Answer, Errno> {
+    Ok(match said {
+        Said::Opened => opened(),
+        Said::Text(text) => Answer::Text(Bytes::from_slice(alloc, text)?),
+        Said::Names(list) => Answer::Names(names(alloc, list)?),
+        Said::NotBelow => Answer::NotBelow,
+        Said::Listed(list) => Answer::Listed(names(alloc, list)?),
+        Said::Done => Answer::Done,
+        Said::Refused(error) => Answer::Refused(error),
+    })
+}
+
+// Whether it is what `opened` tells, and its close is that of that handle.
+fn is_as_opened(reached: Reached) -> bool {
+    let same = reached.handle() == HandleNo::new(5)
+        && reached.node() == Node::new(11)
+        && reached.kind() == Kind::Dir;
     let close = reached.into_close();
-    assert!(rt; close.same(&StepOf::Close(HandleNo::new(5))));
+    same && close.same(&StepOf::Close(HandleNo::new(5)))
 }
 
 // The same, standing at those names.
-fn assert_standing(rt: &impl Abort, standing: Standing, names: &Names) {
-    assert_eq!(rt; standing.owner(), some_owner());
-    assert_eq!(rt; standing.handle(), HandleNo::new(5));
-    assert_eq!(rt; standing.node(), Node::new(11));
-    assert_eq!(rt; standing.kind(), Kind::Dir);
-    assert!(rt; standing.names().same(names));
-    let close = standing.into_close();
-    assert!(rt; close.same(&StepOf::Close(HandleNo::new(5))));
+fn stands_as_opened(standing: Standing, names: &Names) -> bool {
+    standing.owner() == some_owner()
+        && standing.handle() == HandleNo::new(5)
+        && standing.node() == Node::new(11)
+        && standing.kind() == Kind::Dir
+        && standing.names().same(names)
+        && standing
+            .into_close()
+            .same(&StepOf::Close(HandleNo::new(5)))
+}
+
+// What was opened, judged by that answer.
+fn judged(answer: Answer, expected: &Names) -> Option<Result<Standing, Reached>> {
+    match Reached::of(&opened()) {
+        Some(reached) => Some(reached.judge(some_owner(), answer, expected)),
+        None => None,
+    }
+}
+
+// Whether what was opened stands at the expected names by that answer, or comes back, as is said, and tells the same.
+fn is_judged(answer: Answer, expected: &Names, stands: bool) -> bool {
+    match judged(answer, expected) {
+        Some(Ok(standing)) => stands && stands_as_opened(standing, expected),
+        Some(Err(reached)) => is_as_opened(reached) && !stands,
+        None => false,
+    }
+}
+
+// Whether what was judged stands at the names that are printed so, and goes onward as it was opened.
+fn goes_onward(
+    alloc: Global,
+    judged: Option<Result<Standing, Reached>>,
+    printed: &[u8],
+) -> Result<bool, NoMemory> {
+    match judged {
+        Some(Ok(standing)) => {
+            let path = standing.names().print(alloc)?;
+            Ok(path.as_slice() == printed && is_as_opened(standing.onward()))
+        }
+        Some(Err(reached)) => {
+            let _ = reached.into_close();
+            Ok(false)
+        }
+        None => Ok(false),
+    }
 }
 
 #[test]
 fn reaches_only_what_was_opened(rt: HostRuntime) -> Result<(), Fail> {
-    let alloc = rt.alloc();
-    let others = [
-        Answer::Text(Bytes::from_slice(alloc, b"a")?),
-        Answer::Names(names(alloc, &[b"a"])?),
-        Answer::NotBelow,
-        Answer::Listed(names(alloc, &[b"a"])?),
-        Answer::Done,
-        Answer::Refused(Errno::NotFound),
-    ];
-    for other in &others {
-        match Reached::of(other) {
-            None => {}
-            Some(reached) => {
-                assert_reached(&rt, reached);
-                assert!(rt; false, "reached by {other:?}");
-            }
-        }
-    }
-    match Reached::of(&opened()) {
-        Some(reached) => assert_reached(&rt, reached),
-        None => assert!(rt; false),
+    for (said, reaches) in [
+        (Said::Opened, Some(true)),
+        (Said::Text(b"a"), None),
+        (Said::Names(&[b"a"]), None),
+        (Said::NotBelow, None),
+        (Said::Listed(&[b"a"]), None),
+        (Said::Done, None),
+        (Said::Refused(Errno::NotFound), None),
+    ] {
+        let answer = answer_of(rt.alloc(), said)?;
+        let reached = Reached::of(&answer).map(is_as_opened);
+        assert_eq!(rt; reached, reaches);
     }
     Ok(())
 }
 
-// What was opened stands at the expected names by that answer, or comes back.
-fn assert_judged(rt: &impl Abort, answer: Answer, expected: &Names, stands: bool) {
-    match Reached::of(&opened()) {
-        Some(reached) => match reached.judge(some_owner(), answer, expected) {
-            Ok(standing) => {
-                assert!(rt; stands, "stands at {standing:?}");
-                assert_standing(rt, standing, expected);
-            }
-            Err(reached) => {
-                assert_reached(rt, reached);
-                assert!(rt; !stands, "comes back from {expected:?}");
-            }
-        },
-        None => assert!(rt; false),
-    }
-}
-
 #[test]
 fn stands_only_at_the_expected_names(rt: HostRuntime) -> Result<(), Fail> {
-    let alloc = rt.alloc();
-    let child = names(alloc, &[b"a"])?;
-    let by_child = [
-        (Answer::Names(names(alloc, &[b"a"])?), true),
-        (Answer::Names(names(alloc, &[b"a", b"b"])?), false),
-        (Answer::Names(names(alloc, &[b"b"])?), false),
-        (Answer::Names(names(alloc, &[])?), false),
-        (Answer::NotBelow, false),
-        (Answer::Listed(names(alloc, &[b"a"])?), false),
-        (Answer::Text(Bytes::from_slice(alloc, b"a")?), false),
-        (opened(), false),
-        (Answer::Done, false),
-        (Answer::Refused(Errno::NotFound), false),
-    ];
-    for (answer, stands) in by_child {
-        assert_judged(&rt, answer, &child, stands);
-    }
-    let top = names(alloc, &[])?;
-    let by_top = [
-        (Answer::Names(names(alloc, &[])?), true),
-        (Answer::Names(names(alloc, &[b"a"])?), false),
-        (Answer::NotBelow, false),
-    ];
-    for (answer, stands) in by_top {
-        assert_judged(&rt, answer, &top, stands);
+    let child: &[&[u8]] = &[b"a"];
+    let top: &[&[u8]] = &[];
+    for (expected, said, stands) in [
+        (child, Said::Names(&[b"a"]), true),
+        (child, Said::Names(&[b"a", b"b"]), false),
+        (child, Said::Names(&[b"b"]), false),
+        (child, Said::Names(&[]), false),
+        (child, Said::NotBelow, false),
+        (child, Said::Listed(&[b"a"]), false),
+        (child, Said::Text(b"a"), false),
+        (child, Said::Opened, false),
+        (child, Said::Done, false),
+        (child, Said::Refused(Errno::NotFound), false),
+        (top, Said::Names(&[]), true),
+        (top, Said::Names(&[b"a"]), false),
+        (top, Said::NotBelow, false),
+    ] {
+        let answer = answer_of(rt.alloc(), said)?;
+        let expected = names(rt.alloc(), expected)?;
+        assert!(rt; is_judged(answer, &expected, stands));
     }
     Ok(())
 }
 
 #[test]
 fn goes_onward_unchecked(rt: HostRuntime) -> Result<(), Fail> {
-    let alloc = rt.alloc();
-    let expected = names(alloc, &[b"a"])?;
-    let answer = Answer::Names(names(alloc, &[b"a"])?);
-    match Reached::of(&opened()) {
-        Some(reached) => match reached.judge(some_owner(), answer, &expected) {
-            Ok(standing) => {
-                let path = standing.names().print(alloc)?;
-                assert_eq!(rt; path.as_slice(), b"/a".as_slice());
-                assert_reached(&rt, standing.onward());
-            }
-            Err(reached) => {
-                assert_reached(&rt, reached);
-                assert!(rt; false);
-            }
-        },
-        None => assert!(rt; false),
-    }
+    let answer = answer_of(rt.alloc(), Said::Names(&[b"a"]))?;
+    let expected = names(rt.alloc(), &[b"a"])?;
+    assert!(rt; goes_onward(rt.alloc(), judged(answer, &expected), b"/a")?);
     Ok(())
 }
