@@ -1,4 +1,3 @@
-pub mod Driven
 pub mod Json
 pub mod Pieces
 pub mod Entries

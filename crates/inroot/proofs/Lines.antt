@@ -20,7 +20,9 @@ use Rattle.handles.specs.Objects.{StandingObject}
 use Rattle.step_resolver.specs.Meaning.{Ground, Meant, object, fails, reading_means, resolves, resolved}
 use Rattle.inroot.specs.declared.fault.RunFault.{RunFault}
 use Rattle.inroot.specs.declared.fault.ScriptFault.{ScriptFault}
-use Rattle.inroot.specs.Driven.{node_of, IsOpened, Resolves}
+use Rattle.step_resolver.specs.Driver.{node_of, IsReady, Resolves}
+use Rattle.step_resolver.specs.declared.driver.Resolved.{Resolved}
+use Rattle.step_resolver.specs.declared.driver.Resolved.TheVariants.{Found}
 use Rattle.inroot.specs.Output.{opened_line, fault_line}
 use Rattle.inroot.specs.Script.{Setting, IsAtHand, setting_of, then_with}
 use Rattle.inroot.specs.Walk.{line_of, line_for}
@@ -28,7 +30,7 @@ use Rattle.inroot.specs.Walk.{line_of, line_for}
 -- ---- the text
 
 -- where the text was read as this path, what comes of the path comes of the text
-pub read_by : (nodes : List Inode) (r : ℕ) (text : List ℕ) (flags : Flags) (path : Reading) (result : Result StandingObject Errno)
+pub read_by : (nodes : List Inode) (r : ℕ) (text : List ℕ) (flags : Flags) (path : Reading) (result : Result Resolved Errno)
     → MatchOption (text_fault text) (path ≡ reading_of text) (λ fault. ◌≡◌ {A = Result Reading Errno} (Ok path) (Err fault))
     → Resolves nodes r (reading_means (record { nodes = nodes; root = r; flags = flags }) path true) result
     → Resolves nodes r (resolved nodes r text true flags) result
@@ -46,7 +48,7 @@ read_by nodes r text flags path result read is = by_fault (text_fault text) read
 
 -- what was opened has the line of what the path means
 pub opened_means : NamesBelowAreStanding → (nodes : List Inode) → IsTree nodes → (r : ℕ) (meant : Meant) (standing : StandingObject)
-    → Resolves nodes r meant (Ok standing) → opened_line standing.kind standing.node standing.names ≡ line_of nodes r meant
+    → Resolves nodes r meant (Ok (Found standing)) → opened_line standing.kind standing.node standing.names ≡ line_of nodes r meant
 opened_means below nodes tree r (fails cause reads) standing is = absurd is
 opened_means below nodes tree r (object x b reads) standing is =
     let there : names_below nodes r x ≡ Some (reverse standing.names) = ((below nodes tree r x).0 (reverse standing.names)).1 is.names in
@@ -75,14 +77,14 @@ refused_line nodes r meant error is (Err fault) told = tt
 root_is : (s : State) (a h r : ℕ) → held s a h ≡ Some r → node_of s a h ≡ r
 root_is s a h r e = ap (λ (o : Option ℕ). unwrap_or o TOP) e
 
-pub opened_by : (said : Result Setting ScriptFault) (s : State) (a h : ℕ) → IsAtHand said s a h → IsOpened s a h (node_of s a h)
-opened_by (Ok setting) s a h hand = subst (λ (r : ℕ). IsOpened s a h r) (sym (root_is s a h setting.root hand.opened.held)) hand.opened
+pub opened_by : (said : Result Setting ScriptFault) (s : State) (a h : ℕ) → IsAtHand said s a h → IsReady s a h (node_of s a h)
+opened_by (Ok setting) s a h hand = subst (λ (r : ℕ). IsReady s a h r) (sym (root_is s a h setting.root hand.ready.held)) hand.ready
 opened_by (Err fault) s a h hand = absurd hand
 
 said_by : (said : Result Setting ScriptFault) (s : State) (a h : ℕ) → IsAtHand said s a h
     → said ≡ Ok (record { nodes = s.nodes; root = node_of s a h })
 said_by (Ok setting) s a h hand =
-    ap (λ (r : ℕ). Ok (record { nodes = setting.nodes; root = r })) (sym (root_is s a h setting.root hand.opened.held))
+    ap (λ (r : ℕ). Ok (record { nodes = setting.nodes; root = r })) (sym (root_is s a h setting.root hand.ready.held))
     ∙ ap (λ (nodes : List Inode). Ok (record { nodes = nodes; root = node_of s a h })) (sym hand.nodes)
 said_by (Err fault) s a h hand = absurd hand
 

@@ -35,7 +35,7 @@ opened_at s t (Ok x) h names none tree is g =
     let number : h ≡ 0 = g.0 ∙ ap length none in
     let at : IsHolding (record { nodes = s.nodes; root = x }) (with_handle (record { nodes = s.nodes; handles = [] }) ACTOR x) ACTOR 0 = record {
       nodes = refl;
-      opened = record { tree = subst IsState g.1 tree; held = refl; few = lit≤ tt; handles = refl; directory = is_directory s.nodes TOP x names (sym is) };
+      ready = record { tree = subst IsState g.1 tree; held = refl; directory = is_directory s.nodes TOP x names (sym is); few = lit≤ tt; numbers = lit≤ tt };
     } in
     subst (λ (i : ℕ). IsHolding (record { nodes = s.nodes; root = x }) t ACTOR i) (sym number)
     (subst (λ (u : State). IsHolding (record { nodes = s.nodes; root = x }) u ACTOR 0) (sym g.1) at)

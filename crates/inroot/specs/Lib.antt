@@ -5,7 +5,6 @@ pub use Rattle.path_text.specs.Print
 pub use Rattle.path_text.specs.Reading
 pub use Rattle.path_text.specs.Text
 pub mod Command
-pub mod Driven
 pub mod Fault
 pub mod Input
 pub mod Output

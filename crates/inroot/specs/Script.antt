@@ -25,7 +25,7 @@ use Rattle.inroot.specs.declared.fault.RunFault.TheVariants.{Script, ReadFailed,
 use Rattle.inroot.specs.declared.fault.ScriptFault.{ScriptFault}
 use Rattle.inroot.specs.declared.fault.ScriptFault.TheVariants.{NotObject, Version, Tree, TreeEntry, Actors, Actor}
 use Rattle.inroot.specs.declared.script.TheConstants.{ENTRIES_MAX}
-use Rattle.inroot.specs.Driven.{IsOpened}
+use Rattle.step_resolver.specs.Driver.{IsReady}
 
 -- the data of a JSON text, if the bytes are one
 abbrev pub json_of : List ℕ → Option Data
@@ -164,10 +164,10 @@ told_by _ k = Script (TreeEntry k)
 
 -- ---- a setting at hand
 
--- the tree has those nodes, and the actor holds the root by its only handle
+-- the tree has those nodes, and the actor holds the root by its handle, with room for a walk
 pub record IsHolding (setting : Setting) (s : State) (a h : ℕ) : Type 0 where
   pub nodes : s.nodes ≡ setting.nodes
-  pub opened : IsOpened s a h setting.root
+  pub ready : IsReady s a h setting.root
 
 -- the setting that a script says is at hand
 abbrev pub IsAtHand : Result Setting ScriptFault → State → ℕ → ℕ → Type 0

@@ -7,7 +7,6 @@ mod command;
 mod fault;
 mod input;
 mod output;
-mod resolve;
 mod script;
 mod setting;
 #[cfg(test)]

@@ -3,7 +3,7 @@ ghost use Rattle.std.specs.Prelude.{◌≡◌, ◌≢◌, Ok, Err, IfOk, IfErr, 
 ghost use Rattle.path_text.specs.declared.errno.Errno.TheVariants as errno;
 ghost use Rattle.serde_json.specs.View.{view};
 ghost use Rattle.step_resolver.specs.Meaning.{resolved};
-ghost use Rattle.inroot.specs.Driven.{node_of, IsOpened, Resolves};
+ghost use Rattle.step_resolver.specs.Driver.{node_of, IsReady, Resolves};
 ghost use Rattle.inroot.specs.Output.{opened_line, fault_line};
 ghost use Rattle.inroot.specs.declared.fault.RunFault.TheVariants as run_fault;
 ghost use Rattle.inroot.specs.Script.{IsFaultOf};
@@ -12,7 +12,6 @@ ghost use Rattle.inroot.specs.Walk.{IsRun, line_of, line_for, written_for};
 use crate::fault::RunFault;
 use crate::input::read_script;
 use crate::output::Output;
-use crate::resolve::resolve;
 use crate::script::json_of;
 use crate::setting::{ACTOR, setting_of};
 use handles::{Owner, Standing};
@@ -20,7 +19,7 @@ use path_text::{Errno, Flags, Path};
 use serde_json::Value;
 use std::alloc::Global;
 use std::io::{Read, Write};
-use step_resolver::Root;
+use step_resolver::{Goal, Resolved, Root, resolve};
 use tree_list::ListTree;
 use tree_model::{Actor, HandleNo, name_below_is_standing};
 
@@ -31,8 +30,8 @@ fn look_up(
     root: HandleNo,
     text: &[u8],
     flags: Flags,
-) -> Result<Standing, Errno>
-    requires { IsOpened tree.old ACTOR root (node_of tree.old ACTOR root) }
+) -> Result<Resolved, Errno>
+    requires { IsReady tree.old ACTOR root (node_of tree.old ACTOR root) }
     ensures { Resolves tree.old.nodes (node_of tree.old ACTOR root) (resolved tree.old.nodes (node_of tree.old ACTOR root) text.now true flags) result }
 {
     let path = Path::parse(alloc, text)?;
@@ -44,7 +43,7 @@ fn look_up(
         owner,
         handle: root,
     };
-    resolve(alloc, tree, root, path, flags)
+    resolve(alloc, tree, root, path, Goal::Follow, flags)
 }
 
 /// The line of an object that was opened.
@@ -78,13 +77,15 @@ fn line_of(
     text: &[u8],
     flags: Flags,
 ) -> Result<Output, RunFault>
-    requires { IsOpened tree.old ACTOR root (node_of tree.old ACTOR root) }
+    requires { IsReady tree.old ACTOR root (node_of tree.old ACTOR root) }
     ensures ok { IfOk result (λ line. line ≡ line_of tree.old.nodes (node_of tree.old ACTOR root) (resolved tree.old.nodes (node_of tree.old ACTOR root) text.now true flags)) }
     ensures err { IfErr result (λ fault. fault ≡ run_fault.NoMemory) }
 {
     name_below_is_standing();
     match look_up(alloc, tree, root, text, flags) {
-        Ok(standing) => opened_line(alloc, &standing),
+        Ok(Resolved::Found(standing)) => opened_line(alloc, &standing),
+        // only a walk to the deepest directory ends in a part of its path
+        Ok(Resolved::Partial(_standing, _rest)) => unreachable!(),
         Err(error) => fault_line(alloc, error),
     }
 }

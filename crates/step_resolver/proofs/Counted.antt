@@ -48,7 +48,7 @@ same_weight a x y e = weighs a y ∙ ap ones e ∙ sym (weighs a x)
 no_weight : (a : ℕ) (y : Option OpenHandle) → node_held a (Some y) ≡ None → weight a y ≡ 0
 no_weight a y e = weighs a y ∙ ap ones e
 
-same_count : (a : ℕ) (xs ys : List (Option OpenHandle)) → ((k : ℕ) → handle_in a ys k ≡ handle_in a xs k)
+pub same_count : (a : ℕ) (xs ys : List (Option OpenHandle)) → ((k : ℕ) → handle_in a ys k ≡ handle_in a xs k)
     → count_by (is_held_by a) ys ≡ count_by (is_held_by a) xs
 same_count a [] [] same = refl
 same_count a [] (y ∷ ys) same =
@@ -64,7 +64,7 @@ same_count a (x ∷ xs) (y ∷ ys) same =
 one_less : (k h : ℕ) → k ≢ h → suc k ≢ suc h
 one_less k h ne e = ne (omega (arith, e))
 
-one_more : (a : ℕ) (xs ys : List (Option OpenHandle)) (h : ℕ) → ((k : ℕ) → k ≢ h → handle_in a ys k ≡ handle_in a xs k)
+pub one_more : (a : ℕ) (xs ys : List (Option OpenHandle)) (h : ℕ) → ((k : ℕ) → k ≢ h → handle_in a ys k ≡ handle_in a xs k)
     → count_by (is_held_by a) ys ≤ suc (count_by (is_held_by a) xs)
 one_more a xs [] h same = omega arith
 one_more a [] (y ∷ ys) zero same =

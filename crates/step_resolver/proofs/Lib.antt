@@ -27,6 +27,7 @@ pub mod MeantEnds
 pub mod DeepEnds
 pub mod FirstTurns
 pub mod Telling
+pub mod DrivenWalks
 pub mod Arrivals
 pub mod QuietTrails
 pub mod QuietMeanings

@@ -28,3 +28,4 @@ pub mod View
 pub mod Taken
 pub mod Telling
 pub mod Plain
+pub mod Driver

@@ -10,6 +10,7 @@
 
 mod answers;
 mod course;
+mod driver;
 mod footprint_laws;
 mod laws;
 mod meaning_laws;
@@ -18,6 +19,7 @@ mod plain;
 mod trail_laws;
 mod walk;
 
+pub use driver::{Resolved, advance, resolve};
 pub use footprint_laws::{quiet_walks_mean, raced_tells_of_change, walks_mean};
 pub use laws::walks_tell;
 pub use meaning_laws::{

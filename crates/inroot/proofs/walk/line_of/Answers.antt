@@ -1,17 +1,19 @@
 use Rattle.std.proofs.Common.{◌≡◌, ℕ, List, true, subst}
-use Rattle.std.specs.Prelude.{IfOk}
+use Rattle.std.specs.Prelude.{IfOk, Ok}
 use Rattle.step_resolver.specs.Meaning.{resolved}
-use Rattle.inroot.specs.Driven.{node_of}
+use Rattle.step_resolver.specs.Driver.{node_of, Resolves}
+use Rattle.step_resolver.specs.declared.driver.Resolved.{Resolved}
 use Rattle.inroot.specs.declared.setting.TheConstants.{ACTOR}
 use Rattle.inroot.proofs.Lines.{opened_means, refused_line}
 use Rattle.inroot.proofs.walk.line_of.Goals as goal
 
-pub returns-in-Ok-clause-ok : goal.returns-in-Ok-clause-ok
-returns-in-Ok-clause-ok c =
+pub returns-in-Ok-Found-clause-ok : goal.returns-in-Ok-Found-clause-ok
+returns-in-Ok-Found-clause-ok c =
     let nodes = c.args.tree.now.nodes in
     let r = node_of c.args.tree.now ACTOR c.args.root in
     subst (λ (x : List ℕ). IfOk c.opened_line.result (λ line. line ≡ x))
-    (opened_means c.name_below_is_standing.ensures.names nodes c.requires.tree.tree r (resolved nodes r c.args.text.now true c.args.flags) c.in-Ok.standing c.in-Ok.ensures)
+    (opened_means c.name_below_is_standing.ensures.names nodes c.requires.tree.tree r (resolved nodes r c.args.text.now true c.args.flags) c.in-Ok-Found.standing
+    (subst (λ (x : Resolved). Resolves nodes r (resolved nodes r c.args.text.now true c.args.flags) (Ok x)) c.in-Ok-Found.field-0-is c.in-Ok-Found.ensures))
     c.opened_line.ensures.ok
 
 pub returns-in-Err-clause-ok : goal.returns-in-Err-clause-ok

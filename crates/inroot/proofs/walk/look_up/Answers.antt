@@ -1,5 +1,6 @@
 use Rattle.std.proofs.Common.{ℕ, subst}
-use Rattle.inroot.specs.Driven.{node_of, ResolvesBelow}
+use Rattle.walk_plan.specs.declared.goal.Goal.TheVariants.{Follow}
+use Rattle.step_resolver.specs.Driver.{node_of, ResolvesBelow}
 use Rattle.inroot.specs.declared.setting.TheConstants.{ACTOR}
 use Rattle.inroot.proofs.Lines.{read_by}
 use Rattle.inroot.proofs.walk.look_up.Goals as goal
@@ -7,4 +8,4 @@ use Rattle.inroot.proofs.walk.look_up.Goals as goal
 pub returns : goal.returns
 returns c =
     read_by c.args.tree.now.nodes (node_of c.args.tree.now ACTOR c.args.root) c.args.text.now c.args.flags c.in_ok-path.path c.resolve.result c.in_ok-path.ensures
-    (subst (λ (a : ℕ). ResolvesBelow c.args.tree.now a c.args.root c.in_ok-path.path c.args.flags c.resolve.result) c.new.ensures c.resolve.ensures.means)
+    (subst (λ (a : ℕ). ResolvesBelow c.args.tree.now a c.args.root c.in_ok-path.path Follow c.args.flags c.resolve.result) c.new.ensures c.resolve.ensures.means)

@@ -1,5 +1,5 @@
-use Rattle.inroot.proofs.Driven.{advanced_to}
-use Rattle.inroot.proofs.resolve.advance.Goals as goal
+use Rattle.step_resolver.proofs.DrivenWalks.{advanced_to}
+use Rattle.step_resolver.proofs.driver.advance.Goals as goal
 
 pub returns-clause-driven : goal.returns-clause-driven
 returns-clause-driven g c =
