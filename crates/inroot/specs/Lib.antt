@@ -1,12 +1,2 @@
-pub use Rattle.tree_list.specs.Build
-pub use Rattle.path_text.specs.Errno
-pub use Rattle.path_text.specs.Name
-pub use Rattle.path_text.specs.Print
-pub use Rattle.path_text.specs.Reading
-pub use Rattle.path_text.specs.Text
 pub mod Command
-pub mod Fault
-pub mod Input
-pub mod Output
-pub mod Script
-pub mod Walk
+pub mod Ending

@@ -1,48 +1,75 @@
-//! The program: resolves a path below a root, over the tree that a script on standard input gives.
+//! The program: resolves paths below a root, over the tree that a script on standard input gives.
 //!
-//! What a run writes is a stated function of what it reads and of its command line: `walk::walk`.
+//! It reads its command line, hands standard input and output to the library `scripts`, where it is stated what a
+//! run writes, and ends with the status that `ending` says of what happened.
 #![tactic(auto)]
 
 mod command;
-mod fault;
-mod input;
-mod output;
-mod script;
-mod setting;
-#[cfg(test)]
-mod tests;
-mod walk;
+mod ending;
 
-use command::{PATH, command, flags};
+use command::{asked, command};
+use ending::{Fault, status};
+use scripts::{RunFault, walk};
 use std::process::ExitCode;
-use walk::walk;
+use std::{env, io};
 
-fn main(rt: HostRuntime) -> anyhow::Result<ExitCode> {
+/// Tells help, the version or a usage fault, and how the program ends after it.
+fn told(rt: &HostRuntime, error: &clap::Error) -> Result<(), Fault> {
+    if error.kind() == clap::error::ErrorKind::OutOfMemory {
+        return Err(Fault::Run(RunFault::NoMemory));
+    }
+    let printed = error.print(rt);
+    if error.use_stderr() {
+        // The status says it where standard error can't.
+        return Err(Fault::Usage);
+    }
+    match printed {
+        Ok(()) => Ok(()),
+        Err(_) => Err(Fault::Run(RunFault::WriteFailed)),
+    }
+}
+
+/// The words of the command line.
+fn words(rt: &HostRuntime) -> Result<Vec<String>, Fault> {
+    match env::args(rt) {
+        Ok(words) => Ok(words.collect(rt.alloc())?),
+        Err(error) if error.kind() == io::ErrorKind::InvalidData => Err(Fault::NotUtf8),
+        Err(_) => Err(Fault::Run(RunFault::NoMemory)),
+    }
+}
+
+/// Reads the command line, and runs what it asks for.
+fn run(rt: &HostRuntime) -> Result<(), Fault> {
     let alloc = rt.alloc();
-    let words: Vec<String> = std::env::args(&rt)?.collect(alloc)?;
+    let words = words(rt)?;
     let matches = match command(alloc)?.try_get_matches_from(words.as_slice()) {
         Ok(matches) => matches,
-        Err(error) => {
-            error.print(&rt)?;
-            return Ok(ExitCode::from(error.exit_code() as u8));
-        }
+        Err(error) => return told(rt, &error),
     };
-    let Some(("walk", chosen)) = matches.subcommand() else {
-        return Ok(ExitCode::FAILURE);
-    };
-    let path = chosen.get_str(PATH).unwrap_or("");
-    let flags = flags(chosen);
-    match walk(
+    let asked = asked(&matches).ok_or(Fault::NoRequest)?;
+    walk(
         alloc,
         &mut rt.stdin(),
         &mut rt.stdout(),
-        path.as_bytes(),
-        flags,
-    ) {
-        Ok(()) => Ok(ExitCode::SUCCESS),
-        Err(fault) => {
-            eprintln!(rt; "inroot: {fault}")?;
-            Ok(ExitCode::from(fault.status()))
-        }
+        asked.path.as_bytes(),
+        asked.flags,
+    )?;
+    Ok(())
+}
+
+/// Tells a fault on standard error, but for one that clap has told.
+fn tell(rt: &HostRuntime, fault: Fault) -> io::Result<()> {
+    if fault == Fault::Usage {
+        return Ok(());
     }
+    eprintln!(rt; "inroot: {fault}")
+}
+
+fn main(rt: HostRuntime) -> ExitCode {
+    let ended = run(&rt);
+    if let Err(fault) = ended {
+        // The status says it where standard error can't.
+        let _ = tell(&rt, fault);
+    }
+    ExitCode::from(status(&ended))
 }

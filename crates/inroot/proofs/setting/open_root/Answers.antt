@@ -1,6 +1,0 @@
-use Rattle.inroot.proofs.Roots.{opened_root}
-use Rattle.inroot.proofs.setting.open_root.Goals as goal
-
-pub returns-in-Ok-clause-ok : goal.returns-in-Ok-clause-ok
-returns-in-Ok-clause-ok c = opened_root c.steps_keep_trees.ensures.grants _ _ _ _ c.args.names.now c.requires.tree
-    (record { none = c.requires.none; actor = c.new.ensures; gave = c.in-Ok.ensures })

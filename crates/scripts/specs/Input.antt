@@ -1,0 +1,20 @@
+-- Reading a script, and the data that its JSON text is (RFC 8259).
+use Rattle.std.specs.Prelude.{◌≡◌, ℕ, ◌<◌, List, if◌then◌else◌, length, Option, None, IfSome, ⊤}
+use Rattle.std.specs.Str.{is_utf8}
+use Rattle.serde_json.specs.Data.{Data}
+use Rattle.serde_json.specs.Read.{read}
+use Rattle.scripts.specs.declared.fault.RunFault.{RunFault}
+use Rattle.scripts.specs.declared.fault.RunFault.TheVariants.{Script, ReadFailed, WriteFailed, NoMemory}
+use Rattle.scripts.specs.declared.fault.ScriptFault.TheVariants.{TooLong}
+use Rattle.scripts.specs.declared.input.TheConstants.{SCRIPT_MAX}
+
+-- the fault is one of reading: there is more to read than a script may have, or a read or a growth was refused
+abbrev pub IsReadFault : Option (List ℕ) → RunFault → Type 0
+IsReadFault known (Script fault) = (fault ≡ TooLong) × IfSome known (λ input. SCRIPT_MAX < length input)
+IsReadFault known ReadFailed = ⊤
+IsReadFault known WriteFailed = ⊥
+IsReadFault known NoMemory = ⊤
+
+-- the data of a JSON text, if the bytes are one
+abbrev pub json_of : List ℕ → Option Data
+json_of bytes = if is_utf8 bytes then read bytes else None

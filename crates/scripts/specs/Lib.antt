@@ -1,0 +1,13 @@
+pub use Rattle.tree_list.specs.Build
+pub use Rattle.path_text.specs.Errno
+pub use Rattle.path_text.specs.Name
+pub use Rattle.path_text.specs.Print
+pub use Rattle.path_text.specs.Reading
+pub use Rattle.path_text.specs.Text
+pub mod Actors
+pub mod Fault
+pub mod Input
+pub mod Output
+pub mod Run
+pub mod Script
+pub mod Tree

@@ -1,0 +1,54 @@
+-- What `inroot walk` writes, as a function of what it reads, of the path and of the restrictions.
+use Rattle.std.specs.Prelude.{◌≡◌, ◌≢◌, ℕ, List, [], nat_lt, length, reverse, Option, Result, Ok, Err, MatchResult, IsOkAnd, IfSome, true, ⊤}
+use Rattle.std.specs.Io.KnownBytes.{Appends, Keeps}
+use Rattle.serde_json.specs.Data.{Data}
+use Rattle.path_text.specs.declared.flags.Flags.{Flags}
+use Rattle.tree_model.specs.declared.inode.Inode.{Inode}
+use Rattle.tree_model.specs.State.{object_at, names_below}
+use Rattle.tree_model.specs.Steps.{kind_of}
+use Rattle.step_resolver.specs.Meaning.{Meant, object, fails, resolved}
+use Rattle.tree_model.specs.Entries.{refuse_if, with_some}
+use Rattle.scripts.specs.declared.fault.RunFault.{RunFault}
+use Rattle.scripts.specs.declared.fault.RunFault.TheVariants.{Script, ReadFailed, WriteFailed, NoMemory}
+use Rattle.scripts.specs.declared.fault.ScriptFault.{ScriptFault}
+use Rattle.scripts.specs.declared.fault.ScriptFault.TheVariants.{TooLong, NotJson}
+use Rattle.scripts.specs.declared.input.TheConstants.{SCRIPT_MAX}
+use Rattle.scripts.specs.Output.{opened_line, fault_line}
+use Rattle.scripts.specs.Input.{json_of}
+use Rattle.scripts.specs.Script.{rooted_tree_of, then_with}
+
+-- the line of the object x: what it is, its node, and the names at which it stands below the root
+abbrev pub object_line : List Inode → ℕ → ℕ → List ℕ
+object_line nodes r x =
+    with_some (object_at nodes x) [] (λ what.
+    with_some (names_below nodes r x) [] (λ names. opened_line (kind_of what) x (reverse names)))
+
+-- the line of what a path means: its object, or its error
+abbrev pub line_of : List Inode → ℕ → Meant → List ℕ
+line_of nodes r (object x b reads) = object_line nodes r x
+line_of nodes r (fails error reads) = fault_line error
+
+-- the line for a script's data and a path text, which is resolved below the first actor's root with these restrictions
+abbrev pub line_for : Data → List ℕ → Flags → Result (List ℕ) ScriptFault
+line_for d text flags =
+    then_with (rooted_tree_of d) (λ tree. Ok (line_of tree.nodes tree.root (resolved tree.nodes tree.root text true flags)))
+
+-- what is written for an input, or the first check of the script that fails
+abbrev pub written_for : List ℕ → List ℕ → Flags → Result (List ℕ) ScriptFault
+written_for input text flags =
+    refuse_if (nat_lt SCRIPT_MAX (length input)) (Err TooLong)
+    (with_some (json_of input) (Err NotJson) (λ d. line_for d text flags))
+
+-- a run's fault is the script's; or a read, a write or a growth was refused
+abbrev pub IsRunFaultOf : {A : Type 0} → Result A ScriptFault → RunFault → Type 0
+IsRunFaultOf said (Script fault) = said ≡ Err fault
+IsRunFaultOf said ReadFailed = ⊤
+IsRunFaultOf said WriteFailed = ⊤
+IsRunFaultOf said NoMemory = ⊤
+
+-- The run wrote what there is to write for its input, and nothing else; or it failed as it should, and but for a writer that
+-- failed nothing was written. `known` is what the reader had left.
+abbrev pub IsRun : {T : Type 0} → (List ℕ → Result (List ℕ) ScriptFault) → Option (List ℕ) → Option (List ℕ) → Option (List ℕ) → Result T RunFault → Type 0
+IsRun written known old new result = MatchResult result
+    (λ _. IfSome known (λ input. IsOkAnd (written input) (λ text. Appends old new text)))
+    (λ fault. IfSome known (λ input. IsRunFaultOf (written input) fault) × (fault ≢ WriteFailed → Keeps old new))

@@ -1,0 +1,100 @@
+-- What a script's tree says, over the data that its JSON text is.
+use Rattle.std.specs.Prelude.{◌≡◌, ℕ, ◌<◌, ◌≢◌, slice_index, ◌+◌, ◌==◌, ◌&&◌, List, [], ◌∷◌, Bool, if◌then◌else◌, nat_lt, length, codes, Option, Some, None, is_none, option_map, option_and_then, Result, Ok, Err}
+use Rattle.std.specs.List.{list_all}
+use Rattle.serde_json.specs.Data.{Data, Items, no_items, item}
+use Rattle.serde_json.specs.Find.{at, as_str}
+use Rattle.path_text.specs.declared.errno.Errno.{Errno}
+use Rattle.path_text.specs.declared.errno.Errno.TheVariants as errno
+use Rattle.path_text.specs.declared.name.TheConstants.{SLASH}
+use Rattle.path_text.specs.Name.{name_fault, same_bytes}
+use Rattle.path_text.specs.Text.{between_slashes}
+use Rattle.tree_model.specs.declared.inode.Inode.{Inode}
+use Rattle.tree_model.specs.Entries.{refuse_if}
+use Rattle.tree_list.specs.declared.build.BuildFault.{BuildFault}
+use Rattle.tree_list.specs.declared.build.Entry.{Entry}
+use Rattle.tree_list.specs.declared.build.New.{New}
+use Rattle.tree_list.specs.declared.build.New.TheVariants.{Dir, File, Link}
+use Rattle.tree_list.specs.Build.{built}
+use Rattle.scripts.specs.declared.fault.RunFault.{RunFault}
+use Rattle.scripts.specs.declared.fault.RunFault.TheVariants.{Script, NoMemory}
+use Rattle.scripts.specs.declared.fault.ScriptFault.{ScriptFault}
+use Rattle.scripts.specs.declared.fault.ScriptFault.TheVariants.{Tree, TreeEntry}
+use Rattle.scripts.specs.declared.tree.TheConstants.{ENTRIES_MAX}
+
+-- ---- names
+
+abbrev pub is_name : List ℕ → Bool
+is_name bytes = is_none (name_fault bytes)
+
+abbrev pub name_where : Bool → List ℕ → Option (List ℕ)
+name_where test bytes = if test then Some bytes else None
+
+-- names with a slash before each
+abbrev pub names_of : List ℕ → Option (List (List ℕ))
+names_of [] = None
+names_of (b ∷ bs) = if (b == SLASH) && list_all is_name (between_slashes bs) then Some (between_slashes bs) else None
+
+-- none of the first n bytes is a slash
+abbrev pub HasNoSlashBefore : List ℕ → ℕ → Type 0
+HasNoSlashBefore bs n = (k : ℕ) → k < n → slice_index bs k ≢ SLASH
+
+-- the names that are left to read
+abbrev pub pieces_left : Option (List ℕ) → List (List ℕ)
+pieces_left None = []
+pieces_left (Some bs) = between_slashes bs
+
+-- how much is left to read
+abbrev pub left_size : Option (List ℕ) → ℕ
+left_size None = 0
+left_size (Some bs) = 1 + length bs
+
+-- ---- the tree
+
+abbrev pub text_at : ℕ → Data → Option (List ℕ)
+text_at i d = option_and_then as_str (at i d)
+
+-- an entry has as many elements as its kind wants
+abbrev pub has_elements : ℕ → Data → Bool
+has_elements n d = is_none (at n d)
+
+-- what a new entry of that kind is
+abbrev pub new_of : List ℕ → Data → Option New
+new_of kind d =
+    if same_bytes kind (codes "dir") && has_elements 2 d then Some Dir
+    else (if same_bytes kind (codes "file") && has_elements 2 d then Some File
+    else (if same_bytes kind (codes "link") && has_elements 3 d then option_map Link (text_at 2 d)
+    else None))
+
+-- `["dir", PATH]`, `["file", PATH]` or `["link", PATH, TEXT]`
+abbrev pub entry_of : Data → Option Entry
+entry_of d =
+    option_and_then (λ kind. option_and_then (λ what. option_and_then (λ path. option_map (λ names. record { at = names; what = what })
+    (names_of path)) (text_at 1 d)) (new_of kind d)) (text_at 0 d)
+
+abbrev pub entry_then : Option Entry → List Entry → List Entry
+entry_then None entries = []
+entry_then (Some entry) entries = entry ∷ entries
+
+-- the entries, up to the first that has another shape
+abbrev pub entries_of : Items → List Entry
+entries_of no_items = []
+entries_of (item d ds) = entry_then (entry_of d) (entries_of ds)
+
+abbrev pub count_of : Items → ℕ
+count_of no_items = 0
+count_of (item d ds) = 1 + count_of ds
+
+-- the entries of good shape that come first can be built, and are all that there are
+abbrev pub tree_built : Result (List Inode) BuildFault → ℕ → ℕ → Result (List Inode) ScriptFault
+tree_built (Err fault) shaped all = Err (TreeEntry fault.at)
+tree_built (Ok nodes) shaped all = if shaped == all then Ok nodes else Err (TreeEntry shaped)
+
+abbrev pub tree_of : Items → Result (List Inode) ScriptFault
+tree_of items =
+    refuse_if (nat_lt ENTRIES_MAX (count_of items)) (Err Tree)
+    (tree_built (built (entries_of items)) (length (entries_of items)) (count_of items))
+
+-- how a run tells that its tree can't be built
+abbrev pub told_by : Errno → ℕ → RunFault
+told_by errno.NoMemory k = NoMemory
+told_by _ k = Script (TreeEntry k)

@@ -1,0 +1,60 @@
+//! Reading a script to its end, and its JSON text.
+ghost use Rattle.std.specs.Prelude.{◌≡◌, ◌≢◌, ◌<◌, ◌≤◌, length, vec_len, Some, None, IfOk, IfErr, IfSome, OnOk};
+ghost use Rattle.serde_json.specs.View.{view};
+ghost use Rattle.scripts.specs.Input.{IsReadFault, json_of};
+ghost use Rattle.scripts.specs.declared.fault.RunFault.TheVariants as run_fault;
+ghost use Rattle.scripts.specs.declared.fault.ScriptFault.TheVariants as script_fault;
+
+use crate::fault::{RunFault, ScriptFault};
+use serde_json::Value;
+use std::alloc::Global;
+use std::io::{ErrorKind, Read};
+
+/// The most bytes of a script.
+pub const SCRIPT_MAX: usize = 1_048_576;
+
+/// The most reads of one script, those that are interrupted counted.
+pub const READS_MAX: u32 = 2_097_152;
+
+/// All that a reader has left.
+///
+/// An interrupted read is tried again (EINTR of read(2)). Errors: `ReadFailed` where a read fails for any
+/// other cause, or after `READS_MAX` reads without an end; `Script(TooLong)` past `SCRIPT_MAX` bytes;
+/// `NoMemory`.
+pub fn read_script<R: Read>(alloc: Global, reader: &mut R) -> Result<Vec<u8>, RunFault>
+    ensures whole { IfOk result (λ script. IfSome (R.remaining reader.old) (λ input. script.items ≡ input)) }
+    ensures short { IfOk result (λ script. vec_len script ≤ SCRIPT_MAX) }
+    ensures faults { IfErr result (λ fault. IsReadFault (R.remaining reader.old) fault) }
+{
+    let mut script = Vec::new(alloc);
+    let mut block = [0u8; 4096];
+    for _ in 0..READS_MAX {
+        match reader.read(&mut block) {
+            Ok(0) => return Ok(script),
+            Ok(count) => script.extend_from_slice(&block[..count])?,
+            Err(error) if error.kind() == ErrorKind::Interrupted => {}
+            Err(_) => return Err(RunFault::ReadFailed),
+        }
+        if script.len() > SCRIPT_MAX {
+            return Err(RunFault::Script(ScriptFault::TooLong));
+        }
+    }
+    Err(RunFault::ReadFailed)
+}
+
+/// The value of a JSON text. Errors: `Script(NotJson)` where the bytes are none, or no UTF-8; `NoMemory`.
+pub fn json_of(alloc: Global, bytes: &[u8]) -> Result<Value, RunFault>
+    ensures ok { IfOk result (λ value. json_of bytes.now ≡ Some (view value)) }
+    ensures err { IfErr result (λ fault. fault ≢ run_fault.NoMemory → (fault ≡ run_fault.Script script_fault.NotJson) × (json_of bytes.now ≡ None)) }
+{
+    match Value::from_slice(alloc, bytes) {
+        Ok(value) => Ok(value),
+        Err(error) => {
+            if error.is_memory() {
+                Err(RunFault::NoMemory)
+            } else {
+                Err(RunFault::Script(ScriptFault::NotJson))
+            }
+        }
+    }
+}

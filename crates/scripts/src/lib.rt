@@ -1,0 +1,20 @@
+//! Scripts: reading one, opening its tree and its first actor's root, and running a walk over it.
+//!
+//! A script is a JSON text with a tree's entries and actors with their roots. What a run writes is a stated
+//! function of what the reader has left and of the call (`walk`), whatever reader and writer it is given.
+#![tactic(auto)]
+
+mod actors;
+mod fault;
+mod input;
+mod output;
+mod run;
+mod script;
+#[cfg(test)]
+mod tests;
+mod tree;
+
+pub use fault::{RunFault, ScriptFault};
+pub use input::SCRIPT_MAX;
+pub use run::walk;
+pub use tree::ENTRIES_MAX;

@@ -1,0 +1,172 @@
+//! The tree of a script: its entries, and the plain tree that they name.
+ghost use Rattle.std.specs.Prelude.{◌≡◌, ◌<◌, ◌++◌, slice_index, MatchOption, List, [], ◌∷◌, length, Ok, IfOk, IfErr, option_map, map};
+ghost use Rattle.serde_json.specs.View.{view, items_view};
+ghost use Rattle.path_text.specs.Text.{between_slashes};
+ghost use Rattle.tree_model.specs.Trees.{IsState};
+ghost use Rattle.scripts.specs.Fault.{IsFaultOf};
+ghost use Rattle.scripts.specs.Tree.{HasNoSlashBefore, is_name, name_where, names_of, text_at, has_elements, new_of, entry_of, entries_of, tree_of, told_by};
+
+use crate::fault::{RunFault, ScriptFault};
+use path_text::{Bytes, Errno, Name, Names, NoMemory, SLASH};
+use serde_json::Value;
+use std::alloc::Global;
+use tree_list::{BuildFault, Entry, ListTree, New};
+
+/// The most entries of a script's tree.
+pub const ENTRIES_MAX: usize = 10_000;
+
+/// The element of an array at a place, if it is a text.
+fn text_at(value: &Value, at: usize) -> Option<&str>
+    ensures { option_map (λ text. text.now) result ≡ text_at at (view value.now) }
+{
+    value.get(at).and_then(Value::as_str)
+}
+
+/// Whether an array has no more than that many elements.
+fn has_elements(value: &Value, count: usize) -> bool
+    ensures { result ≡ has_elements count (view value.now) }
+{
+    value.get(count).is_none()
+}
+
+/// Where the first slash is, if there is one.
+fn first_slash(text: &[u8]) -> Option<usize>
+    ensures { MatchOption result (HasNoSlashBefore text.now (length text.now)) (λ at. (at < length text.now) × (slice_index text.now at ≡ SLASH) × HasNoSlashBefore text.now at) }
+{
+    for (at, byte) in text.iter().enumerate() {
+        if *byte == SLASH {
+            return Some(at);
+        }
+    }
+    None
+}
+
+/// What stands before the first slash, and what stands after it, if there is one.
+#[tactic(auto, using(crate::proofs::Pieces::cut_at, crate::proofs::Pieces::uncut))]
+fn cut(text: &[u8]) -> (&[u8], Option<&[u8]>)
+    ensures { MatchOption result.1 (between_slashes text.now ≡ result.0.now ∷ []) (λ after. (between_slashes text.now ≡ result.0.now ∷ between_slashes after.now) × (length after.now < length text.now)) }
+{
+    match first_slash(text) {
+        Some(at) => (&text[..at], Some(&text[at + 1..])),
+        None => (text, None),
+    }
+}
+
+/// The name of these bytes, if they are one.
+fn name_of(alloc: Global, bytes: &[u8]) -> Result<Option<Name>, NoMemory>
+    ensures { IfOk result (λ name. name ≡ name_where (is_name bytes.now) bytes.now) }
+{
+    match Name::new(alloc, bytes) {
+        Ok(name) => Ok(Some(name)),
+        Err(error) => {
+            if error == Errno::NoMemory {
+                Err(NoMemory)
+            } else {
+                Ok(None)
+            }
+        }
+    }
+}
+
+/// The names of a path that has a slash before each, if all of them are names.
+pub fn names_of(alloc: Global, path: &[u8]) -> Result<Option<Names>, NoMemory>
+    ensures { IfOk result (λ names. names ≡ names_of path.now) }
+{
+    let Some((&SLASH, pieces)) = path.split_first() else {
+        return Ok(None);
+    };
+    let mut names = Names::new(alloc);
+    let mut rest = Some(pieces);
+    while let Some(text) = rest {
+        let (piece, after) = cut(text);
+        let Some(name) = name_of(alloc, piece)? else {
+            return Ok(None);
+        };
+        names.push(name)?;
+        rest = after;
+    }
+    Ok(Some(names))
+}
+
+/// What a new entry of that kind is, if the array has as many elements as it wants.
+fn new_of(alloc: Global, kind: &str, value: &Value) -> Result<Option<New>, NoMemory>
+    ensures { IfOk result (λ what. what ≡ new_of kind.now (view value.now)) }
+{
+    if kind == "dir" && has_elements(value, 2) {
+        return Ok(Some(New::Dir));
+    }
+    if kind == "file" && has_elements(value, 2) {
+        return Ok(Some(New::File));
+    }
+    if kind == "link" && has_elements(value, 3) {
+        let Some(text) = text_at(value, 2) else {
+            return Ok(None);
+        };
+        let text = Bytes::from_slice(alloc, text.as_bytes())?;
+        return Ok(Some(New::Link(text)));
+    }
+    Ok(None)
+}
+
+/// The entry that a value says, if it has the shape of one.
+fn entry_of(alloc: Global, value: &Value) -> Result<Option<Entry>, NoMemory>
+    ensures { IfOk result (λ entry. entry ≡ entry_of (view value.now)) }
+{
+    let Some(kind) = text_at(value, 0) else {
+        return Ok(None);
+    };
+    let Some(what) = new_of(alloc, kind, value)? else {
+        return Ok(None);
+    };
+    let Some(path) = text_at(value, 1) else {
+        return Ok(None);
+    };
+    let Some(at) = names_of(alloc, path.as_bytes())? else {
+        return Ok(None);
+    };
+    Ok(Some(Entry { at, what }))
+}
+
+/// The entries that values say, up to the first that has another shape.
+fn entries_of(alloc: Global, values: &[Value]) -> Result<Vec<Entry>, NoMemory>
+    ensures { IfOk result (λ entries. entries.items ≡ entries_of (items_view values.now)) }
+{
+    let mut entries = Vec::with_capacity(alloc, values.len())?;
+    for value in values {
+        let Some(entry) = entry_of(alloc, value)? else {
+            return Ok(entries);
+        };
+        entries.push(entry)?;
+    }
+    Ok(entries)
+}
+
+/// How a run tells that its tree can't be built.
+fn told_by(fault: BuildFault) -> RunFault
+    ensures { result ≡ told_by fault.cause fault.at }
+{
+    if fault.cause == Errno::NoMemory {
+        RunFault::NoMemory
+    } else {
+        RunFault::Script(ScriptFault::TreeEntry(fault.at))
+    }
+}
+
+/// The tree with the entries that values say. Errors: `Tree` past `ENTRIES_MAX` of them, `TreeEntry` of
+/// the first whose shape, place or link text is refused; `NoMemory`.
+pub fn tree_of(alloc: Global, values: &[Value]) -> Result<ListTree, RunFault>
+    ensures ok { IfOk result (λ tree. (tree_of (items_view values.now) ≡ Ok tree.nodes) × (tree.handles ≡ [])) }
+    ensures tree { IfOk result IsState }
+    ensures err { IfErr result (IsFaultOf (tree_of (items_view values.now))) }
+{
+    if values.len() > ENTRIES_MAX {
+        return Err(RunFault::Script(ScriptFault::Tree));
+    }
+    let entries = entries_of(alloc, values)?;
+    let shaped = entries.len();
+    match ListTree::from_entries(alloc, &entries) {
+        Ok(tree) if shaped == values.len() => Ok(tree),
+        Ok(_) => Err(RunFault::Script(ScriptFault::TreeEntry(shaped))),
+        Err(fault) => Err(told_by(fault)),
+    }
+}
