@@ -10,7 +10,7 @@ use Rattle.step_resolver.specs.Asked.{asked, follows}
 use Rattle.step_resolver.specs.Meaning.{LINKS_MAX}
 use Rattle.step_resolver.specs.Order.{Way, Handle, Walking, Turn, more, found, partial, failed, starts, take, steps_left}
 use Rattle.walk_plan.specs.Plan.{is_own}
-use Rattle.step_resolver.specs.View.{course_way, walking_of, own_to_come, IsPendingOn}
+use Rattle.step_resolver.specs.View.{course_way, walking_of, own_to_come, IsPending}
 use Rattle.step_resolver.specs.declared.course.Course.{Course}
 use Rattle.step_resolver.specs.declared.pending.Next.{Next}
 use Rattle.step_resolver.specs.declared.pending.Next.TheVariants as next
@@ -63,16 +63,16 @@ next_turn course (next.Found standing) = found (standing_handle standing) (rever
 next_turn course (next.Partial standing) = partial (standing_handle standing) (reverse standing.names) (own_to_come course.plan)
 next_turn course (next.Failed error) = failed error
 
-abbrev pub IsNextOn : Course → Next → Type 0
-IsNextOn course (next.Due pending) = IsPendingOn course pending
-IsNextOn course (next.Found standing) = standing.owner ≡ course.root.owner
-IsNextOn course (next.Partial standing) = (standing.owner ≡ course.root.owner) × IsTrue (is_own course.plan)
-IsNextOn course (next.Failed error) = Unit {0}
+abbrev pub IsNext : Course → Next → Type 0
+IsNext course (next.Due pending) = IsPending course.plan pending
+IsNext course (next.Found standing) = standing.owner ≡ course.root.owner
+IsNext course (next.Partial standing) = (standing.owner ≡ course.root.owner) × IsTrue (is_own course.plan)
+IsNext course (next.Failed error) = Unit {0}
 
 -- the root, what the walk is after and its restrictions stay the same; and what comes next is of this course
 abbrev pub KeepsCourse : Course → Course → Next → Type 0
 KeepsCourse old new next =
-    (new.root ≡ old.root) × (new.plan.goal ≡ old.plan.goal) × (new.plan.flags ≡ old.plan.flags) × IsNextOn new next
+    (new.root ≡ old.root) × (new.plan.goal ≡ old.plan.goal) × (new.plan.flags ≡ old.plan.flags) × IsNext new next
 
 abbrev pub TakesOn : Course → Pending → Answer → Course → Next → Type 0
 TakesOn old pending answer new next = TakesTo (course_way old) (walking_of old.plan pending) answer (next_turn new next)

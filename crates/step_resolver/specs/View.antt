@@ -163,15 +163,6 @@ course_way course = way_of course.root course.plan
 abbrev pub position_at : Course → Option ReachedObject → Position
 position_at course place = place_of place course.plan.names
 
-abbrev pub IsPlaceOn : Course → Option ReachedObject → Type 0
-IsPlaceOn course place = IsPlace course.plan.names place
-
-abbrev pub IsAfterOn : Course → AfterClose → Type 0
-IsAfterOn course after = IsAfter course.plan.names after
-
-abbrev pub IsPendingOn : Course → Pending → Type 0
-IsPendingOn course pending = IsPending course.plan pending
-
 -- ---- what is due, and what answers come to
 
 -- the step is one with a name, which is copied for it

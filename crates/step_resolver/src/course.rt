@@ -55,7 +55,7 @@ fn is_directory(place: &Option<Reached>) -> bool
 }
 
 impl Course {
-    ghost use Rattle.step_resolver.specs.View.{course_way, position_at, IsPlaceOn, IsAfterOn, IsPendingOn};
+    ghost use Rattle.step_resolver.specs.View.{course_way, position_at, IsPlace, IsAfter, IsPending};
     ghost use Rattle.step_resolver.specs.Taken.{next_turn, KeepsCourse, TakesOn};
 
     /// The handle through which the place is reached.
@@ -70,7 +70,7 @@ impl Course {
 
     // The first is closed, then the second.
     fn close(&self, first: Reached, second: Option<Reached>, after: AfterClose) -> Next
-        requires { IsAfterOn self.now after }
+        requires { IsAfter self.now.plan.names after }
         ensures turn { next_turn self.now result ≡ more (closing first.handle (numbers_of second) (after_of self.now.plan after)) }
         ensures kept { KeepsCourse self.now self.now result }
     {
@@ -94,7 +94,7 @@ impl Course {
 
     // The end, or the place in which the first part left is missing: something is held for it, and its place asked.
     fn end(&self, place: Option<Reached>) -> Next
-        requires place { IsPlaceOn self.now place }
+        requires place { IsPlace self.now.plan.names place }
         requires own { self.now.plan.inner ≡ [] }
         ensures turn { next_turn self.now result ≡ at_end (position_at self.now place) (own_to_come self.now.plan) }
         ensures kept { KeepsCourse self.now self.now result }
@@ -108,7 +108,7 @@ impl Course {
     /// Goes on from the place: the parts that need no step are passed, up to the step that is due.
     #[tactic(auto, using(crate::proofs::WalkParts::next_parts))]
     pub(crate) fn go_on(&mut self, place: Option<Reached>) -> Next
-        requires { IsPlaceOn self.old place }
+        requires { IsPlace self.old.plan.names place }
         ensures turn { next_turn self.new result ≡ goes_on (course_way self.old) (position_at self.old place) (todo_of self.old.plan) }
         ensures kept { KeepsCourse self.old self.new result }
     {
@@ -128,7 +128,7 @@ impl Course {
     // The same in a directory, where the walk doesn't stay at the next part.
     #[tactic(auto, using(crate::proofs::WalkParts::next_parts))]
     fn move_on(&mut self, place: Option<Reached>) -> Next
-        requires place { IsPlaceOn self.old place }
+        requires place { IsPlace self.old.plan.names place }
         requires directory { is_directory_at place ≡ true }
         requires moves { stays self.old.plan ≡ false }
         ensures turn { next_turn self.new result ≡ goes_on (course_way self.old) (position_at self.old place) (todo_of self.old.plan) }
@@ -136,6 +136,7 @@ impl Course {
     {
         match self.plan.next() {
             None => self.end(place),
+            // The walk stays at `.`.
             Some(Part::Cur) => unreachable!(),
             Some(Part::Up) => self.rise(place),
             Some(Part::Named(name)) => {
@@ -151,7 +152,7 @@ impl Course {
     // `..`, at which the walk doesn't stay: to the parent, or out of the root, where it may not.
     #[tactic(auto, using(crate::proofs::WalkParts::rise_crosses, crate::proofs::WalkParts::rises))]
     fn rise(&mut self, place: Option<Reached>) -> Next
-        requires place { IsPlaceOn self.old place }
+        requires place { IsPlace self.old.plan.names place }
         requires directory { is_directory_at place ≡ true }
         requires up { next_part self.old.plan ≡ Some Up }
         requires moves { stays self.old.plan ≡ false }
@@ -173,7 +174,7 @@ impl Course {
 
     /// What the answer to the pending step comes to.
     pub(crate) fn answered(&mut self, alloc: Global, pending: Pending, answer: Answer) -> Next
-        requires { IsPendingOn self.old pending }
+        requires { IsPending self.old.plan pending }
         ensures turn { TakesOn self.old pending answer self.new result }
         ensures kept { KeepsCourse self.old self.new result }
     {
@@ -194,7 +195,7 @@ impl Course {
 
     // A name was opened: a link that must be followed is read, anything else entered.
     fn opened(&mut self, place: Option<Reached>, answer: Answer) -> Next
-        requires place { IsPlaceOn self.old place }
+        requires place { IsPlace self.old.plan.names place }
         requires named { IsAtName self.old.plan }
         ensures turn { TakesOn self.old (Pending.Opening place) answer self.new result }
         ensures kept { KeepsCourse self.old self.new result }
@@ -220,7 +221,7 @@ impl Course {
 
     // The name wasn't opened. A missing one of the caller's own is where the deepest directory ends.
     fn not_opened(&self, place: Option<Reached>, error: Errno) -> Next
-        requires place { IsPlaceOn self.now place }
+        requires place { IsPlace self.now.plan.names place }
         requires named { IsAtName self.now.plan }
         ensures turn { next_turn self.now result ≡ refused_open (course_way self.now) (position_at self.now place) (is_own self.now.plan) (follows self.now.plan) (name_in (next_part self.now.plan)) (todo_of (stayed self.now.plan)) error }
         ensures kept { KeepsCourse self.now self.now result }
@@ -234,7 +235,7 @@ impl Course {
 
     // A link that must be followed: its text is read, unless no link may be followed any more, or none at all.
     fn follow(&self, place: Option<Reached>, link: Reached) -> Next
-        requires place { IsPlaceOn self.now place }
+        requires place { IsPlace self.now.plan.names place }
         requires named { IsAtName self.now.plan }
         ensures turn { next_turn self.now result ≡ follows_link (course_way self.now) (position_at self.now place) (handle_of link) (todo_of (stayed self.now.plan)) }
         ensures kept { KeepsCourse self.now self.now result }
@@ -249,7 +250,7 @@ impl Course {
     // What was opened is held, and what was held is closed.
     #[tactic(auto, using(crate::proofs::WalkAnswers::name_passed))]
     fn enter(&mut self, place: Option<Reached>, new: Reached) -> Next
-        requires place { IsPlaceOn self.old place }
+        requires place { IsPlace self.old.plan.names place }
         requires named { IsAtName self.old.plan }
         ensures turn { EntersBy (course_way self.old) (position_at self.old place) (name_in (next_part self.old.plan)) (handle_of new) (todo_of (stayed self.old.plan)) (next_turn self.new result) }
         ensures kept { KeepsCourse self.old self.new result }
@@ -266,7 +267,7 @@ impl Course {
     // The text of a link was read: its parts come before all others, from the root where it is absolute.
     #[tactic(auto, using(crate::proofs::WalkAnswers::texts_read))]
     fn read(&mut self, alloc: Global, place: Option<Reached>, link: Reached, answer: Answer) -> Next
-        requires place { IsPlaceOn self.old place }
+        requires place { IsPlace self.old.plan.names place }
         requires may { MayFollow self.old.plan }
         ensures turn { TakesOn self.old (Pending.Reading place link) answer self.new result }
         ensures kept { KeepsCourse self.old self.new result }
@@ -344,7 +345,7 @@ impl Course {
 
     // The first is closed, whatever was answered.
     fn closed(&mut self, first: Reached, second: Option<Reached>, after: AfterClose) -> Next
-        requires { IsAfterOn self.old after }
+        requires { IsAfter self.old.plan.names after }
         ensures turn { next_turn self.new result ≡ closes (course_way self.old) (numbers_of second) (after_of self.old.plan after) }
         ensures kept { KeepsCourse self.old self.new result }
     {
@@ -358,7 +359,7 @@ impl Course {
 
     // All was closed.
     fn come(&mut self, after: AfterClose) -> Next
-        requires { IsAfterOn self.old after }
+        requires { IsAfter self.old.plan.names after }
         ensures turn { next_turn self.new result ≡ comes (course_way self.old) (after_of self.old.plan after) }
         ensures kept { KeepsCourse self.old self.new result }
     {

@@ -5,7 +5,7 @@ use handles::{Reached, Standing};
 use path_text::Errno;
 
 /// The step that is due, by what is held while it is made. A place is what is held; none is the root itself, which has
-/// no handle of the walk's own.
+/// no handle of the walk's own. What is held can't be let go, and so no step that holds something can be.
 #[derive(Debug)]
 pub(crate) enum Pending {
     /// The name at the plan's next part is opened, from the place.
@@ -39,6 +39,7 @@ impl Pending {
         match self {
             Pending::Opening(place) => match place {
                 None => {}
+                // A place that is held, as all that the other steps hold, is to be closed.
                 Some(_) => unreachable!(),
             },
             Pending::Duping => {}
@@ -47,7 +48,7 @@ impl Pending {
     }
 }
 
-/// What the walk goes on to once all that is closed is closed.
+/// What comes once all that is due to be closed is closed.
 #[derive(Debug)]
 pub(crate) enum AfterClose {
     /// The walk fails.

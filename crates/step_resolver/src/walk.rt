@@ -23,13 +23,14 @@ pub struct Root {
 
 /// A walk that is under way. It can't be let go: each `due` step is to be made, and its answer taken, until the walk
 /// ends. One to be given up has each Close made that is due, and is told `Refused(NoMemory)` at every other step.
-/// Contracts see it as a `WalkView`: whose it is, what stays the same for it, and the step that is due.
+/// It lies in one box, and moving it moves a pointer. Contracts see it as a `WalkView`: whose it is, what stays the same
+/// for it, and the step that is due.
 #[derive(Debug)]
 pub struct Walk {
     state: Box<State>,
 }
 
-// It stays where it is in memory while the walk goes on, so that a turn moves no more than the box.
+// What a walk is made of, changed in place at each turn.
 #[derive(Debug)]
 struct State {
     course: Course,
@@ -41,11 +42,11 @@ impl Model for Walk {
 
     ghost Value = { WalkView };
 
-    ghost use Rattle.step_resolver.specs.View.{view_of, IsPendingOn};
+    ghost use Rattle.step_resolver.specs.View.{view_of, IsPending};
 
     ghost view = { λ w. view_of w.state.value.course w.state.value.pending };
 
-    ghost invariant = { λ w. IsPendingOn w.state.value.course w.state.value.pending };
+    ghost invariant = { λ w. IsPending w.state.value.course.plan w.state.value.pending };
 }
 
 /// What a walk has come to.
