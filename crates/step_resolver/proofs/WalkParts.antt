@@ -192,9 +192,9 @@ rises root p held e some dir =
 
 -- a name
 pub at_name : (way : Way) (position : Position) (p : PlanState) (n : List ℕ) → next_part p ≡ Some (part.Named n) → is_dir_position position ≡ true
-    → goes_on way position (todo_of p) ≡ (if is_too_long n then gives_up (handles_of position) TooLong else more (opening position (is_own p) (plan.follows p) n (todo_of (stayed p))))
+    → goes_on way position (todo_of p) ≡ (if is_too_long n then gives_up (handles_of position) TooLong else more (opening position (is_own p) (plan.follows_next_link p) n (todo_of (stayed p))))
 at_name way position p n e dir =
-    let follow : plan.follows p ≡ follows_next p = ap (λ (next : Option Part). plan.is_name next && follows_next p) e in
+    let follow : plan.follows_next_link p ≡ follows_next p = ap (λ (next : Option Part). plan.is_name next && follows_next p) e in
     rw (on_next way position p (part.Named n) e, dir, follow) refl
 
 -- a name that is too long

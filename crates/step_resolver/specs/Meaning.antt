@@ -12,6 +12,7 @@ use Rattle.tree_model.specs.declared.inode.Object.{Object}
 use Rattle.tree_model.specs.declared.inode.Object.TheVariants.{Link}
 use Rattle.tree_model.specs.State.{object_at, child, parent, is_dir}
 use Rattle.step_resolver.specs.Asked.{AskedPart, Cur, Up, Named, asked, followed}
+pub use Rattle.walk_plan.specs.declared.plan.TheConstants.{LINKS_MAX}
 
 -- where a path is resolved: the nodes, the root's number, and the call's restrictions
 pub record Ground : Type 0 where
@@ -28,10 +29,6 @@ pub record Entry : Type 0 where
 pub data Meant : Type 0 where
   object : ℕ → ℕ → List Entry → Meant
   fails : Errno → List Entry → Meant
-
--- the most links that are followed for one path (path_resolution(7))
-abbrev pub LINKS_MAX : ℕ
-LINKS_MAX = 40
 
 -- these entries were read before
 abbrev pub after_reads : List Entry → Meant → Meant

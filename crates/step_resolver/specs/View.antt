@@ -100,7 +100,7 @@ after_of p (Judges held) = judges (handle_of held) (reverse p.names) (todo_of p)
 
 abbrev pub walking_of : PlanState → Pending → Walking
 walking_of p (Opening place) =
-    opening (place_of place p.names) (is_own p) (plan.follows p) (name_in (next_part p)) (todo_of (stayed p))
+    opening (place_of place p.names) (is_own p) (plan.follows_next_link p) (name_in (next_part p)) (todo_of (stayed p))
 walking_of p (Reading place link) =
     reading (place_of place p.names) (handle_of link) (todo_of (record (stayed p) { links_left = p.links_left - 1 }))
 walking_of p (Rising held) = rising (handle_of held) (reverse p.names) (todo_of p)

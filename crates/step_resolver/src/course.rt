@@ -1,7 +1,7 @@
 //! A walk apart from its pending step, and what each answer comes to.
 ghost use Rattle.std.specs.Prelude.{◌≡◌, [], true, false, Some};
 ghost use Rattle.path_text.specs.declared.part.Part.TheVariants.{Up};
-ghost use Rattle.walk_plan.specs.Plan.{next_part, is_own, follows, stayed};
+ghost use Rattle.walk_plan.specs.Plan.{next_part, is_own, follows_next_link, stayed};
 ghost use Rattle.step_resolver.specs.Order.{gives_up, closing, at_end, goes_on, closes, comes, handle_at, more, refused_open, follows_link, is_followed};
 ghost use Rattle.step_resolver.specs.View.{handle_of, numbers_of, is_directory_at, own_to_come, todo_of, stays, SameCourse, EntersBy, name_in, after_of, IsAtName, MayFollow};
 
@@ -214,19 +214,19 @@ impl Course {
 
     // Whether what stands at the next part is a link that is followed.
     fn must_follow(&self, kind: Kind) -> bool
-        ensures { result ≡ is_followed (follows self.now.plan) kind }
+        ensures { result ≡ is_followed (follows_next_link self.now.plan) kind }
     {
-        kind == Kind::Link && self.plan.follows()
+        kind == Kind::Link && self.plan.follows_next_link()
     }
 
     // The name wasn't opened. A missing one of the caller's own is where the deepest directory ends.
     fn not_opened(&self, place: Option<Reached>, error: Errno) -> Next
         requires place { IsPlace self.now.plan.names place }
         requires named { IsAtName self.now.plan }
-        ensures turn { next_turn self.now result ≡ refused_open (course_way self.now) (position_at self.now place) (is_own self.now.plan) (follows self.now.plan) (name_in (next_part self.now.plan)) (todo_of (stayed self.now.plan)) error }
+        ensures turn { next_turn self.now result ≡ refused_open (course_way self.now) (position_at self.now place) (is_own self.now.plan) (follows_next_link self.now.plan) (name_in (next_part self.now.plan)) (todo_of (stayed self.now.plan)) error }
         ensures kept { KeepsCourse self.now self.now result }
     {
-        if error == Errno::NotFound && self.plan.goal() == Goal::Deepest && self.plan.own() {
+        if error == Errno::NotFound && self.plan.goal() == Goal::Deepest && self.plan.is_own() {
             self.end(place)
         } else {
             self.fail(place, error)
@@ -333,7 +333,7 @@ impl Course {
         let refusal = check_refusal(&answer);
         match held.judge(self.root.owner, answer, self.plan.names()) {
             Ok(standing) => {
-                if self.plan.own() {
+                if self.plan.is_own() {
                     Next::Partial(standing)
                 } else {
                     Next::Found(standing)

@@ -9,9 +9,7 @@ ghost use Rattle.step_resolver.specs.Plain.{arrival, meant};
 use path_text::{Errno, Flags, NAME_MAX, Path, SLASH};
 use std::marker::Model;
 use tree_model::{Inode, Node, Object, child, is_dir, object_at, parent};
-
-/// The most links that are followed for one path (path_resolution(7)).
-const LINKS_MAX: u8 = 40;
+use walk_plan::LINKS_MAX;
 
 // Where a path is resolved.
 #[derive(Drop)]

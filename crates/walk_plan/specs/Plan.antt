@@ -12,11 +12,12 @@ use Rattle.walk_plan.specs.declared.goal.Goal.{Goal}
 use Rattle.walk_plan.specs.declared.goal.Goal.TheVariants.{Follow, NoFollow, Deepest}
 use Rattle.walk_plan.specs.declared.plan.TheConstants.{LINKS_MAX}
 
--- The parts of links' texts come before the caller's own. The names passed are those from the root to the
--- place that the walk has come to, the outermost first.
 pub record PlanState : Type 0 where
+  -- the parts of links' texts, which come before the caller's own
   pub inner : List Part
+  -- the parts of the caller's own path
   pub own : List Part
+  -- the names passed, from the root to the place that the walk has come to, the outermost first
   pub names : List (List ℕ)
   pub links_left : ℕ
   pub goal : Goal
@@ -75,8 +76,8 @@ follows_last_link Deepest = true
 
 -- The next part is a name at which a link is followed: at the very last part of the caller's text it is so
 -- only where the goal says it, at any other part always (path_resolution(7), Final entry).
-abbrev pub follows : PlanState → Bool
-follows p = is_name (next_part p) && (follows_last_link p.goal || not (is_own p && is_last p))
+abbrev pub follows_next_link : PlanState → Bool
+follows_next_link p = is_name (next_part p) && (follows_last_link p.goal || not (is_own p && is_last p))
 
 abbrev pub after_first : List Part → List Part
 after_first [] = []

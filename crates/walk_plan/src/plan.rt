@@ -8,7 +8,7 @@ ghost use Rattle.path_text.specs.declared.part.Part.TheVariants.{Up, Named};
 ghost use Rattle.path_text.specs.declared.name.TheConstants.{NAME_MAX};
 ghost use Rattle.path_text.specs.declared.path.TheConstants.{PARTS_MAX};
 ghost use Rattle.path_text.specs.Text.{begins_with_slash, reading_of};
-ghost use Rattle.walk_plan.specs.Plan.{IsPlan, IsNameAnd, IfName, CanStay, next_part, is_last, is_own, is_name, follows, stayed, went_up, went_down, spliced, through, through_fault, leads_out, begun, first_part, after_first, own_after_next};
+ghost use Rattle.walk_plan.specs.Plan.{IsPlan, IsNameAnd, IfName, CanStay, next_part, is_last, is_own, is_name, follows_next_link, stayed, went_up, went_down, spliced, through, through_fault, leads_out, begun, first_part, after_first, own_after_next};
 
 use crate::goal::Goal;
 use path_text::{Errno, Flags, Name, Names, NoMemory, Part, Parts, Path, SLASH};
@@ -60,6 +60,7 @@ impl Plan {
         if path.absolute && flags.beneath {
             return Err(Errno::CrossRoot);
         }
+        // the next part stands last, where it is taken off without moving the others
         let mut own = path.parts.into_vec();
         own.reverse();
         Ok(Plan {
@@ -91,7 +92,7 @@ impl Plan {
     }
 
     /// Whether the next part is of the caller's own text. False where no part is left.
-    pub fn own(&self) -> bool
+    pub fn is_own(&self) -> bool
         ensures { result ≡ is_own self.now }
     {
         self.inner.is_empty() && !self.own.is_empty()
@@ -99,11 +100,11 @@ impl Plan {
 
     /// Whether a link at the next part, which is a name, is followed: at the very last part of the
     /// caller's text it is so only where the goal says it. False where the next part is no name.
-    pub fn follows(&self) -> bool
-        ensures { result ≡ follows self.now }
+    pub fn follows_next_link(&self) -> bool
+        ensures { result ≡ follows_next_link self.now }
     {
         matches!(self.next(), Some(Part::Named(_)))
-            && (self.goal.follows_last_link() || !(self.own() && self.is_last()))
+            && (self.goal.follows_last_link() || !(self.is_own() && self.is_last()))
     }
 
     /// The name that the next part is, as a copy. NoMemory where its room was refused.
@@ -113,6 +114,7 @@ impl Plan {
     {
         match self.next() {
             Some(Part::Named(component)) => component.to_name(alloc),
+            // the caller sees to it that the next part is a name
             _ => unreachable!(),
         }
     }
@@ -185,9 +187,12 @@ impl Plan {
             (IfName (next_part self.old) (λ name. self.new ≡ went_down self.old name)) }
         ensures err { OnErr result (self.new ≡ self.old) }
     {
+        // The names are taken out as a plain list, which can hold room for one more before that one is there, and
+        // are put back whether there was room or not.
         let none = Names::new(*self.inner.allocator());
         let mut names = mem::replace(&mut self.names, none).into_vec();
         let room = names.reserve(1);
+        // Where there was room the next part always matches: it is a name.
         if room.is_ok()
             && let Some(Part::Named(component)) = pop_next(&mut self.inner, &mut self.own)
         {

@@ -3,7 +3,6 @@
 use crate::{Goal, Plan};
 use path_text::{Errno, Flags, Name, NoMemory, Part, Path};
 use std::alloc::Global;
-use std::process::Abort;
 use std::test::Fail;
 
 const PLAIN: Flags = Flags {
@@ -20,6 +19,13 @@ const NO_LINKS: Flags = Flags {
     beneath: false,
     no_links: true,
 };
+
+/// What a plan shows: the next part, and nothing where no part is left; what that part is, as `standing_of` tells
+/// it; the links left; and the names passed, as they are printed.
+type Shown<'a> = (&'a [u8], &'a [u8], u8, &'a [u8]);
+
+/// A step, and what the plan then shows, flat. It follows a link with that text, or passes a part where there is none.
+type Step<'a> = (&'a [u8], &'a [u8], &'a [u8], u8, &'a [u8]);
 
 fn plan_of(alloc: Global, text: &[u8], goal: Goal, flags: Flags) -> Result<Plan, Errno> {
     Plan::new(alloc, Path::parse(alloc, text)?, goal, flags)
@@ -38,96 +44,148 @@ fn next_text(plan: &Plan) -> &[u8] {
     plan.next().map_or(b"".as_slice(), text_of)
 }
 
-// Takes the next part off as a walk does at which every name is a directory.
-fn pass(rt: &impl Abort, plan: &mut Plan) -> Result<(), NoMemory> {
+// Whether the next part is of the caller's own text, and whether it is the last.
+fn standing_of(plan: &Plan) -> &'static [u8] {
+    match (plan.is_own(), plan.is_last()) {
+        (true, true) => b"own last",
+        (true, false) => b"own",
+        (false, true) => b"last",
+        (false, false) => b"",
+    }
+}
+
+fn shows(alloc: Global, plan: &Plan, shown: &Shown<'_>) -> Result<bool, NoMemory> {
+    let (next, standing, links_left, names) = shown;
+    Ok(
+        next_text(plan) == *next
+            && standing_of(plan) == *standing
+            && plan.links_left() == *links_left
+            && plan.names().print(alloc)?.as_slice() == *names,
+    )
+}
+
+// Takes the next part off as a walk does at which every name is a directory. Whether one was left, and not too long.
+fn pass(plan: &mut Plan) -> Result<bool, NoMemory> {
     match plan.next() {
         Some(Part::Cur) => plan.stayed(),
         Some(Part::Up) if plan.names().is_empty() => plan.stayed(),
         Some(Part::Up) => plan.went_up(),
         Some(Part::Named(name)) if !name.is_too_long() => plan.entered()?,
-        _ => panic!(rt; "no part is left, or it is too long"),
+        _ => return Ok(false),
     }
-    Ok(())
+    Ok(true)
 }
 
-fn follow(rt: &impl Abort, alloc: Global, plan: &mut Plan, text: &[u8]) -> Result<bool, Errno> {
+// What following a link gives, where the next part is a name.
+fn follow(alloc: Global, plan: &mut Plan, text: &[u8]) -> Option<Result<bool, Errno>> {
     match plan.next() {
-        Some(Part::Named(_)) => plan.through(alloc, text),
-        _ => panic!(rt; "the next part is no name"),
+        Some(Part::Named(_)) => Some(plan.through(alloc, text)),
+        _ => None,
     }
 }
 
-// The next part, whether it is of the caller's own text and the last, the links left, and the names passed.
-fn shown(alloc: Global, plan: &Plan) -> Result<Vec<u8>, NoMemory> {
-    let mut line = Vec::from_slice(alloc, next_text(plan))?;
-    if plan.own() {
-        line.extend_from_slice(b" own")?;
+// Makes one step. Whether it could be made, and told an absolute text as one.
+fn step(alloc: Global, plan: &mut Plan, link: &[u8]) -> Result<bool, NoMemory> {
+    match link.first() {
+        None => pass(plan),
+        Some(first) => Ok(follow(alloc, plan, link) == Some(Ok(*first == b'/'))),
     }
-    if plan.is_last() {
-        line.extend_from_slice(b" last")?;
-    }
-    let left = format!(in alloc; " {} ", plan.links_left())?;
-    line.extend_from_slice(left.as_bytes())?;
-    line.extend_from_slice(plan.names().print(alloc)?.as_slice())?;
-    Ok(line)
 }
 
-// Passes a part, or follows a link with this text, and looks at what the plan then shows.
-fn walk(
-    rt: &impl Abort,
+// Whether the plan shows this, and makes these steps.
+fn walks(
     alloc: Global,
-    plan: &mut Plan,
-    steps: &[(Option<&[u8]>, &[u8])],
-) -> Result<(), Errno> {
-    for (link, shows) in steps {
-        match link {
-            None => pass(rt, plan)?,
-            Some(text) => {
-                let absolute = follow(rt, alloc, plan, text)?;
-                assert_eq!(rt; absolute, text.first() == Some(&b'/'));
-            }
-        }
-        assert_eq!(rt; shown(alloc, plan)?.as_slice(), *shows);
+    mut plan: Plan,
+    begins: &Shown<'_>,
+    steps: &[Step<'_>],
+) -> Result<bool, NoMemory> {
+    let mut all = shows(alloc, &plan, begins)?;
+    for (link, next, standing, links_left, names) in steps {
+        let shown = (*next, *standing, *links_left, *names);
+        all = all && step(alloc, &mut plan, link)? && shows(alloc, &plan, &shown)?;
     }
-    Ok(())
+    Ok(all)
 }
 
 #[test]
 fn a_link_to_an_absolute_path(rt: HostRuntime) -> Result<(), Fail> {
-    let alloc = rt.alloc();
-    let mut plan = plan_of(alloc, b"abs/f", Goal::Follow, PLAIN)?;
-    assert_eq!(rt; shown(alloc, &plan)?.as_slice(), b"abs own 40 /".as_slice());
-    let steps: [(Option<&[u8]>, &[u8]); 3] = [
-        (Some(b"/a/b"), b"a 39 /"),
-        (None, b"b 39 /a"),
-        (None, b"f own last 39 /a/b"),
+    let plan = plan_of(rt.alloc(), b"abs/f", Goal::Follow, PLAIN)?;
+    let begins: Shown<'_> = (b"abs", b"own", 40, b"/");
+    let steps: [Step<'_>; 3] = [
+        (b"/a/b", b"a", b"", 39, b"/"),
+        (b"", b"b", b"", 39, b"/a"),
+        (b"", b"f", b"own last", 39, b"/a/b"),
     ];
-    walk(&rt, alloc, &mut plan, &steps)?;
+    assert!(rt; walks(rt.alloc(), plan, &begins, &steps)?);
     Ok(())
 }
 
 #[test]
 fn a_links_text_comes_before_the_rest(rt: HostRuntime) -> Result<(), Fail> {
-    let alloc = rt.alloc();
-    let mut plan = plan_of(alloc, b"a/up/f", Goal::NoFollow, PLAIN)?;
-    let steps: [(Option<&[u8]>, &[u8]); 9] = [
-        (None, b"up own 40 /a"),
-        (Some(b"x/../k"), b"x 39 /a"),
-        (None, b".. 39 /a/x"),
-        (None, b"k 39 /a"),
-        (Some(b"y/z"), b"y 38 /a"),
-        (None, b"z 38 /a/y"),
-        (None, b"f own last 38 /a/y/z"),
-        (Some(b"/g"), b"g last 37 /"),
-        (None, b" 37 /g"),
+    let plan = plan_of(rt.alloc(), b"a/up/f", Goal::NoFollow, PLAIN)?;
+    let begins: Shown<'_> = (b"a", b"own", 40, b"/");
+    let steps: [Step<'_>; 9] = [
+        (b"", b"up", b"own", 40, b"/a"),
+        (b"x/../k", b"x", b"", 39, b"/a"),
+        (b"", b"..", b"", 39, b"/a/x"),
+        (b"", b"k", b"", 39, b"/a"),
+        (b"y/z", b"y", b"", 38, b"/a"),
+        (b"", b"z", b"", 38, b"/a/y"),
+        (b"", b"f", b"own last", 38, b"/a/y/z"),
+        (b"/g", b"g", b"last", 37, b"/"),
+        (b"", b"", b"", 37, b"/g"),
     ];
-    walk(&rt, alloc, &mut plan, &steps)?;
+    assert!(rt; walks(rt.alloc(), plan, &begins, &steps)?);
     Ok(())
 }
 
 #[test]
+fn the_budget_is_of_the_whole_path(rt: HostRuntime) -> Result<(), Fail> {
+    let plan = plan_of(rt.alloc(), b"k/../k/../k", Goal::Follow, PLAIN)?;
+    let begins: Shown<'_> = (b"k", b"own", 40, b"/");
+    let steps: [Step<'_>; 9] = [
+        (b"j", b"j", b"", 39, b"/"),
+        (b"a", b"a", b"", 38, b"/"),
+        (b"", b"..", b"own", 38, b"/a"),
+        (b"", b"k", b"own", 38, b"/"),
+        (b"a", b"a", b"", 37, b"/"),
+        (b"", b"..", b"own", 37, b"/a"),
+        (b"", b"k", b"own last", 37, b"/"),
+        (b"a", b"a", b"last", 36, b"/"),
+        (b"", b"", b"", 36, b"/a"),
+    ];
+    assert!(rt; walks(rt.alloc(), plan, &begins, &steps)?);
+    Ok(())
+}
+
+#[test]
+fn a_link_upward_beneath(rt: HostRuntime) -> Result<(), Fail> {
+    let plan = plan_of(rt.alloc(), b"l", Goal::Follow, BENEATH)?;
+    let begins: Shown<'_> = (b"l", b"own last", 40, b"/");
+    let steps: [Step<'_>; 1] = [(b"../a/b", b"..", b"", 39, b"/")];
+    assert!(rt; walks(rt.alloc(), plan, &begins, &steps)?);
+    Ok(())
+}
+
+// Whether these names were passed at the end of the path, and then no part is left.
+fn passes(alloc: Global, text: &[u8], names: &[u8]) -> Result<bool, Errno> {
+    let mut plan = plan_of(alloc, text, Goal::Follow, PLAIN)?;
+    for _ in 0..5 {
+        if plan.next().is_some() && !pass(&mut plan)? {
+            return Ok(false);
+        }
+    }
+    Ok(
+        plan.next().is_none()
+            && !plan.is_own()
+            && !plan.is_last()
+            && !plan.follows_next_link()
+            && plan.names().print(alloc)?.as_slice() == names,
+    )
+}
+
+#[test]
 fn names_passed(rt: HostRuntime) -> Result<(), Fail> {
-    let alloc = rt.alloc();
     let cases: [(&[u8], &[u8]); 6] = [
         (b"a/b/f", b"/a/b/f"),
         (b"/a//b/.", b"/a/b"),
@@ -137,49 +195,35 @@ fn names_passed(rt: HostRuntime) -> Result<(), Fail> {
         (b"/", b"/"),
     ];
     for (text, names) in cases {
-        let mut plan = plan_of(alloc, text, Goal::Follow, PLAIN)?;
-        for _ in 0..5 {
-            if plan.next().is_some() {
-                pass(&rt, &mut plan)?;
-            }
-        }
-        assert!(rt; plan.next().is_none());
-        assert!(rt; !plan.own() && !plan.is_last() && !plan.follows());
-        assert_eq!(rt; plan.names().print(alloc)?.as_slice(), names, "of {text:?}");
+        assert!(rt; passes(rt.alloc(), text, names)?, "along {text:?}");
     }
     Ok(())
+}
+
+// Whether the link is refused for that, and the plan then shows this.
+fn refuses(
+    alloc: Global,
+    plan: &mut Plan,
+    text: &[u8],
+    error: Errno,
+    shown: &Shown<'_>,
+) -> Result<bool, NoMemory> {
+    Ok(follow(alloc, plan, text) == Some(Err(error)) && shows(alloc, plan, shown)?)
 }
 
 #[test]
 fn forty_links_and_no_more(rt: HostRuntime) -> Result<(), Fail> {
     let alloc = rt.alloc();
     let mut plan = plan_of(alloc, b"loop/f", Goal::Follow, PLAIN)?;
+    let mut all = true;
     for _ in 0..40 {
-        assert!(rt; !follow(&rt, alloc, &mut plan, b"loop")?);
+        all = all && follow(alloc, &mut plan, b"loop") == Some(Ok(false));
     }
     for text in [b"loop".as_slice(), b""] {
-        assert_eq!(rt; follow(&rt, alloc, &mut plan, text), Err(Errno::Loop));
-        assert_eq!(rt; shown(alloc, &plan)?.as_slice(), b"loop 0 /".as_slice());
+        let left: Shown<'_> = (b"loop", b"", 0, b"/");
+        all = all && refuses(alloc, &mut plan, text, Errno::Loop, &left)?;
     }
-    Ok(())
-}
-
-#[test]
-fn the_budget_is_of_the_whole_path(rt: HostRuntime) -> Result<(), Fail> {
-    let alloc = rt.alloc();
-    let mut plan = plan_of(alloc, b"k/../k/../k", Goal::Follow, PLAIN)?;
-    let steps: [(Option<&[u8]>, &[u8]); 9] = [
-        (Some(b"j"), b"j 39 /"),
-        (Some(b"a"), b"a 38 /"),
-        (None, b".. own 38 /a"),
-        (None, b"k own 38 /"),
-        (Some(b"a"), b"a 37 /"),
-        (None, b".. own 37 /a"),
-        (None, b"k own last 37 /"),
-        (Some(b"a"), b"a last 36 /"),
-        (None, b" 36 /a"),
-    ];
-    walk(&rt, alloc, &mut plan, &steps)?;
+    assert!(rt; all);
     Ok(())
 }
 
@@ -201,13 +245,9 @@ fn refused(rt: HostRuntime) -> Result<(), Fail> {
     ];
     for (flags, text, error) in cases {
         let mut plan = plan_of(alloc, b"l/f", Goal::Follow, flags)?;
-        assert_eq!(rt;
-            follow(&rt, alloc, &mut plan, text),
-            Err(error),
-            "of {text:?}"
-        );
-        assert_eq!(rt; shown(alloc, &plan)?.as_slice(), b"l own 40 /".as_slice());
-        assert_eq!(rt; plan.flags(), flags);
+        let before: Shown<'_> = (b"l", b"own", 40, b"/");
+        let refused = refuses(alloc, &mut plan, text, error, &before)?;
+        assert!(rt; refused && plan.flags() == flags, "of {text:?}");
     }
     Ok(())
 }
@@ -216,7 +256,7 @@ fn refused(rt: HostRuntime) -> Result<(), Fail> {
 fn absolute_paths_beneath(rt: HostRuntime) -> Result<(), Fail> {
     let alloc = rt.alloc();
     for (text, flags, error) in [
-        (b"/a", BENEATH, Some(Errno::CrossRoot)),
+        (b"/a".as_slice(), BENEATH, Some(Errno::CrossRoot)),
         (b"//", BENEATH, Some(Errno::CrossRoot)),
         (b"..", BENEATH, None),
         (b"/a", PLAIN, None),
@@ -226,65 +266,79 @@ fn absolute_paths_beneath(rt: HostRuntime) -> Result<(), Fail> {
         let plan = Plan::new(alloc, path, Goal::Follow, flags);
         assert_eq!(rt; plan.err(), error, "of {text:?}");
     }
-    let mut plan = plan_of(alloc, b"l", Goal::Follow, BENEATH)?;
-    assert!(rt; !follow(&rt, alloc, &mut plan, b"../a/b")?);
-    assert_eq!(rt; next_text(&plan), b"..".as_slice());
     Ok(())
 }
 
 #[test]
 fn the_last_link(rt: HostRuntime) -> Result<(), Fail> {
-    let alloc = rt.alloc();
-    for (text, goal, followed) in [
-        (b"l/f".as_slice(), Goal::NoFollow, true),
-        (b"l/", Goal::NoFollow, true),
-        (b"l", Goal::NoFollow, false),
-        (b"l", Goal::Follow, true),
-        (b"l", Goal::Deepest, true),
-        (b".", Goal::Follow, false),
-        (b"..", Goal::Deepest, false),
+    for (text, goal, of_goal, of_next) in [
+        (b"l/f".as_slice(), Goal::NoFollow, false, true),
+        (b"l/", Goal::NoFollow, false, true),
+        (b"l", Goal::NoFollow, false, false),
+        (b"l", Goal::Follow, true, true),
+        (b"l", Goal::Deepest, true, true),
+        (b".", Goal::Follow, true, false),
+        (b"..", Goal::Deepest, true, false),
     ] {
-        let plan = plan_of(alloc, text, goal, PLAIN)?;
-        assert_eq!(rt; plan.goal(), goal);
-        assert_eq!(rt; plan.follows(), followed, "of {text:?}");
+        let plan = plan_of(rt.alloc(), text, goal, PLAIN)?;
+        let told = (
+            plan.goal(),
+            goal.follows_last_link(),
+            plan.follows_next_link(),
+        );
+        assert!(rt; told == (goal, of_goal, of_next), "of {text:?}");
     }
     Ok(())
+}
+
+// The name that the next part is, where it is one and not too long.
+fn next_name(alloc: Global, plan: &Plan) -> Result<Option<Name>, NoMemory> {
+    match plan.next() {
+        Some(Part::Named(name)) if !name.is_too_long() => Ok(Some(plan.next_name(alloc)?)),
+        _ => Ok(None),
+    }
+}
+
+// Passes this name in place of the next part. Whether that is a name.
+fn go_down(alloc: Global, plan: &mut Plan, bytes: &[u8]) -> Result<bool, Errno> {
+    match plan.next() {
+        Some(Part::Named(_)) => plan.went_down(Name::new(alloc, bytes)?)?,
+        _ => return Ok(false),
+    }
+    Ok(true)
 }
 
 #[test]
 fn another_name_passed(rt: HostRuntime) -> Result<(), Fail> {
     let alloc = rt.alloc();
     let mut plan = plan_of(alloc, b"a/b", Goal::Follow, PLAIN)?;
-    match plan.next() {
-        Some(Part::Named(name)) if !name.is_too_long() => {
-            let name = plan.next_name(alloc)?;
-            assert_eq!(rt; name.bytes(), b"a".as_slice());
-            plan.went_down(Name::new(alloc, b"c")?)?;
-        }
-        _ => panic!(rt; "the next part is no name"),
-    }
-    assert_eq!(rt;
-        shown(alloc, &plan)?.as_slice(),
-        b"b own last 40 /c".as_slice()
-    );
+    let named = next_name(alloc, &plan)?.is_some_and(|name| name.bytes() == b"a".as_slice());
+    let passed = go_down(alloc, &mut plan, b"c")?;
+    let after = shows(alloc, &plan, &(b"b", b"own last", 40, b"/c"))?;
+    assert!(rt; named && passed && after);
     Ok(())
+}
+
+// Whether the parts left are these, where the next one is of the caller's own text.
+fn is_rest(plan: Plan, texts: &[&[u8]]) -> bool {
+    if !plan.is_own() {
+        return false;
+    }
+    let rest = plan.rest();
+    rest.len() == texts.len()
+        && rest
+            .as_slice()
+            .iter()
+            .zip(texts)
+            .all(|(part, text)| text_of(part) == *text)
 }
 
 #[test]
 fn the_rest(rt: HostRuntime) -> Result<(), Fail> {
     let alloc = rt.alloc();
     let mut plan = plan_of(alloc, b"l/n/../m/", Goal::Deepest, PLAIN)?;
-    assert!(rt; !follow(&rt, alloc, &mut plan, b"a")?);
-    pass(&rt, &mut plan)?;
-    assert!(rt; plan.own());
-    let rest = plan.rest();
-    assert_eq!(rt; rest.len(), 4);
-    for (part, text) in rest
-        .as_slice()
-        .iter()
-        .zip(&[b"n".as_slice(), b"..", b"m", b"."])
-    {
-        assert_eq!(rt; text_of(part), *text);
-    }
+    let followed = step(alloc, &mut plan, b"a")?;
+    let passed = pass(&mut plan)?;
+    assert!(rt; followed && passed && is_rest(plan, &[b"n", b"..", b"m", b"."]));
     Ok(())
 }
