@@ -81,6 +81,7 @@ impl Reached {
     pub fn into_close(self) -> Step
         ensures { result ≡ StepOf.Close self.handle }
     {
+        // taken apart, since it can't be let go
         let Reached {
             handle,
             node: _,

@@ -68,9 +68,7 @@ fn stands_as_opened(standing: Standing, names: &Names) -> bool {
         && standing.node() == Node::new(11)
         && standing.kind() == Kind::Dir
         && standing.names().same(names)
-        && standing
-            .into_close()
-            .same(&StepOf::Close(HandleNo::new(5)))
+        && standing.into_close().same(&StepOf::Close(HandleNo::new(5)))
 }
 
 // What was opened, judged by that answer.

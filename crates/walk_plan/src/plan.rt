@@ -91,7 +91,7 @@ impl Plan {
         self.inner.len() + self.own.len() == 1
     }
 
-    /// Whether the next part is of the caller's own text. False where no part is left.
+    /// Whether the next part is of the caller's own text, and not of a link's. False where no part is left.
     pub fn is_own(&self) -> bool
         ensures { result ≡ is_own self.now }
     {
