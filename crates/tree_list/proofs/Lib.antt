@@ -4,3 +4,4 @@ pub mod Sorting
 pub mod Ways
 pub mod Built
 pub mod Stood
+pub mod Index

@@ -1,14 +1,14 @@
 //! Builds a tree of a list of entries.
 ghost use Rattle.std.specs.Prelude.{◌≡◌, ◌∷◌, ◌++◌, [], MatchResult, Ok, IfOk, OnErr};
 ghost use Rattle.tree_model.specs.State.{TOP};
-ghost use Rattle.tree_list.specs.Build.{new_fault, object_of, makes_at, adds, top_alone, built, IsFaultOf};
-ghost use Rattle.tree_list.specs.Changes.{IsGrowth, IsTry};
+ghost use Rattle.tree_list.specs.Build.{new_fault, object_of, makes_at, adds, built, IsFaultOf};
+ghost use Rattle.tree_list.specs.Changes.{IsTry};
 
-use crate::entries::make;
+use crate::indexed::IndexedNodes;
 use path_text::{Bytes, Errno, Name, Names, NoMemory, Path};
 use std::alloc::Global;
 use thiserror::Error;
-use tree_model::{Inode, Object, child, is_dir, top};
+use tree_model::{Inode, Object, Place, top};
 
 /// What a new entry is.
 #[derive(Debug, Drop)]
@@ -58,30 +58,35 @@ fn object_of(alloc: Global, what: &New) -> Result<Object, NoMemory>
 // Makes a node at a name of the directory at the names `way` from the top.
 #[tactic(auto, using(crate::proofs::Building::makes_at_no_directory, crate::proofs::Building::makes_at_missing, crate::proofs::Building::makes_at_enters))]
 fn make_at(
-    nodes: &mut Vec<Inode>,
+    nodes: &mut IndexedNodes,
     alloc: Global,
     way: &[Name],
-    name: &Name,
+    name: Name,
     object: Object,
-) -> Result<Result<(), Errno>, NoMemory>
-    ensures { IsGrowth nodes.old.items nodes.new.items (makes_at nodes.old.items TOP (way.now ++ name.now ∷ []) object) result }
+) -> Result<(), Errno>
+    ensures { IsTry nodes.old nodes.new (makes_at nodes.old TOP (way.now ++ name ∷ []) object) result }
 {
     let mut dir = top();
     for step in way {
-        if !is_dir(nodes, dir) {
-            return Ok(Err(Errno::NotDir));
+        if !nodes.is_dir(dir) {
+            return Err(Errno::NotDir);
         }
-        let Some(next) = child(nodes, dir, step.bytes()) else {
-            return Ok(Err(Errno::NotFound));
+        let at = Place {
+            parent: dir,
+            name: step.copy(alloc)?,
+        };
+        let Some(next) = nodes.child(&at) else {
+            return Err(Errno::NotFound);
         };
         dir = next;
     }
-    make(nodes, alloc, dir, name, object)
+    let at = Place { parent: dir, name };
+    nodes.make(alloc, at, object)?
 }
 
 // Adds an entry.
-fn add(nodes: &mut Vec<Inode>, alloc: Global, entry: &Entry) -> Result<(), Errno>
-    ensures { IsTry nodes.old.items nodes.new.items (adds nodes.old.items entry.now) result }
+fn add(nodes: &mut IndexedNodes, alloc: Global, entry: &Entry) -> Result<(), Errno>
+    ensures { IsTry nodes.old nodes.new (adds nodes.old entry.now) result }
 {
     if let Some(fault) = new_fault(&entry.what) {
         return Err(fault);
@@ -91,19 +96,7 @@ fn add(nodes: &mut Vec<Inode>, alloc: Global, entry: &Entry) -> Result<(), Errno
         return Err(Errno::Exists);
     };
     let object = object_of(alloc, &entry.what)?;
-    make_at(nodes, alloc, way.as_slice(), &name, object)?
-}
-
-/// The top alone.
-pub(crate) fn top_alone(alloc: Global) -> Result<Vec<Inode>, NoMemory>
-    ensures { IfOk result (λ nodes. nodes.items ≡ top_alone) }
-{
-    let mut nodes = Vec::new(alloc);
-    nodes.push(Inode {
-        object: Object::Dir,
-        place: None,
-    })?;
-    Ok(nodes)
+    make_at(nodes, alloc, way.as_slice(), name, object)
 }
 
 /// The nodes of the tree with these entries, or the first that is refused, and why.
@@ -111,7 +104,7 @@ pub(crate) fn top_alone(alloc: Global) -> Result<Vec<Inode>, NoMemory>
 pub(crate) fn build(alloc: Global, entries: &[Entry]) -> Result<Vec<Inode>, BuildFault>
     ensures { MatchResult result (λ nodes. built entries.now ≡ Ok nodes.items) (λ fault. IsFaultOf entries.now fault) }
 {
-    let mut nodes = top_alone(alloc).map_err(|_| BuildFault {
+    let mut nodes = IndexedNodes::new(alloc).map_err(|_| BuildFault {
         at: 0,
         cause: Errno::NoMemory,
     })?;
@@ -121,5 +114,5 @@ pub(crate) fn build(alloc: Global, entries: &[Entry]) -> Result<Vec<Inode>, Buil
             Err(cause) => return Err(BuildFault { at, cause }),
         }
     }
-    Ok(nodes)
+    Ok(nodes.into_nodes())
 }

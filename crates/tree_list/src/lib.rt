@@ -1,11 +1,13 @@
 //! A plain tree of two lists: the nodes and the open handles, each at the place of its number.
 //!
-//! Everything is found by a scan from the front, so that the tree is slow and easily seen to be right. The
-//! layers above use it as a `Tree`, whose contract is the step table.
+//! The steps find everything by a scan from the front, so that the tree is slow and easily seen to be right. Only
+//! where it is built of a list of entries an index stands beside the nodes. The layers above use it as a `Tree`,
+//! whose contract is the step table.
 #![tactic(auto)]
 
 mod build;
 mod entries;
+mod indexed;
 mod read;
 mod step;
 mod tree;

@@ -143,6 +143,7 @@ impl ListTree {
         };
         match object_at(&self.nodes, x) {
             Some(Object::Link(text)) => Ok(Answer::Text(text.copy(alloc)?)),
+            // A directory or a file; in a well-formed tree never None (`lookups_lead_to_nodes`).
             _ => Ok(Answer::Refused(Errno::Invalid)),
         }
     }

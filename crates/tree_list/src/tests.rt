@@ -89,13 +89,9 @@ fn bare(alloc: Global) -> Result<ListTree, Fail> {
     Ok(tree)
 }
 
-/// The words of a line; one that is missing is `-`.
-fn words(line: &'static str) -> [&'static str; 6] {
-    let mut words = ["-"; 6];
-    for (place, word) in words.iter_mut().zip(line.split(' ')) {
-        *place = word;
-    }
-    words
+/// The word of a line at that place; one that is missing is `-`.
+fn word(line: &'static str, at: usize) -> &'static str {
+    line.split(' ').nth(at).unwrap_or("-")
 }
 
 /// A number, or for a word that is none a number that nothing has.
@@ -158,32 +154,33 @@ fn named_step(word: &str, dir: HandleNo, name: Name) -> Step {
 }
 
 fn step_of(alloc: Global, line: &'static str) -> Result<Step, Errno> {
-    let [word, first, second, third, fourth, fifth] = words(line);
-    let dir = handle(first);
-    if let Some(step) = bare_step(word, dir, handle(second)) {
+    let verb = word(line, 0);
+    let dir = handle(word(line, 1));
+    if let Some(step) = bare_step(verb, dir, handle(word(line, 2))) {
         return Ok(step);
     }
-    let name = Name::new(alloc, second.as_bytes())?;
-    match word {
+    let name = Name::new(alloc, word(line, 2).as_bytes())?;
+    match verb {
         "make_link" => {
-            let text = Bytes::from_slice(alloc, third.as_bytes())?;
+            let text = Bytes::from_slice(alloc, word(line, 3).as_bytes())?;
             Ok(StepOf::MakeLink(dir, name, text))
         }
         "rename" => {
-            let new = Name::new(alloc, fourth.as_bytes())?;
-            Ok(StepOf::Rename(dir, name, handle(third), new, mode(fifth)))
+            let new = Name::new(alloc, word(line, 4).as_bytes())?;
+            let mode = mode(word(line, 5));
+            Ok(StepOf::Rename(dir, name, handle(word(line, 3)), new, mode))
         }
-        _ => Ok(named_step(word, dir, name)),
+        _ => Ok(named_step(verb, dir, name)),
     }
 }
 
 fn answer_of(alloc: Global, line: &'static str) -> Result<Answer, Errno> {
-    let [word, first, second, third, ..] = words(line);
-    match word {
+    let first = word(line, 1);
+    match word(line, 0) {
         "opened" => Ok(Answer::Opened {
             handle: handle(first),
-            node: Node::new(number(second)),
-            kind: kind(third),
+            node: Node::new(number(word(line, 2))),
+            kind: kind(word(line, 3)),
         }),
         "text" => Ok(Answer::Text(Bytes::from_slice(alloc, first.as_bytes())?)),
         "names" => Ok(Answer::Names(names_of(alloc, first)?)),

@@ -3,7 +3,8 @@ ghost use Rattle.std.specs.Prelude.{◌≡◌, IfOk, MatchResult};
 ghost use Rattle.tree_model.specs.Trees.{IsState};
 ghost use Rattle.tree_list.specs.Build.{with_nodes, top_alone, IsBuilt, IsFaultOf, IsTreeOf};
 
-use crate::build::{BuildFault, Entry, build, top_alone};
+use crate::build::{BuildFault, Entry, build};
+use crate::indexed::IndexedNodes;
 use crate::read::directory_at;
 use crate::step::held_count;
 use path_text::{Errno, Names, NoMemory};
@@ -35,7 +36,7 @@ impl ListTree {
         ensures alone { IfOk result (λ tree. tree ≡ with_nodes top_alone) }
         ensures tree { IfOk result IsState }
     {
-        let nodes = top_alone(alloc)?;
+        let nodes = IndexedNodes::new(alloc)?.into_nodes();
         Ok(ListTree {
             nodes,
             handles: Vec::new(alloc),

@@ -51,8 +51,9 @@ impl Object {
     }
 }
 
-/// Where a node stands: its directory entry.
-#[derive(Debug, Drop)]
+/// Where a node stands: its directory entry, which is a directory and a name in it. Entries are in the order of the
+/// directory's number, then of the name's bytes.
+#[derive(Debug, Drop, PartialEq, Eq, PartialOrd, Ord)]
 pub struct Place {
     /// The directory.
     pub parent: Node,

@@ -2,7 +2,7 @@
 //! turns a row into its value.
 use crate::{
     Actor, Answer, HandleNo, Inode, Kind, Mode, Node, Object, OpenHandle, Place, Row, Snapshot,
-    Step, StepOf, child, has_entries, is_dir, is_gone, object_at, parent, place_at,
+    Step, StepOf, child, has_entries, is_dir, is_gone, object_at, parent, place_at, top,
 };
 use path_text::{Bytes, Errno, Name, Names};
 use std::alloc::Global;
@@ -348,7 +348,8 @@ fn is_named(place: Option<&Place>, name: &str) -> bool {
 fn reads(nodes: &[Inode], wanted: &Reading) -> bool {
     let (node, word, gone, entries, above, name) = *wanted;
     let x = Node::new(node);
-    is_dir(nodes, x) == (word == "dir")
+    (x == top()) == (node == 0)
+        && is_dir(nodes, x) == (word == "dir")
         && word_of(object_at(nodes, x)) == word
         && is_gone(nodes, x) == gone
         && has_entries(nodes, x) == entries

@@ -6,5 +6,5 @@ use Rattle.tree_list.proofs.build.build.Goals as goal
 pub loop-at-preserved : goal.loop-at-preserved
 loop-at-preserved c = (
   sym (adds_all_more c.loop-at.at _ _ c.args.entries.now _ c.loop-at-test.true c.index-entries-at.is c.in-Ok.ensures) ∙ c.loop-at.invariant.0,
-  adds_all_take_more 0 c.loop-at.at top_alone c.loop-at.nodes.items _ c.args.entries.now _ c.loop-at-test.true c.index-entries-at.is c.in-Ok.ensures c.loop-at.invariant.1,
+  adds_all_take_more 0 c.loop-at.at top_alone c.loop-at.nodes _ c.args.entries.now _ c.loop-at-test.true c.index-entries-at.is c.in-Ok.ensures c.loop-at.invariant.1,
 )
