@@ -15,7 +15,7 @@ use Rattle.step_resolver.proofs.DeepEnds.{tells_deepest}
 
 module _ (w : Walked) (end : Turn) (is : IsWalked w) (leads : LeadsTo w.way (begins w.way w.path) w.lines end) where
   -- the walk's own events leave the nodes
-  only_tell : AllTell (own_events w.actor w.window)
+  pub only_tell : AllTell (own_events w.actor w.window)
   only_tell = subst AllTell (sym is.own) (lines_only_tell w.actor w.way w.lines (begins w.way w.path) end leads)
 
   no_root_below : (d : ℕ) (names : List (List ℕ)) (n : List ℕ) → Stands (begin_of w).nodes w.root d names → child (begin_of w).nodes d n ≡ Some w.root → ⊥

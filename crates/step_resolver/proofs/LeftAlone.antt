@@ -22,7 +22,7 @@ abbrev pub AllTell : List Event → Type 0
 AllTell [] = Unit {0}
 AllTell (event ∷ events) = (is_on_entries event.step ≡ false) × AllTell events
 
-due_tells : (way : Way) (walk : Walking) → is_on_entries (due way walk) ≡ false
+pub due_tells : (way : Way) (walk : Walking) → is_on_entries (due way walk) ≡ false
 due_tells way (opening position own follow n rest) = refl
 due_tells way (reading position link rest) = refl
 due_tells way (rising handle names rest) = refl

@@ -2,6 +2,10 @@ pub mod WalkAnswers
 pub mod WalkParts
 pub mod WalkSteps
 pub mod Worked
+pub mod WorkedRace
+pub mod OwnSteps
+pub mod StepCount
+pub mod MeaningBelow
 pub mod Trails
 pub mod MeaningLaws
 pub mod MeaningDeepest

@@ -44,7 +44,7 @@ given_up : (k : ℕ) (hs : List ℕ) (error : Errno) → length hs < k → Fewer
 given_up k [] error few = tt
 given_up k (h ∷ hs) error few = omega arith
 
-one_handle : (position : Position) → length (handles_of position) ≤ 1
+pub one_handle : (position : Position) → length (handles_of position) ≤ 1
 one_handle root_itself = omega arith
 one_handle (holds handle names) = omega arith
 

@@ -23,6 +23,9 @@ pub mod Headline
 pub mod MeaningLaws
 pub mod TrailLaws
 pub mod WorkedPaths
+pub mod WorkedRace
+pub mod OwnSteps
+pub mod StepCount
 pub mod FootprintLaws
 pub mod View
 pub mod Taken

@@ -1,12 +1,13 @@
 -- The statements of the laws of meaning. path_resolution(7); POSIX.1, 4.16 Pathname Resolution.
-use Rattle.std.specs.Prelude.{◌≡◌, ◌↔◌, ℕ, suc, ◌≤◌, List, [], ◌∷◌, ◌++◌, Bool, true, false, Some}
+use Rattle.std.specs.Prelude.{◌≡◌, ◌≢◌, ◌↔◌, ◌⊎◌, ℕ, suc, ◌≤◌, List, [], ◌∷◌, ◌++◌, Bool, true, false, Some}
 use Rattle.path_text.specs.declared.errno.Errno.{Errno}
 use Rattle.path_text.specs.declared.errno.Errno.TheVariants.{NotFound, CrossRoot, NotDir, TooLong, Loop}
 use Rattle.path_text.specs.Text.{parts_of}
 use Rattle.tree_model.specs.declared.inode.Object.TheVariants.{Link}
-use Rattle.tree_model.specs.State.{object_at, child, is_dir}
+use Rattle.tree_model.specs.State.{object_at, child, parent, is_dir}
+use Rattle.tree_model.specs.Trees.{IsTree}
 use Rattle.step_resolver.specs.Asked.{AskedPart, Named, followed}
-use Rattle.step_resolver.specs.Meaning.{Ground, Entry, Meant, object, fails, after_reads, and_then, is_too_long, from_of, crosses, means, Deep, whole, up_to, none, is_missing, entries_of, deepest}
+use Rattle.step_resolver.specs.Meaning.{Ground, Entry, Meant, object, fails, after_reads, and_then, is_too_long, from_of, crosses, above_of, means, Deep, whole, up_to, none, is_missing, entries_of, deepest}
 
 -- over appended parts it is the meaning of the first, then of the second from there, with what both read
 abbrev pub AppendedPartsMean : Type 0
@@ -90,3 +91,20 @@ meant_by (none error reads) = fails error reads
 abbrev pub DeepestMeansTheSame : Type 0
 DeepestMeansTheSame = (nested : ℕ) (g : Ground) (d : ℕ) (ps : List AskedPart) (b : ℕ)
     → meant_by (deepest nested g d ps b) ≡ means nested g d ps b
+
+-- ---- the way up
+
+-- the root, or a node that has a parent
+abbrev pub IsBelow : Ground → ℕ → Type 0
+IsBelow g d = (d ≡ g.root) ⊎ ((e : ℕ) × (parent g.nodes d ≡ Some e))
+
+-- In a tree, what parts mean from such a place is such a place. A link's text begins at the root or in the directory that
+-- holds the link.
+abbrev pub PartsLeadBelow : Type 0
+PartsLeadBelow = (nested : ℕ) (g : Ground) → IsTree g.nodes → (d : ℕ) (ps : List AskedPart) (b e c : ℕ) (reads : List Entry)
+    → IsBelow g d → means nested g d ps b ≡ object e c reads → IsBelow g e
+
+-- So `..` never finds a place without a parent.
+abbrev pub UpIsNeverMissing : Type 0
+UpIsNeverMissing = (nested : ℕ) (g : Ground) → IsTree g.nodes → (ps : List AskedPart) (b e c : ℕ) (reads : List Entry)
+    → means nested g g.root ps b ≡ object e c reads → above_of g e c ≢ fails NotFound []

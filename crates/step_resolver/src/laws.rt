@@ -1,5 +1,8 @@
 //! What the end of every walk tells, in every history: a law, the contract of a function without a body.
 ghost use Rattle.step_resolver.specs.Headline.{WalksTell};
+ghost use Rattle.step_resolver.specs.OwnSteps.{DueStepsLeaveEntries, OwnEventsLeaveNodes};
+ghost use Rattle.step_resolver.specs.StepCount.{StepsByPartsPassed};
+ghost use Rattle.step_resolver.specs.WorkedRace.{RaceIsWorked};
 
 /// For every interleaving of actors' single steps, a walk that finds its object reached it by its path's parts,
 /// each passed as the tree stood at rising moments of the walk, with at most 40 links, and at a later moment of
@@ -9,4 +12,23 @@ ghost use Rattle.step_resolver.specs.Headline.{WalksTell};
 /// which names the object.
 pub fn walks_tell()
     ensures { WalksTell }
+{}
+
+/// No step that a walk asks for makes, removes or renames an entry, and each of its events leaves the nodes as they
+/// were, whatever others do in between.
+pub fn own_steps_leave_entries()
+    ensures steps { DueStepsLeaveEntries }
+    ensures nodes { OwnEventsLeaveNodes }
+{}
+
+/// A walk takes at most four steps for each part that it passes, of its path and of the links' texts that it
+/// follows, and four more.
+pub fn steps_by_parts_passed()
+    ensures { StepsByPartsPassed }
+{}
+
+/// A walk along `a/b/..` whose directory is moved out of the root meanwhile: a legal history, computed, in which it
+/// ends in EAGAIN, and what that tells.
+pub fn worked_race()
+    ensures { RaceIsWorked }
 {}

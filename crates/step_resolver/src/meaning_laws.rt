@@ -1,5 +1,5 @@
 //! Laws of the meaning of a path, each the contract of a function without a body.
-ghost use Rattle.step_resolver.specs.MeaningLaws.{AppendedPartsMean, NestingDoesNotMatter, LinksNeverRise, LinksAreTheirTexts, DeepestIsFrontAndRest, DeepestMeansTheSame, PartsFailAsPaths};
+ghost use Rattle.step_resolver.specs.MeaningLaws.{AppendedPartsMean, NestingDoesNotMatter, LinksNeverRise, LinksAreTheirTexts, DeepestIsFrontAndRest, DeepestMeansTheSame, PartsFailAsPaths, PartsLeadBelow, UpIsNeverMissing};
 ghost use Rattle.step_resolver.specs.WorkedPaths.{NamesAreWorked, LinksAreWorked, BudgetIsWorked, SlashesAreWorked, LengthsAreWorked, BeneathIsWorked, NoLinksAreWorked, TrailIsWorked};
 
 /// Over appended parts it is the meaning of the first parts, then that of the others from there, with the
@@ -33,6 +33,13 @@ pub fn deepest_is_front_and_rest()
 /// (path_resolution(7), openat2(2)).
 pub fn errors_of_parts()
     ensures { PartsFailAsPaths }
+{}
+
+/// In a tree, `..` never finds a place without a parent: whatever parts mean from the root is the root itself or
+/// stands in a directory, so going up never fails with ENOENT.
+pub fn up_is_never_missing()
+    ensures below { PartsLeadBelow }
+    ensures up { UpIsNeverMissing }
 {}
 
 /// What paths of each kind come to on a small tree, computed: names and the texts that are none, links, the forty

@@ -1,0 +1,20 @@
+-- Each own event in a walk's window leaves the nodes.
+use Rattle.std.specs.Prelude.{◌≡◌, suc, Option, Some, None, slice_get, refl}
+use Rattle.std.proofs.Common.{sym, ap, ◌∙◌}
+use Rattle.std.proofs.lemmas.Bool.{false≢true}
+use Rattle.tree_model.specs.declared.answer.Event.{Event}
+use Rattle.step_resolver.specs.Trail.{is_by}
+use Rattle.step_resolver.specs.Ends.{begin_of, state_at, story}
+use Rattle.step_resolver.specs.OwnSteps.{OwnEventsLeaveNodes}
+use Rattle.step_resolver.proofs.Headline.{tree_laws}
+use Rattle.step_resolver.proofs.LeftAlone.{own_tells, next_moment}
+use Rattle.step_resolver.proofs.FootprintLaws.{only_tell}
+
+pub own_events_leave_nodes : OwnEventsLeaveNodes
+own_events_leave_nodes w end is leads t own = on (slice_get w.window t) refl
+  where
+    on : (o : Option Event) → slice_get w.window t ≡ o → (story w).nodes_at (suc t) ≡ (story w).nodes_at t
+    on None q = absurd (false≢true (sym (ap (is_by w.actor) q) ∙ own))
+    on (Some event) q = ap (λ s. s.nodes) (next_moment (begin_of w) w.window t event q)
+        ∙ tree_laws.nodes (state_at w t) event.actor event.step
+        (own_tells w.actor w.window (only_tell w end is leads) t event q (sym (ap (is_by w.actor) q) ∙ own))

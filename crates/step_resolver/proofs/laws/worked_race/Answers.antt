@@ -1,0 +1,5 @@
+use Rattle.step_resolver.proofs.WorkedRace.{race_is_worked}
+use Rattle.step_resolver.proofs.laws.worked_race.Goals as goal
+
+pub returns : goal.returns
+returns c = race_is_worked
