@@ -26,8 +26,10 @@ use Rattle.step_resolver.specs.Asked.{asked, follows, is_deepest}
 use Rattle.step_resolver.specs.Meaning.{Ground, Meant, object, fails, reading_means, Deep, whole, up_to, none, reading_deepest}
 use Rattle.step_resolver.specs.Order.{Way, Walking, opening, reading, rising, judging, duping, ending, closing, Turn, more, found, partial, failed, begins, for_walk, due, Line, answered, short, unmade, events_of, LeadsTo}
 use Rattle.step_resolver.specs.Order.{take as takes}
-use Rattle.step_resolver.specs.Ends.{Walked, IsWalked, own_events, IsNewHandle, TellsTooMany, TellsWant, TellsError, is_want, is_for_want, IsMeant, IsMeantDeep, IsEnd}
-use Rattle.step_resolver.specs.Headline.{WalksTell}
+use Rattle.step_resolver.specs.Failures.{TellsTooMany, TellsWant, TellsError}
+use Rattle.step_resolver.specs.Footprint.{is_want, is_for_want, IsMeant, IsMeantDeep, IsEnd}
+use Rattle.step_resolver.specs.Headline.{IsNewHandle, WalksTell}
+use Rattle.step_resolver.specs.WalkHistory.{Walked, IsWalked, own_events}
 use Rattle.step_resolver.specs.FootprintLaws.{QuietWalksMean, IsQuiet, IsQuietEnd}
 use Rattle.step_resolver.specs.Telling.{first_lines}
 use Rattle.step_resolver.specs.View.{WalkView}
@@ -37,7 +39,7 @@ use Rattle.step_resolver.specs.declared.walk.Turn.TheVariants as turn
 use Rattle.step_resolver.specs.declared.driver.Resolved.{Resolved}
 use Rattle.step_resolver.specs.declared.driver.Resolved.TheVariants.{Found, Partial}
 use Rattle.step_resolver.specs.Driver.{IsReady, IsAnswer, steps_of, IsWithoutBook, Drives, IsObject, Resolves, ResolvesDeep, ResolvesFor, standing_of, LeavesOwn, LeavesHandles, opened_count, LeavesRoom, IsOwned}
-use Rattle.step_resolver.proofs.Counted.{same_count, one_more}
+use Rattle.step_resolver.proofs.Underway.HandleCount.{same_count, one_more}
 use Rattle.step_resolver.proofs.FirstTurns.{first_lines_lead}
 use Rattle.step_resolver.proofs.Telling.{leads_on, line_leads}
 use Rattle.step_resolver.proofs.WalkSteps.{FewerThan, a_step_left, begins_few}

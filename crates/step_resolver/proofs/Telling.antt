@@ -12,12 +12,12 @@ use Rattle.step_resolver.specs.declared.walk.Root.{Root}
 use Rattle.step_resolver.specs.Asked.{asked, follows}
 use Rattle.step_resolver.specs.Meaning.{LINKS_MAX}
 use Rattle.step_resolver.specs.Order.{Way, root_itself, todo, goes_on, Walking, opening, reading, rising, judging, duping, ending, closing, Turn, more, found, partial, failed, begins, take, Line, answered, short, unmade, LeadsTo}
-use Rattle.step_resolver.specs.Ends.{Walked, IsWalked}
-use Rattle.step_resolver.specs.Headline.{WalksTell}
+use Rattle.step_resolver.specs.WalkHistory.{Walked, IsWalked}
+use Rattle.step_resolver.specs.Headline.{Headline, WalksTell}
 use Rattle.step_resolver.specs.FootprintLaws.{WalksMean}
 use Rattle.step_resolver.specs.View.{way_from}
 use Rattle.step_resolver.specs.Taken.{StartsTo, TakesTo}
-use Rattle.step_resolver.specs.Telling.{TellsAll, IsLineOf, TellsTaken, first_lines, TellsBegun}
+use Rattle.step_resolver.specs.Telling.{IsLineOf, TellsTaken, first_lines, TellsBegun}
 use Rattle.step_resolver.proofs.WalkSteps.{swapped}
 use Rattle.step_resolver.proofs.FirstTurns.{first_lines_lead}
 
@@ -55,10 +55,10 @@ line_leads way room walk answer turn (unmade error) taken is =
     (is.0, (is.1, refusal_needs_no_room way room walk error ∙ ap (λ a. take way room walk a) (sym is.2) ∙ sym taken))
 
 -- what an end tells, and what the path means
-tells_all : WalksTell → WalksMean → (way : Way) (w : Walked) (turn : Turn) → IsWalked w → w.way ≡ way → LeadsTo way (begins way w.path) w.lines turn → TellsAll w turn
+tells_all : WalksTell → WalksMean → (way : Way) (w : Walked) (turn : Turn) → IsWalked w → w.way ≡ way → LeadsTo way (begins way w.path) w.lines turn → Headline w turn
 tells_all tell mean way w turn walked same_way leads_by =
     let leads = subst (λ (v : Way). LeadsTo v (begins v w.path) w.lines turn) (sym same_way) leads_by in
-    record { end = tell w turn walked leads; meaning = (mean w turn walked leads).0; deepest = (mean w turn walked leads).1 }
+    record { tells = tell w turn walked leads; means = (mean w turn walked leads).0; deepest = (mean w turn walked leads).1 }
 
 pub taken_tells : WalksTell → WalksMean → (way : Way) (walk : Walking) (answer : Answer) (turn : Turn) → TakesTo way walk answer turn → TellsTaken way walk answer turn
 taken_tells tell mean way walk answer turn taken = record {

@@ -7,12 +7,14 @@ use Rattle.tree_model.specs.State.{child, Stands}
 use Rattle.step_resolver.specs.Asked.{follows, is_deepest}
 use Rattle.step_resolver.specs.Meaning.{Entry, reads_of, reading_means, reading_deepest}
 use Rattle.step_resolver.specs.Order.{Turn, more, found, partial, failed, begins, LeadsTo}
-use Rattle.step_resolver.specs.Ends.{Walked, IsWalked, begin_of, end_of, story, ground, IsEnd, is_for_want, IsMeant, IsMeantDeep, TellsMeaning, TellsDeepest}
+use Rattle.step_resolver.specs.WalkHistory.{Walked, IsWalked, begin_of, end_of, story}
+use Rattle.step_resolver.specs.Footprint.{ground, IsEnd, is_for_want, IsMeant, IsMeantDeep}
+use Rattle.step_resolver.specs.Headline.{Means, MeansDeepest}
 
 -- Where no event of another in the window changes an entry that the path reads in the tree as the window begins, the end
 -- is what the path means in that tree, whatever else is changed.
 abbrev pub WalksMean : Type 0
-WalksMean = (w : Walked) (end : Turn) → IsWalked w → LeadsTo w.way (begins w.way w.path) w.lines end → TellsMeaning w end × TellsDeepest w end
+WalksMean = (w : Walked) (end : Turn) → IsWalked w → LeadsTo w.way (begins w.way w.path) w.lines end → Means w end × MeansDeepest w end
 
 -- no event of another stands in the window
 abbrev pub IsQuiet : Walked → Type 0

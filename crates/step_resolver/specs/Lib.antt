@@ -18,7 +18,9 @@ pub mod Asked
 pub mod Meaning
 pub mod Trail
 pub mod Order
-pub mod Ends
+pub mod WalkHistory
+pub mod Failures
+pub mod Footprint
 pub mod Headline
 pub mod MeaningLaws
 pub mod TrailLaws

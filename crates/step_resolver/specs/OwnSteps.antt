@@ -2,7 +2,7 @@
 use Rattle.std.specs.Prelude.{◌≡◌, ℕ, suc, true, false}
 use Rattle.tree_model.specs.StepLaws.{is_on_entries}
 use Rattle.step_resolver.specs.Order.{Way, Walking, Turn, begins, due, LeadsTo}
-use Rattle.step_resolver.specs.Ends.{Walked, IsWalked, story}
+use Rattle.step_resolver.specs.WalkHistory.{Walked, IsWalked, story}
 
 -- no step that is due makes, removes or renames an entry
 abbrev pub DueStepsLeaveEntries : Type 0

@@ -5,14 +5,8 @@ use Rattle.path_text.specs.Reading.{Reading}
 use Rattle.tree_model.specs.declared.answer.Answer.{Answer}
 use Rattle.tree_model.specs.declared.answer.Answer.TheVariants.{Refused}
 use Rattle.step_resolver.specs.Order.{Way, Walking, Turn, more, found, partial, failed, begins, starts, take, due, is_closing, Line, answered, short, unmade, IsWant, LeadsTo}
-use Rattle.step_resolver.specs.Ends.{Walked, IsWalked, Tells, TellsMeaning, TellsDeepest}
-
--- As an end it tells what was passed, or why it failed; and, where the entries that the path reads are left alone, it is
--- what the path means, and so for the deepest directory.
-pub record TellsAll (w : Walked) (turn : Turn) : Type 0 where
-  pub end : Tells w turn
-  pub meaning : TellsMeaning w turn
-  pub deepest : TellsDeepest w turn
+use Rattle.step_resolver.specs.WalkHistory.{Walked, IsWalked}
+use Rattle.step_resolver.specs.Headline.{Headline}
 
 -- The line that the answer to the due step is: the step was made, with room for what the answer brings or without; or it
 -- wasn't made, for a want that is handed in as its refusal. A Close is always made.
@@ -36,7 +30,7 @@ pub record IsTaken (way : Way) (room : Bool) (walking : Walking) (answer : Answe
 pub record TellsTaken (way : Way) (walking : Walking) (answer : Answer) (turn : Turn) : Type 0 where
   pub room : Bool
   pub is_turn : turn ≡ take way room walking answer
-  pub tells : (w : Walked) → IsTaken way room walking answer w → TellsAll w turn
+  pub tells : (w : Walked) → IsTaken way room walking answer w → Headline w turn
 
 -- The lines up to the first turn: none; or, where a walk that would go on found no memory, that its first step wasn't made.
 abbrev pub first_lines : Bool → Turn → List Line
@@ -58,4 +52,4 @@ pub record IsBegun (way : Way) (room : Bool) (path : Reading) (w : Walked) : Typ
 pub record TellsBegun (way : Way) (path : Reading) (turn : Turn) : Type 0 where
   pub room : Bool
   pub is_turn : turn ≡ starts way room path
-  pub tells : (w : Walked) → IsBegun way room path w → TellsAll w turn
+  pub tells : (w : Walked) → IsBegun way room path w → Headline w turn

@@ -100,8 +100,6 @@ pub record IsTop (story : Story) (s : Spot) : Type 0 where
 -- Links count at all depths, since each takes one of those left.
 pub data Trail (story : Story) : List AskedPart → Spot → Spot → Option AskedPart → Type 0 where
   all : {s : Spot} (m : ℕ) → s.moment ≤ m → Trail story [] s (later m s) None
-  before : {p : AskedPart} {ps : List AskedPart} {s : Spot} (m : ℕ) → s.moment ≤ m
-      → Trail story (p ∷ ps) s (later m s) (Some p)
   stay : {ps : List AskedPart} {s z : Spot} {next : Option AskedPart} → is_directory (story.object_of s.node) ≡ true
       → Trail story ps s z next → Trail story (Cur ∷ ps) s z next
   top : {ps : List AskedPart} {s z : Spot} {next : Option AskedPart} → IsTop story s
@@ -116,6 +114,9 @@ pub data Trail (story : Story) : List AskedPart → Spot → Spot → Option Ask
   through : {n : List ℕ} {ps : List AskedPart} {s z : Spot} {next : Option AskedPart} (t : ℕ) (text : List ℕ) (b : ℕ) (mid : Spot)
       → IsLinkAt story s n t text b → Trail story (followed (parts_of text)) (from_text story s text b (suc t)) mid None
       → Trail story ps mid z next → Trail story (Named true n ∷ ps) s z next
+  -- stops
+  before : {p : AskedPart} {ps : List AskedPart} {s : Spot} (m : ℕ) → s.moment ≤ m
+      → Trail story (p ∷ ps) s (later m s) (Some p)
   into : {n : List ℕ} {p : AskedPart} {ps : List AskedPart} {s z : Spot} (t : ℕ) (text : List ℕ) (b : ℕ)
       → IsLinkAt story s n t text b → Trail story (followed (parts_of text)) (from_text story s text b (suc t)) z (Some p)
       → Trail story (Named true n ∷ ps) s z (Some p)

@@ -13,7 +13,9 @@ use Rattle.walk_plan.specs.declared.goal.Goal.TheVariants.{Follow}
 use Rattle.step_resolver.specs.Asked.{follows}
 use Rattle.step_resolver.specs.Meaning.{reads_of, reading_means}
 use Rattle.step_resolver.specs.Order.{Line, answered, failed, begins, events_of, LeadsTo}
-use Rattle.step_resolver.specs.Ends.{Walked, IsWalked, Tells, ground}
+use Rattle.step_resolver.specs.WalkHistory.{Walked, IsWalked}
+use Rattle.step_resolver.specs.Footprint.{ground}
+use Rattle.step_resolver.specs.Headline.{Tells}
 use Rattle.step_resolver.specs.FootprintLaws.{SomeIsChanged}
 use Rattle.step_resolver.specs.WorkedPaths.{ROOT, plain}
 

@@ -1,8 +1,18 @@
-//! What the end of every walk tells, in every history: a law, the contract of a function without a body.
-ghost use Rattle.step_resolver.specs.Headline.{WalksTell};
+//! What the end of every walk tells, in every history, and what its steps do: laws, each the contract of a function
+//! without a body.
+ghost use Rattle.step_resolver.specs.Headline.{EveryWalk, WalksTell};
 ghost use Rattle.step_resolver.specs.OwnSteps.{DueStepsLeaveEntries, OwnEventsLeaveNodes};
 ghost use Rattle.step_resolver.specs.StepCount.{StepsByPartsPassed};
 ghost use Rattle.step_resolver.specs.WorkedRace.{RaceIsWorked};
+
+/// For every interleaving of actors' single steps, a resolution that succeeds opens an object reached by its path's
+/// parts, each passed as the tree stood at rising moments of the call, and at its last check the object stood under
+/// the root at the names passed; where no entry that it reads is changed meanwhile, its object or error is what
+/// in-root resolution of the whole path means (openat2(2), RESOLVE_IN_ROOT). Each failure was true at moments of the
+/// call.
+pub fn headline()
+    ensures { EveryWalk }
+{}
 
 /// For every interleaving of actors' single steps, a walk that finds its object reached it by its path's parts,
 /// each passed as the tree stood at rising moments of the walk, with at most 40 links, and at a later moment of

@@ -2,10 +2,11 @@
 //!
 //! A `Walk` asks for one step at a time and is told its answer, so that others may change the tree in between
 //! (openat2(2), RESOLVE_IN_ROOT; path_resolution(7)). Its `start`, `due` and `take` are exactly the order of
-//! steps of `specs/Order.antt`, and each `take` leaves fewer steps to come. The layers above use what holds of
-//! that order in every legal history: `walks_tell`, what each end of a walk tells, and `walks_mean`, that the
-//! end is what the path means where no other actor changes an entry that the path reads. `start` and `take` tell
-//! it themselves, by their clause `headline` (`specs/Telling.antt`).
+//! steps of `specs/Order.antt`, and each `take` leaves fewer steps to come. What holds of that order in every legal
+//! history is the law `headline`, which `specs/Headline.antt` states clause by clause. The layers above use its
+//! parts: `walks_tell`, what each end of a walk tells, and `walks_mean`, that the end is what the path means where no
+//! other actor changes an entry that the path reads. `start` and `take` tell it themselves, by their clause
+//! `headline` (`specs/Telling.antt`).
 #![tactic(auto)]
 
 mod answers;
@@ -21,7 +22,7 @@ mod walk;
 
 pub use driver::{Resolved, advance, resolve};
 pub use footprint_laws::{quiet_walks_mean, raced_tells_of_change, walks_mean};
-pub use laws::{own_steps_leave_entries, steps_by_parts_passed, walks_tell, worked_race};
+pub use laws::{headline, own_steps_leave_entries, steps_by_parts_passed, walks_tell, worked_race};
 pub use meaning_laws::{
     deepest_is_front_and_rest, errors_of_parts, links_are_their_texts, meaning_of_appended_parts,
     nesting_does_not_matter, up_is_never_missing, worked_paths,

@@ -1,4 +1,4 @@
-use Rattle.step_resolver.proofs.FootprintLaws.{walks_mean}
+use Rattle.step_resolver.proofs.Ends.WalksMean.{walks_mean}
 use Rattle.step_resolver.proofs.footprint_laws.walks_mean.Goals as goal
 
 pub returns : goal.returns

@@ -1,4 +1,4 @@
-use Rattle.step_resolver.proofs.StepCount.{steps_by_parts_passed}
+use Rattle.step_resolver.proofs.Underway.StepCount.{steps_by_parts_passed}
 use Rattle.step_resolver.proofs.laws.steps_by_parts_passed.Goals as goal
 
 pub returns : goal.returns

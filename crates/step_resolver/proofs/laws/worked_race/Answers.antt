@@ -1,4 +1,4 @@
-use Rattle.step_resolver.proofs.WorkedRace.{race_is_worked}
+use Rattle.step_resolver.proofs.Ends.WorkedRace.{race_is_worked}
 use Rattle.step_resolver.proofs.laws.worked_race.Goals as goal
 
 pub returns : goal.returns

@@ -1,4 +1,4 @@
-use Rattle.step_resolver.proofs.MeaningErrors.{parts_fail_as_paths}
+use Rattle.step_resolver.proofs.Meaning.Errors.{parts_fail_as_paths}
 use Rattle.step_resolver.proofs.meaning_laws.errors_of_parts.Goals as goal
 
 pub returns : goal.returns

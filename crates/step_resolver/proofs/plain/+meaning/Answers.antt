@@ -5,7 +5,7 @@ use Rattle.path_text.specs.Text.{pieces, part_of, parts_of, has_final_slash}
 use Rattle.step_resolver.specs.Asked.{ask, asked}
 use Rattle.step_resolver.specs.Meaning.{Ground, from_of, crosses, part_means, parts_mean}
 use Rattle.step_resolver.specs.Plain.{arrival, meant}
-use Rattle.step_resolver.proofs.Arrivals.{link_followed, part_arrived-lowers, piece_arrives, piece_fails}
+use Rattle.step_resolver.proofs.Meaning.PlainResolution.{link_followed, part_arrived-lowers, piece_arrives, piece_fails}
 use Rattle.step_resolver.proofs.plain.+meaning.Goals as goal
 
 pub link_means-returns : goal.link_means-returns

@@ -3,7 +3,7 @@ use Rattle.path_text.specs.Text.{pieces, parts_of, has_final_slash}
 use Rattle.step_resolver.specs.Asked.{asked}
 use Rattle.step_resolver.specs.Meaning.{parts_mean}
 use Rattle.step_resolver.specs.Plain.{arrival, meant}
-use Rattle.step_resolver.proofs.Arrivals.{parts_from}
+use Rattle.step_resolver.proofs.Meaning.PlainResolution.{parts_from}
 use Rattle.step_resolver.proofs.plain.+meaning.Given as goal
 
 -- each link that is followed leaves one less, and three functions call one another for it

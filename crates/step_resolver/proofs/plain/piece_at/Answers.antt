@@ -3,7 +3,7 @@ use Rattle.std.proofs.lemmas.Iterator.Consumers.{nth_from_yields_List}
 use borrow.Author.Tests.{tests}
 use Rattle.path_text.proofs.PiecesYielded.{pieces_yielded}
 use Rattle.path_text.specs.Text.{pieces}
-use Rattle.step_resolver.proofs.Arrivals.{found_there}
+use Rattle.step_resolver.proofs.Meaning.PlainResolution.{found_there}
 use Rattle.step_resolver.proofs.plain.piece_at.Goals as goal
 
 pub returns : goal.returns

@@ -4,7 +4,7 @@ use Rattle.path_text.specs.Text.{parts_of}
 use Rattle.step_resolver.specs.Asked.{asked}
 use Rattle.step_resolver.specs.Meaning.{Ground, LINKS_MAX, parts_mean, resolution}
 use Rattle.step_resolver.specs.Plain.{meant}
-use Rattle.step_resolver.proofs.Arrivals.{resolution_ok, resolution_err, whole_is}
+use Rattle.step_resolver.proofs.Meaning.PlainResolution.{resolution_ok, resolution_err, whole_is}
 use Rattle.step_resolver.proofs.plain.resolve_whole.Goals as goal
 
 pub returns : goal.returns

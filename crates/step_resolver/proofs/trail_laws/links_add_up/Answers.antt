@@ -1,4 +1,4 @@
-use Rattle.step_resolver.proofs.Trails.{rises, fewer_links, with_more_links}
+use Rattle.step_resolver.proofs.Trail.Joined.{rises, fewer_links, with_more_links}
 use Rattle.step_resolver.proofs.trail_laws.links_add_up.Goals as goal
 
 pub returns : goal.returns

@@ -1,4 +1,4 @@
-use Rattle.step_resolver.proofs.Trails.{appended, stop_of_more}
+use Rattle.step_resolver.proofs.Trail.Joined.{appended, stop_of_more}
 use Rattle.step_resolver.proofs.trail_laws.trails_append.Goals as goal
 
 pub returns : goal.returns

@@ -1,4 +1,4 @@
-use Rattle.step_resolver.proofs.Trails.{split}
+use Rattle.step_resolver.proofs.Trail.Joined.{split}
 use Rattle.step_resolver.proofs.trail_laws.trails_split.Goals as goal
 
 pub returns : goal.returns

@@ -11,8 +11,9 @@ use Rattle.tree_model.specs.declared.step.StepOf.{StepOf}
 use Rattle.tree_model.specs.Entries.{refuse_if}
 use Rattle.tree_model.specs.Steps.{outcome, held_count, node_held, is_held_by, is_full}
 use Rattle.step_resolver.specs.Order.{Position, root_itself, holds, handles_of}
-use Rattle.step_resolver.specs.Ends.{Walked, begin_of, state_at, MetRefusal, TellsTooMany}
-use Rattle.step_resolver.proofs.Invariant.{StepAt, HandlesAre}
+use Rattle.step_resolver.specs.WalkHistory.{Walked, begin_of, state_at}
+use Rattle.step_resolver.specs.Failures.{MetRefusal, TellsTooMany}
+use Rattle.step_resolver.proofs.Underway.WalkInvariant.{StepAt, HandlesAre}
 
 abbrev ones : Option ℕ → ℕ
 ones None = 0

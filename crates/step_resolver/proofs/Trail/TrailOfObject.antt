@@ -13,10 +13,10 @@ use Rattle.step_resolver.specs.Asked.{AskedPart, Cur, Up, Named, followed}
 use Rattle.step_resolver.specs.Meaning.{Entry, Meant, object, fails, Deeper, after_reads, and_then, link_in, child_is, named, one_part, part_means, parts_mean, is_too_long, crosses, from_of}
 use Rattle.step_resolver.specs.Trail.{Spot, Trail, all, stay, top, climb, down, through, IsChildAt, is_entered, quiet, from_text}
 use Rattle.step_resolver.specs.TrailLaws.{still, IsReachedThere, QuietMeaningsAreReached}
-use Rattle.step_resolver.proofs.Places.{entry, place_at-child, object_at-place}
-use Rattle.step_resolver.proofs.MeaningLaws.{deeper_at, means_by}
-use Rattle.step_resolver.proofs.Footprint.{Fits, IsWay, part_in, name_in, up_in, top_in, down_way, parent_on, stands_on}
-use Rattle.step_resolver.proofs.QuietTrails.{at_rest, way_of, rests}
+use Rattle.step_resolver.proofs.Meaning.NodesAtEntries.{entry, place_at-child, object_at-place}
+use Rattle.step_resolver.proofs.Meaning.PartsAndLinks.{deeper_at, means_by}
+use Rattle.step_resolver.proofs.Ends.TrailsAndMeaning.{Fits, IsWay, part_in, name_in, up_in, top_in, down_way, parent_on, stands_on}
+use Rattle.step_resolver.proofs.Trail.MeaningOfTrail.{at_rest, way_of, rests}
 
 -- ---- what a meaning that is an object says of its pieces
 

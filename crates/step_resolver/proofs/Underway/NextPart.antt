@@ -13,8 +13,9 @@ use Rattle.step_resolver.specs.Asked.{AskedPart, Cur, Up, Named}
 use Rattle.step_resolver.specs.Meaning.{is_too_long}
 use Rattle.step_resolver.specs.Trail.{Story, Spot, Trail, all, before, stay, top, climb, down, through, into}
 use Rattle.step_resolver.specs.Order.{Position, root_itself, holds, todo, After, gives, onward, judges, opening, Turn, more, handles_of, is_dir_position, is_dir_kind, gives_up, at_end, at_top, in_directory, on_part, on_own, on_parts, goes_on, comes, closes}
-use Rattle.step_resolver.specs.Ends.{Walked, story, start, TellsError}
-use Rattle.step_resolver.proofs.Invariant.{Lived, HandlesAre, node_at, spot_at, IsPositionHeld, Going, GoesFor, stop_at, passed_on, AllApart, handles_after, at_all, GoodAfter, Good}
+use Rattle.step_resolver.specs.WalkHistory.{Walked, story, start}
+use Rattle.step_resolver.specs.Failures.{TellsError}
+use Rattle.step_resolver.proofs.Underway.WalkInvariant.{Lived, HandlesAre, node_at, spot_at, IsPositionHeld, Going, GoesFor, stop_at, passed_on, AllApart, handles_after, at_all, GoodAfter, Good}
 
 names_not_empty : (n : List ℕ) (ns : List (List ℕ)) → n ∷ ns ≡ [] → ⊥
 names_not_empty n ns e = cc e

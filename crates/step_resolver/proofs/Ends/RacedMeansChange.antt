@@ -11,12 +11,14 @@ use Rattle.step_resolver.specs.Asked.{asked, follows, is_deepest}
 use Rattle.step_resolver.specs.Meaning.{Entry, Meant, object, fails, LINKS_MAX, path_means, reading_means, reads_of, Deep, whole, up_to, none, path_deepest, reading_deepest}
 use Rattle.step_resolver.specs.MeaningLaws.{meant_by, is_of_parts}
 use Rattle.step_resolver.specs.Order.{failed}
-use Rattle.step_resolver.specs.Ends.{Walked, begin_of, parts_of_walk, IsLeftAlone, AllLeftAlone, ground, IsMeant, IsMeantDeep, TellsMeaning, TellsDeepest}
+use Rattle.step_resolver.specs.WalkHistory.{Walked, begin_of, parts_of_walk}
+use Rattle.step_resolver.specs.Footprint.{IsLeftAlone, AllLeftAlone, ground, IsMeant, IsMeantDeep}
+use Rattle.step_resolver.specs.Headline.{Means, MeansDeepest}
 use Rattle.step_resolver.specs.FootprintLaws.{IsChanged, SomeIsChanged, RacedTellsOfChange}
-use Rattle.step_resolver.proofs.MeaningDeepest.{deepest_means_the_same, reads_of-meant_by}
-use Rattle.step_resolver.proofs.MeaningErrors.{parts_fail_as_paths}
-use Rattle.step_resolver.proofs.FootprintLaws.{walks_mean}
-use Rattle.step_resolver.proofs.DeepEnds.{follows_deepest}
+use Rattle.step_resolver.proofs.Meaning.Deepest.{deepest_means_the_same, reads_of-meant_by}
+use Rattle.step_resolver.proofs.Meaning.Errors.{parts_fail_as_paths}
+use Rattle.step_resolver.proofs.Ends.WalksMean.{walks_mean}
+use Rattle.step_resolver.proofs.Ends.DeepestMeaning.{follows_deepest}
 
 -- ---- whether an entry is left alone
 
@@ -115,7 +117,7 @@ module _ (w : Walked) where
       on true = refl
       on false = deepest_means_the_same LINKS_MAX (ground w) w.root (asked true w.path.parts) LINKS_MAX
 
-  module _ (tells : TellsMeaning w (failed Raced) × TellsDeepest w (failed Raced)) (alone : AllLeftAlone w (reads_of meaning)) where
+  module _ (tells : Means w (failed Raced) × MeansDeepest w (failed Raced)) (alone : AllLeftAlone w (reads_of meaning)) where
     not_raced : (t : Bool) → is_deepest w.way.goal ≡ t → ⊥
     not_raced false plain = raced_is_not meaning never_raced (tells.0 tt plain refl alone)
     not_raced true deep =

@@ -14,14 +14,15 @@ use Rattle.step_resolver.specs.Asked.{AskedPart}
 use Rattle.step_resolver.specs.Trail.{Spot, Trail}
 use Rattle.step_resolver.specs.Order.{Handle, root_itself, holds, todo, After, gives, onward, judges, Walking, opening, reading, rising, judging, duping, ending, closing, handles_of, take, is_closing, IsWant}
 use Rattle.step_resolver.specs.Order.{end_of as ends_with}
-use Rattle.step_resolver.specs.Ends.{Walked, state_at, story, start, TellsError, MetRefusal}
-use Rattle.step_resolver.proofs.Trails.{own_earlier}
-use Rattle.step_resolver.proofs.Outcomes.{IsLess, Close-is_less, Opening, too_many, no_object, is_opened, opening_of, dup_is}
-use Rattle.step_resolver.proofs.Invariant.{Lived, StepAt, held_at, IsNotIn, handles_kept, handles_more, handles_less, root_open, held_kept, held_less, held_node, spot_at, going_later, trail_at, handles_after, GoodEnd, EndsAt, at_all, at_missing, GoodAfter, GoodClosing, GoodWalk, FoundAt, Good}
-use Rattle.step_resolver.proofs.Counted.{few_held, refusal_told}
-use Rattle.step_resolver.proofs.Settling.{gave_up, closes_good}
-use Rattle.step_resolver.proofs.Moments.{kept_on, more_on, position_kept, position_less}
-use Rattle.step_resolver.proofs.Risings.{judged_good}
+use Rattle.step_resolver.specs.WalkHistory.{Walked, state_at, story, start}
+use Rattle.step_resolver.specs.Failures.{TellsError, MetRefusal}
+use Rattle.step_resolver.proofs.Trail.Joined.{own_earlier}
+use Rattle.step_resolver.proofs.Underway.StepOutcomes.{IsLess, Close-is_less, Opening, too_many, no_object, is_opened, opening_of, dup_is}
+use Rattle.step_resolver.proofs.Underway.WalkInvariant.{Lived, StepAt, held_at, IsNotIn, handles_kept, handles_more, handles_less, root_open, held_kept, held_less, held_node, spot_at, going_later, trail_at, handles_after, GoodEnd, EndsAt, at_all, at_missing, GoodAfter, GoodClosing, GoodWalk, FoundAt, Good}
+use Rattle.step_resolver.proofs.Underway.HandleCount.{few_held, refusal_told}
+use Rattle.step_resolver.proofs.Underway.NextPart.{gave_up, closes_good}
+use Rattle.step_resolver.proofs.Underway.HandlesHeld.{kept_on, more_on, position_kept, position_less}
+use Rattle.step_resolver.proofs.Underway.AfterParent.{judged_good}
 
 ends_later : {w : Walked} {m k : ℕ} {to : Spot} {rest : List AskedPart} → m ≤ k → EndsAt w m to rest → EndsAt w k to rest
 ends_later le (at_all e) = at_all e

@@ -15,13 +15,16 @@ use Rattle.step_resolver.specs.Meaning.{Ground, Entry, Meant, object, fails, Dee
 use Rattle.step_resolver.specs.TrailLaws.{Split, passed, stopped}
 use Rattle.step_resolver.specs.Trail.{Spot, Trail, all, before, stay, top, climb, down, through, into, IsLinkAt}
 use Rattle.step_resolver.specs.Order.{Handle, Turn, more, found, partial, failed, root_itself, todo, begins, goes_on, LeadsTo}
-use Rattle.step_resolver.specs.Ends.{Walked, begin_of, story, parts_of_walk, ground, start, IsMissingAt, IsWithinLink, TellsNotFound, TellsUpFromRoot, TellsAbsoluteLink, TellsRacedUp, TellsRacedEnd, TellsRacedDeepest, TellsError, Tells, is_for_want, is_want, IsEnd, IsMeantDeep, TellsDeepest}
-use Rattle.step_resolver.proofs.Trails.{split}
-use Rattle.step_resolver.proofs.MeaningLaws.{deeper_at, means_by}
-use Rattle.step_resolver.proofs.MeaningDeepest.{deep_after-twice, deep_after_nothing}
-use Rattle.step_resolver.proofs.Invariant.{no_stop}
-use Rattle.step_resolver.proofs.Footprint.{Setting, AllAlone, Fits, IsWay, alone_of, Followed, same_object, same_dir, stands_on, follow}
-use Rattle.step_resolver.proofs.MeantEnds.{setting, all_alone, missing_fails, no_dir_fails, long_fails, link_reads, loops, crossing, root_fails, name_alone, no_raced_up, only_crosses}
+use Rattle.step_resolver.specs.WalkHistory.{Walked, begin_of, story, parts_of_walk, start}
+use Rattle.step_resolver.specs.Failures.{IsMissingAt, IsWithinLink, TellsNotFound, TellsUpFromRoot, TellsAbsoluteLink, TellsRacedUp, TellsRacedEnd, TellsRacedDeepest, TellsError}
+use Rattle.step_resolver.specs.Footprint.{ground, is_for_want, is_want, IsEnd, IsMeantDeep}
+use Rattle.step_resolver.specs.Headline.{Tells, MeansDeepest}
+use Rattle.step_resolver.proofs.Trail.Joined.{split}
+use Rattle.step_resolver.proofs.Meaning.PartsAndLinks.{deeper_at, means_by}
+use Rattle.step_resolver.proofs.Meaning.Deepest.{deep_after-twice, deep_after_nothing}
+use Rattle.step_resolver.proofs.Underway.WalkInvariant.{no_stop}
+use Rattle.step_resolver.proofs.Ends.TrailsAndMeaning.{Setting, AllAlone, Fits, IsWay, alone_of, Followed, same_object, same_dir, stands_on, follow}
+use Rattle.step_resolver.proofs.Ends.WholeMeaning.{setting, all_alone, missing_fails, no_dir_fails, long_fails, link_reads, loops, crossing, root_fails, name_alone, no_raced_up, only_crosses}
 
 all_first : (w : Setting) (xs ys : List Entry) → AllAlone w (xs ++ ys) → AllAlone w xs
 all_first w [] ys a = tt
@@ -377,7 +380,7 @@ module _ {w : Walked} (fits : Fits (setting w)) where
           (sym tells.node, tells.begins_with)
       deep_end (failed error) want tells is_end = deep_error error want tells.true_once
 
-  pub tells_deepest : (end : Turn) → LeadsTo w.way (begins w.way w.path) w.lines end → Tells w end → TellsDeepest w end
+  pub tells_deepest : (end : Turn) → LeadsTo w.way (begins w.way w.path) w.lines end → Tells w end → MeansDeepest w end
   tells_deepest end leads tells is_end deep want alone = on (w.way.flags.beneath && w.path.absolute) refl
     where
       parts_same : asked true w.path.parts ≡ parts_of_walk w

@@ -12,8 +12,11 @@ use Rattle.step_resolver.specs.Asked.{AskedPart, Up, Named, followed, follows, i
 use Rattle.step_resolver.specs.Meaning.{Entry, Meant, object, fails, Deeper, after_reads, link_in, child_is, named, one_part, part_means, LINKS_MAX, path_means, reading_means, is_too_long, crosses, from_of, reads_of}
 use Rattle.step_resolver.specs.Trail.{Spot, Trail, IsOwnFrom}
 use Rattle.step_resolver.specs.Order.{Turn, more, found, partial, failed, root_itself, todo, begins, goes_on, Line, LeadsTo}
-use Rattle.step_resolver.specs.Ends.{Walked, begin_of, story, parts_of_walk, ground, start, IsMissingAt, IsLinkThere, IsLeftAlone, AllLeftAlone, TellsUpFromRoot, TellsAbsoluteLink, TellsRacedUp, TellsRacedEnd, TellsRacedDeepest, TellsError, Tells, is_for_want, is_want, IsMeant, IsEnd, TellsMeaning}
-use Rattle.step_resolver.proofs.Footprint.{Setting, AllAlone, Fits, IsWay, alone_here, Followed, same_object, same_dir, stands_on, parent_on, down_way, part_in, name_in, top_in, follow}
+use Rattle.step_resolver.specs.WalkHistory.{Walked, begin_of, story, parts_of_walk, start}
+use Rattle.step_resolver.specs.Failures.{IsMissingAt, IsLinkThere, TellsUpFromRoot, TellsAbsoluteLink, TellsRacedUp, TellsRacedEnd, TellsRacedDeepest, TellsError}
+use Rattle.step_resolver.specs.Footprint.{ground, IsLeftAlone, AllLeftAlone, is_for_want, is_want, IsMeant, IsEnd}
+use Rattle.step_resolver.specs.Headline.{Tells, Means}
+use Rattle.step_resolver.proofs.Ends.TrailsAndMeaning.{Setting, AllAlone, Fits, IsWay, alone_here, Followed, same_object, same_dir, stands_on, parent_on, down_way, part_in, name_in, top_in, follow}
 
 -- a walk's story, the tree as its window begins, and the entries that no other changes
 abbrev pub setting : Walked → Setting
@@ -193,7 +196,7 @@ module _ {w : Walked} (fits : Fits (setting w)) where
   only_crosses [] end leads = leads
   only_crosses (line ∷ lines) end leads = absurd leads
 
-  pub tells_meaning : (end : Turn) → LeadsTo w.way (begins w.way w.path) w.lines end → Tells w end → TellsMeaning w end
+  pub tells_meaning : (end : Turn) → LeadsTo w.way (begins w.way w.path) w.lines end → Tells w end → Means w end
   tells_meaning end leads tells is_end not_deep want alone = on (w.way.flags.beneath && w.path.absolute) refl
     where
       meaning : Bool → Meant

@@ -5,9 +5,9 @@ use Rattle.tree_model.specs.declared.answer.Answer.{Answer}
 use Rattle.tree_model.specs.declared.step.StepOf.{StepOf}
 use Rattle.tree_model.specs.Steps.{outcome, held, with_handle}
 use Rattle.step_resolver.specs.Order.{Position, root_itself, holds, handles_of, handle_at}
-use Rattle.step_resolver.specs.Ends.{Walked, state_at}
-use Rattle.step_resolver.proofs.Outcomes.{IsMore, IsLess, with_handle-is_more}
-use Rattle.step_resolver.proofs.Invariant.{Lived, StepAt, held_at, IsNotIn, HandlesAre, root_open, held_kept, old_is_other, held_more, held_less, node_at, IsPositionHeld}
+use Rattle.step_resolver.specs.WalkHistory.{Walked, state_at}
+use Rattle.step_resolver.proofs.Underway.StepOutcomes.{IsMore, IsLess, with_handle-is_more}
+use Rattle.step_resolver.proofs.Underway.WalkInvariant.{Lived, StepAt, held_at, IsNotIn, HandlesAre, root_open, held_kept, old_is_other, held_more, held_less, node_at, IsPositionHeld}
 
 -- the two handles in the other order
 pub handles_swapped : {w : Walked} {m h k : ℕ} → HandlesAre w m (h ∷ k ∷ []) → HandlesAre w m (k ∷ h ∷ [])

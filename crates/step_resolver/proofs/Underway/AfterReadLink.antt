@@ -16,12 +16,13 @@ use Rattle.step_resolver.specs.Meaning.{crosses}
 use Rattle.step_resolver.specs.TrailLaws.{Split, passed, stopped}
 use Rattle.step_resolver.specs.Trail.{Story, Spot, Trail, through, into, IsLinkAt, from_text}
 use Rattle.step_resolver.specs.Order.{Handle, Position, root_itself, todo, onward, reading, names_of, handles_of, gives_up, take, read_text, from_link}
-use Rattle.step_resolver.specs.Ends.{Walked, state_at, story, IsWithinLink, TellsError}
-use Rattle.step_resolver.proofs.Trails.{split}
-use Rattle.step_resolver.proofs.Outcomes.{read_is}
-use Rattle.step_resolver.proofs.Invariant.{Lived, StepAt, held_at, HandlesAre, handles_kept, held_node, node_at, spot_at, IsPositionHeld, Going, going_later, stop_at, trail_at, no_stop, passes, GoodReading, Good}
-use Rattle.step_resolver.proofs.Settling.{gave_up, closes_good, all_apart}
-use Rattle.step_resolver.proofs.Moments.{kept_on, position_kept}
+use Rattle.step_resolver.specs.WalkHistory.{Walked, state_at, story}
+use Rattle.step_resolver.specs.Failures.{IsWithinLink, TellsError}
+use Rattle.step_resolver.proofs.Trail.Joined.{split}
+use Rattle.step_resolver.proofs.Underway.StepOutcomes.{read_is}
+use Rattle.step_resolver.proofs.Underway.WalkInvariant.{Lived, StepAt, held_at, HandlesAre, handles_kept, held_node, node_at, spot_at, IsPositionHeld, Going, going_later, stop_at, trail_at, no_stop, passes, GoodReading, Good}
+use Rattle.step_resolver.proofs.Underway.NextPart.{gave_up, closes_good, all_apart}
+use Rattle.step_resolver.proofs.Underway.HandlesHeld.{kept_on, position_kept}
 
 -- whatever leads over a link's parts and what comes after them leads over the link's name and what comes after it
 pub spliced : (story : Story) (n text : List ℕ) (s : Spot) (t b : ℕ) → IsLinkAt story s n t text b

@@ -18,14 +18,15 @@ use Rattle.tree_model.specs.Trees.{IsTree}
 use Rattle.step_resolver.specs.Asked.{AskedPart, Up}
 use Rattle.step_resolver.specs.Trail.{climb, IsOwnFrom}
 use Rattle.step_resolver.specs.Order.{Handle, holds, todo, judges, rising, judging, Turn, gives_up, goes_on, judged, same_names, take}
-use Rattle.step_resolver.specs.Ends.{Walked, state_at, story, MetRefusal}
-use Rattle.step_resolver.proofs.Trails.{own_earlier}
-use Rattle.step_resolver.proofs.Places.{names_below-stands}
-use Rattle.step_resolver.proofs.Outcomes.{Opening, too_many, no_object, is_opened, opening_of, ParentCase, not_dir, no_parent, at_parent, parent_case, below_is}
-use Rattle.step_resolver.proofs.Invariant.{Lived, StepAt, held_at, HandlesAre, handles_kept, handles_more, root_open, IsHeld, held_kept, old_is_other, dir_at, spot_at, Going, stop_at, passed_on, GoodRising, GoodJudging, Good}
-use Rattle.step_resolver.proofs.Counted.{few_held, refusal_told}
-use Rattle.step_resolver.proofs.Settling.{gave_up, goes_on_good, closes_good}
-use Rattle.step_resolver.proofs.Moments.{handles_swapped, kept_on, more_on}
+use Rattle.step_resolver.specs.WalkHistory.{Walked, state_at, story}
+use Rattle.step_resolver.specs.Failures.{MetRefusal}
+use Rattle.step_resolver.proofs.Trail.Joined.{own_earlier}
+use Rattle.step_resolver.proofs.Meaning.NodesAtEntries.{names_below-stands}
+use Rattle.step_resolver.proofs.Underway.StepOutcomes.{Opening, too_many, no_object, is_opened, opening_of, ParentCase, not_dir, no_parent, at_parent, parent_case, below_is}
+use Rattle.step_resolver.proofs.Underway.WalkInvariant.{Lived, StepAt, held_at, HandlesAre, handles_kept, handles_more, root_open, IsHeld, held_kept, old_is_other, dir_at, spot_at, Going, stop_at, passed_on, GoodRising, GoodJudging, Good}
+use Rattle.step_resolver.proofs.Underway.HandleCount.{few_held, refusal_told}
+use Rattle.step_resolver.proofs.Underway.NextPart.{gave_up, goes_on_good, closes_good}
+use Rattle.step_resolver.proofs.Underway.HandlesHeld.{handles_swapped, kept_on, more_on}
 
 -- what a parent is told to be is something
 parent_is_something : (nodes : List Inode) → IsTree nodes → (x e : ℕ) → parent nodes x ≡ Some e → object_at nodes e ≡ None → ⊥

@@ -14,13 +14,14 @@ use Rattle.tree_model.specs.Steps.{outcome, opens, kind_of}
 use Rattle.step_resolver.specs.Asked.{AskedPart, Named, is_deepest}
 use Rattle.step_resolver.specs.Trail.{down, IsChildAt, is_entered}
 use Rattle.step_resolver.specs.Order.{Handle, Position, root_itself, holds, todo, onward, opening, Turn, names_of, handles_of, handle_at, gives_up, at_end, is_followed, follows_link, enters, opened, take, more, reading}
-use Rattle.step_resolver.specs.Ends.{Walked, state_at, story, TellsError, IsMissingAt, MetRefusal}
-use Rattle.step_resolver.proofs.Places.{entry, place_at-child, object_at-place}
-use Rattle.step_resolver.proofs.Outcomes.{IsMore, Opening, too_many, no_object, is_opened, opening_of, OpenCase, no_dir, no_child, at_child, open_case}
-use Rattle.step_resolver.proofs.Invariant.{Lived, StepAt, held_at, HandlesAre, handles_kept, handles_more, IsHeld, dir_at, node_at, spot_at, IsPositionHeld, Going, GoesFor, stop_at, passed_on, within_link, AllApart, GoodOpening, at_missing, Good}
-use Rattle.step_resolver.proofs.Counted.{few_held, refusal_told}
-use Rattle.step_resolver.proofs.Settling.{gave_up, closes_good}
-use Rattle.step_resolver.proofs.Moments.{handles_swapped, kept_on, more_on, position_open, position_kept, position_more, new_is_other}
+use Rattle.step_resolver.specs.WalkHistory.{Walked, state_at, story}
+use Rattle.step_resolver.specs.Failures.{TellsError, IsMissingAt, MetRefusal}
+use Rattle.step_resolver.proofs.Meaning.NodesAtEntries.{entry, place_at-child, object_at-place}
+use Rattle.step_resolver.proofs.Underway.StepOutcomes.{IsMore, Opening, too_many, no_object, is_opened, opening_of, OpenCase, no_dir, no_child, at_child, open_case}
+use Rattle.step_resolver.proofs.Underway.WalkInvariant.{Lived, StepAt, held_at, HandlesAre, handles_kept, handles_more, IsHeld, dir_at, node_at, spot_at, IsPositionHeld, Going, GoesFor, stop_at, passed_on, within_link, AllApart, GoodOpening, at_missing, Good}
+use Rattle.step_resolver.proofs.Underway.HandleCount.{few_held, refusal_told}
+use Rattle.step_resolver.proofs.Underway.NextPart.{gave_up, closes_good}
+use Rattle.step_resolver.proofs.Underway.HandlesHeld.{handles_swapped, kept_on, more_on, position_open, position_kept, position_more, new_is_other}
 
 module _ {w : Walked} (lived : Lived w) (now t : ℕ) (room : Bool) (want : room ≡ false → TellsError w NoMemory)
     (position : Position) (own follow : Bool) (n : List ℕ) (inner rest : List AskedPart) (b : ℕ)

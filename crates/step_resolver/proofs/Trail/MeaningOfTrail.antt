@@ -8,10 +8,10 @@ use Rattle.tree_model.proofs.PlaceLaws.{stands_at_one_way}
 use Rattle.step_resolver.specs.Meaning.{Entry, reads_of, parts_mean}
 use Rattle.step_resolver.specs.Trail.{quiet}
 use Rattle.step_resolver.specs.TrailLaws.{still, QuietTrailsMean}
-use Rattle.step_resolver.proofs.Places.{child-entry}
-use Rattle.step_resolver.proofs.LeftAlone.{root_is_no_child}
-use Rattle.step_resolver.proofs.MeaningLaws.{deeper_at, means_by}
-use Rattle.step_resolver.proofs.Footprint.{Setting, AllAlone, Fits, IsWay, stands_on, follow}
+use Rattle.step_resolver.proofs.Meaning.NodesAtEntries.{child-entry}
+use Rattle.step_resolver.proofs.Ends.EntriesLeftAlone.{root_is_no_child}
+use Rattle.step_resolver.proofs.Meaning.PartsAndLinks.{deeper_at, means_by}
+use Rattle.step_resolver.proofs.Ends.TrailsAndMeaning.{Setting, AllAlone, Fits, IsWay, stands_on, follow}
 
 module _ (nodes : List Inode) (r : ℕ) (flags : Flags) where
   abbrev pub at_rest : Setting

@@ -16,8 +16,8 @@ use Rattle.tree_model.specs.PlaceLaws.{StandsAtOneWay, NamesBelowAreStanding}
 use Rattle.tree_model.specs.HistoryLaws.{HistoriesKeepTrees, ObjectsStayForGood}
 use Rattle.step_resolver.specs.Trail.{is_by}
 use Rattle.step_resolver.specs.Order.{Line, answered, short, unmade, events_of}
-use Rattle.step_resolver.specs.Ends.{Walked, begin_of, end_of, state_at, own_events, IsWalked}
-use Rattle.step_resolver.proofs.Invariant.{Lived, StepAt, Happens, held_at}
+use Rattle.step_resolver.specs.WalkHistory.{Walked, begin_of, end_of, state_at, own_events, IsWalked}
+use Rattle.step_resolver.proofs.Underway.WalkInvariant.{Lived, StepAt, Happens, held_at}
 
 -- the laws of trees that are used
 pub record TreeLaws : Type 0 where

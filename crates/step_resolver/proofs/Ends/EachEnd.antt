@@ -12,13 +12,15 @@ use Rattle.step_resolver.specs.Asked.{AskedPart}
 use Rattle.step_resolver.specs.Meaning.{LINKS_MAX}
 use Rattle.step_resolver.specs.Trail.{Trail}
 use Rattle.step_resolver.specs.Order.{Handle, root_itself, holds, todo, Walking, opening, reading, rising, judging, duping, ending, closing, Turn, more, found, partial, failed, begins, goes_on, take, due, IsWant, Line, answered, short, unmade, LeadsTo}
-use Rattle.step_resolver.specs.Ends.{Walked, end_of, story, parts_of_walk, start, IsNewHandle, TellsFound, TellsPartial, TellsError, TellsWant, MetRefusal, Tells}
-use Rattle.step_resolver.proofs.Invariant.{Lived, StepAt, Happens, held_at, HandlesAre, IsHeld, spot_at, Going, no_stop, trail_at, EndsAt, at_all, at_missing, GoodWalk, FoundAt, Good}
-use Rattle.step_resolver.proofs.Settling.{goes_on_good}
-use Rattle.step_resolver.proofs.Openings.{opening_good}
-use Rattle.step_resolver.proofs.Readings.{reading_good}
-use Rattle.step_resolver.proofs.Risings.{rising_good, judging_good}
-use Rattle.step_resolver.proofs.Endings.{duping_good, ending_good, closing_good, unmade_good}
+use Rattle.step_resolver.specs.WalkHistory.{Walked, end_of, story, parts_of_walk, start}
+use Rattle.step_resolver.specs.Failures.{TellsError, TellsWant, MetRefusal}
+use Rattle.step_resolver.specs.Headline.{IsNewHandle, Opens, OpensDeepest, Tells}
+use Rattle.step_resolver.proofs.Underway.WalkInvariant.{Lived, StepAt, Happens, held_at, HandlesAre, IsHeld, spot_at, Going, no_stop, trail_at, EndsAt, at_all, at_missing, GoodWalk, FoundAt, Good}
+use Rattle.step_resolver.proofs.Underway.NextPart.{goes_on_good}
+use Rattle.step_resolver.proofs.Underway.AfterOpen.{opening_good}
+use Rattle.step_resolver.proofs.Underway.AfterReadLink.{reading_good}
+use Rattle.step_resolver.proofs.Underway.AfterParent.{rising_good, judging_good}
+use Rattle.step_resolver.proofs.Underway.AfterDupAndClose.{duping_good, ending_good, closing_good, unmade_good}
 
 module _ {w : Walked} (lived : Lived w) where
   -- what any answer makes of a walk
@@ -45,7 +47,7 @@ module _ {w : Walked} (lived : Lived w) where
   }
 
   found_tells : {now : ℕ} {handle : Handle} {names : List (List ℕ)} → ((h : ℕ) → held (end_of w) w.actor h ≡ held_at w now h) → FoundAt w now handle names []
-      → TellsFound w handle names
+      → Opens w handle names
   found_tells {handle = handle} {names = names} kept f = record {
     to = spot_at w (holds handle names) f.links f.m;
     trail = subst (λ ps. Trail (story w) ps (start w) (spot_at w (holds handle names) f.links f.m) None) (sym (f.going.parts ∙ append-nil f.going.taken)) (trail_at f.going);
@@ -57,7 +59,7 @@ module _ {w : Walked} (lived : Lived w) where
   }
 
   partial_tells : {now : ℕ} {handle : Handle} {names : List (List ℕ)} {rest : List AskedPart} → ((h : ℕ) → held (end_of w) w.actor h ≡ held_at w now h)
-      → (f : FoundAt w now handle names rest) → (rest ≡ [] → ⊥) → EndsAt w f.when (spot_at w (holds handle names) f.links f.m) rest → TellsPartial w handle names rest
+      → (f : FoundAt w now handle names rest) → (rest ≡ [] → ⊥) → EndsAt w f.when (spot_at w (holds handle names) f.links f.m) rest → OpensDeepest w handle names rest
   partial_tells kept f some (at_all e) = absurd (some e)
   partial_tells {handle = handle} {names = names} kept f some (at_missing deep follow n others e not_long first missing past) = record {
     goal = deep;

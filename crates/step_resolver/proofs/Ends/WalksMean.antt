@@ -4,14 +4,16 @@ use Rattle.tree_model.specs.declared.answer.Event.{Event}
 use Rattle.tree_model.specs.State.{child, Stands}
 use Rattle.step_resolver.specs.Meaning.{Entry}
 use Rattle.step_resolver.specs.Order.{Turn, more, found, partial, failed, begins, LeadsTo}
-use Rattle.step_resolver.specs.Ends.{Walked, begin_of, state_at, own_events, IsWalked, AllLeftAlone, Tells}
+use Rattle.step_resolver.specs.WalkHistory.{Walked, begin_of, state_at, own_events, IsWalked}
+use Rattle.step_resolver.specs.Footprint.{AllLeftAlone}
+use Rattle.step_resolver.specs.Headline.{EveryWalk, Tells}
 use Rattle.step_resolver.specs.FootprintLaws.{WalksMean, IsQuiet, StandsThere, QuietWalksMean}
-use Rattle.step_resolver.proofs.Histories.{begins_as_tree, lived, last_moment}
-use Rattle.step_resolver.proofs.Headline.{tree_laws, walks_tell}
-use Rattle.step_resolver.proofs.LeftAlone.{AllTell, lines_only_tell, own_tells, next_moment, past_the_end, steady, root_is_no_child}
-use Rattle.step_resolver.proofs.Footprint.{Fits}
-use Rattle.step_resolver.proofs.MeantEnds.{setting, tells_meaning}
-use Rattle.step_resolver.proofs.DeepEnds.{tells_deepest}
+use Rattle.step_resolver.proofs.Underway.LegalHistory.{begins_as_tree, lived, last_moment}
+use Rattle.step_resolver.proofs.Ends.EveryWalk.{tree_laws, walks_tell}
+use Rattle.step_resolver.proofs.Ends.EntriesLeftAlone.{AllTell, lines_only_tell, own_tells, next_moment, past_the_end, steady, root_is_no_child}
+use Rattle.step_resolver.proofs.Ends.TrailsAndMeaning.{Fits}
+use Rattle.step_resolver.proofs.Ends.WholeMeaning.{setting, tells_meaning}
+use Rattle.step_resolver.proofs.Ends.DeepestMeaning.{tells_deepest}
 
 module _ (w : Walked) (end : Turn) (is : IsWalked w) (leads : LeadsTo w.way (begins w.way w.path) w.lines end) where
   -- the walk's own events leave the nodes
@@ -44,6 +46,12 @@ pub walks_mean : WalksMean
 walks_mean w end is leads =
     let told = walks_tell w end is leads in
     (tells_meaning (fits w end is leads) end leads told, tells_deepest (fits w end is leads) end leads told)
+
+-- the headline, whole
+pub every_walk : EveryWalk
+every_walk w end is leads =
+    let means = walks_mean w end is leads in
+    record { tells = walks_tell w end is leads; means = means.0; deepest = means.1 }
 
 -- where no other acts, each entry is left alone
 quiet_alone : (w : Walked) → IsQuiet w → (entries : List Entry) → AllLeftAlone w entries

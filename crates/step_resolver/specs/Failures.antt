@@ -1,77 +1,21 @@
--- What each end of a walk tells of the tree, while others change it. path_resolution(7); openat2(2).
-use Rattle.std.specs.Prelude.{◌≡◌, ◌≢◌, ℕ, suc, ◌≤◌, ◌<◌, ◌==◌, ◌⊎◌, List, [], ◌∷◌, ◌++◌, Bool, true, false, Some, None, slice_get}
-use Rattle.std.specs.List.{filter}
+-- What each failure of a walk tells of the tree, while others change it. path_resolution(7); openat2(2).
+use Rattle.std.specs.Prelude.{◌≡◌, ℕ, suc, ◌≤◌, ◌⊎◌, List, [], ◌∷◌, ◌++◌, Bool, true, false, Some, None, slice_get}
 use Rattle.path_text.specs.declared.errno.Errno.{Errno}
 use Rattle.path_text.specs.declared.errno.Errno.TheVariants.{NotFound, BadHandle, Raced, NoMemory, Busy, Exists, CrossRoot, NotDir, IsDir, Invalid, TooMany, BookFull, TooLong, NotEmpty, Loop}
-use Rattle.path_text.specs.Reading.{Reading}
 use Rattle.path_text.specs.Text.{parts_of, begins_with_slash}
 use Rattle.tree_model.specs.declared.answer.Answer.TheVariants.{Refused}
-use Rattle.tree_model.specs.declared.answer.Event.{Event}
 use Rattle.tree_model.specs.declared.inode.Object.{Object}
 use Rattle.tree_model.specs.declared.inode.Object.TheVariants.{Link}
 use Rattle.tree_model.specs.declared.step.StepOf.{StepOf}
-use Rattle.tree_model.specs.State.{State, Stands, child, parent, is_dir, is_directory}
-use Rattle.tree_model.specs.Steps.{held, held_count, is_full, kind_of, outcome}
-use Rattle.tree_model.specs.Trees.{IsState}
-use Rattle.tree_model.specs.History.{IsLegal, after_events, tree_at}
-use Rattle.step_resolver.specs.Asked.{AskedPart, Up, Named, asked, followed, follows, is_deepest}
-use Rattle.step_resolver.specs.Meaning.{Ground, Entry, Meant, object, fails, Deep, whole, up_to, none, LINKS_MAX, is_too_long, reading_means, reads_of, reading_deepest, deep_reads}
-use Rattle.step_resolver.specs.Trail.{Story, Spot, Trail, IsOwnFrom, IsLinkAt, at_root, from_text, story_of}
-use Rattle.step_resolver.specs.Order.{Way, Handle, Line, answered, short, unmade, Turn, more, found, partial, failed, events_of}
+use Rattle.tree_model.specs.State.{Stands, child, parent, is_directory}
+use Rattle.tree_model.specs.Steps.{held, held_count, is_full, outcome}
+use Rattle.step_resolver.specs.Asked.{AskedPart, Up, Named, followed, is_deepest}
+use Rattle.step_resolver.specs.Meaning.{is_too_long}
+use Rattle.step_resolver.specs.Trail.{Spot, Trail, IsOwnFrom, IsLinkAt, from_text}
+use Rattle.step_resolver.specs.Order.{Line, answered, short, unmade}
+use Rattle.step_resolver.specs.WalkHistory.{Walked, begin_of, end_of, state_at, story, parts_of_walk, start, IsTrailTo}
 
--- ---- what is given
-
--- A walk in a history: the tree at the history's opening, the events before the walk, those of its window, whose they are,
--- the root's handle with what the walk is after, the node of that handle, the path, and what the walk was told.
-pub record Walked : Type 0 where
-  pub opening : State
-  pub before : List Event
-  pub window : List Event
-  pub actor : ℕ
-  pub way : Way
-  pub root : ℕ
-  pub path : Reading
-  pub lines : List Line
-
--- the tree as the window begins, and as it ends
-abbrev pub begin_of : Walked → State
-begin_of w = after_events w.opening w.before
-
-abbrev pub end_of : Walked → State
-end_of w = after_events (begin_of w) w.window
-
--- moments count from the window's beginning
-abbrev pub state_at : Walked → ℕ → State
-state_at w m = tree_at (begin_of w) w.window m
-
-abbrev pub story : Walked → Story
-story w = story_of (begin_of w) w.window w.actor w.root w.way.flags
-
-abbrev pub parts_of_walk : Walked → List AskedPart
-parts_of_walk w = asked (follows w.way.goal) w.path.parts
-
--- the events of an actor, in their order
-abbrev pub own_events : ℕ → List Event → List Event
-own_events a events = filter (λ event. event.actor == a) events
-
--- The opening is a tree, the history is legal, the actor's own events in the window are those of the walk, and the root's
--- handle is open, its own, and names a directory.
-pub record IsWalked (w : Walked) : Type 0 where
-  pub tree : IsState w.opening
-  pub legal_before : IsLegal w.opening w.before
-  pub legal : IsLegal (begin_of w) w.window
-  pub own : own_events w.actor w.window ≡ events_of w.actor w.lines
-  pub root : held (begin_of w) w.actor w.way.root ≡ Some w.root
-  pub root_is_dir : is_dir (begin_of w).nodes w.root ≡ true
-
--- ---- what is told
-
-abbrev pub start : Walked → Spot
-start w = at_root (story w) LINKS_MAX 0
-
--- all of these parts were passed, at rising moments and with LINKS_MAX links at most
-abbrev pub IsTrailTo : Walked → List AskedPart → Spot → Type 0
-IsTrailTo w ps to = Trail (story w) ps (start w) to None
+-- ---- where a walk stops
 
 -- the parts before this one were passed
 abbrev pub IsStopAt : Walked → Spot → AskedPart → Type 0
@@ -79,11 +23,6 @@ IsStopAt w to next = Trail (story w) (parts_of_walk w) (start w) to (Some next)
 
 abbrev pub IsDirectory : Walked → ℕ → Type 0
 IsDirectory w x = is_directory ((story w).object_of x) ≡ true
-
--- at the walk's own event v, after all that led to the spot, it stood under the root at the names passed
-pub record StoodAt (w : Walked) (to : Spot) (v : ℕ) : Type 0 where
-  pub at : IsOwnFrom (story w) to.moment v
-  pub stands : Stands ((story w).nodes_at v) w.root to.node to.names
 
 -- at that event it didn't
 pub record DidNotStandAt (w : Walked) (to : Spot) (m v : ℕ) : Type 0 where
@@ -105,50 +44,6 @@ pub record IsLinkThere (w : Walked) (to : Spot) (n text : List ℕ) (v : ℕ) : 
   pub child : child ((story w).nodes_at v) to.node n ≡ Some link
   pub is_link : (story w).object_of link ≡ Some (Link text)
 
--- a handle is open and names its node, of that kind; beside it the actor's open handles are those from before
-pub record IsNewHandle (w : Walked) (handle : Handle) : Type 0 where
-  pub is_open : held (end_of w) w.actor handle.number ≡ Some handle.node
-  pub fresh : held (begin_of w) w.actor handle.number ≡ None
-  pub others : (h : ℕ) → h ≢ handle.number → held (end_of w) w.actor h ≡ held (begin_of w) w.actor h
-  pub what : Object
-  pub is_what : (story w).object_of handle.node ≡ Some what
-  pub kind : kind_of what ≡ handle.kind
-
--- the actor's open handles are those from before
-abbrev pub HandlesStay : Walked → Type 0
-HandlesStay w = (h : ℕ) → held (end_of w) w.actor h ≡ held (begin_of w) w.actor h
-
--- Found: all parts were passed, and afterwards the object stood under the root at the names passed.
-pub record TellsFound (w : Walked) (handle : Handle) (names : List (List ℕ)) : Type 0 where
-  pub to : Spot
-  pub trail : IsTrailTo w (parts_of_walk w) to
-  pub node : to.node ≡ handle.node
-  pub passed : to.names ≡ names
-  pub when : ℕ
-  pub stood : StoodAt w to when
-  pub new : IsNewHandle w handle
-
--- Partial: the same for the parts before the rest, whose first name was missing in between.
-pub record TellsPartial (w : Walked) (handle : Handle) (names : List (List ℕ)) (rest : List AskedPart) : Type 0 where
-  pub goal : is_deepest w.way.goal ≡ true
-  pub front : List AskedPart
-  pub parts : parts_of_walk w ≡ front ++ rest
-  pub to : Spot
-  pub trail : IsTrailTo w front to
-  pub node : to.node ≡ handle.node
-  pub passed : to.names ≡ names
-  pub follow : Bool
-  pub name : List ℕ
-  pub others : List AskedPart
-  pub begins_with : rest ≡ Named follow name ∷ others
-  pub short : is_too_long name ≡ false
-  pub first : ℕ
-  pub missing : IsMissingAt w to name first
-  pub when : ℕ
-  pub stood : StoodAt w to when
-  pub after : first < when
-  pub new : IsNewHandle w handle
-
 -- The stop before this part is within the text of a link, which was at one of the caller's own parts.
 pub record IsWithinLink (w : Walked) (to : Spot) (next : AskedPart) : Type 0 where
   pub front : List AskedPart
@@ -162,6 +57,12 @@ pub record IsWithinLink (w : Walked) (to : Spot) (next : AskedPart) : Type 0 whe
   pub left : ℕ
   pub link : IsLinkAt (story w) mid name when text left
   pub stop : Trail (story w) (followed (parts_of text)) (from_text (story w) mid text left (suc when)) to (Some next)
+
+-- the actor's open handles are those from before
+abbrev pub HandlesStay : Walked → Type 0
+HandlesStay w = (h : ℕ) → held (end_of w) w.actor h ≡ held (begin_of w) w.actor h
+
+-- ---- each error
 
 -- ENOENT: a name was missing; for the deepest directory one of a link's text.
 pub record TellsNotFound (w : Walked) : Type 0 where
@@ -309,72 +210,3 @@ TellsError w Exists = ⊥
 TellsError w IsDir = ⊥
 TellsError w Invalid = ⊥
 TellsError w NotEmpty = ⊥
-
-pub record TellsFailed (w : Walked) (error : Errno) : Type 0 where
-  pub true_once : TellsError w error
-  pub handles : HandlesStay w
-
--- what an end tells
-abbrev pub Tells : Walked → Turn → Type 0
-Tells w (more walk) = Unit {0}
-Tells w (found handle names) = TellsFound w handle names
-Tells w (partial handle names rest) = TellsPartial w handle names rest
-Tells w (failed error) = TellsFailed w error
-
--- ---- where no entry that the path reads is changed by others
-
--- no event of another in the window changes what stands at that entry
-pub record IsLeftAlone (w : Walked) (entry : Entry) : Type 0 where
-  pub same : (t : ℕ) (event : Event) → slice_get w.window t ≡ Some event → event.actor ≢ w.actor
-      → child ((story w).nodes_at (suc t)) entry.dir entry.name ≡ child ((story w).nodes_at t) entry.dir entry.name
-
-abbrev pub AllLeftAlone : Walked → List Entry → Type 0
-AllLeftAlone w [] = Unit {0}
-AllLeftAlone w (entry ∷ entries) = IsLeftAlone w entry × AllLeftAlone w entries
-
--- the ground as the window begins
-abbrev pub ground : Walked → Ground
-ground w = record { nodes = (begin_of w).nodes; root = w.root; flags = w.way.flags }
-
--- an end that isn't want of memory, of room in the book or of handles
-abbrev pub is_want : Errno → Bool
-is_want NoMemory = true
-is_want BookFull = true
-is_want TooMany = true
-is_want _ = false
-
-abbrev pub is_for_want : Turn → Bool
-is_for_want (failed error) = is_want error
-is_for_want _ = false
-
--- an end is what a meaning says
-abbrev pub IsMeant : Meant → Turn → Type 0
-IsMeant (object x b reads) (found handle names) = handle.node ≡ x
-IsMeant (fails error reads) (failed told) = told ≡ error
-IsMeant _ _ = ⊥
-
-abbrev pub IsMeantDeep : Deep → Turn → Type 0
-IsMeantDeep (whole x b reads) (found handle names) = handle.node ≡ x
-IsMeantDeep (up_to x b rest reads) (partial handle names told) = (handle.node ≡ x) × (told ≡ rest)
-IsMeantDeep (none error reads) (failed told) = told ≡ error
-IsMeantDeep _ _ = ⊥
-
--- the walk is over
-abbrev pub IsEnd : Turn → Type 0
-IsEnd (more walk) = ⊥
-IsEnd (found handle names) = Unit {0}
-IsEnd (partial handle names rest) = Unit {0}
-IsEnd (failed error) = Unit {0}
-
--- Where no other's event in the window changes an entry that the path reads in the tree as the window begins, the end is
--- what the path means in that tree.
-abbrev pub TellsMeaning : Walked → Turn → Type 0
-TellsMeaning w end = IsEnd end → is_deepest w.way.goal ≡ false → is_for_want end ≡ false
-    → AllLeftAlone w (reads_of (reading_means (ground w) w.path (follows w.way.goal)))
-    → IsMeant (reading_means (ground w) w.path (follows w.way.goal)) end
-
--- And so for the deepest directory.
-abbrev pub TellsDeepest : Walked → Turn → Type 0
-TellsDeepest w end = IsEnd end → is_deepest w.way.goal ≡ true → is_for_want end ≡ false
-    → AllLeftAlone w (deep_reads (reading_deepest (ground w) w.path))
-    → IsMeantDeep (reading_deepest (ground w) w.path) end

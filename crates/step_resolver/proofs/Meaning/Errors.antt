@@ -8,7 +8,7 @@ use Rattle.tree_model.specs.State.{object_at, child, parent, is_dir}
 use Rattle.step_resolver.specs.Asked.{AskedPart, Cur, Up, Named, followed}
 use Rattle.step_resolver.specs.Meaning.{Ground, Entry, Meant, object, fails, after_reads, and_then, is_too_long, from_of, crosses, Deeper, link_in, child_is, named, above, one_part, part_means, parts_mean, means}
 use Rattle.step_resolver.specs.MeaningLaws.{is_of_parts, PartsFailAsPaths}
-use Rattle.step_resolver.proofs.MeaningLaws.{deeper_at}
+use Rattle.step_resolver.proofs.Meaning.PartsAndLinks.{deeper_at}
 
 -- an object, or one of those errors
 abbrev FailsSo : Meant → Type 0

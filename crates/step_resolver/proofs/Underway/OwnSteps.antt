@@ -4,11 +4,11 @@ use Rattle.std.proofs.Common.{sym, ap, ◌∙◌}
 use Rattle.std.proofs.lemmas.Bool.{false≢true}
 use Rattle.tree_model.specs.declared.answer.Event.{Event}
 use Rattle.step_resolver.specs.Trail.{is_by}
-use Rattle.step_resolver.specs.Ends.{begin_of, state_at, story}
+use Rattle.step_resolver.specs.WalkHistory.{begin_of, state_at, story}
 use Rattle.step_resolver.specs.OwnSteps.{OwnEventsLeaveNodes}
-use Rattle.step_resolver.proofs.Headline.{tree_laws}
-use Rattle.step_resolver.proofs.LeftAlone.{own_tells, next_moment}
-use Rattle.step_resolver.proofs.FootprintLaws.{only_tell}
+use Rattle.step_resolver.proofs.Ends.EveryWalk.{tree_laws}
+use Rattle.step_resolver.proofs.Ends.EntriesLeftAlone.{own_tells, next_moment}
+use Rattle.step_resolver.proofs.Ends.WalksMean.{only_tell}
 
 pub own_events_leave_nodes : OwnEventsLeaveNodes
 own_events_leave_nodes w end is leads t own = on (slice_get w.window t) refl

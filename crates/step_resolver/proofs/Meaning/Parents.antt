@@ -14,8 +14,8 @@ use Rattle.tree_model.specs.Trees.{IsTree, Rooted, top, below}
 use Rattle.step_resolver.specs.Asked.{AskedPart, Cur, Up, Named, followed}
 use Rattle.step_resolver.specs.Meaning.{Ground, Entry, Meant, object, fails, after_reads, and_then, is_too_long, from_of, crosses, Deeper, link_in, child_is, named, above, above_of, one_part, part_means, parts_mean, means}
 use Rattle.step_resolver.specs.MeaningLaws.{IsBelow, PartsLeadBelow, UpIsNeverMissing}
-use Rattle.step_resolver.proofs.MeaningLaws.{deeper_at}
-use Rattle.step_resolver.proofs.Places.{entry, place_at-child}
+use Rattle.step_resolver.proofs.Meaning.PartsAndLinks.{deeper_at}
+use Rattle.step_resolver.proofs.Meaning.NodesAtEntries.{entry, place_at-child}
 
 -- ---- in a tree
 

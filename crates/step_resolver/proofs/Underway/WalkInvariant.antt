@@ -18,9 +18,11 @@ use Rattle.step_resolver.specs.Asked.{AskedPart, Up, Named, is_deepest}
 use Rattle.step_resolver.specs.Meaning.{is_too_long}
 use Rattle.step_resolver.specs.Trail.{Story, Spot, Trail, all, before, IsOwnFrom, IsChildAt}
 use Rattle.step_resolver.specs.Order.{Handle, Position, root_itself, holds, Todo, todo, After, gives, onward, judges, Walking, opening, reading, rising, judging, duping, ending, closing, Turn, more, found, partial, failed, names_of, handles_of, Line, answered, short, unmade}
-use Rattle.step_resolver.specs.Ends.{Walked, end_of, state_at, story, parts_of_walk, start, StoodAt, IsMissingAt, IsWithinLink, TellsError}
-use Rattle.step_resolver.proofs.Trails.{from_earlier, appended, stop_of_more}
-use Rattle.step_resolver.proofs.Outcomes.{IsMore, IsLess}
+use Rattle.step_resolver.specs.WalkHistory.{Walked, end_of, state_at, story, parts_of_walk, start}
+use Rattle.step_resolver.specs.Failures.{IsMissingAt, IsWithinLink, TellsError}
+use Rattle.step_resolver.specs.Headline.{StoodAt}
+use Rattle.step_resolver.proofs.Trail.Joined.{from_earlier, appended, stop_of_more}
+use Rattle.step_resolver.proofs.Underway.StepOutcomes.{IsMore, IsLess}
 
 -- ---- the history
 

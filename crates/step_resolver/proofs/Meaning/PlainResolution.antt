@@ -16,7 +16,7 @@ use Rattle.step_resolver.specs.declared.plain.Arrived.{Arrived}
 use Rattle.step_resolver.specs.Asked.{AskedPart, ask, asked, followed}
 use Rattle.step_resolver.specs.Meaning.{Ground, Entry, Meant, object, fails, after_reads, and_then, from_of, crosses, link_in, part_means, parts_mean, LINKS_MAX, path_means, resolves, resolved, is_object, is_error, resolution}
 use Rattle.step_resolver.specs.Plain.{meant, arrival}
-use Rattle.step_resolver.proofs.MeaningLaws.{LeavesAtMost, Lowers, deeper_at, deeper_at-lowers, means_by, means-lowers, part_means-lowers, parts_mean-same, nesting_does_not_matter}
+use Rattle.step_resolver.proofs.Meaning.PartsAndLinks.{LeavesAtMost, Lowers, deeper_at, deeper_at-lowers, means_by, means-lowers, part_means-lowers, parts_mean-same, nesting_does_not_matter}
 
 -- the last byte tells whether a text ends with a slash
 pub ends_with_slash_last : (bs : List ℕ) → ends_with_slash bs ≡ option_eq nat_eq (slice_get bs (length bs - 1)) (Some SLASH)

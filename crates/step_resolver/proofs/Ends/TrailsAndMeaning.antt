@@ -15,8 +15,8 @@ use Rattle.tree_model.specs.State.{TOP, object_at, place_at, child, parent, is_d
 use Rattle.step_resolver.specs.Asked.{AskedPart, Cur, Up, Named, followed}
 use Rattle.step_resolver.specs.Meaning.{Ground, Entry, Meant, object, fails, Deeper, after_reads, and_then, link_in, child_is, named, above, one_part, part_means, parts_mean, is_too_long, crosses, from_of, reads_of}
 use Rattle.step_resolver.specs.Trail.{Story, Spot, Trail, all, before, stay, top, climb, down, through, into, IsChildAt, IsLinkAt, is_entered}
-use Rattle.step_resolver.proofs.Places.{entry, place_at-child, object_at-place}
-use Rattle.step_resolver.proofs.MeaningLaws.{deeper_at, means_by}
+use Rattle.step_resolver.proofs.Meaning.NodesAtEntries.{entry, place_at-child, object_at-place}
+use Rattle.step_resolver.proofs.Meaning.PartsAndLinks.{deeper_at, means_by}
 
 -- Where a meaning is compared with what is passed: a story, the nodes in which the path means something, and which entries
 -- are left alone.

@@ -13,8 +13,9 @@ use Rattle.tree_model.specs.StepLaws.{NodesAreLeft, is_on_entries}
 use Rattle.tree_model.specs.PlaceLaws.{StandsAtOneWay}
 use Rattle.step_resolver.specs.Meaning.{Entry}
 use Rattle.step_resolver.specs.Order.{Way, Walking, opening, reading, rising, judging, duping, ending, closing, Turn, more, found, partial, failed, take as takes, due, Line, answered, short, unmade, events_of, LeadsTo}
-use Rattle.step_resolver.specs.Ends.{Walked, begin_of, state_at, story, own_events, IsLeftAlone}
-use Rattle.step_resolver.proofs.Places.{entry, place_at-child}
+use Rattle.step_resolver.specs.WalkHistory.{Walked, begin_of, state_at, story, own_events}
+use Rattle.step_resolver.specs.Footprint.{IsLeftAlone}
+use Rattle.step_resolver.proofs.Meaning.NodesAtEntries.{entry, place_at-child}
 
 -- ---- the walk's own events leave the nodes
 

@@ -3,8 +3,8 @@ use Rattle.tree_model.proofs.StepLaws.{nodes_are_left, others_handles_stay}
 use Rattle.tree_model.proofs.HistoryLaws.{histories_keep_trees, objects_stay_for_good}
 use Rattle.tree_model.proofs.PlaceLaws.{names_below_are_standing, stands_at_one_way}
 use Rattle.step_resolver.specs.Headline.{WalksTell}
-use Rattle.step_resolver.proofs.Histories.{TreeLaws, lived, lines_happen}
-use Rattle.step_resolver.proofs.Told.{walk_tells}
+use Rattle.step_resolver.proofs.Underway.LegalHistory.{TreeLaws, lived, lines_happen}
+use Rattle.step_resolver.proofs.Ends.EachEnd.{walk_tells}
 
 pub tree_laws : TreeLaws
 tree_laws = record {

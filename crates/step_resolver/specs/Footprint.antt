@@ -1,0 +1,52 @@
+-- Entries that are left alone, and when an end is what a path means.
+use Rattle.std.specs.Prelude.{◌≡◌, ◌≢◌, ℕ, suc, List, [], ◌∷◌, Bool, true, false, Some, slice_get}
+use Rattle.path_text.specs.declared.errno.Errno.{Errno}
+use Rattle.path_text.specs.declared.errno.Errno.TheVariants.{NoMemory, TooMany, BookFull}
+use Rattle.tree_model.specs.declared.answer.Event.{Event}
+use Rattle.tree_model.specs.State.{child}
+use Rattle.step_resolver.specs.Meaning.{Ground, Entry, Meant, object, fails, Deep, whole, up_to, none}
+use Rattle.step_resolver.specs.Order.{Turn, more, found, partial, failed}
+use Rattle.step_resolver.specs.WalkHistory.{Walked, begin_of, story}
+
+-- no event of another in the window changes what stands at that entry
+pub record IsLeftAlone (w : Walked) (entry : Entry) : Type 0 where
+  pub same : (t : ℕ) (event : Event) → slice_get w.window t ≡ Some event → event.actor ≢ w.actor
+      → child ((story w).nodes_at (suc t)) entry.dir entry.name ≡ child ((story w).nodes_at t) entry.dir entry.name
+
+abbrev pub AllLeftAlone : Walked → List Entry → Type 0
+AllLeftAlone w [] = Unit {0}
+AllLeftAlone w (entry ∷ entries) = IsLeftAlone w entry × AllLeftAlone w entries
+
+-- the ground as the window begins
+abbrev pub ground : Walked → Ground
+ground w = record { nodes = (begin_of w).nodes; root = w.root; flags = w.way.flags }
+
+-- an end that isn't want of memory, of room in the book or of handles
+abbrev pub is_want : Errno → Bool
+is_want NoMemory = true
+is_want BookFull = true
+is_want TooMany = true
+is_want _ = false
+
+abbrev pub is_for_want : Turn → Bool
+is_for_want (failed error) = is_want error
+is_for_want _ = false
+
+-- an end is what a meaning says
+abbrev pub IsMeant : Meant → Turn → Type 0
+IsMeant (object x b reads) (found handle names) = handle.node ≡ x
+IsMeant (fails error reads) (failed told) = told ≡ error
+IsMeant _ _ = ⊥
+
+abbrev pub IsMeantDeep : Deep → Turn → Type 0
+IsMeantDeep (whole x b reads) (found handle names) = handle.node ≡ x
+IsMeantDeep (up_to x b rest reads) (partial handle names told) = (handle.node ≡ x) × (told ≡ rest)
+IsMeantDeep (none error reads) (failed told) = told ≡ error
+IsMeantDeep _ _ = ⊥
+
+-- the walk is over
+abbrev pub IsEnd : Turn → Type 0
+IsEnd (more walk) = ⊥
+IsEnd (found handle names) = Unit {0}
+IsEnd (partial handle names rest) = Unit {0}
+IsEnd (failed error) = Unit {0}
