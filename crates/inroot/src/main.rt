@@ -6,6 +6,8 @@
 
 mod command;
 mod ending;
+#[cfg(test)]
+mod tests;
 
 use command::{asked, command};
 use ending::{Fault, status};
@@ -57,12 +59,15 @@ fn run(rt: &HostRuntime) -> Result<(), Fault> {
     Ok(())
 }
 
-/// Tells a fault on standard error, but for one that clap has told.
+/// Tells a fault on standard error, and what was wanted in a second line; but for one that clap has told.
 fn tell(rt: &HostRuntime, fault: Fault) -> io::Result<()> {
-    if fault == Fault::Usage {
-        return Ok(());
+    match fault {
+        Fault::Usage => Ok(()),
+        Fault::Run(run) if let Some(detail) = run.detail() => {
+            eprintln!(rt; "inroot: {run}\ninroot: {detail}")
+        }
+        fault => eprintln!(rt; "inroot: {fault}"),
     }
-    eprintln!(rt; "inroot: {fault}")
 }
 
 fn main(rt: HostRuntime) -> ExitCode {

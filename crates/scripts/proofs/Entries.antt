@@ -11,8 +11,9 @@ use Rattle.tree_model.specs.Entries.{refuse_if}
 use Rattle.tree_list.specs.declared.build.BuildFault.{BuildFault}
 use Rattle.tree_list.specs.declared.build.Entry.{Entry}
 use Rattle.tree_list.specs.Build.{built, IsFaultOf as IsBuildFaultOf}
+use Rattle.scripts.specs.declared.fault.Cause.TheVariants.{Shape, Refused}
 use Rattle.scripts.specs.declared.fault.ScriptFault.{ScriptFault}
-use Rattle.scripts.specs.declared.fault.ScriptFault.TheVariants.{Tree, TreeEntry}
+use Rattle.scripts.specs.declared.fault.ScriptFault.TheVariants.{TooManyEntries, TreeEntry}
 use Rattle.scripts.specs.declared.tree.TheConstants.{ENTRIES_MAX}
 use Rattle.scripts.specs.Fault.{IsFaultOf}
 use Rattle.scripts.specs.Tree.{count_of, entries_of, tree_built, tree_of, told_by}
@@ -25,15 +26,15 @@ is_over : (a b : ℕ) (t : Bool) → nat_lt a b ≡ t → a < b → nat_lt a b �
 is_over a b true e over = e
 is_over a b false e over = search rules
 
-is_within : (a b : ℕ) (t : Bool) → nat_lt a b ≡ t → b ≤ a → nat_lt a b ≡ false
+pub is_within : (a b : ℕ) (t : Bool) → nat_lt a b ≡ t → b ≤ a → nat_lt a b ≡ false
 is_within a b true e within = search rules
 is_within a b false e within = e
 
-pub too_many : (vs : List Value) → ENTRIES_MAX < length vs → tree_of (items_view vs) ≡ Err Tree
+pub too_many : (vs : List Value) → ENTRIES_MAX < length vs → tree_of (items_view vs) ≡ Err TooManyEntries
 too_many vs over =
     let counted : nat_lt ENTRIES_MAX (count_of (items_view vs)) ≡ true =
     ap (nat_lt ENTRIES_MAX) (count_of-items_view vs) ∙ is_over ENTRIES_MAX (length vs) (nat_lt ENTRIES_MAX (length vs)) refl over in
-    ap (λ (t : Bool). refuse_if t (Err Tree) (tree_built (built (entries_of (items_view vs))) (length (entries_of (items_view vs))) (count_of (items_view vs)))) counted
+    ap (λ (t : Bool). refuse_if t (Err TooManyEntries) (tree_built (built (entries_of (items_view vs))) (length (entries_of (items_view vs))) (count_of (items_view vs)))) counted
 
 -- the entries of good shape were read of few enough values, and building them gave this
 pub record IsRead (vs : List Value) (entries : List Entry) (gave : Result (List Inode) BuildFault) : Type 0 where
@@ -46,7 +47,7 @@ tree_read : (vs : List Value) (entries : List Entry) (gave : Result (List Inode)
 tree_read vs entries gave r =
     let counted : nat_lt ENTRIES_MAX (count_of (items_view vs)) ≡ false =
     ap (nat_lt ENTRIES_MAX) (count_of-items_view vs) ∙ is_within ENTRIES_MAX (length vs) (nat_lt ENTRIES_MAX (length vs)) refl r.few in
-    ap (λ (t : Bool). refuse_if t (Err Tree) (tree_built (built (entries_of (items_view vs))) (length (entries_of (items_view vs))) (count_of (items_view vs)))) counted
+    ap (λ (t : Bool). refuse_if t (Err TooManyEntries) (tree_built (built (entries_of (items_view vs))) (length (entries_of (items_view vs))) (count_of (items_view vs)))) counted
     ∙ ap (λ (n : ℕ). tree_built (built (entries_of (items_view vs))) (length (entries_of (items_view vs))) n) (count_of-items_view vs)
     ∙ ap (λ (es : List Entry). tree_built (built es) (length es) (length vs)) (sym r.shaped)
     ∙ ap (λ (g : Result (List Inode) BuildFault). tree_built g (length entries) (length vs)) r.built
@@ -55,22 +56,22 @@ pub tree_whole : (vs : List Value) (entries : List Entry) (nodes : List Inode) �
     → length entries ≡ length vs → tree_of (items_view vs) ≡ Ok nodes
 tree_whole vs entries nodes r same =
     tree_read vs entries (Ok nodes) r
-    ∙ ap (λ (t : Bool). if t then Ok nodes else Err (TreeEntry (length entries))) (eq-eqb (length entries) (length vs) same)
+    ∙ ap (λ (t : Bool). if t then Ok nodes else Err (TreeEntry (length entries) Shape)) (eq-eqb (length entries) (length vs) same)
 
-unequal : (a b : ℕ) (t : Bool) → (a == b) ≡ t → a ≢ b → (a == b) ≡ false
+pub unequal : (a b : ℕ) (t : Bool) → (a == b) ≡ t → a ≢ b → (a == b) ≡ false
 unequal a b true e apart = absurd (apart (eqb-true a b e))
 unequal a b false e apart = e
 
 pub tree_misshaped : (vs : List Value) (entries : List Entry) (nodes : List Inode) → IsRead vs entries (Ok nodes)
-    → length entries ≢ length vs → tree_of (items_view vs) ≡ Err (TreeEntry (length entries))
+    → length entries ≢ length vs → tree_of (items_view vs) ≡ Err (TreeEntry (length entries) Shape)
 tree_misshaped vs entries nodes r apart =
     tree_read vs entries (Ok nodes) r
-    ∙ ap (λ (t : Bool). if t then Ok nodes else Err (TreeEntry (length entries))) (unequal (length entries) (length vs) (length entries == length vs) refl apart)
+    ∙ ap (λ (t : Bool). if t then Ok nodes else Err (TreeEntry (length entries) Shape)) (unequal (length entries) (length vs) (length entries == length vs) refl apart)
 
-tells : (said : Result (List Inode) ScriptFault) (cause : Errno) (k : ℕ) → (said ≡ Err (TreeEntry k)) ⊎ (cause ≡ errno.NoMemory) → IsFaultOf said (told_by cause k)
+tells : (said : Result (List Inode) ScriptFault) (cause : Errno) (k : ℕ) → (said ≡ Err (TreeEntry k (Refused cause))) ⊎ (cause ≡ errno.NoMemory) → IsFaultOf said (told_by cause k)
 tells said errno.NoMemory k h = tt
-tells said _ k (inl e) = e
-tells said _ k (inr e) = cc (e)
+tells said other k (inl e) = e
+tells said other k (inr e) = cc (e)
 
 pub tree_refused : (vs : List Value) (entries : List Entry) (fault : BuildFault) → length vs ≤ ENTRIES_MAX → entries ≡ entries_of (items_view vs)
     → IsBuildFaultOf entries fault → IsFaultOf (tree_of (items_view vs)) (told_by fault.cause fault.at)

@@ -1,6 +1,7 @@
 -- From what was read, opened and resolved to the line that is written.
-use Rattle.std.proofs.Common.{◌≡◌, ◌≢◌, ℕ, List, [], true, sym, ap, ◌∙◌, subst, inl, inr}
-use Rattle.std.specs.Prelude.{Option, Some, None, reverse, unwrap_or, Result, Ok, Err, IfOk, MatchOption}
+use Rattle.std.proofs.Common.{◌≡◌, ◌≢◌, ℕ, List, [], ◌∷◌, true, refl, sym, ap, ◌∙◌, subst, inl, inr}
+use Rattle.std.specs.Prelude.{Option, Some, None, reverse, unwrap_or, Result, Ok, Err, IfOk, IfErr, IsOkAnd, MatchOption, MatchResult}
+use Rattle.std.specs.Io.KnownBytes.{Appends, Keeps}
 use Rattle.std.proofs.lemmas.List.{reverse-reverse}
 use Rattle.serde_json.specs.Data.{Data}
 use Rattle.path_text.specs.declared.errno.Errno.{Errno}
@@ -19,6 +20,7 @@ use Rattle.tree_model.specs.Trees.{IsTree}
 use Rattle.handles.specs.Objects.{StandingObject}
 use Rattle.step_resolver.specs.Meaning.{Ground, Meant, object, fails, reading_means, resolves, resolved}
 use Rattle.scripts.specs.declared.fault.RunFault.{RunFault}
+use Rattle.scripts.specs.declared.fault.RunFault.TheVariants.{Script, ReadFailed, WriteFailed, NoMemory}
 use Rattle.scripts.specs.declared.fault.ScriptFault.{ScriptFault}
 use Rattle.step_resolver.specs.Driver.{node_of, IsReady, Resolves}
 use Rattle.step_resolver.specs.declared.driver.Resolved.{Resolved}
@@ -26,7 +28,7 @@ use Rattle.step_resolver.specs.declared.driver.Resolved.TheVariants.{Found}
 use Rattle.scripts.specs.Output.{opened_line, fault_line}
 use Rattle.scripts.specs.Actors.{RootedTree, IsAtHand}
 use Rattle.scripts.specs.Script.{rooted_tree_of, then_with}
-use Rattle.scripts.specs.Run.{line_of, line_for}
+use Rattle.scripts.specs.Run.{line_of, line_for, IsRunFaultOf, IsRun, WritesNothingIfRefused}
 
 -- ---- the text
 
@@ -96,3 +98,44 @@ line_by d text line flags s a h hand is =
     ap (λ (said : Result RootedTree ScriptFault). then_with said (λ tree. Ok (line_of tree.nodes tree.root (resolved tree.nodes tree.root text true flags))))
     (said_by (rooted_tree_of d) s a h hand)
     ∙ ap (λ (l : List ℕ). Ok l) (sym is)
+
+-- ---- what is written
+
+-- a line has its first byte
+first_byte : (line bytes : List ℕ) (b : ℕ) → line ≡ b ∷ bytes → line ≢ []
+first_byte line bytes b e none = cc (e, none)
+
+pub opened_is_some : (kind : Kind) (node : ℕ) (names : List (List ℕ)) (line : List ℕ) → line ≡ opened_line kind node names → line ≢ []
+opened_is_some kind node names line e = first_byte line _ 111 e
+
+pub fault_is_some : (error : Errno) (line : List ℕ) → line ≡ fault_line error → line ≢ []
+fault_is_some error line e = first_byte line _ 102 e
+
+-- a run over a refused script doesn't fail by a write, and leaves what was written
+refused_run : {T : Type 0} (said : Result (List ℕ) ScriptFault) (old new : Option (List ℕ)) (result : Result T RunFault)
+    → MatchResult result (λ _. IsOkAnd said (λ text. Appends old new text)) (λ fault. IsRunFaultOf said fault × (fault ≢ WriteFailed → Keeps old new))
+    → IfErr said (λ _. Keeps old new)
+refused_run (Ok text) old new result run = tt
+refused_run (Err fault) old new (Ok x) run = absurd run
+refused_run (Err fault) old new (Err told) run = by told run.0 run.1
+  where
+    by : (told : RunFault) → IsRunFaultOf (Err fault) told → (told ≢ WriteFailed → Keeps old new) → Keeps old new
+    by (Script f) is keeps = keeps (λ e. cc (e))
+    by ReadFailed is keeps = keeps (λ e. cc (e))
+    by NoMemory is keeps = keeps (λ e. cc (e))
+    by WriteFailed is keeps = absurd is
+
+pub nothing_if_refused : {T : Type 0} (written : List ℕ → Result (List ℕ) ScriptFault) (known old new : Option (List ℕ)) (result : Result T RunFault)
+    → IsRun written known old new result → WritesNothingIfRefused written known old new
+nothing_if_refused written None old new result run = tt
+nothing_if_refused {T = T} written (Some input) old new (Ok x) run = refused_run {T = T} (written input) old new (Ok x) run
+nothing_if_refused {T = T} written (Some input) old new (Err fault) run = refused_run {T = T} (written input) old new (Err fault) run
+
+pub nothing_yet : (written : List ℕ → Result (List ℕ) ScriptFault) (known old : Option (List ℕ)) → WritesNothingIfRefused written known old old
+nothing_yet written None old = tt
+nothing_yet written (Some input) old = by (written input) old
+  where
+    by : (said : Result (List ℕ) ScriptFault) (held : Option (List ℕ)) → IfErr said (λ _. Keeps held held)
+    by (Ok text) held = tt
+    by (Err fault) None = tt
+    by (Err fault) (Some bytes) = refl

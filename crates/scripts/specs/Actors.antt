@@ -6,6 +6,7 @@ use Rattle.path_text.specs.declared.errno.Errno.{Errno}
 use Rattle.path_text.specs.Name.{same_bytes}
 use Rattle.tree_model.specs.declared.inode.Inode.{Inode}
 use Rattle.tree_model.specs.State.{State}
+use Rattle.scripts.specs.declared.fault.Cause.TheVariants.{Refused}
 use Rattle.scripts.specs.declared.fault.ScriptFault.{ScriptFault}
 use Rattle.scripts.specs.declared.fault.ScriptFault.TheVariants.{Actor}
 use Rattle.step_resolver.specs.Driver.{IsReady}
@@ -27,7 +28,7 @@ pub record RootedTree : Type 0 where
   pub root : ℕ
 
 abbrev pub rooted : List Inode → Result ℕ Errno → Result RootedTree ScriptFault
-rooted nodes (Err error) = Err (Actor 0)
+rooted nodes (Err error) = Err (Actor 0 (Refused error))
 rooted nodes (Ok r) = Ok (record { nodes = nodes; root = r })
 
 -- ---- a root at hand

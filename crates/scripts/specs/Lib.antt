@@ -11,3 +11,4 @@ pub mod Output
 pub mod Run
 pub mod Script
 pub mod Tree
+pub mod TreeLaws

@@ -1,5 +1,5 @@
 -- What `inroot walk` writes, as a function of what it reads, of the path and of the restrictions.
-use Rattle.std.specs.Prelude.{◌≡◌, ◌≢◌, ℕ, List, [], nat_lt, length, reverse, Option, Result, Ok, Err, MatchResult, IsOkAnd, IfSome, true, ⊤}
+use Rattle.std.specs.Prelude.{◌≡◌, ◌≢◌, ℕ, List, [], nat_lt, length, reverse, Option, Result, Ok, Err, MatchResult, IsOkAnd, IfErr, IfSome, true, ⊤}
 use Rattle.std.specs.Io.KnownBytes.{Appends, Keeps}
 use Rattle.serde_json.specs.Data.{Data}
 use Rattle.path_text.specs.declared.flags.Flags.{Flags}
@@ -11,10 +11,11 @@ use Rattle.tree_model.specs.Entries.{refuse_if, with_some}
 use Rattle.scripts.specs.declared.fault.RunFault.{RunFault}
 use Rattle.scripts.specs.declared.fault.RunFault.TheVariants.{Script, ReadFailed, WriteFailed, NoMemory}
 use Rattle.scripts.specs.declared.fault.ScriptFault.{ScriptFault}
-use Rattle.scripts.specs.declared.fault.ScriptFault.TheVariants.{TooLong, NotJson}
+use Rattle.scripts.specs.declared.fault.ScriptFault.TheVariants.{TooLong}
 use Rattle.scripts.specs.declared.input.TheConstants.{SCRIPT_MAX}
+use Rattle.scripts.specs.Fault.{check_of}
 use Rattle.scripts.specs.Output.{opened_line, fault_line}
-use Rattle.scripts.specs.Input.{json_of}
+use Rattle.scripts.specs.Input.{data_of}
 use Rattle.scripts.specs.Script.{rooted_tree_of, then_with}
 
 -- the line of the object x: what it is, its node, and the names at which it stands below the root
@@ -37,13 +38,13 @@ line_for d text flags =
 abbrev pub written_for : List ℕ → List ℕ → Flags → Result (List ℕ) ScriptFault
 written_for input text flags =
     refuse_if (nat_lt SCRIPT_MAX (length input)) (Err TooLong)
-    (with_some (json_of input) (Err NotJson) (λ d. line_for d text flags))
+    (then_with (data_of input) (λ d. line_for d text flags))
 
--- a run's fault is the script's; or a read, a write or a growth was refused
-abbrev pub IsRunFaultOf : {A : Type 0} → Result A ScriptFault → RunFault → Type 0
-IsRunFaultOf said (Script fault) = said ≡ Err fault
+-- a run's fault is the script's; or a read or a growth was refused; or a write, where there is something to write
+abbrev pub IsRunFaultOf : Result (List ℕ) ScriptFault → RunFault → Type 0
+IsRunFaultOf said (Script fault) = said ≡ Err (check_of fault)
 IsRunFaultOf said ReadFailed = ⊤
-IsRunFaultOf said WriteFailed = ⊤
+IsRunFaultOf said WriteFailed = IsOkAnd said (λ text. text ≢ [])
 IsRunFaultOf said NoMemory = ⊤
 
 -- The run wrote what there is to write for its input, and nothing else; or it failed as it should, and but for a writer that
@@ -52,3 +53,7 @@ abbrev pub IsRun : {T : Type 0} → (List ℕ → Result (List ℕ) ScriptFault)
 IsRun written known old new result = MatchResult result
     (λ _. IfSome known (λ input. IsOkAnd (written input) (λ text. Appends old new text)))
     (λ fault. IfSome known (λ input. IsRunFaultOf (written input) fault) × (fault ≢ WriteFailed → Keeps old new))
+
+-- where the script is refused, nothing is written
+abbrev pub WritesNothingIfRefused : (List ℕ → Result (List ℕ) ScriptFault) → Option (List ℕ) → Option (List ℕ) → Option (List ℕ) → Type 0
+WritesNothingIfRefused written known old new = IfSome known (λ input. IfErr (written input) (λ _. Keeps old new))

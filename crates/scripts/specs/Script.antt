@@ -6,6 +6,7 @@ use Rattle.serde_json.specs.Find.{get, as_number, as_u64, as_array, as_object}
 use Rattle.tree_model.specs.Entries.{with_some, refuse_if}
 use Rattle.tree_model.specs.State.{TOP}
 use Rattle.tree_model.specs.Steps.{directory_at}
+use Rattle.scripts.specs.declared.fault.Cause.TheVariants.{Shape}
 use Rattle.scripts.specs.declared.fault.ScriptFault.{ScriptFault}
 use Rattle.scripts.specs.declared.fault.ScriptFault.TheVariants.{NotObject, Version, Tree, Actors, Actor}
 use Rattle.scripts.specs.Actors.{RootedTree, first_actor_of, root_of, rooted}
@@ -31,5 +32,5 @@ rooted_tree_of d =
     (with_some (option_and_then as_array (get (codes "tree") d)) (Err Tree) (λ items.
     then_with (tree_of items) (λ nodes.
     with_some (first_actor_of d) (Err Actors) (λ actor.
-    with_some (root_of actor) (Err (Actor 0)) (λ names.
+    with_some (root_of actor) (Err (Actor 0 Shape)) (λ names.
     rooted nodes (directory_at nodes TOP names)))))))

@@ -15,10 +15,11 @@ use Rattle.tree_list.specs.declared.build.Entry.{Entry}
 use Rattle.tree_list.specs.declared.build.New.{New}
 use Rattle.tree_list.specs.declared.build.New.TheVariants.{Dir, File, Link}
 use Rattle.tree_list.specs.Build.{built}
+use Rattle.scripts.specs.declared.fault.Cause.TheVariants.{Shape, Refused}
 use Rattle.scripts.specs.declared.fault.RunFault.{RunFault}
 use Rattle.scripts.specs.declared.fault.RunFault.TheVariants.{Script, NoMemory}
 use Rattle.scripts.specs.declared.fault.ScriptFault.{ScriptFault}
-use Rattle.scripts.specs.declared.fault.ScriptFault.TheVariants.{Tree, TreeEntry}
+use Rattle.scripts.specs.declared.fault.ScriptFault.TheVariants.{TooManyEntries, TreeEntry}
 use Rattle.scripts.specs.declared.tree.TheConstants.{ENTRIES_MAX}
 
 -- ---- names
@@ -86,15 +87,15 @@ count_of (item d ds) = 1 + count_of ds
 
 -- the entries of good shape that come first can be built, and are all that there are
 abbrev pub tree_built : Result (List Inode) BuildFault → ℕ → ℕ → Result (List Inode) ScriptFault
-tree_built (Err fault) shaped all = Err (TreeEntry fault.at)
-tree_built (Ok nodes) shaped all = if shaped == all then Ok nodes else Err (TreeEntry shaped)
+tree_built (Err fault) shaped all = Err (TreeEntry fault.at (Refused fault.cause))
+tree_built (Ok nodes) shaped all = if shaped == all then Ok nodes else Err (TreeEntry shaped Shape)
 
 abbrev pub tree_of : Items → Result (List Inode) ScriptFault
 tree_of items =
-    refuse_if (nat_lt ENTRIES_MAX (count_of items)) (Err Tree)
+    refuse_if (nat_lt ENTRIES_MAX (count_of items)) (Err TooManyEntries)
     (tree_built (built (entries_of items)) (length (entries_of items)) (count_of items))
 
 -- how a run tells that its tree can't be built
 abbrev pub told_by : Errno → ℕ → RunFault
 told_by errno.NoMemory k = NoMemory
-told_by _ k = Script (TreeEntry k)
+told_by cause k = Script (TreeEntry k (Refused cause))

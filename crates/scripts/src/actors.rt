@@ -7,7 +7,7 @@ ghost use Rattle.tree_model.specs.Trees.{IsState};
 ghost use Rattle.scripts.specs.Actors.{root_of, first_actor_of, rooted, IsAtHand};
 ghost use Rattle.scripts.specs.Fault.{IsFaultOf};
 
-use crate::fault::{RunFault, ScriptFault};
+use crate::fault::{Cause, RunFault, ScriptFault};
 use crate::tree::names_of;
 use path_text::{Errno, Names, NoMemory};
 use serde_json::Value;
@@ -43,6 +43,7 @@ pub fn open_root(alloc: Global, tree: &mut ListTree, names: &Names) -> Result<Ha
     ensures ok { IfOk result (λ root. IsAtHand (rooted tree.old.nodes (directory_at tree.old.nodes TOP names.now)) tree.new ACTOR root) }
     ensures err { IfErr result (IsFaultOf (rooted tree.old.nodes (directory_at tree.old.nodes TOP names.now))) }
 {
+    // The tree is one with the root open, too.
     steps_keep_trees();
     match tree.grant(alloc, Actor::new(ACTOR), names) {
         Ok(root) => Ok(root),
@@ -50,7 +51,7 @@ pub fn open_root(alloc: Global, tree: &mut ListTree, names: &Names) -> Result<Ha
             if error == Errno::NoMemory {
                 Err(RunFault::NoMemory)
             } else {
-                Err(RunFault::Script(ScriptFault::Actor(0)))
+                Err(RunFault::Script(ScriptFault::Actor(0, Cause::Refused(error))))
             }
         }
     }

@@ -2,11 +2,29 @@
 ghost use Rattle.std.specs.Prelude.{◌≡◌};
 ghost use Rattle.scripts.specs.declared.fault.RunFault.TheVariants.{NoMemory as OutOfMemory};
 
-use path_text::NoMemory;
+use path_text::{Errno, NoMemory};
 use std::alloc::AllocError;
 use thiserror::Error;
 
-/// Why a script is refused: the first check that fails.
+/// Where a text stops being JSON, as serde_json tells it: the line and the column, from 1.
+#[derive(Clone, Copy, Debug, PartialEq, Eq)]
+pub struct JsonFault {
+    /// The text ends where more should follow.
+    pub is_cut_short: bool,
+    pub line: usize,
+    pub column: usize,
+}
+
+/// Why an entry of the tree, or an actor, is refused.
+#[derive(Clone, Copy, Debug, PartialEq, Eq)]
+pub enum Cause {
+    /// It isn't written as one.
+    Shape,
+    /// It has no place in the tree.
+    Refused(Errno),
+}
+
+/// Why a script is refused: the first check that fails. Its `Display` is the check's words; `detail` tells more.
 #[derive(Clone, Copy, Debug, PartialEq, Eq, Error)]
 pub enum ScriptFault {
     /// More bytes than a script may have.
@@ -14,23 +32,26 @@ pub enum ScriptFault {
     TooLong,
     /// No JSON text (RFC 8259), or no UTF-8.
     #[error("not json")]
-    NotJson,
+    NotJson(JsonFault),
     #[error("not an object")]
     NotObject,
     #[error("version")]
     Version,
-    /// No list of entries, or too many of them.
+    /// No list of entries.
     #[error("tree")]
     Tree,
-    /// The first entry whose shape, place or link text is refused.
+    /// More entries than a tree may have.
+    #[error("tree")]
+    TooManyEntries,
+    /// The first entry whose shape, place or link text is refused, and why.
     #[error("tree {0}")]
-    TreeEntry(usize),
+    TreeEntry(usize, Cause),
     /// No list of actors, or none in it.
     #[error("actors")]
     Actors,
-    /// The first actor that is refused.
+    /// The first actor that is refused, and why.
     #[error("actor {0}")]
-    Actor(usize),
+    Actor(usize, Cause),
 }
 
 /// Why a run failed. Nothing was written before it, but by a writer that failed.

@@ -1,11 +1,10 @@
 //! Reading a script to its end, and its JSON text.
-ghost use Rattle.std.specs.Prelude.{◌≡◌, ◌≢◌, ◌<◌, ◌≤◌, length, vec_len, Some, None, IfOk, IfErr, IfSome, OnOk};
+ghost use Rattle.std.specs.Prelude.{◌≡◌, ◌<◌, ◌≤◌, length, vec_len, Ok, IfOk, IfErr, IfSome, OnOk};
 ghost use Rattle.serde_json.specs.View.{view};
-ghost use Rattle.scripts.specs.Input.{IsReadFault, json_of};
-ghost use Rattle.scripts.specs.declared.fault.RunFault.TheVariants as run_fault;
-ghost use Rattle.scripts.specs.declared.fault.ScriptFault.TheVariants as script_fault;
+ghost use Rattle.scripts.specs.Fault.{IsFaultOf};
+ghost use Rattle.scripts.specs.Input.{IsReadFault, data_of};
 
-use crate::fault::{RunFault, ScriptFault};
+use crate::fault::{JsonFault, RunFault, ScriptFault};
 use serde_json::Value;
 use std::alloc::Global;
 use std::io::{ErrorKind, Read};
@@ -43,9 +42,9 @@ pub fn read_script<R: Read>(alloc: Global, reader: &mut R) -> Result<Vec<u8>, Ru
 }
 
 /// The value of a JSON text. Errors: `Script(NotJson)` where the bytes are none, or no UTF-8; `NoMemory`.
-pub fn json_of(alloc: Global, bytes: &[u8]) -> Result<Value, RunFault>
-    ensures ok { IfOk result (λ value. json_of bytes.now ≡ Some (view value)) }
-    ensures err { IfErr result (λ fault. fault ≢ run_fault.NoMemory → (fault ≡ run_fault.Script script_fault.NotJson) × (json_of bytes.now ≡ None)) }
+pub fn value_of(alloc: Global, bytes: &[u8]) -> Result<Value, RunFault>
+    ensures ok { IfOk result (λ value. data_of bytes.now ≡ Ok (view value)) }
+    ensures err { IfErr result (IsFaultOf (data_of bytes.now)) }
 {
     match Value::from_slice(alloc, bytes) {
         Ok(value) => Ok(value),
@@ -53,7 +52,11 @@ pub fn json_of(alloc: Global, bytes: &[u8]) -> Result<Value, RunFault>
             if error.is_memory() {
                 Err(RunFault::NoMemory)
             } else {
-                Err(RunFault::Script(ScriptFault::NotJson))
+                Err(RunFault::Script(ScriptFault::NotJson(JsonFault {
+                    is_cut_short: error.is_eof(),
+                    line: error.line(),
+                    column: error.column(),
+                })))
             }
         }
     }

@@ -5,8 +5,10 @@
 #![tactic(auto)]
 
 mod actors;
+mod detail;
 mod fault;
 mod input;
+mod laws;
 mod output;
 mod run;
 mod script;
@@ -14,7 +16,9 @@ mod script;
 mod tests;
 mod tree;
 
-pub use fault::{RunFault, ScriptFault};
+pub use detail::Detail;
+pub use fault::{Cause, JsonFault, RunFault, ScriptFault};
 pub use input::SCRIPT_MAX;
+pub use laws::first_refused_entry_is_told;
 pub use run::walk;
 pub use tree::ENTRIES_MAX;

@@ -1,5 +1,5 @@
 //! One path, resolved over the tree of a script.
-ghost use Rattle.std.specs.Prelude.{◌≡◌, ◌≢◌, Ok, Err, IfOk, IfErr, true};
+ghost use Rattle.std.specs.Prelude.{◌≡◌, ◌≢◌, [], Ok, Err, IfOk, IfErr, true};
 ghost use Rattle.path_text.specs.declared.errno.Errno.TheVariants as errno;
 ghost use Rattle.serde_json.specs.View.{view};
 ghost use Rattle.step_resolver.specs.Meaning.{resolved};
@@ -7,11 +7,11 @@ ghost use Rattle.step_resolver.specs.Driver.{node_of, IsReady, Resolves};
 ghost use Rattle.scripts.specs.Output.{opened_line, fault_line};
 ghost use Rattle.scripts.specs.declared.fault.RunFault.TheVariants as run_fault;
 ghost use Rattle.scripts.specs.Fault.{IsFaultOf};
-ghost use Rattle.scripts.specs.Run.{IsRun, line_of, line_for, written_for};
+ghost use Rattle.scripts.specs.Run.{IsRun, WritesNothingIfRefused, line_of, line_for, written_for};
 
 use crate::actors::ACTOR;
 use crate::fault::RunFault;
-use crate::input::{json_of, read_script};
+use crate::input::{read_script, value_of};
 use crate::output::Output;
 use crate::script::open_script;
 use handles::{Owner, Standing};
@@ -47,8 +47,10 @@ fn look_up(
 }
 
 /// The line of an object that was opened.
+#[tactic(auto, using(crate::proofs::Lines::opened_is_some))]
 fn opened_line(alloc: Global, standing: &Standing) -> Result<Output, RunFault>
     ensures ok { IfOk result (λ line. line ≡ opened_line standing.now.kind standing.now.node standing.now.names) }
+    ensures some { IfOk result (λ line. line ≢ []) }
     ensures err { IfErr result (λ fault. fault ≡ run_fault.NoMemory) }
 {
     let mut line = Output::new(alloc);
@@ -57,8 +59,10 @@ fn opened_line(alloc: Global, standing: &Standing) -> Result<Output, RunFault>
 }
 
 /// The line of a path that was refused, but for want of memory.
+#[tactic(auto, using(crate::proofs::Lines::fault_is_some))]
 fn fault_line(alloc: Global, error: Errno) -> Result<Output, RunFault>
     ensures ok { IfOk result (λ line. (error ≢ errno.NoMemory) × (line ≡ fault_line error)) }
+    ensures some { IfOk result (λ line. line ≢ []) }
     ensures err { IfErr result (λ fault. fault ≡ run_fault.NoMemory) }
 {
     if error == Errno::NoMemory {
@@ -79,8 +83,10 @@ fn line_of(
 ) -> Result<Output, RunFault>
     requires { IsReady tree.old ACTOR root (node_of tree.old ACTOR root) }
     ensures ok { IfOk result (λ line. line ≡ line_of tree.old.nodes (node_of tree.old ACTOR root) (resolved tree.old.nodes (node_of tree.old ACTOR root) text.now true flags)) }
+    ensures some { IfOk result (λ line. line ≢ []) }
     ensures err { IfErr result (λ fault. fault ≡ run_fault.NoMemory) }
 {
+    // The names of a `Standing` were judged by NameBelow; the line's are those at which the object stands.
     name_below_is_standing();
     match look_up(alloc, tree, root, text, flags) {
         Ok(Resolved::Found(standing)) => opened_line(alloc, &standing),
@@ -95,6 +101,7 @@ fn line_of(
 #[tactic(auto, using(crate::proofs::Lines::opened_by, crate::proofs::Lines::line_by))]
 fn line_for(alloc: Global, script: &Value, text: &[u8], flags: Flags) -> Result<Output, RunFault>
     ensures ok { IfOk result (λ line. line_for (view script.now) text.now flags ≡ Ok line) }
+    ensures some { IfOk result (λ line. line ≢ []) }
     ensures err { IfErr result (IsFaultOf (line_for (view script.now) text.now flags)) }
 {
     let mut opened = open_script(alloc, script)?;
@@ -106,8 +113,9 @@ fn line_for(alloc: Global, script: &Value, text: &[u8], flags: Flags) -> Result<
 ///
 /// The path is resolved in the root (openat2(2), RESOLVE_IN_ROOT), with these restrictions; a link at its last
 /// part is followed. Errors, in this order: those of `read_script`; `Script` with the first check that
-/// fails; `NoMemory`, where a growth was refused; `WriteFailed`. Nothing is written before the line is
-/// whole.
+/// fails; `NoMemory`, where a growth was refused; `WriteFailed`, where there is a line to write. Nothing is written
+/// before the line is whole.
+#[tactic(auto, using(crate::proofs::Lines::nothing_yet, crate::proofs::Lines::nothing_if_refused))]
 pub fn walk<R: Read, W: Write>(
     alloc: Global,
     reader: &mut R,
@@ -115,10 +123,11 @@ pub fn walk<R: Read, W: Write>(
     text: &[u8],
     flags: Flags,
 ) -> Result<(), RunFault>
-    ensures { IsRun (λ input. written_for input text.now flags) (R.remaining reader.old) (W.contents writer.old) (W.contents writer.new) result }
+    ensures run { IsRun (λ input. written_for input text.now flags) (R.remaining reader.old) (W.contents writer.old) (W.contents writer.new) result }
+    ensures refused { WritesNothingIfRefused (λ input. written_for input text.now flags) (R.remaining reader.old) (W.contents writer.old) (W.contents writer.new) }
 {
     let bytes = read_script(alloc, reader)?;
-    let script = json_of(alloc, &bytes)?;
+    let script = value_of(alloc, &bytes)?;
     let line = line_for(alloc, &script, text, flags)?;
     match writer.write_all(line.as_slice()) {
         Ok(()) => Ok(()),

@@ -6,7 +6,7 @@ ghost use Rattle.scripts.specs.Fault.{IsFaultOf};
 ghost use Rattle.scripts.specs.Script.{is_version, rooted_tree_of};
 
 use crate::actors::{ACTOR, first_actor_of, open_root, root_of};
-use crate::fault::{RunFault, ScriptFault};
+use crate::fault::{Cause, RunFault, ScriptFault};
 use crate::tree::tree_of;
 use serde_json::Value;
 use std::alloc::Global;
@@ -28,7 +28,7 @@ fn is_version(version: Option<u64>) -> bool
 }
 
 /// Opens a script: builds its tree, and opens the first actor's root. Errors: the first check that
-/// fails, `NotObject`, `Version`, `Tree`, `TreeEntry`, `Actors` or `Actor(0)`; `NoMemory`.
+/// fails, `NotObject`, `Version`, `Tree`, `TooManyEntries`, `TreeEntry`, `Actors` or `Actor` of the first; `NoMemory`.
 pub fn open_script(alloc: Global, script: &Value) -> Result<OpenedScript, RunFault>
     ensures ok { IfOk result (λ opened. IsAtHand (rooted_tree_of (view script.now)) opened.tree ACTOR opened.root) }
     ensures err { IfErr result (IsFaultOf (rooted_tree_of (view script.now))) }
@@ -47,7 +47,7 @@ pub fn open_script(alloc: Global, script: &Value) -> Result<OpenedScript, RunFau
         return Err(RunFault::Script(ScriptFault::Actors));
     };
     let Some(names) = root_of(alloc, actor)? else {
-        return Err(RunFault::Script(ScriptFault::Actor(0)));
+        return Err(RunFault::Script(ScriptFault::Actor(0, Cause::Shape)));
     };
     let root = open_root(alloc, &mut tree, &names)?;
     Ok(OpenedScript { tree, root })

@@ -6,7 +6,7 @@ ghost use Rattle.tree_model.specs.Trees.{IsState};
 ghost use Rattle.scripts.specs.Fault.{IsFaultOf};
 ghost use Rattle.scripts.specs.Tree.{HasNoSlashBefore, is_name, name_where, names_of, text_at, has_elements, new_of, entry_of, entries_of, tree_of, told_by};
 
-use crate::fault::{RunFault, ScriptFault};
+use crate::fault::{Cause, RunFault, ScriptFault};
 use path_text::{Bytes, Errno, Name, Names, NoMemory, SLASH};
 use serde_json::Value;
 use std::alloc::Global;
@@ -148,11 +148,11 @@ fn told_by(fault: BuildFault) -> RunFault
     if fault.cause == Errno::NoMemory {
         RunFault::NoMemory
     } else {
-        RunFault::Script(ScriptFault::TreeEntry(fault.at))
+        RunFault::Script(ScriptFault::TreeEntry(fault.at, Cause::Refused(fault.cause)))
     }
 }
 
-/// The tree with the entries that values say. Errors: `Tree` past `ENTRIES_MAX` of them, `TreeEntry` of
+/// The tree with the entries that values say. Errors: `TooManyEntries` past `ENTRIES_MAX` of them, `TreeEntry` of
 /// the first whose shape, place or link text is refused; `NoMemory`.
 pub fn tree_of(alloc: Global, values: &[Value]) -> Result<ListTree, RunFault>
     ensures ok { IfOk result (λ tree. (tree_of (items_view values.now) ≡ Ok tree.nodes) × (tree.handles ≡ [])) }
@@ -160,13 +160,13 @@ pub fn tree_of(alloc: Global, values: &[Value]) -> Result<ListTree, RunFault>
     ensures err { IfErr result (IsFaultOf (tree_of (items_view values.now))) }
 {
     if values.len() > ENTRIES_MAX {
-        return Err(RunFault::Script(ScriptFault::Tree));
+        return Err(RunFault::Script(ScriptFault::TooManyEntries));
     }
     let entries = entries_of(alloc, values)?;
     let shaped = entries.len();
     match ListTree::from_entries(alloc, &entries) {
         Ok(tree) if shaped == values.len() => Ok(tree),
-        Ok(_) => Err(RunFault::Script(ScriptFault::TreeEntry(shaped))),
+        Ok(_) => Err(RunFault::Script(ScriptFault::TreeEntry(shaped, Cause::Shape))),
         Err(fault) => Err(told_by(fault)),
     }
 }

@@ -1,6 +1,6 @@
 //! Walks driven over the plain tree, step by step, while another actor acts in between.
 use super::{BASE, PLAIN};
-use crate::input::json_of;
+use crate::input::value_of;
 use crate::output::Output;
 use crate::script::open_script;
 use handles::{Owner, Standing};
@@ -114,7 +114,7 @@ fn row_of(alloc: Global, line: &str) -> Result<Row, Fail> {
 
 /// The base tree, with the handles of both.
 fn tree_of(alloc: Global) -> Result<ListTree, Fail> {
-    let mut tree = open_script(alloc, &json_of(alloc, BASE.as_bytes())?)?.tree;
+    let mut tree = open_script(alloc, &value_of(alloc, BASE.as_bytes())?)?.tree;
     for path in OTHERS {
         tree.grant(alloc, Actor::new(OTHER), &names_of(alloc, path)?)?;
     }
