@@ -1,4 +1,4 @@
-pub mod NamesEqual
+pub mod NameBuffers
 pub mod PiecesYielded
 pub mod PrintLemmas
 pub mod SpellingLemmas

@@ -1,7 +1,9 @@
 -- Names that are printed as a path are read back from it.
-use Rattle.std.proofs.Common.{◌≡◌, ℕ, Bool, true, false, not, ◌==◌, ◌&&◌, ◌||◌, nat_lt, List, [], ◌∷◌, ◌++◌, length, map, refl, ap, ◌∙◌, arith}
-use Rattle.std.specs.Prelude.{Some, None, All, if◌then◌else◌, codes}
+use Rattle.std.proofs.Common.{◌≡◌, ℕ, Bool, true, false, not, ◌==◌, ◌&&◌, ◌||◌, nat_lt, List, [], ◌∷◌, ◌++◌, length, map, drop, ◌+◌, refl, sym, ap, ◌∙◌, arith}
+use Rattle.std.specs.Prelude.{Some, None, All, slice_get, if◌then◌else◌, codes}
 use Rattle.std.specs.List.{list_any}
+use Rattle.std.proofs.lemmas.List.{append_assoc, at_drop_more}
+use Rattle.std.proofs.lemmas.Option.{slice_get_within, get_or_from_slice_get}
 use Rattle.std.proofs.lemmas.List.Elements.{All-head, All-tail}
 use Rattle.std.proofs.lemmas.List.Folds.{list_any-append}
 use Rattle.path_text.specs.declared.errno.Errno.TheVariants.{NotFound, Invalid, TooLong}
@@ -14,6 +16,16 @@ use Rattle.path_text.specs.Spelling.{Run, runs_text, IsNonSlash, AreSeparated, I
 use Rattle.path_text.specs.Text.{is_empty, part_of, reading_of, text_fault}
 use Rattle.path_text.proofs.SpellingLemmas.{spellings_read}
 use Rattle.path_text.proofs.TextLemmas.{and_true}
+
+-- one more name is printed
+pub printed_more : (names : List (List ℕ)) (at : ℕ) (name before slashed after : List ℕ) → slice_get names at ≡ Some name → slashed ≡ before ++ SLASH ∷ [] → after ≡ slashed ++ name
+    → before ++ after_slashes (drop at names) ≡ printed names → after ++ after_slashes (drop (at + 1) names) ≡ printed names
+printed_more names at name before slashed after found slash pushed h =
+    let rest = after_slashes (drop (at + 1) names) in
+    let one : after_slashes (drop at names) ≡ SLASH ∷ (name ++ rest) =
+    at_drop_more after_slashes names at name (slice_get_within names at name found) ∙ ap (λ n. SLASH ∷ (n ++ rest)) (get_or_from_slice_get names at name name found) in
+    ap (λ bs. bs ++ rest) (pushed ∙ ap (λ bs. bs ++ name) slash)
+    ∙ append_assoc (before ++ SLASH ∷ []) name rest ∙ append_assoc before (SLASH ∷ []) (name ++ rest) ∙ ap (λ bs. before ++ bs) (sym one) ∙ h
 
 -- ---- what a valid name is
 

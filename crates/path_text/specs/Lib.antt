@@ -1,5 +1,6 @@
 pub mod Errno
 pub mod Name
+pub mod Names
 pub mod Print
 pub mod Reading
 pub mod Spelling

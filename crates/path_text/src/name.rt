@@ -57,6 +57,14 @@ impl Name {
         if bytes.len() > NAME_MAX {
             return Err(Errno::TooLong);
         }
+        Ok(Name::copy_of(alloc, bytes)?)
+    }
+
+    // The name of these bytes, which are one.
+    pub(crate) fn copy_of(alloc: Global, bytes: &[u8]) -> Result<Name, NoMemory>
+        requires { name_fault bytes.now ≡ None }
+        ensures { IfOk result (λ name. name ≡ bytes.now) }
+    {
         let bytes = Vec::from_slice(alloc, bytes)?;
         Ok(Name { bytes })
     }
@@ -82,8 +90,7 @@ impl Name {
     pub fn copy(&self, alloc: Global) -> Result<Name, NoMemory>
         ensures { IfOk result (λ copy. copy ≡ self.now) }
     {
-        let bytes = Vec::from_slice(alloc, self.bytes.as_slice())?;
-        Ok(Name { bytes })
+        Name::copy_of(alloc, self.bytes())
     }
 
     /// Whether the two are one name.

@@ -1,6 +1,7 @@
 //! A list of names, as the way from a directory down to an object.
-ghost use Rattle.std.specs.Prelude.{◌≡◌, ◌<◌, ◌+◌, ◌-◌, ℕ, List, [], ◌∷◌, ◌++◌, length, take, slice_get, Some, None, IsTrue, ◌↔◌, IfOk, OnOk, OnErr};
+ghost use Rattle.std.specs.Prelude.{◌≡◌, ◌<◌, ◌≤◌, ◌+◌, ◌-◌, ℕ, List, [], ◌∷◌, ◌++◌, length, take, reverse, slice_get, Some, None, IsTrue, ◌↔◌, IfOk, OnOk, OnErr};
 ghost use Rattle.path_text.specs.Name.{name_fault};
+ghost use Rattle.path_text.specs.Names.{start_at, AreNames};
 ghost use Rattle.path_text.specs.Print.{printed};
 
 use crate::errno::NoMemory;
@@ -8,16 +9,34 @@ use crate::name::{Name, SLASH};
 use std::alloc::Global;
 use std::marker::Model;
 
-/// Names in order. Contracts see them as the list of their bytes.
+/// Names in order, one after another in one buffer. Contracts see them as the list of their bytes.
 #[derive(Debug, Drop)]
 pub struct Names {
-    names: Vec<Name>,
+    bytes: Vec<u8>,
+    // Where each name ends in the bytes.
+    ends: Vec<usize>,
 }
 
 impl Model for Names {
+    ghost use Rattle.std.specs.Prelude.{List, ℕ};
+    ghost use Rattle.path_text.specs.Names.{names_cut, IsNameBuffer};
+
     ghost Value = { List (List ℕ) };
 
-    ghost view = { λ n. n.names.items };
+    ghost view = { λ n. names_cut 0 n.ends.items n.bytes.items };
+
+    ghost invariant = { λ n. IsNameBuffer n.bytes.items n.ends.items };
+}
+
+// Where the name at a place begins, which is where the one before it ends.
+fn start_of(ends: &[usize], at: usize) -> usize
+    requires { at ≤ length ends.now }
+    ensures { result ≡ start_at 0 ends.now at }
+{
+    if at == 0 {
+        return 0;
+    }
+    ends[at - 1]
 }
 
 impl Names {
@@ -26,45 +45,54 @@ impl Names {
         ensures { result ≡ [] }
     {
         Names {
-            names: Vec::new(alloc),
+            bytes: Vec::new(alloc),
+            ends: Vec::new(alloc),
         }
     }
 
-    /// The names of a `Vec`, which is kept.
-    pub fn from_vec(names: Vec<Name>) -> Names
-        ensures { result ≡ names.items }
+    /// The names of a slice, as copies. NoMemory where their room was refused.
+    pub fn from_slice(alloc: Global, names: &[Name]) -> Result<Names, NoMemory>
+        ensures { IfOk result (λ copies. copies ≡ names.now) }
     {
-        Names { names }
-    }
-
-    /// The `Vec` of these names.
-    pub fn into_vec(self) -> Vec<Name>
-        ensures { result.items ≡ self }
-    {
-        let Names { names } = self;
-        names
+        let mut copies = Names::new(alloc);
+        for name in names {
+            copies.push_bytes(name.bytes())?;
+        }
+        Ok(copies)
     }
 
     /// How many names there are.
     pub fn len(&self) -> usize
-        ensures { result ≡ length self.now }
+        ensures count { result ≡ length self.now }
+        ensures valid { AreNames self.now }
     {
-        self.names.len()
+        self.ends.len()
     }
 
     /// Whether there is no name.
     pub fn is_empty(&self) -> bool
         ensures { IsTrue result ↔ (self.now ≡ []) }
     {
-        self.names.is_empty()
+        self.ends.is_empty()
     }
 
     /// The bytes of the name at a place, counted from 0.
     pub fn get(&self, at: usize) -> &[u8]
         requires { at < length self.now }
-        ensures { slice_get self.now at ≡ Some result.now }
+        ensures same { slice_get self.now at ≡ Some result.now }
+        ensures valid { name_fault result.now ≡ None }
     {
-        self.names[at].bytes()
+        let start = start_of(self.ends.as_slice(), at);
+        let end = self.ends[at];
+        &self.bytes[start..end]
+    }
+
+    /// The name at a place, counted from 0, as a copy. NoMemory where its room was refused.
+    pub fn to_name(&self, alloc: Global, at: usize) -> Result<Name, NoMemory>
+        requires { at < length self.now }
+        ensures { IfOk result (λ name. slice_get self.now at ≡ Some name) }
+    {
+        Name::copy_of(alloc, self.get(at))
     }
 
     /// Adds a name at the end. NoMemory where its room was refused; the names are then unchanged, and
@@ -73,7 +101,19 @@ impl Names {
         ensures ok { OnOk result (self.new ≡ self.old ++ name ∷ []) }
         ensures err { OnErr result (self.new ≡ self.old) }
     {
-        self.names.push(name)?;
+        self.push_bytes(name.bytes())
+    }
+
+    /// Adds the name of these bytes at the end. NoMemory where its room was refused; the names are then
+    /// unchanged.
+    pub fn push_bytes(&mut self, name: &[u8]) -> Result<(), NoMemory>
+        requires { name_fault name.now ≡ None }
+        ensures ok { OnOk result (self.new ≡ self.old ++ name.now ∷ []) }
+        ensures err { OnErr result (self.new ≡ self.old) }
+    {
+        self.ends.reserve(1)?;
+        self.bytes.extend_from_slice(name)?;
+        self.ends.push_reserved(self.bytes.len());
         Ok(())
     }
 
@@ -82,33 +122,50 @@ impl Names {
         requires { 0 < length self.old }
         ensures { self.new ≡ take (length self.old - 1) self.old }
     {
-        let _ = self.names.pop();
+        let last = self.ends.len() - 1;
+        let start = start_of(self.ends.as_slice(), last);
+        self.ends.truncate(last);
+        self.bytes.truncate(start);
     }
 
     /// Drops all names.
     pub fn clear(&mut self)
         ensures { self.new ≡ [] }
     {
-        self.names.clear();
+        self.bytes.clear();
+        self.ends.clear();
     }
 
     /// Equal names. NoMemory where their room was refused.
     pub fn copy(&self, alloc: Global) -> Result<Names, NoMemory>
         ensures { IfOk result (λ copy. copy ≡ self.now) }
     {
-        let mut names = Vec::with_capacity(alloc, self.names.len())?;
-        for name in &self.names {
-            names.push(name.copy(alloc)?)?;
+        let bytes = Vec::from_slice(alloc, self.bytes.as_slice())?;
+        let ends = Vec::from_slice(alloc, self.ends.as_slice())?;
+        Ok(Names { bytes, ends })
+    }
+
+    /// The names from the last to the first. NoMemory where their room was refused.
+    pub fn reversed(&self, alloc: Global) -> Result<Names, NoMemory>
+        ensures { IfOk result (λ turned. turned ≡ reverse self.now) }
+    {
+        let mut turned = Names::new(alloc);
+        for before in 0..self.len() {
+            turned.push_bytes(self.get(self.len() - 1 - before))?;
         }
-        Ok(Names { names })
+        Ok(turned)
     }
 
     /// Whether the two are the same names in the same order.
-    #[tactic(auto, using(crate::proofs::NamesEqual::names_decided))]
     pub fn same(&self, other: &Names) -> bool
         ensures { IsTrue result ↔ (self.now ≡ other.now) }
     {
-        self.names.as_slice() == other.names.as_slice()
+        // Two empty buffers would be compared by a call, which costs more than this test.
+        if self.ends.is_empty() && other.ends.is_empty() {
+            return true;
+        }
+        self.bytes.as_slice() == other.bytes.as_slice()
+            && self.ends.as_slice() == other.ends.as_slice()
     }
 
     /// The names as an absolute path: a slash before each, and `/` for none. NoMemory where its room was
@@ -117,12 +174,12 @@ impl Names {
         ensures { IfOk result (λ text. text.items ≡ printed self.now) }
     {
         let mut text = Vec::new(alloc);
-        if self.names.is_empty() {
+        if self.is_empty() {
             text.push(SLASH)?;
         }
-        for name in &self.names {
+        for at in 0..self.len() {
             text.push(SLASH)?;
-            text.extend_from_slice(name.bytes())?;
+            text.extend_from_slice(self.get(at))?;
         }
         Ok(text)
     }

@@ -4,10 +4,22 @@ use crate::*;
 use std::alloc::Global;
 use std::test::Fail;
 
-// The parts, with a blank after each.
-fn shown(alloc: Global, parts: &Parts) -> Result<Vec<u8>, NoMemory> {
+// The first text, and then the second so many times.
+fn with_many(alloc: Global, first: &str, then: &str, count: usize) -> Result<Vec<u8>, NoMemory> {
+    let mut text = Vec::from_slice(alloc, first.as_bytes())?;
+    for _ in 0..count {
+        text.extend_from_slice(then.as_bytes())?;
+    }
+    Ok(text)
+}
+
+// `/` for a path that begins with a slash, the parts with a blank after each, `/` for a slash at the end.
+fn shown(alloc: Global, path: &Path) -> Result<Vec<u8>, NoMemory> {
     let mut text = Vec::new(alloc);
-    for part in parts.as_slice() {
+    if path.absolute {
+        text.push(b'/')?;
+    }
+    for part in path.parts.as_slice() {
         let piece = match part {
             Part::Cur => b".".as_slice(),
             Part::Up => b"..".as_slice(),
@@ -16,14 +28,8 @@ fn shown(alloc: Global, parts: &Parts) -> Result<Vec<u8>, NoMemory> {
         text.extend_from_slice(piece)?;
         text.push(b' ')?;
     }
-    Ok(text)
-}
-
-// So many of these bytes after the first text.
-fn with_many(alloc: Global, first: &str, byte: u8, count: usize) -> Result<Vec<u8>, NoMemory> {
-    let mut text = Vec::from_slice(alloc, first.as_bytes())?;
-    for _ in 0..count {
-        text.push(byte)?;
+    if path.slash {
+        text.push(b'/')?;
     }
     Ok(text)
 }
@@ -35,6 +41,11 @@ fn names_of(alloc: Global, texts: &[&str]) -> Result<Names, Errno> {
         names.push(Name::new(alloc, text.as_bytes())?)?;
     }
     Ok(names)
+}
+
+fn is_error(alloc: Global, error: Errno, name: &str, number: u8) -> Result<bool, NoMemory> {
+    let printed = format!(in alloc; "{error}")?;
+    Ok(error.name() == name && error.number() == number && printed.as_str() == name)
 }
 
 #[test]
@@ -55,195 +66,238 @@ fn errors_have_their_names_and_numbers(rt: HostRuntime) -> Result<(), Fail> {
         (Errno::TooLong, "ENAMETOOLONG", 36),
         (Errno::NotEmpty, "ENOTEMPTY", 39),
         (Errno::Loop, "ELOOP", 40),
+        (Errno::from(NoMemory), "ENOMEM", 12),
     ] {
-        assert_eq!(rt; error.name(), name);
-        assert_eq!(rt; error.number(), number);
-        assert_eq!(rt; format!(in rt.alloc(); "{error}")?.as_str(), name);
+        assert!(rt; is_error(rt.alloc(), error, name, number)?, "{name}");
     }
-    assert_eq!(rt; Errno::from(NoMemory), Errno::NoMemory);
+    Ok(())
+}
+
+#[test]
+fn want_of_memory_is_printed(rt: HostRuntime) -> Result<(), Fail> {
     assert_eq!(rt; format!(in rt.alloc(); "{NoMemory}")?.as_str(), "ENOMEM");
     Ok(())
 }
 
+// Whether a name of the text is refused so, or is the text's bytes; a part of it may be too long.
+fn is_name_or(alloc: Global, text: &[u8], fault: Option<Errno>) -> bool {
+    let component_fault = match fault {
+        Some(Errno::TooLong) => None,
+        fault => fault,
+    };
+    Component::new(alloc, text).err() == component_fault
+        && match Name::new(alloc, text) {
+            Ok(name) => fault.is_none() && name.bytes() == text,
+            Err(error) => Some(error) == fault,
+        }
+}
+
 #[test]
 fn names_are_refused_in_order(rt: HostRuntime) -> Result<(), Fail> {
-    let alloc = rt.alloc();
-    for text in ["", ".", "..", "a/b", "/", "a\0", "\0"] {
-        assert_eq!(rt;
-            Name::new(alloc, text.as_bytes()).err(),
-            Some(Errno::Invalid),
-            "{text}"
-        );
-        assert_eq!(rt;
-            Component::new(alloc, text.as_bytes()).err(),
-            Some(Errno::Invalid),
-            "{text}"
+    for (first, count, fault) in [
+        ("", 0, Some(Errno::Invalid)),
+        (".", 0, Some(Errno::Invalid)),
+        ("..", 0, Some(Errno::Invalid)),
+        ("a/b", 0, Some(Errno::Invalid)),
+        ("/", 0, Some(Errno::Invalid)),
+        ("a\0", 0, Some(Errno::Invalid)),
+        ("\0", 0, Some(Errno::Invalid)),
+        ("", 255, None),
+        ("", 256, Some(Errno::TooLong)),
+        ("/", 300, Some(Errno::Invalid)),
+    ] {
+        let text = with_many(rt.alloc(), first, "x", count)?;
+        assert!(rt;
+            is_name_or(rt.alloc(), text.as_slice(), fault),
+            "{first} {count}"
         );
     }
-    let mut text = with_many(alloc, "", b'x', 255)?;
-    assert_eq!(rt; Name::new(alloc, text.as_slice())?.bytes(), text.as_slice());
-    text.push(b'x')?;
-    assert_eq!(rt;
-        Name::new(alloc, text.as_slice()).err(),
-        Some(Errno::TooLong)
-    );
-    let long_with_slash = with_many(alloc, "/", b'x', 300)?;
-    assert_eq!(rt;
-        Name::new(alloc, long_with_slash.as_slice()).err(),
-        Some(Errno::Invalid)
-    );
     Ok(())
+}
+
+// Whether the name `f`, as a copy, is this one, by both tests; and whether it comes before it.
+fn compared(alloc: Global, text: &str) -> Result<(bool, bool, bool), Errno> {
+    let f = Name::new(alloc, b"f")?.copy(alloc)?;
+    let other = Name::new(alloc, text.as_bytes())?;
+    Ok((f.same(&other), f == other, f < other))
 }
 
 #[test]
 fn names_are_their_bytes(rt: HostRuntime) -> Result<(), Fail> {
-    let alloc = rt.alloc();
-    let f = Name::new(alloc, b"f")?;
-    assert_eq!(rt; f.bytes(), b"f".as_slice());
-    let copy = f.copy(alloc)?;
-    assert!(rt; f.same(&copy));
-    assert!(rt; f == copy);
-    for (other, is_before) in [("F", false), ("f.", true), ("g", true)] {
-        let other = Name::new(alloc, other.as_bytes())?;
-        assert!(rt; !f.same(&other));
-        assert_eq!(rt; f < other, is_before);
+    for (text, is_same, is_before) in [
+        ("f", true, false),
+        ("F", false, false),
+        ("f.", false, true),
+        ("g", false, true),
+    ] {
+        assert_eq!(rt; compared(rt.alloc(), text)?, (is_same, is_same, is_before));
     }
     Ok(())
+}
+
+// Whether a part of so many bytes is told to be too long, and else is a name of its bytes.
+fn is_component(alloc: Global, count: usize, is_too_long: bool) -> Result<bool, Errno> {
+    let text = with_many(alloc, "", "x", count)?;
+    let component = Component::new(alloc, text.as_slice())?;
+    if component.bytes() != text.as_slice() || component.is_too_long() != is_too_long {
+        return Ok(false);
+    }
+    if component.is_too_long() {
+        return Ok(true);
+    }
+    let name = component.to_name(alloc)?;
+    Ok(name.bytes() == text.as_slice() && component.into_name().bytes() == text.as_slice())
 }
 
 #[test]
 fn components_may_be_too_long(rt: HostRuntime) -> Result<(), Fail> {
-    let alloc = rt.alloc();
     for (count, is_too_long) in [(1, false), (255, false), (256, true), (4095, true)] {
-        let text = with_many(alloc, "", b'x', count)?;
-        let component = Component::new(alloc, text.as_slice())?;
-        assert_eq!(rt; component.bytes(), text.as_slice());
-        assert_eq!(rt; component.is_too_long(), is_too_long, "{count}");
-        if !component.is_too_long() {
-            assert_eq!(rt; component.to_name(alloc)?.bytes(), text.as_slice());
-            assert_eq!(rt; component.into_name().bytes(), text.as_slice());
-        }
+        assert!(rt; is_component(rt.alloc(), count, is_too_long)?, "{count}");
     }
     Ok(())
+}
+
+fn reads_as(alloc: Global, text: &str, reading: &str) -> Result<bool, Errno> {
+    let path = Path::parse(alloc, text.as_bytes())?;
+    Ok(shown(alloc, &path)?.as_slice() == reading.as_bytes())
 }
 
 #[test]
 fn texts_are_read(rt: HostRuntime) -> Result<(), Fail> {
-    let alloc = rt.alloc();
-    for (text, absolute, parts, slash) in [
-        ("a/../b", false, "a .. b ", false),
-        ("//x", true, "x ", false),
-        ("a/", false, "a . ", true),
-        ("a/.", false, "a . ", false),
-        ("a/.//", false, "a . . ", true),
-        ("/", true, "", false),
-        ("a//b///f", false, "a b f ", false),
-        ("a/b/f/", false, "a b f . ", true),
-        ("a/b/f/..", false, "a b f .. ", false),
-        ("/../../a", true, ".. .. a ", false),
-        ("..a/.../.b", false, "..a ... .b ", false),
+    for (text, reading) in [
+        ("a/../b", "a .. b "),
+        ("//x", "/x "),
+        ("a/", "a . /"),
+        ("a/.", "a . "),
+        ("a/.//", "a . . /"),
+        ("/", "/"),
+        ("a//b///f", "a b f "),
+        ("a/b/f/", "a b f . /"),
+        ("a/b/f/..", "a b f .. "),
+        ("/../../a", "/.. .. a "),
+        ("..a/.../.b", "..a ... .b "),
     ] {
-        assert_eq!(rt; Path::fault_of(text.as_bytes()), None, "{text}");
-        let path = Path::parse(alloc, text.as_bytes())?;
-        assert_eq!(rt; path.absolute, absolute, "{text}");
-        assert_eq!(rt;
-            shown(alloc, &path.parts)?.as_slice(),
-            parts.as_bytes(),
-            "{text}"
-        );
-        assert_eq!(rt; path.slash, slash, "{text}");
+        assert!(rt; reads_as(rt.alloc(), text, reading)?, "{text}");
     }
     Ok(())
+}
+
+// Why a text of these is no path, where both calls say the same.
+fn fault_of(alloc: Global, text: &[u8]) -> Option<Errno> {
+    let fault = Path::fault_of(text);
+    Path::parse(alloc, text)
+        .err()
+        .filter(|error| Some(*error) == fault)
 }
 
 #[test]
 fn texts_are_refused_in_order(rt: HostRuntime) -> Result<(), Fail> {
-    let alloc = rt.alloc();
-    let too_long = with_many(alloc, "", b'/', 4096)?;
-    let too_long_with_nul = with_many(alloc, "\0", b'a', 4096)?;
-    for (text, fault) in [
-        (b"".as_slice(), Errno::NotFound),
-        (b"a\0".as_slice(), Errno::Invalid),
-        (b"\0".as_slice(), Errno::Invalid),
-        (too_long.as_slice(), Errno::TooLong),
-        (too_long_with_nul.as_slice(), Errno::Invalid),
+    for (first, then, count, fault) in [
+        ("", "", 0, Errno::NotFound),
+        ("a\0", "", 0, Errno::Invalid),
+        ("\0", "", 0, Errno::Invalid),
+        ("", "/", 4096, Errno::TooLong),
+        ("\0", "a", 4096, Errno::Invalid),
     ] {
-        assert_eq!(rt; Path::fault_of(text), Some(fault));
-        assert_eq!(rt; Path::parse(alloc, text).err(), Some(fault));
+        let text = with_many(rt.alloc(), first, then, count)?;
+        assert_eq!(rt; fault_of(rt.alloc(), text.as_slice()), Some(fault));
     }
     Ok(())
+}
+
+// Whether a text of so many bytes is a path of so many parts, with no slash at its end.
+fn has_parts(
+    alloc: Global,
+    text: &[u8],
+    len: usize,
+    absolute: bool,
+    parts: usize,
+) -> Result<bool, Errno> {
+    let path = Path::parse(alloc, text)?;
+    Ok(text.len() == len && path.absolute == absolute && path.parts.len() == parts && !path.slash)
 }
 
 #[test]
 fn long_texts_are_read(rt: HostRuntime) -> Result<(), Fail> {
-    let alloc = rt.alloc();
-    let slashes = with_many(alloc, "", b'/', 4095)?;
-    let root = Path::parse(alloc, slashes.as_slice())?;
-    assert!(rt; root.absolute && root.parts.is_empty() && !root.slash);
-
-    let mut text = Vec::new(alloc);
-    for _ in 0..2047 {
-        text.extend_from_slice(b"a/")?;
-    }
-    text.push(b'b')?;
-    assert_eq!(rt; text.len(), 4095);
-    let path = Path::parse(alloc, text.as_slice())?;
-    assert_eq!(rt; path.parts.len(), 2048);
-    assert!(rt; !path.absolute && !path.slash);
-
-    for count in [255, 256, 300] {
-        let text = with_many(alloc, "a/", b'x', count)?;
-        let path = Path::parse(alloc, text.as_slice())?;
-        assert_eq!(rt; path.parts.len(), 2);
+    for (first, then, count, len, absolute, parts) in [
+        ("", "/", 4095, 4095, true, 0),
+        ("b", "/a", 2047, 4095, false, 2048),
+        ("a/", "x", 255, 257, false, 2),
+        ("a/", "x", 256, 258, false, 2),
+        ("a/", "x", 300, 302, false, 2),
+    ] {
+        let text = with_many(rt.alloc(), first, then, count)?;
+        assert!(rt;
+            has_parts(rt.alloc(), text.as_slice(), len, absolute, parts)?,
+            "{count}"
+        );
     }
     Ok(())
+}
+
+fn splits_into(
+    alloc: Global,
+    text: &str,
+    rule: Rule,
+    dir: &str,
+    name: &str,
+    slash: bool,
+) -> Result<bool, Errno> {
+    let split = Path::parse(alloc, text.as_bytes())?.split_last(rule)?;
+    Ok(
+        shown(alloc, &split.dir)?.as_slice() == dir.as_bytes()
+            && split.name.bytes() == name.as_bytes()
+            && split.slash == slash,
+    )
 }
 
 #[test]
 fn paths_are_split(rt: HostRuntime) -> Result<(), Fail> {
-    let alloc = rt.alloc();
-    for (text, rule, absolute, dir, name, slash) in [
-        ("a/b/", Rule::Drop, false, "a ", "b", true),
-        ("a/b", Rule::Refuse, false, "a ", "b", false),
-        ("/b", Rule::Refuse, true, "", "b", false),
-        ("b//", Rule::Drop, false, "", "b", true),
-        ("/a/.././b", Rule::Drop, true, "a .. . ", "b", false),
+    for (text, rule, dir, name, slash) in [
+        ("a/b/", Rule::Drop, "a ", "b", true),
+        ("a/b", Rule::Refuse, "a ", "b", false),
+        ("/b", Rule::Refuse, "/", "b", false),
+        ("b//", Rule::Drop, "", "b", true),
+        ("/a/.././b", Rule::Drop, "/a .. . ", "b", false),
     ] {
-        let split = Path::parse(alloc, text.as_bytes())?.split_last(rule)?;
-        assert_eq!(rt; split.dir.absolute, absolute, "{text}");
-        assert_eq!(rt;
-            shown(alloc, &split.dir.parts)?.as_slice(),
-            dir.as_bytes(),
+        assert!(rt;
+            splits_into(rt.alloc(), text, rule, dir, name, slash)?,
             "{text}"
         );
-        assert!(rt; !split.dir.slash, "{text}");
-        assert_eq!(rt; split.name.bytes(), name.as_bytes(), "{text}");
-        assert_eq!(rt; split.slash, slash, "{text}");
     }
     Ok(())
 }
 
+// Why the text, with so many bytes in the middle, isn't split.
+fn split_fault(
+    alloc: Global,
+    first: &str,
+    count: usize,
+    last: &str,
+    rule: Rule,
+) -> Result<Option<Errno>, Errno> {
+    let mut text = with_many(alloc, first, "x", count)?;
+    text.extend_from_slice(last.as_bytes())?;
+    Ok(Path::parse(alloc, text.as_slice())?.split_last(rule).err())
+}
+
 #[test]
 fn splits_are_refused_in_order(rt: HostRuntime) -> Result<(), Fail> {
-    let alloc = rt.alloc();
-    for (text, rule, fault) in [
-        ("a/b/", Rule::Refuse, Errno::NotDir),
-        ("a/..", Rule::Drop, Errno::Invalid),
-        ("/", Rule::Drop, Errno::Invalid),
-        ("a/.", Rule::Drop, Errno::Invalid),
-        ("a/./", Rule::Refuse, Errno::Invalid),
-        ("a/../", Rule::Refuse, Errno::Invalid),
+    for (first, count, last, rule, fault) in [
+        ("a/b/", 0, "", Rule::Refuse, Errno::NotDir),
+        ("a/..", 0, "", Rule::Drop, Errno::Invalid),
+        ("/", 0, "", Rule::Drop, Errno::Invalid),
+        ("a/.", 0, "", Rule::Drop, Errno::Invalid),
+        ("a/./", 0, "", Rule::Refuse, Errno::Invalid),
+        ("a/../", 0, "", Rule::Refuse, Errno::Invalid),
+        ("a/", 256, "", Rule::Drop, Errno::TooLong),
+        ("a/", 256, "/", Rule::Refuse, Errno::NotDir),
     ] {
-        let path = Path::parse(alloc, text.as_bytes())?;
-        assert_eq!(rt; path.split_last(rule).err(), Some(fault), "{text}");
+        assert_eq!(rt;
+            split_fault(rt.alloc(), first, count, last, rule)?,
+            Some(fault)
+        );
     }
-
-    let mut text = with_many(alloc, "a/", b'x', 256)?;
-    let path = Path::parse(alloc, text.as_slice())?;
-    assert_eq!(rt; path.split_last(Rule::Drop).err(), Some(Errno::TooLong));
-    text.push(b'/')?;
-    let path = Path::parse(alloc, text.as_slice())?;
-    assert_eq!(rt; path.split_last(Rule::Refuse).err(), Some(Errno::NotDir));
     Ok(())
 }
 
@@ -255,48 +309,65 @@ fn names_are_printed(rt: HostRuntime) -> Result<(), Fail> {
         (["a", "b"].as_slice(), "/a/b"),
         (["c", "...", "x y"].as_slice(), "/c/.../x y"),
     ] {
-        let names = names_of(alloc, texts)?;
-        assert_eq!(rt; names.print(alloc)?.as_slice(), printed.as_bytes());
+        assert!(rt; names_of(alloc, texts)?.print(alloc)?.as_slice() == printed.as_bytes());
     }
     Ok(())
 }
 
-#[test]
-fn lists_of_names_grow_and_shrink(rt: HostRuntime) -> Result<(), Fail> {
-    let alloc = rt.alloc();
-    let mut names = names_of(alloc, &["a", "b"])?;
-    assert_eq!(rt; names.len(), 2);
-    assert_eq!(rt; names.get(1), b"b".as_slice());
-    let copy = Names::from_vec(names.copy(alloc)?.into_vec());
-    assert!(rt; names.same(&copy));
-    names.pop();
-    assert!(rt; !names.same(&copy) && names.same(&names_of(alloc, &["a"])?));
-    names.clear();
-    assert!(rt; names.is_empty() && !copy.is_empty());
-    Ok(())
+// `a`, `b`, put together by both ways to push, is told from `a`, which is left of its copy, and from nothing.
+fn names_grow_and_shrink(alloc: Global) -> Result<bool, Errno> {
+    let one = names_of(alloc, &["a"])?;
+    let mut names = one.copy(alloc)?;
+    names.push_bytes(Name::new(alloc, b"b")?.bytes())?;
+    let mut copy = names.copy(alloc)?;
+    copy.pop();
+    let shorter = copy.same(&one) && !copy.same(&names);
+    copy.clear();
+    Ok(
+        shorter
+            && copy.is_empty()
+            && !copy.same(&names)
+            && names.len() == 2
+            && names.get(1) == b"b".as_slice(),
+    )
 }
 
-#[test]
-fn lists_of_parts_grow_and_shrink(rt: HostRuntime) -> Result<(), Fail> {
-    let alloc = rt.alloc();
+// `a`, `b` from a slice, turned round, have `b` first.
+fn names_turn_round(alloc: Global) -> Result<bool, Errno> {
+    let mut list = Vec::new(alloc);
+    list.push(Name::new(alloc, b"a")?)?;
+    list.push(Name::new(alloc, b"b")?)?;
+    let turned = Names::from_slice(alloc, list.as_slice())?.reversed(alloc)?;
+    Ok(turned.len() == 2 && turned.to_name(alloc, 0)?.bytes() == b"b".as_slice())
+}
+
+// `a`, `..` lose `..`, and `a` is left.
+fn parts_grow_and_shrink(alloc: Global) -> Result<bool, Errno> {
     let mut parts = Parts::new(alloc);
-    assert!(rt; parts.is_empty() && parts.pop().is_none());
+    let none = parts.is_empty() && parts.pop().is_none();
     parts.push(Part::Named(Component::new(alloc, b"a")?))?;
     parts.push(Part::Up)?;
     let mut parts = Parts::from_vec(parts.into_vec());
-    assert_eq!(rt; parts.len(), 2);
-    assert!(rt; matches!(parts.pop(), Some(Part::Up)));
-    assert_eq!(rt; shown(alloc, &parts)?.as_slice(), b"a ".as_slice());
-    Ok(())
+    let both = parts.len() == 2 && matches!(parts.pop(), Some(Part::Up));
+    let path = Path {
+        absolute: false,
+        parts,
+        slash: false,
+    };
+    Ok(none && both && shown(alloc, &path)?.as_slice() == b"a ".as_slice())
+}
+
+fn bytes_are_copied(alloc: Global) -> Result<bool, Errno> {
+    let text = Bytes::from_slice(alloc, b"../a")?;
+    let copy = Bytes::from_vec(text.copy(alloc)?.into_vec());
+    let other = Bytes::from_slice(alloc, b"../")?;
+    Ok(copy.as_slice() == b"../a".as_slice() && copy.same(&text) && !copy.same(&other))
 }
 
 #[test]
-fn bytes_are_copied(rt: HostRuntime) -> Result<(), Fail> {
+fn lists_are_kept(rt: HostRuntime) -> Result<(), Fail> {
     let alloc = rt.alloc();
-    let text = Bytes::from_slice(alloc, b"../a")?;
-    let copy = Bytes::from_vec(text.copy(alloc)?.into_vec());
-    assert_eq!(rt; copy.as_slice(), b"../a".as_slice());
-    assert!(rt; copy.same(&text));
-    assert!(rt; !copy.same(&Bytes::from_slice(alloc, b"../")?));
+    assert!(rt; names_grow_and_shrink(alloc)? && names_turn_round(alloc)?);
+    assert!(rt; parts_grow_and_shrink(alloc)? && bytes_are_copied(alloc)?);
     Ok(())
 }

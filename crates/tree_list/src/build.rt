@@ -60,20 +60,20 @@ fn object_of(alloc: Global, what: &New) -> Result<Object, NoMemory>
 fn make_at(
     nodes: &mut IndexedNodes,
     alloc: Global,
-    way: &[Name],
+    way: &Names,
     name: Name,
     object: Object,
 ) -> Result<(), Errno>
     ensures { IsTry nodes.old nodes.new (makes_at nodes.old TOP (way.now ++ name ∷ []) object) result }
 {
     let mut dir = top();
-    for step in way {
+    for step in 0..way.len() {
         if !nodes.is_dir(dir) {
             return Err(Errno::NotDir);
         }
         let at = Place {
             parent: dir,
-            name: step.copy(alloc)?,
+            name: way.to_name(alloc, step)?,
         };
         let Some(next) = nodes.child(&at) else {
             return Err(Errno::NotFound);
@@ -91,12 +91,14 @@ fn add(nodes: &mut IndexedNodes, alloc: Global, entry: &Entry) -> Result<(), Err
     if let Some(fault) = new_fault(&entry.what) {
         return Err(fault);
     }
-    let mut way = entry.at.copy(alloc)?.into_vec();
-    let Some(name) = way.pop() else {
+    let Some(last) = entry.at.len().checked_sub(1) else {
         return Err(Errno::Exists);
     };
+    let name = entry.at.to_name(alloc, last)?;
+    let mut way = entry.at.copy(alloc)?;
+    way.pop();
     let object = object_of(alloc, &entry.what)?;
-    make_at(nodes, alloc, way.as_slice(), name, object)
+    make_at(nodes, alloc, &way, name, object)
 }
 
 /// The nodes of the tree with these entries, or the first that is refused, and why.

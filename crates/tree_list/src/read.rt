@@ -45,7 +45,7 @@ pub(crate) fn names_below(
         let Some(place) = place_at(nodes, at) else {
             return Ok(None);
         };
-        names.push(place.name.copy(alloc)?)?;
+        names.push_bytes(place.name.bytes())?;
         at = place.parent;
     }
     Ok((at == top).then_some(names))
@@ -89,7 +89,7 @@ pub(crate) fn sorted(alloc: Global, names: Vec<Name>) -> Result<Names, NoMemory>
         let at = slot_of(&name, sorted.as_slice());
         sorted.insert(at, name)?;
     }
-    Ok(Names::from_vec(sorted))
+    Names::from_slice(alloc, sorted.as_slice())
 }
 
 /// The directory at these names below the top, no link followed. Errors, in this order: at each name

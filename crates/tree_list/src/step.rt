@@ -7,7 +7,7 @@ ghost use Rattle.tree_list.specs.Changes.{IsStep, IsStepOr, answer_of};
 use crate::entries::{make, remove_dir, remove_file, rename};
 use crate::read::{names_below, names_in, sorted};
 use crate::tree::ListTree;
-use path_text::{Bytes, Errno, Name, Names, NoMemory, Path};
+use path_text::{Bytes, Errno, Name, NoMemory, Path};
 use std::alloc::Global;
 use tree_model::{
     Actor, Answer, HANDLES_MAX, HandleNo, Mode, NUMBERS_MAX, Node, Object, OpenHandle, Place,
@@ -165,11 +165,7 @@ impl ListTree {
             return Ok(Answer::Refused(Errno::BadHandle));
         };
         match names_below(alloc, &self.nodes, top, x)? {
-            Some(names) => {
-                let mut names = names.into_vec();
-                names.reverse();
-                Ok(Answer::Names(Names::from_vec(names)))
-            }
+            Some(names) => Ok(Answer::Names(names.reversed(alloc)?)),
             None => Ok(Answer::NotBelow),
         }
     }

@@ -15,7 +15,6 @@ use path_text::{Errno, Flags, Name, Names, NoMemory, Part, Parts, Path, SLASH};
 use smallvec::SmallVec;
 use std::alloc::Global;
 use std::marker::Model;
-use std::mem;
 
 /// The most links that are followed along one path (path_resolution(7), MAXSYMLINKS of the Linux kernel).
 pub const LINKS_MAX: u8 = 40;
@@ -77,10 +76,7 @@ impl Plan {
     pub fn next(&self) -> Option<&Part>
         ensures { option_copied result ≡ next_part self.now }
     {
-        match self.inner.as_slice().last() {
-            Some(part) => Some(part),
-            None => self.own.as_slice().last(),
-        }
+        next_of(&self.inner, &self.own)
     }
 
     /// Whether the next part is the last one to come.
@@ -179,27 +175,19 @@ impl Plan {
         Ok(())
     }
 
-    /// Takes the next part off, which is a name, and passes it: its own bytes become the last name,
-    /// moved and not copied. NoMemory where room was refused: the plan is then unchanged.
+    /// Takes the next part off, which is a name, and passes it: its own bytes become the last name.
+    /// NoMemory where room was refused: the plan is then unchanged.
     pub fn entered(&mut self) -> Result<(), NoMemory>
         requires { IsNameAnd (next_part self.old) (λ name. length name ≤ NAME_MAX) }
         ensures ok { OnOk result
             (IfName (next_part self.old) (λ name. self.new ≡ went_down self.old name)) }
         ensures err { OnErr result (self.new ≡ self.old) }
     {
-        // The names are taken out as a plain list, which can hold room for one more before that one is there, and
-        // are put back whether there was room or not.
-        let none = Names::new(*self.inner.allocator());
-        let mut names = mem::replace(&mut self.names, none).into_vec();
-        let room = names.reserve(1);
-        // Where there was room the next part always matches: it is a name.
-        if room.is_ok()
-            && let Some(Part::Named(component)) = pop_next(&mut self.inner, &mut self.own)
-        {
-            names.push_reserved(component.into_name());
+        // A name, as is required.
+        if let Some(Part::Named(component)) = next_of(&self.inner, &self.own) {
+            self.names.push_bytes(component.bytes())?;
         }
-        self.names = Names::from_vec(names);
-        room?;
+        let _ = pop_next(&mut self.inner, &mut self.own);
         Ok(())
     }
 
@@ -276,6 +264,16 @@ impl Plan {
         let mut parts = self.own;
         parts.reverse();
         Parts::from_vec(parts)
+    }
+}
+
+// The next part: of those of links' texts, which come first, else of the own ones.
+fn next_of<'a>(inner: &'a SmallVec<Part, INLINE_PARTS>, own: &'a Vec<Part>) -> Option<&'a Part>
+    ensures { option_copied result ≡ first_part (reverse inner.now.items ++ reverse own.now.items) }
+{
+    match inner.as_slice().last() {
+        Some(part) => Some(part),
+        None => own.as_slice().last(),
     }
 }
 

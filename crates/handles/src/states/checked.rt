@@ -1,5 +1,6 @@
 //! What a `Standing` tells of its object.
 ghost use Rattle.std.specs.Prelude.{◌≡◌};
+ghost use Rattle.path_text.specs.Names.{AreNames};
 
 use crate::owner::Owner;
 use crate::states::Standing;
@@ -9,8 +10,11 @@ use tree_model::{HandleNo, Kind, Node};
 impl Standing {
     /// The names from the root down to the object, as it stood.
     pub fn names(&self) -> &Names
-        ensures { result.now ≡ self.now.names }
+        ensures same { result.now ≡ self.now.names }
+        ensures valid { AreNames result.now }
     {
+        // `Names` holds names alone, and says so where it is asked for its length.
+        let _count = self.names.len();
         &self.names
     }
 

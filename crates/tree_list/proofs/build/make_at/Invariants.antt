@@ -6,5 +6,5 @@ use Rattle.tree_list.proofs.build.make_at.Given as goal
 -- what is made at the names that are left is what is made at all
 abbrev pub invariant-loop-step : goal.invariant-loop-step
 invariant-loop-step l =
-    (makes_at l.nodes l.dir (drop l.step-index l.way ++ l.fn.name ∷ []) l.object ≡ makes_at l.nodes TOP (l.way ++ l.fn.name ∷ []) l.object)
+    (makes_at l.nodes l.dir (drop l.step l.way ++ l.fn.name ∷ []) l.object ≡ makes_at l.nodes TOP (l.way ++ l.fn.name ∷ []) l.object)
     × (l.object ≡ l.fn.object)

@@ -7,5 +7,5 @@ pub loop-preserved : goal.loop-preserved
 loop-preserved c =
     let nodes = c.args.nodes.now in
     let at : place_at nodes c.loop.at ≡ Some c.in-Some.place.now = search rules in
-    let longer : c.push.new.self ≡ c.loop.names ++ c.in-Some.place.now.name ∷ [] = search rules in
+    let longer : c.push_bytes.new.self ≡ c.loop.names ++ c.in-Some.place.now.name ∷ [] = search rules in
     rw longer (sym (names_within_more (length nodes) c.loop.counter nodes c.args.top c.loop.at c.in-Some.place.now c.loop.names c.loop-test.true (search rules) at) ∙ c.loop.invariant)

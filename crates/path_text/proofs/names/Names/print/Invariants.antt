@@ -3,5 +3,5 @@ use Rattle.path_text.specs.Print.{printed, after_slashes}
 use Rattle.path_text.proofs.names.Names.print.Given as goal
 
 -- what is printed so far and the names that are left make the whole
-abbrev pub invariant-loop-name : goal.invariant-loop-name
-invariant-loop-name l = l.text.items ++ after_slashes (drop l.name-index l.name-items) ≡ printed l.name-items
+abbrev pub invariant-loop-at : goal.invariant-loop-at
+invariant-loop-at l = l.text.items ++ after_slashes (drop l.at l.self) ≡ printed l.self

@@ -1,0 +1,18 @@
+use Rattle.std.proofs.Common.{◌≡◌, true, reverse, sym, ap, ◌∙◌}
+use Rattle.handles.specs.Objects.{unchecked}
+use Rattle.step_resolver.specs.Order.{holds, judging, goes_on, take}
+use Rattle.step_resolver.specs.View.{way_of, handle_of, todo_of}
+use Rattle.step_resolver.proofs.WalkAnswers.{judging_stands}
+use Rattle.step_resolver.proofs.course.Course.judged.Goals as goal
+
+pub returns-in-Ok-clause-turn : goal.returns-in-Ok-clause-turn
+returns-in-Ok-clause-turn c =
+    let p = c.args.self.plan in
+    let way = way_of c.args.self.root p in
+    let told = rw c.names.ensures at c.in-Ok.ensures.ok.0 in
+    let same : handle_of c.onward.result ≡ handle_of c.args.new =
+    ap handle_of (c.onward.ensures ∙ ap unchecked c.in-Ok.ensures.ok.1) in
+    (true,
+      c.go_on.ensures.turn ∙ ap (λ handle. goes_on way (holds handle (reverse p.names)) (todo_of p)) same
+      ∙ sym (judging_stands way c.args.new p.names (todo_of p))
+      ∙ ap (take way true (judging (handle_of c.args.new) (reverse p.names) (todo_of p))) (sym told))
