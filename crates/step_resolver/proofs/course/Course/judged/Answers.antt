@@ -7,8 +7,8 @@ use Rattle.step_resolver.proofs.course.Course.judged.Goals as goal
 
 pub returns-in-Ok-clause-turn : goal.returns-in-Ok-clause-turn
 returns-in-Ok-clause-turn c =
-    let p = c.args.self.plan in
-    let way = way_of c.args.self.root p in
+    let p = c.args.self.now.plan in
+    let way = way_of c.args.self.now.root p in
     let told = rw c.names.ensures at c.in-Ok.ensures.ok.0 in
     let same : handle_of c.onward.result ≡ handle_of c.args.new =
     ap handle_of (c.onward.ensures ∙ ap unchecked c.in-Ok.ensures.ok.1) in
