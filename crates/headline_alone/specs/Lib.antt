@@ -1,0 +1,11 @@
+pub use Rattle.step_resolver.specs.Asked
+pub use Rattle.step_resolver.specs.Meaning
+pub use Rattle.step_resolver.specs.Trail
+pub use Rattle.step_resolver.specs.Order
+pub use Rattle.step_resolver.specs.WalkHistory
+pub use Rattle.step_resolver.specs.Failures
+pub use Rattle.step_resolver.specs.Footprint
+pub use Rattle.step_resolver.specs.Headline
+pub use Rattle.step_resolver.specs.View
+pub use Rattle.step_resolver.specs.Taken
+pub mod Alone
