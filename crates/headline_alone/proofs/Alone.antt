@@ -5,14 +5,16 @@ use Rattle.path_text.specs.Reading.{Reading}
 use Rattle.tree_model.specs.declared.answer.Answer.{Answer}
 use Rattle.tree_model.specs.declared.answer.Event.{Event}
 use Rattle.walk_plan.specs.declared.goal.Goal.{Goal}
-use Rattle.step_resolver.specs.Order.{Way, Walking, Turn, more, begins, due, Line, answered, short, unmade, events_of, LeadsTo}
+use Rattle.step_resolver.specs.Order.{Way, Walking, Turn, more, found, partial, failed, begins, for_walk, due, Line, answered, short, unmade, events_of, LeadsTo}
 use Rattle.step_resolver.specs.Order.{take as takes}
 use Rattle.step_resolver.specs.Footprint.{IsEnd}
 use Rattle.step_resolver.specs.Headline.{EveryWalk}
 use Rattle.step_resolver.specs.View.{WalkView}
-use Rattle.step_resolver.specs.Taken.{seen, TakesTo}
+use Rattle.step_resolver.specs.Taken.{seen, StartsTo, TakesTo}
 use Rattle.step_resolver.specs.declared.walk.Turn.{Turn as Outcome}
 use Rattle.step_resolver.specs.declared.walk.Turn.TheVariants.{More, Found, Partial, Failed}
+use Rattle.step_resolver.specs.Telling.{first_lines}
+use Rattle.step_resolver.proofs.FirstTurns.{first_lines_lead}
 use Rattle.step_resolver.proofs.Telling.{leads_on, line_leads}
 use Rattle.headline_alone.specs.Alone.{TellsAlone, IsAnswer, Leads}
 
@@ -77,17 +79,26 @@ told every way path a before after end led = record {
       every w end is (subst (λ (lines : List Line). LeadsTo w.way (begins w.way w.path) lines end) (sym same_lines) on_path);
 }
 
+-- from the first turn on, with room for the walk or without
+begun : (way : Way) (path : Reading) (a : ℕ) (events : List Event) (turn : Turn) → StartsTo way path turn → Leads way a events (begins way path) events turn
+begun way path a events turn starts =
+    subst (λ z. Leads way a events (begins way path) events z) (sym starts.1) (with_room starts.0 (begins way path) (first_lines_lead way starts.0 path)) where
+      with_room : (room : Bool) (first : Turn) → LeadsTo way first (first_lines room first) (for_walk room first) → Leads way a events first events (for_walk room first)
+      with_room true first leads = led_nowhere way a events first
+      with_room false (more walking) leads = record { lines = unmade NoMemory ∷ []; leads = leads; booked = sym (append-nil events) }
+      with_room false (found handle names) leads = led_nowhere way a events (found handle names)
+      with_room false (partial handle names rest) leads = led_nowhere way a events (partial handle names rest)
+      with_room false (failed error) leads = led_nowhere way a events (failed error)
+
 -- where the walk goes on from its beginning
 pub told_from : EveryWalk → (way v : Way) (path : Reading) (a : ℕ) (before after : List Event) (walking : Walking) (outcome : Outcome) → v ≡ way
-    → more walking ≡ begins way path → Leads v a before (more walking) after (seen v.goal outcome) → TellsAlone way path a before after (seen way.goal outcome)
-told_from every way v path a before after walking outcome same begun led =
+    → StartsTo way path (more walking) → Leads v a before (more walking) after (seen v.goal outcome) → TellsAlone way path a before after (seen way.goal outcome)
+told_from every way v path a before after walking outcome same starts led =
     told every way path a before after (seen way.goal outcome)
-    (subst (λ (turn : Turn). Leads way a before turn after (seen way.goal outcome)) begun
+    (led_on way a before before after (begins way path) (more walking) (seen way.goal outcome) (begun way path a before (more walking) starts)
     (subst (λ (u : Way). Leads u a before (more walking) after (seen u.goal outcome)) same led))
 
 -- where its beginning is its end
-pub told_at_once : EveryWalk → (way : Way) (path : Reading) (a : ℕ) (events : List Event) (end : Turn) → end ≡ begins way path
+pub told_at_once : EveryWalk → (way : Way) (path : Reading) (a : ℕ) (events : List Event) (end : Turn) → StartsTo way path end
     → TellsAlone way path a events events end
-told_at_once every way path a events end begun =
-    told every way path a events events end
-    (subst (λ (turn : Turn). Leads way a events turn events end) begun (led_nowhere way a events end))
+told_at_once every way path a events end starts = told every way path a events events end (begun way path a events end starts)
