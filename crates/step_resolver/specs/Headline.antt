@@ -15,7 +15,7 @@
 --
 -- For the deepest directory that stands there, the same is `OpensDeepest` and `MeansDeepest`. What each failure tells is in
 -- `Failures`. path_resolution(7); openat2(2).
-use Rattle.std.specs.Prelude.{◌≡◌, ◌≢◌, ℕ, ◌<◌, List, [], ◌∷◌, ◌++◌, Bool, true, false, Some, None}
+use Rattle.std.specs.Prelude.{◌≡◌, ◌≢◌, ℕ, ◌<◌, List, ◌∷◌, ◌++◌, Bool, true, false, Some, None}
 use Rattle.path_text.specs.declared.errno.Errno.{Errno}
 use Rattle.tree_model.specs.declared.inode.Object.{Object}
 use Rattle.tree_model.specs.State.{Stands}
