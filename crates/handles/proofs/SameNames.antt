@@ -2,7 +2,7 @@
 use Rattle.std.proofs.Common.{◌≡◌, ◌≢◌, ℕ, true, false, List}
 use Rattle.std.proofs.lemmas.Bool.{false_from_ne_true}
 use Rattle.std.specs.Cmp.Lexicographic.{pointwise_decides, bytes_decides}
-use Rattle.handles.specs.Objects.{same_names}
+use Rattle.path_text.specs.Names.{same_names}
 
 pub same_where_equal : (xs ys : List (List ℕ)) → xs ≡ ys → same_names xs ys ≡ true
 same_where_equal xs ys e = (pointwise_decides bytes_decides xs ys).1 e

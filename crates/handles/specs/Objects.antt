@@ -1,7 +1,6 @@
 -- What a contract sees of an opened object, before its place is checked and after (path_resolution(7); openat2(2), RESOLVE_IN_ROOT).
 use Rattle.std.specs.Prelude.{ℕ, List, Bool, if◌then◌else◌, Option, Some, None, Result, Ok, Err}
-use Rattle.std.specs.Cmp.Lexicographic.{pointwise}
-use Rattle.path_text.specs.Name.{same_bytes}
+use Rattle.path_text.specs.Names.{same_names}
 use Rattle.tree_model.specs.declared.answer.Answer.{Answer}
 use Rattle.tree_model.specs.declared.answer.Answer.TheVariants.{Opened, Text, Names, NotBelow, Listed, Done, Refused}
 use Rattle.tree_model.specs.declared.step.Kind.{Kind}
@@ -38,10 +37,6 @@ standing_at o owner names = record { owner = owner; handle = o.handle; node = o.
 -- the object without its owner and names
 abbrev pub unchecked : StandingObject → ReachedObject
 unchecked o = record { handle = o.handle; node = o.node; kind = o.kind }
-
--- the two are the same names in the same order
-abbrev pub same_names : List (List ℕ) → List (List ℕ) → Bool
-same_names = pointwise same_bytes
 
 -- how the answer to the question where an object stands is judged: it stands where that is the expected names, and at nothing else
 abbrev pub judged : ReachedObject → Owner → Answer → List (List ℕ) → Result StandingObject ReachedObject

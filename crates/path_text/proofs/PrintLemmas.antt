@@ -1,8 +1,8 @@
 -- Names that are printed as a path are read back from it.
 use Rattle.std.proofs.Common.{◌≡◌, ℕ, Bool, true, false, not, ◌==◌, ◌&&◌, ◌||◌, nat_lt, List, [], ◌∷◌, ◌++◌, length, map, drop, ◌+◌, refl, sym, ap, ◌∙◌, arith}
-use Rattle.std.specs.Prelude.{Some, None, All, slice_get, if◌then◌else◌, codes}
-use Rattle.std.specs.List.{list_any}
-use Rattle.std.proofs.lemmas.List.{append_assoc, at_drop_more}
+use Rattle.std.specs.Prelude.{Some, None, All, slice_get, is_none, if◌then◌else◌, codes}
+use Rattle.std.specs.List.{list_any, list_all}
+use Rattle.std.proofs.lemmas.List.{append-nil, append_assoc, at_drop_more}
 use Rattle.std.proofs.lemmas.Option.{slice_get_within, get_or_from_slice_get}
 use Rattle.std.proofs.lemmas.List.Elements.{All-head, All-tail}
 use Rattle.std.proofs.lemmas.List.Folds.{list_any-append}
@@ -10,11 +10,12 @@ use Rattle.path_text.specs.declared.errno.Errno.TheVariants.{NotFound, Invalid, 
 use Rattle.path_text.specs.declared.name.TheConstants.{SLASH, NAME_MAX}
 use Rattle.path_text.specs.declared.part.Part.TheVariants.{Cur, Up, Named}
 use Rattle.path_text.specs.declared.path.TheConstants.{TEXT_MAX}
-use Rattle.path_text.specs.Name.{NUL, same_bytes, is_component, name_fault}
-use Rattle.path_text.specs.Print.{after_slashes, printed}
+use Rattle.path_text.specs.Name.{NUL, same_bytes, is_component, name_fault, is_name}
+use Rattle.path_text.specs.Names.{AreNames}
+use Rattle.path_text.specs.Print.{after_slashes, printed, names_between, names_read}
 use Rattle.path_text.specs.Spelling.{Run, runs_text, IsNonSlash, AreSeparated, IsSpelling, ends_in_slashes, parts_spelled}
-use Rattle.path_text.specs.Text.{is_empty, part_of, reading_of, text_fault}
-use Rattle.path_text.proofs.SpellingLemmas.{spellings_read}
+use Rattle.path_text.specs.Text.{is_empty, between_slashes, part_of, reading_of, text_fault}
+use Rattle.path_text.proofs.SpellingLemmas.{spellings_read, slices_piece, some_before}
 use Rattle.path_text.proofs.TextLemmas.{and_true}
 
 -- one more name is printed
@@ -68,9 +69,6 @@ plain_of name h =
       no_nul = not_true (list_any (λ b. b == NUL) name) four.1;
       part = part_named (same_bytes name (codes ".")) (same_bytes name (codes "..")) name (not_true (same_bytes name (codes ".")) one.1) (not_true (same_bytes name (codes "..")) two.1);
     }
-
-abbrev AreNames : List (List ℕ) → Type 0
-AreNames names = All (λ name. name_fault name ≡ None) names
 
 head_plain : (name : List ℕ) (names : List (List ℕ)) → AreNames (name ∷ names) → IsPlain name
 head_plain name names h = plain_of name (All-head (λ n. name_fault n ≡ None) name names h)
@@ -140,3 +138,36 @@ printed_fault [] h = refl
 printed_fault (name ∷ names) h =
     let text = printed (name ∷ names) in
     fault_of (is_empty text) (list_any (λ b. b == NUL) text) (nat_lt TEXT_MAX (length text)) refl (after_slashes_no_nul (name ∷ names) h)
+
+-- ---- they are read back
+
+is_name_of : (name : List ℕ) → name_fault name ≡ None → is_name name ≡ true
+is_name_of name h = ap is_none h
+
+all_are_names : (names : List (List ℕ)) → AreNames names → list_all is_name names ≡ true
+all_are_names [] h = refl
+all_are_names (name ∷ names) h =
+    ap (λ b. b && list_all is_name names) (is_name_of name (All-head (λ n. name_fault n ≡ None) name names h)) ∙ all_are_names names (tail_names name names h)
+
+between_printed : (name : List ℕ) (names : List (List ℕ)) → AreNames (name ∷ names) → between_slashes (name ++ after_slashes names) ≡ name ∷ names
+between_printed name [] h =
+    slices_piece name [] [] [] (head_plain name [] h).spells.no_slash refl ∙ ap (λ n. n ∷ []) (append-nil name)
+between_printed name (next ∷ names) h =
+    let rest = next ++ after_slashes names in
+    slices_piece name (SLASH ∷ rest) [] (between_slashes rest) (head_plain name (next ∷ names) h).spells.no_slash refl
+    ∙ ap (λ n. n ∷ between_slashes rest) (append-nil name)
+    ∙ ap (λ ns. name ∷ ns) (between_printed next names (tail_names name (next ∷ names) h))
+
+read_slashed : (text : List ℕ) → is_empty text ≡ false → names_read (SLASH ∷ text) ≡ names_between text
+read_slashed [] h = cc
+read_slashed (b ∷ text) h = refl
+
+some_names : (pieces names : List (List ℕ)) → pieces ≡ names → list_all is_name names ≡ true → (if list_all is_name pieces then Some pieces else None) ≡ Some names
+some_names pieces names e h = rw (e, h) refl
+
+pub printed_names_read : (names : List (List ℕ)) → All (λ name. name_fault name ≡ None) names → names_read (printed names) ≡ Some names
+printed_names_read [] h = refl
+printed_names_read (name ∷ names) h =
+    let rest = name ++ after_slashes names in
+    read_slashed rest (some_before name (after_slashes names) (head_plain name names h).spells.some_byte)
+    ∙ some_names (between_slashes rest) (name ∷ names) (between_printed name names h) (all_are_names (name ∷ names) h)

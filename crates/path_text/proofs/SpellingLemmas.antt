@@ -95,7 +95,7 @@ spellings_unique text n rs m qs h k =
 
 -- ---- its pieces are those of the text
 
-slices_piece : (piece bs first : List ℕ) (rest : List (List ℕ)) → list_any (λ c. c == SLASH) piece ≡ false → between_slashes bs ≡ first ∷ rest → between_slashes (piece ++ bs) ≡ (piece ++ first) ∷ rest
+pub slices_piece : (piece bs first : List ℕ) (rest : List (List ℕ)) → list_any (λ c. c == SLASH) piece ≡ false → between_slashes bs ≡ first ∷ rest → between_slashes (piece ++ bs) ≡ (piece ++ first) ∷ rest
 slices_piece [] bs first rest h e = e
 slices_piece (b ∷ cs) bs first rest h e =
     let parts = or_false (b == SLASH) (list_any (λ d. d == SLASH) cs) h in
@@ -151,7 +151,7 @@ ends_run : (piece : List ℕ) (n : ℕ) → IsNonSlash piece → ends_with_slash
 ends_run piece zero h = ap ends_with_slash (append-nil piece) ∙ ends_piece piece h.no_slash
 ends_run piece (suc n) h = ends_append piece (replicate (suc n) SLASH ++ []) refl ∙ ends_slashes n ∙ sym (above_zero n)
 
-some_before : (xs ys : List ℕ) → is_empty xs ≡ false → is_empty (xs ++ ys) ≡ false
+pub some_before : (xs ys : List ℕ) → is_empty xs ≡ false → is_empty (xs ++ ys) ≡ false
 some_before [] ys h = cc
 some_before (x ∷ xs) ys h = refl
 

@@ -1,5 +1,5 @@
 -- The names of directory entries (POSIX.1, Filename; path_resolution(7)).
-use Rattle.std.specs.Prelude.{ℕ, List, [], Bool, not, ◌&&◌, ◌==◌, if◌then◌else◌, nat_lt, nat_eq, length, Option, Some, None, codes}
+use Rattle.std.specs.Prelude.{ℕ, List, [], Bool, not, ◌&&◌, ◌==◌, if◌then◌else◌, nat_lt, nat_eq, length, Option, Some, None, is_none, codes}
 use Rattle.std.specs.List.{list_any}
 use Rattle.std.specs.Cmp.Lexicographic.{pointwise}
 use Rattle.path_text.specs.declared.errno.Errno.{Errno}
@@ -25,6 +25,9 @@ abbrev pub name_fault : List ℕ → Option Errno
 name_fault bytes =
     if not (is_component bytes) then Some Invalid
     else (if nat_lt NAME_MAX (length bytes) then Some TooLong else None)
+
+abbrev pub is_name : List ℕ → Bool
+is_name bytes = is_none (name_fault bytes)
 
 -- why the bytes are no part that names an entry, where they are none
 abbrev pub component_fault : List ℕ → Option Errno

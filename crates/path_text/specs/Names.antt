@@ -1,6 +1,7 @@
 -- Names kept one after another in a buffer of bytes, with the place where each ends.
-use Rattle.std.specs.Prelude.{◌≡◌, ◌≤◌, ◌-◌, ℕ, zero, suc, List, [], ◌∷◌, length, take, drop, All, None}
-use Rattle.path_text.specs.Name.{name_fault}
+use Rattle.std.specs.Prelude.{◌≡◌, ◌≤◌, ◌-◌, ℕ, zero, suc, Bool, List, [], ◌∷◌, length, take, drop, All, None}
+use Rattle.std.specs.Cmp.Lexicographic.{pointwise}
+use Rattle.path_text.specs.Name.{same_bytes, name_fault}
 
 -- the names that end at these places: each begins where the one before it ends, and the first at `start`
 abbrev pub names_cut : ℕ → List ℕ → List ℕ → List (List ℕ)
@@ -21,6 +22,10 @@ RiseTo start (end ∷ ends) size = (start ≤ end) × RiseTo end ends size
 -- each is a name
 abbrev pub AreNames : List (List ℕ) → Type 0
 AreNames names = All (λ name. name_fault name ≡ None) names
+
+-- the two are the same names in the same order
+abbrev pub same_names : List (List ℕ) → List (List ℕ) → Bool
+same_names = pointwise same_bytes
 
 -- the bytes are the names that end at these places, and nothing after the last
 pub record IsNameBuffer (bytes ends : List ℕ) : Type 0 where

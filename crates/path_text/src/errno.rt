@@ -3,40 +3,43 @@ ghost use Rattle.std.specs.Prelude.{◌≡◌};
 ghost use Rattle.path_text.specs.declared.errno.Errno.TheVariants.{NoMemory as OutOfMemory};
 
 use std::alloc::{AllocError, AllocFailed};
-use thiserror::Error;
+use std::error::Error;
+use std::fmt;
 
 /// Why a call was refused. Each is printed by its E name (errno(3)).
-#[derive(Clone, Copy, Debug, PartialEq, Eq, Error)]
+#[derive(Clone, Copy, Debug, PartialEq, Eq)]
 pub enum Errno {
-    #[error("ENOENT")]
+    /// No entry of that name, an empty path text, or a directory that stands nowhere any more (ENOENT).
     NotFound,
-    #[error("EBADF")]
+    /// No such handle is open, or it is another actor's (EBADF).
     BadHandle,
-    #[error("EAGAIN")]
+    /// The tree changed under a resolution, so that where it came to is not known to be inside the root (EAGAIN
+    /// of openat2(2)).
     Raced,
-    #[error("ENOMEM")]
+    /// Memory was refused (ENOMEM).
     NoMemory,
-    #[error("EBUSY")]
+    /// The object is in use (EBUSY of rmdir(2)). No call of this repository answers it.
     Busy,
-    #[error("EEXIST")]
+    /// An entry of that name is there already (EEXIST).
     Exists,
-    #[error("EXDEV")]
+    /// The path leads out of the root under `beneath` (EXDEV of openat2(2)).
     CrossRoot,
-    #[error("ENOTDIR")]
+    /// What a part stands in, or what is to be a directory, is none (ENOTDIR).
     NotDir,
-    #[error("EISDIR")]
+    /// A directory, where another object is wanted (EISDIR).
     IsDir,
-    #[error("EINVAL")]
+    /// A text with a NUL, a name that is none, or an object that a call is not for, as a directory moved below
+    /// itself (EINVAL).
     Invalid,
-    #[error("EMFILE")]
+    /// The actor holds as many handles as it may, or the numbers of nodes or handles are used up (EMFILE).
     TooMany,
-    #[error("ENOSPC")]
+    /// The book has no line left for the event (ENOSPC).
     BookFull,
-    #[error("ENAMETOOLONG")]
+    /// A path text over 4,095 bytes, or a name over 255 (ENAMETOOLONG).
     TooLong,
-    #[error("ENOTEMPTY")]
+    /// A directory that is to be removed or replaced has entries (ENOTEMPTY).
     NotEmpty,
-    #[error("ELOOP")]
+    /// More than 40 links, or a link where none may be followed (ELOOP).
     Loop,
 }
 
@@ -90,10 +93,36 @@ impl Errno {
     }
 }
 
+impl fmt::Display for Errno {
+    ghost use Rattle.std.specs.Prelude.{Some};
+    ghost use Rattle.path_text.specs.Errno.{name_of};
+
+    ghost output = { λ error. Some (name_of error) };
+
+    fn fmt<W: fmt::Write>(&self, f: &mut fmt::Formatter<W>) -> fmt::Result {
+        f.write_str(self.name())
+    }
+}
+
+impl Error for Errno {}
+
 /// A growth that was refused, as an error by itself. What met it is unchanged, unless it says otherwise.
-#[derive(Clone, Copy, Debug, PartialEq, Eq, Error)]
-#[error("ENOMEM")]
+#[derive(Clone, Copy, Debug, PartialEq, Eq)]
 pub struct NoMemory;
+
+impl fmt::Display for NoMemory {
+    ghost use Rattle.std.specs.Prelude.{Some};
+    ghost use Rattle.path_text.specs.Errno.{name_of};
+    ghost use Rattle.path_text.specs.declared.errno.Errno.TheVariants.{NoMemory as OutOfMemory};
+
+    ghost output = { λ _. Some (name_of OutOfMemory) };
+
+    fn fmt<W: fmt::Write>(&self, f: &mut fmt::Formatter<W>) -> fmt::Result {
+        f.write_str(Errno::NoMemory.name())
+    }
+}
+
+impl Error for NoMemory {}
 
 impl From<AllocError> for NoMemory {
     fn from(_error: AllocError) -> NoMemory {

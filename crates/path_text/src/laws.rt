@@ -6,7 +6,7 @@ ghost use Rattle.path_text.specs.declared.errno.Errno.TheVariants.{TooLong};
 ghost use Rattle.path_text.specs.declared.part.Part.TheVariants.{Named};
 ghost use Rattle.path_text.specs.declared.path.TheConstants.{TEXT_MAX};
 ghost use Rattle.path_text.specs.Name.{name_fault};
-ghost use Rattle.path_text.specs.Print.{printed};
+ghost use Rattle.path_text.specs.Print.{printed, names_read};
 ghost use Rattle.path_text.specs.Spelling.{Run, IsSpelling, reading_spelled};
 ghost use Rattle.path_text.specs.Text.{text_fault, reading_of};
 
@@ -28,11 +28,13 @@ pub fn spellings_are_read()
         → IsSpelling text before runs → reading_of text ≡ reading_spelled before runs }
 {}
 
-/// What names are printed as is read as those names, from the root on; and where it isn't too long for a
-/// text it has no fault.
+/// What names are printed as is read as those names: as a path from the root on, and by `Names::read`; and
+/// where it isn't too long for a text it has no fault.
 pub fn printed_names_are_read()
     ensures reading { (names : List (List ℕ)) → All (λ name. name_fault name ≡ None) names
         → reading_of (printed names) ≡ record { absolute = true; parts = map Named names; slash = false } }
     ensures fault { (names : List (List ℕ)) → All (λ name. name_fault name ≡ None) names
         → text_fault (printed names) ≡ (if nat_lt TEXT_MAX (length (printed names)) then Some TooLong else None) }
+    ensures names { (names : List (List ℕ)) → All (λ name. name_fault name ≡ None) names
+        → names_read (printed names) ≡ Some names }
 {}

@@ -44,6 +44,20 @@ impl Model for Name {
 }
 
 impl Name {
+    /// Why the bytes are no name, where they are none: Invalid where they are none of any length, before
+    /// TooLong past 255 bytes. Takes no memory.
+    pub fn fault_of(bytes: &[u8]) -> Option<Errno>
+        ensures { result ≡ name_fault bytes.now }
+    {
+        if !is_component(bytes) {
+            return Some(Errno::Invalid);
+        }
+        if bytes.len() > NAME_MAX {
+            return Some(Errno::TooLong);
+        }
+        None
+    }
+
     /// A name of these bytes.
     ///
     /// Errors, in this order: Invalid where the bytes are no name of any length, TooLong past 255 bytes
@@ -51,11 +65,8 @@ impl Name {
     pub fn new(alloc: Global, bytes: &[u8]) -> Result<Name, Errno>
         ensures { MatchOption (name_fault bytes.now) (MatchResult result (λ name. name ≡ bytes.now) (λ error. error ≡ Errno.NoMemory)) (λ fault. result ≡ Err fault) }
     {
-        if !is_component(bytes) {
-            return Err(Errno::Invalid);
-        }
-        if bytes.len() > NAME_MAX {
-            return Err(Errno::TooLong);
+        if let Some(fault) = Name::fault_of(bytes) {
+            return Err(fault);
         }
         Ok(Name::copy_of(alloc, bytes)?)
     }

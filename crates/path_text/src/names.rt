@@ -2,7 +2,7 @@
 ghost use Rattle.std.specs.Prelude.{◌≡◌, ◌<◌, ◌≤◌, ◌+◌, ◌-◌, ℕ, List, [], ◌∷◌, ◌++◌, length, take, reverse, slice_get, Some, None, IsTrue, ◌↔◌, IfOk, OnOk, OnErr};
 ghost use Rattle.path_text.specs.Name.{name_fault};
 ghost use Rattle.path_text.specs.Names.{start_at, AreNames};
-ghost use Rattle.path_text.specs.Print.{printed};
+ghost use Rattle.path_text.specs.Print.{printed, names_between, names_read};
 
 use crate::errno::NoMemory;
 use crate::name::{Name, SLASH};
@@ -37,6 +37,20 @@ fn start_of(ends: &[usize], at: usize) -> usize
         return 0;
     }
     ends[at - 1]
+}
+
+// What stands between the slashes, where each of them is a name. NoMemory where room was refused.
+fn names_between(alloc: Global, text: &[u8]) -> Result<Option<Names>, NoMemory>
+    ensures { IfOk result (λ names. names ≡ names_between text.now) }
+{
+    let mut names = Names::new(alloc);
+    for piece in text.split(|byte| *byte == SLASH) {
+        if Name::fault_of(piece).is_some() {
+            return Ok(None);
+        }
+        names.push_bytes(piece)?;
+    }
+    Ok(Some(names))
 }
 
 impl Names {
@@ -166,6 +180,18 @@ impl Names {
         }
         self.bytes.as_slice() == other.bytes.as_slice()
             && self.ends.as_slice() == other.ends.as_slice()
+    }
+
+    /// The names of an absolute path as `print` writes it: a slash before each, and `/` for none. None where the
+    /// text is no such path, as one with two slashes in a row. NoMemory where their room was refused.
+    pub fn read(alloc: Global, text: &[u8]) -> Result<Option<Names>, NoMemory>
+        ensures { IfOk result (λ names. names ≡ names_read text.now) }
+    {
+        match text.split_first() {
+            Some((&SLASH, [])) => Ok(Some(Names::new(alloc))),
+            Some((&SLASH, rest)) => names_between(alloc, rest),
+            _ => Ok(None),
+        }
     }
 
     /// The names as an absolute path: a slash before each, and `/` for none. NoMemory where its room was

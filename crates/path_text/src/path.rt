@@ -14,7 +14,8 @@ pub const TEXT_MAX: usize = 4095;
 /// The most parts that a text of `TEXT_MAX` bytes has.
 pub const PARTS_MAX: usize = 2048;
 
-/// A path as it is read from a text. Contracts see it as a `Reading`: the same three fields.
+/// A path as it is read from a text. Contracts see it as a `Reading`: the same three fields. It may hold more
+/// than a text can spell: its parts, printed with slashes, may come to more than `TEXT_MAX` bytes.
 #[derive(Debug, Drop)]
 pub struct Path {
     /// Whether the text begins with a slash.

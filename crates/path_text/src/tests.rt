@@ -301,15 +301,35 @@ fn splits_are_refused_in_order(rt: HostRuntime) -> Result<(), Fail> {
     Ok(())
 }
 
+// Whether the names are printed so, and read back.
+fn is_printed(alloc: Global, texts: &[&str], printed: &str) -> Result<bool, Errno> {
+    let names = names_of(alloc, texts)?;
+    let text = names.print(alloc)?;
+    let read = Names::read(alloc, text.as_slice())?;
+    Ok(text.as_slice() == printed.as_bytes() && read.is_some_and(|read| read.same(&names)))
+}
+
 #[test]
 fn names_are_printed(rt: HostRuntime) -> Result<(), Fail> {
-    let alloc = rt.alloc();
     for (texts, printed) in [
         ([].as_slice(), "/"),
         (["a", "b"].as_slice(), "/a/b"),
         (["c", "...", "x y"].as_slice(), "/c/.../x y"),
     ] {
-        assert!(rt; names_of(alloc, texts)?.print(alloc)?.as_slice() == printed.as_bytes());
+        assert!(rt; is_printed(rt.alloc(), texts, printed)?, "{printed}");
+    }
+    Ok(())
+}
+
+#[test]
+fn other_texts_are_no_names(rt: HostRuntime) -> Result<(), Fail> {
+    for text in [
+        "", "a", "a/b", "//", "/a/", "/a//b", "/./a", "/a/..", "/a\0",
+    ] {
+        assert!(rt;
+            Names::read(rt.alloc(), text.as_bytes())?.is_none(),
+            "{text}"
+        );
     }
     Ok(())
 }

@@ -1,5 +1,4 @@
 pub mod Json
-pub mod Pieces
 pub mod Entries
 pub mod FirstRefused
 pub mod Roots

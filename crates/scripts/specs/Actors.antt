@@ -10,17 +10,13 @@ use Rattle.scripts.specs.declared.fault.Cause.TheVariants.{Refused}
 use Rattle.scripts.specs.declared.fault.ScriptFault.{ScriptFault}
 use Rattle.scripts.specs.declared.fault.ScriptFault.TheVariants.{Actor}
 use Rattle.step_resolver.specs.Driver.{IsReady}
-use Rattle.scripts.specs.Tree.{names_of}
-
--- the top is a slash alone
-abbrev pub root_names_of : List ℕ → Option (List (List ℕ))
-root_names_of text = if same_bytes text (codes "/") then Some [] else names_of text
+use Rattle.path_text.specs.Print.{names_read}
 
 abbrev pub first_actor_of : Data → Option Data
 first_actor_of d = option_and_then (get_item 0) (option_and_then as_array (get (codes "actors") d))
 
 abbrev pub root_of : Data → Option (List (List ℕ))
-root_of actor = option_and_then root_names_of (option_and_then as_str (get (codes "root") actor))
+root_of actor = option_and_then names_read (option_and_then as_str (get (codes "root") actor))
 
 -- the nodes of a tree, and the directory that an actor's root is
 pub record RootedTree : Type 0 where

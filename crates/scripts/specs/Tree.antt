@@ -1,13 +1,11 @@
 -- What a script's tree says, over the data that its JSON text is.
 use Rattle.std.specs.Prelude.{◌≡◌, ℕ, ◌<◌, ◌≢◌, slice_index, ◌+◌, ◌==◌, ◌&&◌, List, [], ◌∷◌, Bool, if◌then◌else◌, nat_lt, length, codes, Option, Some, None, is_none, option_map, option_and_then, Result, Ok, Err}
-use Rattle.std.specs.List.{list_all}
 use Rattle.serde_json.specs.Data.{Data, Items, no_items, item}
 use Rattle.serde_json.specs.Find.{at, as_str}
 use Rattle.path_text.specs.declared.errno.Errno.{Errno}
 use Rattle.path_text.specs.declared.errno.Errno.TheVariants as errno
-use Rattle.path_text.specs.declared.name.TheConstants.{SLASH}
-use Rattle.path_text.specs.Name.{name_fault, same_bytes}
-use Rattle.path_text.specs.Text.{between_slashes}
+use Rattle.path_text.specs.Name.{same_bytes}
+use Rattle.path_text.specs.Print.{names_read}
 use Rattle.tree_model.specs.declared.inode.Inode.{Inode}
 use Rattle.tree_model.specs.Entries.{refuse_if}
 use Rattle.tree_list.specs.declared.build.BuildFault.{BuildFault}
@@ -24,30 +22,9 @@ use Rattle.scripts.specs.declared.tree.TheConstants.{ENTRIES_MAX}
 
 -- ---- names
 
-abbrev pub is_name : List ℕ → Bool
-is_name bytes = is_none (name_fault bytes)
-
-abbrev pub name_where : Bool → List ℕ → Option (List ℕ)
-name_where test bytes = if test then Some bytes else None
-
--- names with a slash before each
+-- names with a slash before each, of which there is one at least
 abbrev pub names_of : List ℕ → Option (List (List ℕ))
-names_of [] = None
-names_of (b ∷ bs) = if (b == SLASH) && list_all is_name (between_slashes bs) then Some (between_slashes bs) else None
-
--- none of the first n bytes is a slash
-abbrev pub HasNoSlashBefore : List ℕ → ℕ → Type 0
-HasNoSlashBefore bs n = (k : ℕ) → k < n → slice_index bs k ≢ SLASH
-
--- the names that are left to read
-abbrev pub pieces_left : Option (List ℕ) → List (List ℕ)
-pieces_left None = []
-pieces_left (Some bs) = between_slashes bs
-
--- how much is left to read
-abbrev pub left_size : Option (List ℕ) → ℕ
-left_size None = 0
-left_size (Some bs) = 1 + length bs
+names_of text = if same_bytes text (codes "/") then None else names_read text
 
 -- ---- the tree
 

@@ -8,7 +8,6 @@ ghost use Rattle.scripts.specs.Actors.{root_of, first_actor_of, rooted, IsAtHand
 ghost use Rattle.scripts.specs.Fault.{IsFaultOf};
 
 use crate::fault::{Cause, RunFault, ScriptFault};
-use crate::tree::names_of;
 use path_text::{Errno, Names, NoMemory};
 use serde_json::Value;
 use std::alloc::Global;
@@ -23,8 +22,7 @@ pub fn root_of(alloc: Global, actor: &Value) -> Result<Option<Names>, NoMemory>
     ensures { IfOk result (λ names. names ≡ root_of (view actor.now)) }
 {
     match actor.get("root").and_then(Value::as_str) {
-        Some("/") => Ok(Some(Names::new(alloc))),
-        Some(path) => names_of(alloc, path.as_bytes()),
+        Some(path) => Names::read(alloc, path.as_bytes()),
         None => Ok(None),
     }
 }

@@ -1,13 +1,12 @@
 //! The tree of a script: its entries, and the plain tree that they name.
-ghost use Rattle.std.specs.Prelude.{◌≡◌, ◌<◌, ◌++◌, slice_index, MatchOption, List, [], ◌∷◌, length, Ok, IfOk, IfErr, option_map, map};
+ghost use Rattle.std.specs.Prelude.{◌≡◌, [], ◌++◌, Ok, IfOk, IfErr, option_map, map};
 ghost use Rattle.serde_json.specs.View.{view, items_view};
-ghost use Rattle.path_text.specs.Text.{between_slashes};
 ghost use Rattle.tree_model.specs.Trees.{IsState};
 ghost use Rattle.scripts.specs.Fault.{IsFaultOf};
-ghost use Rattle.scripts.specs.Tree.{HasNoSlashBefore, is_name, name_where, names_of, text_at, has_elements, new_of, entry_of, entries_of, tree_of, told_by};
+ghost use Rattle.scripts.specs.Tree.{names_of, text_at, has_elements, new_of, entry_of, entries_of, tree_of, told_by};
 
 use crate::fault::{Cause, RunFault, ScriptFault};
-use path_text::{Bytes, Errno, Name, Names, NoMemory, SLASH};
+use path_text::{Bytes, Errno, Names, NoMemory};
 use serde_json::Value;
 use std::alloc::Global;
 use tree_list::{BuildFault, Entry, ListTree, New};
@@ -29,63 +28,14 @@ fn has_elements(value: &Value, count: usize) -> bool
     value.get(count).is_none()
 }
 
-/// Where the first slash is, if there is one.
-fn first_slash(text: &[u8]) -> Option<usize>
-    ensures { MatchOption result (HasNoSlashBefore text.now (length text.now)) (λ at. (at < length text.now) × (slice_index text.now at ≡ SLASH) × HasNoSlashBefore text.now at) }
-{
-    for (at, byte) in text.iter().enumerate() {
-        if *byte == SLASH {
-            return Some(at);
-        }
-    }
-    None
-}
-
-/// What stands before the first slash, and what stands after it, if there is one.
-#[tactic(auto, using(crate::proofs::Pieces::cut_at, crate::proofs::Pieces::uncut))]
-fn cut(text: &[u8]) -> (&[u8], Option<&[u8]>)
-    ensures { MatchOption result.1 (between_slashes text.now ≡ result.0.now ∷ []) (λ after. (between_slashes text.now ≡ result.0.now ∷ between_slashes after.now) × (length after.now < length text.now)) }
-{
-    match first_slash(text) {
-        Some(at) => (&text[..at], Some(&text[at + 1..])),
-        None => (text, None),
-    }
-}
-
-/// The name of these bytes, if they are one.
-fn name_of(alloc: Global, bytes: &[u8]) -> Result<Option<Name>, NoMemory>
-    ensures { IfOk result (λ name. name ≡ name_where (is_name bytes.now) bytes.now) }
-{
-    match Name::new(alloc, bytes) {
-        Ok(name) => Ok(Some(name)),
-        Err(error) => {
-            if error == Errno::NoMemory {
-                Err(NoMemory)
-            } else {
-                Ok(None)
-            }
-        }
-    }
-}
-
-/// The names of a path that has a slash before each, if all of them are names.
-pub fn names_of(alloc: Global, path: &[u8]) -> Result<Option<Names>, NoMemory>
+/// The names of a path that has a slash before each, if all of them are names, and there is one.
+fn names_of(alloc: Global, path: &[u8]) -> Result<Option<Names>, NoMemory>
     ensures { IfOk result (λ names. names ≡ names_of path.now) }
 {
-    let Some((&SLASH, pieces)) = path.split_first() else {
+    if path == b"/".as_slice() {
         return Ok(None);
-    };
-    let mut names = Names::new(alloc);
-    let mut rest = Some(pieces);
-    while let Some(text) = rest {
-        let (piece, after) = cut(text);
-        let Some(name) = name_of(alloc, piece)? else {
-            return Ok(None);
-        };
-        names.push(name)?;
-        rest = after;
     }
-    Ok(Some(names))
+    Names::read(alloc, path)
 }
 
 /// What a new entry of that kind is, if the array has as many elements as it wants.

@@ -8,6 +8,7 @@ use Rattle.path_text.specs.declared.errno.Errno.TheVariants.{NotFound, NoMemory,
 use Rattle.path_text.specs.declared.flags.Flags.{Flags}
 use Rattle.path_text.specs.declared.part.Part.{Part}
 use Rattle.path_text.specs.Text.{text_fault, parts_of, begins_with_slash}
+use Rattle.path_text.specs.Names.{same_names}
 use Rattle.tree_model.specs.declared.answer.Answer.{Answer}
 use Rattle.tree_model.specs.declared.answer.Answer.TheVariants.{Opened, Text, Names, NotBelow, Listed, Done, Refused}
 use Rattle.handles.specs.Objects.{ReachedObject}
@@ -17,7 +18,7 @@ use Rattle.walk_plan.specs.declared.goal.Goal.TheVariants.{Follow, NoFollow, Dee
 use Rattle.walk_plan.specs.Plan.{PlanState, is_own, comes_from_own, after_first, stayed, through, through_fault, first_fault, leads_out}
 use Rattle.step_resolver.specs.Asked.{AskedPart, ask, asked, follows, followed, is_deepest}
 use Rattle.step_resolver.specs.Meaning.{crosses}
-use Rattle.step_resolver.specs.Order.{Way, Handle, Position, root_itself, holds, Todo, todo, gives, onward, Walking, reading, judging, ending, more, closing, goes_on, end_of, found, partial, handles_of, gives_up, refusal_of, same_names, refused_open, from_link, take}
+use Rattle.step_resolver.specs.Order.{Way, Handle, Position, root_itself, holds, Todo, todo, gives, onward, Walking, reading, judging, ending, more, closing, goes_on, end_of, found, partial, handles_of, gives_up, refusal_of, refused_open, from_link, take}
 use Rattle.step_resolver.specs.declared.walk.Root.{Root}
 use Rattle.step_resolver.specs.View.{way_of, handle_of, own_to_come, place_of, numbers_of, todo_of, check_refusal, MayFollow}
 use Rattle.step_resolver.proofs.WalkParts.{handles_at}

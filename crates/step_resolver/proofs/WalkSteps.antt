@@ -9,6 +9,7 @@ use Rattle.path_text.specs.declared.path.TheConstants.{PARTS_MAX}
 use Rattle.path_text.specs.Reading.{Reading}
 use Rattle.path_text.specs.Text.{text_fault, parts_of, begins_with_slash}
 use Rattle.path_text.proofs.TextLemmas.{reading_few}
+use Rattle.path_text.specs.Names.{same_names}
 use Rattle.tree_model.specs.declared.answer.Answer.{Answer}
 use Rattle.tree_model.specs.declared.answer.Answer.TheVariants.{Opened, Text, Names, NotBelow}
 use Rattle.walk_plan.specs.declared.goal.Goal.{Goal}
@@ -18,7 +19,7 @@ use Rattle.step_resolver.specs.declared.walk.Root.{Root}
 use Rattle.step_resolver.specs.View.{way_from, todo_of}
 use Rattle.step_resolver.specs.Asked.{AskedPart, Cur, Up, Named, ask, asked, followed, follows}
 use Rattle.step_resolver.specs.Meaning.{LINKS_MAX, is_too_long, crosses}
-use Rattle.step_resolver.specs.Order.{Way, Handle, Position, root_itself, holds, Todo, todo, After, gives, onward, judges, Walking, opening, reading, rising, judging, duping, ending, closing, Turn, more, found, partial, failed, names_of, handles_of, is_dir_position, is_followed, same_names, gives_up, at_end, in_directory, on_part, on_own, on_parts, goes_on, begins, for_walk, comes, closes, refusal_of, with_room, follows_link, enters, refused_open, from_link, read_text, end_of, judged, refused_rise, take, steps_for, steps_after, steps_left}
+use Rattle.step_resolver.specs.Order.{Way, Handle, Position, root_itself, holds, Todo, todo, After, gives, onward, judges, Walking, opening, reading, rising, judging, duping, ending, closing, Turn, more, found, partial, failed, names_of, handles_of, is_dir_position, is_followed, gives_up, at_end, in_directory, on_part, on_own, on_parts, goes_on, begins, for_walk, comes, closes, refusal_of, with_room, follows_link, enters, refused_open, from_link, read_text, end_of, judged, refused_rise, take, steps_for, steps_after, steps_left}
 use Rattle.step_resolver.specs.declared.walk.Turn.{Turn as Outcome}
 use Rattle.step_resolver.specs.declared.walk.Turn.TheVariants.{More, Found, Partial, Failed}
 use Rattle.step_resolver.specs.Taken.{seen, StartsTo, TakesTo, steps_to_come, STEPS_MAX}

@@ -1,12 +1,12 @@
 -- The order of a walk's steps: which step is due, and what its answer makes of the walk.
 -- It opens one part at a time without following links (openat2(2) with O_PATH and O_NOFOLLOW), opens first and closes
 -- after, and asks for the names of what it holds after each `..` that moves and at the end.
-use Rattle.std.specs.Prelude.{◌≡◌, ℕ, zero, suc, ◌+◌, ◌*◌, ◌&&◌, ◌⊎◌, List, [], ◌∷◌, ◌++◌, Bool, true, false, if◌then◌else◌, nat_eq, length, reverse, Option, Some, None}
-use Rattle.std.specs.Cmp.Lexicographic.{pointwise}
+use Rattle.std.specs.Prelude.{◌≡◌, ℕ, zero, suc, ◌+◌, ◌*◌, ◌&&◌, ◌⊎◌, List, [], ◌∷◌, ◌++◌, Bool, true, false, if◌then◌else◌, length, reverse, Option, Some, None}
 use Rattle.path_text.specs.declared.errno.Errno.{Errno}
 use Rattle.path_text.specs.declared.errno.Errno.TheVariants.{NotFound, BadHandle, Raced, NoMemory, CrossRoot, NotDir, BookFull, TooLong, Loop}
 use Rattle.path_text.specs.declared.flags.Flags.{Flags}
 use Rattle.path_text.specs.declared.path.TheConstants.{PARTS_MAX}
+use Rattle.path_text.specs.Names.{same_names}
 use Rattle.path_text.specs.Reading.{Reading}
 use Rattle.path_text.specs.Text.{text_fault, parts_of, begins_with_slash}
 use Rattle.tree_model.specs.declared.answer.Answer.{Answer}
@@ -101,9 +101,6 @@ is_followed true kind.Link = true
 is_followed true kind.Dir = false
 is_followed true kind.File = false
 is_followed false kind = false
-
-abbrev pub same_names : List (List ℕ) → List (List ℕ) → Bool
-same_names = pointwise (pointwise nat_eq)
 
 -- ---- from one part to the next
 

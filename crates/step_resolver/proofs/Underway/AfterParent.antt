@@ -7,6 +7,7 @@ use Rattle.std.proofs.lemmas.Bool.{false≢true}
 use Rattle.std.proofs.lemmas.Option.{none-some, same_Some}
 use Rattle.std.specs.Cmp.Lexicographic.{bytes_decides, pointwise_decides}
 use Rattle.path_text.specs.declared.errno.Errno.TheVariants.{NotFound, Raced, TooMany}
+use Rattle.path_text.specs.Names.{same_names}
 use Rattle.tree_model.specs.declared.answer.Answer.{Answer}
 use Rattle.tree_model.specs.declared.answer.Answer.TheVariants.{Opened, Names, NotBelow, Refused}
 use Rattle.tree_model.specs.declared.inode.Inode.{Inode}
@@ -17,7 +18,7 @@ use Rattle.tree_model.specs.Steps.{outcome, opens, shows, kind_of}
 use Rattle.tree_model.specs.Trees.{IsTree}
 use Rattle.step_resolver.specs.Asked.{AskedPart, Up}
 use Rattle.step_resolver.specs.Trail.{climb, IsOwnFrom}
-use Rattle.step_resolver.specs.Order.{Handle, holds, todo, judges, rising, judging, Turn, gives_up, goes_on, judged, same_names, take}
+use Rattle.step_resolver.specs.Order.{Handle, holds, todo, judges, rising, judging, Turn, gives_up, goes_on, judged, take}
 use Rattle.step_resolver.specs.WalkHistory.{Walked, state_at, story}
 use Rattle.step_resolver.specs.Failures.{MetRefusal}
 use Rattle.step_resolver.proofs.Trail.Joined.{own_earlier}

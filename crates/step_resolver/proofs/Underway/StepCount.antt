@@ -9,7 +9,8 @@ use Rattle.tree_model.specs.declared.answer.Answer.{Answer}
 use Rattle.tree_model.specs.declared.answer.Answer.TheVariants.{Opened, Text, Names, NotBelow, Refused}
 use Rattle.step_resolver.specs.Asked.{AskedPart, Cur, Up, Named, ask, asked, followed, follows, is_deepest}
 use Rattle.step_resolver.specs.Meaning.{LINKS_MAX, is_too_long, crosses}
-use Rattle.step_resolver.specs.Order.{Way, Handle, Position, root_itself, holds, Todo, todo, After, gives, onward, judges, Walking, opening, reading, rising, judging, duping, ending, closing, Turn, more, found, partial, failed, names_of, handles_of, is_dir_position, is_followed, same_names, gives_up, at_end, in_directory, on_part, on_own, on_parts, goes_on, begins, closes, refusal_of, with_room, follows_link, enters, refused_open, from_link, read_text, end_of, judged, refused_rise, take, Line, answered, short, unmade, LeadsTo}
+use Rattle.path_text.specs.Names.{same_names}
+use Rattle.step_resolver.specs.Order.{Way, Handle, Position, root_itself, holds, Todo, todo, After, gives, onward, judges, Walking, opening, reading, rising, judging, duping, ending, closing, Turn, more, found, partial, failed, names_of, handles_of, is_dir_position, is_followed, gives_up, at_end, in_directory, on_part, on_own, on_parts, goes_on, begins, closes, refusal_of, with_room, follows_link, enters, refused_open, from_link, read_text, end_of, judged, refused_rise, take, Line, answered, short, unmade, LeadsTo}
 use Rattle.step_resolver.specs.StepCount.{parts_in, to_come, to_come_at, to_come_after, brought, passed, passed_from, parts_passed, StepsByPartsPassed}
 use Rattle.step_resolver.proofs.WalkSteps.{one_handle}
 
