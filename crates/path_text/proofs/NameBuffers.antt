@@ -1,14 +1,14 @@
 -- Names cut out of a buffer: at each place, one more, one less, and what two equal lists of them say.
-use Rattle.std.proofs.Common.{◌≡◌, ℕ, Bool, true, false, ◌==◌, zero, suc, nat_eq, ◌+◌, ◌-◌, ◌≤◌, ◌<◌, List, [], ◌∷◌, ◌++◌, length, get_or, take, drop, refl, sym, ap, ◌∙◌, arith}
+use Rattle.std.proofs.Common.{◌≡◌, ℕ, Bool, false, ◌==◌, zero, suc, nat_eq, ◌+◌, ◌-◌, ◌≤◌, ◌<◌, List, [], ◌∷◌, ◌++◌, length, get_or, take, drop, refl, sym, ap, ◌∙◌, arith}
 use Rattle.std.specs.Prelude.{All, None, Some, slice_get, IsTrue, ◌↔◌}
 use Rattle.std.specs.Cmp.Lexicographic.{pointwise, bytes_decides}
 use Rattle.std.proofs.lemmas.Bool.Decides.{nat_tests}
 use Rattle.std.specs.List.{concat}
-use Rattle.std.proofs.lemmas.List.{length-append, length-take-le, length-drop, take-take, take_at, take_all, take-append-le, take-append-drop, drop_all, drop_at, drop-append-le, drop-drop, drop-take}
+use Rattle.std.proofs.lemmas.List.{length-append, length-take-le, length-drop, take-take, take_all, take-append-le, take-append-drop, drop_all, drop_at, drop-append-le, drop-drop, drop-take}
 use Rattle.std.proofs.lemmas.List.Elements.{All-push, All-take, All-get_or}
 use Rattle.std.proofs.lemmas.Option.{slice_get_within, get_or_from_slice_get}
 use Rattle.path_text.specs.Name.{name_fault}
-use Rattle.path_text.specs.Names.{names_cut, start_at, RiseTo, AreNames, IsNameBuffer}
+use Rattle.path_text.specs.Names.{names_cut, start_at, RiseTo, IsNameBuffer}
 
 pub length_cut : (s : ℕ) (ends bytes : List ℕ) → length (names_cut s ends bytes) ≡ length ends
 length_cut s [] bytes = refl

@@ -1,4 +1,4 @@
-use Rattle.std.proofs.Common.{◌≡◌, ◌-◌, ◌+◌, suc, add-one, arith, sym, ap, ◌∙◌}
+use Rattle.std.proofs.Common.{◌≡◌, ◌-◌, suc, arith, sym, ap, ◌∙◌}
 use Rattle.path_text.specs.Names.{start_at}
 use Rattle.path_text.proofs.NameBuffers.{start_at_before}
 use Rattle.path_text.proofs.names.start_of.Goals as goal

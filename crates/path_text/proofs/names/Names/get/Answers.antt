@@ -1,7 +1,7 @@
-use Rattle.std.proofs.Common.{◌≡◌, ◌<◌, ◌≤◌, ◌-◌, length, get_or, take, drop, ◌∙◌, sym, ap, arith, rules}
+use Rattle.std.proofs.Common.{◌≡◌, ◌<◌, ◌≤◌, ◌-◌, length, take, drop, ◌∙◌, ap, arith, rules}
 use Rattle.std.specs.Prelude.{None, Some, slice_get}
 use Rattle.path_text.specs.Name.{name_fault}
-use Rattle.path_text.specs.Names.{names_cut, start_at, AreNames}
+use Rattle.path_text.specs.Names.{start_at, AreNames}
 use Rattle.path_text.proofs.NameBuffers.{length_cut, start_le, name_at, all_at}
 use Rattle.path_text.proofs.names.Names.get.Goals as goal
 

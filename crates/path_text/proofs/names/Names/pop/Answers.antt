@@ -1,5 +1,4 @@
 use Rattle.std.proofs.Common.{◌≡◌, ◌-◌, length, ◌∙◌, sym, ap}
-use Rattle.path_text.specs.Names.{names_cut, start_at, IsNameBuffer}
 use Rattle.path_text.proofs.NameBuffers.{length_cut, names_cut_first, buffer_first}
 use Rattle.path_text.proofs.names.Names.pop.Goals as goal
 
