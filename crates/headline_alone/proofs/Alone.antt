@@ -5,20 +5,20 @@ use Rattle.path_text.specs.Reading.{Reading}
 use Rattle.tree_model.specs.declared.answer.Answer.{Answer}
 use Rattle.tree_model.specs.declared.answer.Event.{Event}
 use Rattle.walk_plan.specs.declared.goal.Goal.{Goal}
-use Rattle.step_resolver.specs.Order.{Way, Walking, Turn, more, found, partial, failed, begins, for_walk, due, Line, answered, short, unmade, events_of, LeadsTo}
+use Rattle.step_resolver.specs.Order.{Way, Walking, Turn, more, found, partial, failed, begins, for_walk, due, Line, answered, no_room, not_made, events_of, LeadsTo}
 use Rattle.step_resolver.specs.Order.{take as takes}
 use Rattle.step_resolver.specs.Footprint.{IsEnd}
 use Rattle.step_resolver.specs.Headline.{EveryWalk}
 use Rattle.step_resolver.specs.View.{WalkView}
-use Rattle.step_resolver.specs.Taken.{seen, StartsTo, TakesTo}
+use Rattle.step_resolver.specs.TurnView.{turn_view, StartsTo, TakesTo}
 use Rattle.step_resolver.specs.declared.walk.Turn.{Turn as Outcome}
 use Rattle.step_resolver.specs.declared.walk.Turn.TheVariants.{More, Found, Partial, Failed}
-use Rattle.step_resolver.specs.Telling.{first_lines}
+use Rattle.step_resolver.specs.TurnsTell.{first_lines}
 use Rattle.step_resolver.proofs.FirstTurns.{first_lines_lead}
-use Rattle.step_resolver.proofs.Telling.{leads_on, line_leads}
+use Rattle.step_resolver.proofs.TurnsTell.{leads_on, line_leads}
 use Rattle.headline_alone.specs.Alone.{TellsAlone, IsAnswer, Leads}
 
-pub is_over : (goal : Goal) (outcome : Outcome) → ((walk : WalkView) → outcome ≡ More walk → ⊥) → IsEnd (seen goal outcome)
+pub is_over : (goal : Goal) (outcome : Outcome) → ((walk : WalkView) → outcome ≡ More walk → ⊥) → IsEnd (turn_view goal outcome)
 is_over goal (More walk) not_more = not_more walk refl
 is_over goal (Found standing) not_more = tt
 is_over goal (Partial standing rest) not_more = tt
@@ -35,24 +35,24 @@ module _ (way : Way) (a : ℕ) (before after : List Event) (walking : Walking) (
     booked = booked;
   }
   made false taken booked = record {
-    lines = short (due way walking) answer ∷ [];
-    leads = line_leads way false walking answer to (short (due way walking) answer) taken (refl, refl, refl);
+    lines = no_room (due way walking) answer ∷ [];
+    leads = line_leads way false walking answer to (no_room (due way walking) answer) taken (refl, refl, refl);
     booked = booked;
   }
 
   pub advanced : IsAnswer way walking a before after answer → TakesTo way walking answer to → Leads way a before (more walking) after to
   advanced (inl is) taken = made taken.0 taken.1 is
   advanced (inr is) taken = record {
-    lines = unmade NoMemory ∷ [];
-    leads = line_leads way taken.0 walking answer to (unmade NoMemory) taken.1 (inl refl, is.2, is.0);
+    lines = not_made NoMemory ∷ [];
+    leads = line_leads way taken.0 walking answer to (not_made NoMemory) taken.1 (inl refl, is.2, is.0);
     booked = is.1 ∙ sym (append-nil before);
   }
 
 joined_events : (a : ℕ) (lines others : List Line) → events_of a (lines ++ others) ≡ events_of a lines ++ events_of a others
 joined_events a [] others = refl
 joined_events a (answered step answer ∷ lines) others = ap (λ es. record { actor = a; step = step; answer = answer } ∷ es) (joined_events a lines others)
-joined_events a (short step answer ∷ lines) others = ap (λ es. record { actor = a; step = step; answer = answer } ∷ es) (joined_events a lines others)
-joined_events a (unmade error ∷ lines) others = joined_events a lines others
+joined_events a (no_room step answer ∷ lines) others = ap (λ es. record { actor = a; step = step; answer = answer } ∷ es) (joined_events a lines others)
+joined_events a (not_made error ∷ lines) others = joined_events a lines others
 
 pub led_nowhere : (way : Way) (a : ℕ) (events : List Event) (turn : Turn) → Leads way a events turn events turn
 led_nowhere way a events turn = record { lines = []; leads = refl; booked = sym (append-nil events) }
@@ -85,18 +85,18 @@ begun way path a events turn starts =
     subst (λ z. Leads way a events (begins way path) events z) (sym starts.1) (with_room starts.0 (begins way path) (first_lines_lead way starts.0 path)) where
       with_room : (room : Bool) (first : Turn) → LeadsTo way first (first_lines room first) (for_walk room first) → Leads way a events first events (for_walk room first)
       with_room true first leads = led_nowhere way a events first
-      with_room false (more walking) leads = record { lines = unmade NoMemory ∷ []; leads = leads; booked = sym (append-nil events) }
+      with_room false (more walking) leads = record { lines = not_made NoMemory ∷ []; leads = leads; booked = sym (append-nil events) }
       with_room false (found handle names) leads = led_nowhere way a events (found handle names)
       with_room false (partial handle names rest) leads = led_nowhere way a events (partial handle names rest)
       with_room false (failed error) leads = led_nowhere way a events (failed error)
 
 -- where the walk goes on from its beginning
 pub told_from : EveryWalk → (way v : Way) (path : Reading) (a : ℕ) (before after : List Event) (walking : Walking) (outcome : Outcome) → v ≡ way
-    → StartsTo way path (more walking) → Leads v a before (more walking) after (seen v.goal outcome) → TellsAlone way path a before after (seen way.goal outcome)
+    → StartsTo way path (more walking) → Leads v a before (more walking) after (turn_view v.goal outcome) → TellsAlone way path a before after (turn_view way.goal outcome)
 told_from every way v path a before after walking outcome same starts led =
-    told every way path a before after (seen way.goal outcome)
-    (led_on way a before before after (begins way path) (more walking) (seen way.goal outcome) (begun way path a before (more walking) starts)
-    (subst (λ (u : Way). Leads u a before (more walking) after (seen u.goal outcome)) same led))
+    told every way path a before after (turn_view way.goal outcome)
+    (led_on way a before before after (begins way path) (more walking) (turn_view way.goal outcome) (begun way path a before (more walking) starts)
+    (subst (λ (u : Way). Leads u a before (more walking) after (turn_view u.goal outcome)) same led))
 
 -- where its beginning is its end
 pub told_at_once : EveryWalk → (way : Way) (path : Reading) (a : ℕ) (events : List Event) (end : Turn) → StartsTo way path end

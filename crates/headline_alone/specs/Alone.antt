@@ -6,7 +6,7 @@ use Rattle.tree_model.specs.declared.answer.Answer.{Answer}
 use Rattle.tree_model.specs.declared.answer.Answer.TheVariants.{Refused}
 use Rattle.tree_model.specs.declared.answer.Event.{Event}
 use Rattle.step_resolver.specs.Order.{Way, Walking, Turn, due, is_closing, Line, events_of, LeadsTo}
-use Rattle.step_resolver.specs.WalkHistory.{Walked, IsWalked}
+use Rattle.step_resolver.specs.WalkHistory.{WalkInHistory, IsWalkInHistory}
 use Rattle.step_resolver.specs.Headline.{Headline}
 
 -- The events booked meanwhile are those of lines, and in every history of a walk along this path that was told them the end
@@ -14,7 +14,7 @@ use Rattle.step_resolver.specs.Headline.{Headline}
 pub record TellsAlone (way : Way) (path : Reading) (a : ℕ) (before after : List Event) (end : Turn) : Type 0 where
   pub lines : List Line
   pub booked : after ≡ before ++ events_of a lines
-  pub tells : (w : Walked) → IsWalked w → w.way ≡ way → w.path ≡ path → w.lines ≡ lines → Headline w end
+  pub tells : (w : WalkInHistory) → IsWalkInHistory w → w.way ≡ way → w.path ≡ path → w.lines ≡ lines → Headline w end
 
 -- ---- on the way
 

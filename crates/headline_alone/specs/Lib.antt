@@ -7,5 +7,5 @@ pub use Rattle.step_resolver.specs.Failures
 pub use Rattle.step_resolver.specs.Footprint
 pub use Rattle.step_resolver.specs.Headline
 pub use Rattle.step_resolver.specs.View
-pub use Rattle.step_resolver.specs.Taken
+pub use Rattle.step_resolver.specs.TurnView
 pub mod Alone

@@ -10,7 +10,7 @@ ghost use Rattle.tree_model.specs.declared.answer.Event.{Event};
 ghost use Rattle.tree_model.specs.Steps.{takes_no_memory};
 ghost use Rattle.step_resolver.specs.Footprint.{IsEnd};
 ghost use Rattle.step_resolver.specs.Order.{more, steps_left};
-ghost use Rattle.step_resolver.specs.Taken.{seen, Keeps, steps_to_come};
+ghost use Rattle.step_resolver.specs.TurnView.{turn_view, Keeps, steps_to_come};
 ghost use Rattle.step_resolver.specs.View.{way_from};
 ghost use Rattle.headline_alone.specs.Alone.{IsAnswer, Leads, TellsAlone};
 
@@ -46,7 +46,7 @@ fn answer_due<B: Book>(alloc: Global, book: &mut B, actor: Actor, walk: &Walk) -
 
 /// Makes the step that is due, and takes its answer.
 fn advance<B: Book>(alloc: Global, book: &mut B, actor: Actor, walk: Walk) -> Turn
-    ensures led { Leads walk.way actor (B.booked book.old) (more walk.walking) (B.booked book.new) (seen walk.way.goal result) }
+    ensures led { Leads walk.way actor (B.booked book.old) (more walk.walking) (B.booked book.new) (turn_view walk.way.goal result) }
     ensures kept { Keeps walk.owner walk.way result }
     ensures fewer { steps_to_come result < steps_left walk.walking }
 {
@@ -56,8 +56,8 @@ fn advance<B: Book>(alloc: Global, book: &mut B, actor: Actor, walk: Walk) -> Tu
 
 /// Makes the steps that are due, one after another, up to the end of the walk.
 fn drive<B: Book>(alloc: Global, book: &mut B, actor: Actor, walk: Walk) -> Turn
-    ensures led { Leads walk.way actor (B.booked book.old) (more walk.walking) (B.booked book.new) (seen walk.way.goal result) }
-    ensures over { IsEnd (seen walk.way.goal result) }
+    ensures led { Leads walk.way actor (B.booked book.old) (more walk.walking) (B.booked book.new) (turn_view walk.way.goal result) }
+    ensures over { IsEnd (turn_view walk.way.goal result) }
 {
     let mut walk = walk;
     loop {
@@ -79,8 +79,8 @@ pub fn resolve<B: Book>(
     goal: Goal,
     flags: Flags,
 ) -> Turn
-    ensures over { IsEnd (seen goal result) }
-    ensures tells { TellsAlone (way_from root goal flags) path root.owner.actor (B.booked book.old) (B.booked book.new) (seen goal result) }
+    ensures over { IsEnd (turn_view goal result) }
+    ensures tells { TellsAlone (way_from root goal flags) path root.owner.actor (B.booked book.old) (B.booked book.new) (turn_view goal result) }
 {
     headline();
     let Root { owner, handle } = root;

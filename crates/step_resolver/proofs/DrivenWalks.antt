@@ -24,16 +24,16 @@ use Rattle.walk_plan.specs.declared.goal.Goal.{Goal}
 use Rattle.walk_plan.specs.declared.goal.Goal.TheVariants.{Follow, NoFollow, Deepest}
 use Rattle.step_resolver.specs.Asked.{asked, follows, is_deepest}
 use Rattle.step_resolver.specs.Meaning.{Ground, Meant, object, fails, reading_means, Deep, whole, up_to, none, reading_deepest}
-use Rattle.step_resolver.specs.Order.{Way, Walking, opening, reading, rising, judging, duping, ending, closing, Turn, more, found, partial, failed, begins, for_walk, due, Line, answered, short, unmade, events_of, LeadsTo}
+use Rattle.step_resolver.specs.Order.{Way, Walking, opening, reading, rising, judging, duping, ending, closing, Turn, more, found, partial, failed, begins, for_walk, due, Line, answered, no_room, not_made, events_of, LeadsTo}
 use Rattle.step_resolver.specs.Order.{take as takes}
 use Rattle.step_resolver.specs.Failures.{TellsTooMany, TellsWant, TellsError}
 use Rattle.step_resolver.specs.Footprint.{is_want, is_for_want, IsMeant, IsMeantDeep, IsEnd}
 use Rattle.step_resolver.specs.Headline.{IsNewHandle, WalksTell}
-use Rattle.step_resolver.specs.WalkHistory.{Walked, IsWalked, own_events}
+use Rattle.step_resolver.specs.WalkHistory.{WalkInHistory, IsWalkInHistory, own_events}
 use Rattle.step_resolver.specs.FootprintLaws.{QuietWalksMean, IsQuiet, IsQuietEnd}
-use Rattle.step_resolver.specs.Telling.{first_lines}
+use Rattle.step_resolver.specs.TurnsTell.{first_lines}
 use Rattle.step_resolver.specs.View.{WalkView}
-use Rattle.step_resolver.specs.Taken.{seen, Keeps, standing_handle, steps_to_come, STEPS_MAX, StartsTo, TakesTo}
+use Rattle.step_resolver.specs.TurnView.{turn_view, Keeps, standing_handle, steps_to_come, STEPS_MAX, StartsTo, TakesTo}
 use Rattle.step_resolver.specs.declared.walk.Turn.{Turn as Outcome}
 use Rattle.step_resolver.specs.declared.walk.Turn.TheVariants as turn
 use Rattle.step_resolver.specs.declared.driver.Resolved.{Resolved}
@@ -41,12 +41,12 @@ use Rattle.step_resolver.specs.declared.driver.Resolved.TheVariants.{Found, Part
 use Rattle.step_resolver.specs.Driver.{IsReady, IsAnswer, steps_of, IsWithoutBook, Drives, IsObject, Resolves, ResolvesDeep, ResolvesFor, standing_of, LeavesOwn, LeavesHandles, opened_count, LeavesRoom, IsOwned}
 use Rattle.step_resolver.proofs.Underway.HandleCount.{same_count, one_more}
 use Rattle.step_resolver.proofs.FirstTurns.{first_lines_lead}
-use Rattle.step_resolver.proofs.Telling.{leads_on, line_leads}
+use Rattle.step_resolver.proofs.TurnsTell.{leads_on, line_leads}
 use Rattle.step_resolver.proofs.WalkSteps.{FewerThan, a_step_left, begins_few}
 
 -- ---- step by step
 
-seen_steps : (goal : Goal) (outcome : Outcome) → steps_of (seen goal outcome) ≡ steps_to_come outcome
+seen_steps : (goal : Goal) (outcome : Outcome) → steps_of (turn_view goal outcome) ≡ steps_to_come outcome
 seen_steps goal (turn.More walk) = refl
 seen_steps goal (turn.Found standing) = refl
 seen_steps goal (turn.Partial standing rest) = refl
@@ -76,8 +76,8 @@ module _ (leave : NodesAreLeft) (way : Way) (a : ℕ) (s t : State) (walking : W
     fewer = omega (arith, fewer);
   }
   made false taken told after = record {
-    lines = short (due way walking) answer ∷ [];
-    leads = line_leads way false walking answer to (short (due way walking) answer) taken (refl, refl, refl);
+    lines = no_room (due way walking) answer ∷ [];
+    leads = line_leads way false walking answer to (no_room (due way walking) answer) taken (refl, refl, refl);
     legal = (told, tt);
     after = sym after;
     nodes = ap (λ (u : State). u.nodes) after ∙ leave s a (due way walking) (is_off_entries way walking);
@@ -89,8 +89,8 @@ module _ (leave : NodesAreLeft) (way : Way) (a : ℕ) (s t : State) (walking : W
   pub advanced : IsAnswer way walking a s t answer → TakesTo way walking answer to → Drives way a s (more walking) t to
   advanced (inl is) taken = made taken.0 taken.1 is.0 is.1
   advanced (inr is) taken = record {
-    lines = unmade NoMemory ∷ [];
-    leads = line_leads way taken.0 walking answer to (unmade NoMemory) taken.1 (inl refl, is.2, is.0);
+    lines = not_made NoMemory ∷ [];
+    leads = line_leads way taken.0 walking answer to (not_made NoMemory) taken.1 (inl refl, is.2, is.0);
     legal = tt;
     after = sym is.1;
     nodes = ap (λ (u : State). u.nodes) is.1;
@@ -99,24 +99,24 @@ module _ (leave : NodesAreLeft) (way : Way) (a : ℕ) (s t : State) (walking : W
   }
 
 pub advanced_to : NodesAreLeft → (way : Way) (a : ℕ) (s t : State) (walking : Walking) (answer : Answer) (goal : Goal) (outcome : Outcome)
-    → steps_to_come outcome < steps_of (more walking) → IsAnswer way walking a s t answer → TakesTo way walking answer (seen goal outcome)
-    → Drives way a s (more walking) t (seen goal outcome)
+    → steps_to_come outcome < steps_of (more walking) → IsAnswer way walking a s t answer → TakesTo way walking answer (turn_view goal outcome)
+    → Drives way a s (more walking) t (turn_view goal outcome)
 advanced_to leave way a s t walking answer goal outcome fewer is taken =
-    advanced leave way a s t walking answer (seen goal outcome) (subst (λ n. n < steps_of (more walking)) (sym (seen_steps goal outcome)) fewer) is taken
+    advanced leave way a s t walking answer (turn_view goal outcome) (subst (λ n. n < steps_of (more walking)) (sym (seen_steps goal outcome)) fewer) is taken
 
 -- ---- one after another
 
 joined_events : (a : ℕ) (lines others : List Line) → events_of a (lines ++ others) ≡ events_of a lines ++ events_of a others
 joined_events a [] others = refl
 joined_events a (answered step answer ∷ lines) others = ap (λ es. record { actor = a; step = step; answer = answer } ∷ es) (joined_events a lines others)
-joined_events a (short step answer ∷ lines) others = ap (λ es. record { actor = a; step = step; answer = answer } ∷ es) (joined_events a lines others)
-joined_events a (unmade error ∷ lines) others = joined_events a lines others
+joined_events a (no_room step answer ∷ lines) others = ap (λ es. record { actor = a; step = step; answer = answer } ∷ es) (joined_events a lines others)
+joined_events a (not_made error ∷ lines) others = joined_events a lines others
 
 joined_without_book : (lines others : List Line) → IsWithoutBook lines → IsWithoutBook others → IsWithoutBook (lines ++ others)
 joined_without_book [] others first second = second
 joined_without_book (answered step answer ∷ lines) others first second = joined_without_book lines others first second
-joined_without_book (short step answer ∷ lines) others first second = joined_without_book lines others first second
-joined_without_book (unmade error ∷ lines) others first second = (first.0, joined_without_book lines others first.1 second)
+joined_without_book (no_room step answer ∷ lines) others first second = joined_without_book lines others first second
+joined_without_book (not_made error ∷ lines) others first second = (first.0, joined_without_book lines others first.1 second)
 
 drives_none : (way : Way) (a : ℕ) (s : State) (turn : Turn) → Drives way a s turn s turn
 drives_none way a s turn = record { lines = []; leads = refl; legal = tt; after = refl; nodes = refl; without_book = tt; fewer = omega arith }
@@ -147,24 +147,24 @@ all_own a [] = refl
 all_own a (answered step answer ∷ lines) =
     ap (λ b. cond b (record { actor = a; step = step; answer = answer } ∷ own_events a (events_of a lines)) (own_events a (events_of a lines))) (eq-eqb a a refl)
     ∙ ap (λ es. record { actor = a; step = step; answer = answer } ∷ es) (all_own a lines)
-all_own a (short step answer ∷ lines) =
+all_own a (no_room step answer ∷ lines) =
     ap (λ b. cond b (record { actor = a; step = step; answer = answer } ∷ own_events a (events_of a lines)) (own_events a (events_of a lines))) (eq-eqb a a refl)
     ∙ ap (λ es. record { actor = a; step = step; answer = answer } ∷ es) (all_own a lines)
-all_own a (unmade error ∷ lines) = all_own a lines
+all_own a (not_made error ∷ lines) = all_own a lines
 
 by_own : (a : ℕ) (lines : List Line) (t : ℕ) (event : Event) → slice_get (events_of a lines) t ≡ Some event → event.actor ≡ a
 by_own a [] t event e = absurd (none-some event e)
 by_own a (answered step answer ∷ lines) zero event e = sym (ap (λ (v : Event). v.actor) (same_Some _ event e))
 by_own a (answered step answer ∷ lines) (suc t) event e = by_own a lines t event e
-by_own a (short step answer ∷ lines) zero event e = sym (ap (λ (v : Event). v.actor) (same_Some _ event e))
-by_own a (short step answer ∷ lines) (suc t) event e = by_own a lines t event e
-by_own a (unmade error ∷ lines) t event e = by_own a lines t event e
+by_own a (no_room step answer ∷ lines) zero event e = sym (ap (λ (v : Event). v.actor) (same_Some _ event e))
+by_own a (no_room step answer ∷ lines) (suc t) event e = by_own a lines t event e
+by_own a (not_made error ∷ lines) t event e = by_own a lines t event e
 
 few_events : (a : ℕ) (lines : List Line) → length (events_of a lines) ≤ length lines
 few_events a [] = omega arith
 few_events a (answered step answer ∷ lines) = let rest = few_events a lines in omega (arith, rest)
-few_events a (short step answer ∷ lines) = let rest = few_events a lines in omega (arith, rest)
-few_events a (unmade error ∷ lines) = let rest = few_events a lines in omega (arith, rest)
+few_events a (no_room step answer ∷ lines) = let rest = few_events a lines in omega (arith, rest)
+few_events a (not_made error ∷ lines) = let rest = few_events a lines in omega (arith, rest)
 
 no_more : {A : Type 0} (m : ℕ) (xs : List A) → length (take m xs) ≤ length xs
 no_more zero xs = omega arith
@@ -175,10 +175,10 @@ no_book_full : (lines : List Line) → IsWithoutBook lines → TellsWant BookFul
 no_book_full [] is tells = tells
 no_book_full (answered step answer ∷ lines) is (inl tells) = tells
 no_book_full (answered step answer ∷ lines) is (inr tells) = no_book_full lines is tells
-no_book_full (short step answer ∷ lines) is (inl tells) = cc (tells)
-no_book_full (short step answer ∷ lines) is (inr tells) = no_book_full lines is tells
-no_book_full (unmade error ∷ lines) is (inl tells) = cc (is.0, tells)
-no_book_full (unmade error ∷ lines) is (inr tells) = no_book_full lines is.1 tells
+no_book_full (no_room step answer ∷ lines) is (inl tells) = cc (tells)
+no_book_full (no_room step answer ∷ lines) is (inr tells) = no_book_full lines is tells
+no_book_full (not_made error ∷ lines) is (inl tells) = cc (is.0, tells)
+no_book_full (not_made error ∷ lines) is (inr tells) = no_book_full lines is.1 tells
 
 -- the laws that are used
 pub record Laws : Type 0 where
@@ -194,8 +194,8 @@ others_than a b ne event is events all = let other : event.actor ≢ b = λ e. n
 all_by : (a b : ℕ) → b ≢ a → (lines : List Line) → All (λ (event : Event). event.actor ≢ b) (events_of a lines)
 all_by a b ne [] = All-nil _
 all_by a b ne (answered step answer ∷ lines) = others_than a b ne (record { actor = a; step = step; answer = answer }) refl (events_of a lines) (all_by a b ne lines)
-all_by a b ne (short step answer ∷ lines) = others_than a b ne (record { actor = a; step = step; answer = answer }) refl (events_of a lines) (all_by a b ne lines)
-all_by a b ne (unmade error ∷ lines) = all_by a b ne lines
+all_by a b ne (no_room step answer ∷ lines) = others_than a b ne (record { actor = a; step = step; answer = answer }) refl (events_of a lines) (all_by a b ne lines)
+all_by a b ne (not_made error ∷ lines) = all_by a b ne lines
 
 -- the turn that a result is
 abbrev pub turn_of : Result Resolved Errno → Outcome
@@ -224,7 +224,7 @@ module _ (laws : Laws) (s t : State) (a r : ℕ) (way : Way) (path : Reading) (r
   DrivesTo end = Drives way a s (begins way path) t end
 
   module _ (end : Turn) (d : DrivesTo end) where
-    abbrev walked : Walked
+    abbrev walked : WalkInHistory
     walked = record {
       opening = s;
       before = [];
@@ -236,7 +236,7 @@ module _ (laws : Laws) (s t : State) (a r : ℕ) (way : Way) (path : Reading) (r
       lines = d.lines;
     }
 
-    is_walked : IsWalked walked
+    is_walked : IsWalkInHistory walked
     is_walked = record {
       tree = ready.tree;
       legal_before = tt;
@@ -302,7 +302,7 @@ module _ (laws : Laws) (s t : State) (a r : ℕ) (way : Way) (path : Reading) (r
       told _ q w = absurd (false≢true w)
 
   -- the end is what the whole path means
-  resolves_whole : is_deepest way.goal ≡ false → (result : Result Resolved Errno) → DrivesTo (seen way.goal (turn_of result))
+  resolves_whole : is_deepest way.goal ≡ false → (result : Result Resolved Errno) → DrivesTo (turn_view way.goal (turn_of result))
       → Resolves s.nodes r meant_here result
   resolves_whole no_deep (Ok (Found standing)) d = on meant_here (quiet.means no_deep)
     where
@@ -334,7 +334,7 @@ module _ (laws : Laws) (s t : State) (a r : ℕ) (way : Way) (path : Reading) (r
       on_want false w = meant meant_here ((quiet_end (failed error) d tt w).means no_deep)
 
   -- and so for the deepest directory
-  resolves_deepest : is_deepest way.goal ≡ true → (result : Result Resolved Errno) → DrivesTo (seen way.goal (turn_of result))
+  resolves_deepest : is_deepest way.goal ≡ true → (result : Result Resolved Errno) → DrivesTo (turn_view way.goal (turn_of result))
       → ResolvesDeep s.nodes r deepest_here result
   resolves_deepest deep (Ok (Found standing)) d = on deepest_here (quiet.deepest deep)
     where
@@ -381,7 +381,7 @@ module _ (laws : Laws) (s t : State) (a r : ℕ) (way : Way) (path : Reading) (r
       on_want false w = meant deepest_here ((quiet_end (failed error) d tt w).deepest deep)
 
   -- for each goal
-  resolved_by : (result : Result Resolved Errno) → DrivesTo (seen way.goal (turn_of result))
+  resolved_by : (result : Result Resolved Errno) → DrivesTo (turn_view way.goal (turn_of result))
       → ResolvesFor (is_deepest way.goal) ground_here path way.goal result
   resolved_by result d = on (is_deepest way.goal) refl
     where
@@ -390,14 +390,14 @@ module _ (laws : Laws) (s t : State) (a r : ℕ) (way : Way) (path : Reading) (r
       on false e = resolves_whole e result d
 
   -- the handles that are open then
-  leaves_own : (result : Result Resolved Errno) → DrivesTo (seen way.goal (turn_of result)) → LeavesOwn s a t result
+  leaves_own : (result : Result Resolved Errno) → DrivesTo (turn_view way.goal (turn_of result)) → LeavesOwn s a t result
   leaves_own (Ok (Found standing)) d = new_handle _ d standing (laws.tell (walked _ d) _ (is_walked _ d) d.leads).new
   leaves_own (Ok (Partial standing rest)) d = new_handle _ d standing (laws.tell (walked _ d) _ (is_walked _ d) d.leads).new
   leaves_own (Err error) d =
       let stay = (laws.tell (walked _ d) _ (is_walked _ d) d.leads).handles in
       λ k. ap (λ (u : State). held u a k) (sym d.after) ∙ stay k
 
-  handles_by : (result : Result Resolved Errno) → DrivesTo (seen way.goal (turn_of result)) → LeavesHandles s a t result
+  handles_by : (result : Result Resolved Errno) → DrivesTo (turn_view way.goal (turn_of result)) → LeavesHandles s a t result
   handles_by result d = record {
     own = leaves_own result d;
     others = λ b ne h. ap (λ (u : State). held u b h) (sym d.after) ∙ laws.others s (events_of a d.lines) b (all_by a b ne d.lines) h;
@@ -409,7 +409,7 @@ module _ (laws : Laws) (s t : State) (a r : ℕ) (way : Way) (path : Reading) (r
   few_by (Err error) own = let same = same_count a s.handles t.handles own in omega (arith, same)
 
   -- the tree and its numbers then
-  room_by : (result : Result Resolved Errno) → DrivesTo (seen way.goal (turn_of result)) → LeavesRoom s a t result
+  room_by : (result : Result Resolved Errno) → DrivesTo (turn_view way.goal (turn_of result)) → LeavesRoom s a t result
   room_by result d =
       let grown = subst (λ (u : State). length u.handles ≤ length s.handles + length (events_of a d.lines)) d.after (laws.numbers s (events_of a d.lines)).1 in
       let events = few_events a d.lines in
@@ -436,7 +436,7 @@ drives_begun way a s path turn starts =
       with_room : (room : Bool) (first : Turn) → LeadsTo way first (first_lines room first) (for_walk room first) → Drives way a s first s (for_walk room first)
       with_room true first leads = drives_none way a s first
       with_room false (more walking) leads = record {
-        lines = unmade NoMemory ∷ [];
+        lines = not_made NoMemory ∷ [];
         leads = leads;
         legal = tt;
         after = refl;
@@ -451,18 +451,18 @@ drives_begun way a s path turn starts =
 -- a walk that was driven here, and is still this owner's and on this way
 pub record IsDriven (owner : Owner) (way : Way) (s : State) (path : Reading) (t : State) (outcome : Outcome) : Type 0 where
   pub kept : Keeps owner way outcome
-  pub driven : Drives way owner.actor s (begins way path) t (seen way.goal outcome)
+  pub driven : Drives way owner.actor s (begins way path) t (turn_view way.goal outcome)
 
 -- it goes on by one step more
 pub driven_on : LegalHistoriesJoin → (owner : Owner) (way : Way) (s t u : State) (path : Reading) (outcome next : Outcome) (walk : WalkView)
     → outcome ≡ turn.More walk → IsDriven owner way s path t outcome → Keeps walk.owner walk.way next
-    → Drives walk.way owner.actor t (more walk.walking) u (seen walk.way.goal next) → IsDriven owner way s path u next
+    → Drives walk.way owner.actor t (more walk.walking) u (turn_view walk.way.goal next) → IsDriven owner way s path u next
 driven_on join owner way s t u path outcome next walk e here keeps d =
     let at : IsDriven owner way s path t (turn.More walk) = subst (λ o. IsDriven owner way s path t o) e here in
     record {
       kept = subst (λ (o : Owner). Keeps o way next) at.kept.0 (subst (λ (v : Way). Keeps walk.owner v next) at.kept.1 keeps);
-      driven = drives_on join way owner.actor s t u (begins way path) (more walk.walking) (seen way.goal next) at.driven
-          (subst (λ (v : Way). Drives v owner.actor t (more walk.walking) u (seen v.goal next)) at.kept.1 d);
+      driven = drives_on join way owner.actor s t u (begins way path) (more walk.walking) (turn_view way.goal next) at.driven
+          (subst (λ (v : Way). Drives v owner.actor t (more walk.walking) u (turn_view v.goal next)) at.kept.1 d);
     }
 
 -- what holds at its end

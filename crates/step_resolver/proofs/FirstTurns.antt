@@ -10,7 +10,7 @@ use Rattle.step_resolver.specs.Asked.{AskedPart, Cur, Up, Named, asked, follows}
 use Rattle.step_resolver.specs.Meaning.{LINKS_MAX, is_too_long}
 use Rattle.step_resolver.specs.Order.{Way, Position, root_itself, holds, Todo, todo, Walking, opening, reading, rising, judging, duping, ending, closing, Turn, more, found, partial, failed, in_directory, on_own, on_parts, goes_on, begins, for_walk, starts, take, is_closing, LeadsTo}
 use Rattle.step_resolver.specs.View.{walking_of, HoldsNothing}
-use Rattle.step_resolver.specs.Telling.{first_lines}
+use Rattle.step_resolver.specs.TurnsTell.{first_lines}
 use Rattle.step_resolver.specs.declared.pending.Pending.{Pending}
 use Rattle.step_resolver.specs.declared.pending.Pending.TheVariants as pending
 

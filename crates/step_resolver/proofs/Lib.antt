@@ -1,7 +1,7 @@
 pub mod WalkAnswers
 pub mod WalkParts
 pub mod WalkSteps
-pub mod Telling
+pub mod TurnsTell
 pub mod Meaning
 pub mod Trail
 pub mod Underway

@@ -22,7 +22,7 @@ use Rattle.step_resolver.specs.Meaning.{LINKS_MAX, is_too_long, crosses}
 use Rattle.step_resolver.specs.Order.{Way, Handle, Position, root_itself, holds, Todo, todo, After, gives, onward, judges, Walking, opening, reading, rising, judging, duping, ending, closing, Turn, more, found, partial, failed, names_of, handles_of, is_dir_position, is_followed, gives_up, at_end, in_directory, on_part, on_own, on_parts, goes_on, begins, for_walk, comes, closes, refusal_of, with_room, follows_link, enters, refused_open, from_link, read_text, end_of, judged, refused_rise, take, steps_for, steps_after, steps_left}
 use Rattle.step_resolver.specs.declared.walk.Turn.{Turn as Outcome}
 use Rattle.step_resolver.specs.declared.walk.Turn.TheVariants.{More, Found, Partial, Failed}
-use Rattle.step_resolver.specs.Taken.{seen, StartsTo, TakesTo, steps_to_come, STEPS_MAX}
+use Rattle.step_resolver.specs.TurnView.{turn_view, StartsTo, TakesTo, steps_to_come, STEPS_MAX}
 
 -- fewer than this many steps are left, where the walk goes on
 abbrev pub FewerThan : ℕ → Turn → Type 0
@@ -187,13 +187,13 @@ a_step_left (duping rest) = omega arith
 a_step_left (ending handle names rest) = omega arith
 a_step_left (closing h hs after) = omega arith
 
-lowers : (goal : Goal) (walking : Walking) (outcome : Outcome) → FewerThan (steps_left walking) (seen goal outcome) → steps_to_come outcome < steps_left walking
+lowers : (goal : Goal) (walking : Walking) (outcome : Outcome) → FewerThan (steps_left walking) (turn_view goal outcome) → steps_to_come outcome < steps_left walking
 lowers goal walking (More w) few = few
 lowers goal walking (Found standing) few = a_step_left walking
 lowers goal walking (Partial standing rest) few = a_step_left walking
 lowers goal walking (Failed error) few = a_step_left walking
 
-pub taken_lowers : (way : Way) (walking : Walking) (answer : Answer) (outcome : Outcome) → TakesTo way walking answer (seen way.goal outcome) → steps_to_come outcome < steps_left walking
+pub taken_lowers : (way : Way) (walking : Walking) (answer : Answer) (outcome : Outcome) → TakesTo way walking answer (turn_view way.goal outcome) → steps_to_come outcome < steps_left walking
 taken_lowers way walking answer outcome taken =
     lowers way.goal walking outcome (subst (FewerThan (steps_left walking)) (sym taken.1) (take_lowers way taken.0 walking answer))
 
@@ -235,10 +235,10 @@ for_walk_few k false (partial handle names rest) few = tt
 for_walk_few k false (failed error) few = tt
 
 -- so does its first turn, with room for the walk or without
-pub starts_few : (way : Way) (path : Reading) (outcome : Outcome) → length path.parts ≤ PARTS_MAX → StartsTo way path (seen way.goal outcome) → steps_to_come outcome ≤ STEPS_MAX
+pub starts_few : (way : Way) (path : Reading) (outcome : Outcome) → length path.parts ≤ PARTS_MAX → StartsTo way path (turn_view way.goal outcome) → steps_to_come outcome ≤ STEPS_MAX
 starts_few way path outcome few starts =
     shown outcome (subst (FewerThan (suc STEPS_MAX)) (sym starts.1) (for_walk_few (suc STEPS_MAX) starts.0 (begins way path) (begins_few way path few))) where
-      shown : (outcome : Outcome) → FewerThan (suc STEPS_MAX) (seen way.goal outcome) → steps_to_come outcome ≤ STEPS_MAX
+      shown : (outcome : Outcome) → FewerThan (suc STEPS_MAX) (turn_view way.goal outcome) → steps_to_come outcome ≤ STEPS_MAX
       shown (More w) few = omega arith
       shown (Found standing) few = omega arith
       shown (Partial standing rest) few = omega arith

@@ -18,8 +18,8 @@ use Rattle.handles.specs.Objects.{StandingObject}
 use Rattle.walk_plan.specs.declared.goal.Goal.{Goal}
 use Rattle.step_resolver.specs.Asked.{asked, follows, is_deepest}
 use Rattle.step_resolver.specs.Meaning.{Ground, Meant, object, fails, reading_means, Deep, whole, up_to, none, reading_deepest}
-use Rattle.step_resolver.specs.Taken.{STEPS_MAX}
-use Rattle.step_resolver.specs.Order.{Way, Walking, Turn, more, found, partial, failed, due, is_closing, Line, answered, short, unmade, events_of, LeadsTo, steps_left}
+use Rattle.step_resolver.specs.TurnView.{STEPS_MAX}
+use Rattle.step_resolver.specs.Order.{Way, Walking, Turn, more, found, partial, failed, due, is_closing, Line, answered, no_room, not_made, events_of, LeadsTo, steps_left}
 use Rattle.step_resolver.specs.declared.driver.Resolved.{Resolved}
 use Rattle.step_resolver.specs.declared.driver.Resolved.TheVariants.{Found, Partial}
 
@@ -57,8 +57,8 @@ steps_of (failed error) = 0
 abbrev pub IsWithoutBook : List Line → Type 0
 IsWithoutBook [] = Unit {0}
 IsWithoutBook (answered step answer ∷ lines) = IsWithoutBook lines
-IsWithoutBook (short step answer ∷ lines) = IsWithoutBook lines
-IsWithoutBook (unmade error ∷ lines) = (error ≡ NoMemory) × IsWithoutBook lines
+IsWithoutBook (no_room step answer ∷ lines) = IsWithoutBook lines
+IsWithoutBook (not_made error ∷ lines) = (error ≡ NoMemory) × IsWithoutBook lines
 
 -- there are lines that lead from one turn to the other, and the actor's steps among them from one tree to the other, which has
 -- the same nodes

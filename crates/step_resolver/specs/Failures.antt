@@ -12,40 +12,40 @@ use Rattle.tree_model.specs.Steps.{held, held_count, is_full, outcome}
 use Rattle.step_resolver.specs.Asked.{AskedPart, Up, Named, followed, is_deepest}
 use Rattle.step_resolver.specs.Meaning.{is_too_long}
 use Rattle.step_resolver.specs.Trail.{Spot, Trail, IsOwnFrom, IsLinkAt, from_text}
-use Rattle.step_resolver.specs.Order.{Line, answered, short, unmade}
-use Rattle.step_resolver.specs.WalkHistory.{Walked, begin_of, end_of, state_at, story, parts_of_walk, start, IsTrailTo}
+use Rattle.step_resolver.specs.Order.{Line, answered, no_room, not_made}
+use Rattle.step_resolver.specs.WalkHistory.{WalkInHistory, begin_of, end_of, state_at, timeline, parts_of_walk, start, IsTrailTo}
 
 -- ---- where a walk stops
 
 -- the parts before this one were passed
-abbrev pub IsStopAt : Walked → Spot → AskedPart → Type 0
-IsStopAt w to next = Trail (story w) (parts_of_walk w) (start w) to (Some next)
+abbrev pub IsStopAt : WalkInHistory → Spot → AskedPart → Type 0
+IsStopAt w to next = Trail (timeline w) (parts_of_walk w) (start w) to (Some next)
 
-abbrev pub IsDirectory : Walked → ℕ → Type 0
-IsDirectory w x = is_directory ((story w).object_of x) ≡ true
+abbrev pub IsDirectory : WalkInHistory → ℕ → Type 0
+IsDirectory w x = is_directory ((timeline w).object_of x) ≡ true
 
 -- at that event it didn't
-pub record DidNotStandAt (w : Walked) (to : Spot) (m v : ℕ) : Type 0 where
-  pub at : IsOwnFrom (story w) m v
-  pub astray : Stands ((story w).nodes_at v) w.root to.node to.names → ⊥
+pub record DidNotStandAt (w : WalkInHistory) (to : Spot) (m v : ℕ) : Type 0 where
+  pub at : IsOwnFrom (timeline w) m v
+  pub astray : Stands ((timeline w).nodes_at v) w.root to.node to.names → ⊥
 
 -- at the walk's own event v the spot, a directory, had no entry of that name
-pub record IsMissingAt (w : Walked) (to : Spot) (n : List ℕ) (v : ℕ) : Type 0 where
+pub record IsMissingAt (w : WalkInHistory) (to : Spot) (n : List ℕ) (v : ℕ) : Type 0 where
   pub dir : IsDirectory w to.node
-  pub at : IsOwnFrom (story w) to.moment v
-  pub missing : child ((story w).nodes_at v) to.node n ≡ None
+  pub at : IsOwnFrom (timeline w) to.moment v
+  pub missing : child ((timeline w).nodes_at v) to.node n ≡ None
 
 -- at the walk's own event v that entry, of a directory, was a link with that text
-pub record IsLinkThere (w : Walked) (to : Spot) (n text : List ℕ) (v : ℕ) : Type 0 where
+pub record IsLinkThere (w : WalkInHistory) (to : Spot) (n text : List ℕ) (v : ℕ) : Type 0 where
   pub dir : IsDirectory w to.node
   pub short : is_too_long n ≡ false
-  pub at : IsOwnFrom (story w) to.moment v
+  pub at : IsOwnFrom (timeline w) to.moment v
   pub link : ℕ
-  pub child : child ((story w).nodes_at v) to.node n ≡ Some link
-  pub is_link : (story w).object_of link ≡ Some (Link text)
+  pub child : child ((timeline w).nodes_at v) to.node n ≡ Some link
+  pub is_link : (timeline w).object_of link ≡ Some (Link text)
 
 -- The stop before this part is within the text of a link, which was at one of the caller's own parts.
-pub record IsWithinLink (w : Walked) (to : Spot) (next : AskedPart) : Type 0 where
+pub record IsWithinLink (w : WalkInHistory) (to : Spot) (next : AskedPart) : Type 0 where
   pub front : List AskedPart
   pub name : List ℕ
   pub rest : List AskedPart
@@ -55,17 +55,17 @@ pub record IsWithinLink (w : Walked) (to : Spot) (next : AskedPart) : Type 0 whe
   pub when : ℕ
   pub text : List ℕ
   pub left : ℕ
-  pub link : IsLinkAt (story w) mid name when text left
-  pub stop : Trail (story w) (followed (parts_of text)) (from_text (story w) mid text left (suc when)) to (Some next)
+  pub link : IsLinkAt (timeline w) mid name when text left
+  pub stop : Trail (timeline w) (followed (parts_of text)) (from_text (timeline w) mid text left (suc when)) to (Some next)
 
 -- the actor's open handles are those from before
-abbrev pub HandlesStay : Walked → Type 0
+abbrev pub HandlesStay : WalkInHistory → Type 0
 HandlesStay w = (h : ℕ) → held (end_of w) w.actor h ≡ held (begin_of w) w.actor h
 
 -- ---- each error
 
 -- ENOENT: a name was missing; for the deepest directory one of a link's text.
-pub record TellsNotFound (w : Walked) : Type 0 where
+pub record TellsNotFound (w : WalkInHistory) : Type 0 where
   pub to : Spot
   pub follow : Bool
   pub name : List ℕ
@@ -76,16 +76,16 @@ pub record TellsNotFound (w : Walked) : Type 0 where
   pub missing : IsMissingAt w to name when
 
 -- ENOTDIR: what had been reached before a part was no directory.
-pub record TellsNotDir (w : Walked) : Type 0 where
+pub record TellsNotDir (w : WalkInHistory) : Type 0 where
   pub to : Spot
   pub next : AskedPart
   pub stop : IsStopAt w to next
   pub what : Object
-  pub is_what : (story w).object_of to.node ≡ Some what
+  pub is_what : (timeline w).object_of to.node ≡ Some what
   pub no_dir : is_directory (Some what) ≡ false
 
 -- ENAMETOOLONG: the next part of a directory was a name that is too long.
-pub record TellsTooLong (w : Walked) : Type 0 where
+pub record TellsTooLong (w : WalkInHistory) : Type 0 where
   pub to : Spot
   pub follow : Bool
   pub name : List ℕ
@@ -94,7 +94,7 @@ pub record TellsTooLong (w : Walked) : Type 0 where
   pub long : is_too_long name ≡ true
 
 -- ELOOP: no link was left, or none may be followed, and the next name was a link to be followed.
-pub record TellsLoop (w : Walked) : Type 0 where
+pub record TellsLoop (w : WalkInHistory) : Type 0 where
   pub to : Spot
   pub name : List ℕ
   pub stop : IsStopAt w to (Named true name)
@@ -105,13 +105,13 @@ pub record TellsLoop (w : Walked) : Type 0 where
 
 -- EXDEV, under `beneath`: the path was absolute, and no step was made; or the next part was `..` with no names passed; or it was a link to be
 -- followed whose text is absolute.
-pub record TellsUpFromRoot (w : Walked) : Type 0 where
+pub record TellsUpFromRoot (w : WalkInHistory) : Type 0 where
   pub to : Spot
   pub stop : IsStopAt w to Up
   pub node : to.node ≡ w.root
   pub names : to.names ≡ []
 
-pub record TellsAbsoluteLink (w : Walked) : Type 0 where
+pub record TellsAbsoluteLink (w : WalkInHistory) : Type 0 where
   pub to : Spot
   pub name : List ℕ
   pub stop : IsStopAt w to (Named true name)
@@ -123,32 +123,32 @@ pub record TellsAbsoluteLink (w : Walked) : Type 0 where
   pub when : ℕ
   pub link : IsLinkThere w to name text when
 
-pub record TellsCrossRoot (w : Walked) : Type 0 where
+pub record TellsCrossRoot (w : WalkInHistory) : Type 0 where
   pub beneath : w.way.flags.beneath ≡ true
   pub why : ((w.path.absolute ≡ true) × (w.lines ≡ [])) ⊎ (TellsUpFromRoot w ⊎ TellsAbsoluteLink w)
 
 -- EAGAIN: at a `..` the place was gone, or its parent didn't stand at the names less the last
-pub record TellsRacedUp (w : Walked) : Type 0 where
+pub record TellsRacedUp (w : WalkInHistory) : Type 0 where
   pub to : Spot
   pub stop : IsStopAt w to Up
   pub name : List ℕ
   pub names : List (List ℕ)
   pub passed : to.names ≡ name ∷ names
   pub when : ℕ
-  pub at : IsOwnFrom (story w) to.moment when
-  pub why : (parent ((story w).nodes_at when) to.node ≡ None)
-      ⊎ ((e : ℕ) × ((parent ((story w).nodes_at when) to.node ≡ Some e)
-      × ((u : ℕ) × (IsOwnFrom (story w) (suc when) u × (Stands ((story w).nodes_at u) w.root e names → ⊥)))))
+  pub at : IsOwnFrom (timeline w) to.moment when
+  pub why : (parent ((timeline w).nodes_at when) to.node ≡ None)
+      ⊎ ((e : ℕ) × ((parent ((timeline w).nodes_at when) to.node ≡ Some e)
+      × ((u : ℕ) × (IsOwnFrom (timeline w) (suc when) u × (Stands ((timeline w).nodes_at u) w.root e names → ⊥)))))
 
 -- or all parts were passed, and what was reached didn't stand at the names passed
-pub record TellsRacedEnd (w : Walked) : Type 0 where
+pub record TellsRacedEnd (w : WalkInHistory) : Type 0 where
   pub to : Spot
   pub trail : IsTrailTo w (parts_of_walk w) to
   pub when : ℕ
   pub astray : DidNotStandAt w to to.moment when
 
 -- or, for the deepest directory, all parts before a missing one of the caller's own were
-pub record TellsRacedDeepest (w : Walked) : Type 0 where
+pub record TellsRacedDeepest (w : WalkInHistory) : Type 0 where
   pub goal : is_deepest w.way.goal ≡ true
   pub front : List AskedPart
   pub follow : Bool
@@ -165,8 +165,8 @@ pub record TellsRacedDeepest (w : Walked) : Type 0 where
 -- a step that was made and refused for want of handles
 abbrev pub IsRefusal : StepOf ℕ → Line → Type 0
 IsRefusal step (answered made answer) = (made ≡ step) × (answer ≡ Refused TooMany)
-IsRefusal step (short made answer) = (made ≡ step) × (answer ≡ Refused TooMany)
-IsRefusal step (unmade cause) = ⊥
+IsRefusal step (no_room made answer) = (made ≡ step) × (answer ≡ Refused TooMany)
+IsRefusal step (not_made cause) = ⊥
 
 abbrev pub MetRefusal : StepOf ℕ → List Line → Type 0
 MetRefusal step [] = ⊥
@@ -174,7 +174,7 @@ MetRefusal step (line ∷ lines) = IsRefusal step line ⊎ MetRefusal step lines
 
 -- EMFILE: a step of the walk was refused so, by the step table too. The actor, which then held one handle more than before
 -- at most, could open no more, or the numbers were used up.
-pub record TellsTooMany (w : Walked) : Type 0 where
+pub record TellsTooMany (w : WalkInHistory) : Type 0 where
   pub step : StepOf ℕ
   pub line : MetRefusal step w.lines
   pub when : ℕ
@@ -186,15 +186,15 @@ pub record TellsTooMany (w : Walked) : Type 0 where
 -- ENOMEM and ENOSPC: a step wasn't made for that want, or what its answer brings found no memory.
 abbrev pub IsWantOf : Errno → Line → Type 0
 IsWantOf error (answered step answer) = ⊥
-IsWantOf error (short step answer) = error ≡ NoMemory
-IsWantOf error (unmade cause) = error ≡ cause
+IsWantOf error (no_room step answer) = error ≡ NoMemory
+IsWantOf error (not_made cause) = error ≡ cause
 
 abbrev pub TellsWant : Errno → List Line → Type 0
 TellsWant error [] = ⊥
 TellsWant error (line ∷ lines) = IsWantOf error line ⊎ TellsWant error lines
 
 -- what each error tells; those that aren't named never come, and neither does EBADF, since the root's handle is open
-abbrev pub TellsError : Walked → Errno → Type 0
+abbrev pub TellsError : WalkInHistory → Errno → Type 0
 TellsError w NotFound = TellsNotFound w
 TellsError w NotDir = TellsNotDir w
 TellsError w TooLong = TellsTooLong w

@@ -6,19 +6,19 @@ use Rattle.tree_model.specs.declared.answer.Event.{Event}
 use Rattle.tree_model.specs.State.{child}
 use Rattle.step_resolver.specs.Meaning.{Ground, Entry, Meant, object, fails, Deep, whole, up_to, none}
 use Rattle.step_resolver.specs.Order.{Turn, more, found, partial, failed}
-use Rattle.step_resolver.specs.WalkHistory.{Walked, begin_of, story}
+use Rattle.step_resolver.specs.WalkHistory.{WalkInHistory, begin_of, timeline}
 
 -- no event of another in the window changes what stands at that entry
-pub record IsLeftAlone (w : Walked) (entry : Entry) : Type 0 where
+pub record IsLeftAlone (w : WalkInHistory) (entry : Entry) : Type 0 where
   pub same : (t : ℕ) (event : Event) → slice_get w.window t ≡ Some event → event.actor ≢ w.actor
-      → child ((story w).nodes_at (suc t)) entry.dir entry.name ≡ child ((story w).nodes_at t) entry.dir entry.name
+      → child ((timeline w).nodes_at (suc t)) entry.dir entry.name ≡ child ((timeline w).nodes_at t) entry.dir entry.name
 
-abbrev pub AllLeftAlone : Walked → List Entry → Type 0
+abbrev pub AllLeftAlone : WalkInHistory → List Entry → Type 0
 AllLeftAlone w [] = Unit {0}
 AllLeftAlone w (entry ∷ entries) = IsLeftAlone w entry × AllLeftAlone w entries
 
 -- the ground as the window begins
-abbrev pub ground : Walked → Ground
+abbrev pub ground : WalkInHistory → Ground
 ground w = record { nodes = (begin_of w).nodes; root = w.root; flags = w.way.flags }
 
 -- an end that isn't want of memory, of room in the book or of handles

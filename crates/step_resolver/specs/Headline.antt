@@ -1,7 +1,7 @@
 -- The headline, clause by clause.
 --
 -- For every interleaving of actors' single steps,
---     `EveryWalk`: every walk in every legal history of steps (`WalkHistory.Walked`), whatever the other actors do in between;
+--     `EveryWalk`: every walk in every legal history of steps (`WalkHistory.WalkInHistory`), whatever the other actors do in between;
 -- a resolution that succeeds opens an object
 --     `Opens`: what was reached is the `node` of the handle, which is open (`new`);
 -- reached by its path's parts, each passed as the tree stood at rising moments of the call,
@@ -24,28 +24,28 @@ use Rattle.step_resolver.specs.Asked.{AskedPart, Named, follows, is_deepest}
 use Rattle.step_resolver.specs.Meaning.{Meant, Deep, is_too_long, reading_means, reads_of, reading_deepest, deep_reads}
 use Rattle.step_resolver.specs.Trail.{Spot, IsOwnFrom}
 use Rattle.step_resolver.specs.Order.{Handle, Turn, more, found, partial, failed, begins, LeadsTo}
-use Rattle.step_resolver.specs.WalkHistory.{Walked, IsWalked, begin_of, end_of, story, parts_of_walk, IsTrailTo}
+use Rattle.step_resolver.specs.WalkHistory.{WalkInHistory, IsWalkInHistory, begin_of, end_of, timeline, parts_of_walk, IsTrailTo}
 use Rattle.step_resolver.specs.Failures.{IsMissingAt, HandlesStay, TellsError}
 use Rattle.step_resolver.specs.Footprint.{ground, AllLeftAlone, is_for_want, IsMeant, IsMeantDeep, IsEnd}
 
 -- ---- what is opened
 
 -- at the walk's own event v, after all that led to the spot, it stood under the root at the names passed
-pub record StoodAt (w : Walked) (to : Spot) (v : ℕ) : Type 0 where
-  pub at : IsOwnFrom (story w) to.moment v
-  pub stands : Stands ((story w).nodes_at v) w.root to.node to.names
+pub record StoodAt (w : WalkInHistory) (to : Spot) (v : ℕ) : Type 0 where
+  pub at : IsOwnFrom (timeline w) to.moment v
+  pub stands : Stands ((timeline w).nodes_at v) w.root to.node to.names
 
 -- a handle is open and names its node, of that kind; beside it the actor's open handles are those from before
-pub record IsNewHandle (w : Walked) (handle : Handle) : Type 0 where
+pub record IsNewHandle (w : WalkInHistory) (handle : Handle) : Type 0 where
   pub is_open : held (end_of w) w.actor handle.number ≡ Some handle.node
   pub fresh : held (begin_of w) w.actor handle.number ≡ None
   pub others : (h : ℕ) → h ≢ handle.number → held (end_of w) w.actor h ≡ held (begin_of w) w.actor h
   pub what : Object
-  pub is_what : (story w).object_of handle.node ≡ Some what
+  pub is_what : (timeline w).object_of handle.node ≡ Some what
   pub kind : kind_of what ≡ handle.kind
 
 -- All parts were passed, and afterwards the object, which is open, stood under the root at the names passed.
-pub record Opens (w : Walked) (handle : Handle) (names : List (List ℕ)) : Type 0 where
+pub record Opens (w : WalkInHistory) (handle : Handle) (names : List (List ℕ)) : Type 0 where
   pub to : Spot
   pub trail : IsTrailTo w (parts_of_walk w) to
   pub node : to.node ≡ handle.node
@@ -56,19 +56,19 @@ pub record Opens (w : Walked) (handle : Handle) (names : List (List ℕ)) : Type
 
 -- ---- what the path means
 
-abbrev pub whole_meaning : Walked → Meant
+abbrev pub whole_meaning : WalkInHistory → Meant
 whole_meaning w = reading_means (ground w) w.path (follows w.way.goal)
 
 -- Where the entries that the path reads are left alone, the end is what the path means, but for want of memory, of room in the
 -- book or of handles.
-abbrev pub Means : Walked → Turn → Type 0
+abbrev pub Means : WalkInHistory → Turn → Type 0
 Means w end = IsEnd end → is_deepest w.way.goal ≡ false → is_for_want end ≡ false
     → AllLeftAlone w (reads_of (whole_meaning w)) → IsMeant (whole_meaning w) end
 
 -- ---- the deepest directory
 
 -- The same for the parts before the rest, whose first name was missing in between.
-pub record OpensDeepest (w : Walked) (handle : Handle) (names : List (List ℕ)) (rest : List AskedPart) : Type 0 where
+pub record OpensDeepest (w : WalkInHistory) (handle : Handle) (names : List (List ℕ)) (rest : List AskedPart) : Type 0 where
   pub goal : is_deepest w.way.goal ≡ true
   pub front : List AskedPart
   pub parts : parts_of_walk w ≡ front ++ rest
@@ -88,36 +88,36 @@ pub record OpensDeepest (w : Walked) (handle : Handle) (names : List (List ℕ))
   pub after : first < when
   pub new : IsNewHandle w handle
 
-abbrev pub deepest_meaning : Walked → Deep
+abbrev pub deepest_meaning : WalkInHistory → Deep
 deepest_meaning w = reading_deepest (ground w) w.path
 
-abbrev pub MeansDeepest : Walked → Turn → Type 0
+abbrev pub MeansDeepest : WalkInHistory → Turn → Type 0
 MeansDeepest w end = IsEnd end → is_deepest w.way.goal ≡ true → is_for_want end ≡ false
     → AllLeftAlone w (deep_reads (deepest_meaning w)) → IsMeantDeep (deepest_meaning w) end
 
 -- ---- the whole
 
 -- a failure was true once, and what the walk had opened is closed
-pub record TellsFailed (w : Walked) (error : Errno) : Type 0 where
+pub record TellsFailed (w : WalkInHistory) (error : Errno) : Type 0 where
   pub true_once : TellsError w error
   pub handles : HandlesStay w
 
 -- what an end tells; a walk that goes on tells nothing yet
-abbrev pub Tells : Walked → Turn → Type 0
+abbrev pub Tells : WalkInHistory → Turn → Type 0
 Tells w (more walk) = Unit {0}
 Tells w (found handle names) = Opens w handle names
 Tells w (partial handle names rest) = OpensDeepest w handle names rest
 Tells w (failed error) = TellsFailed w error
 
-pub record Headline (w : Walked) (end : Turn) : Type 0 where
+pub record Headline (w : WalkInHistory) (end : Turn) : Type 0 where
   pub tells : Tells w end
   pub means : Means w end
   pub deepest : MeansDeepest w end
 
 -- Each walk in each legal history ends so: where the lines that it was told lead it to this end.
 abbrev pub EveryWalk : Type 0
-EveryWalk = (w : Walked) (end : Turn) → IsWalked w → LeadsTo w.way (begins w.way w.path) w.lines end → Headline w end
+EveryWalk = (w : WalkInHistory) (end : Turn) → IsWalkInHistory w → LeadsTo w.way (begins w.way w.path) w.lines end → Headline w end
 
 -- the first of it alone
 abbrev pub WalksTell : Type 0
-WalksTell = (w : Walked) (end : Turn) → IsWalked w → LeadsTo w.way (begins w.way w.path) w.lines end → Tells w end
+WalksTell = (w : WalkInHistory) (end : Turn) → IsWalkInHistory w → LeadsTo w.way (begins w.way w.path) w.lines end → Tells w end

@@ -30,7 +30,7 @@ pub mod OwnSteps
 pub mod StepCount
 pub mod FootprintLaws
 pub mod View
-pub mod Taken
-pub mod Telling
+pub mod TurnView
+pub mod TurnsTell
 pub mod Plain
 pub mod Driver

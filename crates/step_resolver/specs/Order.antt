@@ -279,15 +279,15 @@ is_closing (closing h hs after) = true
 -- made, for want of memory or of room in the book.
 pub data Line : Type 0 where
   answered : StepOf ℕ → Answer → Line
-  short : StepOf ℕ → Answer → Line
-  unmade : Errno → Line
+  no_room : StepOf ℕ → Answer → Line
+  not_made : Errno → Line
 
 -- the events that an actor's lines are
 abbrev pub events_of : ℕ → List Line → List Event
 events_of a [] = []
 events_of a (answered step answer ∷ lines) = record { actor = a; step = step; answer = answer } ∷ events_of a lines
-events_of a (short step answer ∷ lines) = record { actor = a; step = step; answer = answer } ∷ events_of a lines
-events_of a (unmade error ∷ lines) = events_of a lines
+events_of a (no_room step answer ∷ lines) = record { actor = a; step = step; answer = answer } ∷ events_of a lines
+events_of a (not_made error ∷ lines) = events_of a lines
 
 -- why a step can't be made at all
 abbrev pub IsWant : Errno → Type 0
@@ -298,9 +298,9 @@ abbrev pub LeadsTo : Way → Turn → List Line → Turn → Type 0
 LeadsTo way turn [] end = turn ≡ end
 LeadsTo way (more walk) (answered step answer ∷ lines) end =
     (step ≡ due way walk) × LeadsTo way (take way true walk answer) lines end
-LeadsTo way (more walk) (short step answer ∷ lines) end =
+LeadsTo way (more walk) (no_room step answer ∷ lines) end =
     (step ≡ due way walk) × LeadsTo way (take way false walk answer) lines end
-LeadsTo way (more walk) (unmade error ∷ lines) end =
+LeadsTo way (more walk) (not_made error ∷ lines) end =
     (IsWant error) × ((is_closing walk ≡ false) × LeadsTo way (take way true walk (Refused error)) lines end)
 LeadsTo way _ (line ∷ lines) end = ⊥
 

@@ -2,7 +2,7 @@
 use Rattle.std.specs.Prelude.{◌≡◌, ℕ, suc, true, false}
 use Rattle.tree_model.specs.StepLaws.{is_on_entries}
 use Rattle.step_resolver.specs.Order.{Way, Walking, Turn, begins, due, LeadsTo}
-use Rattle.step_resolver.specs.WalkHistory.{Walked, IsWalked, story}
+use Rattle.step_resolver.specs.WalkHistory.{WalkInHistory, IsWalkInHistory, timeline}
 
 -- no step that is due makes, removes or renames an entry
 abbrev pub DueStepsLeaveEntries : Type 0
@@ -10,5 +10,5 @@ DueStepsLeaveEntries = (way : Way) (walk : Walking) → is_on_entries (due way w
 
 -- and the nodes are the same before and after each own event of a walk's window, whatever others do in between
 abbrev pub OwnEventsLeaveNodes : Type 0
-OwnEventsLeaveNodes = (w : Walked) (end : Turn) → IsWalked w → LeadsTo w.way (begins w.way w.path) w.lines end
-    → (t : ℕ) → (story w).is_own t ≡ true → (story w).nodes_at (suc t) ≡ (story w).nodes_at t
+OwnEventsLeaveNodes = (w : WalkInHistory) (end : Turn) → IsWalkInHistory w → LeadsTo w.way (begins w.way w.path) w.lines end
+    → (t : ℕ) → (timeline w).is_own t ≡ true → (timeline w).nodes_at (suc t) ≡ (timeline w).nodes_at t

@@ -4,7 +4,7 @@ use Rattle.path_text.specs.Reading.{Reading}
 use Rattle.path_text.specs.Text.{parts_of}
 use Rattle.tree_model.specs.declared.answer.Answer.{Answer}
 use Rattle.tree_model.specs.declared.answer.Answer.TheVariants.{Text, Refused}
-use Rattle.step_resolver.specs.Order.{Way, Todo, todo, After, gives, onward, judges, Walking, opening, reading, rising, judging, duping, ending, closing, Turn, more, found, partial, failed, begins, take, Line, answered, short, unmade, LeadsTo}
+use Rattle.step_resolver.specs.Order.{Way, Todo, todo, After, gives, onward, judges, Walking, opening, reading, rising, judging, duping, ending, closing, Turn, more, found, partial, failed, begins, take, Line, answered, no_room, not_made, LeadsTo}
 
 abbrev pub parts_in : Todo → ℕ
 parts_in (todo inner own b) = length inner + length own
@@ -53,9 +53,9 @@ abbrev pub parts_passed : Way → Turn → List Line → ℕ
 parts_passed way turn [] = 0
 parts_passed way (more walk) (answered step answer ∷ lines) =
     passed_by walk answer (take way true walk answer) + parts_passed way (take way true walk answer) lines
-parts_passed way (more walk) (short step answer ∷ lines) =
+parts_passed way (more walk) (no_room step answer ∷ lines) =
     passed_by walk answer (take way false walk answer) + parts_passed way (take way false walk answer) lines
-parts_passed way (more walk) (unmade error ∷ lines) =
+parts_passed way (more walk) (not_made error ∷ lines) =
     passed_by walk (Refused error) (take way true walk (Refused error)) + parts_passed way (take way true walk (Refused error)) lines
 parts_passed way _ (line ∷ lines) = 0
 

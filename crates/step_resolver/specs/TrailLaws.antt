@@ -6,27 +6,27 @@ use Rattle.tree_model.specs.State.{Stands, is_dir}
 use Rattle.tree_model.specs.Trees.{IsTree}
 use Rattle.step_resolver.specs.Asked.{AskedPart}
 use Rattle.step_resolver.specs.Meaning.{Ground, Entry, object, means}
-use Rattle.step_resolver.specs.Trail.{Story, Spot, Trail, quiet}
+use Rattle.step_resolver.specs.Trail.{Timeline, Spot, Trail, quiet}
 
 -- What leads over appended parts: a trail over the first and then what leads over the second, or a stop in the first.
-pub data Split (story : Story) (ps qs : List AskedPart) (s z : Spot) (next : Option AskedPart) : Type 0 where
-  passed : (mid : Spot) → Trail story ps s mid None → Trail story qs mid z next → Split story ps qs s z next
-  stopped : (p : AskedPart) → next ≡ Some p → Trail story ps s z (Some p) → Split story ps qs s z next
+pub data Split (timeline : Timeline) (ps qs : List AskedPart) (s z : Spot) (next : Option AskedPart) : Type 0 where
+  passed : (mid : Spot) → Trail timeline ps s mid None → Trail timeline qs mid z next → Split timeline ps qs s z next
+  stopped : (p : AskedPart) → next ≡ Some p → Trail timeline ps s z (Some p) → Split timeline ps qs s z next
 
 abbrev pub TrailsSplit : Type 0
-TrailsSplit = (story : Story) (ps qs : List AskedPart) (s z : Spot) (next : Option AskedPart) → Trail story (ps ++ qs) s z next → Split story ps qs s z next
+TrailsSplit = (timeline : Timeline) (ps qs : List AskedPart) (s z : Spot) (next : Option AskedPart) → Trail timeline (ps ++ qs) s z next → Split timeline ps qs s z next
 
 -- and the other way round
 abbrev pub TrailsAppend : Type 0
-TrailsAppend = (story : Story) (ps qs : List AskedPart) (s mid z : Spot) (next : Option AskedPart)
-    → Trail story ps s mid None → Trail story qs mid z next → Trail story (ps ++ qs) s z next
+TrailsAppend = (timeline : Timeline) (ps qs : List AskedPart) (s mid z : Spot) (next : Option AskedPart)
+    → Trail timeline ps s mid None → Trail timeline qs mid z next → Trail timeline (ps ++ qs) s z next
 
 abbrev pub StopsOfMore : Type 0
-StopsOfMore = (story : Story) (ps qs : List AskedPart) (s z : Spot) (p : AskedPart) → Trail story ps s z (Some p) → Trail story (ps ++ qs) s z (Some p)
+StopsOfMore = (timeline : Timeline) (ps qs : List AskedPart) (s z : Spot) (p : AskedPart) → Trail timeline ps s z (Some p) → Trail timeline (ps ++ qs) s z (Some p)
 
 -- moments never fall, and links left never rise
 abbrev pub MomentsAndLinks : Type 0
-MomentsAndLinks = (story : Story) (ps : List AskedPart) (s z : Spot) (next : Option AskedPart) → Trail story ps s z next
+MomentsAndLinks = (timeline : Timeline) (ps : List AskedPart) (s z : Spot) (next : Option AskedPart) → Trail timeline ps s z next
     → (s.moment ≤ z.moment) × (z.links ≤ s.links)
 
 -- so many links more were left
@@ -35,8 +35,8 @@ with_links k s = record { node = s.node; names = s.names; links = s.links + k; m
 
 -- with more links left at the beginning, as many more are left at the end
 abbrev pub MoreLinksLead : Type 0
-MoreLinksLead = (story : Story) (k : ℕ) (ps : List AskedPart) (s z : Spot) (next : Option AskedPart) → Trail story ps s z next
-    → Trail story ps (with_links k s) (with_links k z) next
+MoreLinksLead = (timeline : Timeline) (k : ℕ) (ps : List AskedPart) (s z : Spot) (next : Option AskedPart) → Trail timeline ps s z next
+    → Trail timeline ps (with_links k s) (with_links k z) next
 
 -- ---- where nothing changes
 

@@ -9,12 +9,12 @@ use Rattle.tree_model.specs.Trees.{IsState}
 use Rattle.tree_model.specs.History.{IsLegal, after_events, tree_at}
 use Rattle.step_resolver.specs.Asked.{AskedPart, asked, follows}
 use Rattle.step_resolver.specs.Meaning.{LINKS_MAX}
-use Rattle.step_resolver.specs.Trail.{Story, Spot, Trail, at_root, story_of}
+use Rattle.step_resolver.specs.Trail.{Timeline, Spot, Trail, at_root, timeline_of}
 use Rattle.step_resolver.specs.Order.{Way, Line, events_of}
 
 -- A walk in a history: the tree at the history's opening, the events before the walk, those of its window, whose they are,
 -- the root's handle with what the walk is after, the node of that handle, the path, and what the walk was told.
-pub record Walked : Type 0 where
+pub record WalkInHistory : Type 0 where
   pub opening : State
   pub before : List Event
   pub window : List Event
@@ -25,20 +25,20 @@ pub record Walked : Type 0 where
   pub lines : List Line
 
 -- the tree as the window begins, and as it ends
-abbrev pub begin_of : Walked → State
+abbrev pub begin_of : WalkInHistory → State
 begin_of w = after_events w.opening w.before
 
-abbrev pub end_of : Walked → State
+abbrev pub end_of : WalkInHistory → State
 end_of w = after_events (begin_of w) w.window
 
 -- moments count from the window's beginning
-abbrev pub state_at : Walked → ℕ → State
+abbrev pub state_at : WalkInHistory → ℕ → State
 state_at w m = tree_at (begin_of w) w.window m
 
-abbrev pub story : Walked → Story
-story w = story_of (begin_of w) w.window w.actor w.root w.way.flags
+abbrev pub timeline : WalkInHistory → Timeline
+timeline w = timeline_of (begin_of w) w.window w.actor w.root w.way.flags
 
-abbrev pub parts_of_walk : Walked → List AskedPart
+abbrev pub parts_of_walk : WalkInHistory → List AskedPart
 parts_of_walk w = asked (follows w.way.goal) w.path.parts
 
 -- the events of an actor, in their order
@@ -47,7 +47,7 @@ own_events a events = filter (λ event. event.actor == a) events
 
 -- The opening is a tree, the history is legal, the actor's own events in the window are those of the walk, and the root's
 -- handle is open, its own, and names a directory.
-pub record IsWalked (w : Walked) : Type 0 where
+pub record IsWalkInHistory (w : WalkInHistory) : Type 0 where
   pub tree : IsState w.opening
   pub legal_before : IsLegal w.opening w.before
   pub legal : IsLegal (begin_of w) w.window
@@ -56,9 +56,9 @@ pub record IsWalked (w : Walked) : Type 0 where
   pub root_is_dir : is_dir (begin_of w).nodes w.root ≡ true
 
 -- at the root, with all links left, as the window begins
-abbrev pub start : Walked → Spot
-start w = at_root (story w) LINKS_MAX 0
+abbrev pub start : WalkInHistory → Spot
+start w = at_root (timeline w) LINKS_MAX 0
 
 -- all of these parts were passed, at rising moments and with LINKS_MAX links at most
-abbrev pub IsTrailTo : Walked → List AskedPart → Spot → Type 0
-IsTrailTo w ps to = Trail (story w) ps (start w) to None
+abbrev pub IsTrailTo : WalkInHistory → List AskedPart → Spot → Type 0
+IsTrailTo w ps to = Trail (timeline w) ps (start w) to None

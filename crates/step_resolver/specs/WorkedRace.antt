@@ -13,7 +13,7 @@ use Rattle.walk_plan.specs.declared.goal.Goal.TheVariants.{Follow}
 use Rattle.step_resolver.specs.Asked.{follows}
 use Rattle.step_resolver.specs.Meaning.{reads_of, reading_means}
 use Rattle.step_resolver.specs.Order.{Line, answered, failed, begins, events_of, LeadsTo}
-use Rattle.step_resolver.specs.WalkHistory.{Walked, IsWalked}
+use Rattle.step_resolver.specs.WalkHistory.{WalkInHistory, IsWalkInHistory}
 use Rattle.step_resolver.specs.Footprint.{ground}
 use Rattle.step_resolver.specs.Headline.{Tells}
 use Rattle.step_resolver.specs.FootprintLaws.{SomeIsChanged}
@@ -55,7 +55,7 @@ lines_up =
     ∷ answered (Close 5) Done
     ∷ []
 
-abbrev pub race : Walked
+abbrev pub race : WalkInHistory
 race = record {
   opening = race_opening;
   before = [];
@@ -70,7 +70,7 @@ race = record {
 -- It is a walk in a legal history, it ends in EAGAIN, and tells why; and the entry that was changed is among those that the
 -- path reads.
 pub record RaceIsWorked : Type 0 where
-  pub walked : IsWalked race
+  pub walked : IsWalkInHistory race
   pub ends : LeadsTo race.way (begins race.way race.path) race.lines (failed Raced)
   pub tells : Tells race (failed Raced)
   pub changed : SomeIsChanged race (reads_of (reading_means (ground race) race.path (follows race.way.goal)))

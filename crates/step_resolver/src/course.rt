@@ -56,7 +56,7 @@ fn is_directory(place: &Option<Reached>) -> bool
 
 impl Course {
     ghost use Rattle.step_resolver.specs.View.{course_way, position_at, IsPlace, IsAfter, IsPending};
-    ghost use Rattle.step_resolver.specs.Taken.{next_turn, KeepsCourse, TakesOn};
+    ghost use Rattle.step_resolver.specs.TurnView.{next_turn, KeepsCourse, TakesOn};
 
     /// The handle through which the place is reached.
     pub(crate) fn handle_at(&self, place: &Option<Reached>) -> HandleNo

@@ -1,7 +1,7 @@
 //! A path resolved on a tree on which nobody else acts meanwhile: a walk, driven to its end.
 ghost use Rattle.std.specs.Prelude.{◌≡◌, ◌<◌};
 ghost use Rattle.step_resolver.specs.Order.{more, steps_left};
-ghost use Rattle.step_resolver.specs.Taken.{seen, Keeps, steps_to_come};
+ghost use Rattle.step_resolver.specs.TurnView.{turn_view, Keeps, steps_to_come};
 ghost use Rattle.step_resolver.specs.Driver.{node_of, IsReady, IsAnswer, Drives, ResolvesBelow, IsOwned, LeavesHandles, LeavesRoom};
 
 use crate::footprint_laws::quiet_walks_mean;
@@ -40,7 +40,7 @@ fn answer_due<T: Tree>(alloc: Global, tree: &mut T, actor: Actor, walk: &Walk) -
 /// Makes the step that is due on the tree, as this actor, and takes its answer. A step for which there is no memory
 /// isn't made, and is taken as refused for that. No node of the tree is changed.
 pub fn advance<T: Tree>(alloc: Global, tree: &mut T, actor: Actor, walk: Walk) -> Turn
-    ensures driven { Drives walk.way actor (T.state tree.old) (more walk.walking) (T.state tree.new) (seen walk.way.goal result) }
+    ensures driven { Drives walk.way actor (T.state tree.old) (more walk.walking) (T.state tree.new) (turn_view walk.way.goal result) }
     ensures kept { Keeps walk.owner walk.way result }
     ensures fewer { steps_to_come result < steps_left walk.walking }
 {

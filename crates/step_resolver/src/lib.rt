@@ -6,7 +6,7 @@
 //! history is the law `headline`, which `specs/Headline.antt` states clause by clause. The layers above use its
 //! parts: `walks_tell`, what each end of a walk tells, and `walks_mean`, that the end is what the path means where no
 //! other actor changes an entry that the path reads. `start` and `take` tell it themselves, by their clause
-//! `headline` (`specs/Telling.antt`).
+//! `headline` (`specs/TurnsTell.antt`).
 #![tactic(auto)]
 
 mod answers;

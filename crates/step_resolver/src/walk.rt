@@ -65,8 +65,8 @@ pub enum Turn {
 impl Walk {
     ghost use Rattle.step_resolver.specs.Order.{due, for_walk, goes_on, root_itself, steps_left};
     ghost use Rattle.step_resolver.specs.View.{way_from, course_way, opens_a_name, todo_of};
-    ghost use Rattle.step_resolver.specs.Taken.{seen, Keeps, StartsTo, TakesTo, steps_to_come, STEPS_MAX};
-    ghost use Rattle.step_resolver.specs.Telling.{TellsBegun, TellsTaken};
+    ghost use Rattle.step_resolver.specs.TurnView.{turn_view, Keeps, StartsTo, TakesTo, steps_to_come, STEPS_MAX};
+    ghost use Rattle.step_resolver.specs.TurnsTell.{TellsBegun, TellsTaken};
 
     /// Begins a walk along the path below the root (openat2(2), RESOLVE_IN_ROOT). One that goes on takes memory once.
     ///
@@ -74,12 +74,12 @@ impl Walk {
     /// (EXDEV of openat2(2)); TooLong for a first name of more than 255 bytes (ENAMETOOLONG); and where none of them
     /// comes, NoMemory, which counts as a first step that wasn't made for want of it. Such an end tells the truth of
     /// every history in which it comes, as those of `take` do.
-    #[tactic(auto, using(crate::proofs::Telling::begun_tells))]
+    #[tactic(auto, using(crate::proofs::TurnsTell::begun_tells))]
     pub fn start(alloc: Global, root: Root, path: Path, goal: Goal, flags: Flags) -> Turn
-        ensures turn { StartsTo (way_from root goal flags) path (seen goal result) }
+        ensures turn { StartsTo (way_from root goal flags) path (turn_view goal result) }
         ensures kept { Keeps root.owner (way_from root goal flags) result }
         ensures few { steps_to_come result ≤ STEPS_MAX }
-        ensures headline { TellsBegun (way_from root goal flags) path (seen goal result) }
+        ensures headline { TellsBegun (way_from root goal flags) path (turn_view goal result) }
     {
         // What every walk's end tells, which `headline` says of this first turn.
         walks_tell();
@@ -92,7 +92,7 @@ impl Walk {
 
     // The same, as the order of steps has it.
     fn first(alloc: Global, root: Root, path: Path, goal: Goal, flags: Flags) -> Turn
-        ensures turn { StartsTo (way_from root goal flags) path (seen goal result) }
+        ensures turn { StartsTo (way_from root goal flags) path (turn_view goal result) }
         ensures kept { Keeps root.owner (way_from root goal flags) result }
     {
         match Plan::new(alloc, path, goal, flags) {
@@ -104,7 +104,7 @@ impl Walk {
     // The walk at its first step, or its end. Room is asked for last, so that an end never fails for want of it.
     fn on_course(alloc: Global, mut course: Course) -> Turn
         requires { course.plan.names ≡ [] }
-        ensures turn { (room : Bool) × (seen course.plan.goal result ≡ for_walk room (goes_on (course_way course) root_itself (todo_of course.plan))) }
+        ensures turn { (room : Bool) × (turn_view course.plan.goal result ≡ for_walk room (goes_on (course_way course) root_itself (todo_of course.plan))) }
         ensures kept { Keeps course.root.owner (course_way course) result }
     {
         match course.go_on(None) {
@@ -161,12 +161,12 @@ impl Walk {
     /// root at the names passed; a failure was true at moments of the walk. Where no other actor changed an entry
     /// that the path reads, the end is what the path means (path_resolution(7)), but for want of memory, of room in
     /// the book or of handles.
-    #[tactic(auto, using(crate::proofs::Telling::taken_tells))]
+    #[tactic(auto, using(crate::proofs::TurnsTell::taken_tells))]
     pub fn take(self, alloc: Global, answer: Answer) -> Turn
-        ensures turn { TakesTo self.way self.walking answer (seen self.way.goal result) }
+        ensures turn { TakesTo self.way self.walking answer (turn_view self.way.goal result) }
         ensures kept { Keeps self.owner self.way result }
         ensures fewer { steps_to_come result < steps_left self.walking }
-        ensures headline { TellsTaken self.way self.walking answer (seen self.way.goal result) }
+        ensures headline { TellsTaken self.way self.walking answer (turn_view self.way.goal result) }
     {
         // What every walk's end tells, which `headline` says of this turn.
         walks_tell();
@@ -176,7 +176,7 @@ impl Walk {
 
     // The same, as the order of steps has it.
     fn taken(self, alloc: Global, answer: Answer) -> Turn
-        ensures turn { TakesTo self.way self.walking answer (seen self.way.goal result) }
+        ensures turn { TakesTo self.way self.walking answer (turn_view self.way.goal result) }
         ensures kept { Keeps self.owner self.way result }
     {
         let Walk { mut state } = self;

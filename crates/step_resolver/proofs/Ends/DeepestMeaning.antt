@@ -15,7 +15,7 @@ use Rattle.step_resolver.specs.Meaning.{Ground, Entry, Meant, object, fails, Dee
 use Rattle.step_resolver.specs.TrailLaws.{Split, passed, stopped}
 use Rattle.step_resolver.specs.Trail.{Spot, Trail, all, before, stay, top, climb, down, through, into, IsLinkAt}
 use Rattle.step_resolver.specs.Order.{Handle, Turn, more, found, partial, failed, root_itself, todo, begins, goes_on, LeadsTo}
-use Rattle.step_resolver.specs.WalkHistory.{Walked, begin_of, story, parts_of_walk, start}
+use Rattle.step_resolver.specs.WalkHistory.{WalkInHistory, begin_of, timeline, parts_of_walk, start}
 use Rattle.step_resolver.specs.Failures.{IsMissingAt, IsWithinLink, TellsNotFound, TellsUpFromRoot, TellsAbsoluteLink, TellsRacedUp, TellsRacedEnd, TellsRacedDeepest, TellsError}
 use Rattle.step_resolver.specs.Footprint.{ground, is_for_want, is_want, IsEnd, IsMeantDeep}
 use Rattle.step_resolver.specs.Headline.{Tells, MeansDeepest}
@@ -53,7 +53,7 @@ follows_deepest Follow e = refl
 follows_deepest NoFollow e = cc (e)
 follows_deepest Deepest e = refl
 
-module _ {w : Walked} (fits : Fits (setting w)) where
+module _ {w : WalkInHistory} (fits : Fits (setting w)) where
   abbrev G : Ground
   G = ground w
 
@@ -66,7 +66,7 @@ module _ {w : Walked} (fits : Fits (setting w)) where
       (inner.0, (inner.1, is_none-true (child (begin_of w).nodes d name) outer.1))
 
   -- what was there at any moment isn't missing
-  not_missing : (d : ℕ) (f : Bool) (name : List ℕ) (t c : ℕ) → child ((story w).nodes_at t) d name ≡ Some c → AllAlone (setting w) (record { dir = d; name = name } ∷ [])
+  not_missing : (d : ℕ) (f : Bool) (name : List ℕ) (t c : ℕ) → child ((timeline w).nodes_at t) d name ≡ Some c → AllAlone (setting w) (record { dir = d; name = name } ∷ [])
       → is_missing G d (Named f name) ≡ true → ⊥
   not_missing d f name t c e alone m =
       none-some c (sym (missing_is d f name m).1.1 ∙ sym (fits.steady (record { dir = d; name = name }) alone.0 t) ∙ e)
@@ -85,7 +85,7 @@ module _ {w : Walked} (fits : Fits (setting w)) where
       on true e = absurd (there (subst (λ m. AllAlone (setting w) (deep_reads m)) (ap (deepest_step n d b p ps) e) alone) e)
       on false e = ap (deepest_step n d b p ps) e
 
-  passed_is_there : (s mid : Spot) (p : AskedPart) → Trail (story w) (p ∷ []) s mid None → AllAlone (setting w) (entries_of s.node p) → is_missing G s.node p ≡ true → ⊥
+  passed_is_there : (s mid : Spot) (p : AskedPart) → Trail (timeline w) (p ∷ []) s mid None → AllAlone (setting w) (entries_of s.node p) → is_missing G s.node p ≡ true → ⊥
   passed_is_there s mid Cur t alone e = false≢true e
   passed_is_there s mid Up t alone e = false≢true e
   passed_is_there s mid (Named f name) (down t c is entered rest) alone e = not_missing s.node f name t c is.child alone e
@@ -99,7 +99,7 @@ module _ {w : Walked} (fits : Fits (setting w)) where
     pub alone : AllAlone (setting w) (deep_reads (deepest n G z.node rest z.links))
 
   -- one of the caller's own parts that is passed
-  one_own : (n : ℕ) (s mid : Spot) (p : AskedPart) (ps : List AskedPart) → Trail (story w) (p ∷ []) s mid None → s.links ≤ n → IsWay (setting w) s.node s.names
+  one_own : (n : ℕ) (s mid : Spot) (p : AskedPart) (ps : List AskedPart) → Trail (timeline w) (p ∷ []) s mid None → s.links ≤ n → IsWay (setting w) s.node s.names
       → AllAlone (setting w) (deep_reads (deepest n G s.node (p ∷ ps) s.links)) → Along n s mid (p ∷ []) ps
   one_own n s mid p ps t le way alone = record {
     reads = f.says.0;
@@ -129,15 +129,15 @@ module _ {w : Walked} (fits : Fits (setting w)) where
   }
 
   -- the caller's own parts that are passed
-  along : (n : ℕ) (front rest : List AskedPart) (s z : Spot) → Trail (story w) front s z None → s.links ≤ n → IsWay (setting w) s.node s.names
+  along : (n : ℕ) (front rest : List AskedPart) (s z : Spot) → Trail (timeline w) front s z None → s.links ≤ n → IsWay (setting w) s.node s.names
       → AllAlone (setting w) (deep_reads (deepest n G s.node (front ++ rest) s.links)) → Along n s z front rest
   along n [] rest s z (all m l) le way alone =
       record { reads = []; is = sym (deep_after_nothing (deepest n G s.node rest s.links)); way = way; fewer = le_refl s.links; alone = alone }
   along n (p ∷ front) rest s z t le way alone =
-      on (split (story w) (p ∷ []) front t) (λ mid v k y a. along n front rest mid z v k y a)
+      on (split (timeline w) (p ∷ []) front t) (λ mid v k y a. along n front rest mid z v k y a)
     where
-      on : Split (story w) (p ∷ []) front s z None
-          → ((mid : Spot) → Trail (story w) front mid z None → mid.links ≤ n → IsWay (setting w) mid.node mid.names
+      on : Split (timeline w) (p ∷ []) front s z None
+          → ((mid : Spot) → Trail (timeline w) front mid z None → mid.links ≤ n → IsWay (setting w) mid.node mid.names
           → AllAlone (setting w) (deep_reads (deepest n G mid.node (front ++ rest) mid.links)) → Along n mid z front rest)
           → Along n s z (p ∷ front) rest
       on (passed mid u v) further =
@@ -172,8 +172,8 @@ module _ {w : Walked} (fits : Fits (setting w)) where
   })
 
   -- a stop within the text of the link at the next of the caller's own parts
-  within_text : (n : ℕ) (s z : Spot) (name text : List ℕ) (t b : ℕ) (p : AskedPart) (ps : List AskedPart) → IsLinkAt (story w) s name t text b
-      → Trail (story w) (Named true name ∷ []) s z (Some p) → s.links ≤ n → IsWay (setting w) s.node s.names
+  within_text : (n : ℕ) (s z : Spot) (name text : List ℕ) (t b : ℕ) (p : AskedPart) (ps : List AskedPart) → IsLinkAt (timeline w) s name t text b
+      → Trail (timeline w) (Named true name ∷ []) s z (Some p) → s.links ≤ n → IsWay (setting w) s.node s.names
       → AllAlone (setting w) (deep_reads (deepest n G s.node (Named true name ∷ ps) s.links)) → InLink n s z p (Named true name ∷ ps)
   within_text n s z name text t b p ps is u le way alone = record {
     deeper = f.says.deeper;
@@ -191,7 +191,7 @@ module _ {w : Walked} (fits : Fits (setting w)) where
       f = follow fits n u le way
           (alone_in (setting w) (parts_mean (deeper_at n G) G s.node (Named true name ∷ []) s.links) (λ e c. deepest n G e ps c) (subst (λ m. AllAlone (setting w) (deep_reads m)) is_step alone))
 
-  one_stop : (n : ℕ) (s z : Spot) (q p : AskedPart) (ps : List AskedPart) → Trail (story w) (q ∷ []) s z (Some p) → s.links ≤ n → IsWay (setting w) s.node s.names
+  one_stop : (n : ℕ) (s z : Spot) (q p : AskedPart) (ps : List AskedPart) → Trail (timeline w) (q ∷ []) s z (Some p) → s.links ≤ n → IsWay (setting w) s.node s.names
       → AllAlone (setting w) (deep_reads (deepest n G s.node (q ∷ ps) s.links)) → DeepStop n s z p (q ∷ ps)
   one_stop n s z q p ps (before m l) le way alone = at_own ps [] (sym (deep_after_nothing (deepest n G s.node (q ∷ ps) s.links))) way alone
   one_stop n s z Cur p ps (stay dir t) le way alone = absurd (no_stop t)
@@ -201,19 +201,19 @@ module _ {w : Walked} (fits : Fits (setting w)) where
   one_stop n s z (Named f name) p ps (through t text b mid is sub rest) le way alone = absurd (no_stop rest)
   one_stop n s z (Named f name) p ps (into t text b is sub) le way alone = in_link (within_text n s z name text t b p ps is (into t text b is sub) le way alone)
 
-  deep_stop : (n : ℕ) (ps : List AskedPart) (s z : Spot) (p : AskedPart) → Trail (story w) ps s z (Some p) → s.links ≤ n → IsWay (setting w) s.node s.names
+  deep_stop : (n : ℕ) (ps : List AskedPart) (s z : Spot) (p : AskedPart) → Trail (timeline w) ps s z (Some p) → s.links ≤ n → IsWay (setting w) s.node s.names
       → AllAlone (setting w) (deep_reads (deepest n G s.node ps s.links)) → DeepStop n s z p ps
   deep_stop n [] s z p t le way alone = absurd (no_stop t)
-  deep_stop n (q ∷ ps) s z p t le way alone = on (split (story w) (q ∷ []) ps t) (λ mid v k y a. deep_stop n ps mid z p v k y a)
+  deep_stop n (q ∷ ps) s z p t le way alone = on (split (timeline w) (q ∷ []) ps t) (λ mid v k y a. deep_stop n ps mid z p v k y a)
     where
-      on : Split (story w) (q ∷ []) ps s z (Some p)
-          → ((mid : Spot) → Trail (story w) ps mid z (Some p) → mid.links ≤ n → IsWay (setting w) mid.node mid.names
+      on : Split (timeline w) (q ∷ []) ps s z (Some p)
+          → ((mid : Spot) → Trail (timeline w) ps mid z (Some p) → mid.links ≤ n → IsWay (setting w) mid.node mid.names
           → AllAlone (setting w) (deep_reads (deepest n G mid.node ps mid.links)) → DeepStop n mid z p ps)
           → DeepStop n s z p (q ∷ ps)
       on (passed mid u v) further =
           let first = one_own n s mid q ps u le way alone in
           deep_stop_after n s mid z p q ps first (further mid v (le_trans first.fewer le) first.way first.alone)
-      on (stopped r e u) further = one_stop n s z q p ps (subst (Trail (story w) (q ∷ []) s z) (sym e) u) le way alone
+      on (stopped r e u) further = one_stop n s z q p ps (subst (Trail (timeline w) (q ∷ []) s z) (sym e) u) le way alone
 
   -- ---- the ends
 
@@ -246,7 +246,7 @@ module _ {w : Walked} (fits : Fits (setting w)) where
           subst (λ m. IsMeantDeep m (failed error))
           (sym (is ∙ ap (deep_after reads) (step ∙ ap (λ m. and_then_deep (and_then m (λ y c. object y c [])) (λ y c. deepest LINKS_MAX G y rest c)) e.1))) refl
 
-      stop_of : (z : Spot) (p : AskedPart) → Trail (story w) (parts_of_walk w) (start w) z (Some p) → DeepStop LINKS_MAX (start w) z p (parts_of_walk w)
+      stop_of : (z : Spot) (p : AskedPart) → Trail (timeline w) (parts_of_walk w) (start w) z (Some p) → DeepStop LINKS_MAX (start w) z p (parts_of_walk w)
       stop_of z p t = deep_stop LINKS_MAX (parts_of_walk w) (start w) z p t (le_refl LINKS_MAX) refl alone
 
       way_of : {z : Spot} {p : AskedPart} {ps : List AskedPart} → DeepStop LINKS_MAX (start w) z p ps → IsWay (setting w) z.node z.names
@@ -273,7 +273,7 @@ module _ {w : Walked} (fits : Fits (setting w)) where
           there = within_text LINKS_MAX is.mid tells.to is.name is.text is.when is.left (Named tells.follow tells.name) is.rest is.link
               (into is.when is.text is.left is.link is.stop) a.fewer a.way a.alone
 
-      no_dir_no_missing : (z : Spot) (p : AskedPart) (what : Object) → IsWay (setting w) z.node z.names → (story w).object_of z.node ≡ Some what → is_directory (Some what) ≡ false
+      no_dir_no_missing : (z : Spot) (p : AskedPart) (what : Object) → IsWay (setting w) z.node z.names → (timeline w).object_of z.node ≡ Some what → is_directory (Some what) ≡ false
           → is_missing G z.node p ≡ true → ⊥
       no_dir_no_missing z Cur what way is no_dir e = false≢true e
       no_dir_no_missing z Up what way is no_dir e = false≢true e
@@ -298,7 +298,7 @@ module _ {w : Walked} (fits : Fits (setting w)) where
           (λ a e. not_missing tells.to.node true tells.name tells.when tells.link.link tells.link.child a e)
 
       -- the trail over all parts, or over those before a missing one
-      along_to : (front rest : List AskedPart) → parts_of_walk w ≡ front ++ rest → (z : Spot) → Trail (story w) front (start w) z None → Along LINKS_MAX (start w) z front rest
+      along_to : (front rest : List AskedPart) → parts_of_walk w ≡ front ++ rest → (z : Spot) → Trail (timeline w) front (start w) z None → Along LINKS_MAX (start w) z front rest
       along_to front rest e z t = along LINKS_MAX front rest (start w) z t (le_refl LINKS_MAX) refl
           (subst (λ ps. AllAlone (setting w) (deep_reads (path_deepest (ground w) ps))) e alone)
 

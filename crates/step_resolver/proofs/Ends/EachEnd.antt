@@ -11,8 +11,8 @@ use Rattle.tree_model.specs.Steps.{held}
 use Rattle.step_resolver.specs.Asked.{AskedPart}
 use Rattle.step_resolver.specs.Meaning.{LINKS_MAX}
 use Rattle.step_resolver.specs.Trail.{Trail}
-use Rattle.step_resolver.specs.Order.{Handle, root_itself, holds, todo, Walking, opening, reading, rising, judging, duping, ending, closing, Turn, more, found, partial, failed, begins, goes_on, take, due, IsWant, Line, answered, short, unmade, LeadsTo}
-use Rattle.step_resolver.specs.WalkHistory.{Walked, end_of, story, parts_of_walk, start}
+use Rattle.step_resolver.specs.Order.{Handle, root_itself, holds, todo, Walking, opening, reading, rising, judging, duping, ending, closing, Turn, more, found, partial, failed, begins, goes_on, take, due, IsWant, Line, answered, no_room, not_made, LeadsTo}
+use Rattle.step_resolver.specs.WalkHistory.{WalkInHistory, end_of, timeline, parts_of_walk, start}
 use Rattle.step_resolver.specs.Failures.{TellsError, TellsWant, MetRefusal}
 use Rattle.step_resolver.specs.Headline.{IsNewHandle, Opens, OpensDeepest, Tells}
 use Rattle.step_resolver.proofs.Underway.WalkInvariant.{Lived, StepAt, Happens, held_at, HandlesAre, IsHeld, spot_at, Going, no_stop, trail_at, EndsAt, at_all, at_missing, GoodWalk, FoundAt, Good}
@@ -20,9 +20,9 @@ use Rattle.step_resolver.proofs.Underway.NextPart.{goes_on_good}
 use Rattle.step_resolver.proofs.Underway.AfterOpen.{opening_good}
 use Rattle.step_resolver.proofs.Underway.AfterReadLink.{reading_good}
 use Rattle.step_resolver.proofs.Underway.AfterParent.{rising_good, judging_good}
-use Rattle.step_resolver.proofs.Underway.AfterDupAndClose.{duping_good, ending_good, closing_good, unmade_good}
+use Rattle.step_resolver.proofs.Underway.AfterDupAndClose.{duping_good, ending_good, closing_good, not_made_good}
 
-module _ {w : Walked} (lived : Lived w) where
+module _ {w : WalkInHistory} (lived : Lived w) where
   -- what any answer makes of a walk
   pub take_good : (room : Bool) → (room ≡ false → TellsError w NoMemory) → (now t : ℕ) (walk : Walking) → GoodWalk w now walk → (answer : Answer)
       → StepAt w now t (due w.way walk) answer → (answer ≡ Refused TooMany → MetRefusal (due w.way walk) w.lines) → Good w (suc t) (take w.way room walk answer)
@@ -50,7 +50,7 @@ module _ {w : Walked} (lived : Lived w) where
       → Opens w handle names
   found_tells {handle = handle} {names = names} kept f = record {
     to = spot_at w (holds handle names) f.links f.m;
-    trail = subst (λ ps. Trail (story w) ps (start w) (spot_at w (holds handle names) f.links f.m) None) (sym (f.going.parts ∙ append-nil f.going.taken)) (trail_at f.going);
+    trail = subst (λ ps. Trail (timeline w) ps (start w) (spot_at w (holds handle names) f.links f.m) None) (sym (f.going.parts ∙ append-nil f.going.taken)) (trail_at f.going);
     node = refl;
     passed = refl;
     when = f.when;
@@ -98,14 +98,14 @@ module _ {w : Walked} (lived : Lived w) where
       (take_good true (λ e. cc (e)) now happens.0 walk good answer (subst (λ s. StepAt w now happens.0 s answer) leads.0 happens.1.0)
       (λ e. mets (due w.way walk) (inl (leads.0, e))))
       happens.1.1 leads.1 (λ error is want. wants error is (inr want)) (λ s m. mets s (inr m))
-  lines_tell (short step answer ∷ lines) now (more walk) end good happens leads wants mets =
+  lines_tell (no_room step answer ∷ lines) now (more walk) end good happens leads wants mets =
       lines_tell lines (suc happens.0) (take w.way false walk answer) end
       (take_good false (λ e. wants NoMemory (inl refl) (inl refl)) now happens.0 walk good answer (subst (λ s. StepAt w now happens.0 s answer) leads.0 happens.1.0)
       (λ e. mets (due w.way walk) (inl (leads.0, e))))
       happens.1.1 leads.1 (λ error is want. wants error is (inr want)) (λ s m. mets s (inr m))
-  lines_tell (unmade error ∷ lines) now (more walk) end good happens leads wants mets =
+  lines_tell (not_made error ∷ lines) now (more walk) end good happens leads wants mets =
       lines_tell lines now (take w.way true walk _) end
-      (unmade_good lived now error leads.0 (wants error leads.0 (inl refl)) walk leads.1.0 good)
+      (not_made_good lived now error leads.0 (wants error leads.0 (inl refl)) walk leads.1.0 good)
       happens leads.1.1 (λ cause is want. wants cause is (inr want)) (λ s m. mets s (inr m))
   lines_tell (line ∷ lines) now (found handle names) end good happens leads wants mets = absurd leads
   lines_tell (line ∷ lines) now (partial handle names rest) end good happens leads wants mets = absurd leads

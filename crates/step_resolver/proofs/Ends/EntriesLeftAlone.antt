@@ -12,8 +12,8 @@ use Rattle.tree_model.specs.History.{after_event, tree_at}
 use Rattle.tree_model.specs.StepLaws.{NodesAreLeft, is_on_entries}
 use Rattle.tree_model.specs.PlaceLaws.{StandsAtOneWay}
 use Rattle.step_resolver.specs.Meaning.{Entry}
-use Rattle.step_resolver.specs.Order.{Way, Walking, opening, reading, rising, judging, duping, ending, closing, Turn, more, found, partial, failed, take as takes, due, Line, answered, short, unmade, events_of, LeadsTo}
-use Rattle.step_resolver.specs.WalkHistory.{Walked, begin_of, state_at, story, own_events}
+use Rattle.step_resolver.specs.Order.{Way, Walking, opening, reading, rising, judging, duping, ending, closing, Turn, more, found, partial, failed, take as takes, due, Line, answered, no_room, not_made, events_of, LeadsTo}
+use Rattle.step_resolver.specs.WalkHistory.{WalkInHistory, begin_of, state_at, timeline, own_events}
 use Rattle.step_resolver.specs.Footprint.{IsLeftAlone}
 use Rattle.step_resolver.proofs.Meaning.NodesAtEntries.{entry, place_at-child}
 
@@ -36,9 +36,9 @@ pub lines_only_tell : (a : ℕ) (way : Way) (lines : List Line) (turn end : Turn
 lines_only_tell a way [] turn end leads = tt
 lines_only_tell a way (answered step answer ∷ lines) (more walk) end leads =
     (ap is_on_entries leads.0 ∙ due_tells way walk, lines_only_tell a way lines (takes way true walk answer) end leads.1)
-lines_only_tell a way (short step answer ∷ lines) (more walk) end leads =
+lines_only_tell a way (no_room step answer ∷ lines) (more walk) end leads =
     (ap is_on_entries leads.0 ∙ due_tells way walk, lines_only_tell a way lines (takes way false walk answer) end leads.1)
-lines_only_tell a way (unmade error ∷ lines) (more walk) end leads = lines_only_tell a way lines _ end leads.1.1
+lines_only_tell a way (not_made error ∷ lines) (more walk) end leads = lines_only_tell a way lines _ end leads.1.1
 lines_only_tell a way (line ∷ lines) (found handle names) end leads = absurd leads
 lines_only_tell a way (line ∷ lines) (partial handle names rest) end leads = absurd leads
 lines_only_tell a way (line ∷ lines) (failed error) end leads = absurd leads
@@ -72,19 +72,19 @@ past_the_end s (first ∷ events) zero e = absurd (none-some first (sym e))
 past_the_end s (first ∷ events) (suc t) e = past_the_end (after_event s first) events t e
 
 -- an entry that is left alone is the same at each moment
-pub steady : NodesAreLeft → (w : Walked) → AllTell (own_events w.actor w.window) → (e : Entry) → IsLeftAlone w e
-    → (t : ℕ) → child ((story w).nodes_at t) e.dir e.name ≡ child (begin_of w).nodes e.dir e.name
+pub steady : NodesAreLeft → (w : WalkInHistory) → AllTell (own_events w.actor w.window) → (e : Entry) → IsLeftAlone w e
+    → (t : ℕ) → child ((timeline w).nodes_at t) e.dir e.name ≡ child (begin_of w).nodes e.dir e.name
 steady left w tells e alone zero = refl
 steady left w tells e alone (suc t) = on (slice_get w.window t) refl ∙ steady left w tells e alone t
   where
     on_event : (event : Event) → slice_get w.window t ≡ Some event → (b : Bool) → (event.actor == w.actor) ≡ b
-        → child ((story w).nodes_at (suc t)) e.dir e.name ≡ child ((story w).nodes_at t) e.dir e.name
+        → child ((timeline w).nodes_at (suc t)) e.dir e.name ≡ child ((timeline w).nodes_at t) e.dir e.name
     on_event event q true own = ap (λ nodes. child nodes e.dir e.name)
         (ap (λ s. s.nodes) (next_moment (begin_of w) w.window t event q)
         ∙ left (state_at w t) event.actor event.step (own_tells w.actor w.window tells t event q own))
     on_event event q false other = alone.same t event q (eqb-false event.actor w.actor other)
 
-    on : (o : Option Event) → slice_get w.window t ≡ o → child ((story w).nodes_at (suc t)) e.dir e.name ≡ child ((story w).nodes_at t) e.dir e.name
+    on : (o : Option Event) → slice_get w.window t ≡ o → child ((timeline w).nodes_at (suc t)) e.dir e.name ≡ child ((timeline w).nodes_at t) e.dir e.name
     on None q = ap (λ s. child s.nodes e.dir e.name) (past_the_end (begin_of w) w.window t q)
     on (Some event) q = on_event event q (event.actor == w.actor) refl
 

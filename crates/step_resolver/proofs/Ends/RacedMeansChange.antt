@@ -11,7 +11,7 @@ use Rattle.step_resolver.specs.Asked.{asked, follows, is_deepest}
 use Rattle.step_resolver.specs.Meaning.{Entry, Meant, object, fails, LINKS_MAX, path_means, reading_means, reads_of, Deep, whole, up_to, none, path_deepest, reading_deepest}
 use Rattle.step_resolver.specs.MeaningLaws.{meant_by, is_of_parts}
 use Rattle.step_resolver.specs.Order.{failed}
-use Rattle.step_resolver.specs.WalkHistory.{Walked, begin_of, parts_of_walk}
+use Rattle.step_resolver.specs.WalkHistory.{WalkInHistory, begin_of, parts_of_walk}
 use Rattle.step_resolver.specs.Footprint.{IsLeftAlone, AllLeftAlone, ground, IsMeant, IsMeantDeep}
 use Rattle.step_resolver.specs.Headline.{Means, MeansDeepest}
 use Rattle.step_resolver.specs.FootprintLaws.{IsChanged, SomeIsChanged, RacedTellsOfChange}
@@ -62,13 +62,13 @@ module _ (a : ℕ) (e : Entry) where
       on (inl further) = first further (event.actor == a) refl
       on (inr c) = inr (record { when = suc c.when; event = c.event; is_event = c.is_event; by_other = c.by_other; changed = c.changed })
 
-alone_or_changed : (w : Walked) (e : Entry) → IsLeftAlone w e ⊎ IsChanged w e
+alone_or_changed : (w : WalkInHistory) (e : Entry) → IsLeftAlone w e ⊎ IsChanged w e
 alone_or_changed w e =
     ⊎_elim (λ alone. inl (record { same = alone }))
     (λ c. inr (record { when = c.when; event = c.event; is_event = c.is_event; by_other = c.by_other; changed = c.changed }))
     (decided w.actor e w.window (begin_of w))
 
-all_alone_or_changed : (w : Walked) (entries : List Entry) → AllLeftAlone w entries ⊎ SomeIsChanged w entries
+all_alone_or_changed : (w : WalkInHistory) (entries : List Entry) → AllLeftAlone w entries ⊎ SomeIsChanged w entries
 all_alone_or_changed w [] = inl tt
 all_alone_or_changed w (e ∷ entries) =
     ⊎_elim
@@ -87,7 +87,7 @@ raced_is_not_deep (whole x b reads) other h = h
 raced_is_not_deep (up_to x b rest reads) other h = h
 raced_is_not_deep (none error reads) other h = other error reads refl (sym h)
 
-module _ (w : Walked) where
+module _ (w : WalkInHistory) where
   abbrev meaning : Meant
   meaning = reading_means (ground w) w.path (follows w.way.goal)
 

@@ -14,19 +14,19 @@ use Rattle.tree_model.specs.declared.inode.Object.TheVariants.{Dir, File, Link}
 use Rattle.tree_model.specs.State.{TOP, object_at, place_at, child, parent, is_dir, is_directory, Stands}
 use Rattle.step_resolver.specs.Asked.{AskedPart, Cur, Up, Named, followed}
 use Rattle.step_resolver.specs.Meaning.{Ground, Entry, Meant, object, fails, Deeper, after_reads, and_then, link_in, child_is, named, above, one_part, part_means, parts_mean, is_too_long, crosses, from_of, reads_of}
-use Rattle.step_resolver.specs.Trail.{Story, Spot, Trail, all, before, stay, top, climb, down, through, into, IsChildAt, IsLinkAt, is_entered}
+use Rattle.step_resolver.specs.Trail.{Timeline, Spot, Trail, all, before, stay, top, climb, down, through, into, IsChildAt, IsLinkAt, is_entered}
 use Rattle.step_resolver.proofs.Meaning.NodesAtEntries.{entry, place_at-child, object_at-place}
 use Rattle.step_resolver.proofs.Meaning.PartsAndLinks.{deeper_at, means_by}
 
--- Where a meaning is compared with what is passed: a story, the nodes in which the path means something, and which entries
+-- Where a meaning is compared with what is passed: a timeline, the nodes in which the path means something, and which entries
 -- are left alone.
 pub record Setting : Type 1 where
-  pub story : Story
+  pub timeline : Timeline
   pub nodes : List Inode
   pub IsAlone : Entry → Type 0
 
 abbrev pub ground_in : Setting → Ground
-ground_in w = record { nodes = w.nodes; root = w.story.root; flags = w.story.flags }
+ground_in w = record { nodes = w.nodes; root = w.timeline.root; flags = w.timeline.flags }
 
 abbrev pub AllAlone : Setting → List Entry → Type 0
 AllAlone w [] = Unit {0}
@@ -34,17 +34,17 @@ AllAlone w (entry ∷ entries) = w.IsAlone entry × AllAlone w entries
 
 -- entries that are left alone are at each moment what they are in the nodes
 pub record Fits (w : Setting) : Type 0 where
-  pub objects : (x : ℕ) (object : Object) → object_at w.nodes x ≡ Some object → w.story.object_of x ≡ Some object
-  pub first : w.story.nodes_at 0 ≡ w.nodes
-  pub top_free : (t : ℕ) → place_at (w.story.nodes_at t) TOP ≡ None
-  pub steady : (e : Entry) → w.IsAlone e → (t : ℕ) → child (w.story.nodes_at t) e.dir e.name ≡ child w.nodes e.dir e.name
-  pub no_root_below : (d : ℕ) (names : List (List ℕ)) (n : List ℕ) → Stands (w.story.nodes_at 0) w.story.root d names → child w.nodes d n ≡ Some w.story.root → ⊥
-  pub root_dir : is_dir w.nodes w.story.root ≡ true
+  pub objects : (x : ℕ) (object : Object) → object_at w.nodes x ≡ Some object → w.timeline.object_of x ≡ Some object
+  pub first : w.timeline.nodes_at 0 ≡ w.nodes
+  pub top_free : (t : ℕ) → place_at (w.timeline.nodes_at t) TOP ≡ None
+  pub steady : (e : Entry) → w.IsAlone e → (t : ℕ) → child (w.timeline.nodes_at t) e.dir e.name ≡ child w.nodes e.dir e.name
+  pub no_root_below : (d : ℕ) (names : List (List ℕ)) (n : List ℕ) → Stands (w.timeline.nodes_at 0) w.timeline.root d names → child w.nodes d n ≡ Some w.timeline.root → ⊥
+  pub root_dir : is_dir w.nodes w.timeline.root ≡ true
 
 -- the way from the root to a node in the tree as the window begins, the names innermost first, by entries that are left alone
 abbrev pub IsWay : Setting → ℕ → List (List ℕ) → Type 0
-IsWay w x [] = x ≡ w.story.root
-IsWay w x (n ∷ names) = (x ≢ w.story.root) × ((d : ℕ) × ((child w.nodes d n ≡ Some x)
+IsWay w x [] = x ≡ w.timeline.root
+IsWay w x (n ∷ names) = (x ≢ w.timeline.root) × ((d : ℕ) × ((child w.nodes d n ≡ Some x)
     × (w.IsAlone (record { dir = d; name = n }) × IsWay w d names)))
 
 -- ---- entries of which all are left alone
@@ -112,37 +112,37 @@ module _ {w : Setting} (fits : Fits w) where
       (object_at-place w.nodes x (entry way.1.0 n) (place_at-child w.nodes way.1.0 n x way.1.1.0))
 
   -- what a node on the way is, at the window's beginning as for good
-  pub same_object : (x : ℕ) (names : List (List ℕ)) → IsWay w x names → object_at w.nodes x ≡ w.story.object_of x
+  pub same_object : (x : ℕ) (names : List (List ℕ)) → IsWay w x names → object_at w.nodes x ≡ w.timeline.object_of x
   same_object x names way = let o = on_way x names way in o.1 ∙ sym (fits.objects x o.0 o.1)
 
-  pub same_dir : (x : ℕ) (names : List (List ℕ)) → IsWay w x names → is_directory (w.story.object_of x) ≡ true → is_dir w.nodes x ≡ true
+  pub same_dir : (x : ℕ) (names : List (List ℕ)) → IsWay w x names → is_directory (w.timeline.object_of x) ≡ true → is_dir w.nodes x ≡ true
   same_dir x names way d = ap is_directory (same_object x names way) ∙ d
 
   -- a node on the way stands there at each moment
-  pub stands_on : (t x : ℕ) (names : List (List ℕ)) → IsWay w x names → Stands (w.story.nodes_at t) w.story.root x names
+  pub stands_on : (t x : ℕ) (names : List (List ℕ)) → IsWay w x names → Stands (w.timeline.nodes_at t) w.timeline.root x names
   stands_on t x [] way = way
   stands_on t x (n ∷ names) way = (
     way.0,
     (
       way.1.0,
       (
-        place_at-child (w.story.nodes_at t) way.1.0 n x (fits.steady (record { dir = way.1.0; name = n }) way.1.1.1.0 t ∙ way.1.1.0),
+        place_at-child (w.timeline.nodes_at t) way.1.0 n x (fits.steady (record { dir = way.1.0; name = n }) way.1.1.1.0 t ∙ way.1.1.0),
         stands_on t way.1.0 names way.1.1.1.1,
       ),
     ),
   )
 
   -- and its parent is the one on the way
-  pub parent_on : (t x : ℕ) (n : List ℕ) (names : List (List ℕ)) → (way : IsWay w x (n ∷ names)) → parent (w.story.nodes_at t) x ≡ Some way.1.0
-  parent_on t x n names way = ap (λ b. if b then Some TOP else option_map (λ place. place.parent) (place_at (w.story.nodes_at t) x)) not_the_top
+  pub parent_on : (t x : ℕ) (n : List ℕ) (names : List (List ℕ)) → (way : IsWay w x (n ∷ names)) → parent (w.timeline.nodes_at t) x ≡ Some way.1.0
+  parent_on t x n names way = ap (λ b. if b then Some TOP else option_map (λ place. place.parent) (place_at (w.timeline.nodes_at t) x)) not_the_top
       ∙ ap (option_map (λ place. place.parent)) placed
     where
-      placed : place_at (w.story.nodes_at t) x ≡ Some (entry way.1.0 n)
-      placed = place_at-child (w.story.nodes_at t) way.1.0 n x (fits.steady (record { dir = way.1.0; name = n }) way.1.1.1.0 t ∙ way.1.1.0)
+      placed : place_at (w.timeline.nodes_at t) x ≡ Some (entry way.1.0 n)
+      placed = place_at-child (w.timeline.nodes_at t) way.1.0 n x (fits.steady (record { dir = way.1.0; name = n }) way.1.1.1.0 t ∙ way.1.1.0)
 
       not_the_top : (x == TOP) ≡ false
       not_the_top = false_from_ne_true (x == TOP)
-          (λ e. none-some (entry way.1.0 n) (sym (fits.top_free t) ∙ ap (place_at (w.story.nodes_at t)) (sym (eqb-true x TOP e)) ∙ placed))
+          (λ e. none-some (entry way.1.0 n) (sym (fits.top_free t) ∙ ap (place_at (w.timeline.nodes_at t)) (sym (eqb-true x TOP e)) ∙ placed))
 
   -- a child that is entered is on the way
   pub down_way : (d c : ℕ) (n : List ℕ) (names : List (List ℕ)) → IsWay w d names → w.IsAlone (record { dir = d; name = n })
@@ -168,14 +168,14 @@ module _ {w : Setting} (fits : Fits w) where
   pub up_in : (deeper : Deeper) (x : ℕ) (n : List ℕ) (names : List (List ℕ)) (b : ℕ) → is_dir w.nodes x ≡ true → (way : IsWay w x (n ∷ names))
       → part_means deeper G x Up b ≡ object way.1.0 b []
   up_in deeper x n names b e way = part_in deeper x Up b e
-      ∙ ap (λ t. if t then (if w.story.flags.beneath then fails CrossRoot [] else object x b []) else above b (parent w.nodes x))
-      (false_from_ne_true (x == w.story.root) (λ q. way.0 (eqb-true x w.story.root q)))
+      ∙ ap (λ t. if t then (if w.timeline.flags.beneath then fails CrossRoot [] else object x b []) else above b (parent w.nodes x))
+      (false_from_ne_true (x == w.timeline.root) (λ q. way.0 (eqb-true x w.timeline.root q)))
       ∙ ap (above b) (ap (λ nodes. parent nodes x) (sym fits.first) ∙ parent_on 0 x n names way)
 
-  pub top_in : (deeper : Deeper) (x : ℕ) (b : ℕ) → is_dir w.nodes x ≡ true → x ≡ w.story.root
-      → part_means deeper G x Up b ≡ (if w.story.flags.beneath then fails CrossRoot [] else object x b [])
+  pub top_in : (deeper : Deeper) (x : ℕ) (b : ℕ) → is_dir w.nodes x ≡ true → x ≡ w.timeline.root
+      → part_means deeper G x Up b ≡ (if w.timeline.flags.beneath then fails CrossRoot [] else object x b [])
   top_in deeper x b e q = part_in deeper x Up b e
-      ∙ ap (λ t. if t then (if w.story.flags.beneath then fails CrossRoot [] else object x b []) else above b (parent w.nodes x)) (eq-eqb x w.story.root q)
+      ∙ ap (λ t. if t then (if w.timeline.flags.beneath then fails CrossRoot [] else object x b []) else above b (parent w.nodes x)) (eq-eqb x w.timeline.root q)
 
   entered_is : (deeper : Deeper) (d : ℕ) (follow : Bool) (b c : ℕ) (o : Option Object) → is_entered follow o ≡ true → child_is deeper G d follow b c o ≡ object c b []
   entered_is deeper d true b c None e = refl
@@ -209,9 +209,9 @@ module _ {w : Setting} (fits : Fits w) where
     pub alone : w.IsAlone (record { dir = s.node; name = name })
     pub way : IsWay w c (name ∷ s.names)
     pub part : part_means (deeper_at n G) G s.node (Named follow name) s.links
-        ≡ after_reads (record { dir = s.node; name = name } ∷ []) (child_is (deeper_at n G) G s.node follow s.links c (w.story.object_of c))
+        ≡ after_reads (record { dir = s.node; name = name } ∷ []) (child_is (deeper_at n G) G s.node follow s.links c (w.timeline.object_of c))
 
-  read_name : (n : ℕ) (s : Spot) (follow : Bool) (name : List ℕ) (ps : List AskedPart) (t c : ℕ) → IsChildAt w.story s name t c → IsWay w s.node s.names
+  read_name : (n : ℕ) (s : Spot) (follow : Bool) (name : List ℕ) (ps : List AskedPart) (t c : ℕ) → IsChildAt w.timeline s name t c → IsWay w s.node s.names
       → AllAlone w (reads_of (parts_mean (deeper_at n G) G s.node (Named follow name ∷ ps) s.links)) → IsRead n s follow name c
   read_name n s follow name ps t c is way alone = record {
     alone = here.0;
@@ -241,40 +241,40 @@ module _ {w : Setting} (fits : Fits w) where
     pub fuel : ℕ
     pub enough : b ≤ fuel
     pub part : part_means (deeper_at n G) G s.node (Named true name) s.links
-        ≡ after_reads (record { dir = s.node; name = name } ∷ []) (parts_mean (deeper_at fuel G) G (from_of w.story.root s.node text) (followed (parts_of text)) b)
-    pub alone : AllAlone w (reads_of (parts_mean (deeper_at fuel G) G (from_of w.story.root s.node text) (followed (parts_of text)) b))
+        ≡ after_reads (record { dir = s.node; name = name } ∷ []) (parts_mean (deeper_at fuel G) G (from_of w.timeline.root s.node text) (followed (parts_of text)) b)
+    pub alone : AllAlone w (reads_of (parts_mean (deeper_at fuel G) G (from_of w.timeline.root s.node text) (followed (parts_of text)) b))
 
-  link_is : (deeper : Deeper) (d b : ℕ) (text : List ℕ) → w.story.flags.no_links ≡ false → crosses w.story.flags text ≡ false
-      → link_in deeper G d text (suc b) ≡ deeper (from_of w.story.root d text) (followed (parts_of text)) b
+  link_is : (deeper : Deeper) (d b : ℕ) (text : List ℕ) → w.timeline.flags.no_links ≡ false → crosses w.timeline.flags text ≡ false
+      → link_in deeper G d text (suc b) ≡ deeper (from_of w.timeline.root d text) (followed (parts_of text)) b
   link_is deeper d b text allowed within =
-      ap (λ x. if x then fails Loop [] else (if crosses w.story.flags text then fails CrossRoot [] else deeper (from_of w.story.root d text) (followed (parts_of text)) b)) allowed
-      ∙ ap (λ x. if x then fails CrossRoot [] else deeper (from_of w.story.root d text) (followed (parts_of text)) b) within
+      ap (λ x. if x then fails Loop [] else (if crosses w.timeline.flags text then fails CrossRoot [] else deeper (from_of w.timeline.root d text) (followed (parts_of text)) b)) allowed
+      ∙ ap (λ x. if x then fails CrossRoot [] else deeper (from_of w.timeline.root d text) (followed (parts_of text)) b) within
 
-  read_link : (n : ℕ) (s : Spot) (name : List ℕ) (ps : List AskedPart) (t b : ℕ) (text : List ℕ) → s.links ≤ n → IsLinkAt w.story s name t text b → IsWay w s.node s.names
+  read_link : (n : ℕ) (s : Spot) (name : List ℕ) (ps : List AskedPart) (t b : ℕ) (text : List ℕ) → s.links ≤ n → IsLinkAt w.timeline s name t text b → IsWay w s.node s.names
       → AllAlone w (reads_of (parts_mean (deeper_at n G) G s.node (Named true name ∷ ps) s.links)) → IsThrough n s name text b
   read_link zero s name ps t b text le is way alone = absurd (not-suc-le-zero (subst (λ k. k ≤ zero) is.links le))
   read_link (suc n) s name ps t b text le is way alone = record {
     fuel = n;
     enough = le_of_suc-le-suc (subst (λ k. k ≤ suc n) is.links le);
     part = part_is;
-    alone = (alone_here w (record { dir = s.node; name = name }) (parts_mean (deeper_at n G) G (from_of w.story.root s.node text) (followed (parts_of text)) b)
+    alone = (alone_here w (record { dir = s.node; name = name }) (parts_mean (deeper_at n G) G (from_of w.timeline.root s.node text) (followed (parts_of text)) b)
         (subst (λ m. AllAlone w (reads_of m)) part_is
         (alone_of w (part_means (deeper_at (suc n) G) G s.node (Named true name) s.links) (λ e k. parts_mean (deeper_at (suc n) G) G e ps k) alone))).1;
   }
     where
       part_is : part_means (deeper_at (suc n) G) G s.node (Named true name) s.links
-          ≡ after_reads (record { dir = s.node; name = name } ∷ []) (parts_mean (deeper_at n G) G (from_of w.story.root s.node text) (followed (parts_of text)) b)
+          ≡ after_reads (record { dir = s.node; name = name } ∷ []) (parts_mean (deeper_at n G) G (from_of w.timeline.root s.node text) (followed (parts_of text)) b)
       part_is = (read_name (suc n) s true name ps t is.link is.child way alone).part
           ∙ ap (λ o. after_reads (record { dir = s.node; name = name } ∷ []) (child_is (deeper_at (suc n) G) G s.node true s.links is.link o)) is.is_link
           ∙ ap (λ k. after_reads (record { dir = s.node; name = name } ∷ []) (link_in (deeper_at (suc n) G) G s.node text k)) is.links
           ∙ ap (after_reads (record { dir = s.node; name = name } ∷ []))
-          (link_is (deeper_at (suc n) G) s.node b text is.allowed is.within ∙ means_by n G (from_of w.story.root s.node text) (followed (parts_of text)) b)
+          (link_is (deeper_at (suc n) G) s.node b text is.allowed is.within ∙ means_by n G (from_of w.timeline.root s.node text) (followed (parts_of text)) b)
 
-  way_from : (x : Bool) (d : ℕ) (names : List (List ℕ)) → IsWay w d names → IsWay w (if x then w.story.root else d) (if x then [] else names)
+  way_from : (x : Bool) (d : ℕ) (names : List (List ℕ)) → IsWay w d names → IsWay w (if x then w.timeline.root else d) (if x then [] else names)
   way_from true d names way = refl
   way_from false d names way = way
 
-  fewer_than : {s : Spot} {name text : List ℕ} {t b k : ℕ} → IsLinkAt w.story s name t text b → k ≤ b → k ≤ s.links
+  fewer_than : {s : Spot} {name text : List ℕ} {t b k : ℕ} → IsLinkAt w.timeline s name t text b → k ≤ b → k ≤ s.links
   fewer_than {k = k} is le = subst (λ x. k ≤ x) (sym is.links) (le_trans le (le-suc _))
 
   stopped_onward : (m : Meant) (z : Spot) (p : AskedPart) (onward : ℕ → ℕ → Meant) → Stopped w m z p → Stopped w (and_then m onward) z p
@@ -286,7 +286,7 @@ module _ {w : Setting} (fits : Fits w) where
   }
 
   -- what a trail or a stop passes the meaning passes
-  pub follow : (n : ℕ) {ps : List AskedPart} {s z : Spot} {next : Option AskedPart} → Trail w.story ps s z next → s.links ≤ n → IsWay w s.node s.names
+  pub follow : (n : ℕ) {ps : List AskedPart} {s z : Spot} {next : Option AskedPart} → Trail w.timeline ps s z next → s.links ≤ n → IsWay w s.node s.names
       → AllAlone w (reads_of (parts_mean (deeper_at n G) G s.node ps s.links)) → Followed w (parts_mean (deeper_at n G) G s.node ps s.links) s z next
   follow n {s = s} (all m l) le way alone = record { way = way; fewer = le_refl s.links; says = ([], refl) }
   follow n {s = s} (before {p = p} {ps = ps} m l) le way alone = record {
@@ -315,7 +315,7 @@ module _ {w : Setting} (fits : Fits w) where
   follow n {s = s} {z = z} {next = next} (down {follow = f} {n = name} {ps = ps} t c is entered rest) le way alone =
       let read = read_name n s f name ps t c is way alone in
       passing n s (Named f name) ps c s.links (record { dir = s.node; name = name } ∷ []) z next
-      (read.part ∙ ap (after_reads (record { dir = s.node; name = name } ∷ [])) (entered_is (deeper_at n G) s.node f s.links c (w.story.object_of c) entered))
+      (read.part ∙ ap (after_reads (record { dir = s.node; name = name } ∷ [])) (entered_is (deeper_at n G) s.node f s.links c (w.timeline.object_of c) entered))
       alone (suc t) (name ∷ s.names) (le_refl s.links) (λ a. follow n rest le read.way a)
   follow n {s = s} {z = z} {next = next} (through {n = name} {ps = ps} t text b mid is sub rest) le way alone =
       let link = read_link n s name ps t b text le is way alone in
@@ -331,5 +331,5 @@ module _ {w : Setting} (fits : Fits w) where
         fewer = fewer_than is inside.fewer;
         says = stopped_onward (part_means (deeper_at n G) G s.node (Named true name) s.links) z p (λ e k. parts_mean (deeper_at n G) G e ps k)
             (subst (λ m. Stopped w m z p) (sym link.part)
-            (says_after w (record { dir = s.node; name = name } ∷ []) (parts_mean (deeper_at link.fuel G) G (from_of w.story.root s.node text) (followed (parts_of text)) b) z (Some p) inside.says));
+            (says_after w (record { dir = s.node; name = name } ∷ []) (parts_mean (deeper_at link.fuel G) G (from_of w.timeline.root s.node text) (followed (parts_of text)) b) z (Some p) inside.says));
       }

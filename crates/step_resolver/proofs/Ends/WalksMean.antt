@@ -4,7 +4,7 @@ use Rattle.tree_model.specs.declared.answer.Event.{Event}
 use Rattle.tree_model.specs.State.{child, Stands}
 use Rattle.step_resolver.specs.Meaning.{Entry}
 use Rattle.step_resolver.specs.Order.{Turn, more, found, partial, failed, begins, LeadsTo}
-use Rattle.step_resolver.specs.WalkHistory.{Walked, begin_of, state_at, own_events, IsWalked}
+use Rattle.step_resolver.specs.WalkHistory.{WalkInHistory, begin_of, state_at, own_events, IsWalkInHistory}
 use Rattle.step_resolver.specs.Footprint.{AllLeftAlone}
 use Rattle.step_resolver.specs.Headline.{EveryWalk, Tells}
 use Rattle.step_resolver.specs.FootprintLaws.{WalksMean, IsQuiet, StandsThere, QuietWalksMean}
@@ -15,7 +15,7 @@ use Rattle.step_resolver.proofs.Ends.TrailsAndMeaning.{Fits}
 use Rattle.step_resolver.proofs.Ends.WholeMeaning.{setting, tells_meaning}
 use Rattle.step_resolver.proofs.Ends.DeepestMeaning.{tells_deepest}
 
-module _ (w : Walked) (end : Turn) (is : IsWalked w) (leads : LeadsTo w.way (begins w.way w.path) w.lines end) where
+module _ (w : WalkInHistory) (end : Turn) (is : IsWalkInHistory w) (leads : LeadsTo w.way (begins w.way w.path) w.lines end) where
   -- the walk's own events leave the nodes
   pub only_tell : AllTell (own_events w.actor w.window)
   only_tell = subst AllTell (sym is.own) (lines_only_tell w.actor w.way w.lines (begins w.way w.path) end leads)
@@ -54,11 +54,11 @@ every_walk w end is leads =
     record { tells = walks_tell w end is leads; means = means.0; deepest = means.1 }
 
 -- where no other acts, each entry is left alone
-quiet_alone : (w : Walked) → IsQuiet w → (entries : List Entry) → AllLeftAlone w entries
+quiet_alone : (w : WalkInHistory) → IsQuiet w → (entries : List Entry) → AllLeftAlone w entries
 quiet_alone w quiet [] = tt
 quiet_alone w quiet (e ∷ entries) = (record { same = λ t event q ne. absurd (ne (quiet t event q)) }, quiet_alone w quiet entries)
 
-stands_there : (w : Walked) (end : Turn) → ((t : ℕ) → (state_at w t).nodes ≡ (begin_of w).nodes) → Tells w end → StandsThere w end
+stands_there : (w : WalkInHistory) (end : Turn) → ((t : ℕ) → (state_at w t).nodes ≡ (begin_of w).nodes) → Tells w end → StandsThere w end
 stands_there w (more walk) same tells = tt
 stands_there w (found handle names) same tells =
     subst (λ nodes. Stands nodes w.root handle.node names) (same tells.when)

@@ -12,26 +12,26 @@ use Rattle.step_resolver.specs.Asked.{AskedPart, Up, Named, followed, follows, i
 use Rattle.step_resolver.specs.Meaning.{Entry, Meant, object, fails, Deeper, after_reads, link_in, child_is, named, one_part, part_means, LINKS_MAX, path_means, reading_means, is_too_long, crosses, from_of, reads_of}
 use Rattle.step_resolver.specs.Trail.{Spot, Trail, IsOwnFrom}
 use Rattle.step_resolver.specs.Order.{Turn, more, found, partial, failed, root_itself, todo, begins, goes_on, Line, LeadsTo}
-use Rattle.step_resolver.specs.WalkHistory.{Walked, begin_of, story, parts_of_walk, start}
+use Rattle.step_resolver.specs.WalkHistory.{WalkInHistory, begin_of, timeline, parts_of_walk, start}
 use Rattle.step_resolver.specs.Failures.{IsMissingAt, IsLinkThere, TellsUpFromRoot, TellsAbsoluteLink, TellsRacedUp, TellsRacedEnd, TellsRacedDeepest, TellsError}
 use Rattle.step_resolver.specs.Footprint.{ground, IsLeftAlone, AllLeftAlone, is_for_want, is_want, IsMeant, IsEnd}
 use Rattle.step_resolver.specs.Headline.{Tells, Means}
 use Rattle.step_resolver.proofs.Ends.TrailsAndMeaning.{Setting, AllAlone, Fits, IsWay, alone_here, Followed, same_object, same_dir, stands_on, parent_on, down_way, part_in, name_in, top_in, follow}
 
--- a walk's story, the tree as its window begins, and the entries that no other changes
-abbrev pub setting : Walked → Setting
-setting w = record { story = story w; nodes = (begin_of w).nodes; IsAlone = IsLeftAlone w }
+-- a walk's timeline, the tree as its window begins, and the entries that no other changes
+abbrev pub setting : WalkInHistory → Setting
+setting w = record { timeline = timeline w; nodes = (begin_of w).nodes; IsAlone = IsLeftAlone w }
 
-pub all_alone : (w : Walked) (entries : List Entry) → AllLeftAlone w entries → AllAlone (setting w) entries
+pub all_alone : (w : WalkInHistory) (entries : List Entry) → AllLeftAlone w entries → AllAlone (setting w) entries
 all_alone w [] alone = tt
 all_alone w (entry ∷ entries) alone = (alone.0, all_alone w entries alone.1)
 
-module _ {w : Walked} (fits : Fits (setting w)) where
+module _ {w : WalkInHistory} (fits : Fits (setting w)) where
   -- ---- what each stop says of its next part
 
   module _ (deeper : Deeper) (z : Spot) (way : IsWay (setting w) z.node z.names) where
     -- the entry of a short name of a directory is left alone where all that the part reads is
-    pub name_alone : (follow : Bool) (name : List ℕ) → is_directory ((story w).object_of z.node) ≡ true → is_too_long name ≡ false
+    pub name_alone : (follow : Bool) (name : List ℕ) → is_directory ((timeline w).object_of z.node) ≡ true → is_too_long name ≡ false
         → AllAlone (setting w) (reads_of (part_means deeper (ground w) z.node (Named follow name) z.links)) → IsLeftAlone w (record { dir = z.node; name = name })
     name_alone follow name dir short alone =
         (alone_here (setting w) (record { dir = z.node; name = name }) (named deeper (ground w) z.node follow z.links (child (begin_of w).nodes z.node name))
@@ -48,13 +48,13 @@ module _ {w : Walked} (fits : Fits (setting w)) where
         (sym (fits.steady (record { dir = z.node; name = name }) (name_alone follow name is.dir short alone) t) ∙ is.missing)
 
     -- what is no directory
-    pub no_dir_fails : (p : AskedPart) (what : Object) → (story w).object_of z.node ≡ Some what → is_directory (Some what) ≡ false
+    pub no_dir_fails : (p : AskedPart) (what : Object) → (timeline w).object_of z.node ≡ Some what → is_directory (Some what) ≡ false
         → part_means deeper (ground w) z.node p z.links ≡ fails NotDir []
     no_dir_fails p what is none =
         ap (λ x. if x then one_part deeper (ground w) z.node p z.links else fails NotDir [])
         (ap is_directory (same_object fits z.node z.names way ∙ is) ∙ none)
 
-    pub long_fails : (follow : Bool) (name : List ℕ) → is_directory ((story w).object_of z.node) ≡ true → is_too_long name ≡ true
+    pub long_fails : (follow : Bool) (name : List ℕ) → is_directory ((timeline w).object_of z.node) ≡ true → is_too_long name ≡ true
         → part_means deeper (ground w) z.node (Named follow name) z.links ≡ fails TooLong []
     long_fails follow name dir long =
         part_in fits deeper z.node (Named follow name) z.links (same_dir fits z.node z.names way dir)
@@ -99,22 +99,22 @@ module _ {w : Walked} (fits : Fits (setting w)) where
 
   -- a `..` that moves can't go astray
   pub no_raced_up : (z : Spot) (name : List ℕ) (names : List (List ℕ)) → z.names ≡ name ∷ names → IsWay (setting w) z.node z.names → (t : ℕ)
-      → (parent ((story w).nodes_at t) z.node ≡ None)
-      ⊎ ((e : ℕ) × ((parent ((story w).nodes_at t) z.node ≡ Some e)
-      × ((u : ℕ) × (IsOwnFrom (story w) (suc t) u × (Stands ((story w).nodes_at u) w.root e names → ⊥))))) → ⊥
+      → (parent ((timeline w).nodes_at t) z.node ≡ None)
+      ⊎ ((e : ℕ) × ((parent ((timeline w).nodes_at t) z.node ≡ Some e)
+      × ((u : ℕ) × (IsOwnFrom (timeline w) (suc t) u × (Stands ((timeline w).nodes_at u) w.root e names → ⊥))))) → ⊥
   no_raced_up z name names passed way t why = on why
     where
       up : IsWay (setting w) z.node (name ∷ names)
       up = subst (IsWay (setting w) z.node) passed way
 
-      is_parent : parent ((story w).nodes_at t) z.node ≡ Some up.1.0
+      is_parent : parent ((timeline w).nodes_at t) z.node ≡ Some up.1.0
       is_parent = parent_on fits t z.node name names up
 
-      on : (parent ((story w).nodes_at t) z.node ≡ None)
-          ⊎ ((e : ℕ) × ((parent ((story w).nodes_at t) z.node ≡ Some e)
-          × ((u : ℕ) × (IsOwnFrom (story w) (suc t) u × (Stands ((story w).nodes_at u) w.root e names → ⊥))))) → ⊥
+      on : (parent ((timeline w).nodes_at t) z.node ≡ None)
+          ⊎ ((e : ℕ) × ((parent ((timeline w).nodes_at t) z.node ≡ Some e)
+          × ((u : ℕ) × (IsOwnFrom (timeline w) (suc t) u × (Stands ((timeline w).nodes_at u) w.root e names → ⊥))))) → ⊥
       on (inl none) = none-some up.1.0 (sym none ∙ is_parent)
-      on (inr moved) = moved.1.1.1.1 (subst (λ x. Stands ((story w).nodes_at moved.1.1.0) w.root x names)
+      on (inr moved) = moved.1.1.1.1 (subst (λ x. Stands ((timeline w).nodes_at moved.1.1.0) w.root x names)
           (same_Some up.1.0 moved.0 (sym is_parent ∙ moved.1.0))
           (stands_on fits moved.1.1.0 up.1.0 names up.1.1.1.1))
 
@@ -125,11 +125,11 @@ module _ {w : Walked} (fits : Fits (setting w)) where
     M = path_means (ground w) (parts_of_walk w)
 
     module _ (alone : AllAlone (setting w) (reads_of M)) where
-      followed_to : (z : Spot) (next : Option AskedPart) → Trail (story w) (parts_of_walk w) (start w) z next → Followed (setting w) M (start w) z next
+      followed_to : (z : Spot) (next : Option AskedPart) → Trail (timeline w) (parts_of_walk w) (start w) z next → Followed (setting w) M (start w) z next
       followed_to z next t = follow fits LINKS_MAX t (le_refl LINKS_MAX) refl alone
 
       -- the error of a stop is that of the meaning
-      stop_fails : (z : Spot) (p : AskedPart) → Trail (story w) (parts_of_walk w) (start w) z (Some p) → (error : Errno)
+      stop_fails : (z : Spot) (p : AskedPart) → Trail (timeline w) (parts_of_walk w) (start w) z (Some p) → (error : Errno)
           → ((deeper : Deeper) → IsWay (setting w) z.node z.names → AllAlone (setting w) (reads_of (part_means deeper (ground w) z.node p z.links))
           → (more : List Entry) × (part_means deeper (ground w) z.node p z.links ≡ fails error more))
           → IsMeant M (failed error)

@@ -2,13 +2,13 @@
 use Rattle.std.specs.Prelude.{refl}
 use Rattle.path_text.specs.declared.errno.Errno.TheVariants.{Raced}
 use Rattle.step_resolver.specs.Order.{failed, begins, LeadsTo}
-use Rattle.step_resolver.specs.WalkHistory.{IsWalked}
+use Rattle.step_resolver.specs.WalkHistory.{IsWalkInHistory}
 use Rattle.step_resolver.specs.WorkedRace.{race_opening, race, RaceIsWorked}
 use Rattle.tree_model.proofs.TreeTests.{IsState-from_test}
 use Rattle.step_resolver.proofs.Ends.EveryWalk.{walks_tell}
 use Rattle.step_resolver.proofs.Ends.RacedMeansChange.{raced_tells_of_change}
 
-walked : IsWalked race
+walked : IsWalkInHistory race
 walked = record {
   tree = IsState-from_test race_opening refl;
   legal_before = tt;

@@ -4,7 +4,7 @@ use Rattle.std.proofs.Common.{le_refl}
 use Rattle.tree_model.specs.BaseTree.{base_nodes}
 use Rattle.tree_model.specs.State.{child, object_at, is_directory}
 use Rattle.step_resolver.specs.Meaning.{is_too_long}
-use Rattle.step_resolver.specs.Trail.{Story, all, down, through, IsChildAt, quiet}
+use Rattle.step_resolver.specs.Trail.{Timeline, all, down, through, IsChildAt, quiet}
 use Rattle.step_resolver.specs.WorkedPaths.{ROOT, plain, here, NamesAreWorked, LinksAreWorked, BudgetIsWorked, SlashesAreWorked, LengthsAreWorked, BeneathIsWorked, NoLinksAreWorked, TrailIsWorked}
 
 pub names_are_worked : NamesAreWorked
@@ -32,7 +32,7 @@ no_links_are_worked =
 
 -- ---- the trail over `abs/f`
 
-abbrev still : Story
+abbrev still : Timeline
 still = quiet base_nodes ROOT plain
 
 into_child : (x c : ℕ) (n : List ℕ) (names : List (List ℕ)) (links t : ℕ) → is_directory (object_at base_nodes x) ≡ true → is_too_long n ≡ false

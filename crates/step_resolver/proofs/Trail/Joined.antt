@@ -5,21 +5,21 @@ use Rattle.std.proofs.Common.{sym, subst, le_trans, le_refl, arith}
 use Rattle.std.proofs.Math.Nat.{le-suc}
 use Rattle.step_resolver.specs.Asked.{AskedPart, Cur, Up, Named}
 use Rattle.step_resolver.specs.TrailLaws.{Split, passed, stopped, with_links}
-use Rattle.step_resolver.specs.Trail.{Story, Spot, Trail, all, before, stay, top, climb, down, through, into, later, IsOwnFrom, IsChildAt, IsLinkAt}
+use Rattle.step_resolver.specs.Trail.{Timeline, Spot, Trail, all, before, stay, top, climb, down, through, into, later, IsOwnFrom, IsChildAt, IsLinkAt}
 
-module _ (story : Story) where
-  pub own_earlier : {m k t : ℕ} → m ≤ k → IsOwnFrom story k t → IsOwnFrom story m t
+module _ (timeline : Timeline) where
+  pub own_earlier : {m k t : ℕ} → m ≤ k → IsOwnFrom timeline k t → IsOwnFrom timeline m t
   own_earlier le at = record { own = at.own; later = le_trans le at.later }
 
-  child_earlier : {m t c : ℕ} {s : Spot} {n : List ℕ} → m ≤ s.moment → IsChildAt story s n t c → IsChildAt story (later m s) n t c
+  child_earlier : {m t c : ℕ} {s : Spot} {n : List ℕ} → m ≤ s.moment → IsChildAt timeline s n t c → IsChildAt timeline (later m s) n t c
   child_earlier le at = record { dir = at.dir; short = at.short; at = own_earlier le at.at; child = at.child }
 
-  link_earlier : {m t b : ℕ} {s : Spot} {n text : List ℕ} → m ≤ s.moment → IsLinkAt story s n t text b → IsLinkAt story (later m s) n t text b
+  link_earlier : {m t b : ℕ} {s : Spot} {n text : List ℕ} → m ≤ s.moment → IsLinkAt timeline s n t text b → IsLinkAt timeline (later m s) n t text b
   link_earlier le at = record { link = at.link; child = child_earlier le at.child; is_link = at.is_link; links = at.links; allowed = at.allowed; within = at.within }
 
   -- a walk that begins earlier
   pub from_earlier : {m : ℕ} {ps : List AskedPart} {s z : Spot} {next : Option AskedPart} → m ≤ s.moment
-      → Trail story ps s z next → Trail story ps (later m s) z next
+      → Trail timeline ps s z next → Trail timeline ps (later m s) z next
   from_earlier le (all k l) = all k (le_trans le l)
   from_earlier le (before k l) = before k (le_trans le l)
   from_earlier le (stay dir t) = stay dir (from_earlier le t)
@@ -32,7 +32,7 @@ module _ (story : Story) where
 
   -- a walk that ends later
   pub to_later : {ps : List AskedPart} {s z : Spot} {next : Option AskedPart} (m : ℕ) → z.moment ≤ m
-      → Trail story ps s z next → Trail story ps s (later m z) next
+      → Trail timeline ps s z next → Trail timeline ps s (later m z) next
   to_later m le (all k l) = all m (le_trans l le)
   to_later m le (before k l) = before m (le_trans l le)
   to_later m le (stay dir t) = stay dir (to_later m le t)
@@ -43,8 +43,8 @@ module _ (story : Story) where
   to_later m le (into t text b is sub) = into t text b is (to_later m le sub)
 
   -- a trail, then what follows it
-  pub appended : {ps qs : List AskedPart} {s mid z : Spot} {next : Option AskedPart} → Trail story ps s mid None
-      → Trail story qs mid z next → Trail story (ps ++ qs) s z next
+  pub appended : {ps qs : List AskedPart} {s mid z : Spot} {next : Option AskedPart} → Trail timeline ps s mid None
+      → Trail timeline qs mid z next → Trail timeline (ps ++ qs) s z next
   appended (all k l) u = from_earlier l u
   appended (stay dir t) u = stay dir (appended t u)
   appended (top is t) u = top is (appended t u)
@@ -53,8 +53,8 @@ module _ (story : Story) where
   appended (through t text b mid is sub rest) u = through t text b mid is sub (appended rest u)
 
   -- a stop stays one where more parts come
-  pub stop_of_more : {ps : List AskedPart} {s z : Spot} {p : AskedPart} (qs : List AskedPart) → Trail story ps s z (Some p)
-      → Trail story (ps ++ qs) s z (Some p)
+  pub stop_of_more : {ps : List AskedPart} {s z : Spot} {p : AskedPart} (qs : List AskedPart) → Trail timeline ps s z (Some p)
+      → Trail timeline (ps ++ qs) s z (Some p)
   stop_of_more qs (before k l) = before k l
   stop_of_more qs (stay dir t) = stay dir (stop_of_more qs t)
   stop_of_more qs (top is t) = top is (stop_of_more qs t)
@@ -63,14 +63,14 @@ module _ (story : Story) where
   stop_of_more qs (through t text b mid is sub rest) = through t text b mid is sub (stop_of_more qs rest)
   stop_of_more qs (into t text b is sub) = into t text b is sub
 
-module _ (story : Story) where
+module _ (timeline : Timeline) where
   split_on : {ps rs qs : List AskedPart} {s m z : Spot} {next : Option AskedPart}
-      → ((y : Spot) (after : Option AskedPart) → Trail story ps m y after → Trail story rs s y after)
-      → Split story ps qs m z next → Split story rs qs s z next
+      → ((y : Spot) (after : Option AskedPart) → Trail timeline ps m y after → Trail timeline rs s y after)
+      → Split timeline ps qs m z next → Split timeline rs qs s z next
   split_on onto (passed mid t u) = passed mid (onto mid None t) u
   split_on {z = z} onto (stopped p is t) = stopped p is (onto z (Some p) t)
 
-  pub split : (ps qs : List AskedPart) {s z : Spot} {next : Option AskedPart} → Trail story (ps ++ qs) s z next → Split story ps qs s z next
+  pub split : (ps qs : List AskedPart) {s z : Spot} {next : Option AskedPart} → Trail timeline (ps ++ qs) s z next → Split timeline ps qs s z next
   split [] qs {s} t = passed s (all s.moment (le_refl s.moment)) t
   split (Cur ∷ ps) qs (before k l) = stopped Cur refl (before k l)
   split (Cur ∷ ps) qs (stay dir t) = split_on (λ y after u. stay dir u) (split ps qs t)
@@ -83,7 +83,7 @@ module _ (story : Story) where
   split (Named follow n ∷ ps) qs (into {p = p} t text b is sub) = stopped p refl (into t text b is sub)
 
   -- moments never fall
-  pub rises : {ps : List AskedPart} {s z : Spot} {next : Option AskedPart} → Trail story ps s z next → s.moment ≤ z.moment
+  pub rises : {ps : List AskedPart} {s z : Spot} {next : Option AskedPart} → Trail timeline ps s z next → s.moment ≤ z.moment
   rises (all k l) = l
   rises (before k l) = l
   rises (stay dir t) = rises t
@@ -93,11 +93,11 @@ module _ (story : Story) where
   rises (through t text b mid is sub rest) = le_trans is.child.at.later (le_trans (le-suc t) (le_trans (rises sub) (rises rest)))
   rises (into t text b is sub) = le_trans is.child.at.later (le_trans (le-suc t) (rises sub))
 
-  one_fewer : {s : Spot} {n text : List ℕ} {t b k : ℕ} → IsLinkAt story s n t text b → k ≤ b → k ≤ s.links
+  one_fewer : {s : Spot} {n text : List ℕ} {t b k : ℕ} → IsLinkAt timeline s n t text b → k ≤ b → k ≤ s.links
   one_fewer {b = b} {k = k} is le = subst (λ x. k ≤ x) (sym is.links) (le_trans le (le-suc b))
 
   -- links left never rise
-  pub fewer_links : {ps : List AskedPart} {s z : Spot} {next : Option AskedPart} → Trail story ps s z next → z.links ≤ s.links
+  pub fewer_links : {ps : List AskedPart} {s z : Spot} {next : Option AskedPart} → Trail timeline ps s z next → z.links ≤ s.links
   fewer_links {s = s} (all k l) = le_refl s.links
   fewer_links {s = s} (before k l) = le_refl s.links
   fewer_links (stay dir t) = fewer_links t
@@ -110,16 +110,16 @@ module _ (story : Story) where
   one_more : (a b k : ℕ) → a ≡ suc b → a + k ≡ suc (b + k)
   one_more a b k e = omega arith
 
-  child_with : (k : ℕ) {s : Spot} {n : List ℕ} {t c : ℕ} → IsChildAt story s n t c → IsChildAt story (with_links k s) n t c
+  child_with : (k : ℕ) {s : Spot} {n : List ℕ} {t c : ℕ} → IsChildAt timeline s n t c → IsChildAt timeline (with_links k s) n t c
   child_with k is = record { dir = is.dir; short = is.short; at = is.at; child = is.child }
 
-  link_with : (k : ℕ) {s : Spot} {n text : List ℕ} {t b : ℕ} → IsLinkAt story s n t text b → IsLinkAt story (with_links k s) n t text (b + k)
+  link_with : (k : ℕ) {s : Spot} {n text : List ℕ} {t b : ℕ} → IsLinkAt timeline s n t text b → IsLinkAt timeline (with_links k s) n t text (b + k)
   link_with k {s} {b = b} is =
       record { link = is.link; child = child_with k is.child; is_link = is.is_link; links = one_more s.links b k is.links; allowed = is.allowed; within = is.within }
 
   -- with more links left
-  pub with_more_links : (k : ℕ) {ps : List AskedPart} {s z : Spot} {next : Option AskedPart} → Trail story ps s z next
-      → Trail story ps (with_links k s) (with_links k z) next
+  pub with_more_links : (k : ℕ) {ps : List AskedPart} {s z : Spot} {next : Option AskedPart} → Trail timeline ps s z next
+      → Trail timeline ps (with_links k s) (with_links k z) next
   with_more_links k (all m l) = all m l
   with_more_links k (before m l) = before m l
   with_more_links k (stay dir t) = stay dir (with_more_links k t)

@@ -15,7 +15,7 @@ use Rattle.step_resolver.proofs.Ends.TrailsAndMeaning.{Setting, AllAlone, Fits, 
 
 module _ (nodes : List Inode) (r : ℕ) (flags : Flags) where
   abbrev pub at_rest : Setting
-  at_rest = record { story = quiet nodes r flags; nodes = nodes; IsAlone = λ e. Unit {0} }
+  at_rest = record { timeline = quiet nodes r flags; nodes = nodes; IsAlone = λ e. Unit {0} }
 
   all_at_rest : (entries : List Entry) → AllAlone at_rest entries
   all_at_rest [] = tt

@@ -14,7 +14,7 @@ use Rattle.step_resolver.specs.Asked.{AskedPart}
 use Rattle.step_resolver.specs.Trail.{Spot, Trail}
 use Rattle.step_resolver.specs.Order.{Handle, root_itself, holds, todo, After, gives, onward, judges, Walking, opening, reading, rising, judging, duping, ending, closing, handles_of, take, is_closing, IsWant}
 use Rattle.step_resolver.specs.Order.{end_of as ends_with}
-use Rattle.step_resolver.specs.WalkHistory.{Walked, state_at, story, start}
+use Rattle.step_resolver.specs.WalkHistory.{WalkInHistory, state_at, timeline, start}
 use Rattle.step_resolver.specs.Failures.{TellsError, MetRefusal}
 use Rattle.step_resolver.proofs.Trail.Joined.{own_earlier}
 use Rattle.step_resolver.proofs.Underway.StepOutcomes.{IsLess, Close-is_less, Opening, too_many, no_object, is_opened, opening_of, dup_is}
@@ -24,11 +24,11 @@ use Rattle.step_resolver.proofs.Underway.NextPart.{gave_up, closes_good}
 use Rattle.step_resolver.proofs.Underway.HandlesHeld.{kept_on, more_on, position_kept, position_less}
 use Rattle.step_resolver.proofs.Underway.AfterParent.{judged_good}
 
-ends_later : {w : Walked} {m k : ℕ} {to : Spot} {rest : List AskedPart} → m ≤ k → EndsAt w m to rest → EndsAt w k to rest
+ends_later : {w : WalkInHistory} {m k : ℕ} {to : Spot} {rest : List AskedPart} → m ≤ k → EndsAt w m to rest → EndsAt w k to rest
 ends_later le (at_all e) = at_all e
 ends_later le (at_missing deep follow n others e short first missing past) = at_missing deep follow n others e short first missing (le_trans past le)
 
-module _ {w : Walked} (lived : Lived w) (now t : ℕ) (room : Bool) (rest : List AskedPart) (good : GoodEnd w now root_itself rest) (answer : Answer)
+module _ {w : WalkInHistory} (lived : Lived w) (now t : ℕ) (room : Bool) (rest : List AskedPart) (good : GoodEnd w now root_itself rest) (answer : Answer)
     (is : StepAt w now t (Dup w.way.root) answer) (met : answer ≡ Refused TooMany → MetRefusal (Dup w.way.root) w.lines) where
   root_is : held_at w t w.way.root ≡ Some w.root
   root_is = is.kept w.way.root ∙ root_open lived good.handles
@@ -59,7 +59,7 @@ module _ {w : Walked} (lived : Lived w) (now t : ℕ) (room : Bool) (rest : List
   pub duping_good : Good w (suc t) (take w.way room (duping rest) answer)
   duping_good = on_opening (opening_of (state_at w t) w.actor w.root)
 
-module _ {w : Walked} (lived : Lived w) (now u : ℕ) (room : Bool) (handle : Handle) (names : List (List ℕ)) (rest : List AskedPart)
+module _ {w : WalkInHistory} (lived : Lived w) (now u : ℕ) (room : Bool) (handle : Handle) (names : List (List ℕ)) (rest : List AskedPart)
     (good : GoodEnd w now (holds handle names) rest) (answer : Answer) (is : StepAt w now u (NameBelow w.way.root handle.number) answer) where
   abbrev to : Spot
   to = spot_at w (holds handle names) good.links good.m
@@ -71,9 +71,9 @@ module _ {w : Walked} (lived : Lived w) (now u : ℕ) (room : Bool) (handle : Ha
   raced : (Stands (state_at w u).nodes w.root handle.node names → ⊥) → EndsAt w now to rest → TellsError w Raced
   raced astray (at_all e) = inr (inl (record {
     to = to;
-    trail = subst (λ ps. Trail (story w) ps (start w) to none) (sym (good.going.parts ∙ ap (λ ps. good.going.taken ++ ps) e ∙ append-nil good.going.taken)) (trail_at good.going);
+    trail = subst (λ ps. Trail (timeline w) ps (start w) to none) (sym (good.going.parts ∙ ap (λ ps. good.going.taken ++ ps) e ∙ append-nil good.going.taken)) (trail_at good.going);
     when = u;
-    astray = record { at = own_earlier (story w) good.past is.at; astray = astray };
+    astray = record { at = own_earlier (timeline w) good.past is.at; astray = astray };
   }))
     where
       none : Option AskedPart
@@ -90,7 +90,7 @@ module _ {w : Walked} (lived : Lived w) (now u : ℕ) (room : Bool) (handle : Ha
     first = first;
     missing = missing;
     when = u;
-    astray = record { at = own_earlier (story w) past is.at; astray = astray };
+    astray = record { at = own_earlier (timeline w) past is.at; astray = astray };
   }))
 
   -- what an answer to NameBelow makes of it at the end
@@ -104,13 +104,13 @@ module _ {w : Walked} (lived : Lived w) (now u : ℕ) (room : Bool) (handle : Ha
         going = good.going;
         when = u;
         ends = ends_later is.at.later good.ends;
-        stood = record { at = own_earlier (story w) good.past is.at; stands = stands };
+        stood = record { at = own_earlier (timeline w) good.past is.at; stands = stands };
         held = held_kept kept good.position_held;
         handles = handles_kept kept good.handles;
       }) rest refl)
       (λ astray kept. gave_up lived (handle.number ∷ []) Raced (raced astray good.ends) (handles_kept kept good.handles))
 
-module _ {w : Walked} (lived : Lived w) (now t : ℕ) (room : Bool) (h : ℕ) (hs : List ℕ) (after : After)
+module _ {w : WalkInHistory} (lived : Lived w) (now t : ℕ) (room : Bool) (h : ℕ) (hs : List ℕ) (after : After)
     (good : GoodClosing w now h hs after) (answer : Answer) (is : StepAt w now t (Close h) answer) where
   gone : IsLess (state_at w t) w.actor (state_at w (suc t)) h
   gone = subst (λ s. IsLess (state_at w t) w.actor s h) (sym is.after) (Close-is_less (state_at w t) w.actor h)
@@ -139,7 +139,7 @@ module _ {w : Walked} (lived : Lived w) (now t : ℕ) (room : Bool) (h : ℕ) (h
       (handles_less (handles_kept is.kept good.handles) gone)
 
 -- what it makes of a step that wasn't made
-module _ {w : Walked} (lived : Lived w) (now : ℕ) where
+module _ {w : WalkInHistory} (lived : Lived w) (now : ℕ) where
   without_memory : TellsError w NoMemory → (walk : Walking) → is_closing walk ≡ false → GoodWalk w now walk
       → Good w now (take w.way true walk (Refused NoMemory))
   without_memory told (opening position own follow n (todo inner rest b)) e good = gave_up lived (handles_of position) NoMemory told good.handles
@@ -160,9 +160,9 @@ module _ {w : Walked} (lived : Lived w) (now : ℕ) where
   without_room told (ending handle names rest) e good = gave_up lived (handle.number ∷ []) BookFull told good.handles
   without_room told (closing h hs after) e good = cc (e)
 
-  pub unmade_good : (error : Errno) → IsWant error → TellsError w error → (walk : Walking) → is_closing walk ≡ false → GoodWalk w now walk
+  pub not_made_good : (error : Errno) → IsWant error → TellsError w error → (walk : Walking) → is_closing walk ≡ false → GoodWalk w now walk
       → Good w now (take w.way true walk (Refused error))
-  unmade_good error (inl e) told walk open_step good =
+  not_made_good error (inl e) told walk open_step good =
       subst (λ x. Good w now (take w.way true walk (Refused x))) (sym e) (without_memory (subst (TellsError w) e told) walk open_step good)
-  unmade_good error (inr e) told walk open_step good =
+  not_made_good error (inr e) told walk open_step good =
       subst (λ x. Good w now (take w.way true walk (Refused x))) (sym e) (without_room (subst (TellsError w) e told) walk open_step good)

@@ -14,7 +14,7 @@ use Rattle.tree_model.specs.Steps.{outcome, opens, kind_of}
 use Rattle.step_resolver.specs.Asked.{AskedPart, Named, is_deepest}
 use Rattle.step_resolver.specs.Trail.{down, IsChildAt, is_entered}
 use Rattle.step_resolver.specs.Order.{Handle, Position, root_itself, holds, todo, onward, opening, Turn, names_of, handles_of, handle_at, gives_up, at_end, is_followed, follows_link, enters, opened, take, more, reading}
-use Rattle.step_resolver.specs.WalkHistory.{Walked, state_at, story}
+use Rattle.step_resolver.specs.WalkHistory.{WalkInHistory, state_at, timeline}
 use Rattle.step_resolver.specs.Failures.{TellsError, IsMissingAt, MetRefusal}
 use Rattle.step_resolver.proofs.Meaning.NodesAtEntries.{entry, place_at-child, object_at-place}
 use Rattle.step_resolver.proofs.Underway.StepOutcomes.{IsMore, Opening, too_many, no_object, is_opened, opening_of, OpenCase, no_dir, no_child, at_child, open_case}
@@ -23,7 +23,7 @@ use Rattle.step_resolver.proofs.Underway.HandleCount.{few_held, refusal_told}
 use Rattle.step_resolver.proofs.Underway.NextPart.{gave_up, closes_good}
 use Rattle.step_resolver.proofs.Underway.HandlesHeld.{handles_swapped, kept_on, more_on, position_open, position_kept, position_more, new_is_other}
 
-module _ {w : Walked} (lived : Lived w) (now t : ℕ) (room : Bool) (want : room ≡ false → TellsError w NoMemory)
+module _ {w : WalkInHistory} (lived : Lived w) (now t : ℕ) (room : Bool) (want : room ≡ false → TellsError w NoMemory)
     (position : Position) (own follow : Bool) (n : List ℕ) (inner rest : List AskedPart) (b : ℕ)
     (good : GoodOpening w now position own follow n (todo inner rest b)) (answer : Answer)
     (is : StepAt w now t (Open (handle_at w.way position) n) answer)
@@ -95,7 +95,7 @@ module _ {w : Walked} (lived : Lived w) (now t : ℕ) (room : Bool) (want : room
     new_held : IsHeld w (suc t) opened_handle
     new_held = record { is_open = new.is_open; what = what; is_what = lived.objects t c what is_what; kind = refl }
 
-    is_child : IsChildAt (story w) (spot_at w position b now) n t c
+    is_child : IsChildAt (timeline w) (spot_at w position b now) n t c
     is_child = record { dir = good.dir; short = good.short; at = is.at; child = child_is }
 
     handles_now : HandlesAre w (suc t) (length (state_at w t).handles ∷ handles_of position)
@@ -125,7 +125,7 @@ module _ {w : Walked} (lived : Lived w) (now t : ℕ) (room : Bool) (want : room
     link_good text l f left e = on left refl (subst (λ k. GoesFor w now own (Named true n) position (todo inner rest k)) e
         (subst (λ g. GoesFor w now own (Named g n) position (todo inner rest b)) f good.going))
       where
-        is_link : (story w).object_of c ≡ Some (Link text)
+        is_link : (timeline w).object_of c ≡ Some (Link text)
         is_link = lived.objects t c what is_what ∙ ap Some l
 
         looped : (k : ℕ) → GoesFor w now own (Named true n) position (todo inner rest k) → (k ≡ 0) ⊎ (w.way.flags.no_links ≡ true)

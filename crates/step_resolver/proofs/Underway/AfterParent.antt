@@ -19,7 +19,7 @@ use Rattle.tree_model.specs.Trees.{IsTree}
 use Rattle.step_resolver.specs.Asked.{AskedPart, Up}
 use Rattle.step_resolver.specs.Trail.{climb, IsOwnFrom}
 use Rattle.step_resolver.specs.Order.{Handle, holds, todo, judges, rising, judging, Turn, gives_up, goes_on, judged, take}
-use Rattle.step_resolver.specs.WalkHistory.{Walked, state_at, story}
+use Rattle.step_resolver.specs.WalkHistory.{WalkInHistory, state_at, timeline}
 use Rattle.step_resolver.specs.Failures.{MetRefusal}
 use Rattle.step_resolver.proofs.Trail.Joined.{own_earlier}
 use Rattle.step_resolver.proofs.Meaning.NodesAtEntries.{names_below-stands}
@@ -59,7 +59,7 @@ pub reversed_same : (xs ys : List (List ℕ)) → reverse xs ≡ reverse ys → 
 reversed_same xs ys e = sym (reverse-reverse xs) ∙ ap reverse e ∙ reverse-reverse ys
 
 -- Names that are told are judged: they are those passed, and the node stands there; or it doesn't.
-pub judged_good : {w : Walked} → Lived w → (m u : ℕ) (handle : Handle) (names : List (List ℕ)) (turn : Turn) (answer : Answer)
+pub judged_good : {w : WalkInHistory} → Lived w → (m u : ℕ) (handle : Handle) (names : List (List ℕ)) (turn : Turn) (answer : Answer)
     → StepAt w m u (NameBelow w.way.root handle.number) answer → held_at w m w.way.root ≡ Some w.root → held_at w m handle.number ≡ Some handle.node
     → (taken : Answer → Turn) → ((told : List (List ℕ)) → taken (Names told) ≡ judged handle names told turn) → taken NotBelow ≡ gives_up (handle.number ∷ []) Raced
     → (Stands (state_at w u).nodes w.root handle.node names → ((h : ℕ) → held_at w (suc u) h ≡ held_at w m h) → Good w (suc u) turn)
@@ -96,7 +96,7 @@ judged_good {w} lived m u handle names turn answer is root_is handle_is taken on
         (subst (Good w (suc u)) (sym (on_names (reverse told)))
         (on_test told q (kept_on is (ap (λ r. r.after) (outcome_is ∙ ap (shows (state_at w u)) q))) (same_names (reverse told) (reverse names)) refl))
 
-module _ {w : Walked} (lived : Lived w) (now t : ℕ) (room : Bool) (old : Handle) (names : List (List ℕ)) (inner rest : List AskedPart) (b : ℕ)
+module _ {w : WalkInHistory} (lived : Lived w) (now t : ℕ) (room : Bool) (old : Handle) (names : List (List ℕ)) (inner rest : List AskedPart) (b : ℕ)
     (good : GoodRising w now old names (todo inner rest b)) (answer : Answer) (is : StepAt w now t (Parent old.number) answer)
     (met : answer ≡ Refused TooMany → MetRefusal (Parent old.number) w.lines) where
   is_there : held_at w t old.number ≡ Some old.node
@@ -156,11 +156,11 @@ module _ {w : Walked} (lived : Lived w) (now t : ℕ) (room : Bool) (old : Handl
   pub rising_good : Good w (suc t) (take w.way room (rising old names (todo inner rest b)) answer)
   rising_good = on_case (parent_case (state_at w t) w.actor old.number old.node is_there)
 
-module _ {w : Walked} (lived : Lived w) (now u : ℕ) (room : Bool) (new : Handle) (names : List (List ℕ)) (inner rest : List AskedPart) (b : ℕ)
+module _ {w : WalkInHistory} (lived : Lived w) (now u : ℕ) (room : Bool) (new : Handle) (names : List (List ℕ)) (inner rest : List AskedPart) (b : ℕ)
     (good : GoodJudging w now new names (todo inner rest b)) (handles : HandlesAre w now (new.number ∷ [])) (answer : Answer)
     (is : StepAt w now u (NameBelow w.way.root new.number) answer) where
-  checked : IsOwnFrom (story w) (suc good.t) u
-  checked = own_earlier (story w) good.past is.at
+  checked : IsOwnFrom (timeline w) (suc good.t) u
+  checked = own_earlier (timeline w) good.past is.at
 
   climbed : Stands (state_at w u).nodes w.root new.node names → Going w (suc u) (holds new names) inner rest b
   climbed stands = passed_on good.own Up (holds good.old (good.name ∷ names)) inner rest b good.going (holds new names) b (suc u)

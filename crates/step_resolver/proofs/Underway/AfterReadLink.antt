@@ -14,9 +14,9 @@ use Rattle.tree_model.specs.Steps.{outcome, answered, reads}
 use Rattle.step_resolver.specs.Asked.{AskedPart, Named, followed}
 use Rattle.step_resolver.specs.Meaning.{crosses}
 use Rattle.step_resolver.specs.TrailLaws.{Split, passed, stopped}
-use Rattle.step_resolver.specs.Trail.{Story, Spot, Trail, through, into, IsLinkAt, from_text}
+use Rattle.step_resolver.specs.Trail.{Timeline, Spot, Trail, through, into, IsLinkAt, from_text}
 use Rattle.step_resolver.specs.Order.{Handle, Position, root_itself, todo, onward, reading, names_of, handles_of, gives_up, take, read_text, from_link}
-use Rattle.step_resolver.specs.WalkHistory.{Walked, state_at, story}
+use Rattle.step_resolver.specs.WalkHistory.{WalkInHistory, state_at, timeline}
 use Rattle.step_resolver.specs.Failures.{IsWithinLink, TellsError}
 use Rattle.step_resolver.proofs.Trail.Joined.{split}
 use Rattle.step_resolver.proofs.Underway.StepOutcomes.{read_is}
@@ -25,16 +25,16 @@ use Rattle.step_resolver.proofs.Underway.NextPart.{gave_up, closes_good, all_apa
 use Rattle.step_resolver.proofs.Underway.HandlesHeld.{kept_on, position_kept}
 
 -- whatever leads over a link's parts and what comes after them leads over the link's name and what comes after it
-pub spliced : (story : Story) (n text : List ℕ) (s : Spot) (t b : ℕ) → IsLinkAt story s n t text b
-    → (ps : List AskedPart) (z : Spot) (next : Option AskedPart) → Trail story (followed (parts_of text) ++ ps) (from_text story s text b (suc t)) z next
-    → Trail story (Named true n ∷ ps) s z next
-spliced story n text s t b is ps z next tr = on (split story (followed (parts_of text)) ps tr)
+pub spliced : (timeline : Timeline) (n text : List ℕ) (s : Spot) (t b : ℕ) → IsLinkAt timeline s n t text b
+    → (ps : List AskedPart) (z : Spot) (next : Option AskedPart) → Trail timeline (followed (parts_of text) ++ ps) (from_text timeline s text b (suc t)) z next
+    → Trail timeline (Named true n ∷ ps) s z next
+spliced timeline n text s t b is ps z next tr = on (split timeline (followed (parts_of text)) ps tr)
   where
-    on : Split story (followed (parts_of text)) ps (from_text story s text b (suc t)) z next → Trail story (Named true n ∷ ps) s z next
+    on : Split timeline (followed (parts_of text)) ps (from_text timeline s text b (suc t)) z next → Trail timeline (Named true n ∷ ps) s z next
     on (passed mid u v) = through t text b mid is u v
-    on (stopped p e u) = subst (Trail story (Named true n ∷ ps) s z) (sym e) (into t text b is u)
+    on (stopped p e u) = subst (Trail timeline (Named true n ∷ ps) s z) (sym e) (into t text b is u)
 
-module _ {w : Walked} (lived : Lived w) (now u : ℕ) (room : Bool) (want : room ≡ false → TellsError w NoMemory)
+module _ {w : WalkInHistory} (lived : Lived w) (now u : ℕ) (room : Bool) (want : room ≡ false → TellsError w NoMemory)
     (position : Position) (link : Handle) (inner rest : List AskedPart) (b : ℕ)
     (good : GoodReading w now position link inner rest b) (answer : Answer)
     (is : StepAt w now u (ReadLink link.number) answer) where
@@ -62,21 +62,21 @@ module _ {w : Walked} (lived : Lived w) (now u : ℕ) (room : Bool) (want : room
   position_now = position_kept w now (suc u) position kept good.position_held
 
   -- the parts of the text come in the place of the link's name
-  going_on : crosses w.way.flags text ≡ false → (to : Position) → from_text (story w) (spot_at w position (suc b) good.m) text b (suc good.t) ≡ spot_at w to b (suc good.t)
+  going_on : crosses w.way.flags text ≡ false → (to : Position) → from_text (timeline w) (spot_at w position (suc b) good.m) text b (suc good.t) ≡ spot_at w to b (suc good.t)
       → Going w (suc u) to (followed (parts_of text) ++ inner) rest b
   going_on within to e = going_later (le_trans good.past (le_trans is.at.later (le-suc u)))
       (passes good.own (Named true good.name) position inner rest (suc b) good.going (followed (parts_of text)) to b (suc good.t)
-      (λ ps z next tr. spliced (story w) good.name text (spot_at w position (suc b) good.m) good.t b
+      (λ ps z next tr. spliced (timeline w) good.name text (spot_at w position (suc b) good.m) good.t b
       (record { link = link.node; child = good.at; is_link = good.is_link; links = refl; allowed = good.allowed; within = within })
-      ps z next (subst (λ s. Trail (story w) (followed (parts_of text) ++ ps) s z next) (sym e) tr))
-      (λ g z q tr. within_text (is_at within) g z q (split (story w) (followed (parts_of text)) []
-      (subst (λ s. Trail (story w) (followed (parts_of text) ++ []) s z (Some q)) (sym e) tr))))
+      ps z next (subst (λ s. Trail (timeline w) (followed (parts_of text) ++ ps) s z next) (sym e) tr))
+      (λ g z q tr. within_text (is_at within) g z q (split (timeline w) (followed (parts_of text)) []
+      (subst (λ s. Trail (timeline w) (followed (parts_of text) ++ []) s z (Some q)) (sym e) tr))))
     where
-      is_at : crosses w.way.flags text ≡ false → IsLinkAt (story w) (spot_at w position (suc b) good.m) good.name good.t text b
+      is_at : crosses w.way.flags text ≡ false → IsLinkAt (timeline w) (spot_at w position (suc b) good.m) good.name good.t text b
       is_at inside = record { link = link.node; child = good.at; is_link = good.is_link; links = refl; allowed = good.allowed; within = inside }
 
-      within_text : IsLinkAt (story w) (spot_at w position (suc b) good.m) good.name good.t text b → Going w good.m position [] (Named true good.name ∷ rest) (suc b)
-          → (z : Spot) (q : AskedPart) → Split (story w) (followed (parts_of text)) [] (from_text (story w) (spot_at w position (suc b) good.m) text b (suc good.t)) z (Some q)
+      within_text : IsLinkAt (timeline w) (spot_at w position (suc b) good.m) good.name good.t text b → Going w good.m position [] (Named true good.name ∷ rest) (suc b)
+          → (z : Spot) (q : AskedPart) → Split (timeline w) (followed (parts_of text)) [] (from_text (timeline w) (spot_at w position (suc b) good.m) text b (suc good.t)) z (Some q)
           → IsWithinLink w z q
       within_text is_link g z q (passed mid u v) = absurd (no_stop v)
       within_text is_link g z q (stopped p same u) = record {
@@ -90,7 +90,7 @@ module _ {w : Walked} (lived : Lived w) (now u : ℕ) (room : Bool) (want : room
         text = text;
         left = b;
         link = is_link;
-        stop = subst (λ x. Trail (story w) (followed (parts_of text)) (from_text (story w) (spot_at w position (suc b) good.m) text b (suc good.t)) z x) (sym same) u;
+        stop = subst (λ x. Trail (timeline w) (followed (parts_of text)) (from_text (timeline w) (spot_at w position (suc b) good.m) text b (suc good.t)) z x) (sym same) u;
       }
 
   abbrev starting : Bool → Spot

@@ -11,7 +11,7 @@ use Rattle.tree_model.specs.declared.step.StepOf.{StepOf}
 use Rattle.tree_model.specs.Entries.{refuse_if}
 use Rattle.tree_model.specs.Steps.{outcome, held_count, node_held, is_held_by, is_full}
 use Rattle.step_resolver.specs.Order.{Position, root_itself, holds, handles_of}
-use Rattle.step_resolver.specs.WalkHistory.{Walked, begin_of, state_at}
+use Rattle.step_resolver.specs.WalkHistory.{WalkInHistory, begin_of, state_at}
 use Rattle.step_resolver.specs.Failures.{MetRefusal, TellsTooMany}
 use Rattle.step_resolver.proofs.Underway.WalkInvariant.{StepAt, HandlesAre}
 
@@ -82,7 +82,7 @@ one_more a (x ∷ xs) (y ∷ ys) (suc h) same =
     omega (arith, counted a x xs, counted a y ys, same_weight a x y (same 0 (λ e. cc (e))), rest)
 
 -- a walk that holds no more than its place has opened one handle more at most
-pub few_held : (w : Walked) (m : ℕ) (position : Position) → HandlesAre w m (handles_of position)
+pub few_held : (w : WalkInHistory) (m : ℕ) (position : Position) → HandlesAre w m (handles_of position)
     → held_count (state_at w m) w.actor ≤ suc (held_count (begin_of w) w.actor)
 few_held w m root_itself are =
     let same = same_count w.actor (begin_of w).handles (state_at w m).handles (λ k. are.others k tt) in omega (arith, same)
@@ -90,7 +90,7 @@ few_held w m (holds handle names) are =
     one_more w.actor (begin_of w).handles (state_at w m).handles handle.number (λ k ne. are.others k (ne, tt))
 
 -- a step that was refused for want of handles
-pub refusal_told : {w : Walked} {m t : ℕ} {step : StepOf ℕ} {answer : Answer} → StepAt w m t step answer → MetRefusal step w.lines
+pub refusal_told : {w : WalkInHistory} {m t : ℕ} {step : StepOf ℕ} {answer : Answer} → StepAt w m t step answer → MetRefusal step w.lines
     → (outcome (state_at w t) w.actor step).answer ≡ Refused TooMany → is_full (state_at w t) w.actor ≡ true
     → held_count (state_at w t) w.actor ≤ suc (held_count (begin_of w) w.actor) → TellsTooMany w
 refusal_told {w} {m} {t} {step} {answer} is line told full few = record {

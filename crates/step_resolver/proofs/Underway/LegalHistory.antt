@@ -15,8 +15,8 @@ use Rattle.tree_model.specs.StepLaws.{OthersHandlesStay, NodesAreLeft}
 use Rattle.tree_model.specs.PlaceLaws.{StandsAtOneWay, NamesBelowAreStanding}
 use Rattle.tree_model.specs.HistoryLaws.{HistoriesKeepTrees, ObjectsStayForGood}
 use Rattle.step_resolver.specs.Trail.{is_by}
-use Rattle.step_resolver.specs.Order.{Line, answered, short, unmade, events_of}
-use Rattle.step_resolver.specs.WalkHistory.{Walked, begin_of, end_of, state_at, own_events, IsWalked}
+use Rattle.step_resolver.specs.Order.{Line, answered, no_room, not_made, events_of}
+use Rattle.step_resolver.specs.WalkHistory.{WalkInHistory, begin_of, end_of, state_at, own_events, IsWalkInHistory}
 use Rattle.step_resolver.proofs.Underway.WalkInvariant.{Lived, StepAt, Happens, held_at}
 
 -- the laws of trees that are used
@@ -41,10 +41,10 @@ objects_to_end laws s events m x object e =
     subst (λ t. object_at t.nodes x ≡ Some object) (last_moment s events (m + length events) (omega arith))
     (laws.objects s events m (m + length events) x object (omega arith) e)
 
-pub begins_as_tree : TreeLaws → (w : Walked) → IsWalked w → IsState (begin_of w)
+pub begins_as_tree : TreeLaws → (w : WalkInHistory) → IsWalkInHistory w → IsState (begin_of w)
 begins_as_tree laws w is = (laws.trees w.opening w.before is.tree).0
 
-pub lived : TreeLaws → (w : Walked) → IsWalked w → Lived w
+pub lived : TreeLaws → (w : WalkInHistory) → IsWalkInHistory w → Lived w
 lived laws w is = record {
   states = λ m. (laws.trees (begin_of w) w.window begin_is).1 m;
   objects = λ m x object e. objects_to_end laws (begin_of w) w.window m x object e;
@@ -63,12 +63,12 @@ lived laws w is = record {
 -- ---- the walk's lines in the window
 
 -- these events are what is left of the window at moment m, in the state as it is then
-record IsRest (w : Walked) (m : ℕ) (s : State) (rest : List Event) : Type 0 where
+record IsRest (w : WalkInHistory) (m : ℕ) (s : State) (rest : List Event) : Type 0 where
   pub states : (j k : ℕ) → j ≡ m + k → state_at w j ≡ tree_at s rest k
   pub events : (j k : ℕ) → j ≡ m + k → slice_get w.window j ≡ slice_get rest k
   pub ends : end_of w ≡ after_events s rest
 
-one_less : {w : Walked} {m : ℕ} {s : State} {event : Event} {rest : List Event} → IsRest w m s (event ∷ rest) → IsRest w (suc m) (after_event s event) rest
+one_less : {w : WalkInHistory} {m : ℕ} {s : State} {event : Event} {rest : List Event} → IsRest w m s (event ∷ rest) → IsRest w (suc m) (after_event s event) rest
 one_less is = record {
   states = λ j k e. is.states j (suc k) (omega arith);
   events = λ j k e. is.events j (suc k) (omega arith);
@@ -95,7 +95,7 @@ unfolding tail_of
 same_tail x y xs ys e = ap tail_of e
 
 -- the walk's next event, and what is left after it
-record IsNext (w : Walked) (n : ℕ) (step : StepOf ℕ) (answer : Answer) (others : List Event) : Type 0 where
+record IsNext (w : WalkInHistory) (n : ℕ) (step : StepOf ℕ) (answer : Answer) (others : List Event) : Type 0 where
   pub t : ℕ
   pub state : State
   pub rest : List Event
@@ -105,7 +105,7 @@ record IsNext (w : Walked) (n : ℕ) (step : StepOf ℕ) (answer : Answer) (othe
   pub own : own_events w.actor rest ≡ others
   pub kept : (h : ℕ) → held state w.actor h ≡ held_at w (suc t) h
 
-module _ (laws : TreeLaws) (w : Walked) where
+module _ (laws : TreeLaws) (w : WalkInHistory) where
   -- a step of another leaves the actor's handles
   other_keeps : (s : State) (event : Event) → (event.actor == w.actor) ≡ false → (h : ℕ) → held (after_event s event) w.actor h ≡ held s w.actor h
   other_keeps s event e h = laws.others s event.actor event.step w.actor h (λ q. eqb-false event.actor w.actor e (sym q))
@@ -171,13 +171,13 @@ module _ (laws : TreeLaws) (w : Walked) where
   happen (answered step answer ∷ lines) rest m n s le is legal kept own =
       let next = next_event rest m n s step answer (events_of w.actor lines) le is legal kept own in
       (next.t, (next.at, happen lines next.rest (suc next.t) (suc next.t) next.state (le_refl (suc next.t)) next.is_rest next.legal next.kept next.own))
-  happen (short step answer ∷ lines) rest m n s le is legal kept own =
+  happen (no_room step answer ∷ lines) rest m n s le is legal kept own =
       let next = next_event rest m n s step answer (events_of w.actor lines) le is legal kept own in
       (next.t, (next.at, happen lines next.rest (suc next.t) (suc next.t) next.state (le_refl (suc next.t)) next.is_rest next.legal next.kept next.own))
-  happen (unmade error ∷ lines) rest m n s le is legal kept own = happen lines rest m n s le is legal kept own
+  happen (not_made error ∷ lines) rest m n s le is legal kept own = happen lines rest m n s le is legal kept own
 
   -- the walk's lines happen in its window
-  pub lines_happen : IsWalked w → Happens w 0 w.lines
+  pub lines_happen : IsWalkInHistory w → Happens w 0 w.lines
   lines_happen is = happen w.lines w.window 0 0 (begin_of w) (le_refl 0)
       (record {
         states = λ j k e. ap (state_at w) (same_number j k e);

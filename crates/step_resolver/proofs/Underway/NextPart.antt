@@ -11,9 +11,9 @@ use Rattle.tree_model.specs.State.{is_directory, Stands}
 use Rattle.tree_model.specs.Steps.{kind_of}
 use Rattle.step_resolver.specs.Asked.{AskedPart, Cur, Up, Named}
 use Rattle.step_resolver.specs.Meaning.{is_too_long}
-use Rattle.step_resolver.specs.Trail.{Story, Spot, Trail, all, before, stay, top, climb, down, through, into}
+use Rattle.step_resolver.specs.Trail.{Timeline, Spot, Trail, all, before, stay, top, climb, down, through, into}
 use Rattle.step_resolver.specs.Order.{Position, root_itself, holds, todo, After, gives, onward, judges, opening, Turn, more, handles_of, is_dir_position, is_dir_kind, gives_up, at_end, at_top, in_directory, on_part, on_own, on_parts, goes_on, comes, closes}
-use Rattle.step_resolver.specs.WalkHistory.{Walked, story, start}
+use Rattle.step_resolver.specs.WalkHistory.{WalkInHistory, timeline, start}
 use Rattle.step_resolver.specs.Failures.{TellsError}
 use Rattle.step_resolver.proofs.Underway.WalkInvariant.{Lived, HandlesAre, node_at, spot_at, IsPositionHeld, Going, GoesFor, stop_at, passed_on, AllApart, handles_after, at_all, GoodAfter, Good}
 
@@ -25,18 +25,18 @@ text_start true s r start e = refl
 text_start false s r start e = start e
 
 -- a trail that passed no names in the end is at the root
-pub at_the_root : (story : Story) {ps : List AskedPart} {s z : Spot} {next : Option AskedPart} → Trail story ps s z next
-    → (s.names ≡ [] → s.node ≡ story.root) → z.names ≡ [] → z.node ≡ story.root
-at_the_root story (all m l) start e = start e
-at_the_root story (before m l) start e = start e
-at_the_root story (stay dir t) start e = at_the_root story t start e
-at_the_root story (top is t) start e = at_the_root story t start e
-at_the_root story (climb t u x names is rest) start e =
-    at_the_root story rest (λ q. subst (λ ns. Stands (story.nodes_at u) story.root x ns) q is.stands) e
-at_the_root story {s = s} (down {n = n} t c is entered rest) start e = at_the_root story rest (λ q. absurd (names_not_empty n s.names q)) e
-at_the_root story {s = s} (through t text b mid is sub rest) start e =
-    at_the_root story rest (λ q. at_the_root story sub (text_start (begins_with_slash text) s story.root start) q) e
-at_the_root story {s = s} (into t text b is sub) start e = at_the_root story sub (text_start (begins_with_slash text) s story.root start) e
+pub at_the_root : (timeline : Timeline) {ps : List AskedPart} {s z : Spot} {next : Option AskedPart} → Trail timeline ps s z next
+    → (s.names ≡ [] → s.node ≡ timeline.root) → z.names ≡ [] → z.node ≡ timeline.root
+at_the_root timeline (all m l) start e = start e
+at_the_root timeline (before m l) start e = start e
+at_the_root timeline (stay dir t) start e = at_the_root timeline t start e
+at_the_root timeline (top is t) start e = at_the_root timeline t start e
+at_the_root timeline (climb t u x names is rest) start e =
+    at_the_root timeline rest (λ q. subst (λ ns. Stands (timeline.nodes_at u) timeline.root x ns) q is.stands) e
+at_the_root timeline {s = s} (down {n = n} t c is entered rest) start e = at_the_root timeline rest (λ q. absurd (names_not_empty n s.names q)) e
+at_the_root timeline {s = s} (through t text b mid is sub rest) start e =
+    at_the_root timeline rest (λ q. at_the_root timeline sub (text_start (begins_with_slash text) s timeline.root start) q) e
+at_the_root timeline {s = s} (into t text b is sub) start e = at_the_root timeline sub (text_start (begins_with_slash text) s timeline.root start) e
 
 pub all_apart : (ks : List ℕ) → AllApart ks []
 all_apart [] = tt
@@ -52,7 +52,7 @@ a_directory Dir e = refl
 a_directory File e = e
 a_directory (Link text) e = e
 
-module _ {w : Walked} (lived : Lived w) where
+module _ {w : WalkInHistory} (lived : Lived w) where
   -- the walk gives up for an error that is true
   pub gave_up : {now : ℕ} (hs : List ℕ) (error : Errno) → TellsError w error → HandlesAre w now hs → Good w now (gives_up hs error)
   gave_up [] error told are = (told, are)
@@ -63,7 +63,7 @@ module _ {w : Walked} (lived : Lived w) where
   }
 
   position_dir : (now : ℕ) (position : Position) → IsPositionHeld w now position → is_dir_position position ≡ true
-      → is_directory ((story w).object_of (node_at w position)) ≡ true
+      → is_directory ((timeline w).object_of (node_at w position)) ≡ true
   position_dir now root_itself held e = lived.root_is_dir
   position_dir now (holds handle names) held e = ap is_directory held.is_what ∙ a_directory held.what (ap is_dir_kind held.kind ∙ e)
 
@@ -83,13 +83,13 @@ module _ {w : Walked} (lived : Lived w) where
 
     -- `..` where no names are passed
     top_good : (position : Position) (own : Bool) → GoesFor w now own Up position (todo inner rest b) → IsPositionHeld w now position
-        → HandlesAre w now (handles_of position) → is_directory ((story w).object_of (node_at w position)) ≡ true
+        → HandlesAre w now (handles_of position) → is_directory ((timeline w).object_of (node_at w position)) ≡ true
         → (spot_at w position b now).names ≡ [] → (Going w now position inner rest b → Good w now turn)
         → Good w now (at_top w.way position turn)
     top_good position own g held are dir none passed = on w.way.flags.beneath refl
       where
         at_root : node_at w position ≡ w.root
-        at_root = at_the_root (story w) (stop_at w own Up position (todo inner rest b) g) (λ e. refl) none
+        at_root = at_the_root (timeline w) (stop_at w own Up position (todo inner rest b) g) (λ e. refl) none
 
         on : (t : Bool) → w.way.flags.beneath ≡ t → Good w now (at_top w.way position turn)
         on true e = subst (Good w now) (sym (ap (λ t. if t then gives_up (handles_of position) CrossRoot else turn) e))
@@ -103,7 +103,7 @@ module _ {w : Walked} (lived : Lived w) where
 
     -- the next part of a directory
     in_directory_good : (position : Position) (p : AskedPart) (own : Bool) → GoesFor w now own p position (todo inner rest b) → IsPositionHeld w now position
-        → HandlesAre w now (handles_of position) → is_directory ((story w).object_of (node_at w position)) ≡ true
+        → HandlesAre w now (handles_of position) → is_directory ((timeline w).object_of (node_at w position)) ≡ true
         → (Going w now position inner rest b → Good w now turn)
         → Good w now (in_directory w.way position p own (todo inner rest b) turn)
     in_directory_good position Cur own g held are dir passed =

@@ -4,7 +4,7 @@ use Rattle.std.proofs.Common.{sym, ap, ◌∙◌}
 use Rattle.std.proofs.lemmas.Bool.{false≢true}
 use Rattle.tree_model.specs.declared.answer.Event.{Event}
 use Rattle.step_resolver.specs.Trail.{is_by}
-use Rattle.step_resolver.specs.WalkHistory.{begin_of, state_at, story}
+use Rattle.step_resolver.specs.WalkHistory.{begin_of, state_at, timeline}
 use Rattle.step_resolver.specs.OwnSteps.{OwnEventsLeaveNodes}
 use Rattle.step_resolver.proofs.Ends.EveryWalk.{tree_laws}
 use Rattle.step_resolver.proofs.Ends.EntriesLeftAlone.{own_tells, next_moment}
@@ -13,7 +13,7 @@ use Rattle.step_resolver.proofs.Ends.WalksMean.{only_tell}
 pub own_events_leave_nodes : OwnEventsLeaveNodes
 own_events_leave_nodes w end is leads t own = on (slice_get w.window t) refl
   where
-    on : (o : Option Event) → slice_get w.window t ≡ o → (story w).nodes_at (suc t) ≡ (story w).nodes_at t
+    on : (o : Option Event) → slice_get w.window t ≡ o → (timeline w).nodes_at (suc t) ≡ (timeline w).nodes_at t
     on None q = absurd (false≢true (sym (ap (is_by w.actor) q) ∙ own))
     on (Some event) q = ap (λ s. s.nodes) (next_moment (begin_of w) w.window t event q)
         ∙ tree_laws.nodes (state_at w t) event.actor event.step

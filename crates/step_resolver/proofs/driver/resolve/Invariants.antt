@@ -1,4 +1,4 @@
-use Rattle.step_resolver.specs.Taken.{steps_to_come}
+use Rattle.step_resolver.specs.TurnView.{steps_to_come}
 use Rattle.step_resolver.specs.View.{way_from}
 use Rattle.step_resolver.proofs.DrivenWalks.{IsDriven}
 use Rattle.step_resolver.proofs.driver.resolve.Given as goal

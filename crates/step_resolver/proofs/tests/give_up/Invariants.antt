@@ -1,4 +1,4 @@
-use Rattle.step_resolver.specs.Taken.{steps_to_come}
+use Rattle.step_resolver.specs.TurnView.{steps_to_come}
 use Rattle.step_resolver.proofs.tests.give_up.Given as goal
 
 abbrev pub decreases-loop-turn : goal.decreases-loop-turn

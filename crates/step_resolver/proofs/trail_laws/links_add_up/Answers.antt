@@ -3,6 +3,6 @@ use Rattle.step_resolver.proofs.trail_laws.links_add_up.Goals as goal
 
 pub returns : goal.returns
 returns c = record {
-  rising = λ story ps s z next t. (rises story t, fewer_links story t);
-  more = λ story k ps s z next t. with_more_links story k t;
+  rising = λ timeline ps s z next t. (rises timeline t, fewer_links timeline t);
+  more = λ timeline k ps s z next t. with_more_links timeline k t;
 }

@@ -3,6 +3,6 @@ use Rattle.step_resolver.proofs.trail_laws.trails_append.Goals as goal
 
 pub returns : goal.returns
 returns c = record {
-  trails = λ story ps qs s mid z next t u. appended story t u;
-  stops = λ story ps qs s z p t. stop_of_more story qs t;
+  trails = λ timeline ps qs s mid z next t u. appended timeline t u;
+  stops = λ timeline ps qs s z p t. stop_of_more timeline qs t;
 }

@@ -11,13 +11,13 @@ use Rattle.walk_plan.specs.Plan.{PlanState, leads_out}
 use Rattle.step_resolver.specs.declared.walk.Root.{Root}
 use Rattle.step_resolver.specs.Asked.{asked, follows}
 use Rattle.step_resolver.specs.Meaning.{LINKS_MAX}
-use Rattle.step_resolver.specs.Order.{Way, root_itself, todo, goes_on, Walking, opening, reading, rising, judging, duping, ending, closing, Turn, more, found, partial, failed, begins, take, Line, answered, short, unmade, LeadsTo}
-use Rattle.step_resolver.specs.WalkHistory.{Walked, IsWalked}
+use Rattle.step_resolver.specs.Order.{Way, root_itself, todo, goes_on, Walking, opening, reading, rising, judging, duping, ending, closing, Turn, more, found, partial, failed, begins, take, Line, answered, no_room, not_made, LeadsTo}
+use Rattle.step_resolver.specs.WalkHistory.{WalkInHistory, IsWalkInHistory}
 use Rattle.step_resolver.specs.Headline.{Headline, WalksTell}
 use Rattle.step_resolver.specs.FootprintLaws.{WalksMean}
 use Rattle.step_resolver.specs.View.{way_from}
-use Rattle.step_resolver.specs.Taken.{StartsTo, TakesTo}
-use Rattle.step_resolver.specs.Telling.{IsLineOf, TellsTaken, first_lines, TellsBegun}
+use Rattle.step_resolver.specs.TurnView.{StartsTo, TakesTo}
+use Rattle.step_resolver.specs.TurnsTell.{IsLineOf, TellsTaken, first_lines, TellsBegun}
 use Rattle.step_resolver.proofs.WalkSteps.{swapped}
 use Rattle.step_resolver.proofs.FirstTurns.{first_lines_lead}
 
@@ -26,9 +26,9 @@ pub leads_on : (way : Way) (lines : List Line) (turn mid : Turn) (others : List 
 leads_on way [] turn mid others end first onward = subst (λ t. LeadsTo way t others end) (sym first) onward
 leads_on way (answered step answer ∷ lines) (more walk) mid others end first onward =
     (first.0, leads_on way lines (take way true walk answer) mid others end first.1 onward)
-leads_on way (short step answer ∷ lines) (more walk) mid others end first onward =
+leads_on way (no_room step answer ∷ lines) (more walk) mid others end first onward =
     (first.0, leads_on way lines (take way false walk answer) mid others end first.1 onward)
-leads_on way (unmade error ∷ lines) (more walk) mid others end first onward =
+leads_on way (not_made error ∷ lines) (more walk) mid others end first onward =
     (first.0, (first.1.0, leads_on way lines (take way true walk (Refused error)) mid others end first.1.1 onward))
 leads_on way (line ∷ lines) (found handle names) mid others end first onward = absurd first
 leads_on way (line ∷ lines) (partial handle names rest) mid others end first onward = absurd first
@@ -49,13 +49,13 @@ pub line_leads : (way : Way) (room : Bool) (walk : Walking) (answer : Answer) (t
     → turn ≡ take way room walk answer → IsLineOf way room walk answer line → LeadsTo way (more walk) (line ∷ []) turn
 line_leads way room walk answer turn (answered step told) taken is =
     (is.1, ap (λ a. take way true walk a) is.2 ∙ ap (λ r. take way r walk answer) (sym is.0) ∙ sym taken)
-line_leads way room walk answer turn (short step told) taken is =
+line_leads way room walk answer turn (no_room step told) taken is =
     (is.1, ap (λ a. take way false walk a) is.2 ∙ ap (λ r. take way r walk answer) (sym is.0) ∙ sym taken)
-line_leads way room walk answer turn (unmade error) taken is =
+line_leads way room walk answer turn (not_made error) taken is =
     (is.0, (is.1, refusal_needs_no_room way room walk error ∙ ap (λ a. take way room walk a) (sym is.2) ∙ sym taken))
 
 -- what an end tells, and what the path means
-tells_all : WalksTell → WalksMean → (way : Way) (w : Walked) (turn : Turn) → IsWalked w → w.way ≡ way → LeadsTo way (begins way w.path) w.lines turn → Headline w turn
+tells_all : WalksTell → WalksMean → (way : Way) (w : WalkInHistory) (turn : Turn) → IsWalkInHistory w → w.way ≡ way → LeadsTo way (begins way w.path) w.lines turn → Headline w turn
 tells_all tell mean way w turn walked same_way leads_by =
     let leads = subst (λ (v : Way). LeadsTo v (begins v w.path) w.lines turn) (sym same_way) leads_by in
     record { tells = tell w turn walked leads; means = (mean w turn walked leads).0; deepest = (mean w turn walked leads).1 }

@@ -22,11 +22,11 @@ abbrev pub standing_handle : StandingObject → Handle
 standing_handle s = record { number = s.handle; node = s.node; kind = s.kind }
 
 -- a turn as the order of steps has it: names the innermost first, and the rest of the caller's parts as they were asked
-abbrev pub seen : Goal → Outcome → Turn
-seen goal (More walk) = more walk.walking
-seen goal (Found standing) = found (standing_handle standing) (reverse standing.names)
-seen goal (Partial standing rest) = partial (standing_handle standing) (reverse standing.names) (asked (follows goal) rest)
-seen goal (Failed error) = failed error
+abbrev pub turn_view : Goal → Outcome → Turn
+turn_view goal (More walk) = more walk.walking
+turn_view goal (Found standing) = found (standing_handle standing) (reverse standing.names)
+turn_view goal (Partial standing rest) = partial (standing_handle standing) (reverse standing.names) (asked (follows goal) rest)
+turn_view goal (Failed error) = failed error
 
 -- it is still this owner's, and on this way
 abbrev pub Keeps : Owner → Way → Outcome → Type 0
