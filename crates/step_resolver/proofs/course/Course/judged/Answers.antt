@@ -11,8 +11,9 @@ returns-in-Ok-clause-turn c =
     let way = way_of c.args.self.now.root p in
     let told = rw c.names.ensures at c.in-Ok.ensures.ok.0 in
     let same : handle_of c.onward.result ≡ handle_of c.args.new =
-    ap handle_of (c.onward.ensures ∙ ap unchecked c.in-Ok.ensures.ok.1) in
-    (true,
+    ap handle_of (c.onward.ensures ∙ ap unchecked c.in-Ok.ensures.ok.1) in (
+      true,
       c.go_on.ensures.turn ∙ ap (λ handle. goes_on way (holds handle (reverse p.names)) (todo_of p)) same
-      ∙ sym (judging_stands way c.args.new p.names (todo_of p))
-      ∙ ap (take way true (judging (handle_of c.args.new) (reverse p.names) (todo_of p))) (sym told))
+          ∙ sym (judging_stands way c.args.new p.names (todo_of p))
+          ∙ ap (take way true (judging (handle_of c.args.new) (reverse p.names) (todo_of p))) (sym told),
+    )
