@@ -11,9 +11,9 @@ use tree_model::{
     Inode, Mode, NUMBERS_MAX, Node, Object, Place, child, has_entries, is_dir, is_gone,
 };
 
-// Gives a node another place. Every number that comes here is a node's; the definition leaves the nodes at another.
+/// Gives a node another place. Every number that comes here is a node's; the definition leaves the nodes at another.
 #[tactic(auto, using(crate::proofs::Nodes::put_at_from_set, crate::proofs::Nodes::put_at_past))]
-fn put_at(nodes: &mut [Inode], x: Node, place: Option<Place>)
+pub fn put_at(nodes: &mut [Inode], x: Node, place: Option<Place>)
     ensures { nodes.new ≡ put_at nodes.old x place }
 {
     let at = x.number() as usize;

@@ -13,7 +13,9 @@ mod step;
 mod tree;
 
 pub use build::{BuildFault, Entry, New};
-pub use tree::ListTree;
+pub use entries::put_at;
+pub use read::{directory_at, is_within};
+pub use tree::{ListTree, copy_nodes};
 
 #[cfg(test)]
 mod tests;

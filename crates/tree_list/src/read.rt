@@ -9,7 +9,7 @@ use tree_model::{Inode, Node, child, is_dir, place_at, top};
 
 /// Whether a node is `top` or stands below it.
 #[tactic(auto, using(crate::proofs::Nodes::is_within_up))]
-pub(crate) fn is_within(nodes: &[Inode], top: Node, x: Node) -> bool
+pub fn is_within(nodes: &[Inode], top: Node, x: Node) -> bool
     ensures { result ≡ is_within nodes.now top x }
 {
     let mut at = x;
@@ -95,7 +95,7 @@ pub(crate) fn sorted(alloc: Global, names: Vec<Name>) -> Result<Names, NoMemory>
 /// The directory at these names below the top, no link followed. Errors, in this order: at each name
 /// NotDir and NotFound, NotDir at the end.
 #[tactic(auto, using(crate::proofs::Ways::ways))]
-pub(crate) fn directory_at(nodes: &[Inode], names: &Names) -> Result<Node, Errno>
+pub fn directory_at(nodes: &[Inode], names: &Names) -> Result<Node, Errno>
     ensures { result ≡ directory_at nodes.now TOP names.now }
 {
     let mut at = top();

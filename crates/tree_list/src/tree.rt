@@ -71,6 +71,14 @@ impl ListTree {
         let handles = Vec::from_slice(alloc, &self.handles)?;
         Ok(ListTree { nodes, handles })
     }
+
+    /// The nodes and the handles, each at its number.
+    pub fn into_parts(self) -> (Vec<Inode>, Vec<Option<OpenHandle>>)
+        ensures { self ≡ record { nodes = result.0.items; handles = result.1.items } }
+    {
+        let ListTree { nodes, handles } = self;
+        (nodes, handles)
+    }
 }
 
 impl Tree for ListTree {
@@ -114,8 +122,8 @@ impl Tree for ListTree {
     }
 }
 
-// Equal nodes.
-fn copy_nodes(alloc: Global, nodes: &[Inode]) -> Result<Vec<Inode>, NoMemory>
+/// Equal nodes. NoMemory where their room was refused.
+pub fn copy_nodes(alloc: Global, nodes: &[Inode]) -> Result<Vec<Inode>, NoMemory>
     ensures { IfOk result (λ copies. copies.items ≡ nodes.now) }
 {
     let mut copies = Vec::with_capacity(alloc, nodes.len())?;

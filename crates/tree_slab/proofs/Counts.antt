@@ -1,0 +1,136 @@
+-- The counts follow the handles: one more is opened, or one is closed.
+use Rattle.std.proofs.Common.{◌≡◌, ◌≢◌, ℕ, zero, suc, ◌+◌, ◌-◌, ◌<◌, ◌≤◌, Bool, true, false, cond, if◌then◌else◌, ◌==◌, nat_eq, List, [], ◌∷◌, ◌++◌, get_or, set, length, length-append, take, Option, Some, None, is_some, IsSome, count_by, refl, ap, sym, ◌∙◌, inl, inr, eq-eqb, eqb-true, add-zero, subst, arith}
+use Rattle.std.specs.Prelude.{slice_get}
+use Rattle.std.proofs.lemmas.Bool.{cases_eq, ne_eqb, false≢true, true≢false}
+use Rattle.std.proofs.lemmas.List.Sums.{sum_by-set, sum_by-append, count_by-le-length}
+use Rattle.std.proofs.lemmas.List.{take_more, length-take}
+use Rattle.std.proofs.lemmas.Option.{none-some, same_Some}
+use Rattle.std.specs.HashMap.{HashMap, get, IsEmpty}
+use Rattle.std.specs.Map.{count_at, lookup}
+use Rattle.std.specs.Option.{unwrap_or}
+use Rattle.tree_model.specs.declared.inode.OpenHandle.{OpenHandle}
+use Rattle.tree_model.specs.Steps.{is_held_by, node_held}
+use Rattle.tree_slab.specs.Counts.{IsCounted, CountsPlace}
+
+-- one more handle, of an actor
+pub count_opened : (handles : List (Option OpenHandle)) (h : OpenHandle) (b : ℕ)
+    → count_by (is_held_by b) (handles ++ Some h ∷ []) ≡ count_by (is_held_by b) handles + cond (h.actor == b) 1 0
+count_opened handles h b = sum_by-append (λ place. cond (is_held_by b place) 1 0) handles (Some h ∷ []) ∙ ap (λ n. count_by (is_held_by b) handles + n) (one (h.actor == b))
+  where
+    one : (t : Bool) → 0 + cond t 1 0 ≡ cond t 1 0
+    one true = refl
+    one false = refl
+
+abbrev bit : Bool → ℕ
+bit t = cond t 1 0
+
+bit-true : (t : Bool) → t ≡ true → bit t ≡ 1
+bit-true t e = ap bit e
+
+bit-false : (t : Bool) → t ≡ false → bit t ≡ 0
+bit-false t e = ap bit e
+
+slice_get-within : (handles : List (Option OpenHandle)) (h : ℕ) (place : Option OpenHandle) → slice_get handles h ≡ Some place → (h < length handles) × (get_or handles h None ≡ place)
+slice_get-within [] h place e = absurd (none-some place e)
+slice_get-within (first ∷ handles) zero place e = (omega arith, same_Some first place e)
+slice_get-within (first ∷ handles) (suc h) place e = let r = slice_get-within handles h place e in (let less = r.0 in omega arith, r.1)
+
+-- one handle less, of an actor
+pub count_closed : (handles : List (Option OpenHandle)) (h : ℕ) (handle : OpenHandle) (b : ℕ) → slice_get handles h ≡ Some (Some handle)
+    → count_by (is_held_by b) (set handles h None) + cond (handle.actor == b) 1 0 ≡ count_by (is_held_by b) handles
+count_closed handles h handle b there =
+    let r = slice_get-within handles h (Some handle) there in
+    let both = sum_by-set (λ place. cond (is_held_by b place) 1 0) handles h None None r.0 in
+    ap (λ place. count_by (is_held_by b) (set handles h None) + cond (is_held_by b place) 1 0) (sym r.1) ∙ both ∙ add-zero (count_by (is_held_by b) handles)
+
+-- the handle that an actor holds
+held_handle : (a : ℕ) (o : Option (Option OpenHandle)) → IsSome (node_held a o) → (handle : OpenHandle) × ((o ≡ Some (Some handle)) × (handle.actor ≡ a))
+held_handle a None held = absurd (false≢true held)
+held_handle a (Some None) held = absurd (false≢true held)
+held_handle a (Some (Some handle)) held = by (handle.actor == a) refl held
+  where
+    by : (t : Bool) → (handle.actor == a) ≡ t → is_some (cond t (Some handle.node) None) ≡ true → (one : OpenHandle) × ((Some (Some handle) ≡ Some (Some one)) × (one.actor ≡ a))
+    by true e held = (handle, (refl, eqb-true handle.actor a e))
+    by false e held = absurd (false≢true held)
+
+count_at-some : {S : Type 0} (counts : HashMap ℕ ℕ S) (a : ℕ) → 1 ≤ count_at (get nat_eq counts) a → IsSome (get nat_eq counts a)
+count_at-some counts a less = by (get nat_eq counts a) less
+  where
+    by : (o : Option ℕ) → 1 ≤ unwrap_or o 0 → IsSome o
+    by None less = absurd (omega arith)
+    by (Some n) less = refl
+
+module _ (handles : List (Option OpenHandle)) (a h : ℕ) (held : IsSome (node_held a (slice_get handles h))) where
+  pub held_counts : 1 ≤ count_by (is_held_by a) handles
+  held_counts =
+      let r = held_handle a (slice_get handles h) held in
+      let both = count_closed handles h r.0 a r.1.0 in
+      let same : bit (r.0.actor == a) ≡ 1 = bit-true (r.0.actor == a) (eq-eqb r.0.actor a r.1.1) in
+      omega (arith, both, same)
+
+  pub held_within : h < length handles
+  held_within =
+      let r = held_handle a (slice_get handles h) held in
+      (slice_get-within handles h (Some r.0) r.1.0).0
+
+  pub held_has_count : {S : Type 0} (counts : HashMap ℕ ℕ S) → IsCounted handles counts → IsSome (get nat_eq counts a)
+  held_has_count counts counted = count_at-some counts a (let c = counted a in let less = held_counts in omega arith)
+
+  pub counted_closed : {S : Type 0} (old new : HashMap ℕ ℕ S) (count : ℕ) → IsCounted handles old → count ≡ count_by (is_held_by a) handles
+      → ((q : ℕ) → get nat_eq new q ≡ cond (nat_eq a q) (Some (count - 1)) (get nat_eq old q)) → IsCounted (set handles h None) new
+  counted_closed old new count counted is updates b = ap (λ o. unwrap_or o 0) (updates b) ∙ value (nat_eq a b) refl
+    where
+      value : (t : Bool) → nat_eq a b ≡ t → unwrap_or (cond t (Some (count - 1)) (get nat_eq old b)) 0 ≡ count_by (is_held_by b) (set handles h None)
+      value true e =
+          let r = held_handle a (slice_get handles h) held in
+          let one = eqb-true a b e in
+          let both = count_closed handles h r.0 b r.1.0 in
+          let same : bit (r.0.actor == b) ≡ 1 = bit-true (r.0.actor == b) (eq-eqb r.0.actor b (r.1.1 ∙ one)) in
+          let is_b : count ≡ count_by (is_held_by b) handles = is ∙ ap (λ z. count_by (is_held_by z) handles) one in
+          omega (arith, both, same, is_b)
+      value false e =
+          let r = held_handle a (slice_get handles h) held in
+          let ne : r.0.actor ≢ b = λ q. true≢false (sym (eq-eqb a b (sym r.1.1 ∙ q)) ∙ e) in
+          let both = count_closed handles h r.0 b r.1.0 in
+          let same : bit (r.0.actor == b) ≡ 0 = bit-false (r.0.actor == b) (ne_eqb r.0.actor b ne) in
+          let was : unwrap_or (get nat_eq old b) 0 ≡ count_by (is_held_by b) handles = counted b in
+          omega (arith, both, same, was)
+
+module _ {S : Type 0} (handles : List (Option OpenHandle)) (old new : HashMap ℕ ℕ S) where
+  pub counted_opened : (a node count : ℕ) → IsCounted handles old → count ≡ count_by (is_held_by a) handles
+      → ((q : ℕ) → get nat_eq new q ≡ cond (nat_eq a q) (Some (count + 1)) (get nat_eq old q))
+      → IsCounted (handles ++ Some (record { actor = a; node = node }) ∷ []) new
+  counted_opened a node count counted is updates b =
+      ap (λ o. unwrap_or o 0) (updates b) ∙ value (nat_eq a b) refl ∙ sym (count_opened handles (record { actor = a; node = node }) b)
+    where
+      value : (t : Bool) → nat_eq a b ≡ t → unwrap_or (cond t (Some (count + 1)) (get nat_eq old b)) 0 ≡ count_by (is_held_by b) handles + cond (a == b) 1 0
+      value true e =
+          let one = eqb-true a b e in
+          let same : bit (a == b) ≡ 1 = bit-true (a == b) (eq-eqb a b one) in
+          let is_b : count ≡ count_by (is_held_by b) handles = is ∙ ap (λ z. count_by (is_held_by z) handles) one in
+          omega (arith, same, is_b)
+      value false e =
+          let same : bit (a == b) ≡ 0 = bit-false (a == b) e in
+          let was : unwrap_or (get nat_eq old b) 0 ≡ count_by (is_held_by b) handles = counted b in
+          omega (arith, same, was)
+
+  -- the place of a handle is counted
+  pub counted_place : (place : Option OpenHandle) → IsCounted handles old → CountsPlace old new place → IsCounted (handles ++ place ∷ []) new
+  counted_place None counted same b =
+      ap (λ counts. count_at (get nat_eq counts) b) same ∙ counted b ∙ sym (sum_by-append (λ place. cond (is_held_by b place) 1 0) handles (None ∷ []) ∙ add-zero (count_by (is_held_by b) handles))
+  counted_place (Some handle) counted updates b = counted_opened handle.actor handle.node (count_at (get nat_eq old) handle.actor) counted (counted handle.actor) updates b
+
+pub counted_none : {S : Type 0} (counts : HashMap ℕ ℕ S) → IsEmpty counts → IsCounted [] counts
+counted_none counts empty b = ap (λ entries. unwrap_or (lookup (nat_eq b) entries) 0) empty
+
+pub counted_take_more : {S : Type 0} (handles : List (Option OpenHandle)) (i : ℕ) (place : Option OpenHandle) (old new : HashMap ℕ ℕ S)
+    → i < length handles → place ≡ get_or handles i place → IsCounted (take i handles) old → CountsPlace old new place → IsCounted (take (i + 1) handles) new
+counted_take_more handles i place old new more is counted counts =
+    subst (λ places. IsCounted places new) (sym (take_more handles i place more ∙ ap (λ p. take i handles ++ p ∷ []) (sym is))) (counted_place (take i handles) old new place counted counts)
+
+pub counted_below : {S : Type 0} (handles : List (Option OpenHandle)) (i : ℕ) (counts : HashMap ℕ ℕ S) → IsCounted (take i handles) counts → i < length handles → (a : ℕ) → count_at (get nat_eq counts) a < length handles
+counted_below handles i counts counted more a =
+    let c = counted a in
+    let few = count_by-le-length (is_held_by a) (take i handles) in
+    let short = length-take i handles in
+    omega arith

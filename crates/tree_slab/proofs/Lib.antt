@@ -1,0 +1,10 @@
+pub mod Maps
+pub mod NameOrder
+pub mod Keys
+pub mod Grown
+pub mod Agreement
+pub mod Fault
+pub mod Index
+pub mod Listed
+pub mod Started
+pub mod Counts

@@ -1,0 +1,25 @@
+use Rattle.std.proofs.Common.{rules, arith, ◌≡◌, ◌≢◌, ◌∙◌, ◌++◌, ◌∷◌, [], ◌&&◌, ◌<◌, true, false, not, nat_le, nat_eq, length, count_by, Some, None, IsSome, sym, ap}
+use Rattle.tree_model.specs.State.{child, is_dir, is_gone, is_within, has_entries, put_at}
+use Rattle.tree_slab.specs.Directories.{entry_in, SetsEntry, AddsNode}
+use Rattle.tree_slab.proofs.Index.{present, present_after, exchanged_index}
+use Rattle.tree_slab.proofs.nodes.Nodes.exchange.Goals as goal
+
+pub relink-requires : goal.relink-requires
+relink-requires c =
+    let other : child c.self.inside.inodes.items c.args.to.parent c.args.to.name ≡ Some c.args.there = search rules in
+    present c.self.inside.inodes.items c.self.inside.directories c.self.invariant c.args.to.parent c.args.to.name c.args.there other
+
+pub relink-requires-2 : goal.relink-requires-2
+relink-requires-2 c =
+    let there : child c.self.inside.inodes.items c.args.from.parent c.args.from.name ≡ Some c.args.moved = search rules in
+    present_after c.self.inside.inodes.items c.self.inside.directories c.self.invariant c.relink.new.self c.args.to.parent c.args.to.name c.args.moved c.args.from.parent c.args.from.name c.args.moved c.relink.ensures there
+
+pub invariant_of-self : goal.invariant_of-self
+invariant_of-self c =
+    let dir : is_dir c.self.inside.inodes.items c.args.from.parent ≡ true = search rules in
+    let to_dir : is_dir c.self.inside.inodes.items c.args.to.parent ≡ true = search rules in
+    let there : child c.self.inside.inodes.items c.args.from.parent c.args.from.name ≡ Some c.args.moved = search rules in
+    let other : child c.self.inside.inodes.items c.args.to.parent c.args.to.name ≡ Some c.args.there = search rules in
+    let out : is_within c.self.inside.inodes.items c.args.moved c.args.to.parent ≡ false = search rules in
+    let out2 : is_within c.self.inside.inodes.items c.args.there c.args.from.parent ≡ false = search rules in
+    rw (c.set_place-2.ensures, c.set_place.ensures) (exchanged_index c.self.inside.inodes.items c.self.inside.directories c.self.invariant c.relink.new.self c.relink-2.new.self c.args.from.parent c.args.from.name c.args.to.parent c.args.to.name c.args.moved c.args.there dir to_dir there other c.requires.apart out out2 c.relink.ensures c.relink-2.ensures)

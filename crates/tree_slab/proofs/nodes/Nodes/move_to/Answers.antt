@@ -1,0 +1,15 @@
+use Rattle.std.proofs.Common.{rules, arith, ◌≡◌, ◌≢◌, ◌∙◌, ◌++◌, ◌∷◌, [], ◌&&◌, ◌<◌, true, false, not, nat_le, nat_eq, length, count_by, Some, None, IsSome, sym, ap}
+use Rattle.tree_model.specs.State.{child, is_dir, is_gone, is_within, has_entries, put_at}
+use Rattle.tree_slab.specs.Directories.{entry_in, SetsEntry, AddsNode}
+use Rattle.tree_slab.proofs.Index.{moved_index}
+use Rattle.tree_slab.proofs.nodes.Nodes.move_to.Goals as goal
+
+pub invariant_of-self-2 : goal.invariant_of-self-2
+invariant_of-self-2 c =
+    let dir : is_dir c.self.inside.inodes.items c.args.to.parent ≡ true = search rules in
+    let stays : is_gone c.self.inside.inodes.items c.args.to.parent ≡ false = search rules in
+    let there : child c.self.inside.inodes.items c.args.from.now.parent c.args.from.now.name ≡ Some c.args.moved = search rules in
+    let free : child c.self.inside.inodes.items c.args.to.parent c.args.to.name ≡ None = search rules in
+    let out : is_within c.self.inside.inodes.items c.args.moved c.args.to.parent ≡ false = search rules in
+    let key : c.in_ok-key.key ≡ c.args.to.name = search rules in
+    rw c.set_place.ensures (moved_index c.self.inside.inodes.items c.self.inside.directories c.self.invariant c.args.from.now.parent c.args.from.now.name c.args.to.parent c.args.to.name c.args.moved dir stays there out c.link.new.self c.unlink.new.self free (rw (← key) c.in_ok-link.ensures.ok) c.unlink.ensures)

@@ -1,0 +1,11 @@
+use Rattle.std.proofs.Common.{rules, arith, ◌≡◌, ◌≢◌, ◌∙◌, ◌++◌, ◌∷◌, [], ◌&&◌, ◌<◌, true, false, not, nat_le, nat_eq, length, count_by, Some, None, IsSome, sym, ap}
+use Rattle.tree_model.specs.State.{child, is_dir, is_gone, is_within, has_entries, put_at}
+use Rattle.tree_slab.specs.Directories.{entry_in, SetsEntry, AddsNode}
+use Rattle.tree_slab.proofs.Index.{removed_index}
+use Rattle.tree_slab.proofs.nodes.Nodes.take_out.Goals as goal
+
+pub invariant_of-self : goal.invariant_of-self
+invariant_of-self c =
+    let there : child c.self.inside.inodes.items c.args.dir c.args.name.now ≡ Some c.args.x = search rules in
+    let childless : (is_dir c.self.inside.inodes.items c.args.x && has_entries c.self.inside.inodes.items c.args.x) ≡ false = search rules in
+    rw c.set_place.ensures (removed_index c.self.inside.inodes.items c.self.inside.directories c.self.invariant c.unlink.new.self c.give_back.new.self c.args.dir c.args.name.now c.args.x there childless c.unlink.ensures c.give_back.ensures)

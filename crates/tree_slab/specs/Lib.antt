@@ -1,0 +1,4 @@
+pub mod Directories
+pub mod Index
+pub mod Counts
+pub mod Cap

@@ -1,0 +1,240 @@
+//! The ordered maps of the standing directories' entries, kept in a slab.
+ghost use Rattle.std.specs.Prelude.{◌≡◌, ◌+◌, ◌++◌, ◌∷◌, [], IsTrue, ◌↔◌, List, ℕ, Some, None, true, false, IfOk, OnOk, OnErr, IsSome};
+ghost use Rattle.std.specs.Option.{option_map};
+ghost use Rattle.std.specs.Ordering.{nat_cmp};
+ghost use Rattle.std.specs.Cmp.Lexicographic.{slice_cmp};
+ghost use Rattle.std.specs.List.Sorted.{IsStrictlySortedBy};
+ghost use Rattle.std.specs.BTreeMap.{keys, get as value_at, Updates};
+ghost use Rattle.slab.specs.Slab.{get, HasRoomFor};
+ghost use Rattle.tree_slab.specs.Directories.{key_at, entries_at, has_map, entry_in, names_at, new_entries, SetsEntry, AddsNode, LosesMap, found_in, ChangesMap, SameMaps, AddsMap};
+
+use path_text::{Name, Names, NoMemory};
+use slab::Slab;
+use std::alloc::Global;
+use std::collections::BTreeMap;
+use std::marker::Model;
+use tree_model::Node;
+
+/// The entries of the directories that stand, by the directory's number and the entry's name. Contracts see
+/// them as a list by the nodes' numbers.
+#[derive(Debug, Drop)]
+pub(crate) struct Directories {
+    // The key of each node's map. Only a directory that stands has one.
+    keys: Vec<Option<usize>>,
+    maps: Slab<BTreeMap<Name, Node>>,
+}
+
+impl Model for Directories {
+    ghost use Rattle.std.specs.Prelude.{List, ℕ, map, Option};
+
+    ghost Value = { List (Option (List (List ℕ × ℕ))) };
+
+    ghost use Rattle.tree_slab.specs.Directories.{entries_of, HasEachMap};
+
+    ghost view = { λ d. map (entries_of d.maps) d.keys.items };
+
+    ghost invariant = { λ d. HasEachMap d.keys.items d.maps };
+}
+
+// The key of a node's map.
+fn key_at(keys: &[Option<usize>], x: Node) -> Option<usize>
+    ensures { result ≡ key_at keys.now x }
+{
+    keys.get(x.number() as usize).copied().flatten()
+}
+
+// Lets an entry of a map lead to a node. NoMemory where its room was refused, which only a new entry needs.
+fn put_in(
+    maps: &mut Slab<BTreeMap<Name, Node>>,
+    key: usize,
+    name: Name,
+    x: Node,
+) -> Result<(), NoMemory>
+    requires { IsSome (get maps.old key) }
+    ensures ok { OnOk result (ChangesMap maps.old maps.new key name (Some x)) }
+    ensures err { OnErr result (SameMaps maps.old maps.new) }
+{
+    let Some(map) = maps.get_mut(key) else {
+        unreachable!();
+    };
+    map.insert(name, x)?;
+    Ok(())
+}
+
+// Lets an entry of a map that is there lead to another node.
+fn set(map: &mut BTreeMap<Name, Node>, name: &Name, x: Node)
+    requires { IsSome (value_at (slice_cmp nat_cmp) map.old name.now) }
+    ensures { Updates (slice_cmp nat_cmp) map.old map.new name.now (Some x) }
+{
+    if let Some(there) = map.get_mut(name) {
+        *there = x;
+    }
+}
+
+// The same by the key of the map.
+fn set_in(maps: &mut Slab<BTreeMap<Name, Node>>, key: usize, name: &Name, x: Node)
+    requires { IsSome (found_in maps.old key name.now) }
+    ensures { ChangesMap maps.old maps.new key name.now (Some x) }
+{
+    if let Some(map) = maps.get_mut(key) {
+        set(map, name, x);
+    }
+}
+
+// Takes an entry out of a map.
+fn take_from(maps: &mut Slab<BTreeMap<Name, Node>>, key: usize, name: &Name)
+    ensures { ChangesMap maps.old maps.new key name.now None }
+{
+    if let Some(map) = maps.get_mut(key) {
+        let _ = map.remove(name);
+    }
+}
+
+// A map without entries, where one is wanted.
+fn add_map(maps: &mut Slab<BTreeMap<Name, Node>>, alloc: Global, mapped: bool) -> Option<usize>
+    requires { HasRoomFor maps.old 1 }
+    ensures { AddsMap mapped maps.old maps.new result }
+{
+    if mapped {
+        Some(maps.insert_reserved(BTreeMap::new(alloc)))
+    } else {
+        None
+    }
+}
+
+// The names of a map's entries. NoMemory where their room was refused.
+fn names_of(alloc: Global, map: &BTreeMap<Name, Node>) -> Result<Names, NoMemory>
+    ensures same { IfOk result (λ names. names ≡ keys map.now) }
+    ensures sorted { IfOk result (λ names. IsStrictlySortedBy (slice_cmp nat_cmp) names) }
+{
+    let mut names = Names::new(alloc);
+    for name in map.keys() {
+        names.push(name.copy(alloc)?)?;
+    }
+    Ok(names)
+}
+
+impl Directories {
+    /// No directory.
+    pub(crate) fn new(alloc: Global) -> Directories
+        ensures { result ≡ [] }
+    {
+        Directories {
+            keys: Vec::new(alloc),
+            maps: Slab::new(alloc),
+        }
+    }
+
+    // The map of a directory that has one.
+    fn map_at(&self, dir: Node) -> Option<&BTreeMap<Name, Node>>
+        ensures { option_map (λ map. map.now.entries) result ≡ entries_at self.now dir }
+    {
+        self.maps.get(key_at(&self.keys, dir)?)
+    }
+
+    /// The node to which a directory's entry of that name leads.
+    pub(crate) fn find(&self, dir: Node, name: &Name) -> Option<Node>
+        ensures { result ≡ entry_in self.now dir name.now }
+    {
+        self.map_at(dir)?.get(name).copied()
+    }
+
+    /// Whether a directory has no entry.
+    pub(crate) fn is_empty(&self, dir: Node) -> bool
+        ensures { IsTrue result ↔ ((n : List ℕ) → entry_in self.now dir n ≡ None) }
+    {
+        match self.map_at(dir) {
+            Some(map) => map.is_empty(),
+            None => true,
+        }
+    }
+
+    /// The names of a directory's entries by their bytes. NoMemory where their room was refused.
+    pub(crate) fn names(&self, alloc: Global, dir: Node) -> Result<Names, NoMemory>
+        ensures same { IfOk result (λ names. names ≡ names_at self.now dir) }
+        ensures sorted { IfOk result (λ names. IsStrictlySortedBy (slice_cmp nat_cmp) names) }
+    {
+        match self.map_at(dir) {
+            Some(map) => names_of(alloc, map),
+            None => Ok(Names::new(alloc)),
+        }
+    }
+
+    /// Lets an entry of a directory lead to a node. NoMemory where its room was refused, which only a new
+    /// entry needs.
+    pub(crate) fn link(&mut self, dir: Node, name: Name, x: Node) -> Result<(), NoMemory>
+        requires { has_map self.old dir ≡ true }
+        ensures ok { OnOk result (SetsEntry self.old self.new dir name (Some x)) }
+        ensures err { OnErr result (self.new ≡ self.old) }
+    {
+        let Some(key) = key_at(&self.keys, dir) else {
+            unreachable!();
+        };
+        put_in(&mut self.maps, key, name, x)
+    }
+
+    /// Lets an entry that is there lead to another node. Takes no memory.
+    pub(crate) fn relink(&mut self, dir: Node, name: &Name, x: Node)
+        requires { IsSome (entry_in self.old dir name.now) }
+        ensures { SetsEntry self.old self.new dir name.now (Some x) }
+    {
+        if let Some(key) = key_at(&self.keys, dir) {
+            set_in(&mut self.maps, key, name, x);
+        }
+    }
+
+    /// Takes an entry away. Takes no memory.
+    pub(crate) fn unlink(&mut self, dir: Node, name: &Name)
+        ensures { SetsEntry self.old self.new dir name.now None }
+    {
+        if let Some(key) = key_at(&self.keys, dir) {
+            take_from(&mut self.maps, key, name);
+        }
+    }
+
+    /// A node more, of the next number, with a map or without. NoMemory where its room was refused.
+    pub(crate) fn grow(&mut self, alloc: Global, mapped: bool) -> Result<(), NoMemory>
+        ensures ok { OnOk result (self.new ≡ self.old ++ new_entries mapped ∷ []) }
+        ensures err { OnErr result (self.new ≡ self.old) }
+    {
+        self.keys.reserve(1)?;
+        self.maps.reserve(1)?;
+        let key = add_map(&mut self.maps, alloc, mapped);
+        self.keys.push_reserved(key);
+        Ok(())
+    }
+
+    /// A node more, of the next number, at a new entry. NoMemory where its room was refused.
+    pub(crate) fn add(
+        &mut self,
+        alloc: Global,
+        dir: Node,
+        name: Name,
+        mapped: bool,
+    ) -> Result<(), NoMemory>
+        requires { has_map self.old dir ≡ true }
+        ensures ok { OnOk result (AddsNode self.old self.new dir name mapped) }
+        ensures err { OnErr result (self.new ≡ self.old) }
+    {
+        let Some(dir_key) = key_at(&self.keys, dir) else {
+            unreachable!();
+        };
+        let x = Node::new(self.keys.len() as u64);
+        self.keys.reserve(1)?;
+        self.maps.reserve(1)?;
+        put_in(&mut self.maps, dir_key, name, x)?;
+        let key = add_map(&mut self.maps, alloc, mapped);
+        self.keys.push_reserved(key);
+        Ok(())
+    }
+
+    /// Gives the place of a directory's map back. Takes no memory.
+    pub(crate) fn give_back(&mut self, x: Node)
+        ensures { LosesMap self.old self.new x }
+    {
+        if let Some(key) = key_at(&self.keys, x) {
+            self.keys[x.number() as usize] = None;
+            let _ = self.maps.remove(key);
+        }
+    }
+}

@@ -1,0 +1,353 @@
+//! The nodes of a tree by their numbers, and beside them the maps of their entries.
+ghost use Rattle.std.specs.Prelude.{◌≡◌, ◌≢◌, ◌&&◌, ◌++◌, ◌∷◌, [], List, ℕ, true, false, Some, None, IfOk, OnOk, MatchResult, length};
+ghost use Rattle.tree_model.specs.State.{put_at, is_directory, is_dir, is_gone, is_within, child, has_entries, names_in, sorted_names};
+ghost use Rattle.tree_model.specs.Entries.{makes, removes_file, removes_dir, moves, replace_fault, replaces, exchanges, renames};
+ghost use Rattle.tree_model.specs.Trees.{IsTree};
+ghost use Rattle.tree_list.specs.Build.{top_alone};
+ghost use Rattle.tree_list.specs.Changes.{IsChange, IsGrowth};
+ghost use Rattle.tree_slab.specs.Index.{is_standing_dir, HasPathText, HasEmptyMaps, HasParentMap, Links, IsIndexed};
+
+use crate::directories::Directories;
+use path_text::{Errno, Name, Names, NoMemory};
+use std::alloc::Global;
+use std::marker::Model;
+use tree_list::{is_within, put_at};
+use tree_model::{Inode, Mode, NUMBERS_MAX, Node, Object, Place, is_dir, is_gone};
+
+/// The nodes of a tree, whose entries are found by maps. Contracts see them as the list of the nodes.
+#[derive(Debug, Drop)]
+pub(crate) struct Nodes {
+    inodes: Vec<Inode>,
+    directories: Directories,
+}
+
+impl Model for Nodes {
+    ghost use Rattle.std.specs.Prelude.{List};
+    ghost use Rattle.tree_model.specs.declared.inode.Inode.{Inode};
+
+    ghost Value = { List Inode };
+
+    ghost use Rattle.tree_slab.specs.Index.{IsIndexed};
+
+    ghost view = { λ n. n.inodes.items };
+
+    ghost invariant = { λ n. IsIndexed n.inodes.items n.directories };
+}
+
+// Gives a node another place.
+fn set_place(inodes: &mut Vec<Inode>, x: Node, place: Option<Place>)
+    ensures { inodes.new.items ≡ put_at inodes.old.items x place }
+{
+    put_at(inodes.as_mut_slice(), x, place);
+}
+
+// Whether a node is a directory that is the top or stands somewhere.
+fn is_standing_dir(inodes: &[Inode], x: Node) -> bool
+    ensures { result ≡ is_standing_dir inodes.now x }
+{
+    is_dir(inodes, x) && !is_gone(inodes, x)
+}
+
+// Whether a new node is a directory.
+fn is_directory(object: &Object) -> bool
+    ensures { result ≡ is_directory (Some object.now) }
+{
+    matches!(object, Object::Dir)
+}
+
+// The maps of the directories that stand, without entries. NoMemory where room was refused.
+fn empty_maps(alloc: Global, inodes: &[Inode]) -> Result<Directories, NoMemory>
+    ensures { IfOk result (HasEmptyMaps inodes.now) }
+{
+    let mut directories = Directories::new(alloc);
+    for number in 0..inodes.len() {
+        let x = Node::new(number as u64);
+        directories.grow(alloc, is_standing_dir(inodes, x))?;
+    }
+    Ok(directories)
+}
+
+// Lets a node's entry lead to it, if it has one. NoMemory where room was refused.
+fn link(
+    directories: &mut Directories,
+    alloc: Global,
+    place: &Option<Place>,
+    x: Node,
+) -> Result<(), NoMemory>
+    requires { HasParentMap directories.old place.now }
+    ensures { OnOk result (Links directories.old directories.new place.now x) }
+{
+    let Some(place) = place else {
+        return Ok(());
+    };
+    let name = place.name.copy(alloc)?;
+    directories.link(place.parent, name, x)
+}
+
+// Lets each node's entry lead to it. NoMemory where room was refused.
+fn link_all(directories: &mut Directories, alloc: Global, inodes: &[Inode]) -> Result<(), NoMemory>
+    requires tree { IsTree inodes.now }
+    requires empty { HasEmptyMaps inodes.now directories.old }
+    ensures { OnOk result (IsIndexed inodes.now directories.new) }
+{
+    for (number, inode) in inodes.iter().enumerate() {
+        link(directories, alloc, &inode.place, Node::new(number as u64))?;
+    }
+    Ok(())
+}
+
+impl Nodes {
+    /// The top alone. NoMemory where its room was refused.
+    pub(crate) fn new(alloc: Global) -> Result<Nodes, NoMemory>
+        ensures { IfOk result (λ nodes. nodes ≡ top_alone) }
+    {
+        let mut inodes = Vec::new(alloc);
+        inodes.push(Inode {
+            object: Object::Dir,
+            place: None,
+        })?;
+        Nodes::from_vec(alloc, inodes)
+    }
+
+    /// The nodes of a tree. NoMemory where room was refused.
+    pub(crate) fn from_vec(alloc: Global, inodes: Vec<Inode>) -> Result<Nodes, NoMemory>
+        requires { IsTree inodes.items }
+        ensures { IfOk result (λ nodes. nodes ≡ inodes.items) }
+    {
+        let mut directories = empty_maps(alloc, &inodes)?;
+        link_all(&mut directories, alloc, &inodes)?;
+        Ok(Nodes {
+            inodes,
+            directories,
+        })
+    }
+
+    /// The nodes by their numbers.
+    pub(crate) fn as_slice(&self) -> &[Inode]
+        ensures { result.now ≡ self.now }
+    {
+        self.inodes.as_slice()
+    }
+
+    /// The node at the entry of that name in that directory.
+    pub(crate) fn child(&self, dir: Node, name: &Name) -> Option<Node>
+        ensures { result ≡ child self.now dir name.now }
+    {
+        self.directories.find(dir, name)
+    }
+
+    /// Whether a directory has an entry.
+    pub(crate) fn has_entries(&self, dir: Node) -> bool
+        ensures { result ≡ has_entries self.now dir }
+    {
+        !self.directories.is_empty(dir)
+    }
+
+    /// The names of a directory's entries by their bytes. NoMemory where their room was refused.
+    pub(crate) fn names(&self, alloc: Global, dir: Node) -> Result<Names, NoMemory>
+        ensures { IfOk result (λ names. names ≡ sorted_names (names_in self.now dir)) }
+    {
+        self.directories.names(alloc, dir)
+    }
+
+    /// Makes a node at an entry that wasn't there.
+    pub(crate) fn make(
+        &mut self,
+        alloc: Global,
+        dir: Node,
+        name: &Name,
+        object: Object,
+    ) -> Result<Result<(), Errno>, NoMemory>
+        requires { HasPathText object }
+        ensures { IsGrowth self.old self.new (makes self.old dir name.now object) result }
+    {
+        if !is_dir(&self.inodes, dir) {
+            return Ok(Err(Errno::NotDir));
+        }
+        if is_gone(&self.inodes, dir) {
+            return Ok(Err(Errno::NotFound));
+        }
+        if self.child(dir, name).is_some() {
+            return Ok(Err(Errno::Exists));
+        }
+        if self.inodes.len() >= NUMBERS_MAX {
+            return Ok(Err(Errno::TooMany));
+        }
+        let mapped = is_directory(&object);
+        let place = Place {
+            parent: dir,
+            name: name.copy(alloc)?,
+        };
+        let inode = Inode {
+            object,
+            place: Some(place),
+        };
+        let key = name.copy(alloc)?;
+        self.inodes.reserve(1)?;
+        self.directories.add(alloc, dir, key, mapped)?;
+        self.inodes.push_reserved(inode);
+        Ok(Ok(()))
+    }
+
+    // Takes the entry of a node without entries away.
+    fn take_out(&mut self, dir: Node, name: &Name, x: Node)
+        requires there { child self.old dir name.now ≡ Some x }
+        requires childless { (is_dir self.old x && has_entries self.old x) ≡ false }
+        ensures { self.new ≡ put_at self.old x None }
+    {
+        self.directories.unlink(dir, name);
+        self.directories.give_back(x);
+        set_place(&mut self.inodes, x, None);
+    }
+
+    /// Removes the entry of what is no directory. Takes no memory.
+    pub(crate) fn remove_file(&mut self, dir: Node, name: &Name) -> Result<(), Errno>
+        ensures { IsChange self.old self.new (removes_file self.old dir name.now) result }
+    {
+        if !is_dir(&self.inodes, dir) {
+            return Err(Errno::NotDir);
+        }
+        let Some(file) = self.child(dir, name) else {
+            return Err(Errno::NotFound);
+        };
+        if is_dir(&self.inodes, file) {
+            return Err(Errno::IsDir);
+        }
+        self.take_out(dir, name, file);
+        Ok(())
+    }
+
+    /// Removes the entry of an empty directory. Takes no memory.
+    pub(crate) fn remove_dir(&mut self, dir: Node, name: &Name) -> Result<(), Errno>
+        ensures { IsChange self.old self.new (removes_dir self.old dir name.now) result }
+    {
+        if !is_dir(&self.inodes, dir) {
+            return Err(Errno::NotDir);
+        }
+        let Some(removed) = self.child(dir, name) else {
+            return Err(Errno::NotFound);
+        };
+        if !is_dir(&self.inodes, removed) {
+            return Err(Errno::NotDir);
+        }
+        if self.has_entries(removed) {
+            return Err(Errno::NotEmpty);
+        }
+        self.take_out(dir, name, removed);
+        Ok(())
+    }
+
+    // Gives a node an entry that wasn't there.
+    fn move_to(
+        &mut self,
+        alloc: Global,
+        from: &Place,
+        to: Place,
+        moved: Node,
+    ) -> Result<Result<(), Errno>, NoMemory>
+        requires dir { is_dir self.old to.parent ≡ true }
+        requires stays { is_gone self.old to.parent ≡ false }
+        requires there { child self.old from.now.parent from.now.name ≡ Some moved }
+        requires free { child self.old to.parent to.name ≡ None }
+        ensures { IsGrowth self.old self.new (moves self.old moved to.parent to.name) result }
+    {
+        if is_within(&self.inodes, moved, to.parent) {
+            return Ok(Err(Errno::Invalid));
+        }
+        let key = to.name.copy(alloc)?;
+        self.directories.link(to.parent, key, moved)?;
+        self.directories.unlink(from.parent, &from.name);
+        set_place(&mut self.inodes, moved, Some(to));
+        Ok(Ok(()))
+    }
+
+    // Why a node can't take the place of another.
+    fn replace_fault(&self, moved: Node, there: Node) -> Option<Errno>
+        ensures { result ≡ replace_fault self.now moved there }
+    {
+        match (is_dir(&self.inodes, moved), is_dir(&self.inodes, there)) {
+            (true, false) => Some(Errno::NotDir),
+            (false, true) => Some(Errno::IsDir),
+            (true, true) if self.has_entries(there) => Some(Errno::NotEmpty),
+            _ => None,
+        }
+    }
+
+    // Gives a node the entry of another, which has none then. Takes no memory.
+    fn replace(&mut self, from: &Place, to: Place, moved: Node, there: Node) -> Result<(), Errno>
+        requires dir { is_dir self.old to.parent ≡ true }
+        requires stays { is_gone self.old to.parent ≡ false }
+        requires moved { child self.old from.now.parent from.now.name ≡ Some moved }
+        requires there { child self.old to.parent to.name ≡ Some there }
+        requires apart { moved ≢ there }
+        ensures { IsChange self.old self.new (replaces self.old moved to.parent to.name there) result }
+    {
+        if is_within(&self.inodes, moved, to.parent) {
+            return Err(Errno::Invalid);
+        }
+        if let Some(fault) = self.replace_fault(moved, there) {
+            return Err(fault);
+        }
+        self.directories.relink(to.parent, &to.name, moved);
+        self.directories.unlink(from.parent, &from.name);
+        self.directories.give_back(there);
+        set_place(&mut self.inodes, there, None);
+        set_place(&mut self.inodes, moved, Some(to));
+        Ok(())
+    }
+
+    // Lets two nodes change entries. Takes no memory.
+    fn exchange(&mut self, from: Place, to: Place, moved: Node, there: Node) -> Result<(), Errno>
+        requires dir { is_dir self.old from.parent ≡ true }
+        requires to_dir { is_dir self.old to.parent ≡ true }
+        requires moved { child self.old from.parent from.name ≡ Some moved }
+        requires there { child self.old to.parent to.name ≡ Some there }
+        requires apart { moved ≢ there }
+        ensures { IsChange self.old self.new (exchanges self.old moved from.parent from.name there to.parent to.name) result }
+    {
+        if is_within(&self.inodes, moved, to.parent) {
+            return Err(Errno::Invalid);
+        }
+        if is_within(&self.inodes, there, from.parent) {
+            return Err(Errno::Invalid);
+        }
+        self.directories.relink(to.parent, &to.name, moved);
+        self.directories.relink(from.parent, &from.name, there);
+        set_place(&mut self.inodes, moved, Some(to));
+        set_place(&mut self.inodes, there, Some(from));
+        Ok(())
+    }
+
+    /// Renames one entry to another, whose own node it replaces or changes places with, as the mode says.
+    /// Only a new entry takes memory.
+    pub(crate) fn rename(
+        &mut self,
+        alloc: Global,
+        from: Place,
+        to: Place,
+        mode: Mode,
+    ) -> Result<Result<(), Errno>, NoMemory>
+        ensures { IsGrowth self.old self.new (renames self.old from.parent from.name to.parent to.name mode) result }
+    {
+        if !is_dir(&self.inodes, from.parent) {
+            return Ok(Err(Errno::NotDir));
+        }
+        if !is_dir(&self.inodes, to.parent) {
+            return Ok(Err(Errno::NotDir));
+        }
+        let Some(moved) = self.child(from.parent, &from.name) else {
+            return Ok(Err(Errno::NotFound));
+        };
+        if is_gone(&self.inodes, to.parent) {
+            return Ok(Err(Errno::NotFound));
+        }
+        match (mode, self.child(to.parent, &to.name)) {
+            (Mode::Exchange, None) => Ok(Err(Errno::NotFound)),
+            (Mode::Plain | Mode::NoReplace, None) => self.move_to(alloc, &from, to, moved),
+            (Mode::NoReplace, Some(_)) => Ok(Err(Errno::Exists)),
+            (_, Some(there)) if there == moved => Ok(Ok(())),
+            (Mode::Plain, Some(there)) => Ok(self.replace(&from, to, moved, there)),
+            (Mode::Exchange, Some(there)) => Ok(self.exchange(from, to, moved, there)),
+        }
+    }
+}

@@ -1,0 +1,117 @@
+//! The tree itself: how it is made, and that it is a `Tree`.
+ghost use Rattle.std.specs.Prelude.{◌≡◌, ℕ, ◌≤◌, IfOk, MatchOption, MatchResult, None, Some, Err};
+ghost use Rattle.tree_model.specs.Trees.{IsTree};
+ghost use Rattle.tree_list.specs.Build.{with_nodes, top_alone};
+ghost use Rattle.tree_slab.specs.Cap.{cap_fault};
+
+use crate::handles::Handles;
+use crate::nodes::Nodes;
+use path_text::{Errno, Names, NoMemory};
+use std::alloc::Global;
+use std::marker::Model;
+use tree_list::{ListTree, copy_nodes, directory_at};
+use tree_model::{Actor, Answer, HandleNo, Object, Snapshot, Step, StepOf, Tree};
+
+/// The most entries of directories that a tree is asked to remember beside its maps.
+pub const CAP_MAX: usize = 65_536;
+
+/// A tree whose entries are found by an ordered map for each directory that stands, and whose handles are
+/// counted by their actors. Contracts see it as its state.
+#[derive(Debug, Drop)]
+pub struct SlabTree {
+    pub(crate) nodes: Nodes,
+    pub(crate) handles: Handles,
+}
+
+impl Model for SlabTree {
+    ghost use Rattle.tree_model.specs.State.{State};
+
+    ghost Value = { State };
+
+    ghost view = { λ t. record { nodes = t.nodes; handles = t.handles } };
+}
+
+// Why that many entries can't be remembered.
+fn cap_fault(cap: usize) -> Option<Errno>
+    ensures { result ≡ cap_fault cap }
+{
+    (cap == 0 || cap > CAP_MAX).then_some(Errno::Invalid)
+}
+
+impl SlabTree {
+    /// The top alone. At most `cap` entries are remembered beside the maps.
+    ///
+    /// Errors, in this order: Invalid for a cap of 0 or over 65,536, NoMemory where room was refused.
+    pub fn new(alloc: Global, cap: usize) -> Result<SlabTree, Errno>
+        ensures { MatchOption (cap_fault cap) (MatchResult result (λ tree. tree ≡ with_nodes top_alone) (λ error. error ≡ Errno.NoMemory)) (λ fault. result ≡ Err fault) }
+    {
+        if let Some(fault) = cap_fault(cap) {
+            return Err(fault);
+        }
+        let nodes = Nodes::new(alloc)?;
+        Ok(SlabTree {
+            nodes,
+            handles: Handles::new(alloc),
+        })
+    }
+
+    /// The tree with the nodes and the handles of a plain one. At most `cap` entries are remembered beside the
+    /// maps.
+    ///
+    /// Errors, in this order: Invalid for a cap of 0 or over 65,536, NoMemory where room was refused.
+    pub fn from_list(alloc: Global, list: &ListTree, cap: usize) -> Result<SlabTree, Errno>
+        requires { IsTree list.now.nodes }
+        ensures { MatchOption (cap_fault cap) (MatchResult result (λ tree. tree ≡ list.now) (λ error. error ≡ Errno.NoMemory)) (λ fault. result ≡ Err fault) }
+    {
+        if let Some(fault) = cap_fault(cap) {
+            return Err(fault);
+        }
+        let (nodes, handles) = list.copy(alloc)?.into_parts();
+        Ok(SlabTree {
+            nodes: Nodes::from_vec(alloc, nodes)?,
+            handles: Handles::from_vec(alloc, handles)?,
+        })
+    }
+}
+
+impl Tree for SlabTree {
+    ghost state = { λ tree. tree };
+
+    fn step(&mut self, alloc: Global, actor: Actor, step: &Step) -> Result<Answer, NoMemory> {
+        match step {
+            StepOf::Open(dir, name) => self.open(actor, *dir, name),
+            StepOf::Dup(handle) => self.dup(actor, *handle),
+            StepOf::Parent(handle) => self.open_parent(actor, *handle),
+            StepOf::ReadLink(handle) => self.read_link(alloc, actor, *handle),
+            StepOf::NameBelow(root, handle) => self.name_below(alloc, actor, *root, *handle),
+            StepOf::List(handle) => self.list(alloc, actor, *handle),
+            StepOf::Close(handle) => Ok(self.close(actor, *handle)),
+            StepOf::MakeDir(dir, name) => self.make(alloc, actor, *dir, name, Object::Dir),
+            StepOf::MakeFile(dir, name) => self.make(alloc, actor, *dir, name, Object::File),
+            StepOf::MakeLink(dir, name, text) => self.make_link(alloc, actor, *dir, name, text),
+            StepOf::RemoveFile(dir, name) => Ok(self.remove_file(actor, *dir, name)),
+            StepOf::RemoveDir(dir, name) => Ok(self.remove_dir(actor, *dir, name)),
+            StepOf::Rename(from, old, to, new, mode) => {
+                self.rename(alloc, actor, (*from, old), (*to, new), *mode)
+            }
+        }
+    }
+
+    fn grant(&mut self, alloc: Global, actor: Actor, names: &Names) -> Result<HandleNo, Errno> {
+        let dir = directory_at(self.nodes.as_slice(), names)?;
+        if self.is_full(actor) {
+            return Err(Errno::TooMany);
+        }
+        Ok(self.add_handle(actor, dir)?)
+    }
+
+    fn held(&self, actor: Actor) -> usize {
+        self.handles.held(actor)
+    }
+
+    fn snapshot(&self, alloc: Global) -> Result<Snapshot, NoMemory> {
+        let nodes = copy_nodes(alloc, self.nodes.as_slice())?;
+        let handles = Vec::from_slice(alloc, self.handles.as_slice())?;
+        Ok(Snapshot::new(nodes, handles))
+    }
+}
