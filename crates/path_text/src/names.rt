@@ -159,11 +159,20 @@ impl Names {
         Ok(Names { bytes, ends })
     }
 
+    // No names, with room for as many and as long ones.
+    fn empty_like(&self, alloc: Global) -> Result<Names, NoMemory>
+        ensures { IfOk result (λ names. names ≡ []) }
+    {
+        let bytes = Vec::with_capacity(alloc, self.bytes.len())?;
+        let ends = Vec::with_capacity(alloc, self.ends.len())?;
+        Ok(Names { bytes, ends })
+    }
+
     /// The names from the last to the first. NoMemory where their room was refused.
     pub fn reversed(&self, alloc: Global) -> Result<Names, NoMemory>
         ensures { IfOk result (λ turned. turned ≡ reverse self.now) }
     {
-        let mut turned = Names::new(alloc);
+        let mut turned = self.empty_like(alloc)?;
         for before in 0..self.len() {
             turned.push_bytes(self.get(self.len() - 1 - before))?;
         }

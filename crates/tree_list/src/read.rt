@@ -28,7 +28,7 @@ pub fn is_within(nodes: &[Inode], top: Node, x: Node) -> bool
 /// The names, the innermost first, at which a node stands below `top`; None where it doesn't. NoMemory
 /// where their room was refused.
 #[tactic(auto, using(crate::proofs::Nodes::names_within_more))]
-pub(crate) fn names_below(
+pub fn names_below(
     alloc: Global,
     nodes: &[Inode],
     top: Node,

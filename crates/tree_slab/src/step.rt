@@ -10,6 +10,7 @@ ghost use Rattle.tree_slab.specs.Index.{HasPathText};
 use crate::tree::SlabTree;
 use path_text::{Bytes, Errno, Name, Names, NoMemory, Path};
 use std::alloc::Global;
+use tree_list::names_below;
 use tree_model::{
     Actor, Answer, HandleNo, Inode, Mode, Node, Object, Place, StepOf, is_dir, parent, place_at,
 };
@@ -22,44 +23,6 @@ fn answer_of(change: Result<(), Errno>) -> Answer
         Ok(()) => Answer::Done,
         Err(error) => Answer::Refused(error),
     }
-}
-
-// The names, the innermost first, at which a node stands below `top`; None where it doesn't. NoMemory
-// where their room was refused.
-#[tactic(auto, using(tree_list::proofs::Nodes::names_within_more))]
-fn names_up(
-    alloc: Global,
-    nodes: &[Inode],
-    top: Node,
-    x: Node,
-) -> Result<Option<Vec<Name>>, NoMemory>
-    ensures { IfOk result (λ names. option_map (λ way. way.items) names ≡ names_below nodes.now top x) }
-{
-    let mut names = Vec::new(alloc);
-    let mut at = x;
-    for _ in 0..nodes.len() {
-        if at == top {
-            return Ok(Some(names));
-        }
-        let Some(place) = place_at(nodes, at) else {
-            return Ok(None);
-        };
-        names.push(place.name.copy(alloc)?)?;
-        at = place.parent;
-    }
-    Ok((at == top).then_some(names))
-}
-
-// The names in the other order. NoMemory where their room was refused.
-fn reversed(alloc: Global, names: Vec<Name>) -> Result<Names, NoMemory>
-    ensures { IfOk result (λ way. way ≡ reverse names.items) }
-{
-    let mut names = names;
-    let mut way = Names::new(alloc);
-    while let Some(name) = names.pop() {
-        way.push(name)?;
-    }
-    Ok(way)
 }
 
 impl SlabTree {
@@ -189,8 +152,8 @@ impl SlabTree {
         let Some(x) = self.node_held(actor, handle) else {
             return Ok(Answer::Refused(Errno::BadHandle));
         };
-        match names_up(alloc, self.nodes.as_slice(), top, x)? {
-            Some(names) => Ok(Answer::Names(reversed(alloc, names)?)),
+        match names_below(alloc, self.nodes.as_slice(), top, x)? {
+            Some(names) => Ok(Answer::Names(names.reversed(alloc)?)),
             None => Ok(Answer::NotBelow),
         }
     }
