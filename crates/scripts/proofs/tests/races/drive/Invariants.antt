@@ -1,5 +1,5 @@
-use Rattle.step_resolver.specs.Order.{steps_left}
+use Rattle.step_resolver.specs.TurnView.{steps_to_come}
 use Rattle.scripts.proofs.tests.races.drive.Given as goal
 
-abbrev pub decreases-loop-next : goal.decreases-loop-next
-decreases-loop-next g l = steps_left l.walk.walking
+abbrev pub decreases-loop-turn : goal.decreases-loop-turn
+decreases-loop-turn l = steps_to_come l.turn
