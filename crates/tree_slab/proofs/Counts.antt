@@ -1,7 +1,7 @@
 -- The counts follow the handles: one more is opened, or one is closed.
-use Rattle.std.proofs.Common.{◌≡◌, ◌≢◌, ℕ, zero, suc, ◌+◌, ◌-◌, ◌<◌, ◌≤◌, Bool, true, false, cond, if◌then◌else◌, ◌==◌, nat_eq, List, [], ◌∷◌, ◌++◌, get_or, set, length, length-append, take, Option, Some, None, is_some, IsSome, count_by, refl, ap, sym, ◌∙◌, inl, inr, eq-eqb, eqb-true, add-zero, subst, arith}
+use Rattle.std.proofs.Common.{◌≡◌, ◌≢◌, ℕ, zero, suc, ◌+◌, ◌-◌, ◌<◌, ◌≤◌, Bool, true, false, cond, ◌==◌, nat_eq, List, [], ◌∷◌, ◌++◌, get_or, set, length, take, Option, Some, None, is_some, IsSome, count_by, refl, ap, sym, ◌∙◌, eq-eqb, eqb-true, add-zero, subst, arith}
 use Rattle.std.specs.Prelude.{slice_get}
-use Rattle.std.proofs.lemmas.Bool.{cases_eq, ne_eqb, false≢true, true≢false}
+use Rattle.std.proofs.lemmas.Bool.{ne_eqb, false≢true, true≢false}
 use Rattle.std.proofs.lemmas.List.Sums.{sum_by-set, sum_by-append, count_by-le-length}
 use Rattle.std.proofs.lemmas.List.{take_more, length-take}
 use Rattle.std.proofs.lemmas.Option.{none-some, same_Some}

@@ -1,5 +1,5 @@
 -- A map more, a map less, and a node more.
-use Rattle.std.proofs.Common.{◌≡◌, ◌≢◌, ◌⊎◌, ℕ, zero, suc, ◌+◌, ◌<◌, ◌≤◌, Bool, true, false, cond, if◌then◌else◌, ◌==◌, ◌&&◌, List, [], ◌∷◌, ◌++◌, get_or, set, length, length-append, map, Option, Some, None, is_some, IsSome, refl, ap, sym, ◌∙◌, inl, inr, ⊎_elim, eq-eqb, arith}
+use Rattle.std.proofs.Common.{◌≡◌, ◌≢◌, ◌⊎◌, ℕ, zero, suc, ◌<◌, Bool, true, false, if◌then◌else◌, ◌==◌, List, [], ◌∷◌, ◌++◌, set, length, length-append, map, Option, Some, None, is_some, IsSome, refl, ap, sym, ◌∙◌, inl, inr, ⊎_elim, eq-eqb, arith}
 use Rattle.std.proofs.lemmas.Bool.{cases_eq, ne_eqb, false≢true}
 use Rattle.std.proofs.lemmas.List.{get_or-set_same, get_or-set_other, get_or_past, length-set, map-append}
 use Rattle.std.proofs.lemmas.Option.{none-some, same_Some}
@@ -7,7 +7,7 @@ use Rattle.std.specs.Option.{option_map, option_and_then}
 use Rattle.std.specs.Map.{lookup}
 use Rattle.std.specs.BTreeMap.{BTreeMap}
 use Rattle.slab.specs.Slab.{Slab, get, Updates}
-use Rattle.tree_slab.specs.Directories.{is_name, entries_at, has_map, entry_in, with_entry, SetsEntry, AddsNode, LosesMap, new_entries, key_at, entries_of, HasEachMap, ChangesMap, SameMaps, IsNewMap, AddsMap}
+use Rattle.tree_slab.specs.Directories.{is_name, entries_at, has_map, entry_in, SetsEntry, AddsNode, LosesMap, new_entries, key_at, entries_of, HasEachMap, ChangesMap, SameMaps, IsNewMap, AddsMap}
 use Rattle.tree_slab.proofs.Keys.{entries_at-view, length-view, is_some-option_map, same_each, same_view, changed_each, changed_entry}
 
 -- ---- a map less

@@ -1,11 +1,11 @@
 -- The index stays one by each change of the entries, as the maps follow the nodes.
-use Rattle.std.proofs.Common.{◌≡◌, ◌≢◌, ◌⊎◌, ◌↔◌, ℕ, zero, suc, ◌+◌, ◌<◌, ◌≤◌, Bool, true, false, cond, if◌then◌else◌, ◌==◌, ◌&&◌, ◌||◌, not, nat_le, eqb-true, List, [], ◌∷◌, ◌++◌, length, length-append, Option, Some, None, is_some, IsSome, refl, ap, sym, ◌∙◌, inl, inr, ⊎_elim, subst, eq-eqb, arith}
+use Rattle.std.proofs.Common.{◌≡◌, ◌≢◌, ◌↔◌, ℕ, zero, suc, Bool, true, false, cond, if◌then◌else◌, ◌==◌, ◌&&◌, ◌||◌, not, nat_le, eqb-true, List, [], ◌∷◌, ◌++◌, length, length-append, Option, Some, None, is_some, IsSome, refl, ap, sym, ◌∙◌, inl, inr, ⊎_elim, eq-eqb, arith}
 use Rattle.std.specs.Prelude.{slice_get}
 use Rattle.std.specs.Bool.{IsTrue}
 use Rattle.std.specs.Option.{option_map, option_and_then}
 use Rattle.std.specs.Map.{lookup}
-use Rattle.std.proofs.lemmas.Bool.{cases_eq, ne_eqb, false≢true, true≢false, and_from, and_parts}
-use Rattle.std.proofs.lemmas.Option.{none-some, same_Some}
+use Rattle.std.proofs.lemmas.Bool.{cases_eq, ne_eqb, false≢true, true≢false}
+use Rattle.std.proofs.lemmas.Option.{none-some}
 use Rattle.tree_model.specs.declared.inode.Inode.{Inode}
 use Rattle.tree_model.specs.declared.inode.Object.{Object}
 use Rattle.tree_model.specs.declared.inode.Place.{Place}
@@ -14,10 +14,10 @@ use Rattle.tree_model.specs.State.{TOP, object_at, place_at, is_directory, is_di
 use Rattle.tree_model.specs.Trees.{IsTree}
 use Rattle.tree_model.proofs.Places.{length-put_at, object_at-put_at, place_at-within, place_at-put_at, place_at-put_other}
 use Rattle.tree_model.proofs.Children.{entry, place_at-child, no_entries}
-use Rattle.tree_model.proofs.Changed.{Changed, Changed-tree, made, removed, moved, replaced, exchanged}
+use Rattle.tree_model.proofs.Changed.{Changed-tree, made, removed, moved, replaced, exchanged}
 use Rattle.tree_slab.specs.Directories.{is_name, entries_at, has_map, entry_in, with_entry, SetsEntry, AddsNode, LosesMap}
-use Rattle.tree_slab.specs.Index.{is_standing_dir, Agrees, IsIndexed, HasPathText}
-use Rattle.tree_slab.proofs.Agreement.{with_entry-cases, alike, child-look, taken, put, made_entry, moved_entry, replaced_entry, exchanged_entry}
+use Rattle.tree_slab.specs.Index.{is_standing_dir, IsIndexed, HasPathText}
+use Rattle.tree_slab.proofs.Agreement.{with_entry-cases, alike, child-look, taken, made_entry, moved_entry, replaced_entry, exchanged_entry}
 
 abbrev Tables : Type 0
 Tables = List (Option (List (List ℕ × ℕ)))

@@ -1,11 +1,9 @@
 -- The names in a directory's map are those of its entries, in order.
-use Rattle.std.proofs.Common.{◌≡◌, ◌≢◌, ℕ, zero, suc, Bool, true, false, cond, if◌then◌else◌, ◌==◌, ◌&&◌, ◌||◌, List, [], ◌∷◌, Option, Some, None, is_some, Result, Ok, Err, IfOk, subst, refl, ap, sym, ◌∙◌, Ordering, Less, Equal, Greater}
-use Rattle.std.specs.Cmp.{IsTotalOrder}
-use Rattle.std.specs.Cmp.Lexicographic.{slice_cmp, nat_list_cmp_total, bytes_decides, texts_ties}
+use Rattle.std.proofs.Common.{◌≡◌, ℕ, suc, Bool, true, false, cond, ◌==◌, ◌&&◌, ◌||◌, List, [], ◌∷◌, Option, Some, None, is_some, Result, Ok, Err, IfOk, subst, refl, ap, sym, ◌∙◌, Ordering, Less, Equal, Greater}
+use Rattle.std.specs.Cmp.Lexicographic.{slice_cmp, nat_list_cmp_total, bytes_decides}
 use Rattle.std.specs.List.{AllByRecursion, list_any, cons_option}
 use Rattle.std.specs.List.Sorted.{IsStrictlySortedBy}
 use Rattle.std.specs.Map.{lookup, keys_of}
-use Rattle.std.specs.Option.{option_and_then}
 use Rattle.std.specs.Ordering.{nat_cmp, is_eq, ordering_reverse}
 use Rattle.std.proofs.lemmas.Bool.{false≢true, true≢false}
 use Rattle.std.proofs.lemmas.List.Sorted.{list_any-IsPermutation}
@@ -14,7 +12,7 @@ use Rattle.path_text.specs.Name.{same_bytes}
 use Rattle.path_text.specs.declared.errno.NoMemory.{NoMemory}
 use Rattle.tree_model.specs.declared.inode.Inode.{Inode}
 use Rattle.tree_model.specs.declared.inode.Place.{Place}
-use Rattle.tree_model.specs.State.{is_at, child_from, child, name_in, names_in, sorted_names}
+use Rattle.tree_model.specs.State.{is_at, child_from, name_in, names_in, sorted_names}
 use Rattle.tree_model.proofs.Listing.{IsPermutation-sorted_names, IsStrictlySorted-sorted_names}
 use Rattle.tree_slab.specs.Directories.{is_name, entries_at, entry_in, names_at}
 use Rattle.tree_slab.specs.Index.{IsIndexed}

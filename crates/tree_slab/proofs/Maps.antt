@@ -1,11 +1,11 @@
 -- What a change of one map in the slab leaves.
-use Rattle.std.proofs.Common.{◌≡◌, ◌≢◌, ℕ, zero, suc, ◌+◌, ◌<◌, ◌≤◌, cond, if◌then◌else◌, ◌==◌, ◌&&◌, List, [], ◌∷◌, get_or, set, length, Option, Some, None, is_some, IsSome, count_by, refl, ap, sym, ◌∙◌, inl, inr, eq-eqb, arith}
+use Rattle.std.proofs.Common.{◌≡◌, ℕ, ◌<◌, cond, List, get_or, set, length, Option, Some, None, is_some, IsSome, count_by, refl, ap, inl, inr, eq-eqb, arith}
 use Rattle.std.proofs.lemmas.List.{get_or_past}
 use Rattle.std.proofs.lemmas.Bool.{cases_eq, ne_eqb}
 use Rattle.std.proofs.lemmas.List.Sums.{sum_by-set}
 use Rattle.std.specs.Map.{lookup}
 use Rattle.std.specs.BTreeMap.{BTreeMap}
-use Rattle.slab.specs.Slab.{Slab, get, with_value, slab_len, HasRoomFor, Updates}
+use Rattle.slab.specs.Slab.{Slab, get, with_value, Updates}
 use Rattle.slab.proofs.SlabLemmas.{Updates-with_value}
 use Rattle.tree_slab.specs.Directories.{is_name, found_in, with_entry, ChangesMap}
 

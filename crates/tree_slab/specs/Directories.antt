@@ -1,11 +1,11 @@
 -- The entries of the directories that stand, each directory's by the bytes of their names: for each node the entries of its map, if it has one.
-use Rattle.std.specs.Prelude.{◌≡◌, ◌≢◌, ℕ, suc, ◌==◌, ◌&&◌, List, [], ◌∷◌, Bool, if◌then◌else◌, length, map, slice_index_or, Option, Some, None, is_some, IsSome, true, false, MatchOption, ◌++◌}
+use Rattle.std.specs.Prelude.{◌≡◌, ◌≢◌, ℕ, suc, ◌==◌, ◌&&◌, List, [], Bool, if◌then◌else◌, length, slice_index_or, Option, Some, None, is_some, IsSome, true, false, MatchOption}
 use Rattle.std.specs.Option.{option_map, option_and_then}
 use Rattle.std.specs.Ordering.{nat_cmp}
 use Rattle.std.specs.Cmp.Lexicographic.{slice_cmp}
 use Rattle.std.specs.Map.{lookup, keys_of}
 use Rattle.std.specs.BTreeMap.{BTreeMap, is_at}
-use Rattle.slab.specs.Slab.{Slab, get, HasRoomFor, Updates}
+use Rattle.slab.specs.Slab.{Slab, get, HasRoomFor}
 
 -- the two names are one
 abbrev pub is_name : List ℕ → List ℕ → Bool

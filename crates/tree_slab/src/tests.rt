@@ -1,4 +1,4 @@
-//! The same steps on the plain tree and on the indexed one, with the answers that are wanted, as lines of text.
+//! The same steps on the plain tree and on the indexed one, with the answers that are wanted.
 ghost use Rattle.std.specs.Prelude.{IfOk};
 ghost use Rattle.tree_model.specs.Trees.{IsState};
 
@@ -8,6 +8,21 @@ use std::alloc::Global;
 use std::test::*;
 use tree_list::{Entry, ListTree, New};
 use tree_model::{Actor, Answer, HandleNo, Kind, Mode, Step, StepOf, Tree};
+
+/// An answer that is wanted; names as a path.
+#[derive(Clone, Copy)]
+enum Wanted {
+    Opened(u64, u64, Kind),
+    Text(&'static str),
+    Names(&'static str),
+    NotBelow,
+    Listed(&'static str),
+    Done,
+    Refused(Errno),
+}
+
+/// A step by its word, its handle and name, its other handle and name or text, and the answer.
+type Row = (&'static str, u64, &'static str, u64, &'static str, Wanted);
 
 /// The tree of most tests: `/c` with a directory, a file two levels down and four links, and `/secret`
 /// beside it.
@@ -24,135 +39,204 @@ const BASE: [(&str, &str, &str); 10] = [
     ("file", "/secret/key", ""),
 ];
 
-/// The steps of actor 0, whose handle 0 is on `/c` of the base tree, and their answers; a line "new" begins with
-/// the base tree anew, a line "top" with the top alone and handle 0 on it.
-const ROWS: [(&str, &str); 126] = [
-    ("new", ""),
-    ("open 0 a", "opened 1 2 dir"),
-    ("open 1 b", "opened 2 3 dir"),
-    ("open 2 f", "opened 3 4 file"),
-    ("open 0 abs", "opened 4 5 link"),
-    ("open 3 f", "refused ENOTDIR"),
-    ("open 4 f", "refused ENOTDIR"),
-    ("open 0 none", "refused ENOENT"),
-    ("open 9 a", "refused EBADF"),
-    ("read_link 4", "text /a/b"),
-    ("read_link 1", "refused EINVAL"),
-    ("read_link 3", "refused EINVAL"),
-    ("parent 2", "opened 5 2 dir"),
-    ("parent 0", "opened 6 0 dir"),
-    ("parent 6", "opened 7 0 dir"),
-    ("parent 4", "refused ENOTDIR"),
-    ("below 0 3", "names /a/b/f"),
-    ("below 6 3", "names /c/a/b/f"),
-    ("below 2 2", "names /"),
-    ("below 2 0", "not_below"),
-    ("below 2 9", "refused EBADF"),
-    ("list 0", "listed /a/abs/dang/loop/up"),
-    ("list 3", "refused ENOTDIR"),
-    ("dup 2", "opened 8 3 dir"),
-    ("dup 9", "refused EBADF"),
-    ("close 2", "done"),
-    ("close 2", "refused EBADF"),
-    ("top", ""),
-    ("list 0", "listed /"),
-    ("parent 0", "opened 1 0 dir"),
-    ("make_file 0 b", "done"),
-    ("make_file 0 ab", "done"),
-    ("make_file 0 é", "done"),
-    ("make_dir 0 a", "done"),
-    ("make_link 0 Z q", "done"),
-    ("make_file 0 a0", "done"),
-    ("list 0", "listed /Z/a/a0/ab/b/é"),
-    ("new", ""),
-    ("open 0 a", "opened 1 2 dir"),
-    ("open 1 b", "opened 2 3 dir"),
-    ("open 2 f", "opened 3 4 file"),
-    ("make_file 1 n", "done"),
-    ("open 1 n", "opened 4 11 file"),
-    ("make_file 1 n", "refused EEXIST"),
-    ("make_file 0 abs", "refused EEXIST"),
-    ("make_file 3 x", "refused ENOTDIR"),
-    ("make_dir 0 d", "done"),
-    ("open 0 d", "opened 5 12 dir"),
-    ("make_link 0 l ", "refused ENOENT"),
-    ("make_link 3 l ", "refused ENOENT"),
-    ("make_link 0 l q", "done"),
-    ("open 0 l", "opened 6 13 link"),
-    ("read_link 6", "text q"),
-    ("remove_file 0 a", "refused EISDIR"),
-    ("remove_file 0 none", "refused ENOENT"),
-    ("remove_file 3 x", "refused ENOTDIR"),
-    ("remove_dir 0 abs", "refused ENOTDIR"),
-    ("remove_dir 0 a", "refused ENOTEMPTY"),
-    ("remove_dir 0 none", "refused ENOENT"),
-    ("remove_file 0 abs", "done"),
-    ("open 0 abs", "refused ENOENT"),
-    ("remove_dir 0 d", "done"),
-    ("list 0", "listed /a/dang/l/loop/up"),
-    ("top", ""),
-    ("make_dir 0 d", "done"),
-    ("open 0 d", "opened 1 1 dir"),
-    ("remove_dir 0 d", "done"),
-    ("make_dir 0 e", "done"),
-    ("open 0 e", "opened 2 2 dir"),
-    ("make_file 2 y", "done"),
-    ("list 1", "listed /"),
-    ("list 2", "listed /y"),
-    ("make_file 1 x", "refused ENOENT"),
-    ("parent 1", "refused ENOENT"),
-    ("below 0 1", "not_below"),
-    ("below 1 1", "names /"),
-    ("rename 2 y 1 y plain", "refused ENOENT"),
-    ("new", ""),
-    ("open 0 q", "refused ENOENT"),
-    ("make_file 0 q", "done"),
-    ("open 0 q", "opened 1 11 file"),
-    ("rename 0 q 0 r plain", "done"),
-    ("open 0 q", "refused ENOENT"),
-    ("open 0 r", "opened 2 11 file"),
-    ("remove_file 0 r", "done"),
-    ("open 0 r", "refused ENOENT"),
-    ("new", ""),
-    ("open 0 a", "opened 1 2 dir"),
-    ("open 1 b", "opened 2 3 dir"),
-    ("rename 0 a 2 x plain", "refused EINVAL"),
-    ("rename 0 a 0 a plain", "done"),
-    ("rename 0 a 1 b exchange", "refused EINVAL"),
-    ("rename 1 b 0 a exchange", "refused EINVAL"),
-    ("rename 0 a 0 abs plain", "refused ENOTDIR"),
-    ("rename 2 f 2 f plain", "done"),
-    ("rename 2 f 2 f exchange", "done"),
-    ("rename 2 f 2 f noreplace", "refused EEXIST"),
-    ("rename 2 f 0 none exchange", "refused ENOENT"),
-    ("rename 0 none 2 f plain", "refused ENOENT"),
-    ("rename 0 abs 1 b plain", "refused EISDIR"),
-    ("rename 1 b 0 a plain", "refused ENOTEMPTY"),
-    ("rename 9 f 2 f plain", "refused EBADF"),
-    ("rename 2 f 9 f plain", "refused EBADF"),
-    ("rename 0 abs 2 f exchange", "done"),
-    ("open 2 f", "opened 3 5 link"),
-    ("open 0 abs", "opened 4 4 file"),
-    ("rename 0 abs 0 up plain", "done"),
-    ("open 0 up", "opened 5 4 file"),
-    ("open 0 abs", "refused ENOENT"),
-    ("list 0", "listed /a/dang/loop/up"),
-    ("make_dir 0 e", "done"),
-    ("rename 1 b 0 e plain", "done"),
-    ("below 0 3", "names /e/f"),
-    ("rename 0 e 0 a noreplace", "refused EEXIST"),
-    ("rename 0 e 1 e noreplace", "done"),
-    ("below 0 3", "names /a/e/f"),
-    ("list 1", "listed /e"),
-    ("remove_file 2 f", "done"),
-    ("below 0 3", "not_below"),
-    ("read_link 3", "text /a/b"),
-    ("make_dir 2 g", "done"),
-    ("rename 1 e 0 up exchange", "done"),
-    ("list 0", "listed /a/dang/loop/up"),
-    ("list 1", "listed /e"),
-    ("open 0 up", "opened 6 3 dir"),
-    ("list 6", "listed /g"),
+/// What is looked up, on the base tree with handle 0 on `/c`.
+const LOOK_UPS: [Row; 26] = [
+    ("open", 0, "a", 0, "", Wanted::Opened(1, 2, Kind::Dir)),
+    ("open", 1, "b", 0, "", Wanted::Opened(2, 3, Kind::Dir)),
+    ("open", 2, "f", 0, "", Wanted::Opened(3, 4, Kind::File)),
+    ("open", 0, "abs", 0, "", Wanted::Opened(4, 5, Kind::Link)),
+    ("open", 3, "f", 0, "", Wanted::Refused(Errno::NotDir)),
+    ("open", 4, "f", 0, "", Wanted::Refused(Errno::NotDir)),
+    ("open", 0, "none", 0, "", Wanted::Refused(Errno::NotFound)),
+    ("open", 9, "a", 0, "", Wanted::Refused(Errno::BadHandle)),
+    ("read_link", 4, "", 0, "", Wanted::Text("/a/b")),
+    ("read_link", 1, "", 0, "", Wanted::Refused(Errno::Invalid)),
+    ("read_link", 3, "", 0, "", Wanted::Refused(Errno::Invalid)),
+    ("parent", 2, "", 0, "", Wanted::Opened(5, 2, Kind::Dir)),
+    ("parent", 0, "", 0, "", Wanted::Opened(6, 0, Kind::Dir)),
+    ("parent", 6, "", 0, "", Wanted::Opened(7, 0, Kind::Dir)),
+    ("parent", 4, "", 0, "", Wanted::Refused(Errno::NotDir)),
+    ("below", 0, "", 3, "", Wanted::Names("/a/b/f")),
+    ("below", 6, "", 3, "", Wanted::Names("/c/a/b/f")),
+    ("below", 2, "", 2, "", Wanted::Names("/")),
+    ("below", 2, "", 0, "", Wanted::NotBelow),
+    ("below", 2, "", 9, "", Wanted::Refused(Errno::BadHandle)),
+    ("list", 0, "", 0, "", Wanted::Listed("/a/abs/dang/loop/up")),
+    ("list", 3, "", 0, "", Wanted::Refused(Errno::NotDir)),
+    ("dup", 2, "", 0, "", Wanted::Opened(8, 3, Kind::Dir)),
+    ("dup", 9, "", 0, "", Wanted::Refused(Errno::BadHandle)),
+    ("close", 2, "", 0, "", Wanted::Done),
+    ("close", 2, "", 0, "", Wanted::Refused(Errno::BadHandle)),
+];
+
+/// What is listed, on the top alone with handle 0 on it.
+const ORDER: [Row; 9] = [
+    ("list", 0, "", 0, "", Wanted::Listed("/")),
+    ("parent", 0, "", 0, "", Wanted::Opened(1, 0, Kind::Dir)),
+    ("make_file", 0, "b", 0, "", Wanted::Done),
+    ("make_file", 0, "ab", 0, "", Wanted::Done),
+    ("make_file", 0, "é", 0, "", Wanted::Done),
+    ("make_dir", 0, "a", 0, "", Wanted::Done),
+    ("make_link", 0, "Z", 0, "q", Wanted::Done),
+    ("make_file", 0, "a0", 0, "", Wanted::Done),
+    ("list", 0, "", 0, "", Wanted::Listed("/Z/a/a0/ab/b/é")),
+];
+
+/// What is made and removed, on the base tree.
+const CHANGES: [Row; 25] = [
+    ("open", 0, "a", 0, "", Wanted::Opened(1, 2, Kind::Dir)),
+    ("open", 1, "b", 0, "", Wanted::Opened(2, 3, Kind::Dir)),
+    ("open", 2, "f", 0, "", Wanted::Opened(3, 4, Kind::File)),
+    ("make_file", 1, "n", 0, "", Wanted::Done),
+    ("open", 1, "n", 0, "", Wanted::Opened(4, 11, Kind::File)),
+    ("make_file", 1, "n", 0, "", Wanted::Refused(Errno::Exists)),
+    ("make_file", 0, "abs", 0, "", Wanted::Refused(Errno::Exists)),
+    ("make_file", 3, "x", 0, "", Wanted::Refused(Errno::NotDir)),
+    ("make_dir", 0, "d", 0, "", Wanted::Done),
+    ("open", 0, "d", 0, "", Wanted::Opened(5, 12, Kind::Dir)),
+    ("make_link", 0, "l", 0, "", Wanted::Refused(Errno::NotFound)),
+    ("make_link", 3, "l", 0, "", Wanted::Refused(Errno::NotFound)),
+    ("make_link", 0, "l", 0, "q", Wanted::Done),
+    ("open", 0, "l", 0, "", Wanted::Opened(6, 13, Kind::Link)),
+    ("read_link", 6, "", 0, "", Wanted::Text("q")),
+    ("remove_file", 0, "a", 0, "", Wanted::Refused(Errno::IsDir)),
+    (
+        "remove_file",
+        0,
+        "none",
+        0,
+        "",
+        Wanted::Refused(Errno::NotFound),
+    ),
+    ("remove_file", 3, "x", 0, "", Wanted::Refused(Errno::NotDir)),
+    (
+        "remove_dir",
+        0,
+        "abs",
+        0,
+        "",
+        Wanted::Refused(Errno::NotDir),
+    ),
+    (
+        "remove_dir",
+        0,
+        "a",
+        0,
+        "",
+        Wanted::Refused(Errno::NotEmpty),
+    ),
+    (
+        "remove_dir",
+        0,
+        "none",
+        0,
+        "",
+        Wanted::Refused(Errno::NotFound),
+    ),
+    ("remove_file", 0, "abs", 0, "", Wanted::Done),
+    ("open", 0, "abs", 0, "", Wanted::Refused(Errno::NotFound)),
+    ("remove_dir", 0, "d", 0, "", Wanted::Done),
+    ("list", 0, "", 0, "", Wanted::Listed("/a/dang/l/loop/up")),
+];
+
+/// What is gone, on the top alone.
+const GONE: [Row; 13] = [
+    ("make_dir", 0, "d", 0, "", Wanted::Done),
+    ("open", 0, "d", 0, "", Wanted::Opened(1, 1, Kind::Dir)),
+    ("remove_dir", 0, "d", 0, "", Wanted::Done),
+    ("make_dir", 0, "e", 0, "", Wanted::Done),
+    ("open", 0, "e", 0, "", Wanted::Opened(2, 2, Kind::Dir)),
+    ("make_file", 2, "y", 0, "", Wanted::Done),
+    ("list", 1, "", 0, "", Wanted::Listed("/")),
+    ("list", 2, "", 0, "", Wanted::Listed("/y")),
+    ("make_file", 1, "x", 0, "", Wanted::Refused(Errno::NotFound)),
+    ("parent", 1, "", 0, "", Wanted::Refused(Errno::NotFound)),
+    ("below", 0, "", 1, "", Wanted::NotBelow),
+    ("below", 1, "", 1, "", Wanted::Names("/")),
+    ("rename", 2, "y", 1, "y", Wanted::Refused(Errno::NotFound)),
+];
+
+/// What is found after a rename, on the base tree.
+const RENAMED: [Row; 8] = [
+    ("open", 0, "q", 0, "", Wanted::Refused(Errno::NotFound)),
+    ("make_file", 0, "q", 0, "", Wanted::Done),
+    ("open", 0, "q", 0, "", Wanted::Opened(1, 11, Kind::File)),
+    ("rename", 0, "q", 0, "r", Wanted::Done),
+    ("open", 0, "q", 0, "", Wanted::Refused(Errno::NotFound)),
+    ("open", 0, "r", 0, "", Wanted::Opened(2, 11, Kind::File)),
+    ("remove_file", 0, "r", 0, "", Wanted::Done),
+    ("open", 0, "r", 0, "", Wanted::Refused(Errno::NotFound)),
+];
+
+/// Renames, on the base tree.
+const RENAMES: [Row; 39] = [
+    ("open", 0, "a", 0, "", Wanted::Opened(1, 2, Kind::Dir)),
+    ("open", 1, "b", 0, "", Wanted::Opened(2, 3, Kind::Dir)),
+    ("rename", 0, "a", 2, "x", Wanted::Refused(Errno::Invalid)),
+    ("rename", 0, "a", 0, "a", Wanted::Done),
+    ("exchange", 0, "a", 1, "b", Wanted::Refused(Errno::Invalid)),
+    ("exchange", 1, "b", 0, "a", Wanted::Refused(Errno::Invalid)),
+    ("rename", 0, "a", 0, "abs", Wanted::Refused(Errno::NotDir)),
+    ("rename", 2, "f", 2, "f", Wanted::Done),
+    ("exchange", 2, "f", 2, "f", Wanted::Done),
+    (
+        "rename_no_replace",
+        2,
+        "f",
+        2,
+        "f",
+        Wanted::Refused(Errno::Exists),
+    ),
+    (
+        "exchange",
+        2,
+        "f",
+        0,
+        "none",
+        Wanted::Refused(Errno::NotFound),
+    ),
+    (
+        "rename",
+        0,
+        "none",
+        2,
+        "f",
+        Wanted::Refused(Errno::NotFound),
+    ),
+    ("rename", 0, "abs", 1, "b", Wanted::Refused(Errno::IsDir)),
+    ("rename", 1, "b", 0, "a", Wanted::Refused(Errno::NotEmpty)),
+    ("rename", 9, "f", 2, "f", Wanted::Refused(Errno::BadHandle)),
+    ("rename", 2, "f", 9, "f", Wanted::Refused(Errno::BadHandle)),
+    ("exchange", 0, "abs", 2, "f", Wanted::Done),
+    ("open", 2, "f", 0, "", Wanted::Opened(3, 5, Kind::Link)),
+    ("open", 0, "abs", 0, "", Wanted::Opened(4, 4, Kind::File)),
+    ("rename", 0, "abs", 0, "up", Wanted::Done),
+    ("open", 0, "up", 0, "", Wanted::Opened(5, 4, Kind::File)),
+    ("open", 0, "abs", 0, "", Wanted::Refused(Errno::NotFound)),
+    ("list", 0, "", 0, "", Wanted::Listed("/a/dang/loop/up")),
+    ("make_dir", 0, "e", 0, "", Wanted::Done),
+    ("rename", 1, "b", 0, "e", Wanted::Done),
+    ("below", 0, "", 3, "", Wanted::Names("/e/f")),
+    (
+        "rename_no_replace",
+        0,
+        "e",
+        0,
+        "a",
+        Wanted::Refused(Errno::Exists),
+    ),
+    ("rename_no_replace", 0, "e", 1, "e", Wanted::Done),
+    ("below", 0, "", 3, "", Wanted::Names("/a/e/f")),
+    ("list", 1, "", 0, "", Wanted::Listed("/e")),
+    ("remove_file", 2, "f", 0, "", Wanted::Done),
+    ("below", 0, "", 3, "", Wanted::NotBelow),
+    ("read_link", 3, "", 0, "", Wanted::Text("/a/b")),
+    ("make_dir", 2, "g", 0, "", Wanted::Done),
+    ("exchange", 1, "e", 0, "up", Wanted::Done),
+    ("list", 0, "", 0, "", Wanted::Listed("/a/dang/loop/up")),
+    ("list", 1, "", 0, "", Wanted::Listed("/e")),
+    ("open", 0, "up", 0, "", Wanted::Opened(6, 3, Kind::Dir)),
+    ("list", 6, "", 0, "", Wanted::Listed("/g")),
 ];
 
 fn names_of(alloc: Global, path: &str) -> Result<Names, Fail> {
@@ -181,75 +265,6 @@ fn base(alloc: Global) -> Result<ListTree, Fail>
     Ok(ListTree::from_entries(alloc, &entries)?)
 }
 
-fn step_of(alloc: Global, line: &str) -> Result<Step, Fail> {
-    let words: Vec<&str> = line.split(' ').collect(alloc)?;
-    let word = |at: usize| words.get(at).copied().unwrap_or("0");
-    let handle = HandleNo::new(word(1).parse::<u64>()?);
-    let name = Name::new(alloc, word(2).as_bytes())?;
-    Ok(match word(0) {
-        "open" => StepOf::Open(handle, name),
-        "dup" => StepOf::Dup(handle),
-        "parent" => StepOf::Parent(handle),
-        "read_link" => StepOf::ReadLink(handle),
-        "below" => StepOf::NameBelow(handle, HandleNo::new(word(2).parse::<u64>()?)),
-        "list" => StepOf::List(handle),
-        "close" => StepOf::Close(handle),
-        "make_dir" => StepOf::MakeDir(handle, name),
-        "make_file" => StepOf::MakeFile(handle, name),
-        "make_link" => StepOf::MakeLink(
-            handle,
-            name,
-            Bytes::from_slice(alloc, word(3).as_bytes())?,
-        ),
-        "remove_file" => StepOf::RemoveFile(handle, name),
-        "remove_dir" => StepOf::RemoveDir(handle, name),
-        _ => StepOf::Rename(
-            handle,
-            name,
-            HandleNo::new(word(3).parse::<u64>()?),
-            Name::new(alloc, word(4).as_bytes())?,
-            match word(5) {
-                "plain" => Mode::Plain,
-                "noreplace" => Mode::NoReplace,
-                _ => Mode::Exchange,
-            },
-        ),
-    })
-}
-
-/// An answer as a line of text.
-fn shown(alloc: Global, answer: &Answer) -> Result<String, Fail> {
-    Ok(match answer {
-        Answer::Opened { handle, node, kind } => {
-            let kind = match kind {
-                Kind::Dir => "dir",
-                Kind::File => "file",
-                Kind::Link => "link",
-            };
-            let (handle, node) = (handle.number(), node.number());
-            format!(in alloc; "opened {handle} {node} {kind}")?
-        }
-        Answer::Text(text) => {
-            let text = String::from_utf8_lossy(alloc, text.as_slice())?;
-            format!(in alloc; "text {text}")?
-        }
-        Answer::Names(names) => {
-            let path = String::from_utf8_lossy(alloc, names.print(alloc)?.as_slice())?;
-            format!(in alloc; "names {path}")?
-        }
-        Answer::NotBelow => String::from_str(alloc, "not_below")?,
-        Answer::Listed(names) => {
-            let path = String::from_utf8_lossy(alloc, names.print(alloc)?.as_slice())?;
-            format!(in alloc; "listed {path}")?
-        }
-        Answer::Done => String::from_str(alloc, "done")?,
-        Answer::Refused(error) => {
-            let name = error.name();
-            format!(in alloc; "refused {name}")?
-        }
-    })
-}
-
 /// The plain tree and the indexed one, with the same entries and handle 0 of actor 0 at the same directory.
 fn both(alloc: Global, top_alone: bool) -> Result<(ListTree, SlabTree), Fail> {
     let at = if top_alone { "/" } else { "/c" };
@@ -258,11 +273,80 @@ fn both(alloc: Global, top_alone: bool) -> Result<(ListTree, SlabTree), Fail> {
     } else {
         base(alloc)?
     };
-    let mut slab = SlabTree::from_list(alloc, &list, 1024)?;
+    let mut slab = if top_alone {
+        SlabTree::new(alloc, 4)?
+    } else {
+        SlabTree::from_list(alloc, &list, 1024)?
+    };
     let names = names_of(alloc, at)?;
     list.grant(alloc, Actor::new(0), &names)?;
     slab.grant(alloc, Actor::new(0), &names)?;
     Ok((list, slab))
+}
+
+fn mode_of(word: &str) -> Mode {
+    match word {
+        "rename" => Mode::Plain,
+        "rename_no_replace" => Mode::NoReplace,
+        _ => Mode::Exchange,
+    }
+}
+
+/// A step with two names, or with a name and a text.
+fn step_with_both(alloc: Global, row: &Row, name: Name) -> Result<Step, Fail> {
+    let dir = HandleNo::new(row.1);
+    if row.0 == "make_link" {
+        let text = Bytes::from_slice(alloc, row.4.as_bytes())?;
+        return Ok(StepOf::MakeLink(dir, name, text));
+    }
+    let other = Name::new(alloc, row.4.as_bytes())?;
+    Ok(StepOf::Rename(dir, name, HandleNo::new(row.3), other, mode_of(row.0)))
+}
+
+/// A step with a name.
+fn step_with_name(alloc: Global, row: &Row) -> Result<Step, Fail> {
+    let dir = HandleNo::new(row.1);
+    let name = Name::new(alloc, row.2.as_bytes())?;
+    match row.0 {
+        "open" => Ok(StepOf::Open(dir, name)),
+        "make_dir" => Ok(StepOf::MakeDir(dir, name)),
+        "make_file" => Ok(StepOf::MakeFile(dir, name)),
+        "remove_file" => Ok(StepOf::RemoveFile(dir, name)),
+        "remove_dir" => Ok(StepOf::RemoveDir(dir, name)),
+        _ => step_with_both(alloc, row, name),
+    }
+}
+
+fn step_of(alloc: Global, row: &Row) -> Result<Step, Fail> {
+    let handle = HandleNo::new(row.1);
+    match row.0 {
+        "dup" => Ok(StepOf::Dup(handle)),
+        "parent" => Ok(StepOf::Parent(handle)),
+        "read_link" => Ok(StepOf::ReadLink(handle)),
+        "below" => Ok(StepOf::NameBelow(handle, HandleNo::new(row.3))),
+        "list" => Ok(StepOf::List(handle)),
+        "close" => Ok(StepOf::Close(handle)),
+        _ => step_with_name(alloc, row),
+    }
+}
+
+fn is_path(alloc: Global, names: &Names, path: &str) -> Result<bool, Fail> {
+    let printed = names.print(alloc)?;
+    Ok(printed.as_slice() == path.as_bytes())
+}
+
+fn is_wanted(alloc: Global, answer: &Answer, wanted: Wanted) -> Result<bool, Fail> {
+    match (answer, wanted) {
+        (Answer::Opened { handle, node, kind }, Wanted::Opened(h, n, k)) => {
+            Ok(handle.number() == h && node.number() == n && *kind == k)
+        }
+        (Answer::Text(text), Wanted::Text(t)) => Ok(text.as_slice() == t.as_bytes()),
+        (Answer::Names(names), Wanted::Names(path)) => is_path(alloc, names, path),
+        (Answer::NotBelow, Wanted::NotBelow) | (Answer::Done, Wanted::Done) => Ok(true),
+        (Answer::Listed(names), Wanted::Listed(path)) => is_path(alloc, names, path),
+        (Answer::Refused(error), Wanted::Refused(e)) => Ok(*error == e),
+        _ => Ok(false),
+    }
 }
 
 /// Whether both trees answer a step as is wanted.
@@ -270,38 +354,88 @@ fn is_answered(
     alloc: Global,
     list: &mut ListTree,
     slab: &mut SlabTree,
-    row: (&str, &str),
+    row: &Row,
 ) -> Result<bool, Fail> {
-    let step = step_of(alloc, row.0)?;
+    let step = step_of(alloc, row)?;
     let answer = list.step(alloc, Actor::new(0), &step)?;
     let other = slab.step(alloc, Actor::new(0), &step)?;
-    Ok(answer.same(&other) && shown(alloc, &answer)?.as_str() == row.1)
+    let right = is_wanted(alloc, &answer, row.5)?;
+    Ok(right && answer.same(&other))
+}
+
+/// Whether the trees are the same as values.
+fn same(alloc: Global, list: &ListTree, slab: &SlabTree) -> Result<bool, Fail> {
+    let snapshot = list.snapshot(alloc)?;
+    let other = slab.snapshot(alloc)?;
+    Ok(snapshot.same(&other))
 }
 
 /// The first row that one of the trees answers wrongly, or the number of rows where they differ at last.
-fn first_wrong(alloc: Global) -> Result<Option<usize>, Fail> {
-    let (mut list, mut slab) = both(alloc, true)?;
-    for (at, row) in ROWS.iter().enumerate() {
-        if row.1.is_empty() {
-            let pair = both(alloc, row.0 == "top")?;
-            list = pair.0;
-            slab = pair.1;
-        } else if !is_answered(alloc, &mut list, &mut slab, *row)? {
+fn first_wrong(alloc: Global, top_alone: bool, rows: &[Row]) -> Result<Option<usize>, Fail> {
+    let (mut list, mut slab) = both(alloc, top_alone)?;
+    for (at, row) in rows.iter().enumerate() {
+        if !is_answered(alloc, &mut list, &mut slab, row)? {
             return Ok(Some(at));
         }
     }
-    let same = list.snapshot(alloc)?.same(&slab.snapshot(alloc)?);
-    Ok((!same).then_some(ROWS.len()))
+    let is_same = same(alloc, &list, &slab)?;
+    Ok((!is_same).then_some(rows.len()))
 }
 
 #[test]
-fn answers_as_the_plain_tree(rt: HostRuntime) -> Result<(), Fail> {
-    assert_eq!(rt; first_wrong(rt.alloc())?, None);
+fn looks_up_without_following(rt: HostRuntime) -> Result<(), Fail> {
+    let wrong = first_wrong(rt.alloc(), false, LOOK_UPS.as_slice())?;
+    assert_eq!(rt; wrong, None);
     Ok(())
 }
 
-/// What came after 1,023 more handles were opened: how many are open, and three answers.
-fn full_share(alloc: Global) -> Result<(usize, bool, bool, bool), Fail> {
+#[test]
+fn lists_by_bytes(rt: HostRuntime) -> Result<(), Fail> {
+    let wrong = first_wrong(rt.alloc(), true, ORDER.as_slice())?;
+    assert_eq!(rt; wrong, None);
+    Ok(())
+}
+
+#[test]
+fn makes_and_removes(rt: HostRuntime) -> Result<(), Fail> {
+    let wrong = first_wrong(rt.alloc(), false, CHANGES.as_slice())?;
+    assert_eq!(rt; wrong, None);
+    Ok(())
+}
+
+#[test]
+fn keeps_what_is_gone_by_its_handles(rt: HostRuntime) -> Result<(), Fail> {
+    let wrong = first_wrong(rt.alloc(), true, GONE.as_slice())?;
+    assert_eq!(rt; wrong, None);
+    Ok(())
+}
+
+#[test]
+fn finds_what_was_renamed(rt: HostRuntime) -> Result<(), Fail> {
+    let wrong = first_wrong(rt.alloc(), false, RENAMED.as_slice())?;
+    assert_eq!(rt; wrong, None);
+    Ok(())
+}
+
+#[test]
+fn renames_and_exchanges(rt: HostRuntime) -> Result<(), Fail> {
+    let wrong = first_wrong(rt.alloc(), false, RENAMES.as_slice())?;
+    assert_eq!(rt; wrong, None);
+    Ok(())
+}
+
+/// The steps where handle 0 and 1,023 more are open.
+const FULL: [Row; 6] = [
+    ("dup", 0, "", 0, "", Wanted::Refused(Errno::TooMany)),
+    ("open", 0, "a", 0, "", Wanted::Refused(Errno::TooMany)),
+    ("open", 0, "none", 0, "", Wanted::Refused(Errno::NotFound)),
+    ("close", 5, "", 0, "", Wanted::Done),
+    ("dup", 0, "", 0, "", Wanted::Opened(1024, 1, Kind::Dir)),
+    ("close", 5, "", 0, "", Wanted::Refused(Errno::BadHandle)),
+];
+
+/// How many handles are open after 1,023 more, whether the answers are right then, and how many are open at last.
+fn full_share(alloc: Global) -> Result<(usize, bool, usize), Fail> {
     let (mut list, mut slab) = both(alloc, false)?;
     let dup = StepOf::Dup(HandleNo::new(0));
     for _ in 1..1024 {
@@ -309,15 +443,16 @@ fn full_share(alloc: Global) -> Result<(usize, bool, bool, bool), Fail> {
         slab.step(alloc, Actor::new(0), &dup)?;
     }
     let held = slab.held(Actor::new(0));
-    let refused = is_answered(alloc, &mut list, &mut slab, ("dup 0", "refused EMFILE"))?;
-    let closed = is_answered(alloc, &mut list, &mut slab, ("close 5", "done"))?;
-    let opened = is_answered(alloc, &mut list, &mut slab, ("dup 0", "opened 1024 1 dir"))?;
-    Ok((held, refused, closed, opened))
+    let mut right = true;
+    for row in &FULL {
+        right = is_answered(alloc, &mut list, &mut slab, row)? && right;
+    }
+    Ok((held, right, slab.held(Actor::new(0))))
 }
 
 #[test]
 fn opens_no_more_than_its_share(rt: HostRuntime) -> Result<(), Fail> {
-    assert_eq!(rt; full_share(rt.alloc())?, (1024, true, true, true));
+    assert_eq!(rt; full_share(rt.alloc())?, (1024, true, 1024));
     Ok(())
 }
 
@@ -328,18 +463,8 @@ fn starts(alloc: Global, cap: usize) -> Result<Option<bool>, Fail> {
             let list = ListTree::new(alloc)?;
             Ok(Some(slab.snapshot(alloc)?.same(&list.snapshot(alloc)?)))
         }
-        Err(error) => {
-            assert_invalid(error)?;
-            Ok(None)
-        }
-    }
-}
-
-fn assert_invalid(error: Errno) -> Result<(), Fail> {
-    if error == Errno::Invalid {
-        Ok(())
-    } else {
-        Err(Fail::new("another refusal of the cap"))
+        Err(Errno::Invalid) => Ok(None),
+        Err(error) => Err(Fail::new(error.name())),
     }
 }
 

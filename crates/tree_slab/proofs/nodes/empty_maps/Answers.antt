@@ -1,6 +1,6 @@
-use Rattle.std.proofs.Common.{rules, arith, ◌≡◌, ◌≢◌, ◌∙◌, ◌++◌, ◌∷◌, [], ◌&&◌, ◌<◌, true, false, not, nat_le, nat_eq, length, count_by, Some, None, IsSome, sym, ap}
+use Rattle.std.proofs.Common.{rules, arith, ◌≡◌}
 use Rattle.tree_slab.specs.Index.{is_standing_dir}
-use Rattle.tree_slab.proofs.Started.{HasFirstMaps, one_map_more, all_maps}
+use Rattle.tree_slab.proofs.Started.{one_map_more, all_maps}
 use Rattle.tree_slab.proofs.nodes.empty_maps.Goals as goal
 
 pub loop-number-preserved : goal.loop-number-preserved

@@ -1,4 +1,4 @@
-use Rattle.std.proofs.Common.{rules, arith, ◌≡◌, ◌≢◌, ◌∙◌, ◌++◌, ◌∷◌, [], ◌&&◌, ◌<◌, true, false, not, nat_le, nat_eq, length, count_by, Some, None, IsSome, sym, ap}
+use Rattle.std.proofs.Common.{rules, arith}
 use Rattle.tree_slab.proofs.Started.{no_entries_yet, parent_has_map, one_entry_more, all_entries}
 use Rattle.tree_slab.proofs.nodes.link_all.Goals as goal
 

@@ -1,5 +1,5 @@
 use Rattle.std.proofs.Common.{rules, ◌≡◌, ◌∙◌, ap, ◌++◌, ◌∷◌, [], Some, map, length}
-use Rattle.tree_slab.specs.Directories.{entries_of, new_entries, key_at}
+use Rattle.tree_slab.specs.Directories.{entries_of, key_at}
 use Rattle.tree_slab.proofs.Grown.{added_each, added_view}
 use Rattle.tree_slab.proofs.directories.Directories.add.Goals as goal
 

@@ -1,5 +1,5 @@
-use Rattle.std.proofs.Common.{rules, ◌≡◌, ◌∙◌, ap, ◌++◌, ◌∷◌, [], Some, map, length}
-use Rattle.tree_slab.specs.Directories.{entries_of, new_entries, key_at}
+use Rattle.std.proofs.Common.{rules, ◌≡◌, ◌∙◌, ap, ◌++◌, ◌∷◌, [], map}
+use Rattle.tree_slab.specs.Directories.{entries_of, new_entries}
 use Rattle.tree_slab.proofs.Grown.{grown_each, grown_view}
 use Rattle.tree_slab.proofs.directories.Directories.grow.Goals as goal
 

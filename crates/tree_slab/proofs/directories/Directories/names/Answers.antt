@@ -1,4 +1,4 @@
-use Rattle.std.proofs.Common.{rules, [], sym, subst}
+use Rattle.std.proofs.Common.{[], sym, subst}
 use Rattle.std.specs.List.Sorted.{IsStrictlySortedBy}
 use Rattle.std.specs.Cmp.Lexicographic.{slice_cmp}
 use Rattle.std.specs.Ordering.{nat_cmp}

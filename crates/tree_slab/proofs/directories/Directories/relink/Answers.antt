@@ -1,5 +1,5 @@
 use Rattle.std.proofs.Common.{rules}
-use Rattle.tree_slab.proofs.Keys.{changed_entry, nothing_there}
+use Rattle.tree_slab.proofs.Keys.{changed_entry}
 use Rattle.tree_slab.proofs.directories.Directories.relink.Goals as goal
 
 pub returns-in-Some : goal.returns-in-Some

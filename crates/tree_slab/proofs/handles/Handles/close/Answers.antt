@@ -1,4 +1,4 @@
-use Rattle.std.proofs.Common.{rules, arith, ◌≡◌, ◌≢◌, ◌∙◌, ◌++◌, ◌∷◌, [], ◌&&◌, ◌<◌, true, false, not, nat_le, nat_eq, length, count_by, Some, None, IsSome, sym, ap}
+use Rattle.std.proofs.Common.{rules, ◌≡◌, count_by, IsSome}
 use Rattle.std.specs.Prelude.{slice_get}
 use Rattle.tree_model.specs.Steps.{is_held_by, node_held}
 use Rattle.tree_slab.proofs.Counts.{held_counts, held_within, held_has_count, counted_closed}

@@ -1,7 +1,5 @@
-use Rattle.std.proofs.Common.{rules, arith, ◌≡◌, ◌≢◌, ◌∙◌, ◌++◌, ◌∷◌, [], ◌&&◌, ◌<◌, true, false, not, nat_le, nat_eq, length, count_by, Some, None, IsSome, sym, ap}
-use Rattle.std.specs.Prelude.{slice_get}
-use Rattle.tree_model.specs.Steps.{is_held_by, node_held}
-use Rattle.tree_model.specs.declared.inode.OpenHandle.{OpenHandle}
+use Rattle.std.proofs.Common.{rules, ◌≡◌, ◌++◌, ◌∷◌, [], count_by, Some}
+use Rattle.tree_model.specs.Steps.{is_held_by}
 use Rattle.tree_slab.proofs.Counts.{counted_opened}
 use Rattle.tree_slab.proofs.handles.Handles.open.Goals as goal
 

@@ -1,4 +1,4 @@
-use Rattle.std.proofs.Common.{rules, arith, ◌≡◌, ◌≢◌, ◌∙◌, ◌++◌, ◌∷◌, [], ◌&&◌, ◌<◌, true, false, not, nat_le, nat_eq, length, count_by, Some, None, IsSome, sym, ap}
+use Rattle.std.proofs.Common.{rules, ◌≡◌, ◌∙◌, sym}
 use Rattle.tree_slab.proofs.Index.{child-index}
 use Rattle.tree_slab.proofs.nodes.Nodes.child.Goals as goal
 

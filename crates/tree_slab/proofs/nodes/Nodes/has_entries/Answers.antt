@@ -1,4 +1,4 @@
-use Rattle.std.proofs.Common.{rules, arith, ◌≡◌, ◌≢◌, ◌∙◌, ◌++◌, ◌∷◌, [], ◌&&◌, ◌<◌, true, false, not, nat_le, nat_eq, length, count_by, Some, None, IsSome, sym, ap}
+use Rattle.std.proofs.Common.{rules, ◌≡◌}
 use Rattle.tree_slab.proofs.Index.{has_entries-look}
 use Rattle.tree_slab.proofs.nodes.Nodes.has_entries.Goals as goal
 

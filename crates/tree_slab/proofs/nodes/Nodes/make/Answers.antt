@@ -1,6 +1,5 @@
-use Rattle.std.proofs.Common.{rules, arith, ◌≡◌, ◌≢◌, ◌∙◌, ◌++◌, ◌∷◌, [], ◌&&◌, ◌<◌, true, false, not, nat_le, nat_eq, length, count_by, Some, None, IsSome, sym, ap}
-use Rattle.tree_model.specs.State.{child, is_dir, is_gone, is_within, has_entries, put_at}
-use Rattle.tree_slab.specs.Directories.{entry_in, SetsEntry, AddsNode}
+use Rattle.std.proofs.Common.{rules, arith, ◌≡◌, ◌++◌, ◌∷◌, [], true, false, nat_le, length, Some, None}
+use Rattle.tree_model.specs.State.{child, is_dir, is_gone}
 use Rattle.tree_model.specs.declared.tree.TheConstants.{NUMBERS_MAX}
 use Rattle.std.proofs.lemmas.Bool.{lt-leb}
 use Rattle.tree_slab.proofs.Index.{made_index}

@@ -1,4 +1,4 @@
-use Rattle.std.proofs.Common.{rules, arith, ◌≡◌, ◌≢◌, ◌∙◌, ◌++◌, ◌∷◌, [], ◌&&◌, ◌<◌, true, false, not, nat_le, nat_eq, length, count_by, Some, None, IsSome, sym, ap}
+use Rattle.std.proofs.Common.{rules, ◌≡◌}
 use Rattle.tree_slab.proofs.Listed.{listed_or_not}
 use Rattle.tree_slab.proofs.nodes.Nodes.names.Goals as goal
 

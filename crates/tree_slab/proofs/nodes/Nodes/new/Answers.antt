@@ -1,4 +1,4 @@
-use Rattle.std.proofs.Common.{rules, arith, ◌≡◌, ◌≢◌, ◌∙◌, ◌++◌, ◌∷◌, [], ◌&&◌, ◌<◌, true, false, not, nat_le, nat_eq, length, count_by, Some, None, IsSome, sym, ap, refl}
+use Rattle.std.proofs.Common.{rules, ◌≡◌, refl}
 use Rattle.tree_list.proofs.Built.{new_state}
 use Rattle.tree_list.specs.Build.{top_alone, with_nodes}
 use Rattle.tree_slab.proofs.nodes.Nodes.new.Goals as goal

@@ -1,6 +1,5 @@
-use Rattle.std.proofs.Common.{rules, arith, ◌≡◌, ◌≢◌, ◌∙◌, ◌++◌, ◌∷◌, [], ◌&&◌, ◌<◌, true, false, not, nat_le, nat_eq, length, count_by, Some, None, IsSome, sym, ap}
-use Rattle.tree_model.specs.State.{child, is_dir, is_gone, is_within, has_entries, put_at}
-use Rattle.tree_slab.specs.Directories.{entry_in, SetsEntry, AddsNode}
+use Rattle.std.proofs.Common.{rules, ◌≡◌, ◌&&◌, true, false, Some}
+use Rattle.tree_model.specs.State.{child, is_dir, is_gone, is_within, has_entries}
 use Rattle.tree_slab.proofs.Index.{present, replaced_index}
 use Rattle.tree_slab.proofs.Fault.{replace_fault-childless}
 use Rattle.tree_slab.proofs.nodes.Nodes.replace.Goals as goal
