@@ -25,7 +25,7 @@ use Rattle.scripts.specs.declared.fault.ScriptFault.{ScriptFault}
 use Rattle.step_resolver.specs.Driver.{node_of, IsReady, Resolves}
 use Rattle.step_resolver.specs.declared.driver.Resolved.{Resolved}
 use Rattle.step_resolver.specs.declared.driver.Resolved.TheVariants.{Found}
-use Rattle.scripts.specs.Output.{opened_line, fault_line}
+use Rattle.transcript.specs.Output.{opened_line, fault_line}
 use Rattle.scripts.specs.Actors.{RootedTree, IsAtHand}
 use Rattle.scripts.specs.Script.{rooted_tree_of, then_with}
 use Rattle.scripts.specs.Run.{line_of, line_for, IsRunFaultOf, IsRun, WritesNothingIfRefused}

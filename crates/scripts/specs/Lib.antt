@@ -7,7 +7,6 @@ pub use Rattle.path_text.specs.Text
 pub mod Actors
 pub mod Fault
 pub mod Input
-pub mod Output
 pub mod Run
 pub mod Script
 pub mod Tree

@@ -14,7 +14,7 @@ use Rattle.scripts.specs.declared.fault.ScriptFault.{ScriptFault}
 use Rattle.scripts.specs.declared.fault.ScriptFault.TheVariants.{TooLong}
 use Rattle.scripts.specs.declared.input.TheConstants.{SCRIPT_MAX}
 use Rattle.scripts.specs.Fault.{check_of}
-use Rattle.scripts.specs.Output.{opened_line, fault_line}
+use Rattle.transcript.specs.Output.{opened_line, fault_line}
 use Rattle.scripts.specs.Input.{data_of}
 use Rattle.scripts.specs.Script.{rooted_tree_of, then_with}
 

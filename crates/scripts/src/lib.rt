@@ -9,7 +9,6 @@ mod detail;
 mod fault;
 mod input;
 mod laws;
-mod output;
 mod run;
 mod script;
 #[cfg(test)]

@@ -4,7 +4,7 @@ ghost use Rattle.path_text.specs.declared.errno.Errno.TheVariants as errno;
 ghost use Rattle.serde_json.specs.View.{view};
 ghost use Rattle.step_resolver.specs.Meaning.{resolved};
 ghost use Rattle.step_resolver.specs.Driver.{node_of, IsReady, Resolves};
-ghost use Rattle.scripts.specs.Output.{opened_line, fault_line};
+ghost use Rattle.transcript.specs.Output.{opened_line, fault_line};
 ghost use Rattle.scripts.specs.declared.fault.RunFault.TheVariants as run_fault;
 ghost use Rattle.scripts.specs.Fault.{IsFaultOf};
 ghost use Rattle.scripts.specs.Run.{IsRun, WritesNothingIfRefused, line_of, line_for, written_for};
@@ -12,7 +12,6 @@ ghost use Rattle.scripts.specs.Run.{IsRun, WritesNothingIfRefused, line_of, line
 use crate::actors::ACTOR;
 use crate::fault::RunFault;
 use crate::input::{read_script, value_of};
-use crate::output::Output;
 use crate::script::open_script;
 use handles::{Owner, Standing};
 use path_text::{Errno, Flags, Path};
@@ -20,6 +19,7 @@ use serde_json::Value;
 use std::alloc::Global;
 use std::io::{Read, Write};
 use step_resolver::{Goal, Resolved, Root, resolve};
+use transcript::Output;
 use tree_list::ListTree;
 use tree_model::{Actor, HandleNo, name_below_is_standing};
 

@@ -1,6 +1,6 @@
 //! The text that the program writes.
 ghost use Rattle.std.specs.Prelude.{◌≡◌, ◌<◌, ◌++◌, ℕ, List, [], ◌∷◌, IfOk, OnOk, OnErr, codes, decimal};
-ghost use Rattle.scripts.specs.Output.{escaped_byte, escaped, kind_word, hex_digit, opened_line, fault_line, Gains};
+ghost use Rattle.transcript.specs.Output.{escaped_byte, escaped, kind_word, hex_digit, opened_line, fault_line, Gains};
 ghost use Rattle.path_text.specs.Print.{printed};
 
 use itoa::Buffer;
@@ -22,7 +22,7 @@ impl Model for Output {
 }
 
 /// The word for what a node is.
-fn kind_word(kind: Kind) -> &'static str
+pub(crate) fn kind_word(kind: Kind) -> &'static str
     ensures { result.now ≡ kind_word kind }
 {
     match kind {

@@ -1,6 +1,6 @@
 use Rattle.std.proofs.Common.{◌≡◌, ◌++◌, drop}
-use Rattle.scripts.specs.Output.{escaped}
-use Rattle.scripts.proofs.output.Output.escaped.Given as goal
+use Rattle.transcript.specs.Output.{escaped}
+use Rattle.transcript.proofs.output.Output.escaped.Given as goal
 
 -- what is written and what is left to write make the whole
 abbrev pub invariant-loop-byte : goal.invariant-loop-byte

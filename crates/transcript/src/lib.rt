@@ -1,0 +1,15 @@
+//! Steps and answers as the lines of a transcript.
+//!
+//! A line is made of words with a blank between two. A byte of a name, a path or a text that could be taken for
+//! a blank or for the end of a line is written in hexadecimal, so each step has one line, and `read_step` finds
+//! a step only in the line that it is written as.
+#![tactic(auto)]
+
+mod output;
+mod reader;
+#[cfg(test)]
+mod tests;
+mod words;
+
+pub use output::Output;
+pub use reader::read_step;

@@ -1,0 +1,130 @@
+//! Steps and answers as the words of a line.
+ghost use Rattle.std.specs.Prelude.{◌≡◌, ◌∷◌, [], map, decimal};
+ghost use Rattle.transcript.specs.Output.{Gains, escaped, kind_word};
+ghost use Rattle.transcript.specs.Words.{line_of, after_blanks, mode_word, step_words, answer_words};
+
+use crate::output::{Output, kind_word};
+use path_text::{Name, Names, NoMemory};
+use std::alloc::Global;
+use tree_model::{Answer, HandleNo, Mode, Step, StepOf};
+
+/// The word for how a rename treats an entry that is there already.
+fn mode_word(mode: Mode) -> &'static str
+    ensures { result.now ≡ mode_word mode }
+{
+    match mode {
+        Mode::Plain => "plain",
+        Mode::NoReplace => "noreplace",
+        Mode::Exchange => "exchange",
+    }
+}
+
+impl Output {
+    /// Adds a word and a handle.
+    fn on_handle(&mut self, word: &str, handle: HandleNo) -> Result<(), NoMemory>
+        ensures { Gains self.old self.new (line_of (word.now ∷ decimal handle ∷ [])) result }
+    {
+        self.text(word)?;
+        self.text(" ")?;
+        self.number(handle.number())
+    }
+
+    /// Adds a word, a directory's handle and a name in it.
+    fn on_entry(&mut self, word: &str, dir: HandleNo, name: &Name) -> Result<(), NoMemory>
+        ensures { Gains self.old self.new (line_of (word.now ∷ decimal dir ∷ escaped name.now ∷ [])) result }
+    {
+        self.on_handle(word, dir)?;
+        self.text(" ")?;
+        self.escaped(name.bytes())
+    }
+
+    /// Adds where a rename leads, and how.
+    fn new_entry(&mut self, dir: HandleNo, name: &Name, mode: Mode) -> Result<(), NoMemory>
+        ensures { Gains self.old self.new (line_of (decimal dir ∷ escaped name.now ∷ mode_word mode ∷ [])) result }
+    {
+        self.number(dir.number())?;
+        self.text(" ")?;
+        self.escaped(name.bytes())?;
+        self.text(" ")?;
+        self.text(mode_word(mode))
+    }
+
+    /// Adds a step as the words of a line, with no newline. NoMemory where its room was refused.
+    pub fn step(&mut self, step: &Step) -> Result<(), NoMemory>
+        ensures { Gains self.old self.new (line_of (step_words step.now)) result }
+    {
+        match step {
+            StepOf::Open(dir, name) => self.on_entry("open", *dir, name),
+            StepOf::Dup(handle) => self.on_handle("dup", *handle),
+            StepOf::Parent(handle) => self.on_handle("parent", *handle),
+            StepOf::ReadLink(handle) => self.on_handle("read_link", *handle),
+            StepOf::NameBelow(root, handle) => {
+                self.on_handle("below", *root)?;
+                self.text(" ")?;
+                self.number(handle.number())
+            }
+            StepOf::List(handle) => self.on_handle("list", *handle),
+            StepOf::Close(handle) => self.on_handle("close", *handle),
+            StepOf::MakeDir(dir, name) => self.on_entry("make_dir", *dir, name),
+            StepOf::MakeFile(dir, name) => self.on_entry("make_file", *dir, name),
+            StepOf::MakeLink(dir, name, text) => {
+                self.on_entry("make_link", *dir, name)?;
+                self.text(" ")?;
+                self.escaped(text.as_slice())
+            }
+            StepOf::RemoveFile(dir, name) => self.on_entry("remove_file", *dir, name),
+            StepOf::RemoveDir(dir, name) => self.on_entry("remove_dir", *dir, name),
+            StepOf::Rename(from, old, to, new, mode) => {
+                self.on_entry("rename", *from, old)?;
+                self.text(" ")?;
+                self.new_entry(*to, new, *mode)
+            }
+        }
+    }
+
+    /// Adds a blank and a name for each of the names.
+    fn names_after_blanks(&mut self, names: &Names) -> Result<(), NoMemory>
+        ensures { Gains self.old self.new (after_blanks (map escaped names.now)) result }
+    {
+        for at in 0..names.len() {
+            self.text(" ")?;
+            self.escaped(names.get(at))?;
+        }
+        Ok(())
+    }
+
+    /// Adds an answer as the words of a line, with no newline. NoMemory where its room was refused.
+    pub fn answer(&mut self, alloc: Global, answer: &Answer) -> Result<(), NoMemory>
+        ensures { Gains self.old self.new (line_of (answer_words answer.now)) result }
+    {
+        match answer {
+            Answer::Opened { handle, node, kind } => {
+                self.on_handle("opened", *handle)?;
+                self.text(" ")?;
+                self.number(node.number())?;
+                self.text(" ")?;
+                self.text(kind_word(*kind))
+            }
+            Answer::Text(text) => {
+                self.text("text ")?;
+                self.escaped(text.as_slice())
+            }
+            Answer::Names(names) => {
+                let path = names.print(alloc)?;
+                self.text("names ")?;
+                self.escaped(&path)
+            }
+            Answer::NotBelow => self.text("not_below"),
+            Answer::Listed(names) => {
+                self.text("listed ")?;
+                self.number(names.len() as u64)?;
+                self.names_after_blanks(names)
+            }
+            Answer::Done => self.text("done"),
+            Answer::Refused(error) => {
+                self.text("refused ")?;
+                self.text(error.name())
+            }
+        }
+    }
+}
