@@ -128,7 +128,7 @@ fn starts_with_the_top_alone(rt: HostRuntime) -> Result<(), Fail> {
     assert!(rt; counted(alloc, &ListTree::new(alloc)?)? == ([1, 0, 0], [1, 0]));
     let mut tree = bare(alloc)?;
     let rows = [
-        ("list 0", "listed /"),
+        ("list 0", "listed 0"),
         ("parent 0", "opened 1 0 dir"),
         ("make_dir 0 d", "done"),
         ("open 0 d", "opened 2 1 dir"),
