@@ -234,7 +234,8 @@ impl Directories {
     {
         if let Some(key) = key_at(&self.keys, x) {
             self.keys[x.number() as usize] = None;
-            let _ = self.maps.remove(key);
+            let map = self.maps.remove(key);
+            drop(map);
         }
     }
 }

@@ -7,7 +7,6 @@ use path_text::{Bytes, Errno, Flags, Name, Names, Path};
 use std::alloc::Global;
 use std::test::Fail;
 use step_resolver::{Goal, Root, Turn, Walk, advance};
-use transcript::Output;
 use tree_list::ListTree;
 use tree_model::{Actor, Answer, HandleNo, Kind, Mode, Node, Row, Step, StepOf, Tree};
 
