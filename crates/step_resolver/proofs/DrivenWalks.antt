@@ -106,7 +106,7 @@ advanced_to leave way a s t walking answer goal outcome fewer is taken =
 
 -- ---- one after another
 
-joined_events : (a : ℕ) (lines others : List Line) → events_of a (lines ++ others) ≡ events_of a lines ++ events_of a others
+pub joined_events : (a : ℕ) (lines others : List Line) → events_of a (lines ++ others) ≡ events_of a lines ++ events_of a others
 joined_events a [] others = refl
 joined_events a (answered step answer ∷ lines) others = ap (λ es. record { actor = a; step = step; answer = answer } ∷ es) (joined_events a lines others)
 joined_events a (no_room step answer ∷ lines) others = ap (λ es. record { actor = a; step = step; answer = answer } ∷ es) (joined_events a lines others)
@@ -142,7 +142,7 @@ drives_on join way a s t u from mid to first second =
 
 -- ---- the end
 
-all_own : (a : ℕ) (lines : List Line) → own_events a (events_of a lines) ≡ events_of a lines
+pub all_own : (a : ℕ) (lines : List Line) → own_events a (events_of a lines) ≡ events_of a lines
 all_own a [] = refl
 all_own a (answered step answer ∷ lines) =
     ap (λ b. cond b (record { actor = a; step = step; answer = answer } ∷ own_events a (events_of a lines)) (own_events a (events_of a lines))) (eq-eqb a a refl)

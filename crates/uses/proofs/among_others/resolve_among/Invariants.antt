@@ -1,0 +1,13 @@
+use Rattle.step_resolver.specs.Taken.{steps_to_come}
+use Rattle.step_resolver.specs.View.{way_from}
+use Rattle.uses.proofs.Led.{IsLed}
+use Rattle.uses.proofs.among_others.resolve_among.Given as goal
+
+-- the walk was led here
+abbrev pub invariant-loop-turn : goal.invariant-loop-turn
+invariant-loop-turn g l =
+    let state = g.T.Tree.state in
+    record { led : IsLed l.fn.root.owner (way_from l.fn.root l.fn.goal l.fn.flags) (state l.fn.tree) l.fn.path (state l.tree) l.turn }
+
+abbrev pub decreases-loop-turn : goal.decreases-loop-turn
+decreases-loop-turn g l = steps_to_come l.turn

@@ -1,0 +1,3 @@
+pub mod AmongOthers
+pub mod Counting
+pub mod Lookup
