@@ -16,17 +16,17 @@ use Rattle.handles.specs.declared.owner.Owner.{Owner}
 use Rattle.tree_model.specs.History.{IsLegal, after_events}
 use Rattle.tree_model.specs.HistoryLaws.{LegalHistoriesJoin}
 use Rattle.step_resolver.specs.Order.{Way, Turn, more, begins, Line, events_of, LeadsTo}
-use Rattle.step_resolver.specs.WalkHistory.{Walked, IsWalked, own_events}
+use Rattle.step_resolver.specs.WalkHistory.{WalkInHistory, IsWalkInHistory, own_events}
 use Rattle.step_resolver.specs.Headline.{EveryWalk}
 use Rattle.step_resolver.specs.View.{WalkView}
-use Rattle.step_resolver.specs.Taken.{seen, Keeps, StartsTo}
+use Rattle.step_resolver.specs.TurnView.{turn_view, Keeps, StartsTo}
 use Rattle.step_resolver.specs.declared.walk.Turn.{Turn as Outcome}
 use Rattle.step_resolver.specs.declared.walk.Turn.TheVariants.{More}
 use Rattle.step_resolver.specs.declared.driver.Resolved.{Resolved}
 use Rattle.step_resolver.specs.declared.driver.Resolved.TheVariants.{Found, Partial}
 use Rattle.walk_plan.specs.declared.goal.Goal.{Goal}
 use Rattle.step_resolver.specs.Driver.{Drives, IsOwned}
-use Rattle.step_resolver.proofs.Telling.{leads_on}
+use Rattle.step_resolver.proofs.TurnsTell.{leads_on}
 use Rattle.step_resolver.proofs.DrivenWalks.{all_own, joined_events, drives_begun, turn_of}
 use Rattle.uses.specs.AmongOthers.{ByOthers, TellsAmong, end_of}
 
@@ -86,27 +86,27 @@ led_on join way a s t u from mid to first second =
 -- a walk that was led here, and is still this owner's and on this way
 pub record IsLed (owner : Owner) (way : Way) (s : State) (path : Reading) (t : State) (outcome : Outcome) : Type 0 where
   pub kept : Keeps owner way outcome
-  pub led : Led way owner.actor s (begins way path) t (seen way.goal outcome)
+  pub led : Led way owner.actor s (begins way path) t (turn_view way.goal outcome)
 
-pub begun_led : (way : Way) (owner : Owner) (s : State) (path : Reading) (outcome : Outcome) → Keeps owner way outcome → StartsTo way path (seen way.goal outcome)
+pub begun_led : (way : Way) (owner : Owner) (s : State) (path : Reading) (outcome : Outcome) → Keeps owner way outcome → StartsTo way path (turn_view way.goal outcome)
     → IsLed owner way s path s outcome
 begun_led way owner s path outcome kept starts = record {
   kept = kept;
-  led = led_by_steps way owner.actor s (begins way path) s (seen way.goal outcome)
-      (drives_begun way owner.actor s path (seen way.goal outcome) starts);
+  led = led_by_steps way owner.actor s (begins way path) s (turn_view way.goal outcome)
+      (drives_begun way owner.actor s path (turn_view way.goal outcome) starts);
 }
 
 -- it goes on by what the others do, and then by one step more
 pub led_further : LegalHistoriesJoin → (owner : Owner) (way : Way) (s t v u : State) (path : Reading) (outcome next : Outcome) (walk : WalkView)
     → outcome ≡ More walk → IsLed owner way s path t outcome → ByOthers owner.actor t v → Keeps walk.owner walk.way next
-    → Drives walk.way owner.actor v (more walk.walking) u (seen walk.way.goal next) → IsLed owner way s path u next
+    → Drives walk.way owner.actor v (more walk.walking) u (turn_view walk.way.goal next) → IsLed owner way s path u next
 led_further join owner way s t v u path outcome next walk e here by keeps d =
     let at : IsLed owner way s path t (More walk) = subst (λ o. IsLed owner way s path t o) e here in
     let a = owner.actor in
     let turn = more walk.walking in
     let begun = begins way path in
-    let end = seen way.goal next in
-    let step : Drives way a v turn u end = subst (λ (w : Way). Drives w a v turn u (seen w.goal next)) at.kept.1 d in
+    let end = turn_view way.goal next in
+    let step : Drives way a v turn u end = subst (λ (w : Way). Drives w a v turn u (turn_view w.goal next)) at.kept.1 d in
     record {
       kept = subst (λ (o : Owner). Keeps o way next) at.kept.0 (subst (λ (w : Way). Keeps walk.owner w next) at.kept.1 keeps);
       led = led_on join way a s v u begun turn end (led_on join way a s t v begun turn turn at.led (led_by_others way a t v turn by))
@@ -118,8 +118,8 @@ led_further join owner way s t v u path outcome next walk e here by keeps d =
 pub told_among : EveryWalk → (way : Way) (path : Reading) (a r : ℕ) (s t : State) (end : Turn) → IsState s → held s a way.root ≡ Some r
     → is_dir s.nodes r ≡ true → Led way a s (begins way path) t end → TellsAmong way path a s t end
 told_among every way path a r s t end tree root directory led =
-    let walked : Walked = record { opening = s; before = []; window = led.window; actor = a; way = way; root = r; path = path; lines = led.lines } in
-    let is_walked : IsWalked walked =
+    let walked : WalkInHistory = record { opening = s; before = []; window = led.window; actor = a; way = way; root = r; path = path; lines = led.lines } in
+    let is_walked : IsWalkInHistory walked =
     record { tree = tree; legal_before = tt; legal = led.legal; own = led.own; root = root; root_is_dir = directory } in
     record {
       walked = walked;
@@ -137,7 +137,7 @@ pub record IsEndOf (owner : Owner) (way : Way) (path : Reading) (s t : State) (r
   pub tells : TellsAmong way path owner.actor s t (end_of way.goal result)
   pub owned : IsOwned owner result
 
-seen_end : (goal : Goal) (result : Result Resolved Errno) → seen goal (turn_of result) ≡ end_of goal result
+seen_end : (goal : Goal) (result : Result Resolved Errno) → turn_view goal (turn_of result) ≡ end_of goal result
 seen_end goal (Ok (Found standing)) = refl
 seen_end goal (Ok (Partial standing rest)) = refl
 seen_end goal (Err error) = refl

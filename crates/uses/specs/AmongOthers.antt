@@ -11,10 +11,10 @@ use Rattle.step_resolver.specs.Asked.{asked, follows}
 use Rattle.step_resolver.specs.declared.driver.Resolved.{Resolved}
 use Rattle.step_resolver.specs.declared.driver.Resolved.TheVariants.{Found, Partial}
 use Rattle.step_resolver.specs.Order.{Way, Turn, found, partial, failed}
-use Rattle.step_resolver.specs.WalkHistory.{Walked, IsWalked, begin_of}
+use Rattle.step_resolver.specs.WalkHistory.{WalkInHistory, IsWalkInHistory, begin_of}
 use Rattle.step_resolver.specs.WalkHistory.{end_of as tree_after}
 use Rattle.step_resolver.specs.Headline.{Headline}
-use Rattle.step_resolver.specs.Taken.{standing_handle}
+use Rattle.step_resolver.specs.TurnView.{standing_handle}
 
 -- legal steps of other actors alone lead from one tree to the other
 pub record ByOthers (walker : ℕ) (s t : State) : Type 0 where
@@ -32,8 +32,8 @@ end_of goal (Err error) = failed error
 -- A walk of this actor, on this way and along this path, in a legal history that leads from one tree to the other; and what
 -- the headline says of it and of its end.
 pub record TellsAmong (way : Way) (path : Reading) (walker : ℕ) (s t : State) (end : Turn) : Type 0 where
-  pub walked : Walked
-  pub is_walked : IsWalked walked
+  pub walked : WalkInHistory
+  pub is_walked : IsWalkInHistory walked
   pub actor : walked.actor ≡ walker
   pub same_way : walked.way ≡ way
   pub same_path : walked.path ≡ path

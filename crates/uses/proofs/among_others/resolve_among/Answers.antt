@@ -2,7 +2,7 @@ use Rattle.std.proofs.Common.{◌<◌, sym, subst, Ok, Err}
 use Rattle.step_resolver.specs.declared.driver.Resolved.TheVariants.{Found, Partial}
 use Rattle.step_resolver.specs.declared.walk.Turn.{Turn as Outcome}
 use Rattle.step_resolver.specs.Order.{Way}
-use Rattle.step_resolver.specs.Taken.{steps_to_come}
+use Rattle.step_resolver.specs.TurnView.{steps_to_come}
 use Rattle.step_resolver.specs.View.{way_from}
 use Rattle.uses.proofs.Led.{begun_led, led_further, ended_by}
 use Rattle.uses.proofs.among_others.resolve_among.Goals as goal

@@ -1,4 +1,4 @@
-use Rattle.step_resolver.specs.Taken.{steps_to_come}
+use Rattle.step_resolver.specs.TurnView.{steps_to_come}
 use Rattle.step_resolver.specs.View.{way_from}
 use Rattle.uses.proofs.Led.{IsLed}
 use Rattle.uses.proofs.among_others.resolve_among.Given as goal
