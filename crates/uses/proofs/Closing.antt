@@ -1,5 +1,5 @@
 -- What was resolved is closed again.
-use Rattle.std.proofs.Common.{◌≡◌, ◌≢◌, ℕ, Ok, None, refl, sym, ap, subst, ◌∙◌, ⊎_elim}
+use Rattle.std.proofs.Common.{◌≡◌, ◌≢◌, ℕ, Ok, sym, ap, subst, ◌∙◌, ⊎_elim}
 use Rattle.std.proofs.lemmas.Bool.{cases_eq}
 use Rattle.tree_model.specs.declared.step.StepOf.TheVariants.{Close}
 use Rattle.tree_model.specs.State.{State}

@@ -1,22 +1,26 @@
 -- A root that is granted in a tree that was just built, and what a path text means below it.
-use Rattle.std.proofs.Common.{◌≡◌, ◌⊎◌, inl, inr, ℕ, true, List, [], length, Some, None, Option, Result, Ok, Err, MatchResult, MatchOption, refl, sym, ap, ◌∙◌, subst, lit≤}
+use Rattle.std.specs.List.{count_by}
+use Rattle.step_resolver.specs.Taken.{STEPS_MAX}
+use Rattle.std.proofs.Common.{suc, ◌+◌, ◌<◌, ◌++◌, ◌∷◌, false, slice_get, unwrap_or, ◌≡◌, ℕ, true, List, [], length, Some, None, Option, Result, Ok, Err, MatchOption, refl, sym, ap, ◌∙◌, subst, lit≤}
 use Rattle.path_text.specs.declared.errno.Errno.{Errno}
-use Rattle.path_text.specs.declared.errno.Errno.TheVariants.{NoMemory}
+use Rattle.path_text.specs.declared.errno.Errno.TheVariants.{TooMany}
 use Rattle.path_text.specs.declared.flags.Flags.{Flags}
 use Rattle.path_text.specs.Reading.{Reading}
 use Rattle.path_text.specs.Text.{text_fault, reading_of}
 use Rattle.tree_model.specs.declared.inode.Inode.{Inode}
 use Rattle.tree_model.specs.declared.inode.OpenHandle.{OpenHandle}
-use Rattle.tree_model.specs.State.{State, TOP, is_dir}
-use Rattle.tree_model.specs.Steps.{directory_at, held, grants, grants_at, IsGrant, with_handle}
+use Rattle.tree_model.specs.State.{State, TOP}
+use Rattle.tree_model.specs.declared.tree.TheConstants.{HANDLES_MAX, NUMBERS_MAX}
+use Rattle.tree_model.specs.Entries.{refuse_if}
+use Rattle.tree_model.specs.Steps.{directory_at, node_held, is_held_by, is_full, grants, grants_at, IsGrant, with_handle}
 use Rattle.tree_model.specs.StepLaws.{GrantsKeepTrees}
 use Rattle.tree_model.specs.Trees.{IsState}
 use Rattle.tree_model.proofs.StepsKept.{directory_at-is_dir}
-use Rattle.tree_list.specs.Build.{built, IsBuilt, IsFaultOf}
+use Rattle.tree_list.specs.Build.{built}
 use Rattle.tree_list.specs.declared.build.BuildFault.{BuildFault}
 use Rattle.tree_list.specs.declared.build.Entry.{Entry}
-use Rattle.step_resolver.specs.Driver.{node_of, ground_at, IsReady}
-use Rattle.step_resolver.specs.Meaning.{Ground, Resolution, is_object, is_error, resolution, resolves, resolved, reading_means}
+use Rattle.step_resolver.specs.Driver.{node_of, IsReady}
+use Rattle.step_resolver.specs.Meaning.{Ground, resolution, resolves, resolved, reading_means}
 use Rattle.uses.specs.Lookup.{Gives, meaning_below, meaning_on, meaning_in}
 
 -- the directory at these names is held by this handle, with room for a walk
@@ -27,35 +31,78 @@ pub record HasRoot (s t : State) (h : ℕ) (names : List (List ℕ)) : Type 0 wh
   pub is_root : node_of t 0 h ≡ root
   pub ready : IsReady t 0 h (node_of t 0 h)
 
+-- there is room for a walk's root beside these handles, and for all that the walk opens
+pub record HasRoom (handles : List (Option OpenHandle)) : Type 0 where
+  pub free : (nodes : List Inode) → is_full (record { nodes = nodes; handles = handles }) 0 ≡ false
+  pub is_held : (x : ℕ) → node_held 0 (slice_get (handles ++ Some (record { actor = 0; node = x }) ∷ []) (length handles)) ≡ Some x
+  pub few : (x : ℕ) → suc (count_by (is_held_by 0) (handles ++ Some (record { actor = 0; node = x }) ∷ [])) < HANDLES_MAX
+  pub numbers : (x : ℕ) → length (handles ++ Some (record { actor = 0; node = x }) ∷ []) + STEPS_MAX < NUMBERS_MAX
+
+pub beside_none : HasRoom []
+beside_none = record { free = λ nodes. refl; is_held = λ x. refl; few = λ x. lit≤ tt; numbers = λ x. lit≤ tt }
+
+-- the handle of actor 0
+pub has_root : GrantsKeepTrees → (s t : State) (h : ℕ) (names : List (List ℕ)) → HasRoom s.handles → IsState s → IsGrant s t (grants s 0 names) (Ok h)
+    → HasRoot s t h names
+has_root keep s t h names room tree gave = by (directory_at s.nodes TOP names) refl gave
+  where
+    by : (found : Result ℕ Errno) → directory_at s.nodes TOP names ≡ found → IsGrant s t (grants_at s 0 found) (Ok h) → HasRoot s t h names
+    by (Err error) e g = cc (g.0)
+    by (Ok x) e g =
+        let u : State = with_handle s 0 x in
+        let full = ap (λ b. refuse_if b (Err TooMany) (Ok u)) (room.free s.nodes) in
+        let at : (h ≡ length s.handles) × (t ≡ u) = subst (λ (r : Result State Errno). IsGrant s t r (Ok h)) full g in
+        let is_tree : IsState u = keep s u 0 names tree (ap (grants_at s 0) e ∙ full) in
+        let is_root : node_of u 0 (length s.handles) ≡ x = ap (λ o. unwrap_or o TOP) (room.is_held x) in
+        let ready : IsReady u 0 (length s.handles) x = record {
+          tree = is_tree;
+          held = room.is_held x;
+          directory = directory_at-is_dir s.nodes TOP x names e;
+          few = room.few x;
+          numbers = room.numbers x;
+        } in
+        let here : HasRoot s u (length s.handles) names = record {
+          nodes = refl;
+          root = x;
+          found = e;
+          is_root = is_root;
+          ready = subst (λ (r : ℕ). IsReady u 0 (length s.handles) r) (sym is_root) ready;
+        } in
+        subst (λ (k : ℕ). HasRoot s t k names) (sym at.0) (subst (λ (v : State). HasRoot s v (length s.handles) names) (sym at.1) here)
+
 -- the first handle of all
-pub has_root : GrantsKeepTrees → (nodes : List Inode) (t : State) (h : ℕ) (names : List (List ℕ)) → IsState (record { nodes = nodes; handles = [] })
-    → IsGrant (record { nodes = nodes; handles = [] }) t (grants (record { nodes = nodes; handles = [] }) 0 names) (Ok h)
-    → HasRoot (record { nodes = nodes; handles = [] }) t h names
-has_root keep nodes t h names tree gave = by (directory_at nodes TOP names) refl gave
+pub first_root : GrantsKeepTrees → (s t : State) (a h : ℕ) (names : List (List ℕ)) → s.handles ≡ [] → a ≡ 0 → IsState s → IsGrant s t (grants s a names) (Ok h)
+    → HasRoot s t h names
+first_root keep s t a h names none first tree gave =
+    has_root keep s t h names (subst HasRoom (sym none) beside_none) tree (subst (λ (b : ℕ). IsGrant s t (grants s b names) (Ok h)) first gave)
+
+-- the handle of actor 1 is the first, and then comes that of actor 0
+beside_one : (y : ℕ) → HasRoom (Some (record { actor = 1; node = y }) ∷ [])
+beside_one y = record { free = λ nodes. refl; is_held = λ x. refl; few = λ x. lit≤ tt; numbers = λ x. lit≤ tt }
+
+-- a tree with that handle alone
+record HasOther (t : State) : Type 0 where
+  tree : IsState t
+  room : HasRoom t.handles
+
+other_first : GrantsKeepTrees → (nodes : List Inode) (t : State) (h : ℕ) (names : List (List ℕ)) → IsState (record { nodes = nodes; handles = [] })
+    → IsGrant (record { nodes = nodes; handles = [] }) t (grants (record { nodes = nodes; handles = [] }) 1 names) (Ok h) → HasOther t
+other_first keep nodes t h names tree gave = by (directory_at nodes TOP names) refl gave
   where
     s : State
     s = record { nodes = nodes; handles = [] }
 
-    by : (found : Result ℕ Errno) → directory_at nodes TOP names ≡ found → IsGrant s t (grants_at s 0 found) (Ok h) → HasRoot s t h names
+    by : (found : Result ℕ Errno) → directory_at nodes TOP names ≡ found → IsGrant s t (grants_at s 1 found) (Ok h) → HasOther t
     by (Err error) e g = cc (g.0)
-    by (Ok x) e g =
-        let u : State = with_handle s 0 x in
-        let is_tree : IsState u = keep s u 0 names tree (ap (grants_at s 0) e) in
-        let first : HasRoot s u 0 names = record {
-          nodes = refl;
-          root = x;
-          found = e;
-          is_root = refl;
-          ready = record { tree = is_tree; held = refl; directory = directory_at-is_dir nodes TOP x names e; few = lit≤ tt; numbers = lit≤ tt };
-        } in
-        subst (λ (k : ℕ). HasRoot s t k names) (sym g.0) (subst (λ (v : State). HasRoot s v 0 names) (sym g.1) first)
+    by (Ok y) e g = subst HasOther (sym g.1) (record { tree = keep s (with_handle s 1 y) 1 names tree (ap (grants_at s 1) e); room = beside_one y })
 
-pub first_root : GrantsKeepTrees → (s t : State) (a h : ℕ) (names : List (List ℕ)) → s.handles ≡ [] → a ≡ 0 → IsState s → IsGrant s t (grants s a names) (Ok h)
-    → HasRoot s t h names
-first_root keep s t a h names none first tree gave =
-    subst (λ (v : State). HasRoot v t h names) (sym bare)
-    (has_root keep s.nodes t h names (subst IsState bare tree)
-    (subst (λ (v : State). IsGrant v t (grants v 0 names) (Ok h)) bare (subst (λ (b : ℕ). IsGrant s t (grants s b names) (Ok h)) first gave)))
+pub second_root : GrantsKeepTrees → (s t u : State) (b a k h : ℕ) (others names : List (List ℕ)) → s.handles ≡ [] → b ≡ 1 → a ≡ 0 → IsState s
+    → IsGrant s t (grants s b others) (Ok k) → IsGrant t u (grants t a names) (Ok h) → IsReady u a h (node_of u a h)
+second_root keep s t u b a k h others names none is_one is_zero tree first second =
+    let other : HasOther t = other_first keep s.nodes t k others (subst IsState bare tree)
+    (subst (λ (v : State). IsGrant v t (grants v 1 others) (Ok k)) bare (subst (λ (i : ℕ). IsGrant s t (grants s i others) (Ok k)) is_one first)) in
+    let root : HasRoot t u h names = has_root keep t u h names other.room other.tree (subst (λ (i : ℕ). IsGrant t u (grants t i names) (Ok h)) is_zero second) in
+    subst (λ (i : ℕ). IsReady u i h (node_of u i h)) (sym is_zero) root.ready
   where
     bare : s ≡ record { nodes = s.nodes; handles = [] }
     bare = ap (λ (hs : List (Option OpenHandle)). record { nodes = s.nodes; handles = hs }) none

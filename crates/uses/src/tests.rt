@@ -1,4 +1,7 @@
 //! Each caller, called once.
+ghost use Rattle.std.specs.Prelude.{IfOk};
+ghost use Rattle.step_resolver.specs.Driver.{node_of, IsReady};
+
 use crate::{Counting, EachTurn, look_up, node_at, resolve_among};
 use handles::Owner;
 use path_text::{Bytes, Errno, Flags, Name, Names, Path};
@@ -6,7 +9,7 @@ use std::alloc::Global;
 use std::test::*;
 use step_resolver::{Goal, Resolved, Root};
 use tree_list::{Entry, ListTree, New};
-use tree_model::{Actor, HandleNo, Node, StepOf, Tree};
+use tree_model::{Actor, HandleNo, StepOf, Tree, steps_keep_trees};
 
 const PLAIN: Flags = Flags {
     beneath: false,
@@ -48,59 +51,84 @@ fn entries(alloc: Global) -> Result<Vec<Entry>, Errno> {
     Ok(entries)
 }
 
-// The tree, with a handle of each actor on `/c`: number 0 is the walker's.
-fn tree(alloc: Global) -> Result<ListTree, Errno> {
+// The tree, with the walker's root `/c`. The other actor has handle 0, on `/c/a`.
+fn tree(alloc: Global) -> Result<(ListTree, Root), Errno>
+    ensures { IfOk result (λ made. IsReady made.0 made.1.owner.actor made.1.handle (node_of made.0 made.1.owner.actor made.1.handle)) }
+{
+    steps_keep_trees();
     let entries = entries(alloc)?;
+    let names = names_of(alloc, "/c/a")?;
+    let root = names_of(alloc, "/c")?;
     let mut tree = match ListTree::from_entries(alloc, &entries) {
         Ok(tree) => tree,
         Err(fault) => return Err(fault.cause),
     };
-    let root = names_of(alloc, "/c")?;
-    tree.grant(alloc, Actor::new(0), &root)?;
-    tree.grant(alloc, Actor::new(1), &root)?;
-    Ok(tree)
-}
-
-fn root() -> Root {
+    tree.grant(alloc, Actor::new(1), &names)?;
     let owner = Owner {
         tag: 0,
         actor: Actor::new(0),
     };
-    Root {
-        owner,
-        handle: HandleNo::new(0),
-    }
+    let handle = tree.grant(alloc, owner.actor, &root)?;
+    Ok((tree, Root { owner, handle }))
 }
 
 // The number of the node that a path text means below `/c`.
-fn node_of(alloc: Global, text: &str) -> Result<u64, Errno> {
+fn node_below(alloc: Global, text: &str) -> Result<u64, Errno> {
     let entries = entries(alloc)?;
     let root = names_of(alloc, "/c")?;
     Ok(node_at(alloc, &entries, &root, text.as_bytes(), PLAIN)?.number())
 }
 
 #[test]
-fn nodes_are_looked_up(rt: &impl Abort) -> Result<(), Fail> {
-    let alloc = rt.alloc();
-    let rows = [("a/b", Ok(3)), ("../../link/.", Ok(3)), ("host", Err(Errno::NotFound))];
-    for (text, wanted) in &rows {
-        let found = node_of(alloc, text);
-        assert!(rt; found == *wanted, "{text} is {found:?}");
+fn nodes_are_looked_up(rt: HostRuntime) -> Result<(), Fail> {
+    for (text, wanted) in [
+        ("a/b", Ok(3)),
+        ("../../link/.", Ok(3)),
+        ("host", Err(Errno::NotFound)),
+    ] {
+        assert!(rt; node_below(rt.alloc(), text) == wanted, "{text}");
     }
     Ok(())
 }
 
-// The end of a walk along `a/b`, while somebody else removes this directory below `/c` before each of its steps.
+// The node at the end of a walk along `a/b`, while somebody else removes that directory of `/c/a` before each step.
 fn end_among(alloc: Global, removed: &str) -> Result<u64, Errno> {
-    let mut tree = tree(alloc)?;
+    let (mut tree, root) = tree(alloc)?;
     let name = Name::new(alloc, removed.as_bytes())?;
     let mut other = EachTurn {
         actor: Actor::new(1),
-        step: StepOf::RemoveDir(HandleNo::new(1), name),
+        step: StepOf::RemoveDir(HandleNo::new(0), name),
     };
     let path = Path::parse(alloc, b"a/b")?;
-    match resolve_among(alloc, &mut tree, &mut other, root(), path, Goal::Follow, PLAIN)? {
+    let goal = Goal::Follow;
+    match resolve_among(alloc, &mut tree, &mut other, root, path, goal, PLAIN)? {
         Resolved::Found(standing) => Ok(standing.node().number()),
         Resolved::Partial(_standing, _rest) => Err(Errno::Busy),
     }
+}
+
+#[test]
+fn a_walk_goes_on_among_others(rt: HostRuntime) -> Result<(), Fail> {
+    for (removed, wanted) in [("none", Ok(3)), ("b", Err(Errno::NotFound))] {
+        assert!(rt; end_among(rt.alloc(), removed) == wanted, "{removed}");
+    }
+    Ok(())
+}
+
+// How many steps it takes to look up a path on the tree, its last Close among them.
+fn steps_along(alloc: Global, text: &str) -> Result<u64, Errno> {
+    let (tree, root) = tree(alloc)?;
+    let mut counting = Counting { tree, steps: 0 };
+    let path = Path::parse(alloc, text.as_bytes())?;
+    look_up(alloc, &mut counting, root, path, PLAIN)?;
+    Ok(counting.steps)
+}
+
+#[test]
+fn steps_are_counted(rt: HostRuntime) -> Result<(), Fail> {
+    // Open a, NameBelow, Close; and for one name more: Open b, and Close of a
+    for (text, wanted) in [("a", Ok(3)), ("a/b", Ok(5))] {
+        assert!(rt; steps_along(rt.alloc(), text) == wanted, "{text}");
+    }
+    Ok(())
 }
