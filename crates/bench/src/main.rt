@@ -1,0 +1,115 @@
+//! How long resolutions take: walks along paths of several kinds, over a tree in memory, one after another.
+//!
+//! Without arguments each workload's paths are resolved once, and how many led to an object is printed. `time` times
+//! them. `repeat WORKLOAD COUNT` resolves so many, for a program that counts from outside. Nothing is claimed of
+//! time; what a walk comes to is what `step_resolver` proves of it.
+#![tactic(auto)]
+
+mod drive;
+mod tree;
+mod workload;
+
+use anyhow::bail;
+use drive::resolve_and_release;
+use std::alloc::Global;
+use std::time::Instant;
+use tree::{Ground, set_up};
+use workload::{WORKLOADS, Workload, paths_of};
+
+/// Rounds of a workload, each on a new tree. The median is told.
+const ROUNDS: usize = 9;
+
+/// Resolutions of the round by which the length of the others is chosen.
+const TRIAL: u64 = 2_000;
+
+/// About how long a round takes.
+const ROUND_NANOSECONDS: u64 = 20_000_000;
+
+// Resolves the paths in turn, that many in all, and tells how many led to an object.
+fn resolve_all(alloc: Global, ground: &mut Ground, paths: &[Vec<u8>], count: u64) -> u64 {
+    let mut found = 0u64;
+    for at in 0..count {
+        let path = (at % 1024) as usize % paths.len().max(1);
+        if let Some(path) = paths.get(path) {
+            found = found.saturating_add(u64::from(resolve_and_release(alloc, ground, path)));
+        }
+    }
+    found
+}
+
+// The nanoseconds that a round takes.
+fn time_round(
+    rt: &HostRuntime,
+    workload: &Workload,
+    paths: &[Vec<u8>],
+    count: u64,
+) -> anyhow::Result<u64> {
+    let alloc = rt.alloc();
+    let mut ground = set_up(alloc, workload)?;
+    let start = Instant::now(rt)?;
+    resolve_all(alloc, &mut ground, paths, count);
+    let took = start.elapsed(rt)?;
+    Ok(u64::try_from(took.as_nanos()).unwrap_or(u64::MAX))
+}
+
+// The median of the rounds, as nanoseconds for one resolution.
+fn time(rt: &HostRuntime, workload: &Workload) -> anyhow::Result<u64> {
+    let alloc = rt.alloc();
+    let paths = paths_of(alloc, workload)?;
+    let each = time_round(rt, workload, &paths, TRIAL)? / TRIAL;
+    let count = ROUND_NANOSECONDS / each.max(1);
+    let mut rounds = Vec::new(alloc);
+    for _ in 0..ROUNDS {
+        rounds.push(time_round(rt, workload, &paths, count.max(64))? / count.max(64))?;
+    }
+    rounds.sort_unstable();
+    Ok(rounds.get(ROUNDS / 2).copied().unwrap_or(0))
+}
+
+fn workload_named(name: &str) -> Option<&'static Workload> {
+    WORKLOADS.iter().find(|workload| workload.name == name)
+}
+
+fn time_all(rt: &HostRuntime) -> anyhow::Result<()> {
+    for workload in &WORKLOADS {
+        let name = workload.name;
+        let nanoseconds = time(rt, workload)?;
+        println!(rt; "{name}\t{nanoseconds}")?;
+    }
+    Ok(())
+}
+
+fn repeat(rt: &HostRuntime, name: &str, count: &str) -> anyhow::Result<()> {
+    let alloc = rt.alloc();
+    let Some(workload) = workload_named(name) else {
+        bail!("no workload is called {name}");
+    };
+    let count = count.parse::<u64>()?;
+    let mut ground = set_up(alloc, workload)?;
+    resolve_all(alloc, &mut ground, &paths_of(alloc, workload)?, count);
+    Ok(())
+}
+
+fn answer_all(rt: &HostRuntime) -> anyhow::Result<()> {
+    let alloc = rt.alloc();
+    for workload in &WORKLOADS {
+        let name = workload.name;
+        let paths = paths_of(alloc, workload)?;
+        let count = paths.len();
+        let found = resolve_all(alloc, &mut set_up(alloc, workload)?, &paths, count as u64);
+        println!(rt; "{name}: {found} of {count} found")?;
+    }
+    Ok(())
+}
+
+fn main(rt: HostRuntime) -> anyhow::Result<()> {
+    let words: Vec<String> = std::env::args(&rt)?.skip(1).collect(rt.alloc())?;
+    match words.as_slice() {
+        [] => answer_all(&rt),
+        [word] if word.as_str() == "time" => time_all(&rt),
+        [word, name, count] if word.as_str() == "repeat" => {
+            repeat(&rt, name.as_str(), count.as_str())
+        }
+        _ => bail!("usage: bench [time | repeat WORKLOAD COUNT]"),
+    }
+}
