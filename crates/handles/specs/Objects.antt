@@ -1,5 +1,5 @@
 -- What a contract sees of an opened object, before its place is checked and after (path_resolution(7); openat2(2), RESOLVE_IN_ROOT).
-use Rattle.std.specs.Prelude.{ℕ, List, Bool, if◌then◌else◌, Option, Some, None, Result, Ok, Err}
+use Rattle.std.specs.Prelude.{ℕ, List, if◌then◌else◌, Option, Some, None, Result, Ok, Err}
 use Rattle.path_text.specs.Names.{same_names}
 use Rattle.tree_model.specs.declared.answer.Answer.{Answer}
 use Rattle.tree_model.specs.declared.answer.Answer.TheVariants.{Opened, Text, Names, NotBelow, Listed, Done, Refused}

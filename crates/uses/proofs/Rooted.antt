@@ -1,6 +1,6 @@
 -- A root that is granted in a tree that was just built, and what a path text means below it.
 use Rattle.std.specs.List.{count_by}
-use Rattle.step_resolver.specs.Taken.{STEPS_MAX}
+use Rattle.step_resolver.specs.TurnView.{STEPS_MAX}
 use Rattle.std.proofs.Common.{suc, ◌+◌, ◌<◌, ◌++◌, ◌∷◌, false, slice_get, unwrap_or, ◌≡◌, ℕ, true, List, [], length, Some, None, Option, Result, Ok, Err, MatchOption, refl, sym, ap, ◌∙◌, subst, lit≤}
 use Rattle.path_text.specs.declared.errno.Errno.{Errno}
 use Rattle.path_text.specs.declared.errno.Errno.TheVariants.{TooMany}

@@ -1,11 +1,10 @@
-use Rattle.std.proofs.Common.{◌≡◌, true, ◌∙◌, subst}
+use Rattle.std.proofs.Common.{true, subst}
 use Rattle.path_text.specs.declared.errno.Errno.TheVariants.{CrossRoot}
 use Rattle.walk_plan.specs.Plan.{PlanState, begun, leads_out}
-use Rattle.step_resolver.specs.Order.{root_itself, goes_on, for_walk}
-use Rattle.step_resolver.specs.View.{way_of, way_from, todo_of}
-use Rattle.step_resolver.specs.TurnView.{turn_view, Keeps}
+use Rattle.step_resolver.specs.View.{way_of}
+use Rattle.step_resolver.specs.TurnView.{Keeps}
 use Rattle.step_resolver.proofs.TurnsTell.{refused_begins}
-use Rattle.step_resolver.proofs.WalkSteps.{plan_made, begun_goes_on}
+use Rattle.step_resolver.proofs.WalkSteps.{plan_made}
 use Rattle.step_resolver.proofs.walk.Walk.first.Goals as goal
 
 pub returns-in-Ok-clause-kept : goal.returns-in-Ok-clause-kept
