@@ -5,7 +5,8 @@ use handles::{Owner, Standing};
 use path_text::{Bytes, Errno, Flags, Name, Names, Part, Parts, Path};
 use std::alloc::Global;
 use std::test::*;
-use tree_model::{Actor, Answer, HandleNo, Kind, Node, Step, StepOf};
+use transcript::Output;
+use tree_model::{Actor, Answer, HandleNo, Kind, Node, Step};
 
 const PLAIN: Flags = Flags {
     beneath: false,
@@ -56,22 +57,10 @@ fn number(word: &str) -> u64 {
     word.parse::<u64>().unwrap_or(u64::MAX)
 }
 
-fn is_due(step: &Step, line: &str) -> bool {
-    let (word, handles) = cut(line);
-    let (first, second) = cut(handles);
-    match step {
-        StepOf::Open(dir, name) => {
-            word == "open" && is_number(first, dir.number()) && name.bytes() == second.as_bytes()
-        }
-        StepOf::Dup(handle) => word == "dup" && is_number(handles, handle.number()),
-        StepOf::Parent(handle) => word == "parent" && is_number(handles, handle.number()),
-        StepOf::ReadLink(handle) => word == "read_link" && is_number(handles, handle.number()),
-        StepOf::NameBelow(root, handle) => {
-            word == "below" && is_number(first, root.number()) && is_number(second, handle.number())
-        }
-        StepOf::Close(handle) => word == "close" && is_number(handles, handle.number()),
-        _ => false,
-    }
+// Whether that is the step's line.
+fn is_due(alloc: Global, step: &Step, line: &str) -> bool {
+    let mut written = Output::new(alloc);
+    written.step(step).is_ok() && written.as_slice() == line.as_bytes()
 }
 
 fn opened(kind: Kind, numbers: &str) -> Answer {
@@ -126,7 +115,7 @@ fn pass(alloc: Global, turn: Turn, line: &str) -> (Turn, bool) {
     match turn {
         Turn::More(walk) => {
             let was_due = match walk.due(alloc) {
-                Ok(due) => is_due(&due, step),
+                Ok(due) => is_due(alloc, &due, step),
                 Err(_) => false,
             };
             (walk.take(alloc, answer_of(alloc, answer)), was_due)
