@@ -1,7 +1,8 @@
 //! Steps read from the lines that they are written as.
-ghost use Rattle.std.specs.Prelude.{◌≡◌, ℕ, ◌<◌, IfOk, IfSome};
+ghost use Rattle.std.specs.Prelude.{◌≡◌, ℕ, ◌<◌, ◌^◌, Some, IfOk, IfSome, decimal};
 ghost use Rattle.transcript.specs.Output.{hex_digit};
-ghost use Rattle.transcript.specs.Words.{line_of, step_words};
+ghost use Rattle.transcript.specs.Words.{line_of, mode_word, step_words};
+ghost use Rattle.tree_model.specs.declared.step.Mode.{Mode};
 
 use crate::output::Output;
 use path_text::{Bytes, Errno, Name, NoMemory};
@@ -9,9 +10,16 @@ use std::alloc::Global;
 use tree_model::{HandleNo, Mode, Step, StepOf};
 
 /// The number of a handle, where the word is one.
-fn handle_of(word: &[u8]) -> Option<HandleNo> {
-    let digits = str::from_utf8(word).ok()?;
-    Some(HandleNo::new(digits.parse::<u64>().ok()?))
+fn handle_of(word: &[u8]) -> Option<HandleNo>
+    ensures { (handle : ℕ) → handle < 2 ^ 64 → word.now ≡ decimal handle → result ≡ Some handle }
+{
+    let Ok(digits) = str::from_utf8(word) else {
+        return None;
+    };
+    match digits.parse::<u64>() {
+        Ok(number) => Some(HandleNo::new(number)),
+        Err(_) => None,
+    }
 }
 
 /// What a hexadecimal digit stands for, and for any other byte 0.
@@ -55,7 +63,10 @@ fn name_of(alloc: Global, word: &[u8]) -> Result<Option<Name>, NoMemory> {
     }
 }
 
-fn mode_of(word: &[u8]) -> Option<Mode> {
+/// How a rename treats an entry that is there already, where the word says so.
+fn mode_of(word: &[u8]) -> Option<Mode>
+    ensures { (mode : Mode) → word.now ≡ mode_word mode → result ≡ Some mode }
+{
     match word {
         b"plain" => Some(Mode::Plain),
         b"noreplace" => Some(Mode::NoReplace),
