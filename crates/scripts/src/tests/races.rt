@@ -3,12 +3,13 @@ use super::{BASE, PLAIN};
 use crate::input::value_of;
 use crate::script::open_script;
 use handles::{Owner, Standing};
-use path_text::{Bytes, Errno, Flags, Name, Names, Path};
+use path_text::{Errno, Flags, Name, Names, Path};
 use std::alloc::Global;
 use std::test::Fail;
 use step_resolver::{Goal, Root, Turn, Walk, advance};
+use transcript::read_step;
 use tree_list::ListTree;
-use tree_model::{Actor, Answer, HandleNo, Kind, Mode, Node, Row, Step, StepOf, Tree};
+use tree_model::{Actor, Answer, HandleNo, Kind, Node, Row, StepOf, Tree};
 
 const BENEATH: Flags = Flags {
     beneath: true,
@@ -63,26 +64,6 @@ fn names_of(alloc: Global, path: &str) -> Result<Names, Errno> {
     Ok(names)
 }
 
-fn step_of(alloc: Global, line: &str) -> Result<Step, Errno> {
-    let (verb, words) = cut(line);
-    let (handle, words) = cut(words);
-    let (entry, rest) = cut(words);
-    let dir = HandleNo::new(number(handle));
-    let entry = name(alloc, entry)?;
-    Ok(match verb {
-        "make_dir" => StepOf::MakeDir(dir, entry),
-        "make_file" => StepOf::MakeFile(dir, entry),
-        "make_link" => StepOf::MakeLink(dir, entry, Bytes::from_slice(alloc, rest.as_bytes())?),
-        "remove_dir" => StepOf::RemoveDir(dir, entry),
-        "remove_file" => StepOf::RemoveFile(dir, entry),
-        _ => {
-            let (handle, new) = cut(rest);
-            let to = HandleNo::new(number(handle));
-            StepOf::Rename(dir, entry, to, name(alloc, new)?, Mode::Plain)
-        }
-    })
-}
-
 /// The base tree, with the handles of both.
 fn tree_of(alloc: Global) -> Result<ListTree, Fail> {
     let mut tree = open_script(alloc, &value_of(alloc, BASE.as_bytes())?)?.tree;
@@ -94,7 +75,7 @@ fn tree_of(alloc: Global) -> Result<ListTree, Fail> {
 
 /// Whether the other's step is done.
 fn is_done(alloc: Global, tree: &mut ListTree, line: &str) -> bool {
-    let Ok(step) = step_of(alloc, line) else {
+    let Ok(Some(step)) = read_step(alloc, line.as_bytes()) else {
         return false;
     };
     matches!(tree.step(alloc, Actor::new(OTHER), &step), Ok(Answer::Done))
@@ -197,7 +178,7 @@ fn walks_among_renames(rt: HostRuntime) -> Result<(), Fail> {
             path: "a/b/..",
             goal: Goal::Follow,
             flags: PLAIN,
-            others: "3 rename 3 b 4 b",
+            others: "3 rename 3 b 4 b plain",
             end: "fault EAGAIN",
             events: 7,
             held: 1,
@@ -207,7 +188,7 @@ fn walks_among_renames(rt: HostRuntime) -> Result<(), Fail> {
             path: "a/b/..",
             goal: Goal::Follow,
             flags: PLAIN,
-            others: "3 rename 3 b 4 b, 3 rename 4 b 3 b",
+            others: "3 rename 3 b 4 b plain, 3 rename 4 b 3 b plain",
             end: "opened dir 2 /a",
             events: 7,
             held: 2,
@@ -217,7 +198,7 @@ fn walks_among_renames(rt: HostRuntime) -> Result<(), Fail> {
             path: "a/b/f",
             goal: Goal::Follow,
             flags: PLAIN,
-            others: "3 rename 1 secret 1 s2, 3 make_dir 2 z, 3 remove_dir 2 z",
+            others: "3 rename 1 secret 1 s2 plain, 3 make_dir 2 z, 3 remove_dir 2 z",
             end: "opened file 4 /a/b/f",
             events: 6,
             held: 2,
@@ -227,7 +208,7 @@ fn walks_among_renames(rt: HostRuntime) -> Result<(), Fail> {
             path: "a/b/..",
             goal: Goal::Follow,
             flags: PLAIN,
-            others: "3 rename 1 c 4 c2",
+            others: "3 rename 1 c 4 c2 plain",
             end: "opened dir 2 /a",
             events: 7,
             held: 2,
@@ -247,7 +228,7 @@ fn walks_among_renames(rt: HostRuntime) -> Result<(), Fail> {
             path: "a/b/f",
             goal: Goal::Follow,
             flags: PLAIN,
-            others: "1 rename 3 b 2 b2, 1 make_file 3 b",
+            others: "1 rename 3 b 2 b2 plain, 1 make_file 3 b",
             end: "fault ENOTDIR",
             events: 4,
             held: 1,
@@ -257,7 +238,7 @@ fn walks_among_renames(rt: HostRuntime) -> Result<(), Fail> {
             path: "a/b/f",
             goal: Goal::Follow,
             flags: PLAIN,
-            others: "1 rename 3 b 2 b2, 1 make_link 3 b /secret",
+            others: "1 rename 3 b 2 b2 plain, 1 make_link 3 b /secret",
             end: "fault ENOENT",
             events: 6,
             held: 1,
