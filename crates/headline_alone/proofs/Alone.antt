@@ -16,6 +16,7 @@ use Rattle.step_resolver.specs.declared.walk.Turn.TheVariants.{More, Found, Part
 use Rattle.step_resolver.specs.TurnsTell.{first_lines}
 use Rattle.step_resolver.proofs.FirstTurns.{first_lines_lead}
 use Rattle.step_resolver.proofs.TurnsTell.{leads_on, line_leads}
+use Rattle.step_resolver.proofs.DrivenWalks.{joined_events}
 use Rattle.headline_alone.specs.Alone.{TellsAlone, IsAnswer, Leads}
 
 pub is_over : (goal : Goal) (outcome : Outcome) → ((walk : WalkView) → outcome ≡ More walk → ⊥) → IsEnd (turn_view goal outcome)
@@ -47,12 +48,6 @@ module _ (way : Way) (a : ℕ) (before after : List Event) (walking : Walking) (
     leads = line_leads way taken.0 walking answer to (not_made NoMemory) taken.1 (inl refl, is.2, is.0);
     booked = is.1 ∙ sym (append-nil before);
   }
-
-joined_events : (a : ℕ) (lines others : List Line) → events_of a (lines ++ others) ≡ events_of a lines ++ events_of a others
-joined_events a [] others = refl
-joined_events a (answered step answer ∷ lines) others = ap (λ es. record { actor = a; step = step; answer = answer } ∷ es) (joined_events a lines others)
-joined_events a (no_room step answer ∷ lines) others = ap (λ es. record { actor = a; step = step; answer = answer } ∷ es) (joined_events a lines others)
-joined_events a (not_made error ∷ lines) others = joined_events a lines others
 
 pub led_nowhere : (way : Way) (a : ℕ) (events : List Event) (turn : Turn) → Leads way a events turn events turn
 led_nowhere way a events turn = record { lines = []; leads = refl; booked = sym (append-nil events) }

@@ -16,7 +16,7 @@ use Rattle.tree_model.specs.State.{State, object_at, Stands}
 use Rattle.tree_model.specs.Steps.{held, outcome, held_count}
 use Rattle.tree_model.specs.Trees.{IsState}
 use Rattle.tree_model.specs.History.{IsLegal, after_events, tree_at}
-use Rattle.tree_model.specs.StepLaws.{is_on_entries, NodesAreLeft}
+use Rattle.tree_model.specs.StepLaws.{NodesAreLeft}
 use Rattle.tree_model.specs.HistoryLaws.{LegalHistoriesJoin, NumbersGrowByEvents, HistoriesKeepTrees, HandlesStayAmongOthers}
 use Rattle.handles.specs.declared.owner.Owner.{Owner}
 use Rattle.handles.specs.Objects.{StandingObject}
@@ -24,7 +24,7 @@ use Rattle.walk_plan.specs.declared.goal.Goal.{Goal}
 use Rattle.walk_plan.specs.declared.goal.Goal.TheVariants.{Follow, NoFollow, Deepest}
 use Rattle.step_resolver.specs.Asked.{asked, follows, is_deepest}
 use Rattle.step_resolver.specs.Meaning.{Ground, Meant, object, fails, reading_means, Deep, whole, up_to, none, reading_deepest}
-use Rattle.step_resolver.specs.Order.{Way, Walking, opening, reading, rising, judging, duping, ending, closing, Turn, more, found, partial, failed, begins, for_walk, due, Line, answered, no_room, not_made, events_of, LeadsTo}
+use Rattle.step_resolver.specs.Order.{Way, Walking, Turn, more, found, partial, failed, begins, for_walk, due, Line, answered, no_room, not_made, events_of, LeadsTo, steps_left_at}
 use Rattle.step_resolver.specs.Order.{take as takes}
 use Rattle.step_resolver.specs.Failures.{TellsTooMany, TellsWant, TellsError}
 use Rattle.step_resolver.specs.Footprint.{is_want, is_for_want, IsMeant, IsMeantDeep, IsEnd}
@@ -38,32 +38,23 @@ use Rattle.step_resolver.specs.declared.walk.Turn.{Turn as Outcome}
 use Rattle.step_resolver.specs.declared.walk.Turn.TheVariants as turn
 use Rattle.step_resolver.specs.declared.driver.Resolved.{Resolved}
 use Rattle.step_resolver.specs.declared.driver.Resolved.TheVariants.{Found, Partial}
-use Rattle.step_resolver.specs.Driver.{IsReady, IsAnswer, steps_of, IsWithoutBook, Drives, IsObject, Resolves, ResolvesDeep, ResolvesFor, standing_of, LeavesOwn, LeavesHandles, opened_count, LeavesRoom, IsOwned}
+use Rattle.step_resolver.specs.Driver.{IsReady, IsAnswer, IsWithoutBook, Drives, IsObject, Resolves, ResolvesDeep, ResolvesFor, standing_of, LeavesOwn, LeavesHandles, opened_count, LeavesRoom, IsOwned}
 use Rattle.step_resolver.proofs.Underway.HandleCount.{same_count, one_more}
 use Rattle.step_resolver.proofs.FirstTurns.{first_lines_lead}
 use Rattle.step_resolver.proofs.TurnsTell.{leads_on, line_leads}
 use Rattle.step_resolver.proofs.WalkSteps.{FewerThan, a_step_left, begins_few}
+use Rattle.step_resolver.proofs.Ends.EntriesLeftAlone.{due_tells}
 
 -- ---- step by step
 
-seen_steps : (goal : Goal) (outcome : Outcome) → steps_of (turn_view goal outcome) ≡ steps_to_come outcome
+seen_steps : (goal : Goal) (outcome : Outcome) → steps_left_at (turn_view goal outcome) ≡ steps_to_come outcome
 seen_steps goal (turn.More walk) = refl
 seen_steps goal (turn.Found standing) = refl
 seen_steps goal (turn.Partial standing rest) = refl
 seen_steps goal (turn.Failed error) = refl
 
--- no step of a walk is on entries
-is_off_entries : (way : Way) (walking : Walking) → is_on_entries (due way walking) ≡ false
-is_off_entries way (opening position own follow n rest) = refl
-is_off_entries way (reading position link rest) = refl
-is_off_entries way (rising handle names rest) = refl
-is_off_entries way (judging handle names rest) = refl
-is_off_entries way (duping rest) = refl
-is_off_entries way (ending handle names rest) = refl
-is_off_entries way (closing h hs after) = refl
-
 module _ (leave : NodesAreLeft) (way : Way) (a : ℕ) (s t : State) (walking : Walking) (answer : Answer) (to : Turn)
-    (fewer : steps_of to < steps_of (more walking)) where
+    (fewer : steps_left_at to < steps_left_at (more walking)) where
   made : (room : Bool) → to ≡ takes way room walking answer
       → answer ≡ (outcome s a (due way walking)).answer → t ≡ (outcome s a (due way walking)).after → Drives way a s (more walking) t to
   made true taken told after = record {
@@ -71,7 +62,7 @@ module _ (leave : NodesAreLeft) (way : Way) (a : ℕ) (s t : State) (walking : W
     leads = line_leads way true walking answer to (answered (due way walking) answer) taken (refl, refl, refl);
     legal = (told, tt);
     after = sym after;
-    nodes = ap (λ (u : State). u.nodes) after ∙ leave s a (due way walking) (is_off_entries way walking);
+    nodes = ap (λ (u : State). u.nodes) after ∙ leave s a (due way walking) (due_tells way walking);
     without_book = tt;
     fewer = omega (arith, fewer);
   }
@@ -80,7 +71,7 @@ module _ (leave : NodesAreLeft) (way : Way) (a : ℕ) (s t : State) (walking : W
     leads = line_leads way false walking answer to (no_room (due way walking) answer) taken (refl, refl, refl);
     legal = (told, tt);
     after = sym after;
-    nodes = ap (λ (u : State). u.nodes) after ∙ leave s a (due way walking) (is_off_entries way walking);
+    nodes = ap (λ (u : State). u.nodes) after ∙ leave s a (due way walking) (due_tells way walking);
     without_book = tt;
     fewer = omega (arith, fewer);
   }
@@ -99,10 +90,10 @@ module _ (leave : NodesAreLeft) (way : Way) (a : ℕ) (s t : State) (walking : W
   }
 
 pub advanced_to : NodesAreLeft → (way : Way) (a : ℕ) (s t : State) (walking : Walking) (answer : Answer) (goal : Goal) (outcome : Outcome)
-    → steps_to_come outcome < steps_of (more walking) → IsAnswer way walking a s t answer → TakesTo way walking answer (turn_view goal outcome)
+    → steps_to_come outcome < steps_left_at (more walking) → IsAnswer way walking a s t answer → TakesTo way walking answer (turn_view goal outcome)
     → Drives way a s (more walking) t (turn_view goal outcome)
 advanced_to leave way a s t walking answer goal outcome fewer is taken =
-    advanced leave way a s t walking answer (turn_view goal outcome) (subst (λ n. n < steps_of (more walking)) (sym (seen_steps goal outcome)) fewer) is taken
+    advanced leave way a s t walking answer (turn_view goal outcome) (subst (λ n. n < steps_left_at (more walking)) (sym (seen_steps goal outcome)) fewer) is taken
 
 -- ---- one after another
 
@@ -210,7 +201,7 @@ deepest_follows NoFollow e = absurd (false≢true e)
 deepest_follows Deepest e = refl
 
 module _ (laws : Laws) (s t : State) (a r : ℕ) (way : Way) (path : Reading) (ready : IsReady s a way.root r)
-    (few : steps_of (begins way path) ≤ STEPS_MAX) where
+    (few : steps_left_at (begins way path) ≤ STEPS_MAX) where
   abbrev ground_here : Ground
   ground_here = record { nodes = s.nodes; root = r; flags = way.flags }
 
@@ -421,9 +412,9 @@ module _ (laws : Laws) (s t : State) (a r : ℕ) (way : Way) (path : Reading) (r
       }
 
 -- how many steps a walk has at most
-pub few_steps : (way : Way) (path : Reading) → length path.parts ≤ PARTS_MAX → steps_of (begins way path) ≤ STEPS_MAX
+pub few_steps : (way : Way) (path : Reading) → length path.parts ≤ PARTS_MAX → steps_left_at (begins way path) ≤ STEPS_MAX
 few_steps way path few = by_turn (begins way path) (begins_few way path few) where
-  by_turn : (turn : Turn) → FewerThan (suc STEPS_MAX) turn → steps_of turn ≤ STEPS_MAX
+  by_turn : (turn : Turn) → FewerThan (suc STEPS_MAX) turn → steps_left_at turn ≤ STEPS_MAX
   by_turn (more walking) few = omega arith
   by_turn (found handle names) few = omega arith
   by_turn (partial handle names rest) few = omega arith
@@ -473,12 +464,13 @@ pub record IsEndOf (owner : Owner) (way : Way) (s : State) (r : ℕ) (path : Rea
   pub handles : LeavesHandles s owner.actor t result
   pub room : LeavesRoom s owner.actor t result
 
-owned_by : (owner : Owner) (way : Way) (result : Result Resolved Errno) → Keeps owner way (turn_of result) → IsOwned owner result
+-- what it found is this owner's
+pub owned_by : (owner : Owner) (way : Way) (result : Result Resolved Errno) → Keeps owner way (turn_of result) → IsOwned owner result
 owned_by owner way (Ok (Found standing)) kept = kept
 owned_by owner way (Ok (Partial standing rest)) kept = kept
 owned_by owner way (Err error) kept = tt
 
-pub ended_by : Laws → (owner : Owner) (way : Way) (s t : State) (r : ℕ) (path : Reading) → IsReady s owner.actor way.root r → steps_of (begins way path) ≤ STEPS_MAX
+pub ended_by : Laws → (owner : Owner) (way : Way) (s t : State) (r : ℕ) (path : Reading) → IsReady s owner.actor way.root r → steps_left_at (begins way path) ≤ STEPS_MAX
     → (outcome : Outcome) (result : Result Resolved Errno) → outcome ≡ turn_of result → IsDriven owner way s path t outcome → IsEndOf owner way s r path t result
 ended_by laws owner way s t r path ready few outcome result e here =
     let at : IsDriven owner way s path t (turn_of result) = subst (λ o. IsDriven owner way s path t o) e here in

@@ -1,11 +1,11 @@
 -- What a walk's first turn can be: nothing is held at the root itself, so that without memory it fails as a first step does
 -- that wasn't made for want of it.
 use Rattle.std.proofs.Common.{◌≡◌, List, [], ◌∷◌, Bool, true, false, if◌then◌else◌, ℕ, refl, sym, subst, inl}
-use Rattle.std.specs.Prelude.{Some, None, ◌&&◌}
+use Rattle.std.specs.Prelude.{Some, None}
 use Rattle.path_text.specs.declared.errno.Errno.TheVariants.{NoMemory, CrossRoot, TooLong}
 use Rattle.path_text.specs.Reading.{Reading}
 use Rattle.tree_model.specs.declared.answer.Answer.TheVariants.{Refused}
-use Rattle.walk_plan.specs.Plan.{PlanState}
+use Rattle.walk_plan.specs.Plan.{PlanState, leads_out}
 use Rattle.step_resolver.specs.Asked.{AskedPart, Cur, Up, Named, asked, follows}
 use Rattle.step_resolver.specs.Meaning.{LINKS_MAX, is_too_long}
 use Rattle.step_resolver.specs.Order.{Way, root_itself, holds, Todo, todo, Walking, opening, reading, rising, judging, duping, ending, closing, Turn, more, found, partial, failed, in_directory, on_own, on_parts, goes_on, begins, for_walk, starts, take, is_closing, LeadsTo}
@@ -53,7 +53,7 @@ module _ (way : Way) where
 
   begins_first : (path : Reading) → IsFirst (begins way path)
   begins_first path =
-      either (way.flags.beneath && path.absolute) (failed CrossRoot) (goes_on way root_itself (todo [] (asked (follows way.goal) path.parts) LINKS_MAX)) tt
+      either (leads_out path.absolute way.flags) (failed CrossRoot) (goes_on way root_itself (todo [] (asked (follows way.goal) path.parts) LINKS_MAX)) tt
       (from_root (todo [] (asked (follows way.goal) path.parts) LINKS_MAX))
 
   -- the first step isn't made for want of memory

@@ -1,5 +1,5 @@
 -- The turns of a walk tell what its end tells, since its lines lead to them.
-use Rattle.std.proofs.Common.{◌≡◌, List, [], ◌∷◌, ◌++◌, ◌&&◌, Bool, true, false, if◌then◌else◌, Ok, Err, refl, sym, ◌∙◌, ap, subst}
+use Rattle.std.proofs.Common.{◌≡◌, List, [], ◌∷◌, ◌++◌, Bool, true, false, if◌then◌else◌, Ok, Err, refl, sym, ◌∙◌, ap, subst}
 use Rattle.path_text.specs.declared.errno.Errno.{Errno}
 use Rattle.path_text.specs.declared.errno.Errno.TheVariants.{CrossRoot}
 use Rattle.path_text.specs.declared.flags.Flags.{Flags}
@@ -18,7 +18,6 @@ use Rattle.step_resolver.specs.FootprintLaws.{WalksMean}
 use Rattle.step_resolver.specs.View.{way_from}
 use Rattle.step_resolver.specs.TurnView.{StartsTo, TakesTo}
 use Rattle.step_resolver.specs.TurnsTell.{IsLineOf, TellsTaken, first_lines, TellsBegun}
-use Rattle.step_resolver.proofs.WalkSteps.{swapped}
 use Rattle.step_resolver.proofs.FirstTurns.{first_lines_lead}
 
 -- lines that lead on from where others led
@@ -81,10 +80,10 @@ begun_tells tell mean way path turn begun = record {
       (first_lines_lead way begun.0 path))));
 }
 
--- where no plan is made the walk crosses the root at once
+-- where no plan is made the path leads out, and the walk fails at once
 pub refused_begins : (root : Root) (path : Reading) (goal : Goal) (flags : Flags) (plan : PlanState) (error : Errno)
     → Err error ≡ (if leads_out path.absolute flags then Err CrossRoot else Ok plan) → failed error ≡ begins (way_from root goal flags) path
-refused_begins root path goal flags plan error e = refused (path.absolute && flags.beneath) e ∙ ap begun (swapped path.absolute flags.beneath)
+refused_begins root path goal flags plan error e = refused (leads_out path.absolute flags) e
   where
     begun : Bool → Turn
     begun b = if b then failed CrossRoot else goes_on (way_from root goal flags) root_itself (todo [] (asked (follows goal) path.parts) LINKS_MAX)

@@ -5,7 +5,6 @@ use Rattle.std.proofs.lemmas.List.{reverse-reverse, reverse-append, map-append}
 use Rattle.std.proofs.lemmas.Bool.Decides.{nat_tests}
 use Rattle.path_text.specs.declared.errno.Errno.{Errno}
 use Rattle.path_text.specs.declared.errno.Errno.TheVariants.{NotFound, NoMemory, CrossRoot}
-use Rattle.path_text.specs.declared.flags.Flags.{Flags}
 use Rattle.path_text.specs.declared.part.Part.{Part}
 use Rattle.path_text.specs.Text.{text_fault, parts_of, begins_with_slash}
 use Rattle.path_text.specs.Names.{same_names}
@@ -17,7 +16,6 @@ use Rattle.walk_plan.specs.declared.goal.Goal.{Goal}
 use Rattle.walk_plan.specs.declared.goal.Goal.TheVariants.{Follow, NoFollow, Deepest}
 use Rattle.walk_plan.specs.Plan.{PlanState, is_own, comes_from_own, after_first, stayed, through, through_fault, first_fault, leads_out}
 use Rattle.step_resolver.specs.Asked.{AskedPart, ask, asked, follows, followed, is_deepest}
-use Rattle.step_resolver.specs.Meaning.{crosses}
 use Rattle.step_resolver.specs.Order.{Way, Handle, Position, root_itself, holds, Todo, todo, gives, onward, Walking, reading, judging, ending, more, closing, goes_on, end_of, found, partial, handles_of, gives_up, refusal_of, refused_open, from_link, take}
 use Rattle.step_resolver.specs.declared.walk.Root.{Root}
 use Rattle.step_resolver.specs.View.{way_of, handle_of, own_to_come, place_of, numbers_of, todo_of, check_refusal, MayFollow}
@@ -105,17 +103,9 @@ fault_of p text may =
     let left : (p.links_left == 0) ≡ false = grind (arith, nat_tests) in
     rw (may.allowed, left) refl
 
-same_crossing : (flags : Flags) (text : List ℕ) → leads_out (begins_with_slash text) flags ≡ crosses flags text
-same_crossing flags text = swapped (begins_with_slash text) flags.beneath where
-  swapped : (a b : Bool) → (a && b) ≡ (b && a)
-  swapped true true = refl
-  swapped true false = refl
-  swapped false true = refl
-  swapped false false = refl
-
 module _ (root : Root) (place : Option ReachedObject) (link : ReachedObject) (p : PlanState) (text : List ℕ) where
   -- by the text's fault, and whether it leads out
-  refuses : (fault : Option Errno) (out : Bool) → text_fault text ≡ fault → crosses p.flags text ≡ out
+  refuses : (fault : Option Errno) (out : Bool) → text_fault text ≡ fault → leads_out (begins_with_slash text) p.flags ≡ out
       → take (way_of root p) false (reading_at place link p) (Text text)
       ≡ more (closing link.handle (handles_of (place_of place p.names)) (gives (unwrap_or (first_fault fault (if out then Some CrossRoot else None)) NoMemory)))
   refuses (Some fault) out e f = rw e refl
@@ -131,17 +121,17 @@ module _ (root : Root) (place : Option ReachedObject) (link : ReachedObject) (p 
       → take (way_of root p) false (reading_at place link p) (Text text)
       ≡ more (closing link.handle (numbers_of place) (gives (unwrap_or (through_fault p text) NoMemory)))
   read_refused may =
-      rw (fault_of p text may, same_crossing p.flags text, ← handles_at place p.names) (refuses (text_fault text) (crosses p.flags text) refl refl)
+      rw (fault_of p text may, ← handles_at place p.names) (refuses (text_fault text) (leads_out (begins_with_slash text) p.flags) refl refl)
 
   -- a text without fault that doesn't lead out
   pub read_followed : MayFollow p → through_fault p text ≡ None
       → take (way_of root p) true (reading_at place link p) (Text text)
       ≡ from_link (way_of root p) true (place_of place p.names) (handle_of link) (begins_with_slash text) (followed (parts_of text)) (todo_of (record (stayed p) { links_left = p.links_left - 1 }))
-  read_followed may none = by_fault (text_fault text) (crosses p.flags text) refl refl (subst Faultless (fault_of p text may ∙ rw (same_crossing p.flags text) refl) none) where
+  read_followed may none = by_fault (text_fault text) (leads_out (begins_with_slash text) p.flags) refl refl (subst Faultless (fault_of p text may) none) where
     Faultless : Option Errno → Type 0
     Faultless fault = fault ≡ None
 
-    by_fault : (fault : Option Errno) (out : Bool) → text_fault text ≡ fault → crosses p.flags text ≡ out → first_fault fault (if out then Some CrossRoot else None) ≡ None
+    by_fault : (fault : Option Errno) (out : Bool) → text_fault text ≡ fault → leads_out (begins_with_slash text) p.flags ≡ out → first_fault fault (if out then Some CrossRoot else None) ≡ None
         → take (way_of root p) true (reading_at place link p) (Text text)
         ≡ from_link (way_of root p) true (place_of place p.names) (handle_of link) (begins_with_slash text) (followed (parts_of text)) (todo_of (record (stayed p) { links_left = p.links_left - 1 }))
     by_fault (Some fault) out e f h = cc (h)

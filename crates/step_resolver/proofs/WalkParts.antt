@@ -14,8 +14,7 @@ use Rattle.path_text.specs.declared.part.Part.{Part}
 use Rattle.path_text.specs.declared.part.Part.TheVariants as part
 use Rattle.handles.specs.Objects.{ReachedObject}
 use Rattle.walk_plan.specs.declared.goal.Goal.{Goal}
-use Rattle.walk_plan.specs.declared.goal.Goal.TheVariants.{Follow, NoFollow, Deepest}
-use Rattle.walk_plan.specs.Plan.{PlanState, next_part, first_part, after_first, own_after_next, is_own, is_last, is_single, stayed, went_up, follows_last_link, comes_from_own, CanStay, most_parts_left}
+use Rattle.walk_plan.specs.Plan.{PlanState, next_part, first_part, after_first, own_after_next, is_own, is_last, is_single, stayed, went_up, comes_from_own, CanStay, most_parts_left}
 use Rattle.walk_plan.proofs.PlanLemmas.{stayed_lowers}
 use Rattle.walk_plan.specs.Plan as plan
 use Rattle.step_resolver.specs.Asked.{Up, ask, asked, followed, follows}
@@ -51,25 +50,20 @@ ask_own false q [] = refl
 ask_own true q (r ∷ own) = refl
 ask_own false q (r ∷ own) = refl
 
-same_follows : (goal : Goal) → follows goal ≡ follows_last_link goal
-same_follows Follow = refl
-same_follows NoFollow = refl
-same_follows Deepest = refl
-
 -- whether a link at the next part is followed, where that is a name
 abbrev pub follows_next : PlanState → Bool
-follows_next p = follows_last_link p.goal || not (is_own p && is_last p)
+follows_next p = follows p.goal || not (is_own p && is_last p)
 
 module _ (way : Way) (position : Position) (b : ℕ) (goal : Goal) where
   own_first : (q : Part) (own : List Part)
       → on_own way position (asked (follows goal) (q ∷ own)) b
-      ≡ on_part way position (ask (follows_last_link goal || not (is_single (q ∷ own))) q) true (todo [] (asked (follows goal) own) b) (on_own way position (asked (follows goal) own) b)
-  own_first q own = rw (ask_own (follows goal) q own, same_follows goal) refl
+      ≡ on_part way position (ask (follows goal || not (is_single (q ∷ own))) q) true (todo [] (asked (follows goal) own) b) (on_own way position (asked (follows goal) own) b)
+  own_first q own = rw (ask_own (follows goal) q own) refl
 
   inner_first : (q : Part) (inner own : List Part)
       → on_parts way position (followed (q ∷ inner)) (asked (follows goal) own) b
-      ≡ on_part way position (ask (follows_last_link goal || true) q) false (todo (followed inner) (asked (follows goal) own) b) (on_parts way position (followed inner) (asked (follows goal) own) b)
-  inner_first q inner own = rw (or_true (follows_last_link goal)) refl
+      ≡ on_part way position (ask (follows goal || true) q) false (todo (followed inner) (asked (follows goal) own) b) (on_parts way position (followed inner) (asked (follows goal) own) b)
+  inner_first q inner own = rw (or_true (follows goal)) refl
 
 pub on_next : (way : Way) (position : Position) (p : PlanState) (q : Part) → next_part p ≡ Some q
     → goes_on way position (todo_of p) ≡ on_part way position (ask (follows_next p) q) (is_own p) (todo_of (stayed p)) (goes_on way position (todo_of (stayed p)))
@@ -77,7 +71,7 @@ on_next way position p q e = on_lists p.inner p.own e where
   Asks : List Part → List Part → Part → Type 0
   Asks inner own q =
       on_parts way position (followed inner) (asked (follows p.goal) own) p.links_left
-      ≡ on_part way position (ask (follows_last_link p.goal || not (comes_from_own inner own && is_single (inner ++ own))) q) (comes_from_own inner own)
+      ≡ on_part way position (ask (follows p.goal || not (comes_from_own inner own && is_single (inner ++ own))) q) (comes_from_own inner own)
       (todo (followed (after_first inner)) (asked (follows p.goal) (own_after_next inner own)) p.links_left)
       (on_parts way position (followed (after_first inner)) (asked (follows p.goal) (own_after_next inner own)) p.links_left)
 

@@ -1,6 +1,6 @@
 -- Each answer leaves fewer steps to come, and a walk begins with few.
-use Rattle.std.specs.Prelude.{◌≡◌, ℕ, zero, suc, ◌+◌, ◌<◌, ◌≤◌, ◌&&◌, List, [], ◌∷◌, ◌++◌, Bool, true, false, length, reverse, Option, Some, None, Ok, Err, if◌then◌else◌, refl}
-use Rattle.std.proofs.Common.{sym, ap, ◌∙◌, subst, arith, length-append}
+use Rattle.std.specs.Prelude.{◌≡◌, ℕ, zero, suc, ◌+◌, ◌<◌, ◌≤◌, List, [], ◌∷◌, ◌++◌, Bool, true, false, length, reverse, Option, Some, None, Ok, Err, if◌then◌else◌, refl}
+use Rattle.std.proofs.Common.{sym, ap, subst, arith, length-append}
 use Rattle.std.proofs.lemmas.List.{length-map}
 use Rattle.path_text.specs.declared.errno.Errno.{Errno}
 use Rattle.path_text.specs.declared.errno.Errno.TheVariants.{NotFound, Raced, NoMemory, CrossRoot, NotDir, TooLong, Loop}
@@ -18,7 +18,7 @@ use Rattle.path_text.specs.declared.flags.Flags.{Flags}
 use Rattle.step_resolver.specs.declared.walk.Root.{Root}
 use Rattle.step_resolver.specs.View.{way_from, todo_of}
 use Rattle.step_resolver.specs.Asked.{AskedPart, Cur, Up, Named, ask, asked, followed, follows}
-use Rattle.step_resolver.specs.Meaning.{LINKS_MAX, is_too_long, crosses}
+use Rattle.step_resolver.specs.Meaning.{LINKS_MAX, is_too_long}
 use Rattle.step_resolver.specs.Order.{Way, Handle, Position, root_itself, holds, Todo, todo, After, gives, onward, judges, Walking, opening, reading, rising, judging, duping, ending, closing, Turn, more, found, partial, failed, names_of, handles_of, is_dir_position, is_followed, gives_up, at_end, in_directory, on_part, on_own, on_parts, goes_on, begins, for_walk, comes, closes, refusal_of, with_room, follows_link, enters, refused_open, from_link, read_text, end_of, judged, refused_rise, take, steps_for, steps_after, steps_left}
 use Rattle.step_resolver.specs.declared.walk.Turn.{Turn as Outcome}
 use Rattle.step_resolver.specs.declared.walk.Turn.TheVariants.{More, Found, Partial, Failed}
@@ -140,7 +140,7 @@ module _ (way : Way) where
   read_text_few room position link inner own b text (Some fault) e = leaves_both _ link.number position fault (omega arith)
   read_text_few room position link inner own b text None e =
       let few : length (followed (parts_of text)) ≤ PARTS_MAX = omega (arith, length-map (parts_of text) (ask true), reading_few text e) in
-      either _ (crosses way.flags text) _ _ (leaves_both _ link.number position CrossRoot (omega arith))
+      either _ (leads_out (begins_with_slash text) way.flags) _ _ (leaves_both _ link.number position CrossRoot (omega arith))
       (from_link_few room position link (begins_with_slash text) (followed (parts_of text)) inner own b few)
 
   reading_few_left : (room : Bool) (position : Position) (link : Handle) (rest : Todo) (answer : Answer)
@@ -207,23 +207,15 @@ pub plan_made : (b : Bool) (p q : PlanState) (error : Errno) → Ok p ≡ (if b 
 plan_made true p q error e = cc (e)
 plan_made false p q error e = (refl, cc (e))
 
-pub swapped : (a b : Bool) → (a && b) ≡ (b && a)
-swapped true true = refl
-swapped true false = refl
-swapped false true = refl
-swapped false false = refl
-
 -- a plan that was made is gone on with from the root
 pub begun_goes_on : (root : Root) (path : Reading) (goal : Goal) (flags : Flags) → leads_out path.absolute flags ≡ false
     → goes_on (way_from root goal flags) root_itself (todo_of (begun path goal flags)) ≡ begins (way_from root goal flags) path
-begun_goes_on root path goal flags within =
-    let stays_in : (flags.beneath && path.absolute) ≡ false = swapped flags.beneath path.absolute ∙ within in
-    sym (rw stays_in refl)
+begun_goes_on root path goal flags within = sym (rw within refl)
 
 -- a walk begins with few steps to come
 pub begins_few : (way : Way) (path : Reading) → length path.parts ≤ PARTS_MAX → FewerThan (suc STEPS_MAX) (begins way path)
 begins_few way path few =
-    either (suc STEPS_MAX) (way.flags.beneath && path.absolute) (failed CrossRoot) (goes_on way root_itself (todo [] (asked (follows way.goal) path.parts) LINKS_MAX)) tt
+    either (suc STEPS_MAX) (leads_out path.absolute way.flags) (failed CrossRoot) (goes_on way root_itself (todo [] (asked (follows way.goal) path.parts) LINKS_MAX)) tt
     (weaker (4 + steps_for (todo [] (asked (follows way.goal) path.parts) LINKS_MAX)) (suc STEPS_MAX) (goes_on way root_itself (todo [] (asked (follows way.goal) path.parts) LINKS_MAX)) (omega (arith, asked_length (follows way.goal) path.parts))
     (goes_on_few way root_itself (todo [] (asked (follows way.goal) path.parts) LINKS_MAX)))
 

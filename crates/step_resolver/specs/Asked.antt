@@ -4,6 +4,7 @@ use Rattle.path_text.specs.declared.part.Part.{Part}
 use Rattle.path_text.specs.declared.part.Part.TheVariants as part
 use Rattle.walk_plan.specs.declared.goal.Goal.{Goal}
 use Rattle.walk_plan.specs.declared.goal.Goal.TheVariants.{Follow, NoFollow, Deepest}
+pub use Rattle.walk_plan.specs.Plan.{follows}
 
 pub data AskedPart : Type 0 where
   Cur : AskedPart
@@ -25,11 +26,6 @@ asked follow (p ∷ q ∷ ps) = ask true p ∷ asked follow (q ∷ ps)
 -- the parts of a link's text, which are followed to the end
 abbrev pub followed : List Part → List AskedPart
 followed ps = map (ask true) ps
-
-abbrev pub follows : Goal → Bool
-follows Follow = true
-follows NoFollow = false
-follows Deepest = true
 
 abbrev pub is_deepest : Goal → Bool
 is_deepest Follow = false

@@ -19,7 +19,7 @@ use Rattle.walk_plan.specs.declared.goal.Goal.{Goal}
 use Rattle.step_resolver.specs.Asked.{asked, follows, is_deepest}
 use Rattle.step_resolver.specs.Meaning.{Ground, Meant, object, fails, reading_means, Deep, whole, up_to, none, reading_deepest}
 use Rattle.step_resolver.specs.TurnView.{STEPS_MAX}
-use Rattle.step_resolver.specs.Order.{Way, Walking, Turn, more, found, partial, failed, due, is_closing, Line, answered, no_room, not_made, events_of, LeadsTo, steps_left}
+use Rattle.step_resolver.specs.Order.{Way, Walking, Turn, due, is_closing, Line, answered, no_room, not_made, events_of, LeadsTo, steps_left_at}
 use Rattle.step_resolver.specs.declared.driver.Resolved.{Resolved}
 use Rattle.step_resolver.specs.declared.driver.Resolved.TheVariants.{Found, Partial}
 
@@ -46,13 +46,6 @@ IsAnswer way walking a s t answer =
     ((answer ≡ (outcome s a (due way walking)).answer) × (t ≡ (outcome s a (due way walking)).after))
     ⊎ ((answer ≡ Refused NoMemory) × (t ≡ s) × (is_closing walking ≡ false))
 
--- how many steps a turn leaves at most
-abbrev pub steps_of : Turn → ℕ
-steps_of (more walking) = steps_left walking
-steps_of (found handle names) = 0
-steps_of (partial handle names rest) = 0
-steps_of (failed error) = 0
-
 -- no step was left out but for want of memory
 abbrev pub IsWithoutBook : List Line → Type 0
 IsWithoutBook [] = Unit {0}
@@ -69,7 +62,7 @@ pub record Drives (way : Way) (a : ℕ) (s : State) (from : Turn) (t : State) (t
   pub after : after_events s (events_of a lines) ≡ t
   pub nodes : t.nodes ≡ s.nodes
   pub without_book : IsWithoutBook lines
-  pub fewer : length lines + steps_of to ≤ steps_of from
+  pub fewer : length lines + steps_left_at to ≤ steps_left_at from
 
 -- ---- at the end
 

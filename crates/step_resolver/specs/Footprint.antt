@@ -4,16 +4,17 @@ use Rattle.path_text.specs.declared.errno.Errno.{Errno}
 use Rattle.path_text.specs.declared.errno.Errno.TheVariants.{NoMemory, TooMany, BookFull}
 use Rattle.tree_model.specs.declared.answer.Event.{Event}
 use Rattle.tree_model.specs.State.{child}
-use Rattle.step_resolver.specs.Meaning.{Ground, Entry, Meant, object, fails, Deep, whole, up_to, none}
+use Rattle.tree_model.specs.declared.inode.Place.{Place}
+use Rattle.step_resolver.specs.Meaning.{Ground, Meant, object, fails, Deep, whole, up_to, none}
 use Rattle.step_resolver.specs.Order.{Turn, more, found, partial, failed}
 use Rattle.step_resolver.specs.WalkHistory.{WalkInHistory, begin_of, timeline}
 
 -- no event of another in the window changes what stands at that entry
-pub record IsLeftAlone (w : WalkInHistory) (entry : Entry) : Type 0 where
+pub record IsLeftAlone (w : WalkInHistory) (entry : Place) : Type 0 where
   pub same : (t : ℕ) (event : Event) → slice_get w.window t ≡ Some event → event.actor ≢ w.actor
-      → child ((timeline w).nodes_at (suc t)) entry.dir entry.name ≡ child ((timeline w).nodes_at t) entry.dir entry.name
+      → child ((timeline w).nodes_at (suc t)) entry.parent entry.name ≡ child ((timeline w).nodes_at t) entry.parent entry.name
 
-abbrev pub AllLeftAlone : WalkInHistory → List Entry → Type 0
+abbrev pub AllLeftAlone : WalkInHistory → List Place → Type 0
 AllLeftAlone w [] = Unit {0}
 AllLeftAlone w (entry ∷ entries) = IsLeftAlone w entry × AllLeftAlone w entries
 

@@ -4,8 +4,9 @@ use Rattle.std.specs.Prelude.{◌≡◌, ◌≢◌, ◌⊎◌, ℕ, suc, List, [
 use Rattle.path_text.specs.declared.errno.Errno.TheVariants.{Raced}
 use Rattle.tree_model.specs.declared.answer.Event.{Event}
 use Rattle.tree_model.specs.State.{child, Stands}
+use Rattle.tree_model.specs.declared.inode.Place.{Place}
 use Rattle.step_resolver.specs.Asked.{follows, is_deepest}
-use Rattle.step_resolver.specs.Meaning.{Entry, reads_of, reading_means, reading_deepest}
+use Rattle.step_resolver.specs.Meaning.{reads_of, reading_means, reading_deepest}
 use Rattle.step_resolver.specs.Order.{Turn, more, found, partial, failed, begins, LeadsTo}
 use Rattle.step_resolver.specs.WalkHistory.{WalkInHistory, IsWalkInHistory, begin_of, end_of, timeline}
 use Rattle.step_resolver.specs.Footprint.{ground, IsEnd, is_for_want, IsMeant, IsMeantDeep}
@@ -39,14 +40,14 @@ QuietWalksMean = (w : WalkInHistory) (end : Turn) → IsWalkInHistory w → Lead
     → IsQuiet w → is_for_want end ≡ false → IsQuietEnd w end
 
 -- an event of another in the window changes what stands at that entry
-pub record IsChanged (w : WalkInHistory) (entry : Entry) : Type 0 where
+pub record IsChanged (w : WalkInHistory) (entry : Place) : Type 0 where
   pub when : ℕ
   pub event : Event
   pub is_event : slice_get w.window when ≡ Some event
   pub by_other : event.actor ≢ w.actor
-  pub changed : child ((timeline w).nodes_at (suc when)) entry.dir entry.name ≢ child ((timeline w).nodes_at when) entry.dir entry.name
+  pub changed : child ((timeline w).nodes_at (suc when)) entry.parent entry.name ≢ child ((timeline w).nodes_at when) entry.parent entry.name
 
-abbrev pub SomeIsChanged : WalkInHistory → List Entry → Type 0
+abbrev pub SomeIsChanged : WalkInHistory → List Place → Type 0
 SomeIsChanged w [] = ⊥
 SomeIsChanged w (entry ∷ entries) = IsChanged w entry ⊎ SomeIsChanged w entries
 

@@ -11,8 +11,10 @@ use Rattle.tree_model.specs.declared.inode.Inode.{Inode}
 use Rattle.tree_model.specs.declared.inode.Object.{Object}
 use Rattle.tree_model.specs.declared.inode.Object.TheVariants.{Link}
 use Rattle.tree_model.specs.State.{object_at, child, parent, is_dir}
+use Rattle.tree_model.specs.declared.inode.Place.{Place}
 use Rattle.step_resolver.specs.Asked.{AskedPart, Cur, Up, Named, asked, followed}
 pub use Rattle.walk_plan.specs.declared.plan.TheConstants.{LINKS_MAX}
+use Rattle.walk_plan.specs.Plan.{leads_out}
 
 -- where a path is resolved: the nodes, the root's number, and the call's restrictions
 pub record Ground : Type 0 where
@@ -20,18 +22,13 @@ pub record Ground : Type 0 where
   pub root : ℕ
   pub flags : Flags
 
--- the entry of that name in that directory
-pub record Entry : Type 0 where
-  pub dir : ℕ
-  pub name : List ℕ
-
 -- an object with the links left, or an error; and the entries that were read
 pub data Meant : Type 0 where
-  object : ℕ → ℕ → List Entry → Meant
-  fails : Errno → List Entry → Meant
+  object : ℕ → ℕ → List Place → Meant
+  fails : Errno → List Place → Meant
 
 -- these entries were read before
-abbrev pub after_reads : List Entry → Meant → Meant
+abbrev pub after_reads : List Place → Meant → Meant
 after_reads entries (object d b reads) = object d b (entries ++ reads)
 after_reads entries (fails error reads) = fails error (entries ++ reads)
 
@@ -47,10 +44,6 @@ is_too_long n = nat_lt NAME_MAX (length n)
 abbrev pub from_of : ℕ → ℕ → List ℕ → ℕ
 from_of r d text = if begins_with_slash text then r else d
 
--- nothing absolute is followed under `beneath`
-abbrev pub crosses : Flags → List ℕ → Bool
-crosses flags text = flags.beneath && begins_with_slash text
-
 -- What follows takes how the parts of a link's text are resolved: from which directory, which parts, with how many links left.
 abbrev pub Deeper : Type 0
 Deeper = ℕ → List AskedPart → ℕ → Meant
@@ -60,7 +53,7 @@ abbrev pub link_in : Deeper → Ground → ℕ → List ℕ → ℕ → Meant
 link_in deeper g d text zero = fails Loop []
 link_in deeper g d text (suc b) =
     if g.flags.no_links then fails Loop []
-    else (if crosses g.flags text then fails CrossRoot []
+    else (if leads_out (begins_with_slash text) g.flags then fails CrossRoot []
     else deeper (from_of g.root d text) (followed (parts_of text)) b)
 
 -- a child that is no link, or is not followed, is entered
@@ -88,7 +81,7 @@ one_part deeper g d Cur b = object d b []
 one_part deeper g d Up b = above_of g d b
 one_part deeper g d (Named follow n) b =
     if is_too_long n then fails TooLong []
-    else after_reads (record { dir = d; name = n } ∷ []) (named deeper g d follow b (child g.nodes d n))
+    else after_reads (record { parent = d; name = n } ∷ []) (named deeper g d follow b (child g.nodes d n))
 
 -- one part, from any object: only a directory has one
 abbrev pub part_means : Deeper → Ground → ℕ → AskedPart → ℕ → Meant
@@ -112,7 +105,7 @@ path_means g ps = means LINKS_MAX g g.root ps LINKS_MAX
 -- the meaning of a path as it was read
 abbrev pub reading_means : Ground → Reading → Bool → Meant
 reading_means g reading follow =
-    if g.flags.beneath && reading.absolute then fails CrossRoot [] else path_means g (asked follow reading.parts)
+    if leads_out reading.absolute g.flags then fails CrossRoot [] else path_means g (asked follow reading.parts)
 
 abbrev pub resolves : Ground → List ℕ → Bool → Option Errno → Meant
 resolves g text follow None = reading_means g (reading_of text) follow
@@ -131,7 +124,7 @@ abbrev pub resolution : Meant → Resolution
 resolution (object d b reads) = is_object d
 resolution (fails error reads) = is_error error
 
-abbrev pub reads_of : Meant → List Entry
+abbrev pub reads_of : Meant → List Place
 reads_of (object d b reads) = reads
 reads_of (fails error reads) = reads
 
@@ -139,9 +132,9 @@ reads_of (fails error reads) = reads
 
 -- all of the parts; or the directory in which the first of the rest is missing; or an error
 pub data Deep : Type 0 where
-  whole : ℕ → ℕ → List Entry → Deep
-  up_to : ℕ → ℕ → List AskedPart → List Entry → Deep
-  none : Errno → List Entry → Deep
+  whole : ℕ → ℕ → List Place → Deep
+  up_to : ℕ → ℕ → List AskedPart → List Place → Deep
+  none : Errno → List Place → Deep
 
 -- the part is a name of good length that the directory doesn't have
 abbrev pub is_missing : Ground → ℕ → AskedPart → Bool
@@ -150,12 +143,12 @@ is_missing g d Up = false
 is_missing g d (Named follow n) = is_dir g.nodes d && not (is_too_long n) && is_none (child g.nodes d n)
 
 -- the entry that a part reads in a directory
-abbrev pub entries_of : ℕ → AskedPart → List Entry
+abbrev pub entries_of : ℕ → AskedPart → List Place
 entries_of d Cur = []
 entries_of d Up = []
-entries_of d (Named follow n) = record { dir = d; name = n } ∷ []
+entries_of d (Named follow n) = record { parent = d; name = n } ∷ []
 
-abbrev pub deep_after : List Entry → Deep → Deep
+abbrev pub deep_after : List Place → Deep → Deep
 deep_after entries (whole d b reads) = whole d b (entries ++ reads)
 deep_after entries (up_to d b rest reads) = up_to d b rest (entries ++ reads)
 deep_after entries (none error reads) = none error (entries ++ reads)
@@ -176,9 +169,9 @@ path_deepest g ps = deepest LINKS_MAX g g.root ps LINKS_MAX
 
 abbrev pub reading_deepest : Ground → Reading → Deep
 reading_deepest g reading =
-    if g.flags.beneath && reading.absolute then none CrossRoot [] else path_deepest g (asked true reading.parts)
+    if leads_out reading.absolute g.flags then none CrossRoot [] else path_deepest g (asked true reading.parts)
 
-abbrev pub deep_reads : Deep → List Entry
+abbrev pub deep_reads : Deep → List Place
 deep_reads (whole d b reads) = reads
 deep_reads (up_to d b rest reads) = reads
 deep_reads (none error reads) = reads

@@ -17,8 +17,9 @@ use Rattle.tree_model.specs.declared.step.Kind.TheVariants as kind
 use Rattle.tree_model.specs.declared.step.StepOf.{StepOf}
 use Rattle.tree_model.specs.declared.step.StepOf.TheVariants.{Open, Dup, Parent, ReadLink, NameBelow, Close}
 use Rattle.walk_plan.specs.declared.goal.Goal.{Goal}
+use Rattle.walk_plan.specs.Plan.{leads_out}
 use Rattle.step_resolver.specs.Asked.{AskedPart, Cur, Up, Named, asked, followed, follows, is_deepest}
-use Rattle.step_resolver.specs.Meaning.{LINKS_MAX, is_too_long, crosses}
+use Rattle.step_resolver.specs.Meaning.{LINKS_MAX, is_too_long}
 
 -- what stays the same for a whole walk: the root's handle, what it is after, and its restrictions
 pub record Way : Type 0 where
@@ -147,7 +148,7 @@ goes_on way position (todo inner own b) = on_parts way position inner own b
 
 abbrev pub begins : Way → Reading → Turn
 begins way path =
-    if way.flags.beneath && path.absolute then failed CrossRoot
+    if leads_out path.absolute way.flags then failed CrossRoot
     else goes_on way root_itself (todo [] (asked (follows way.goal) path.parts) LINKS_MAX)
 
 -- a walk under way takes room, an end doesn't
@@ -220,7 +221,7 @@ from_link way room position link false parts (todo inner own b) =
 abbrev pub read_text : Way → Bool → Position → Handle → Todo → List ℕ → Option Errno → Turn
 read_text way room position link rest text (Some fault) = gives_up (link.number ∷ handles_of position) fault
 read_text way room position link rest text None =
-    if crosses way.flags text then gives_up (link.number ∷ handles_of position) CrossRoot
+    if leads_out (begins_with_slash text) way.flags then gives_up (link.number ∷ handles_of position) CrossRoot
     else from_link way room position link (begins_with_slash text) (followed (parts_of text)) rest
 
 abbrev pub end_of : Handle → List (List ℕ) → List AskedPart → Turn
@@ -323,3 +324,10 @@ steps_left (judging handle names rest) = 4 + steps_for rest
 steps_left (duping rest) = 3
 steps_left (ending handle names rest) = 2
 steps_left (closing h hs after) = suc (length hs) + steps_after after
+
+-- how many steps are to come at most; none at an end
+abbrev pub steps_left_at : Turn → ℕ
+steps_left_at (more walking) = steps_left walking
+steps_left_at (found handle names) = 0
+steps_left_at (partial handle names rest) = 0
+steps_left_at (failed error) = 0

@@ -9,8 +9,9 @@ use Rattle.tree_model.specs.declared.inode.Object.{Object}
 use Rattle.tree_model.specs.declared.inode.Object.TheVariants.{Dir, File, Link}
 use Rattle.tree_model.specs.State.{State, Stands, object_at, child, parent, is_directory}
 use Rattle.tree_model.specs.History.{after_events, tree_at}
+use Rattle.walk_plan.specs.Plan.{leads_out}
 use Rattle.step_resolver.specs.Asked.{AskedPart, Cur, Up, Named, followed}
-use Rattle.step_resolver.specs.Meaning.{is_too_long, crosses, from_of}
+use Rattle.step_resolver.specs.Meaning.{is_too_long, from_of}
 
 -- What happens to a tree, as one actor's call sees it: the nodes at each moment, which events are its own, and what
 -- each node is (it stays that for good); and where the call resolves its path. Event t reads the nodes of moment t.
@@ -75,7 +76,7 @@ pub record IsLinkAt (timeline : Timeline) (s : Spot) (n : List ℕ) (t : ℕ) (t
   pub is_link : timeline.object_of link ≡ Some (Link text)
   pub links : s.links ≡ suc b
   pub allowed : timeline.flags.no_links ≡ false
-  pub within : crosses timeline.flags text ≡ false
+  pub within : leads_out (begins_with_slash text) timeline.flags ≡ false
 
 -- up from the spot, a directory with names passed: e was its parent at the call's own event t, and at a later one, u, it
 -- stood under the root at the names less the last

@@ -4,8 +4,9 @@ use Rattle.path_text.specs.declared.flags.Flags.{Flags}
 use Rattle.tree_model.specs.declared.inode.Inode.{Inode}
 use Rattle.tree_model.specs.State.{Stands, is_dir}
 use Rattle.tree_model.specs.Trees.{IsTree}
+use Rattle.tree_model.specs.declared.inode.Place.{Place}
 use Rattle.step_resolver.specs.Asked.{AskedPart}
-use Rattle.step_resolver.specs.Meaning.{Ground, Entry, object, means}
+use Rattle.step_resolver.specs.Meaning.{Ground, object, means}
 use Rattle.step_resolver.specs.Trail.{Timeline, Spot, Trail, quiet}
 
 -- What leads over appended parts: a trail over the first and then what leads over the second, or a stop in the first.
@@ -45,7 +46,7 @@ still nodes r flags = record { nodes = nodes; root = r; flags = flags }
 
 -- what a trail leads to where nothing changes is what the parts mean, and it stands at the names passed
 pub record IsMeantThere (nodes : List Inode) (r : ℕ) (flags : Flags) (nested : ℕ) (ps : List AskedPart) (s z : Spot) : Type 0 where
-  pub reads : List Entry
+  pub reads : List Place
   pub means : means nested (still nodes r flags) s.node ps s.links ≡ object z.node z.links reads
   pub stands : Stands nodes r z.node z.names
 
@@ -64,5 +65,5 @@ pub record IsReachedThere (nodes : List Inode) (r : ℕ) (flags : Flags) (ps : L
 
 abbrev pub QuietMeaningsAreReached : Type 0
 QuietMeaningsAreReached = (nodes : List Inode) (r : ℕ) (flags : Flags) → IsTree nodes → is_dir nodes r ≡ true
-    → (nested : ℕ) (ps : List AskedPart) (s : Spot) (x b : ℕ) (reads : List Entry) → Stands nodes r s.node s.names
+    → (nested : ℕ) (ps : List AskedPart) (s : Spot) (x b : ℕ) (reads : List Place) → Stands nodes r s.node s.names
     → means nested (still nodes r flags) s.node ps s.links ≡ object x b reads → IsReachedThere nodes r flags ps s x b

@@ -6,9 +6,10 @@ use Rattle.tree_model.specs.declared.answer.Answer.{Answer}
 use Rattle.handles.specs.declared.owner.Owner.{Owner}
 use Rattle.handles.specs.Objects.{StandingObject}
 use Rattle.walk_plan.specs.declared.goal.Goal.{Goal}
+use Rattle.walk_plan.specs.declared.goal.Goal.TheVariants.{Follow}
 use Rattle.step_resolver.specs.Asked.{asked, follows}
 use Rattle.step_resolver.specs.Meaning.{LINKS_MAX}
-use Rattle.step_resolver.specs.Order.{Way, Handle, Walking, Turn, more, found, partial, failed, starts, take, steps_left}
+use Rattle.step_resolver.specs.Order.{Way, Handle, Walking, Turn, more, found, partial, failed, starts, take, steps_left_at}
 use Rattle.walk_plan.specs.Plan.{is_own}
 use Rattle.step_resolver.specs.View.{course_way, walking_of, own_to_come, IsPending}
 use Rattle.step_resolver.specs.declared.course.Course.{Course}
@@ -43,12 +44,9 @@ StartsTo way path turn = (room : Bool) × (turn ≡ starts way room path)
 abbrev pub TakesTo : Way → Walking → Answer → Turn → Type 0
 TakesTo way walking answer turn = (room : Bool) × (turn ≡ take way room walking answer)
 
--- how many steps are to come at most; none at an end
+-- how many steps are to come at most; the goal is one for all, since it counts for nothing but the rest of a partial end
 abbrev pub steps_to_come : Outcome → ℕ
-steps_to_come (More walk) = steps_left walk.walking
-steps_to_come (Found standing) = 0
-steps_to_come (Partial standing rest) = 0
-steps_to_come (Failed error) = 0
+steps_to_come turn = steps_left_at (turn_view Follow turn)
 
 -- four steps for each part passed, of the path and of forty links' texts, and four more
 abbrev pub STEPS_MAX : ℕ

@@ -2,8 +2,9 @@
 //! still. It is slow, recurses for each link and takes no memory; a walk is compared with it.
 ghost use Rattle.std.specs.Prelude.{◌≡◌, ◌<◌, ◌||◌, nat_lt, length, slice_get, MatchResult, Some};
 ghost use Rattle.path_text.specs.Text.{pieces, part_of, parts_of, ends_with_slash, has_final_slash, begins_with_slash};
+ghost use Rattle.walk_plan.specs.Plan.{leads_out};
 ghost use Rattle.step_resolver.specs.Asked.{Cur, ask, asked};
-ghost use Rattle.step_resolver.specs.Meaning.{from_of, crosses, above_of, link_in, part_means, parts_mean, resolution, is_object, is_error, resolved};
+ghost use Rattle.step_resolver.specs.Meaning.{from_of, above_of, link_in, part_means, parts_mean, resolution, is_object, is_error, resolved};
 ghost use Rattle.step_resolver.specs.Plain.{arrival, meant};
 
 use path_text::{Errno, Flags, NAME_MAX, Path, SLASH};
@@ -90,8 +91,8 @@ fn from_of(root: Node, dir: Node, text: &[u8]) -> Node
 }
 
 // Whether a link may not be followed under `beneath`.
-fn crosses(flags: Flags, text: &[u8]) -> bool
-    ensures { result ≡ crosses flags text.now }
+fn leads_out(flags: Flags, text: &[u8]) -> bool
+    ensures { result ≡ leads_out (begins_with_slash text.now) flags }
 {
     flags.beneath && begins_with_slash(text)
 }
@@ -135,7 +136,7 @@ fn link_means(on: &Ground, here: Arrived, text: &[u8]) -> Result<Arrived, Errno>
     if here.links == 0 || on.flags.no_links {
         return Err(Errno::Loop);
     }
-    if crosses(on.flags, text) {
+    if leads_out(on.flags, text) {
         return Err(Errno::CrossRoot);
     }
     let from = from_of(on.root, here.node, text);
@@ -214,7 +215,7 @@ pub fn resolve_whole(
     if let Some(fault) = Path::fault_of(text) {
         return Err(fault);
     }
-    if crosses(flags, text) {
+    if leads_out(flags, text) {
         return Err(Errno::CrossRoot);
     }
     let on = Ground { nodes, root, flags };

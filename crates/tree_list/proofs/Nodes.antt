@@ -18,7 +18,7 @@ put_at_past [] i place past = refl
 put_at_past (inode ∷ nodes) zero place past = absurd (omega arith)
 put_at_past (inode ∷ nodes) (suc i) place past = ap (λ rest. inode ∷ rest) (put_at_past nodes i place (omega arith))
 
-is_some-option_map : {A B : Type 0} (f : A → B) (o : Option A) → is_some (option_map f o) ≡ is_some o
+pub is_some-option_map : {A B : Type 0} (f : A → B) (o : Option A) → is_some (option_map f o) ≡ is_some o
 is_some-option_map f None = refl
 is_some-option_map f (Some x) = refl
 

@@ -14,12 +14,12 @@ use Rattle.tree_model.specs.declared.step.Mode.TheVariants.{Plain, NoReplace, Ex
 use Rattle.tree_model.specs.declared.tree.TheConstants.{NUMBERS_MAX}
 use Rattle.tree_model.specs.State.{TOP, object_at, place_at, Stands, child, is_directory, is_dir, is_gone, is_within, has_entries, put_at}
 use Rattle.tree_model.specs.Entries.{makes, makes_link, removes_file, removes_dir, moves, replace_fault, replaces, exchanges, renames_child, renames}
-use Rattle.tree_model.specs.Trees.{IsTree}
+use Rattle.tree_model.specs.Trees.{IsTree, HasPathText}
 use Rattle.tree_model.proofs.Refusals.{refuse_if-both, with_some-both, refuse_by-both}
 use Rattle.tree_model.proofs.Places.{length-put_at, object_at-put_at, object_at-append, place_at-within, place_at-put_at, place_at-put_other}
 use Rattle.tree_model.proofs.Children.{entry, place_at-child, place_at-no_child, no_entries}
 use Rattle.tree_model.proofs.Standing.{Under, not_under, not_under_own_child}
-use Rattle.tree_model.proofs.Hanging.{MayHang, HasPathText, IsTree-taken_out, IsTree-rehung, IsTree-made, Rooted-not_gone, Rooted-parent, stood}
+use Rattle.tree_model.proofs.Hanging.{MayHang, IsTree-taken_out, IsTree-rehung, IsTree-made, Rooted-not_gone, Rooted-parent, stood}
 
 -- ---- all nodes stay
 
@@ -136,7 +136,7 @@ module _ (nodes : List Inode) where
           p c e2 (and_right (is_dir nodes c) (has_entries nodes c) e4)))))
 
 -- an empty directory, or none, where nothing speaks against the replacement
-replace_fault-none : (nodes : List Inode) (c e : ℕ) → replace_fault nodes c e ≡ None → (is_dir nodes e && has_entries nodes e) ≡ false
+pub replace_fault-none : (nodes : List Inode) (c e : ℕ) → replace_fault nodes c e ≡ None → (is_dir nodes e && has_entries nodes e) ≡ false
 replace_fault-none nodes c e q = by (is_dir nodes c && not (is_dir nodes e)) (not (is_dir nodes c) && is_dir nodes e) (is_dir nodes e && has_entries nodes e) q
   where
     by : (s t u : Bool) → cond s (Some NotDir) (cond t (Some IsDir) (cond u (Some NotEmpty) None)) ≡ None → u ≡ false
@@ -251,7 +251,7 @@ childless nodes t e q x place p =
     (and_cases (is_dir nodes e) (has_entries nodes e) q)
 
 -- what stands somewhere isn't the top
-not_top : (nodes : List Inode) → IsTree nodes → (c : ℕ) (place : Place) → place_at nodes c ≡ Some place → c ≢ TOP
+pub not_top : (nodes : List Inode) → IsTree nodes → (c : ℕ) (place : Place) → place_at nodes c ≡ Some place → c ≢ TOP
 not_top nodes t c place p q = none-some place (sym t.top_is_free ∙ ap (place_at nodes) (sym q) ∙ p)
 
 -- one node is hung at a free entry

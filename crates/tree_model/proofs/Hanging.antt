@@ -2,13 +2,12 @@
 use Rattle.std.proofs.Common.{◌≡◌, ◌≢◌, ⊎_elim, ℕ, zero, suc, Bool, true, false, not, ◌==◌, ◌&&◌, List, [], ◌∷◌, ◌++◌, length, Option, Some, None, is_some, refl, sym, ap, ◌∙◌, subst, eqb-true}
 use Rattle.std.proofs.lemmas.Bool.{false≢true, cases_eq}
 use Rattle.std.proofs.lemmas.Option.{none-some, same_Some}
-use Rattle.path_text.specs.Text.{text_fault}
 use Rattle.tree_model.specs.declared.inode.Inode.{Inode}
 use Rattle.tree_model.specs.declared.inode.Object.{Object}
 use Rattle.tree_model.specs.declared.inode.Object.TheVariants.{Dir, Link}
 use Rattle.tree_model.specs.declared.inode.Place.{Place}
 use Rattle.tree_model.specs.State.{TOP, object_at, place_at, is_directory, is_dir, is_gone, put_at}
-use Rattle.tree_model.specs.Trees.{Rooted, IsTree, top, below}
+use Rattle.tree_model.specs.Trees.{Rooted, IsTree, HasPathText, top, below}
 use Rattle.tree_model.proofs.Places.{object_at-put_at, place_at-put_other, object_at-append, object_at-within, object_at-one_more, place_at-append, place_at-append_within, place_at-last, place_at-one_more}
 use Rattle.tree_model.proofs.Children.{entry}
 use Rattle.tree_model.proofs.Standing.{Under, Under-itself, Under-child}
@@ -158,10 +157,6 @@ Rooted-parent nodes t c place e = by (t.rooted c place e) e
     by : {c : ℕ} → Rooted nodes c → place_at nodes c ≡ Some place → Rooted nodes place.parent
     by top e = absurd (none-some place (sym t.top_is_free ∙ e))
     by (below p e' r) e = subst (λ k. Rooted nodes k.parent) (same_Some p place (sym e' ∙ e)) r
-
--- the link's text is one of a path, if it is a link
-abbrev pub HasPathText : Object → Type 0
-HasPathText object = (text : List ℕ) → object ≡ Link text → text_fault text ≡ None
 
 module _ (nodes : List Inode) (d : ℕ) (n : List ℕ) (object : Object)
     (t : IsTree nodes) (dir : is_dir nodes d ≡ true) (root : Rooted nodes d) (entry_free : (x : ℕ) → place_at nodes x ≢ Some (entry d n)) (text_fits : HasPathText object) where

@@ -14,6 +14,7 @@ use Rattle.tree_model.specs.Steps.{Outcome, node_held, held, kind_of, with_handl
 use Rattle.tree_model.specs.StepLaws.{only_tells, is_on_entries, is_close_of, TellingChangesNothing, NodesAreLeft, HandlesAreLeft, NumbersGrow, NumbersGrowByOne, ObjectsStay, OthersHandlesStay, OwnHandlesStay, ClosedIsClosed, OpenedIsOpen}
 use Rattle.tree_model.proofs.Changed.{Changed-grows, Changed-by_one}
 use Rattle.tree_model.proofs.Outcomes.{Does, refuses, tells, opens_on, closes, changes_to, does}
+use Rattle.tree_model.proofs.Places.{slice_get-last}
 
 -- ---- the tree as a whole, and the nodes
 
@@ -110,10 +111,6 @@ slice_get-append : {A : Type 0} (xs ys : List A) (i : ℕ) (x : A) → slice_get
 slice_get-append [] ys i x e = absurd (none-some x e)
 slice_get-append (y ∷ xs) ys zero x e = e
 slice_get-append (y ∷ xs) ys (suc i) x e = slice_get-append xs ys i x e
-
-slice_get-last : {A : Type 0} (xs : List A) (y : A) → slice_get (xs ++ y ∷ []) (length xs) ≡ Some y
-slice_get-last [] y = refl
-slice_get-last (x ∷ xs) y = slice_get-last xs y
 
 slice_get-set_other : {A : Type 0} (xs : List A) (i : ℕ) (y : A) (k : ℕ) → k ≢ i → slice_get (slice_set xs i y) k ≡ slice_get xs k
 slice_get-set_other [] i y k ne = refl

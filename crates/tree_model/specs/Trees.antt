@@ -2,6 +2,7 @@
 use Rattle.std.specs.Prelude.{◌≡◌, ℕ, ◌<◌, List, true, length, slice_get, Some, None}
 use Rattle.path_text.specs.Text.{text_fault}
 use Rattle.tree_model.specs.declared.inode.Inode.{Inode}
+use Rattle.tree_model.specs.declared.inode.Object.{Object}
 use Rattle.tree_model.specs.declared.inode.Object.TheVariants.{Dir, Link}
 use Rattle.tree_model.specs.declared.inode.OpenHandle.{OpenHandle}
 use Rattle.tree_model.specs.declared.inode.Place.{Place}
@@ -11,6 +12,10 @@ use Rattle.tree_model.specs.State.{State, TOP, object_at, place_at, is_dir}
 pub data Rooted (nodes : List Inode) : ℕ → Type 0 where
   top : Rooted nodes TOP
   below : {x : ℕ} (place : Place) → place_at nodes x ≡ Some place → Rooted nodes place.parent → Rooted nodes x
+
+-- where it is a link, its text is one of a path
+abbrev pub HasPathText : Object → Type 0
+HasPathText object = (text : List ℕ) → object ≡ Link text → text_fault text ≡ None
 
 -- The top is a directory without a place. Each entry is in a directory and leads up to the top, and no two nodes have one entry.
 -- A link's text is one of a path.

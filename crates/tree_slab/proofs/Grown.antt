@@ -6,9 +6,10 @@ use Rattle.std.proofs.lemmas.Option.{none-some, same_Some}
 use Rattle.std.specs.Option.{option_map, option_and_then}
 use Rattle.std.specs.Map.{lookup}
 use Rattle.std.specs.BTreeMap.{BTreeMap}
+use Rattle.tree_list.proofs.Nodes.{is_some-option_map}
 use Rattle.slab.specs.Slab.{Slab, get, Updates}
 use Rattle.tree_slab.specs.Directories.{is_name, entries_at, has_map, entry_in, SetsEntry, AddsNode, LosesMap, new_entries, key_at, entries_of, HasEachMap, ChangesMap, SameMaps, IsNewMap, AddsMap}
-use Rattle.tree_slab.proofs.Keys.{entries_at-view, length-view, is_some-option_map, same_each, same_view, changed_each, changed_entry}
+use Rattle.tree_slab.proofs.Keys.{entries_at-view, length-view, same_each, same_view, changed_each, changed_entry}
 
 -- ---- a map less
 

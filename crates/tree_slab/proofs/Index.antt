@@ -11,12 +11,12 @@ use Rattle.tree_model.specs.declared.inode.Object.{Object}
 use Rattle.tree_model.specs.declared.inode.Place.{Place}
 use Rattle.tree_model.specs.declared.tree.TheConstants.{NUMBERS_MAX}
 use Rattle.tree_model.specs.State.{TOP, object_at, place_at, is_directory, is_dir, is_gone, is_within, has_entries, child, put_at, name_in}
-use Rattle.tree_model.specs.Trees.{IsTree}
+use Rattle.tree_model.specs.Trees.{IsTree, HasPathText}
 use Rattle.tree_model.proofs.Places.{length-put_at, object_at-put_at, place_at-within, place_at-put_at, place_at-put_other}
 use Rattle.tree_model.proofs.Children.{entry, place_at-child, no_entries}
-use Rattle.tree_model.proofs.Changed.{Changed-tree, made, removed, moved, replaced, exchanged}
+use Rattle.tree_model.proofs.Changed.{Changed-tree, not_top, made, removed, moved, replaced, exchanged}
 use Rattle.tree_slab.specs.Directories.{is_name, entries_at, has_map, entry_in, with_entry, SetsEntry, AddsNode, LosesMap}
-use Rattle.tree_slab.specs.Index.{is_standing_dir, IsIndexed, HasPathText}
+use Rattle.tree_slab.specs.Index.{is_standing_dir, IsIndexed}
 use Rattle.tree_slab.proofs.Agreement.{with_entry-cases, alike, child-look, taken, made_entry, moved_entry, replaced_entry, exchanged_entry}
 
 abbrev Tables : Type 0
@@ -43,9 +43,6 @@ standing-placed nodes x place p = rw p (by (is_dir nodes x) (not (x == TOP)))
     by true false = refl
     by false true = refl
     by false false = refl
-
-not_top : (nodes : List Inode) → IsTree nodes → (x : ℕ) (place : Place) → place_at nodes x ≡ Some place → x ≢ TOP
-not_top nodes t x place p = λ q. none-some place (sym t.top_is_free ∙ ap (place_at nodes) (sym q) ∙ p)
 
 -- a node that has a place before and after stands as it did
 standing-put_some : (nodes : List Inode) (c : ℕ) (was is : Place) → place_at nodes c ≡ Some was → (x : ℕ) → is_standing_dir (put_at nodes c (Some is)) x ≡ is_standing_dir nodes x

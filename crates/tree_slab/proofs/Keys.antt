@@ -2,8 +2,8 @@
 use Rattle.std.proofs.Common.{◌≡◌, ◌≢◌, ℕ, zero, suc, Bool, true, false, if◌then◌else◌, List, [], ◌∷◌, length, map, Option, Some, None, is_some, refl, ap, sym, ◌∙◌, inl, inr, eq-eqb}
 use Rattle.std.proofs.lemmas.Bool.{cases_eq, ne_eqb}
 use Rattle.std.proofs.lemmas.Option.{none-some, same_Some}
-use Rattle.std.specs.Option.{option_map}
 use Rattle.std.specs.BTreeMap.{BTreeMap}
+use Rattle.tree_list.proofs.Nodes.{is_some-option_map}
 use Rattle.slab.specs.Slab.{Slab, get}
 use Rattle.tree_slab.specs.Directories.{is_name, entries_at, has_map, entry_in, with_entry, SetsEntry, key_at, entries_of, HasEachMap, ChangesMap, SameMaps}
 
@@ -17,10 +17,6 @@ entries_at-view (key ∷ keys) maps (suc x) = entries_at-view keys maps x
 pub length-view : (keys : List (Option ℕ)) (maps : Slab (BTreeMap (List ℕ) ℕ)) → length (map (entries_of maps) keys) ≡ length keys
 length-view [] maps = refl
 length-view (key ∷ keys) maps = ap suc (length-view keys maps)
-
-pub is_some-option_map : {A B : Type 0} (f : A → B) (o : Option A) → is_some (option_map f o) ≡ is_some o
-is_some-option_map f None = refl
-is_some-option_map f (Some x) = refl
 
 view-same : (keys : List (Option ℕ)) (old new : Slab (BTreeMap (List ℕ) ℕ)) → ((key : Option ℕ) → entries_of new key ≡ entries_of old key) → map (entries_of new) keys ≡ map (entries_of old) keys
 view-same [] old new same = refl

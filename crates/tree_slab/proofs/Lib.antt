@@ -3,7 +3,6 @@ pub mod NameOrder
 pub mod Keys
 pub mod Grown
 pub mod Agreement
-pub mod Fault
 pub mod Index
 pub mod Listed
 pub mod Started

@@ -1,9 +1,6 @@
 -- When the directories' maps are an index of a tree's nodes.
 use Rattle.std.specs.Prelude.{◌≡◌, ℕ, ◌&&◌, not, List, Bool, true, length, Option, Some, None}
-use Rattle.path_text.specs.Text.{text_fault}
 use Rattle.tree_model.specs.declared.inode.Inode.{Inode}
-use Rattle.tree_model.specs.declared.inode.Object.{Object}
-use Rattle.tree_model.specs.declared.inode.Object.TheVariants.{Link}
 use Rattle.tree_model.specs.declared.inode.Place.{Place}
 use Rattle.tree_model.specs.State.{place_at, is_dir, is_gone}
 use Rattle.tree_model.specs.Trees.{IsTree}
@@ -40,7 +37,3 @@ HasParentMap directories (Some place) = has_map directories place.parent ≡ tru
 abbrev pub Links : List (Option (List (List ℕ × ℕ))) → List (Option (List (List ℕ × ℕ))) → Option Place → ℕ → Type 0
 Links old new None x = new ≡ old
 Links old new (Some place) x = SetsEntry old new place.parent place.name (Some x)
-
--- a link's text is one of a path
-abbrev pub HasPathText : Object → Type 0
-HasPathText object = (text : List ℕ) → object ≡ Link text → text_fault text ≡ None

@@ -2,10 +2,10 @@
 ghost use Rattle.std.specs.Prelude.{◌≡◌, ◌≢◌, ◌&&◌, ◌++◌, ◌∷◌, [], List, ℕ, true, false, Some, None, IfOk, OnOk, MatchResult, length};
 ghost use Rattle.tree_model.specs.State.{put_at, is_directory, is_dir, is_gone, is_within, child, has_entries, names_in, sorted_names};
 ghost use Rattle.tree_model.specs.Entries.{makes, removes_file, removes_dir, moves, replace_fault, replaces, exchanges, renames};
-ghost use Rattle.tree_model.specs.Trees.{IsTree};
+ghost use Rattle.tree_model.specs.Trees.{IsTree, HasPathText};
 ghost use Rattle.tree_list.specs.Build.{top_alone};
 ghost use Rattle.tree_list.specs.Changes.{IsChange, IsGrowth};
-ghost use Rattle.tree_slab.specs.Index.{is_standing_dir, HasPathText, HasEmptyMaps, HasParentMap, Links, IsIndexed};
+ghost use Rattle.tree_slab.specs.Index.{is_standing_dir, HasEmptyMaps, HasParentMap, Links, IsIndexed};
 
 use crate::directories::Directories;
 use path_text::{Errno, Name, Names, NoMemory};

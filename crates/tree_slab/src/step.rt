@@ -4,8 +4,8 @@ ghost use Rattle.std.specs.Option.{option_map};
 ghost use Rattle.tree_model.specs.State.{names_below};
 ghost use Rattle.tree_model.specs.Steps.{outcome, held, is_full, with_handle, opens, changes, on_handle};
 ghost use Rattle.tree_model.specs.Entries.{makes};
+ghost use Rattle.tree_model.specs.Trees.{HasPathText};
 ghost use Rattle.tree_list.specs.Changes.{IsStep, IsStepOr, answer_of};
-ghost use Rattle.tree_slab.specs.Index.{HasPathText};
 
 use crate::tree::SlabTree;
 use path_text::{Bytes, Errno, Name, Names, NoMemory, Path};

@@ -27,7 +27,7 @@ use Rattle.step_resolver.specs.declared.driver.Resolved.TheVariants.{Found, Part
 use Rattle.walk_plan.specs.declared.goal.Goal.{Goal}
 use Rattle.step_resolver.specs.Driver.{Drives, IsOwned}
 use Rattle.step_resolver.proofs.TurnsTell.{leads_on}
-use Rattle.step_resolver.proofs.DrivenWalks.{all_own, joined_events, drives_begun, turn_of}
+use Rattle.step_resolver.proofs.DrivenWalks.{all_own, joined_events, drives_begun, turn_of, owned_by}
 use Rattle.uses.specs.AmongOthers.{ByOthers, TellsAmong, end_of}
 
 -- a legal history from one tree to the other, and the lines that lead from one turn to the other, whose events are the actor's own
@@ -141,11 +141,6 @@ seen_end : (goal : Goal) (result : Result Resolved Errno) → turn_view goal (tu
 seen_end goal (Ok (Found standing)) = refl
 seen_end goal (Ok (Partial standing rest)) = refl
 seen_end goal (Err error) = refl
-
-owned_by : (owner : Owner) (way : Way) (result : Result Resolved Errno) → Keeps owner way (turn_of result) → IsOwned owner result
-owned_by owner way (Ok (Found standing)) kept = kept
-owned_by owner way (Ok (Partial standing rest)) kept = kept
-owned_by owner way (Err error) kept = tt
 
 pub ended_by : EveryWalk → (owner : Owner) (way : Way) (path : Reading) (r : ℕ) (s t : State) (outcome : Outcome) (result : Result Resolved Errno)
     → outcome ≡ turn_of result → IsState s → held s owner.actor way.root ≡ Some r → is_dir s.nodes r ≡ true → IsLed owner way s path t outcome

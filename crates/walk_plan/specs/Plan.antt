@@ -69,15 +69,16 @@ is_name (Some Cur) = false
 is_name (Some Up) = false
 is_name (Some (Named bytes)) = true
 
-abbrev pub follows_last_link : Goal → Bool
-follows_last_link Follow = true
-follows_last_link NoFollow = false
-follows_last_link Deepest = true
+-- a link at the very last part of the caller's path is followed (O_NOFOLLOW of open(2))
+abbrev pub follows : Goal → Bool
+follows Follow = true
+follows NoFollow = false
+follows Deepest = true
 
 -- The next part is a name at which a link is followed: at the very last part of the caller's text it is so
 -- only where the goal says it, at any other part always (path_resolution(7), Final entry).
 abbrev pub follows_next_link : PlanState → Bool
-follows_next_link p = is_name (next_part p) && (follows_last_link p.goal || not (is_own p && is_last p))
+follows_next_link p = is_name (next_part p) && (follows p.goal || not (is_own p && is_last p))
 
 abbrev pub after_first : List Part → List Part
 after_first [] = []
@@ -114,9 +115,9 @@ spliced p text =
 abbrev pub through : PlanState → List ℕ → PlanState
 through p text = spliced p (reading_of text)
 
--- RESOLVE_BENEATH of openat2(2): no text may begin at the root
+-- RESOLVE_BENEATH of openat2(2): neither a path nor a link's text may begin at the root
 abbrev pub leads_out : Bool → Flags → Bool
-leads_out absolute flags = absolute && flags.beneath
+leads_out absolute flags = flags.beneath && absolute
 
 abbrev pub first_fault : Option Errno → Option Errno → Option Errno
 first_fault None later = later

@@ -13,11 +13,11 @@ pub enum Goal {
 }
 
 impl Goal {
-    ghost use Rattle.walk_plan.specs.Plan.{follows_last_link};
+    ghost use Rattle.walk_plan.specs.Plan.{follows};
 
     /// Whether a link at the very last part of the caller's path is followed.
     pub fn follows_last_link(self) -> bool
-        ensures { result ≡ follows_last_link self }
+        ensures { result ≡ follows self }
     {
         match self {
             Goal::Follow | Goal::Deepest => true,

@@ -56,7 +56,7 @@ impl Plan {
         ensures { result ≡ (if leads_out path.absolute flags then Err CrossRoot
             else Ok (begun path goal flags)) }
     {
-        if path.absolute && flags.beneath {
+        if flags.beneath && path.absolute {
             return Err(Errno::CrossRoot);
         }
         // the next part stands last, where it is taken off without moving the others
@@ -231,11 +231,11 @@ impl Plan {
         Path::parse(alloc, text)
     }
 
-    // Whether the text begins at the root, and none may.
+    // Whether the text begins at the root, and may not.
     fn leads_out(&self, text: &[u8]) -> bool
         ensures { result ≡ leads_out (begins_with_slash text.now) self.now.flags }
     {
-        text.first() == Some(&SLASH) && self.flags.beneath
+        self.flags.beneath && text.first() == Some(&SLASH)
     }
 
     // Follows a link whose text is read as this path. NoMemory where room was refused, before anything

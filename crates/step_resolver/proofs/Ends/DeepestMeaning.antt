@@ -8,10 +8,12 @@ use Rattle.path_text.specs.declared.errno.Errno.TheVariants.{NotFound, BadHandle
 use Rattle.path_text.specs.Text.{begins_with_slash}
 use Rattle.tree_model.specs.declared.inode.Object.{Object}
 use Rattle.tree_model.specs.State.{child, is_dir, is_directory}
+use Rattle.tree_model.specs.declared.inode.Place.{Place}
 use Rattle.walk_plan.specs.declared.goal.Goal.{Goal}
 use Rattle.walk_plan.specs.declared.goal.Goal.TheVariants.{Follow, NoFollow, Deepest}
+use Rattle.walk_plan.specs.Plan.{leads_out}
 use Rattle.step_resolver.specs.Asked.{AskedPart, Cur, Up, Named, asked, follows, is_deepest}
-use Rattle.step_resolver.specs.Meaning.{Ground, Entry, Meant, object, fails, Deeper, after_reads, and_then, part_means, parts_mean, means, LINKS_MAX, Deep, whole, up_to, none, is_missing, entries_of, deep_after, and_then_deep, deepest, path_deepest, reading_deepest, deep_reads, is_too_long, reads_of}
+use Rattle.step_resolver.specs.Meaning.{Ground, Meant, object, fails, Deeper, after_reads, and_then, part_means, parts_mean, means, LINKS_MAX, Deep, whole, up_to, none, is_missing, entries_of, deep_after, and_then_deep, deepest, path_deepest, reading_deepest, deep_reads, is_too_long, reads_of}
 use Rattle.step_resolver.specs.TrailLaws.{Split, passed, stopped}
 use Rattle.step_resolver.specs.Trail.{Spot, Trail, all, before, stay, top, climb, down, through, into, IsLinkAt}
 use Rattle.step_resolver.specs.Order.{Handle, Turn, more, found, partial, failed, root_itself, todo, begins, goes_on, LeadsTo}
@@ -23,24 +25,16 @@ use Rattle.step_resolver.proofs.Trail.Joined.{split}
 use Rattle.step_resolver.proofs.Meaning.PartsAndLinks.{deeper_at, means_by}
 use Rattle.step_resolver.proofs.Meaning.Deepest.{deep_after-twice, deep_after_nothing}
 use Rattle.step_resolver.proofs.Underway.WalkInvariant.{no_stop}
-use Rattle.step_resolver.proofs.Ends.TrailsAndMeaning.{Setting, AllAlone, Fits, IsWay, alone_of, Followed, same_object, same_dir, stands_on, follow}
+use Rattle.step_resolver.proofs.Ends.TrailsAndMeaning.{Setting, AllAlone, Fits, IsWay, alone_of, Followed, same_object, same_dir, stands_on, follow, alone_first, alone_second}
 use Rattle.step_resolver.proofs.Ends.WholeMeaning.{setting, all_alone, missing_fails, no_dir_fails, long_fails, link_reads, loops, crossing, root_fails, name_alone, no_raced_up, only_crosses}
 
-all_first : (w : Setting) (xs ys : List Entry) → AllAlone w (xs ++ ys) → AllAlone w xs
-all_first w [] ys a = tt
-all_first w (x ∷ xs) ys a = (a.0, all_first w xs ys a.1)
-
-all_second : (w : Setting) (xs ys : List Entry) → AllAlone w (xs ++ ys) → AllAlone w ys
-all_second w [] ys a = a
-all_second w (x ∷ xs) ys a = all_second w xs ys a.1
-
-all_after : (w : Setting) (xs : List Entry) (m : Deep) → AllAlone w (deep_reads (deep_after xs m)) → AllAlone w (xs ++ deep_reads m)
+all_after : (w : Setting) (xs : List Place) (m : Deep) → AllAlone w (deep_reads (deep_after xs m)) → AllAlone w (xs ++ deep_reads m)
 all_after w xs (whole d b reads) a = a
 all_after w xs (up_to d b rest reads) a = a
 all_after w xs (none error reads) a = a
 
 alone_in : (w : Setting) (m : Meant) (onward : ℕ → ℕ → Deep) → AllAlone w (deep_reads (and_then_deep m onward)) → AllAlone w (reads_of m)
-alone_in w (object d b reads) onward a = all_first w reads (deep_reads (onward d b)) (all_after w reads (onward d b) a)
+alone_in w (object d b reads) onward a = alone_first w reads (deep_reads (onward d b)) (all_after w reads (onward d b) a)
 alone_in w (fails error reads) onward a = a
 
 is_none-true : {A : Type 0} (o : Option A) → is_none o ≡ true → o ≡ None
@@ -66,10 +60,10 @@ module _ {w : WalkInHistory} (fits : Fits (setting w)) where
       (inner.0, (inner.1, is_none-true (child (begin_of w).nodes d name) outer.1))
 
   -- what was there at any moment isn't missing
-  not_missing : (d : ℕ) (f : Bool) (name : List ℕ) (t c : ℕ) → child ((timeline w).nodes_at t) d name ≡ Some c → AllAlone (setting w) (record { dir = d; name = name } ∷ [])
+  not_missing : (d : ℕ) (f : Bool) (name : List ℕ) (t c : ℕ) → child ((timeline w).nodes_at t) d name ≡ Some c → AllAlone (setting w) (record { parent = d; name = name } ∷ [])
       → is_missing G d (Named f name) ≡ true → ⊥
   not_missing d f name t c e alone m =
-      none-some c (sym (missing_is d f name m).1.1 ∙ sym (fits.steady (record { dir = d; name = name }) alone.0 t) ∙ e)
+      none-some c (sym (missing_is d f name m).1.1 ∙ sym (fits.steady (record { parent = d; name = name }) alone.0 t) ∙ e)
 
   deepest_step : (n d b : ℕ) (p : AskedPart) (ps : List AskedPart) → Bool → Deep
   deepest_step n d b p ps x = if x then up_to d b (p ∷ ps) (entries_of d p) else and_then_deep (means n G d (p ∷ []) b) (λ e c. deepest n G e ps c)
@@ -92,7 +86,7 @@ module _ {w : WalkInHistory} (fits : Fits (setting w)) where
   passed_is_there s mid (Named f name) (through t text b y is sub rest) alone e = not_missing s.node f name t is.link is.child.child alone e
 
   record Along (n : ℕ) (s z : Spot) (front rest : List AskedPart) : Type 0 where
-    pub reads : List Entry
+    pub reads : List Place
     pub is : deepest n G s.node (front ++ rest) s.links ≡ deep_after reads (deepest n G z.node rest z.links)
     pub way : IsWay (setting w) z.node z.names
     pub fewer : z.links ≤ s.links
@@ -106,7 +100,7 @@ module _ {w : WalkInHistory} (fits : Fits (setting w)) where
     is = is_step ∙ ap (λ m. and_then_deep m (λ e c. deepest n G e ps c)) f.says.1;
     way = f.way;
     fewer = f.fewer;
-    alone = all_second (setting w) f.says.0 (deep_reads (deepest n G mid.node ps mid.links))
+    alone = alone_second (setting w) f.says.0 (deep_reads (deepest n G mid.node ps mid.links))
         (all_after (setting w) f.says.0 (deepest n G mid.node ps mid.links)
         (subst (λ m. AllAlone (setting w) (deep_reads m)) (is_step ∙ ap (λ m. and_then_deep m (λ e c. deepest n G e ps c)) f.says.1) alone));
   }
@@ -148,15 +142,15 @@ module _ {w : WalkInHistory} (fits : Fits (setting w)) where
   -- a stop within a link's text at one of the caller's own parts: where its next part fails, so does all
   record InLink (n : ℕ) (s z : Spot) (p : AskedPart) (ps : List AskedPart) : Type 0 where
     pub deeper : Deeper
-    pub reads : List Entry
+    pub reads : List Place
     pub way : IsWay (setting w) z.node z.names
     pub alone : AllAlone (setting w) (reads_of (part_means deeper G z.node p z.links))
-    pub failing : (error : Errno) (after : List Entry) → part_means deeper G z.node p z.links ≡ fails error after
+    pub failing : (error : Errno) (after : List Place) → part_means deeper G z.node p z.links ≡ fails error after
         → deepest n G s.node ps s.links ≡ none error (reads ++ after)
 
   -- a stop is before one of the caller's own parts, or within a link's text at one
   data DeepStop (n : ℕ) (s z : Spot) (p : AskedPart) (ps : List AskedPart) : Type 0 where
-    at_own : (rest : List AskedPart) (reads : List Entry) → deepest n G s.node ps s.links ≡ deep_after reads (deepest n G z.node (p ∷ rest) z.links)
+    at_own : (rest : List AskedPart) (reads : List Place) → deepest n G s.node ps s.links ≡ deep_after reads (deepest n G z.node (p ∷ rest) z.links)
         → IsWay (setting w) z.node z.names → AllAlone (setting w) (deep_reads (deepest n G z.node (p ∷ rest) z.links)) → DeepStop n s z p ps
     in_link : InLink n s z p ps → DeepStop n s z p ps
 
@@ -217,14 +211,14 @@ module _ {w : WalkInHistory} (fits : Fits (setting w)) where
 
   -- ---- the ends
 
-  module _ (deep : is_deepest w.way.goal ≡ true) (inside : (w.way.flags.beneath && w.path.absolute) ≡ false) where
+  module _ (deep : is_deepest w.way.goal ≡ true) (inside : leads_out w.path.absolute w.way.flags ≡ false) where
     abbrev D : Deep
     D = path_deepest (ground w) (parts_of_walk w)
 
     module _ (alone : AllAlone (setting w) (deep_reads D)) where
       in_link_fails : (z : Spot) (p : AskedPart) (error : Errno) → InLink LINKS_MAX (start w) z p (parts_of_walk w)
           → ((deeper : Deeper) → IsWay (setting w) z.node z.names → AllAlone (setting w) (reads_of (part_means deeper G z.node p z.links))
-          → (more : List Entry) × (part_means deeper G z.node p z.links ≡ fails error more))
+          → (more : List Place) × (part_means deeper G z.node p z.links ≡ fails error more))
           → IsMeantDeep D (failed error)
       in_link_fails z p error is fails_there =
           let e = fails_there is.deeper is.way is.alone in
@@ -233,7 +227,7 @@ module _ {w : WalkInHistory} (fits : Fits (setting w)) where
       -- a stop whose next part fails, and isn't a missing one of the caller's own
       link_stop_fails : (z : Spot) (p : AskedPart) (error : Errno) → DeepStop LINKS_MAX (start w) z p (parts_of_walk w)
           → ((deeper : Deeper) → IsWay (setting w) z.node z.names → AllAlone (setting w) (reads_of (part_means deeper G z.node p z.links))
-          → (more : List Entry) × (part_means deeper G z.node p z.links ≡ fails error more))
+          → (more : List Place) × (part_means deeper G z.node p z.links ≡ fails error more))
           → (AllAlone (setting w) (entries_of z.node p) → is_missing G z.node p ≡ true → ⊥)
           → IsMeantDeep D (failed error)
       link_stop_fails z p error (in_link is) fails_there there = in_link_fails z p error is fails_there
@@ -289,9 +283,9 @@ module _ {w : WalkInHistory} (fits : Fits (setting w)) where
           (λ deeper way al. ([], root_fails fits deeper tells.to way tells.node beneath)) (λ a e. false≢true e)
       deep_crossing beneath (inr (inr tells)) = link_stop_fails tells.to (Named true tells.name) CrossRoot (stop_of tells.to (Named true tells.name) tells.stop)
           (λ deeper way al. (
-            record { dir = tells.to.node; name = tells.name } ∷ [],
+            record { parent = tells.to.node; name = tells.name } ∷ [],
             link_reads fits deeper tells.to way tells.name tells.text tells.when tells.link al
-                ∙ ap (after_reads (record { dir = tells.to.node; name = tells.name } ∷ []))
+                ∙ ap (after_reads (record { parent = tells.to.node; name = tells.name } ∷ []))
                 (crossing fits deeper tells.to way tells.to.links tells.left tells.text tells.links tells.allowed
                 (and_from w.way.flags.beneath (begins_with_slash tells.text) beneath tells.absolute)),
           ))
@@ -313,7 +307,7 @@ module _ {w : WalkInHistory} (fits : Fits (setting w)) where
       deep_error : (error : Errno) → is_want error ≡ false → TellsError w error → IsMeantDeep D (failed error)
       deep_error NotFound e tells = in_link_fails tells.to (Named tells.follow tells.name) NotFound (missing_in_link tells (tells.within deep))
           (λ deeper way al. (
-            record { dir = tells.to.node; name = tells.name } ∷ [],
+            record { parent = tells.to.node; name = tells.name } ∷ [],
             missing_fails fits deeper tells.to way tells.follow tells.name tells.when tells.short tells.missing al,
           ))
       deep_error NotDir e tells =
@@ -326,9 +320,9 @@ module _ {w : WalkInHistory} (fits : Fits (setting w)) where
           (λ a m. long_no_missing tells.to.node tells.follow tells.name tells.long m)
       deep_error Loop e tells = link_stop_fails tells.to (Named true tells.name) Loop (stop_of tells.to (Named true tells.name) tells.stop)
           (λ deeper way al. (
-            record { dir = tells.to.node; name = tells.name } ∷ [],
+            record { parent = tells.to.node; name = tells.name } ∷ [],
             link_reads fits deeper tells.to way tells.name tells.text tells.when tells.link al
-                ∙ ap (after_reads (record { dir = tells.to.node; name = tells.name } ∷ []))
+                ∙ ap (after_reads (record { parent = tells.to.node; name = tells.name } ∷ []))
                 (loops fits deeper tells.to way tells.to.links tells.text tells.used_up),
           ))
           (λ a m. not_missing tells.to.node true tells.name tells.when tells.link.link tells.link.child a m)
@@ -348,12 +342,12 @@ module _ {w : WalkInHistory} (fits : Fits (setting w)) where
       ends_at : (handle : Handle) (names : List (List ℕ)) (z : Spot) (f : Bool) (name : List ℕ) (others : List AskedPart) (t : ℕ) → handle.node ≡ z.node
           → IsWay (setting w) z.node z.names → is_too_long name ≡ false → IsMissingAt w z name t
           → AllAlone (setting w) (deep_reads (deepest LINKS_MAX G z.node (Named f name ∷ others) z.links))
-          → deepest LINKS_MAX G z.node (Named f name ∷ others) z.links ≡ up_to z.node z.links (Named f name ∷ others) (record { dir = z.node; name = name } ∷ [])
+          → deepest LINKS_MAX G z.node (Named f name ∷ others) z.links ≡ up_to z.node z.links (Named f name ∷ others) (record { parent = z.node; name = name } ∷ [])
       ends_at handle names z f name others t node way short is al = on (is_missing G z.node (Named f name)) refl
         where
           on : (x : Bool) → is_missing G z.node (Named f name) ≡ x
-              → deepest LINKS_MAX G z.node (Named f name ∷ others) z.links ≡ up_to z.node z.links (Named f name ∷ others) (record { dir = z.node; name = name } ∷ [])
-          on true e = ap (λ x. if x then up_to z.node z.links (Named f name ∷ others) (record { dir = z.node; name = name } ∷ [])
+              → deepest LINKS_MAX G z.node (Named f name ∷ others) z.links ≡ up_to z.node z.links (Named f name ∷ others) (record { parent = z.node; name = name } ∷ [])
+          on true e = ap (λ x. if x then up_to z.node z.links (Named f name ∷ others) (record { parent = z.node; name = name } ∷ [])
               else and_then_deep (means LINKS_MAX G z.node (Named f name ∷ []) z.links) (λ y c. deepest LINKS_MAX G y others c)) e
           on false e =
               let step = step_false LINKS_MAX z.node z.links (Named f name) others al (λ a m. false≢true (sym e ∙ m)) in
@@ -363,7 +357,7 @@ module _ {w : WalkInHistory} (fits : Fits (setting w)) where
               let entry_alone = name_alone fits (deeper_at LINKS_MAX G) z way f name is.dir short part_alone in
               absurd (false≢true (sym e ∙ and_from (is_dir (begin_of w).nodes z.node && not (is_too_long name)) (is_none (child (begin_of w).nodes z.node name))
               (and_from (is_dir (begin_of w).nodes z.node) (not (is_too_long name)) (same_dir fits z.node z.names way is.dir) (ap not short))
-              (ap is_none (sym (fits.steady (record { dir = z.node; name = name }) entry_alone t) ∙ is.missing))))
+              (ap is_none (sym (fits.steady (record { parent = z.node; name = name }) entry_alone t) ∙ is.missing))))
 
       -- the end is the deepest directory of the path
       deep_end : (end : Turn) → is_for_want end ≡ false → Tells w end → IsEnd end → IsMeantDeep D end
@@ -381,7 +375,7 @@ module _ {w : WalkInHistory} (fits : Fits (setting w)) where
       deep_end (failed error) want tells is_end = deep_error error want tells.true_once
 
   pub tells_deepest : (end : Turn) → LeadsTo w.way (begins w.way w.path) w.lines end → Tells w end → MeansDeepest w end
-  tells_deepest end leads tells is_end deep want alone = on (w.way.flags.beneath && w.path.absolute) refl
+  tells_deepest end leads tells is_end deep want alone = on (leads_out w.path.absolute w.way.flags) refl
     where
       parts_same : asked true w.path.parts ≡ parts_of_walk w
       parts_same = ap (λ f. asked f w.path.parts) (sym (follows_deepest w.way.goal deep))
@@ -392,7 +386,7 @@ module _ {w : WalkInHistory} (fits : Fits (setting w)) where
       beginning : Bool → Turn
       beginning b = if b then failed CrossRoot else goes_on w.way root_itself (todo [] (parts_of_walk w) LINKS_MAX)
 
-      on : (b : Bool) → (w.way.flags.beneath && w.path.absolute) ≡ b → IsMeantDeep (reading_deepest (ground w) w.path) end
+      on : (b : Bool) → leads_out w.path.absolute w.way.flags ≡ b → IsMeantDeep (reading_deepest (ground w) w.path) end
       on true e = subst (λ m. IsMeantDeep m end) (sym (ap meaning e))
           (subst (IsMeantDeep (none CrossRoot []))
           (only_crosses fits w.lines end (subst (λ t. LeadsTo w.way t w.lines end) (ap beginning e) leads)) refl)

@@ -1,5 +1,5 @@
 -- What the end of a walk tells, by induction on what the walk was told.
-use Rattle.std.specs.Prelude.{◌≡◌, ℕ, suc, ◌&&◌, List, [], ◌∷◌, Bool, true, false, if◌then◌else◌, None, refl}
+use Rattle.std.specs.Prelude.{◌≡◌, ℕ, suc, List, [], ◌∷◌, Bool, true, false, if◌then◌else◌, None, refl}
 use Rattle.std.proofs.Common.{sym, ap, subst, ◌∙◌, append-nil, inl, inr}
 use Rattle.std.proofs.lemmas.Bool.{and_parts}
 use Rattle.path_text.specs.declared.errno.Errno.{Errno}
@@ -8,6 +8,7 @@ use Rattle.tree_model.specs.declared.answer.Answer.{Answer}
 use Rattle.tree_model.specs.declared.answer.Answer.TheVariants.{Refused}
 use Rattle.tree_model.specs.declared.step.StepOf.{StepOf}
 use Rattle.tree_model.specs.Steps.{held}
+use Rattle.walk_plan.specs.Plan.{leads_out}
 use Rattle.step_resolver.specs.Asked.{AskedPart}
 use Rattle.step_resolver.specs.Meaning.{LINKS_MAX}
 use Rattle.step_resolver.specs.Trail.{Trail}
@@ -120,7 +121,7 @@ module _ {w : WalkInHistory} (lived : Lived w) where
   no_lines (line ∷ lines) end leads e = absurd (subst (λ turn. LeadsTo w.way turn (line ∷ lines) end) e leads)
 
   begins_good : (begins w.way w.path ≡ failed CrossRoot → w.lines ≡ []) → Good w 0 (begins w.way w.path)
-  begins_good none = on (w.way.flags.beneath && w.path.absolute) refl
+  begins_good none = on (leads_out w.path.absolute w.way.flags) refl
     where
       going : Going w 0 root_itself [] (parts_of_walk w) LINKS_MAX
       going = record { taken = []; parts = refl; reaches = λ z next t. t; within = λ z p t. absurd (no_stop t) }
@@ -128,7 +129,7 @@ module _ {w : WalkInHistory} (lived : Lived w) where
       after : Bool → Turn
       after b = if b then failed CrossRoot else goes_on w.way root_itself (todo [] (parts_of_walk w) LINKS_MAX)
 
-      on : (b : Bool) → (w.way.flags.beneath && w.path.absolute) ≡ b → Good w 0 (begins w.way w.path)
+      on : (b : Bool) → leads_out w.path.absolute w.way.flags ≡ b → Good w 0 (begins w.way w.path)
       on true e = subst (Good w 0) (sym (ap after e))
           (record { beneath = (and_parts w.way.flags.beneath w.path.absolute e).0; why = inl ((and_parts w.way.flags.beneath w.path.absolute e).1, none (ap after e)) }, handles_at_first)
       on false e = subst (Good w 0) (sym (ap after e)) (goes_on_good lived 0 root_itself [] (parts_of_walk w) LINKS_MAX going tt handles_at_first)

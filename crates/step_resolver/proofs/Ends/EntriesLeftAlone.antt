@@ -1,21 +1,21 @@
 -- Entries that no other's event changes are at each moment what they were at the window's beginning.
-use Rattle.std.specs.Prelude.{◌≡◌, ◌≢◌, ℕ, zero, suc, ◌+◌, ◌==◌, List, [], ◌∷◌, ◌++◌, Bool, true, false, cond, length, slice_get, Option, Some, None, refl}
+use Rattle.std.specs.Prelude.{◌≡◌, ℕ, zero, suc, ◌+◌, ◌==◌, List, [], ◌∷◌, ◌++◌, Bool, true, false, cond, length, slice_get, Option, Some, None, refl}
 use Rattle.std.proofs.Common.{sym, ap, subst, ◌∙◌, length-append, arith}
 use Rattle.std.proofs.lemmas.Bool.{false≢true, eqb-false}
 use Rattle.std.proofs.lemmas.Option.{none-some, same_Some}
 use Rattle.tree_model.specs.declared.answer.Event.{Event}
 use Rattle.tree_model.specs.declared.inode.Inode.{Inode}
 use Rattle.tree_model.specs.declared.inode.Place.{Place}
-use Rattle.tree_model.specs.State.{State, TOP, place_at, child, Stands}
+use Rattle.tree_model.specs.State.{State, TOP, child, Stands}
 use Rattle.tree_model.specs.Trees.{IsTree, Rooted, top, below}
 use Rattle.tree_model.specs.History.{after_event, tree_at}
 use Rattle.tree_model.specs.StepLaws.{NodesAreLeft, is_on_entries}
 use Rattle.tree_model.specs.PlaceLaws.{StandsAtOneWay}
-use Rattle.step_resolver.specs.Meaning.{Entry}
+use Rattle.tree_model.proofs.Children.{entry, place_at-child}
+use Rattle.tree_model.proofs.Changed.{not_top}
 use Rattle.step_resolver.specs.Order.{Way, Walking, opening, reading, rising, judging, duping, ending, closing, Turn, more, found, partial, failed, take as takes, due, Line, answered, no_room, not_made, events_of, LeadsTo}
 use Rattle.step_resolver.specs.WalkHistory.{WalkInHistory, begin_of, state_at, timeline, own_events}
 use Rattle.step_resolver.specs.Footprint.{IsLeftAlone}
-use Rattle.step_resolver.proofs.Meaning.NodesAtEntries.{entry, place_at-child}
 
 -- ---- the walk's own events leave the nodes
 
@@ -72,26 +72,23 @@ past_the_end s (first ∷ events) zero e = absurd (none-some first (sym e))
 past_the_end s (first ∷ events) (suc t) e = past_the_end (after_event s first) events t e
 
 -- an entry that is left alone is the same at each moment
-pub steady : NodesAreLeft → (w : WalkInHistory) → AllTell (own_events w.actor w.window) → (e : Entry) → IsLeftAlone w e
-    → (t : ℕ) → child ((timeline w).nodes_at t) e.dir e.name ≡ child (begin_of w).nodes e.dir e.name
+pub steady : NodesAreLeft → (w : WalkInHistory) → AllTell (own_events w.actor w.window) → (e : Place) → IsLeftAlone w e
+    → (t : ℕ) → child ((timeline w).nodes_at t) e.parent e.name ≡ child (begin_of w).nodes e.parent e.name
 steady left w tells e alone zero = refl
 steady left w tells e alone (suc t) = on (slice_get w.window t) refl ∙ steady left w tells e alone t
   where
     on_event : (event : Event) → slice_get w.window t ≡ Some event → (b : Bool) → (event.actor == w.actor) ≡ b
-        → child ((timeline w).nodes_at (suc t)) e.dir e.name ≡ child ((timeline w).nodes_at t) e.dir e.name
-    on_event event q true own = ap (λ nodes. child nodes e.dir e.name)
+        → child ((timeline w).nodes_at (suc t)) e.parent e.name ≡ child ((timeline w).nodes_at t) e.parent e.name
+    on_event event q true own = ap (λ nodes. child nodes e.parent e.name)
         (ap (λ s. s.nodes) (next_moment (begin_of w) w.window t event q)
         ∙ left (state_at w t) event.actor event.step (own_tells w.actor w.window tells t event q own))
     on_event event q false other = alone.same t event q (eqb-false event.actor w.actor other)
 
-    on : (o : Option Event) → slice_get w.window t ≡ o → child ((timeline w).nodes_at (suc t)) e.dir e.name ≡ child ((timeline w).nodes_at t) e.dir e.name
-    on None q = ap (λ s. child s.nodes e.dir e.name) (past_the_end (begin_of w) w.window t q)
+    on : (o : Option Event) → slice_get w.window t ≡ o → child ((timeline w).nodes_at (suc t)) e.parent e.name ≡ child ((timeline w).nodes_at t) e.parent e.name
+    on None q = ap (λ s. child s.nodes e.parent e.name) (past_the_end (begin_of w) w.window t q)
     on (Some event) q = on_event event q (event.actor == w.actor) refl
 
 -- ---- no directory below the root has the root as its child
-
-not_top : (nodes : List Inode) → IsTree nodes → (x : ℕ) (place : Place) → place_at nodes x ≡ Some place → x ≢ TOP
-not_top nodes is x place p e = none-some place (sym is.top_is_free ∙ ap (place_at nodes) (sym e) ∙ p)
 
 stands_below_top : (nodes : List Inode) → IsTree nodes → (r x : ℕ) (names above : List (List ℕ)) → Stands nodes r x names → Stands nodes TOP r above
     → Stands nodes TOP x (names ++ above)

@@ -1,5 +1,5 @@
 -- A walk that ends in Raced met a change: it is decided whether an entry is left alone, and what a path means is never Raced.
-use Rattle.std.proofs.Common.{◌≡◌, ◌≢◌, ◌⊎◌, inl, inr, ⊎_elim, ℕ, zero, suc, ◌==◌, ◌&&◌, Bool, true, false, cond, List, [], ◌∷◌, Option, Some, None, slice_get, refl, sym, ap, ◌∙◌, subst, eqb-true}
+use Rattle.std.proofs.Common.{◌≡◌, ◌≢◌, ◌⊎◌, inl, inr, ⊎_elim, ℕ, zero, suc, ◌==◌, Bool, true, false, cond, List, [], ◌∷◌, Option, Some, None, slice_get, refl, sym, ap, ◌∙◌, subst, eqb-true}
 use Rattle.std.proofs.lemmas.Bool.{eqb-false, false≢true, cases_eq}
 use Rattle.std.proofs.lemmas.Option.{none-some, same_Some}
 use Rattle.path_text.specs.declared.errno.Errno.{Errno}
@@ -7,8 +7,10 @@ use Rattle.path_text.specs.declared.errno.Errno.TheVariants.{Raced, CrossRoot}
 use Rattle.tree_model.specs.declared.answer.Event.{Event}
 use Rattle.tree_model.specs.State.{State, child}
 use Rattle.tree_model.specs.History.{after_event, tree_at}
+use Rattle.tree_model.specs.declared.inode.Place.{Place}
+use Rattle.walk_plan.specs.Plan.{leads_out}
 use Rattle.step_resolver.specs.Asked.{asked, follows, is_deepest}
-use Rattle.step_resolver.specs.Meaning.{Entry, Meant, object, fails, LINKS_MAX, path_means, reading_means, reads_of, Deep, whole, up_to, none, path_deepest, reading_deepest}
+use Rattle.step_resolver.specs.Meaning.{Meant, object, fails, LINKS_MAX, path_means, reading_means, reads_of, Deep, whole, up_to, none, path_deepest, reading_deepest}
 use Rattle.step_resolver.specs.MeaningLaws.{meant_by, is_of_parts}
 use Rattle.step_resolver.specs.Order.{failed}
 use Rattle.step_resolver.specs.WalkHistory.{WalkInHistory, begin_of, parts_of_walk}
@@ -28,9 +30,9 @@ same_option None (Some y) = inr (λ e. none-some y e)
 same_option (Some x) None = inr (λ e. none-some x (sym e))
 same_option (Some x) (Some y) = ⊎_elim (λ e. inl (ap Some e)) (λ ne. inr (λ e. ne (same_Some x y e))) (cases_eq x y)
 
-module _ (a : ℕ) (e : Entry) where
+module _ (a : ℕ) (e : Place) where
   abbrev at_entry : State → Option ℕ
-  at_entry s = child s.nodes e.dir e.name
+  at_entry s = child s.nodes e.parent e.name
 
   abbrev Alone : State → List Event → Type 0
   Alone s window = (t : ℕ) (event : Event) → slice_get window t ≡ Some event → event.actor ≢ a → at_entry (tree_at s window (suc t)) ≡ at_entry (tree_at s window t)
@@ -62,13 +64,13 @@ module _ (a : ℕ) (e : Entry) where
       on (inl further) = first further (event.actor == a) refl
       on (inr c) = inr (record { when = suc c.when; event = c.event; is_event = c.is_event; by_other = c.by_other; changed = c.changed })
 
-alone_or_changed : (w : WalkInHistory) (e : Entry) → IsLeftAlone w e ⊎ IsChanged w e
+alone_or_changed : (w : WalkInHistory) (e : Place) → IsLeftAlone w e ⊎ IsChanged w e
 alone_or_changed w e =
     ⊎_elim (λ alone. inl (record { same = alone }))
     (λ c. inr (record { when = c.when; event = c.event; is_event = c.is_event; by_other = c.by_other; changed = c.changed }))
     (decided w.actor e w.window (begin_of w))
 
-all_alone_or_changed : (w : WalkInHistory) (entries : List Entry) → AllLeftAlone w entries ⊎ SomeIsChanged w entries
+all_alone_or_changed : (w : WalkInHistory) (entries : List Place) → AllLeftAlone w entries ⊎ SomeIsChanged w entries
 all_alone_or_changed w [] = inl tt
 all_alone_or_changed w (e ∷ entries) =
     ⊎_elim
@@ -78,11 +80,11 @@ all_alone_or_changed w (e ∷ entries) =
 
 -- ---- Raced is no meaning
 
-raced_is_not : (m : Meant) → ((error : Errno) (reads : List Entry) → m ≡ fails error reads → error ≢ Raced) → IsMeant m (failed Raced) → ⊥
+raced_is_not : (m : Meant) → ((error : Errno) (reads : List Place) → m ≡ fails error reads → error ≢ Raced) → IsMeant m (failed Raced) → ⊥
 raced_is_not (object x b reads) other h = h
 raced_is_not (fails error reads) other h = other error reads refl (sym h)
 
-raced_is_not_deep : (k : Deep) → ((error : Errno) (reads : List Entry) → meant_by k ≡ fails error reads → error ≢ Raced) → IsMeantDeep k (failed Raced) → ⊥
+raced_is_not_deep : (k : Deep) → ((error : Errno) (reads : List Place) → meant_by k ≡ fails error reads → error ≢ Raced) → IsMeantDeep k (failed Raced) → ⊥
 raced_is_not_deep (whole x b reads) other h = h
 raced_is_not_deep (up_to x b rest reads) other h = h
 raced_is_not_deep (none error reads) other h = other error reads refl (sym h)
@@ -91,10 +93,10 @@ module _ (w : WalkInHistory) where
   abbrev meaning : Meant
   meaning = reading_means (ground w) w.path (follows w.way.goal)
 
-  never_raced : (error : Errno) (reads : List Entry) → meaning ≡ fails error reads → error ≢ Raced
-  never_raced error reads e q = on (w.way.flags.beneath && w.path.absolute) refl
+  never_raced : (error : Errno) (reads : List Place) → meaning ≡ fails error reads → error ≢ Raced
+  never_raced error reads e q = on (leads_out w.path.absolute w.way.flags) refl
     where
-      on : (t : Bool) → (w.way.flags.beneath && w.path.absolute) ≡ t → ⊥
+      on : (t : Bool) → leads_out w.path.absolute w.way.flags ≡ t → ⊥
       on true t =
           let crossed : fails CrossRoot [] ≡ fails error reads =
           sym (ap (λ t. cond t (fails CrossRoot []) (path_means (ground w) (parts_of_walk w))) t) ∙ e in
@@ -109,7 +111,7 @@ module _ (w : WalkInHistory) where
   -- the deepest has the same meaning
   same_meaning : is_deepest w.way.goal ≡ true → meant_by (reading_deepest (ground w) w.path) ≡ meaning
   same_meaning deep =
-      on (w.way.flags.beneath && w.path.absolute)
+      on (leads_out w.path.absolute w.way.flags)
       ∙ ap (λ follow. reading_means (ground w) w.path follow) (sym (follows_deepest w.way.goal deep))
     where
       on : (t : Bool) → meant_by (cond t (none CrossRoot []) (path_deepest (ground w) (asked true w.path.parts)))

@@ -12,10 +12,13 @@ use Rattle.tree_model.specs.declared.inode.Inode.{Inode}
 use Rattle.tree_model.specs.declared.inode.Object.{Object}
 use Rattle.tree_model.specs.declared.inode.Object.TheVariants.{Dir, File, Link}
 use Rattle.tree_model.specs.State.{TOP, object_at, place_at, child, parent, is_dir, is_directory, Stands}
+use Rattle.tree_model.specs.declared.inode.Place.{Place}
+use Rattle.tree_model.proofs.Children.{entry, place_at-child}
+use Rattle.walk_plan.specs.Plan.{leads_out}
 use Rattle.step_resolver.specs.Asked.{AskedPart, Cur, Up, Named, followed}
-use Rattle.step_resolver.specs.Meaning.{Ground, Entry, Meant, object, fails, Deeper, after_reads, and_then, link_in, child_is, named, above, one_part, part_means, parts_mean, is_too_long, crosses, from_of, reads_of}
+use Rattle.step_resolver.specs.Meaning.{Ground, Meant, object, fails, Deeper, after_reads, and_then, link_in, child_is, named, above, one_part, part_means, parts_mean, is_too_long, from_of, reads_of}
 use Rattle.step_resolver.specs.Trail.{Timeline, Spot, Trail, all, before, stay, top, climb, down, through, into, IsChildAt, IsLinkAt, is_entered}
-use Rattle.step_resolver.proofs.Meaning.NodesAtEntries.{entry, place_at-child, object_at-place}
+use Rattle.step_resolver.proofs.Meaning.NodesAtEntries.{object_at-place}
 use Rattle.step_resolver.proofs.Meaning.PartsAndLinks.{deeper_at, means_by}
 
 -- Where a meaning is compared with what is passed: a timeline, the nodes in which the path means something, and which entries
@@ -23,12 +26,12 @@ use Rattle.step_resolver.proofs.Meaning.PartsAndLinks.{deeper_at, means_by}
 pub record Setting : Type 1 where
   pub timeline : Timeline
   pub nodes : List Inode
-  pub IsAlone : Entry → Type 0
+  pub IsAlone : Place → Type 0
 
 abbrev pub ground_in : Setting → Ground
 ground_in w = record { nodes = w.nodes; root = w.timeline.root; flags = w.timeline.flags }
 
-abbrev pub AllAlone : Setting → List Entry → Type 0
+abbrev pub AllAlone : Setting → List Place → Type 0
 AllAlone w [] = Unit {0}
 AllAlone w (entry ∷ entries) = w.IsAlone entry × AllAlone w entries
 
@@ -37,7 +40,7 @@ pub record Fits (w : Setting) : Type 0 where
   pub objects : (x : ℕ) (object : Object) → object_at w.nodes x ≡ Some object → w.timeline.object_of x ≡ Some object
   pub first : w.timeline.nodes_at 0 ≡ w.nodes
   pub top_free : (t : ℕ) → place_at (w.timeline.nodes_at t) TOP ≡ None
-  pub steady : (e : Entry) → w.IsAlone e → (t : ℕ) → child (w.timeline.nodes_at t) e.dir e.name ≡ child w.nodes e.dir e.name
+  pub steady : (e : Place) → w.IsAlone e → (t : ℕ) → child (w.timeline.nodes_at t) e.parent e.name ≡ child w.nodes e.parent e.name
   pub no_root_below : (d : ℕ) (names : List (List ℕ)) (n : List ℕ) → Stands (w.timeline.nodes_at 0) w.timeline.root d names → child w.nodes d n ≡ Some w.timeline.root → ⊥
   pub root_dir : is_dir w.nodes w.timeline.root ≡ true
 
@@ -45,19 +48,19 @@ pub record Fits (w : Setting) : Type 0 where
 abbrev pub IsWay : Setting → ℕ → List (List ℕ) → Type 0
 IsWay w x [] = x ≡ w.timeline.root
 IsWay w x (n ∷ names) = (x ≢ w.timeline.root) × ((d : ℕ) × ((child w.nodes d n ≡ Some x)
-    × (w.IsAlone (record { dir = d; name = n }) × IsWay w d names)))
+    × (w.IsAlone (record { parent = d; name = n }) × IsWay w d names)))
 
 -- ---- entries of which all are left alone
 
-alone_first : (w : Setting) (xs ys : List Entry) → AllAlone w (xs ++ ys) → AllAlone w xs
+pub alone_first : (w : Setting) (xs ys : List Place) → AllAlone w (xs ++ ys) → AllAlone w xs
 alone_first w [] ys a = tt
 alone_first w (x ∷ xs) ys a = (a.0, alone_first w xs ys a.1)
 
-alone_second : (w : Setting) (xs ys : List Entry) → AllAlone w (xs ++ ys) → AllAlone w ys
+pub alone_second : (w : Setting) (xs ys : List Place) → AllAlone w (xs ++ ys) → AllAlone w ys
 alone_second w [] ys a = a
 alone_second w (x ∷ xs) ys a = alone_second w xs ys a.1
 
-alone_after : (w : Setting) (xs : List Entry) (m : Meant) → AllAlone w (reads_of (after_reads xs m)) → AllAlone w (xs ++ reads_of m)
+alone_after : (w : Setting) (xs : List Place) (m : Meant) → AllAlone w (reads_of (after_reads xs m)) → AllAlone w (xs ++ reads_of m)
 alone_after w xs (object d b reads) a = a
 alone_after w xs (fails error reads) a = a
 
@@ -66,20 +69,20 @@ pub alone_of : (w : Setting) (m : Meant) (onward : ℕ → ℕ → Meant) → Al
 alone_of w (object d b reads) onward a = alone_first w reads (reads_of (onward d b)) (alone_after w reads (onward d b) a)
 alone_of w (fails error reads) onward a = a
 
-pub alone_here : (w : Setting) (x : Entry) (m : Meant) → AllAlone w (reads_of (after_reads (x ∷ []) m)) → w.IsAlone x × AllAlone w (reads_of m)
+pub alone_here : (w : Setting) (x : Place) (m : Meant) → AllAlone w (reads_of (after_reads (x ∷ []) m)) → w.IsAlone x × AllAlone w (reads_of m)
 alone_here w x (object d b reads) a = (a.0, a.1)
 alone_here w x (fails error reads) a = (a.0, a.1)
 
 -- What a stop says of a meaning: where the next part fails, so does the whole.
 pub record Stopped (w : Setting) (m : Meant) (z : Spot) (p : AskedPart) : Type 0 where
   pub deeper : Deeper
-  pub reads : List Entry
+  pub reads : List Place
   pub alone : AllAlone w (reads_of (part_means deeper (ground_in w) z.node p z.links))
-  pub failing : (error : Errno) (more : List Entry) → part_means deeper (ground_in w) z.node p z.links ≡ fails error more → m ≡ fails error (reads ++ more)
+  pub failing : (error : Errno) (more : List Place) → part_means deeper (ground_in w) z.node p z.links ≡ fails error more → m ≡ fails error (reads ++ more)
 
 -- what a trail or a stop says of a meaning
 abbrev pub Says : Setting → Meant → Spot → Option AskedPart → Type 0
-Says w m z None = (reads : List Entry) × (m ≡ object z.node z.links reads)
+Says w m z None = (reads : List Place) × (m ≡ object z.node z.links reads)
 Says w m z (Some p) = Stopped w m z p
 
 pub record Followed (w : Setting) (m : Meant) (s z : Spot) (next : Option AskedPart) : Type 0 where
@@ -87,7 +90,7 @@ pub record Followed (w : Setting) (m : Meant) (s z : Spot) (next : Option AskedP
   pub fewer : z.links ≤ s.links
   pub says : Says w m z next
 
-says_after : (w : Setting) (reads : List Entry) (m : Meant) (z : Spot) (next : Option AskedPart) → Says w m z next → Says w (after_reads reads m) z next
+says_after : (w : Setting) (reads : List Place) (m : Meant) (z : Spot) (next : Option AskedPart) → Says w m z next → Says w (after_reads reads m) z next
 says_after w reads m z None says = (reads ++ says.0, ap (after_reads reads) says.1)
 says_after w reads m z (Some p) says = record {
   deeper = says.deeper;
@@ -126,7 +129,7 @@ module _ {w : Setting} (fits : Fits w) where
     (
       way.1.0,
       (
-        place_at-child (w.timeline.nodes_at t) way.1.0 n x (fits.steady (record { dir = way.1.0; name = n }) way.1.1.1.0 t ∙ way.1.1.0),
+        place_at-child (w.timeline.nodes_at t) way.1.0 n x (fits.steady (record { parent = way.1.0; name = n }) way.1.1.1.0 t ∙ way.1.1.0),
         stands_on t way.1.0 names way.1.1.1.1,
       ),
     ),
@@ -138,14 +141,14 @@ module _ {w : Setting} (fits : Fits w) where
       ∙ ap (option_map (λ place. place.parent)) placed
     where
       placed : place_at (w.timeline.nodes_at t) x ≡ Some (entry way.1.0 n)
-      placed = place_at-child (w.timeline.nodes_at t) way.1.0 n x (fits.steady (record { dir = way.1.0; name = n }) way.1.1.1.0 t ∙ way.1.1.0)
+      placed = place_at-child (w.timeline.nodes_at t) way.1.0 n x (fits.steady (record { parent = way.1.0; name = n }) way.1.1.1.0 t ∙ way.1.1.0)
 
       not_the_top : (x == TOP) ≡ false
       not_the_top = false_from_ne_true (x == TOP)
           (λ e. none-some (entry way.1.0 n) (sym (fits.top_free t) ∙ ap (place_at (w.timeline.nodes_at t)) (sym (eqb-true x TOP e)) ∙ placed))
 
   -- a child that is entered is on the way
-  pub down_way : (d c : ℕ) (n : List ℕ) (names : List (List ℕ)) → IsWay w d names → w.IsAlone (record { dir = d; name = n })
+  pub down_way : (d c : ℕ) (n : List ℕ) (names : List (List ℕ)) → IsWay w d names → w.IsAlone (record { parent = d; name = n })
       → child w.nodes d n ≡ Some c → IsWay w c (n ∷ names)
   down_way d c n names way alone e =
       ((λ q. fits.no_root_below d names n (stands_on 0 d names way) (e ∙ ap Some q)), (d, (e, (alone, way))))
@@ -161,9 +164,9 @@ module _ {w : Setting} (fits : Fits w) where
   -- a short name reads its entry
   pub name_in : (deeper : Deeper) (d : ℕ) (follow : Bool) (n : List ℕ) (b : ℕ) → is_dir w.nodes d ≡ true → is_too_long n ≡ false
       → part_means deeper G d (Named follow n) b
-      ≡ after_reads (record { dir = d; name = n } ∷ []) (named deeper G d follow b (child w.nodes d n))
+      ≡ after_reads (record { parent = d; name = n } ∷ []) (named deeper G d follow b (child w.nodes d n))
   name_in deeper d follow n b e short = part_in deeper d (Named follow n) b e
-      ∙ ap (λ x. if x then fails TooLong [] else after_reads (record { dir = d; name = n } ∷ []) (named deeper G d follow b (child w.nodes d n))) short
+      ∙ ap (λ x. if x then fails TooLong [] else after_reads (record { parent = d; name = n } ∷ []) (named deeper G d follow b (child w.nodes d n))) short
 
   pub up_in : (deeper : Deeper) (x : ℕ) (n : List ℕ) (names : List (List ℕ)) (b : ℕ) → is_dir w.nodes x ≡ true → (way : IsWay w x (n ∷ names))
       → part_means deeper G x Up b ≡ object way.1.0 b []
@@ -185,7 +188,7 @@ module _ {w : Setting} (fits : Fits w) where
   entered_is deeper d false b c o e = refl
 
   -- one part that is passed, and then the others
-  passing : (n : ℕ) (s : Spot) (p : AskedPart) (ps : List AskedPart) (e c : ℕ) (reads : List Entry) (z : Spot) (next : Option AskedPart)
+  passing : (n : ℕ) (s : Spot) (p : AskedPart) (ps : List AskedPart) (e c : ℕ) (reads : List Place) (z : Spot) (next : Option AskedPart)
       → part_means (deeper_at n G) G s.node p s.links ≡ object e c reads → AllAlone w (reads_of (parts_mean (deeper_at n G) G s.node (p ∷ ps) s.links))
       → (m : ℕ) (names : List (List ℕ)) → c ≤ s.links
       → (AllAlone w (reads_of (parts_mean (deeper_at n G) G e ps c))
@@ -206,32 +209,32 @@ module _ {w : Setting} (fits : Fits w) where
 
   -- a name that is read: its entry is left alone, and what is found there at any moment is what the meaning finds
   record IsRead (n : ℕ) (s : Spot) (follow : Bool) (name : List ℕ) (c : ℕ) : Type 0 where
-    pub alone : w.IsAlone (record { dir = s.node; name = name })
+    pub alone : w.IsAlone (record { parent = s.node; name = name })
     pub way : IsWay w c (name ∷ s.names)
     pub part : part_means (deeper_at n G) G s.node (Named follow name) s.links
-        ≡ after_reads (record { dir = s.node; name = name } ∷ []) (child_is (deeper_at n G) G s.node follow s.links c (w.timeline.object_of c))
+        ≡ after_reads (record { parent = s.node; name = name } ∷ []) (child_is (deeper_at n G) G s.node follow s.links c (w.timeline.object_of c))
 
   read_name : (n : ℕ) (s : Spot) (follow : Bool) (name : List ℕ) (ps : List AskedPart) (t c : ℕ) → IsChildAt w.timeline s name t c → IsWay w s.node s.names
       → AllAlone w (reads_of (parts_mean (deeper_at n G) G s.node (Named follow name ∷ ps) s.links)) → IsRead n s follow name c
   read_name n s follow name ps t c is way alone = record {
     alone = here.0;
     way = way_c;
-    part = read ∙ ap (λ o. after_reads (record { dir = s.node; name = name } ∷ []) (named (deeper_at n G) G s.node follow s.links o)) found_first
-        ∙ ap (λ o. after_reads (record { dir = s.node; name = name } ∷ []) (child_is (deeper_at n G) G s.node follow s.links c o)) (same_object c (name ∷ s.names) way_c);
+    part = read ∙ ap (λ o. after_reads (record { parent = s.node; name = name } ∷ []) (named (deeper_at n G) G s.node follow s.links o)) found_first
+        ∙ ap (λ o. after_reads (record { parent = s.node; name = name } ∷ []) (child_is (deeper_at n G) G s.node follow s.links c o)) (same_object c (name ∷ s.names) way_c);
   }
     where
       read : part_means (deeper_at n G) G s.node (Named follow name) s.links
-          ≡ after_reads (record { dir = s.node; name = name } ∷ []) (named (deeper_at n G) G s.node follow s.links (child w.nodes s.node name))
+          ≡ after_reads (record { parent = s.node; name = name } ∷ []) (named (deeper_at n G) G s.node follow s.links (child w.nodes s.node name))
       read = name_in (deeper_at n G) s.node follow name s.links (same_dir s.node s.names way is.dir) is.short
 
-      here : w.IsAlone (record { dir = s.node; name = name })
+      here : w.IsAlone (record { parent = s.node; name = name })
           × AllAlone w (reads_of (named (deeper_at n G) G s.node follow s.links (child w.nodes s.node name)))
-      here = alone_here w (record { dir = s.node; name = name }) (named (deeper_at n G) G s.node follow s.links (child w.nodes s.node name))
+      here = alone_here w (record { parent = s.node; name = name }) (named (deeper_at n G) G s.node follow s.links (child w.nodes s.node name))
           (subst (λ m. AllAlone w (reads_of m)) read
           (alone_of w (part_means (deeper_at n G) G s.node (Named follow name) s.links) (λ e k. parts_mean (deeper_at n G) G e ps k) alone))
 
       found_first : child w.nodes s.node name ≡ Some c
-      found_first = sym (fits.steady (record { dir = s.node; name = name }) here.0 t) ∙ is.child
+      found_first = sym (fits.steady (record { parent = s.node; name = name }) here.0 t) ∙ is.child
 
       way_c : IsWay w c (name ∷ s.names)
       way_c = down_way s.node c name s.names way here.0 found_first
@@ -241,13 +244,13 @@ module _ {w : Setting} (fits : Fits w) where
     pub fuel : ℕ
     pub enough : b ≤ fuel
     pub part : part_means (deeper_at n G) G s.node (Named true name) s.links
-        ≡ after_reads (record { dir = s.node; name = name } ∷ []) (parts_mean (deeper_at fuel G) G (from_of w.timeline.root s.node text) (followed (parts_of text)) b)
+        ≡ after_reads (record { parent = s.node; name = name } ∷ []) (parts_mean (deeper_at fuel G) G (from_of w.timeline.root s.node text) (followed (parts_of text)) b)
     pub alone : AllAlone w (reads_of (parts_mean (deeper_at fuel G) G (from_of w.timeline.root s.node text) (followed (parts_of text)) b))
 
-  link_is : (deeper : Deeper) (d b : ℕ) (text : List ℕ) → w.timeline.flags.no_links ≡ false → crosses w.timeline.flags text ≡ false
+  link_is : (deeper : Deeper) (d b : ℕ) (text : List ℕ) → w.timeline.flags.no_links ≡ false → leads_out (begins_with_slash text) w.timeline.flags ≡ false
       → link_in deeper G d text (suc b) ≡ deeper (from_of w.timeline.root d text) (followed (parts_of text)) b
   link_is deeper d b text allowed within =
-      ap (λ x. if x then fails Loop [] else (if crosses w.timeline.flags text then fails CrossRoot [] else deeper (from_of w.timeline.root d text) (followed (parts_of text)) b)) allowed
+      ap (λ x. if x then fails Loop [] else (if leads_out (begins_with_slash text) w.timeline.flags then fails CrossRoot [] else deeper (from_of w.timeline.root d text) (followed (parts_of text)) b)) allowed
       ∙ ap (λ x. if x then fails CrossRoot [] else deeper (from_of w.timeline.root d text) (followed (parts_of text)) b) within
 
   read_link : (n : ℕ) (s : Spot) (name : List ℕ) (ps : List AskedPart) (t b : ℕ) (text : List ℕ) → s.links ≤ n → IsLinkAt w.timeline s name t text b → IsWay w s.node s.names
@@ -257,17 +260,17 @@ module _ {w : Setting} (fits : Fits w) where
     fuel = n;
     enough = le_of_suc-le-suc (subst (λ k. k ≤ suc n) is.links le);
     part = part_is;
-    alone = (alone_here w (record { dir = s.node; name = name }) (parts_mean (deeper_at n G) G (from_of w.timeline.root s.node text) (followed (parts_of text)) b)
+    alone = (alone_here w (record { parent = s.node; name = name }) (parts_mean (deeper_at n G) G (from_of w.timeline.root s.node text) (followed (parts_of text)) b)
         (subst (λ m. AllAlone w (reads_of m)) part_is
         (alone_of w (part_means (deeper_at (suc n) G) G s.node (Named true name) s.links) (λ e k. parts_mean (deeper_at (suc n) G) G e ps k) alone))).1;
   }
     where
       part_is : part_means (deeper_at (suc n) G) G s.node (Named true name) s.links
-          ≡ after_reads (record { dir = s.node; name = name } ∷ []) (parts_mean (deeper_at n G) G (from_of w.timeline.root s.node text) (followed (parts_of text)) b)
+          ≡ after_reads (record { parent = s.node; name = name } ∷ []) (parts_mean (deeper_at n G) G (from_of w.timeline.root s.node text) (followed (parts_of text)) b)
       part_is = (read_name (suc n) s true name ps t is.link is.child way alone).part
-          ∙ ap (λ o. after_reads (record { dir = s.node; name = name } ∷ []) (child_is (deeper_at (suc n) G) G s.node true s.links is.link o)) is.is_link
-          ∙ ap (λ k. after_reads (record { dir = s.node; name = name } ∷ []) (link_in (deeper_at (suc n) G) G s.node text k)) is.links
-          ∙ ap (after_reads (record { dir = s.node; name = name } ∷ []))
+          ∙ ap (λ o. after_reads (record { parent = s.node; name = name } ∷ []) (child_is (deeper_at (suc n) G) G s.node true s.links is.link o)) is.is_link
+          ∙ ap (λ k. after_reads (record { parent = s.node; name = name } ∷ []) (link_in (deeper_at (suc n) G) G s.node text k)) is.links
+          ∙ ap (after_reads (record { parent = s.node; name = name } ∷ []))
           (link_is (deeper_at (suc n) G) s.node b text is.allowed is.within ∙ means_by n G (from_of w.timeline.root s.node text) (followed (parts_of text)) b)
 
   way_from : (x : Bool) (d : ℕ) (names : List (List ℕ)) → IsWay w d names → IsWay w (if x then w.timeline.root else d) (if x then [] else names)
@@ -314,14 +317,14 @@ module _ {w : Setting} (fits : Fits w) where
       alone (suc u) names (le_refl s.links) (λ a. follow n rest le (subst (λ x. IsWay w x names) same up.1.1.1.1) a)
   follow n {s = s} {z = z} {next = next} (down {follow = f} {n = name} {ps = ps} t c is entered rest) le way alone =
       let read = read_name n s f name ps t c is way alone in
-      passing n s (Named f name) ps c s.links (record { dir = s.node; name = name } ∷ []) z next
-      (read.part ∙ ap (after_reads (record { dir = s.node; name = name } ∷ [])) (entered_is (deeper_at n G) s.node f s.links c (w.timeline.object_of c) entered))
+      passing n s (Named f name) ps c s.links (record { parent = s.node; name = name } ∷ []) z next
+      (read.part ∙ ap (after_reads (record { parent = s.node; name = name } ∷ [])) (entered_is (deeper_at n G) s.node f s.links c (w.timeline.object_of c) entered))
       alone (suc t) (name ∷ s.names) (le_refl s.links) (λ a. follow n rest le read.way a)
   follow n {s = s} {z = z} {next = next} (through {n = name} {ps = ps} t text b mid is sub rest) le way alone =
       let link = read_link n s name ps t b text le is way alone in
       let inside = follow link.fuel sub link.enough (way_from (begins_with_slash text) s.node s.names way) link.alone in
-      passing n s (Named true name) ps mid.node mid.links (record { dir = s.node; name = name } ∷ inside.says.0) z next
-      (link.part ∙ ap (after_reads (record { dir = s.node; name = name } ∷ [])) inside.says.1)
+      passing n s (Named true name) ps mid.node mid.links (record { parent = s.node; name = name } ∷ inside.says.0) z next
+      (link.part ∙ ap (after_reads (record { parent = s.node; name = name } ∷ [])) inside.says.1)
       alone mid.moment mid.names (fewer_than is inside.fewer) (λ a. follow n rest (le_trans (fewer_than is inside.fewer) le) inside.way a)
   follow n {s = s} {z = z} (into {n = name} {p = p} {ps = ps} t text b is sub) le way alone =
       let link = read_link n s name ps t b text le is way alone in
@@ -331,5 +334,5 @@ module _ {w : Setting} (fits : Fits w) where
         fewer = fewer_than is inside.fewer;
         says = stopped_onward (part_means (deeper_at n G) G s.node (Named true name) s.links) z p (λ e k. parts_mean (deeper_at n G) G e ps k)
             (subst (λ m. Stopped w m z p) (sym link.part)
-            (says_after w (record { dir = s.node; name = name } ∷ []) (parts_mean (deeper_at link.fuel G) G (from_of w.timeline.root s.node text) (followed (parts_of text)) b) z (Some p) inside.says));
+            (says_after w (record { parent = s.node; name = name } ∷ []) (parts_mean (deeper_at link.fuel G) G (from_of w.timeline.root s.node text) (followed (parts_of text)) b) z (Some p) inside.says));
       }

@@ -2,7 +2,7 @@
 use Rattle.std.proofs.Common.{◌≡◌, ℕ, zero, suc, List, [], ◌∷◌, length, slice_get, Option, Some, None, refl, sym, ap, subst, ◌∙◌, eq-eqb, le_refl}
 use Rattle.tree_model.specs.declared.answer.Event.{Event}
 use Rattle.tree_model.specs.State.{child, Stands}
-use Rattle.step_resolver.specs.Meaning.{Entry}
+use Rattle.tree_model.specs.declared.inode.Place.{Place}
 use Rattle.step_resolver.specs.Order.{Turn, more, found, partial, failed, begins, LeadsTo}
 use Rattle.step_resolver.specs.WalkHistory.{WalkInHistory, begin_of, state_at, own_events, IsWalkInHistory}
 use Rattle.step_resolver.specs.Footprint.{AllLeftAlone}
@@ -54,7 +54,7 @@ every_walk w end is leads =
     record { tells = walks_tell w end is leads; means = means.0; deepest = means.1 }
 
 -- where no other acts, each entry is left alone
-quiet_alone : (w : WalkInHistory) → IsQuiet w → (entries : List Entry) → AllLeftAlone w entries
+quiet_alone : (w : WalkInHistory) → IsQuiet w → (entries : List Place) → AllLeftAlone w entries
 quiet_alone w quiet [] = tt
 quiet_alone w quiet (e ∷ entries) = (record { same = λ t event q ne. absurd (ne (quiet t event q)) }, quiet_alone w quiet entries)
 

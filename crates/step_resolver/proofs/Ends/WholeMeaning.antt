@@ -1,5 +1,5 @@
 -- Where no other changes an entry that the path reads, the end is what the path means in the tree as the window begins.
-use Rattle.std.specs.Prelude.{◌≡◌, ℕ, zero, suc, ◌&&◌, ◌⊎◌, List, [], ◌∷◌, Bool, true, false, if◌then◌else◌, Option, Some, None, refl}
+use Rattle.std.specs.Prelude.{◌≡◌, ℕ, zero, suc, ◌⊎◌, List, [], ◌∷◌, Bool, true, false, if◌then◌else◌, Option, Some, None, refl}
 use Rattle.std.proofs.Common.{sym, ap, subst, ◌∙◌, le_refl, inl, inr}
 use Rattle.std.proofs.lemmas.Bool.{false≢true, and_from}
 use Rattle.std.proofs.lemmas.Option.{none-some, same_Some}
@@ -8,8 +8,10 @@ use Rattle.path_text.specs.declared.errno.Errno.TheVariants.{NotFound, BadHandle
 use Rattle.path_text.specs.Text.{parts_of, begins_with_slash}
 use Rattle.tree_model.specs.declared.inode.Object.{Object}
 use Rattle.tree_model.specs.State.{child, parent, is_dir, is_directory, Stands}
+use Rattle.tree_model.specs.declared.inode.Place.{Place}
+use Rattle.walk_plan.specs.Plan.{leads_out}
 use Rattle.step_resolver.specs.Asked.{AskedPart, Up, Named, followed, follows, is_deepest}
-use Rattle.step_resolver.specs.Meaning.{Entry, Meant, object, fails, Deeper, after_reads, link_in, child_is, named, one_part, part_means, LINKS_MAX, path_means, reading_means, is_too_long, crosses, from_of, reads_of}
+use Rattle.step_resolver.specs.Meaning.{Meant, object, fails, Deeper, after_reads, link_in, child_is, named, one_part, part_means, LINKS_MAX, path_means, reading_means, is_too_long, from_of, reads_of}
 use Rattle.step_resolver.specs.Trail.{Spot, Trail, IsOwnFrom}
 use Rattle.step_resolver.specs.Order.{Turn, more, found, partial, failed, root_itself, todo, begins, goes_on, Line, LeadsTo}
 use Rattle.step_resolver.specs.WalkHistory.{WalkInHistory, begin_of, timeline, parts_of_walk, start}
@@ -22,7 +24,7 @@ use Rattle.step_resolver.proofs.Ends.TrailsAndMeaning.{Setting, AllAlone, Fits, 
 abbrev pub setting : WalkInHistory → Setting
 setting w = record { timeline = timeline w; nodes = (begin_of w).nodes; IsAlone = IsLeftAlone w }
 
-pub all_alone : (w : WalkInHistory) (entries : List Entry) → AllLeftAlone w entries → AllAlone (setting w) entries
+pub all_alone : (w : WalkInHistory) (entries : List Place) → AllLeftAlone w entries → AllAlone (setting w) entries
 all_alone w [] alone = tt
 all_alone w (entry ∷ entries) alone = (alone.0, all_alone w entries alone.1)
 
@@ -32,20 +34,20 @@ module _ {w : WalkInHistory} (fits : Fits (setting w)) where
   module _ (deeper : Deeper) (z : Spot) (way : IsWay (setting w) z.node z.names) where
     -- the entry of a short name of a directory is left alone where all that the part reads is
     pub name_alone : (follow : Bool) (name : List ℕ) → is_directory ((timeline w).object_of z.node) ≡ true → is_too_long name ≡ false
-        → AllAlone (setting w) (reads_of (part_means deeper (ground w) z.node (Named follow name) z.links)) → IsLeftAlone w (record { dir = z.node; name = name })
+        → AllAlone (setting w) (reads_of (part_means deeper (ground w) z.node (Named follow name) z.links)) → IsLeftAlone w (record { parent = z.node; name = name })
     name_alone follow name dir short alone =
-        (alone_here (setting w) (record { dir = z.node; name = name }) (named deeper (ground w) z.node follow z.links (child (begin_of w).nodes z.node name))
+        (alone_here (setting w) (record { parent = z.node; name = name }) (named deeper (ground w) z.node follow z.links (child (begin_of w).nodes z.node name))
         (subst (λ m. AllAlone (setting w) (reads_of m))
         (name_in fits deeper z.node follow name z.links (same_dir fits z.node z.names way dir) short) alone)).0
 
     -- a missing name
     pub missing_fails : (follow : Bool) (name : List ℕ) (t : ℕ) → is_too_long name ≡ false → IsMissingAt w z name t
         → AllAlone (setting w) (reads_of (part_means deeper (ground w) z.node (Named follow name) z.links))
-        → part_means deeper (ground w) z.node (Named follow name) z.links ≡ fails NotFound (record { dir = z.node; name = name } ∷ [])
+        → part_means deeper (ground w) z.node (Named follow name) z.links ≡ fails NotFound (record { parent = z.node; name = name } ∷ [])
     missing_fails follow name t short is alone =
         name_in fits deeper z.node follow name z.links (same_dir fits z.node z.names way is.dir) short
-        ∙ ap (λ o. after_reads (record { dir = z.node; name = name } ∷ []) (named deeper (ground w) z.node follow z.links o))
-        (sym (fits.steady (record { dir = z.node; name = name }) (name_alone follow name is.dir short alone) t) ∙ is.missing)
+        ∙ ap (λ o. after_reads (record { parent = z.node; name = name } ∷ []) (named deeper (ground w) z.node follow z.links o))
+        (sym (fits.steady (record { parent = z.node; name = name }) (name_alone follow name is.dir short alone) t) ∙ is.missing)
 
     -- what is no directory
     pub no_dir_fails : (p : AskedPart) (what : Object) → (timeline w).object_of z.node ≡ Some what → is_directory (Some what) ≡ false
@@ -58,35 +60,35 @@ module _ {w : WalkInHistory} (fits : Fits (setting w)) where
         → part_means deeper (ground w) z.node (Named follow name) z.links ≡ fails TooLong []
     long_fails follow name dir long =
         part_in fits deeper z.node (Named follow name) z.links (same_dir fits z.node z.names way dir)
-        ∙ ap (λ x. if x then fails TooLong [] else after_reads (record { dir = z.node; name = name } ∷ [])
+        ∙ ap (λ x. if x then fails TooLong [] else after_reads (record { parent = z.node; name = name } ∷ [])
         (named deeper (ground w) z.node follow z.links (child (begin_of w).nodes z.node name))) long
 
     -- a link to be followed
     pub link_reads : (name text : List ℕ) (t : ℕ) → IsLinkThere w z name text t
         → AllAlone (setting w) (reads_of (part_means deeper (ground w) z.node (Named true name) z.links))
         → part_means deeper (ground w) z.node (Named true name) z.links
-        ≡ after_reads (record { dir = z.node; name = name } ∷ []) (link_in deeper (ground w) z.node text z.links)
+        ≡ after_reads (record { parent = z.node; name = name } ∷ []) (link_in deeper (ground w) z.node text z.links)
     link_reads name text t is alone =
         let al = name_alone true name is.dir is.short alone in
-        let there = sym (fits.steady (record { dir = z.node; name = name }) al t) ∙ is.child in
+        let there = sym (fits.steady (record { parent = z.node; name = name }) al t) ∙ is.child in
         let way_l = down_way fits z.node is.link name z.names way al there in
         name_in fits deeper z.node true name z.links (same_dir fits z.node z.names way is.dir) is.short
-        ∙ ap (λ o. after_reads (record { dir = z.node; name = name } ∷ []) (named deeper (ground w) z.node true z.links o)) there
-        ∙ ap (λ o. after_reads (record { dir = z.node; name = name } ∷ []) (child_is deeper (ground w) z.node true z.links is.link o))
+        ∙ ap (λ o. after_reads (record { parent = z.node; name = name } ∷ []) (named deeper (ground w) z.node true z.links o)) there
+        ∙ ap (λ o. after_reads (record { parent = z.node; name = name } ∷ []) (child_is deeper (ground w) z.node true z.links is.link o))
         (same_object fits is.link (name ∷ z.names) way_l ∙ is.is_link)
 
     pub loops : (b : ℕ) (text : List ℕ) → (b ≡ 0) ⊎ (w.way.flags.no_links ≡ true) → link_in deeper (ground w) z.node text b ≡ fails Loop []
     loops zero text why = refl
     loops (suc b) text (inl e) = cc (e)
     loops (suc b) text (inr e) =
-        ap (λ x. if x then fails Loop [] else (if crosses w.way.flags text then fails CrossRoot [] else deeper (from_of w.root z.node text) (followed (parts_of text)) b)) e
+        ap (λ x. if x then fails Loop [] else (if leads_out (begins_with_slash text) w.way.flags then fails CrossRoot [] else deeper (from_of w.root z.node text) (followed (parts_of text)) b)) e
 
     -- an absolute one, under `beneath`
-    pub crossing : (b left : ℕ) (text : List ℕ) → b ≡ suc left → w.way.flags.no_links ≡ false → crosses w.way.flags text ≡ true
+    pub crossing : (b left : ℕ) (text : List ℕ) → b ≡ suc left → w.way.flags.no_links ≡ false → leads_out (begins_with_slash text) w.way.flags ≡ true
         → link_in deeper (ground w) z.node text b ≡ fails CrossRoot []
     crossing zero left text e allowed crosses_it = cc (e)
     crossing (suc b) left text e allowed crosses_it =
-        ap (λ x. if x then fails Loop [] else (if crosses w.way.flags text then fails CrossRoot [] else deeper (from_of w.root z.node text) (followed (parts_of text)) b)) allowed
+        ap (λ x. if x then fails Loop [] else (if leads_out (begins_with_slash text) w.way.flags then fails CrossRoot [] else deeper (from_of w.root z.node text) (followed (parts_of text)) b)) allowed
         ∙ ap (λ x. if x then fails CrossRoot [] else deeper (from_of w.root z.node text) (followed (parts_of text)) b) crosses_it
 
     -- `..` at the root, under `beneath`
@@ -120,7 +122,7 @@ module _ {w : WalkInHistory} (fits : Fits (setting w)) where
 
   -- ---- the ends
 
-  module _ (not_deep : is_deepest w.way.goal ≡ false) (inside : (w.way.flags.beneath && w.path.absolute) ≡ false) where
+  module _ (not_deep : is_deepest w.way.goal ≡ false) (inside : leads_out w.path.absolute w.way.flags ≡ false) where
     abbrev M : Meant
     M = path_means (ground w) (parts_of_walk w)
 
@@ -131,7 +133,7 @@ module _ {w : WalkInHistory} (fits : Fits (setting w)) where
       -- the error of a stop is that of the meaning
       stop_fails : (z : Spot) (p : AskedPart) → Trail (timeline w) (parts_of_walk w) (start w) z (Some p) → (error : Errno)
           → ((deeper : Deeper) → IsWay (setting w) z.node z.names → AllAlone (setting w) (reads_of (part_means deeper (ground w) z.node p z.links))
-          → (more : List Entry) × (part_means deeper (ground w) z.node p z.links ≡ fails error more))
+          → (more : List Place) × (part_means deeper (ground w) z.node p z.links ≡ fails error more))
           → IsMeant M (failed error)
       stop_fails z p t error fails_there =
           let f = followed_to z (Some p) t in
@@ -144,9 +146,9 @@ module _ {w : WalkInHistory} (fits : Fits (setting w)) where
           (λ deeper way al. ([], root_fails deeper tells.to way tells.node beneath))
       meant_crossing beneath (inr (inr tells)) = stop_fails tells.to (Named true tells.name) tells.stop CrossRoot
           (λ deeper way al. (
-            record { dir = tells.to.node; name = tells.name } ∷ [],
+            record { parent = tells.to.node; name = tells.name } ∷ [],
             link_reads deeper tells.to way tells.name tells.text tells.when tells.link al
-                ∙ ap (after_reads (record { dir = tells.to.node; name = tells.name } ∷ []))
+                ∙ ap (after_reads (record { parent = tells.to.node; name = tells.name } ∷ []))
                 (crossing deeper tells.to way tells.to.links tells.left tells.text tells.links tells.allowed
                 (and_from w.way.flags.beneath (begins_with_slash tells.text) beneath tells.absolute)),
           ))
@@ -159,16 +161,16 @@ module _ {w : WalkInHistory} (fits : Fits (setting w)) where
 
       meant_error : (error : Errno) → is_want error ≡ false → TellsError w error → IsMeant M (failed error)
       meant_error NotFound e tells = stop_fails tells.to (Named tells.follow tells.name) tells.stop NotFound
-          (λ deeper way al. (record { dir = tells.to.node; name = tells.name } ∷ [], missing_fails deeper tells.to way tells.follow tells.name tells.when tells.short tells.missing al))
+          (λ deeper way al. (record { parent = tells.to.node; name = tells.name } ∷ [], missing_fails deeper tells.to way tells.follow tells.name tells.when tells.short tells.missing al))
       meant_error NotDir e tells = stop_fails tells.to tells.next tells.stop NotDir
           (λ deeper way al. ([], no_dir_fails deeper tells.to way tells.next tells.what tells.is_what tells.no_dir))
       meant_error TooLong e tells = stop_fails tells.to (Named tells.follow tells.name) tells.stop TooLong
           (λ deeper way al. ([], long_fails deeper tells.to way tells.follow tells.name tells.dir tells.long))
       meant_error Loop e tells = stop_fails tells.to (Named true tells.name) tells.stop Loop
           (λ deeper way al. (
-            record { dir = tells.to.node; name = tells.name } ∷ [],
+            record { parent = tells.to.node; name = tells.name } ∷ [],
             link_reads deeper tells.to way tells.name tells.text tells.when tells.link al
-                ∙ ap (after_reads (record { dir = tells.to.node; name = tells.name } ∷ [])) (loops deeper tells.to way tells.to.links tells.text tells.used_up),
+                ∙ ap (after_reads (record { parent = tells.to.node; name = tells.name } ∷ [])) (loops deeper tells.to way tells.to.links tells.text tells.used_up),
           ))
       meant_error CrossRoot e tells = meant_crossing tells.beneath tells.why
       meant_error Raced e tells = absurd (no_race tells)
@@ -197,7 +199,7 @@ module _ {w : WalkInHistory} (fits : Fits (setting w)) where
   only_crosses (line ∷ lines) end leads = absurd leads
 
   pub tells_meaning : (end : Turn) → LeadsTo w.way (begins w.way w.path) w.lines end → Tells w end → Means w end
-  tells_meaning end leads tells is_end not_deep want alone = on (w.way.flags.beneath && w.path.absolute) refl
+  tells_meaning end leads tells is_end not_deep want alone = on (leads_out w.path.absolute w.way.flags) refl
     where
       meaning : Bool → Meant
       meaning b = if b then fails CrossRoot [] else path_means (ground w) (parts_of_walk w)
@@ -205,7 +207,7 @@ module _ {w : WalkInHistory} (fits : Fits (setting w)) where
       beginning : Bool → Turn
       beginning b = if b then failed CrossRoot else goes_on w.way root_itself (todo [] (parts_of_walk w) LINKS_MAX)
 
-      on : (b : Bool) → (w.way.flags.beneath && w.path.absolute) ≡ b → IsMeant (reading_means (ground w) w.path (follows w.way.goal)) end
+      on : (b : Bool) → leads_out w.path.absolute w.way.flags ≡ b → IsMeant (reading_means (ground w) w.path (follows w.way.goal)) end
       on true e = subst (λ m. IsMeant m end) (sym (ap meaning e))
           (subst (IsMeant (fails CrossRoot [])) (only_crosses w.lines end (subst (λ t. LeadsTo w.way t w.lines end) (ap beginning e) leads)) refl)
       on false e = subst (λ m. IsMeant m end) (sym (ap meaning e))

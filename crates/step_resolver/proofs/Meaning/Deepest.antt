@@ -5,14 +5,15 @@ use Rattle.std.proofs.lemmas.Bool.{false≢true, and_parts, not-true, cond-true,
 use Rattle.path_text.specs.declared.errno.Errno.{Errno}
 use Rattle.path_text.specs.declared.errno.Errno.TheVariants.{NotFound, NotDir, TooLong}
 use Rattle.tree_model.specs.State.{child, is_dir}
+use Rattle.tree_model.specs.declared.inode.Place.{Place}
 use Rattle.step_resolver.specs.Asked.{AskedPart, Cur, Up, Named}
-use Rattle.step_resolver.specs.Meaning.{Ground, Entry, Meant, object, fails, after_reads, and_then, is_too_long, Deeper, named, one_part, part_means, parts_mean, means, Deep, whole, up_to, none, is_missing, entries_of, deep_after, and_then_deep, deepest, reads_of, deep_reads}
+use Rattle.step_resolver.specs.Meaning.{Ground, Meant, object, fails, after_reads, and_then, is_too_long, Deeper, named, one_part, part_means, parts_mean, means, Deep, whole, up_to, none, is_missing, entries_of, deep_after, and_then_deep, deepest, reads_of, deep_reads}
 use Rattle.step_resolver.specs.MeaningLaws.{IsFrontAndRest, IsDeepest, DeepestIsFrontAndRest, meant_by, DeepestMeansTheSame}
 use Rattle.step_resolver.proofs.Meaning.PartsAndLinks.{and_then-object, deeper_at, means_by}
 
 -- ---- one after another
 
-pub deep_after-twice : (first second : List Entry) (k : Deep) → deep_after first (deep_after second k) ≡ deep_after (first ++ second) k
+pub deep_after-twice : (first second : List Place) (k : Deep) → deep_after first (deep_after second k) ≡ deep_after (first ++ second) k
 deep_after-twice first second (whole d b reads) = ap (whole d b) (sym (append_assoc first second reads))
 deep_after-twice first second (up_to d b rest reads) = ap (up_to d b rest) (sym (append_assoc first second reads))
 deep_after-twice first second (none error reads) = ap (none error) (sym (append_assoc first second reads))
@@ -22,7 +23,7 @@ deep_after_nothing (whole d b reads) = refl
 deep_after_nothing (up_to d b rest reads) = refl
 deep_after_nothing (none error reads) = refl
 
-pub and_then_deep-after_reads : (entries : List Entry) (m : Meant) (onward : ℕ → ℕ → Deep)
+pub and_then_deep-after_reads : (entries : List Place) (m : Meant) (onward : ℕ → ℕ → Deep)
     → and_then_deep (after_reads entries m) onward ≡ deep_after entries (and_then_deep m onward)
 and_then_deep-after_reads entries (object d b reads) onward = sym (deep_after-twice entries reads (onward d b))
 and_then_deep-after_reads entries (fails error reads) onward = refl
@@ -35,7 +36,7 @@ and_then_deep-and_then (fails error reads) onward further = refl
 pub and_then_deep-same : (m : Meant) (onward other : ℕ → ℕ → Deep) → ((e c : ℕ) → onward e c ≡ other e c) → and_then_deep m onward ≡ and_then_deep m other
 and_then_deep-same m onward other h = ap (and_then_deep m) (fun_ext (λ e. fun_ext (h e)))
 
-meant_by-deep_after : (entries : List Entry) (k : Deep) → meant_by (deep_after entries k) ≡ after_reads entries (meant_by k)
+meant_by-deep_after : (entries : List Place) (k : Deep) → meant_by (deep_after entries k) ≡ after_reads entries (meant_by k)
 meant_by-deep_after entries (whole d b reads) = refl
 meant_by-deep_after entries (up_to d b rest reads) = refl
 meant_by-deep_after entries (none error reads) = refl
@@ -67,11 +68,11 @@ missing_parts g d follow n e =
     record { dir = first.0; short = not-true (is_too_long n) first.1; child = is_none-true (child g.nodes d n) last.1 }
 
 part_means-missing : (deeper : Deeper) (g : Ground) (d : ℕ) (follow : Bool) (n : List ℕ) (b : ℕ) → Missing g d n
-    → part_means deeper g d (Named follow n) b ≡ fails NotFound (record { dir = d; name = n } ∷ [])
+    → part_means deeper g d (Named follow n) b ≡ fails NotFound (record { parent = d; name = n } ∷ [])
 part_means-missing deeper g d follow n b is =
     ap (λ t. cond t (one_part deeper g d (Named follow n) b) (fails NotDir [])) is.dir
-    ∙ ap (λ t. cond t (fails TooLong []) (after_reads (record { dir = d; name = n } ∷ []) (named deeper g d follow b (child g.nodes d n)))) is.short
-    ∙ ap (λ o. after_reads (record { dir = d; name = n } ∷ []) (named deeper g d follow b o)) is.child
+    ∙ ap (λ t. cond t (fails TooLong []) (after_reads (record { parent = d; name = n } ∷ []) (named deeper g d follow b (child g.nodes d n)))) is.short
+    ∙ ap (λ o. after_reads (record { parent = d; name = n } ∷ []) (named deeper g d follow b o)) is.child
 
 pub missing_means : (deeper : Deeper) (g : Ground) (d : ℕ) (p : AskedPart) (b : ℕ) → is_missing g d p ≡ true
     → part_means deeper g d p b ≡ fails NotFound (entries_of d p)
@@ -102,7 +103,7 @@ abbrev pub IsObject : Meant → Type 0
 IsObject (object d b reads) = Unit {0}
 IsObject (fails error reads) = ⊥
 
-IsObject-after_reads : (entries : List Entry) (m : Meant) → IsObject (after_reads entries m) → IsObject m
+IsObject-after_reads : (entries : List Place) (m : Meant) → IsObject (after_reads entries m) → IsObject m
 IsObject-after_reads entries (object d b reads) h = tt
 IsObject-after_reads entries (fails error reads) h = h
 
@@ -156,7 +157,7 @@ deepest_means_the_same nested g d ps b =
 
 module _ (nested : ℕ) (g : Ground) where
   -- a front and a rest are where the deepest ends
-  front_is_deepest : (d : ℕ) (ps : List AskedPart) (b x c : ℕ) (rest : List AskedPart) (reads : List Entry)
+  front_is_deepest : (d : ℕ) (ps : List AskedPart) (b x c : ℕ) (rest : List AskedPart) (reads : List Place)
       → IsFrontAndRest nested g d ps b x c rest reads → deepest nested g d ps b ≡ up_to x c rest reads
   front_is_deepest d ps b x c rest reads is =
       deepest_by nested g d ps b
@@ -199,7 +200,7 @@ module _ (nested : ℕ) (g : Ground) where
       }
 
   -- a part that means an object, before the front
-  has_front-after : (d : ℕ) (p : AskedPart) (ps : List AskedPart) (b e c : ℕ) (reads : List Entry)
+  has_front-after : (d : ℕ) (p : AskedPart) (ps : List AskedPart) (b e c : ℕ) (reads : List Place)
       → part_means (deeper_at nested g) g d p b ≡ object e c reads → (k : Deep) → HasFront e ps c k → HasFront d (p ∷ ps) b (deep_after reads k)
   has_front-after d p ps b e c reads q (whole x k others) f = tt
   has_front-after d p ps b e c reads q (none error others) f = tt
@@ -250,7 +251,7 @@ module _ (nested : ℕ) (g : Ground) (d : ℕ) (ps : List AskedPart) (b : ℕ) w
     λ x c rest others f. let clash : none error reads ≡ up_to x c rest others = sym e ∙ front_is_deepest nested g d ps b x c rest others f in cc (clash),
   )
 
-  is_whole : (x c : ℕ) (reads : List Entry) → means nested g d ps b ≡ object x c reads → (k : Deep) → deepest nested g d ps b ≡ k → k ≡ whole x c reads
+  is_whole : (x c : ℕ) (reads : List Place) → means nested g d ps b ≡ object x c reads → (k : Deep) → deepest nested g d ps b ≡ k → k ≡ whole x c reads
   is_whole x c reads h k e = on k (sym (ap meant_by e) ∙ deepest_means_the_same nested g d ps b ∙ h)
     where
       on : (k : Deep) → meant_by k ≡ object x c reads → k ≡ whole x c reads
@@ -258,7 +259,7 @@ module _ (nested : ℕ) (g : Ground) (d : ℕ) (ps : List AskedPart) (b : ℕ) w
       on (up_to y j rest others) q = cc (q)
       on (none error others) q = cc (q)
 
-  is_none_of : (error : Errno) (reads : List Entry) → IsDeepest nested g d ps b (none error reads) → (k : Deep) → deepest nested g d ps b ≡ k → k ≡ none error reads
+  is_none_of : (error : Errno) (reads : List Place) → IsDeepest nested g d ps b (none error reads) → (k : Deep) → deepest nested g d ps b ≡ k → k ≡ none error reads
   is_none_of error reads h (whole y j others) e =
       let q : object y j others ≡ fails error reads = sym (ap meant_by e) ∙ deepest_means_the_same nested g d ps b ∙ h.0 in cc (q)
   is_none_of error reads h (up_to y j rest others) e = absurd (h.1 y j rest others (to_deepest (up_to y j rest others) e))

@@ -1,12 +1,14 @@
 -- Which errors the parts of a path can mean.
 use Rattle.std.proofs.Common.{◌≡◌, ℕ, zero, suc, ◌==◌, Bool, true, false, cond, List, [], ◌∷◌, Option, Some, None, refl, subst}
 use Rattle.path_text.specs.declared.errno.Errno.TheVariants.{CrossRoot, Loop}
-use Rattle.path_text.specs.Text.{parts_of}
+use Rattle.path_text.specs.Text.{parts_of, begins_with_slash}
 use Rattle.tree_model.specs.declared.inode.Object.{Object}
 use Rattle.tree_model.specs.declared.inode.Object.TheVariants.{Dir, File, Link}
 use Rattle.tree_model.specs.State.{object_at, child, parent, is_dir}
+use Rattle.tree_model.specs.declared.inode.Place.{Place}
+use Rattle.walk_plan.specs.Plan.{leads_out}
 use Rattle.step_resolver.specs.Asked.{AskedPart, Cur, Up, Named, followed}
-use Rattle.step_resolver.specs.Meaning.{Ground, Entry, Meant, object, fails, after_reads, and_then, is_too_long, from_of, crosses, Deeper, link_in, child_is, named, above, one_part, part_means, parts_mean, means}
+use Rattle.step_resolver.specs.Meaning.{Ground, Meant, object, fails, after_reads, and_then, is_too_long, from_of, Deeper, link_in, child_is, named, above, one_part, part_means, parts_mean, means}
 use Rattle.step_resolver.specs.MeaningLaws.{is_of_parts, PartsFailAsPaths}
 use Rattle.step_resolver.proofs.Meaning.PartsAndLinks.{deeper_at}
 
@@ -15,7 +17,7 @@ abbrev FailsSo : Meant → Type 0
 FailsSo (object d b reads) = Unit {0}
 FailsSo (fails error reads) = is_of_parts error ≡ true
 
-FailsSo-after_reads : (entries : List Entry) (m : Meant) → FailsSo m → FailsSo (after_reads entries m)
+FailsSo-after_reads : (entries : List Place) (m : Meant) → FailsSo m → FailsSo (after_reads entries m)
 FailsSo-after_reads entries (object d b reads) h = h
 FailsSo-after_reads entries (fails error reads) h = h
 
@@ -32,7 +34,7 @@ module _ (deeper : Deeper) (so : (e : ℕ) (qs : List AskedPart) (c : ℕ) → F
   link_in-fails d text zero = refl
   link_in-fails d text (suc b) =
       FailsSo-cond g.flags.no_links (fails Loop []) _ refl
-      (FailsSo-cond (crosses g.flags text) (fails CrossRoot []) _ refl (so (from_of g.root d text) (followed (parts_of text)) b))
+      (FailsSo-cond (leads_out (begins_with_slash text) g.flags) (fails CrossRoot []) _ refl (so (from_of g.root d text) (followed (parts_of text)) b))
 
   child_is-fails : (d : ℕ) (follow : Bool) (b c : ℕ) (o : Option Object) → FailsSo (child_is deeper g d follow b c o)
   child_is-fails d true b c (Some (Link text)) = link_in-fails d text b
@@ -55,7 +57,7 @@ module _ (deeper : Deeper) (so : (e : ℕ) (qs : List AskedPart) (c : ℕ) → F
       FailsSo-cond (d == g.root) _ _ (FailsSo-cond g.flags.beneath (fails CrossRoot []) (object d b []) refl tt) (above-fails b (parent g.nodes d))
   one_part-fails d (Named follow n) b =
       FailsSo-cond (is_too_long n) _ _ refl
-      (FailsSo-after_reads (record { dir = d; name = n } ∷ []) (named deeper g d follow b (child g.nodes d n)) (named-fails d follow b (child g.nodes d n)))
+      (FailsSo-after_reads (record { parent = d; name = n } ∷ []) (named deeper g d follow b (child g.nodes d n)) (named-fails d follow b (child g.nodes d n)))
 
   parts_mean-fails : (ps : List AskedPart) (d b : ℕ) → FailsSo (parts_mean deeper g d ps b)
   parts_mean-fails [] d b = tt

@@ -1,68 +1,11 @@
 -- What is read off one tree: which node stands at an entry, that it is something, and where a node stands.
-use Rattle.std.proofs.Common.{◌≡◌, ◌≢◌, ℕ, zero, suc, ◌+◌, Bool, true, false, ◌==◌, List, [], ◌∷◌, Option, Some, None, cond, refl, sym, ap, ◌∙◌, subst, add-zero, eqb-true, eq-eqb, length, slice_get, arith}
+use Rattle.std.proofs.Common.{◌≡◌, ℕ, zero, suc, Bool, true, false, ◌==◌, List, [], ◌∷◌, Option, Some, None, cond, refl, sym, ap, ◌∙◌, subst, eqb-true, length, slice_get}
 use Rattle.std.specs.Option.{option_map, option_and_then}
-use Rattle.std.specs.Cmp.Lexicographic.{bytes_decides}
-use Rattle.std.proofs.lemmas.Bool.{false≢true, and_parts, and_from, eqb-false}
+use Rattle.std.proofs.lemmas.Bool.{eqb-false}
 use Rattle.std.proofs.lemmas.Option.{none-some, same_Some}
-use Rattle.path_text.specs.Name.{same_bytes}
 use Rattle.tree_model.specs.declared.inode.Inode.{Inode}
 use Rattle.tree_model.specs.declared.inode.Place.{Place}
-use Rattle.tree_model.specs.State.{place_at, object_at, is_at, child_from, child, names_within, names_below, Stands}
-use Rattle.tree_model.specs.Trees.{IsTree}
-
--- the entry of that name in that directory
-abbrev pub entry : ℕ → List ℕ → Place
-entry d n = record { parent = d; name = n }
-
-is_at-true : (d : ℕ) (n : List ℕ) (p : Option Place) → is_at d n p ≡ true → p ≡ Some (entry d n)
-is_at-true d n None e = absurd (false≢true e)
-is_at-true d n (Some place) e =
-    let both = and_parts (place.parent == d) (same_bytes place.name n) e in
-    λ i. Some (entry (eqb-true place.parent d both.0 i) ((bytes_decides place.name n).0 both.1 i))
-
-is_at-entry : (d : ℕ) (n : List ℕ) → is_at d n (Some (entry d n)) ≡ true
-is_at-entry d n = and_from (d == d) (same_bytes n n) (eq-eqb d d refl) ((bytes_decides n n).1 refl)
-
-at_first : (k : ℕ) (inode : Inode) (nodes : List Inode) (d : ℕ) (n : List ℕ) (c : ℕ)
-    → (child_from (suc k) nodes d n ≡ Some c → (i : ℕ) × ((c ≡ suc k + i) × (place_at nodes i ≡ Some (entry d n))))
-    → (b : Bool) → is_at d n inode.place ≡ b → cond b (Some k) (child_from (suc k) nodes d n) ≡ Some c
-    → (i : ℕ) × ((c ≡ k + i) × (place_at (inode ∷ nodes) i ≡ Some (entry d n)))
-at_first k inode nodes d n c later true t e = (0, (sym (same_Some k c e) ∙ sym (add-zero k), is_at-true d n inode.place t))
-at_first k inode nodes d n c later false t e =
-    let r = later e in
-    let q : c ≡ k + suc r.0 = omega (arith, r.1.0) in
-    (suc r.0, (q, r.1.1))
-
-child_from-some : (k : ℕ) (nodes : List Inode) (d : ℕ) (n : List ℕ) (c : ℕ) → child_from k nodes d n ≡ Some c
-    → (i : ℕ) × ((c ≡ k + i) × (place_at nodes i ≡ Some (entry d n)))
-child_from-some k [] d n c e = absurd (none-some c e)
-child_from-some k (inode ∷ nodes) d n c e = at_first k inode nodes d n c (λ h. child_from-some (suc k) nodes d n c h) (is_at d n inode.place) refl e
-
-pub place_at-child : (nodes : List Inode) (d : ℕ) (n : List ℕ) (c : ℕ) → child nodes d n ≡ Some c → place_at nodes c ≡ Some (entry d n)
-place_at-child nodes d n c e =
-    let r = child_from-some 0 nodes d n c e in
-    let q : r.0 ≡ c = omega (arith, r.1.0) in
-    subst (λ i. place_at nodes i ≡ Some (entry d n)) q r.1.1
-
-not_first : (k : ℕ) (inode : Inode) (nodes : List Inode) (d : ℕ) (n : List ℕ)
-    → (child_from (suc k) nodes d n ≡ None → (x : ℕ) → place_at nodes x ≢ Some (entry d n))
-    → (b : Bool) → is_at d n inode.place ≡ b → cond b (Some k) (child_from (suc k) nodes d n) ≡ None
-    → (x : ℕ) → place_at (inode ∷ nodes) x ≢ Some (entry d n)
-not_first k inode nodes d n later true t e x = absurd (none-some k (sym e))
-not_first k inode nodes d n later false t e zero = λ p. false≢true (sym t ∙ ap (is_at d n) p ∙ is_at-entry d n)
-not_first k inode nodes d n later false t e (suc x) = later e x
-
-child_from-none : (k : ℕ) (nodes : List Inode) (d : ℕ) (n : List ℕ) → child_from k nodes d n ≡ None → (x : ℕ) → place_at nodes x ≢ Some (entry d n)
-child_from-none k [] d n e x = λ p. none-some (entry d n) p
-child_from-none k (inode ∷ nodes) d n e x = not_first k inode nodes d n (λ h. child_from-none (suc k) nodes d n h) (is_at d n inode.place) refl e x
-
--- in a tree the node at an entry is found
-pub child-entry : (nodes : List Inode) → IsTree nodes → (d : ℕ) (n : List ℕ) (x : ℕ) → place_at nodes x ≡ Some (entry d n) → child nodes d n ≡ Some x
-child-entry nodes t d n x p = on (child nodes d n) refl
-  where
-    on : (o : Option ℕ) → child nodes d n ≡ o → child nodes d n ≡ Some x
-    on None e = absurd (child_from-none 0 nodes d n e x p)
-    on (Some c) e = e ∙ ap Some (t.apart c x (entry d n) (place_at-child nodes d n c e) p)
+use Rattle.tree_model.specs.State.{place_at, object_at, names_within, names_below, Stands}
 
 -- what has a place is something
 pub object_at-place : (nodes : List Inode) (x : ℕ) (place : Place) → place_at nodes x ≡ Some place → object_at nodes x ≡ None → ⊥

@@ -11,11 +11,12 @@ use Rattle.tree_model.specs.declared.inode.Object.TheVariants.{Dir, File, Link}
 use Rattle.tree_model.specs.declared.inode.Place.{Place}
 use Rattle.tree_model.specs.State.{TOP, object_at, place_at, child, parent, is_dir}
 use Rattle.tree_model.specs.Trees.{IsTree, Rooted, top, below}
+use Rattle.tree_model.proofs.Children.{entry, place_at-child}
+use Rattle.walk_plan.specs.Plan.{leads_out}
 use Rattle.step_resolver.specs.Asked.{AskedPart, Cur, Up, Named, followed}
-use Rattle.step_resolver.specs.Meaning.{Ground, Entry, Meant, object, fails, after_reads, and_then, is_too_long, from_of, crosses, Deeper, link_in, child_is, named, above, above_of, one_part, part_means, parts_mean, means}
+use Rattle.step_resolver.specs.Meaning.{Ground, Meant, object, fails, after_reads, and_then, is_too_long, from_of, Deeper, link_in, child_is, named, above, above_of, one_part, part_means, parts_mean, means}
 use Rattle.step_resolver.specs.MeaningLaws.{IsBelow, PartsLeadBelow, UpIsNeverMissing}
 use Rattle.step_resolver.proofs.Meaning.PartsAndLinks.{deeper_at}
-use Rattle.step_resolver.proofs.Meaning.NodesAtEntries.{entry, place_at-child}
 
 -- ---- in a tree
 
@@ -63,7 +64,7 @@ LeadsBelow g (object d b reads) = IsBelow g d
 LeadsBelow g (fails error reads) = Unit {0}
 
 module _ (g : Ground) (is : IsTree g.nodes) where
-  with_reads : (entries : List Entry) (m : Meant) → LeadsBelow g m → LeadsBelow g (after_reads entries m)
+  with_reads : (entries : List Place) (m : Meant) → LeadsBelow g m → LeadsBelow g (after_reads entries m)
   with_reads entries (object d b reads) h = h
   with_reads entries (fails error reads) h = h
 
@@ -88,7 +89,7 @@ module _ (g : Ground) (is : IsTree g.nodes) where
     link_below d h text zero = tt
     link_below d h text (suc b) =
         either g.flags.no_links (fails Loop []) _ tt
-        (either (crosses g.flags text) (fails CrossRoot []) _ tt
+        (either (leads_out (begins_with_slash text) g.flags) (fails CrossRoot []) _ tt
         (so (from_of g.root d text) (from_below d h (begins_with_slash text)) (followed (parts_of text)) b))
 
     child_below : (d : ℕ) → IsBelow g d → (follow : Bool) (b c : ℕ) → IsBelow g c → (o : Option Object) → LeadsBelow g (child_is deeper g d follow b c o)
@@ -110,7 +111,7 @@ module _ (g : Ground) (is : IsTree g.nodes) where
         either (d == g.root) _ _ (either g.flags.beneath (fails CrossRoot []) (object d b []) tt h) (above_below d b (parent g.nodes d) refl)
     one_below d h (Named follow n) b =
         either (is_too_long n) _ _ tt
-        (with_reads (record { dir = d; name = n } ∷ []) (named deeper g d follow b (child g.nodes d n)) (named_below d h follow n b (child g.nodes d n) refl))
+        (with_reads (record { parent = d; name = n } ∷ []) (named deeper g d follow b (child g.nodes d n)) (named_below d h follow n b (child g.nodes d n) refl))
 
     parts_below : (ps : List AskedPart) (d b : ℕ) → IsBelow g d → LeadsBelow g (parts_mean deeper g d ps b)
     parts_below [] d b h = h

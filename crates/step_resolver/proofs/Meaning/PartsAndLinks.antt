@@ -2,17 +2,19 @@
 use Rattle.std.proofs.Common.{◌≡◌, ℕ, zero, suc, ◌<◌, ◌≤◌, ◌==◌, Bool, true, false, cond, List, [], ◌∷◌, ◌++◌, Option, Some, None, refl, sym, ap, ◌∙◌, subst, append_assoc, append-nil, le_refl, le_trans, arith}
 use mathlib.Core.Path.{fun_ext}
 use Rattle.path_text.specs.declared.errno.Errno.TheVariants.{CrossRoot, NotDir, TooLong, Loop}
-use Rattle.path_text.specs.Text.{parts_of}
+use Rattle.path_text.specs.Text.{parts_of, begins_with_slash}
 use Rattle.tree_model.specs.declared.inode.Object.{Object}
 use Rattle.tree_model.specs.declared.inode.Object.TheVariants.{Dir, File, Link}
 use Rattle.tree_model.specs.State.{object_at, child, parent, is_dir}
+use Rattle.tree_model.specs.declared.inode.Place.{Place}
+use Rattle.walk_plan.specs.Plan.{leads_out}
 use Rattle.step_resolver.specs.Asked.{AskedPart, Cur, Up, Named, followed}
-use Rattle.step_resolver.specs.Meaning.{Ground, Entry, Meant, object, fails, after_reads, and_then, is_too_long, from_of, crosses, Deeper, link_in, child_is, named, above, one_part, part_means, parts_mean, means}
+use Rattle.step_resolver.specs.Meaning.{Ground, Meant, object, fails, after_reads, and_then, is_too_long, from_of, Deeper, link_in, child_is, named, above, one_part, part_means, parts_mean, means}
 use Rattle.step_resolver.specs.MeaningLaws.{AppendedPartsMean, NestingDoesNotMatter, LinksNeverRise, IsOpenLink, LinksAreTheirTexts}
 
 -- ---- one meaning after another
 
-pub after_reads-twice : (first second : List Entry) (m : Meant) → after_reads first (after_reads second m) ≡ after_reads (first ++ second) m
+pub after_reads-twice : (first second : List Place) (m : Meant) → after_reads first (after_reads second m) ≡ after_reads (first ++ second) m
 after_reads-twice first second (object d b reads) = ap (object d b) (sym (append_assoc first second reads))
 after_reads-twice first second (fails error reads) = ap (fails error) (sym (append_assoc first second reads))
 
@@ -20,7 +22,7 @@ pub after_no_reads : (m : Meant) → after_reads [] m ≡ m
 after_no_reads (object d b reads) = refl
 after_no_reads (fails error reads) = refl
 
-pub and_then-after_reads : (entries : List Entry) (m : Meant) (onward : ℕ → ℕ → Meant)
+pub and_then-after_reads : (entries : List Place) (m : Meant) (onward : ℕ → ℕ → Meant)
     → and_then (after_reads entries m) onward ≡ after_reads entries (and_then m onward)
 and_then-after_reads entries (object d b reads) onward = sym (after_reads-twice entries reads (onward d b))
 and_then-after_reads entries (fails error reads) onward = refl
@@ -50,7 +52,7 @@ pub LeavesAtMost-more : (b c : ℕ) → b ≤ c → (m : Meant) → LeavesAtMost
 LeavesAtMost-more b c h (object d k reads) l = le_trans l h
 LeavesAtMost-more b c h (fails error reads) l = tt
 
-pub LeavesAtMost-after_reads : (b : ℕ) (entries : List Entry) (m : Meant) → LeavesAtMost b m → LeavesAtMost b (after_reads entries m)
+pub LeavesAtMost-after_reads : (b : ℕ) (entries : List Place) (m : Meant) → LeavesAtMost b m → LeavesAtMost b (after_reads entries m)
 LeavesAtMost-after_reads b entries (object d c reads) l = l
 LeavesAtMost-after_reads b entries (fails error reads) l = tt
 
@@ -72,7 +74,7 @@ module _ (deeper : Deeper) (lowers : Lowers deeper) (g : Ground) where
   link_in-lowers d text zero = tt
   link_in-lowers d text (suc b) =
       LeavesAtMost-cond (suc b) g.flags.no_links _ _ tt
-      (LeavesAtMost-cond (suc b) (crosses g.flags text) _ _ tt
+      (LeavesAtMost-cond (suc b) (leads_out (begins_with_slash text) g.flags) _ _ tt
       (LeavesAtMost-more b (suc b) (omega arith) (deeper (from_of g.root d text) (followed (parts_of text)) b) (lowers _ _ b)))
 
   child_is-lowers : (d : ℕ) (follow : Bool) (b c : ℕ) (o : Option Object) → LeavesAtMost b (child_is deeper g d follow b c o)
@@ -98,7 +100,7 @@ module _ (deeper : Deeper) (lowers : Lowers deeper) (g : Ground) where
       (above-lowers b (parent g.nodes d))
   one_part-lowers d (Named follow n) b =
       LeavesAtMost-cond b (is_too_long n) _ _ tt
-      (LeavesAtMost-after_reads b (record { dir = d; name = n } ∷ []) (named deeper g d follow b (child g.nodes d n))
+      (LeavesAtMost-after_reads b (record { parent = d; name = n } ∷ []) (named deeper g d follow b (child g.nodes d n))
       (named-lowers d follow b (child g.nodes d n)))
 
   pub part_means-lowers : (d : ℕ) (p : AskedPart) (b : ℕ) → LeavesAtMost b (part_means deeper g d p b)
@@ -146,7 +148,7 @@ module _ (deeper other : Deeper) (g : Ground) where
   link_in-same : (d : ℕ) (text : List ℕ) (b : ℕ) → AgreeBelow b deeper other → link_in deeper g d text b ≡ link_in other g d text b
   link_in-same d text zero h = refl
   link_in-same d text (suc b) h =
-      ap (λ m. cond g.flags.no_links (fails Loop []) (cond (crosses g.flags text) (fails CrossRoot []) m))
+      ap (λ m. cond g.flags.no_links (fails Loop []) (cond (leads_out (begins_with_slash text) g.flags) (fails CrossRoot []) m))
       (h (from_of g.root d text) (followed (parts_of text)) b (omega arith))
 
   child_is-same : (d : ℕ) (follow : Bool) (b c : ℕ) (o : Option Object) → AgreeBelow b deeper other
@@ -165,7 +167,7 @@ module _ (deeper other : Deeper) (g : Ground) where
   one_part-same d Cur b h = refl
   one_part-same d Up b h = refl
   one_part-same d (Named follow n) b h =
-      ap (λ m. cond (is_too_long n) (fails TooLong []) (after_reads (record { dir = d; name = n } ∷ []) m)) (named-same d follow b (child g.nodes d n) h)
+      ap (λ m. cond (is_too_long n) (fails TooLong []) (after_reads (record { parent = d; name = n } ∷ []) m)) (named-same d follow b (child g.nodes d n) h)
 
   part_means-same : (d : ℕ) (p : AskedPart) (b : ℕ) → AgreeBelow b deeper other → part_means deeper g d p b ≡ part_means other g d p b
   part_means-same d p b h = ap (λ m. cond (is_dir g.nodes d) m (fails NotDir [])) (one_part-same d p b h)
@@ -218,15 +220,15 @@ appended_parts_mean nested g d ps qs b =
 -- what a name means that is a link to be followed
 pub part_means-link : (deeper : Deeper) (g : Ground) (d : ℕ) (n text : List ℕ) (b : ℕ) → IsOpenLink g d n text
     → part_means deeper g d (Named true n) (suc b)
-    ≡ after_reads (record { dir = d; name = n } ∷ []) (deeper (from_of g.root d text) (followed (parts_of text)) b)
+    ≡ after_reads (record { parent = d; name = n } ∷ []) (deeper (from_of g.root d text) (followed (parts_of text)) b)
 part_means-link deeper g d n text b is =
     ap (λ t. cond t (one_part deeper g d (Named true n) (suc b)) (fails NotDir [])) is.dir
-    ∙ ap (λ t. cond t (fails TooLong []) (after_reads (record { dir = d; name = n } ∷ []) (named deeper g d true (suc b) (child g.nodes d n)))) is.short
-    ∙ ap (λ o. after_reads (record { dir = d; name = n } ∷ []) (named deeper g d true (suc b) o)) is.child
-    ∙ ap (λ o. after_reads (record { dir = d; name = n } ∷ []) (child_is deeper g d true (suc b) is.link o)) is.is_link
-    ∙ ap (λ t. after_reads (record { dir = d; name = n } ∷ [])
-    (cond t (fails Loop []) (cond (crosses g.flags text) (fails CrossRoot []) (deeper (from_of g.root d text) (followed (parts_of text)) b)))) is.allowed
-    ∙ ap (λ t. after_reads (record { dir = d; name = n } ∷ [])
+    ∙ ap (λ t. cond t (fails TooLong []) (after_reads (record { parent = d; name = n } ∷ []) (named deeper g d true (suc b) (child g.nodes d n)))) is.short
+    ∙ ap (λ o. after_reads (record { parent = d; name = n } ∷ []) (named deeper g d true (suc b) o)) is.child
+    ∙ ap (λ o. after_reads (record { parent = d; name = n } ∷ []) (child_is deeper g d true (suc b) is.link o)) is.is_link
+    ∙ ap (λ t. after_reads (record { parent = d; name = n } ∷ [])
+    (cond t (fails Loop []) (cond (leads_out (begins_with_slash text) g.flags) (fails CrossRoot []) (deeper (from_of g.root d text) (followed (parts_of text)) b)))) is.allowed
+    ∙ ap (λ t. after_reads (record { parent = d; name = n } ∷ [])
     (cond t (fails CrossRoot []) (deeper (from_of g.root d text) (followed (parts_of text)) b))) is.within
 
 pub links_are_their_texts : LinksAreTheirTexts
@@ -243,8 +245,8 @@ links_are_their_texts nested g d n text rest b is h =
     from : ℕ
     from = from_of g.root d text
 
-    entries : List Entry
-    entries = record { dir = d; name = n } ∷ []
+    entries : List Place
+    entries = record { parent = d; name = n } ∷ []
 
     onward : ℕ → ℕ → Meant
     onward e c = parts_mean deeper g e rest c

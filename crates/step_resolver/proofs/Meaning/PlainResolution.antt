@@ -11,10 +11,12 @@ use Rattle.path_text.specs.declared.errno.Errno.TheVariants.{CrossRoot, Loop}
 use Rattle.path_text.specs.declared.name.TheConstants.{SLASH}
 use Rattle.path_text.specs.declared.part.Part.{Part}
 use Rattle.path_text.specs.declared.part.Part.TheVariants as part
-use Rattle.path_text.specs.Text.{ends_with_slash, part_of, parts_of, text_fault}
+use Rattle.path_text.specs.Text.{ends_with_slash, part_of, parts_of, text_fault, begins_with_slash}
+use Rattle.tree_model.specs.declared.inode.Place.{Place}
+use Rattle.walk_plan.specs.Plan.{leads_out}
 use Rattle.step_resolver.specs.declared.plain.Arrived.{Arrived}
 use Rattle.step_resolver.specs.Asked.{AskedPart, ask, asked, followed}
-use Rattle.step_resolver.specs.Meaning.{Ground, Entry, Meant, object, fails, after_reads, and_then, from_of, crosses, link_in, part_means, parts_mean, LINKS_MAX, path_means, resolves, resolved, is_object, is_error, resolution}
+use Rattle.step_resolver.specs.Meaning.{Ground, Meant, object, fails, after_reads, and_then, from_of, link_in, part_means, parts_mean, LINKS_MAX, path_means, resolves, resolved, is_object, is_error, resolution}
 use Rattle.step_resolver.specs.Plain.{meant, arrival}
 use Rattle.step_resolver.proofs.Meaning.PartsAndLinks.{LeavesAtMost, Lowers, deeper_at, deeper_at-lowers, means_by, means-lowers, part_means-lowers, parts_mean-same, nesting_does_not_matter}
 
@@ -40,7 +42,7 @@ meant-lowers g e qs c = means-lowers c g e qs c
 
 -- ---- where a meaning leads, whatever it reads
 
-pub arrival-after_reads : (entries : List Entry) (m : Meant) → arrival (after_reads entries m) ≡ arrival m
+pub arrival-after_reads : (entries : List Place) (m : Meant) → arrival (after_reads entries m) ≡ arrival m
 arrival-after_reads entries (object d b reads) = refl
 arrival-after_reads entries (fails error reads) = refl
 
@@ -126,11 +128,11 @@ asked_true (p ∷ []) = refl
 asked_true (p ∷ q ∷ ps) = ap (λ qs. ask true p ∷ qs) (asked_true (q ∷ ps))
 
 -- a link that may be followed means the parts of its text, with one link less
-pub link_followed : (g : Ground) (d : ℕ) (text : List ℕ) (b : ℕ) → 0 < b → g.flags.no_links ≡ false → crosses g.flags text ≡ false
+pub link_followed : (g : Ground) (d : ℕ) (text : List ℕ) (b : ℕ) → 0 < b → g.flags.no_links ≡ false → leads_out (begins_with_slash text) g.flags ≡ false
     → link_in (meant g) g d text b ≡ parts_mean (meant g) g (from_of g.root d text) (asked true (parts_of text)) (b - 1)
 link_followed g d text zero h allowed within = absurd (omega arith)
 link_followed g d text (suc b) h allowed within =
-    ap (λ t. if t then fails Loop [] else (if crosses g.flags text then fails CrossRoot [] else meant g (from_of g.root d text) (followed (parts_of text)) b)) allowed
+    ap (λ t. if t then fails Loop [] else (if leads_out (begins_with_slash text) g.flags then fails CrossRoot [] else meant g (from_of g.root d text) (followed (parts_of text)) b)) allowed
     ∙ ap (λ t. if t then fails CrossRoot [] else meant g (from_of g.root d text) (followed (parts_of text)) b) within
     ∙ meant_is g (from_of g.root d text) (followed (parts_of text)) b
     ∙ ap (λ ps. parts_mean (meant g) g (from_of g.root d text) ps b) (sym (asked_true (parts_of text)))
@@ -164,7 +166,7 @@ resolution_err (fails other reads) error h =
     let same : other ≡ error = cc in
     ap is_error same
 
-pub whole_is : (g : Ground) (text : List ℕ) (follow : Bool) → text_fault text ≡ None → crosses g.flags text ≡ false
+pub whole_is : (g : Ground) (text : List ℕ) (follow : Bool) → text_fault text ≡ None → leads_out (begins_with_slash text) g.flags ≡ false
     → resolved g.nodes g.root text follow g.flags ≡ parts_mean (meant g) g g.root (asked follow (parts_of text)) LINKS_MAX
 whole_is g text follow sound within =
     ap (resolves g text follow) sound

@@ -5,10 +5,11 @@ use Rattle.tree_model.specs.declared.inode.Inode.{Inode}
 use Rattle.tree_model.specs.State.{Stands, is_dir}
 use Rattle.tree_model.specs.Trees.{IsTree}
 use Rattle.tree_model.proofs.PlaceLaws.{stands_at_one_way}
-use Rattle.step_resolver.specs.Meaning.{Entry, reads_of, parts_mean}
+use Rattle.tree_model.specs.declared.inode.Place.{Place}
+use Rattle.tree_model.proofs.Children.{child-entry}
+use Rattle.step_resolver.specs.Meaning.{reads_of, parts_mean}
 use Rattle.step_resolver.specs.Trail.{quiet}
 use Rattle.step_resolver.specs.TrailLaws.{still, QuietTrailsMean}
-use Rattle.step_resolver.proofs.Meaning.NodesAtEntries.{child-entry}
 use Rattle.step_resolver.proofs.Ends.EntriesLeftAlone.{root_is_no_child}
 use Rattle.step_resolver.proofs.Meaning.PartsAndLinks.{deeper_at, means_by}
 use Rattle.step_resolver.proofs.Ends.TrailsAndMeaning.{Setting, AllAlone, Fits, IsWay, stands_on, follow}
@@ -17,7 +18,7 @@ module _ (nodes : List Inode) (r : ℕ) (flags : Flags) where
   abbrev pub at_rest : Setting
   at_rest = record { timeline = quiet nodes r flags; nodes = nodes; IsAlone = λ e. Unit {0} }
 
-  all_at_rest : (entries : List Entry) → AllAlone at_rest entries
+  all_at_rest : (entries : List Place) → AllAlone at_rest entries
   all_at_rest [] = tt
   all_at_rest (entry ∷ entries) = (tt, all_at_rest entries)
 

@@ -9,11 +9,14 @@ use Rattle.tree_model.specs.declared.inode.Object.{Object}
 use Rattle.tree_model.specs.declared.inode.Object.TheVariants.{Dir, File, Link}
 use Rattle.tree_model.specs.State.{Stands, is_dir, child, object_at}
 use Rattle.tree_model.specs.Trees.{IsTree}
+use Rattle.tree_model.specs.declared.inode.Place.{Place}
+use Rattle.tree_model.proofs.Children.{entry, place_at-child}
+use Rattle.walk_plan.specs.Plan.{leads_out}
 use Rattle.step_resolver.specs.Asked.{AskedPart, Cur, Up, Named, followed}
-use Rattle.step_resolver.specs.Meaning.{Entry, Meant, object, fails, Deeper, after_reads, and_then, link_in, child_is, named, one_part, part_means, parts_mean, is_too_long, crosses, from_of}
+use Rattle.step_resolver.specs.Meaning.{Meant, object, fails, Deeper, after_reads, and_then, link_in, child_is, named, one_part, part_means, parts_mean, is_too_long, from_of}
 use Rattle.step_resolver.specs.Trail.{Spot, Trail, all, stay, top, climb, down, through, IsChildAt, is_entered, quiet, from_text}
 use Rattle.step_resolver.specs.TrailLaws.{still, IsReachedThere, QuietMeaningsAreReached}
-use Rattle.step_resolver.proofs.Meaning.NodesAtEntries.{entry, place_at-child, object_at-place}
+use Rattle.step_resolver.proofs.Meaning.NodesAtEntries.{object_at-place}
 use Rattle.step_resolver.proofs.Meaning.PartsAndLinks.{deeper_at, means_by}
 use Rattle.step_resolver.proofs.Ends.TrailsAndMeaning.{Fits, IsWay, part_in, name_in, up_in, top_in, down_way, parent_on, stands_on}
 use Rattle.step_resolver.proofs.Trail.MeaningOfTrail.{at_rest, way_of, rests}
@@ -32,15 +35,15 @@ abbrev links_in : Meant → ℕ
 links_in (object d b reads) = b
 links_in (fails error reads) = 0
 
-no_object : (m : Meant) (x b : ℕ) (reads : List Entry) → IsFailing m → m ≡ object x b reads → ⊥
+no_object : (m : Meant) (x b : ℕ) (reads : List Place) → IsFailing m → m ≡ object x b reads → ⊥
 no_object m x b reads failing e = subst IsFailing e failing
 
 -- an object without what was read before it
 record IsAfter (m : Meant) (x b : ℕ) : Type 0 where
-  pub reads : List Entry
+  pub reads : List Place
   pub is : m ≡ object x b reads
 
-after_is : (first : List Entry) (m : Meant) (x b : ℕ) (reads : List Entry) → after_reads first m ≡ object x b reads → IsAfter m x b
+after_is : (first : List Place) (m : Meant) (x b : ℕ) (reads : List Place) → after_reads first m ≡ object x b reads → IsAfter m x b
 after_is first (object d c rs) x b reads e = record { reads = rs; is = λ i. object (ap node_in e i) (ap links_in e i) rs }
 after_is first (fails error rs) x b reads e = absurd (no_object (after_reads first (fails error rs)) x b reads tt e)
 
@@ -48,11 +51,11 @@ after_is first (fails error rs) x b reads e = absurd (no_object (after_reads fir
 record IsTwo (m : Meant) (onward : ℕ → ℕ → Meant) (x b : ℕ) : Type 0 where
   pub node : ℕ
   pub links : ℕ
-  pub reads : List Entry
+  pub reads : List Place
   pub first : m ≡ object node links reads
   pub second : IsAfter (onward node links) x b
 
-two_of : (m : Meant) (onward : ℕ → ℕ → Meant) (x b : ℕ) (reads : List Entry) → and_then m onward ≡ object x b reads → IsTwo m onward x b
+two_of : (m : Meant) (onward : ℕ → ℕ → Meant) (x b : ℕ) (reads : List Place) → and_then m onward ≡ object x b reads → IsTwo m onward x b
 two_of (object d c rs) onward x b reads e = record { node = d; links = c; reads = rs; first = refl; second = after_is rs (onward d c) x b reads e }
 two_of (fails error rs) onward x b reads e = absurd (no_object (fails error rs) x b reads tt e)
 
@@ -69,10 +72,10 @@ module _ (nodes : List Inode) (r : ℕ) (flags : Flags) (is : IsTree nodes) (dir
     pub onward : (ps : List AskedPart) (z : Spot) → Trail (quiet nodes r flags) ps to z None → Trail (quiet nodes r flags) (p ∷ ps) s z None
 
   abbrev Reaches : Deeper → Type 0
-  Reaches deeper = (qs : List AskedPart) (s : Spot) (x b : ℕ) (reads : List Entry) → Stands nodes r s.node s.names → deeper s.node qs s.links ≡ object x b reads
+  Reaches deeper = (qs : List AskedPart) (s : Spot) (x b : ℕ) (reads : List Place) → Stands nodes r s.node s.names → deeper s.node qs s.links ≡ object x b reads
       → IsReachedThere nodes r flags qs s x b
 
-  module _ (deeper : Deeper) (further : Reaches deeper) (s : Spot) (stands : Stands nodes r s.node s.names) (x b : ℕ) (reads : List Entry)
+  module _ (deeper : Deeper) (further : Reaches deeper) (s : Spot) (stands : Stands nodes r s.node s.names) (x b : ℕ) (reads : List Place)
       (in_dir : is_dir nodes s.node ≡ true) where
     way : IsWay (at_rest nodes r flags) s.node s.names
     way = way_of nodes r flags is s.node s.names stands
@@ -143,9 +146,9 @@ module _ (nodes : List Inode) (r : ℕ) (flags : Flags) (is : IsTree nodes) (dir
           rest_of t = if t then fails CrossRoot [] else deeper (from_of r s.node text) (followed (parts_of text)) left
 
           whole_of : Bool → Meant
-          whole_of t = if t then fails Loop [] else rest_of (crosses flags text)
+          whole_of t = if t then fails Loop [] else rest_of (leads_out (begins_with_slash text) flags)
 
-          reached : flags.no_links ≡ false → crosses flags text ≡ false → deeper (from_of r s.node text) (followed (parts_of text)) left ≡ object x b reads
+          reached : flags.no_links ≡ false → leads_out (begins_with_slash text) flags ≡ false → deeper (from_of r s.node text) (followed (parts_of text)) left ≡ object x b reads
               → IsPassed (Named true n) s x b
           reached allowed within h =
               let sub = further (followed (parts_of text)) (from_text (quiet nodes r flags) s text left (suc s.moment)) x b reads (start_stands (begins_with_slash text)) h in
@@ -158,13 +161,13 @@ module _ (nodes : List Inode) (r : ℕ) (flags : Flags) (is : IsTree nodes) (dir
                     (record { link = c; child = at_child; is_link = l; links = q; allowed = allowed; within = within }) sub.trail t;
               }
 
-          on_crossing : flags.no_links ≡ false → (t : Bool) → crosses flags text ≡ t → rest_of t ≡ object x b reads → IsPassed (Named true n) s x b
+          on_crossing : flags.no_links ≡ false → (t : Bool) → leads_out (begins_with_slash text) flags ≡ t → rest_of t ≡ object x b reads → IsPassed (Named true n) s x b
           on_crossing allowed true within h = absurd (no_object (fails CrossRoot []) x b reads tt h)
           on_crossing allowed false within h = reached allowed within h
 
           on_flag : (t : Bool) → flags.no_links ≡ t → IsPassed (Named true n) s x b
           on_flag true f = absurd (no_object (fails Loop []) x b reads tt (sym (ap whole_of f) ∙ e))
-          on_flag false f = on_crossing f (crosses flags text) refl (sym (ap whole_of f) ∙ e)
+          on_flag false f = on_crossing f (leads_out (begins_with_slash text) flags) refl (sym (ap whole_of f) ∙ e)
 
       child_passed : (follow : Bool) (o : Option Object) → object_at nodes c ≡ o → child_is deeper (still nodes r flags) s.node follow s.links c o ≡ object x b reads
           → (o ≡ None → ⊥) → IsPassed (Named follow n) s x b
@@ -180,7 +183,7 @@ module _ (nodes : List Inode) (r : ℕ) (flags : Flags) (is : IsTree nodes) (dir
   child_is_something d c n e none = object_at-place nodes c (entry d n) (place_at-child nodes d n c e) none
 
   module _ (deeper : Deeper) (further : Reaches deeper) where
-    name_passed : (s : Spot) → Stands nodes r s.node s.names → (x b : ℕ) (reads : List Entry) → is_dir nodes s.node ≡ true → (follow : Bool) (n : List ℕ)
+    name_passed : (s : Spot) → Stands nodes r s.node s.names → (x b : ℕ) (reads : List Place) → is_dir nodes s.node ≡ true → (follow : Bool) (n : List ℕ)
         → part_means deeper (still nodes r flags) s.node (Named follow n) s.links ≡ object x b reads → IsPassed (Named follow n) s x b
     name_passed s stands x b reads in_dir follow n e = on_length (is_too_long n) refl
       where
@@ -192,12 +195,12 @@ module _ (nodes : List Inode) (r : ℕ) (flags : Flags) (is : IsTree nodes) (dir
         on_length : (t : Bool) → is_too_long n ≡ t → IsPassed (Named follow n) s x b
         on_length true long = absurd (no_object (fails TooLong []) x b reads tt
             (sym (part_in fits deeper s.node (Named follow n) s.links in_dir
-            ∙ ap (λ y. if y then fails TooLong [] else after_reads (record { dir = s.node; name = n } ∷ []) (named deeper (still nodes r flags) s.node follow s.links (child nodes s.node n))) long) ∙ e))
+            ∙ ap (λ y. if y then fails TooLong [] else after_reads (record { parent = s.node; name = n } ∷ []) (named deeper (still nodes r flags) s.node follow s.links (child nodes s.node n))) long) ∙ e))
         on_length false short = on_child short (child nodes s.node n) refl
-            (after_is (record { dir = s.node; name = n } ∷ []) (named deeper (still nodes r flags) s.node follow s.links (child nodes s.node n)) x b reads
+            (after_is (record { parent = s.node; name = n } ∷ []) (named deeper (still nodes r flags) s.node follow s.links (child nodes s.node n)) x b reads
             (sym (name_in fits deeper s.node follow n s.links in_dir short) ∙ e))
 
-    part_passed : (s : Spot) → Stands nodes r s.node s.names → (x b : ℕ) (reads : List Entry) → is_dir nodes s.node ≡ true → (p : AskedPart)
+    part_passed : (s : Spot) → Stands nodes r s.node s.names → (x b : ℕ) (reads : List Place) → is_dir nodes s.node ≡ true → (p : AskedPart)
         → part_means deeper (still nodes r flags) s.node p s.links ≡ object x b reads → IsPassed p s x b
     part_passed s stands x b reads in_dir Cur e =
         let value = sym (part_in fits deeper s.node Cur s.links in_dir) ∙ e in
@@ -205,7 +208,7 @@ module _ (nodes : List Inode) (r : ℕ) (flags : Flags) (is : IsTree nodes) (dir
     part_passed s stands x b reads in_dir Up e = up_passed deeper further s stands x b reads in_dir s.names refl e
     part_passed s stands x b reads in_dir (Named follow n) e = name_passed s stands x b reads in_dir follow n e
 
-    part_reached : (s : Spot) → Stands nodes r s.node s.names → (x b : ℕ) (reads : List Entry) (p : AskedPart)
+    part_reached : (s : Spot) → Stands nodes r s.node s.names → (x b : ℕ) (reads : List Place) (p : AskedPart)
         → part_means deeper (still nodes r flags) s.node p s.links ≡ object x b reads → IsPassed p s x b
     part_reached s stands x b reads p e = on (is_dir nodes s.node) refl
       where
@@ -214,7 +217,7 @@ module _ (nodes : List Inode) (r : ℕ) (flags : Flags) (is : IsTree nodes) (dir
         on false f = absurd (no_object (fails NotDir []) x b reads tt
             (sym (ap (λ y. if y then one_part deeper (still nodes r flags) s.node p s.links else fails NotDir []) f) ∙ e))
 
-    parts_reached : (ps : List AskedPart) (s : Spot) (x b : ℕ) (reads : List Entry) → Stands nodes r s.node s.names
+    parts_reached : (ps : List AskedPart) (s : Spot) (x b : ℕ) (reads : List Place) → Stands nodes r s.node s.names
         → parts_mean deeper (still nodes r flags) s.node ps s.links ≡ object x b reads → IsReachedThere nodes r flags ps s x b
     parts_reached [] s x b reads stands e = record { to = s; trail = all s.moment (le_refl s.moment); node = ap node_in e; links = ap links_in e; stands = stands }
     parts_reached (p ∷ ps) s x b reads stands e =

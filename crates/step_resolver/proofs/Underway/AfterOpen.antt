@@ -11,12 +11,13 @@ use Rattle.tree_model.specs.declared.inode.Object.TheVariants.{Dir, File, Link}
 use Rattle.tree_model.specs.declared.step.StepOf.TheVariants.{Open}
 use Rattle.tree_model.specs.State.{object_at, child}
 use Rattle.tree_model.specs.Steps.{outcome, opens, kind_of}
+use Rattle.tree_model.proofs.Children.{entry, place_at-child}
 use Rattle.step_resolver.specs.Asked.{AskedPart, Named, is_deepest}
 use Rattle.step_resolver.specs.Trail.{down, IsChildAt, is_entered}
 use Rattle.step_resolver.specs.Order.{Handle, Position, root_itself, holds, todo, onward, opening, Turn, names_of, handles_of, handle_at, gives_up, at_end, is_followed, follows_link, enters, opened, take, more, reading}
 use Rattle.step_resolver.specs.WalkHistory.{WalkInHistory, state_at, timeline}
 use Rattle.step_resolver.specs.Failures.{TellsError, IsMissingAt, MetRefusal}
-use Rattle.step_resolver.proofs.Meaning.NodesAtEntries.{entry, place_at-child, object_at-place}
+use Rattle.step_resolver.proofs.Meaning.NodesAtEntries.{object_at-place}
 use Rattle.step_resolver.proofs.Underway.StepOutcomes.{IsMore, Opening, too_many, no_object, is_opened, opening_of, OpenCase, no_dir, no_child, at_child, open_case}
 use Rattle.step_resolver.proofs.Underway.WalkInvariant.{Lived, StepAt, held_at, HandlesAre, handles_kept, handles_more, IsHeld, dir_at, node_at, spot_at, IsPositionHeld, Going, GoesFor, stop_at, passed_on, within_link, AllApart, GoodOpening, at_missing, Good}
 use Rattle.step_resolver.proofs.Underway.HandleCount.{few_held, refusal_told}

@@ -16,6 +16,7 @@ use Rattle.tree_model.specs.declared.step.StepOf.TheVariants.{Parent, NameBelow}
 use Rattle.tree_model.specs.State.{TOP, object_at, place_at, parent, is_directory, Stands, names_below}
 use Rattle.tree_model.specs.Steps.{outcome, opens, shows, kind_of}
 use Rattle.tree_model.specs.Trees.{IsTree}
+use Rattle.handles.proofs.SameNames.{same_where_equal}
 use Rattle.step_resolver.specs.Asked.{AskedPart, Up}
 use Rattle.step_resolver.specs.Trail.{climb, IsOwnFrom}
 use Rattle.step_resolver.specs.Order.{Handle, holds, todo, judges, rising, judging, Turn, gives_up, goes_on, judged, take}
@@ -52,9 +53,6 @@ parent_is_something nodes is x e p none = on (x == TOP) refl
 pub names_same : (xs ys : List (List ℕ)) → same_names xs ys ≡ true → xs ≡ ys
 names_same xs ys e = (pointwise_decides bytes_decides xs ys).0 e
 
-pub same_same : (xs ys : List (List ℕ)) → xs ≡ ys → same_names xs ys ≡ true
-same_same xs ys e = (pointwise_decides bytes_decides xs ys).1 e
-
 pub reversed_same : (xs ys : List (List ℕ)) → reverse xs ≡ reverse ys → xs ≡ ys
 reversed_same xs ys e = sym (reverse-reverse xs) ∙ ap reverse e ∙ reverse-reverse ys
 
@@ -82,7 +80,7 @@ judged_good {w} lived m u handle names turn answer is root_is handle_is taken on
         (q ∙ ap Some (reversed_same told names (names_same (reverse told) (reverse names) e)))) kept)
     on_test told q kept false e =
         subst (Good w (suc u)) (sym (ap (judged_as told) e))
-        (astray (λ stands. false≢true (sym e ∙ same_same (reverse told) (reverse names)
+        (astray (λ stands. false≢true (sym e ∙ same_where_equal (reverse told) (reverse names)
         (ap reverse (same_Some told names (sym q ∙ lived.below u handle.node names stands))))) kept)
 
     on_told : (o : Option (List (List ℕ))) → names_below (state_at w u).nodes w.root handle.node ≡ o → Good w (suc u) (taken answer)

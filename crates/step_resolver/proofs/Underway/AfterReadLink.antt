@@ -11,8 +11,8 @@ use Rattle.tree_model.specs.declared.inode.Object.TheVariants.{Link}
 use Rattle.tree_model.specs.declared.step.StepOf.TheVariants.{ReadLink}
 use Rattle.tree_model.specs.State.{object_at}
 use Rattle.tree_model.specs.Steps.{outcome, answered, reads}
+use Rattle.walk_plan.specs.Plan.{leads_out}
 use Rattle.step_resolver.specs.Asked.{AskedPart, Named, followed}
-use Rattle.step_resolver.specs.Meaning.{crosses}
 use Rattle.step_resolver.specs.TrailLaws.{Split, passed, stopped}
 use Rattle.step_resolver.specs.Trail.{Timeline, Spot, Trail, through, into, IsLinkAt, from_text}
 use Rattle.step_resolver.specs.Order.{Handle, Position, root_itself, todo, onward, reading, names_of, handles_of, gives_up, take, read_text, from_link}
@@ -62,7 +62,7 @@ module _ {w : WalkInHistory} (lived : Lived w) (now u : ℕ) (room : Bool) (want
   position_now = position_kept w now (suc u) position kept good.position_held
 
   -- the parts of the text come in the place of the link's name
-  going_on : crosses w.way.flags text ≡ false → (to : Position) → from_text (timeline w) (spot_at w position (suc b) good.m) text b (suc good.t) ≡ spot_at w to b (suc good.t)
+  going_on : leads_out (begins_with_slash text) w.way.flags ≡ false → (to : Position) → from_text (timeline w) (spot_at w position (suc b) good.m) text b (suc good.t) ≡ spot_at w to b (suc good.t)
       → Going w (suc u) to (followed (parts_of text) ++ inner) rest b
   going_on within to e = going_later (le_trans good.past (le_trans is.at.later (le-suc u)))
       (passes good.own (Named true good.name) position inner rest (suc b) good.going (followed (parts_of text)) to b (suc good.t)
@@ -72,7 +72,7 @@ module _ {w : WalkInHistory} (lived : Lived w) (now u : ℕ) (room : Bool) (want
       (λ g z q tr. within_text (is_at within) g z q (split (timeline w) (followed (parts_of text)) []
       (subst (λ s. Trail (timeline w) (followed (parts_of text) ++ []) s z (Some q)) (sym e) tr))))
     where
-      is_at : crosses w.way.flags text ≡ false → IsLinkAt (timeline w) (spot_at w position (suc b) good.m) good.name good.t text b
+      is_at : leads_out (begins_with_slash text) w.way.flags ≡ false → IsLinkAt (timeline w) (spot_at w position (suc b) good.m) good.name good.t text b
       is_at inside = record { link = link.node; child = good.at; is_link = good.is_link; links = refl; allowed = good.allowed; within = inside }
 
       within_text : IsLinkAt (timeline w) (spot_at w position (suc b) good.m) good.name good.t text b → Going w good.m position [] (Named true good.name ∷ rest) (suc b)
@@ -101,7 +101,7 @@ module _ {w : WalkInHistory} (lived : Lived w) (now u : ℕ) (room : Bool) (want
     moment = suc good.t;
   }
 
-  from_good : crosses w.way.flags text ≡ false → (x : Bool) → begins_with_slash text ≡ x → (r : Bool) → room ≡ r
+  from_good : leads_out (begins_with_slash text) w.way.flags ≡ false → (x : Bool) → begins_with_slash text ≡ x → (r : Bool) → room ≡ r
       → Good w (suc u) (from_link w.way r position link x (followed (parts_of text)) (todo inner rest b))
   from_good within true e true q =
       closes_good lived (suc u) (link.number ∷ handles_of position) (onward root_itself (todo (followed (parts_of text) ++ inner) rest b))
@@ -114,7 +114,7 @@ module _ {w : WalkInHistory} (lived : Lived w) (now u : ℕ) (room : Bool) (want
   from_good within true e false q = gave_up lived (link.number ∷ handles_of position) NoMemory (want q) handles_now
   from_good within false e false q = gave_up lived (link.number ∷ handles_of position) NoMemory (want q) handles_now
 
-  text_good : (x : Bool) → crosses w.way.flags text ≡ x → Good w (suc u) (read_text w.way room position link (todo inner rest b) text None)
+  text_good : (x : Bool) → leads_out (begins_with_slash text) w.way.flags ≡ x → Good w (suc u) (read_text w.way room position link (todo inner rest b) text None)
   text_good true e =
       subst (Good w (suc u)) (sym (ap (λ x. if x then gives_up (link.number ∷ handles_of position) CrossRoot
       else from_link w.way room position link (begins_with_slash text) (followed (parts_of text)) (todo inner rest b)) e))
@@ -143,4 +143,4 @@ module _ {w : WalkInHistory} (lived : Lived w) (now u : ℕ) (room : Bool) (want
   reading_good =
       subst (λ v. Good w (suc u) (take w.way room (reading position link (todo inner rest b)) v)) (sym (is.told ∙ ap (λ r. r.answer) outcome_is))
       (subst (λ f. Good w (suc u) (read_text w.way room position link (todo inner rest b) text f)) (sym no_fault)
-      (text_good (crosses w.way.flags text) refl))
+      (text_good (leads_out (begins_with_slash text) w.way.flags) refl))

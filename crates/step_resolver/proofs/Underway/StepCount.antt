@@ -8,8 +8,9 @@ use Rattle.path_text.specs.Text.{text_fault, parts_of, begins_with_slash}
 use Rattle.tree_model.specs.declared.answer.Answer.{Answer}
 use Rattle.tree_model.specs.declared.answer.Answer.TheVariants.{Opened, Text, Names, NotBelow, Refused}
 use Rattle.step_resolver.specs.Asked.{AskedPart, Cur, Up, Named, ask, asked, followed, follows, is_deepest}
-use Rattle.step_resolver.specs.Meaning.{LINKS_MAX, is_too_long, crosses}
+use Rattle.step_resolver.specs.Meaning.{LINKS_MAX, is_too_long}
 use Rattle.path_text.specs.Names.{same_names}
+use Rattle.walk_plan.specs.Plan.{leads_out}
 use Rattle.step_resolver.specs.Order.{Way, Handle, Position, root_itself, holds, Todo, todo, After, gives, onward, judges, Walking, opening, reading, rising, judging, duping, ending, closing, Turn, more, found, partial, failed, names_of, handles_of, is_dir_position, is_followed, gives_up, at_end, in_directory, on_part, on_own, on_parts, goes_on, begins, closes, refusal_of, with_room, follows_link, enters, refused_open, from_link, read_text, end_of, judged, refused_rise, take, Line, answered, no_room, not_made, LeadsTo}
 use Rattle.step_resolver.specs.StepCount.{parts_in, to_come, to_come_at, to_come_after, brought, passed, passed_from, parts_passed, StepsByPartsPassed}
 use Rattle.step_resolver.proofs.WalkSteps.{one_handle}
@@ -165,7 +166,7 @@ module _ (way : Way) where
       → came ≡ suc (parts_in (todo inner own b)) + length (parts_of text) → Pays 3 came (read_text way room position link (todo inner own b) text fault)
   read_text_pays came room position link inner own b text (Some fault) e = leaves_both 3 came link.number position fault (omega arith)
   read_text_pays came room position link inner own b text None e =
-      either_pays 3 came (crosses way.flags text) _ _ (leaves_both 3 came link.number position CrossRoot (omega arith))
+      either_pays 3 came (leads_out (begins_with_slash text) way.flags) _ _ (leaves_both 3 came link.number position CrossRoot (omega arith))
       (from_link_pays came room position link (begins_with_slash text) (followed (parts_of text)) inner own b
       (omega (arith, e, length-map (parts_of text) (ask true))))
 
@@ -234,6 +235,6 @@ pub steps_by_parts_passed : StepsByPartsPassed
 steps_by_parts_passed way path lines end leads =
     let asked_parts = asked (follows way.goal) path.parts in
     let few = few_at (length asked_parts) _ _
-    (either (length asked_parts) (way.flags.beneath && path.absolute) (failed CrossRoot) (goes_on way root_itself (todo [] asked_parts LINKS_MAX)) (omega arith)
+    (either (length asked_parts) (leads_out path.absolute way.flags) (failed CrossRoot) (goes_on way root_itself (todo [] asked_parts LINKS_MAX)) (omega arith)
     (on_own_within way root_itself asked_parts LINKS_MAX)) in
     omega (arith, few, lines_paid way lines (begins way path) end leads)

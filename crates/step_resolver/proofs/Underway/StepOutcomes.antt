@@ -10,6 +10,7 @@ use Rattle.tree_model.specs.declared.step.StepOf.TheVariants.{Open, Dup, Parent,
 use Rattle.tree_model.specs.State.{State, object_at, child, parent, is_dir, names_below}
 use Rattle.tree_model.specs.Steps.{Outcome, refused, outcome, opens, reads, shows, with_handle, held, node_held, is_full, kind_of}
 use Rattle.tree_model.specs.Entries.{refuse_if, with_some}
+use Rattle.tree_model.proofs.Places.{slice_get-last}
 
 -- ---- handles
 
@@ -18,10 +19,6 @@ slice_get-other [] y zero ne = absurd (ne refl)
 slice_get-other [] y (suc h) ne = refl
 slice_get-other (x ∷ xs) y zero ne = refl
 slice_get-other (x ∷ xs) y (suc h) ne = slice_get-other xs y h (λ e. ne (ap suc e))
-
-slice_get-last : {A : Type 0} (xs : List A) (y : A) → slice_get (xs ++ y ∷ []) (length xs) ≡ Some y
-slice_get-last [] y = refl
-slice_get-last (x ∷ xs) y = slice_get-last xs y
 
 -- one handle more: it is open, it wasn't before, and the others are as they were
 pub record IsMore (s : State) (a : ℕ) (new : State) (h x : ℕ) : Type 0 where

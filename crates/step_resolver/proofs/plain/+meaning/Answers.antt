@@ -1,9 +1,10 @@
 use Rattle.std.proofs.Common.{◌≡◌, ◌<◌, ◌+◌, ◌-◌, nat_lt, length, true, false, ◌||◌, Ok, ap, sym, ◌∙◌, le_trans, arith}
 use Rattle.std.proofs.lemmas.Bool.Decides.{nat_tests}
 use Rattle.std.proofs.lemmas.Result.{err_from_is_err_and}
-use Rattle.path_text.specs.Text.{pieces, part_of, parts_of, has_final_slash}
+use Rattle.path_text.specs.Text.{pieces, part_of, parts_of, has_final_slash, begins_with_slash}
+use Rattle.walk_plan.specs.Plan.{leads_out}
 use Rattle.step_resolver.specs.Asked.{ask, asked}
-use Rattle.step_resolver.specs.Meaning.{Ground, from_of, crosses, part_means, parts_mean}
+use Rattle.step_resolver.specs.Meaning.{Ground, from_of, part_means, parts_mean}
 use Rattle.step_resolver.specs.Plain.{arrival, meant}
 use Rattle.step_resolver.proofs.Meaning.PlainResolution.{link_followed, part_arrived-lowers, piece_arrives, piece_fails}
 use Rattle.step_resolver.proofs.plain.+meaning.Goals as goal
@@ -15,7 +16,7 @@ link_means-returns t c =
     let links = c.args.here.links in
     let some : 0 < links = grind (arith, nat_tests) in
     let allowed : g.flags.no_links ≡ false = (let seen = ap (λ (h : Ground). h.flags.no_links) c.on.view_is in cc) in
-    let within : crosses g.flags text ≡ false = (let seen = ap (λ (h : Ground). crosses h.flags text) c.on.view_is in cc) in
+    let within : leads_out (begins_with_slash text) g.flags ≡ false = (let seen = ap (λ (h : Ground). leads_out (begins_with_slash text) h.flags) c.on.view_is in cc) in
     let from : c.from_of-from.result ≡ from_of g.root c.args.here.node text =
     (let seen = ap (λ (h : Ground). from_of h.root c.args.here.node text) c.on.view_is in cc) in
     c.text_means.ensures

@@ -1,7 +1,7 @@
 use Rattle.std.proofs.Common.{rules, ◌≡◌, ◌&&◌, true, false, Some}
 use Rattle.tree_model.specs.State.{child, is_dir, is_gone, is_within, has_entries}
 use Rattle.tree_slab.proofs.Index.{present, replaced_index}
-use Rattle.tree_slab.proofs.Fault.{replace_fault-childless}
+use Rattle.tree_model.proofs.Changed.{replace_fault-none}
 use Rattle.tree_slab.proofs.nodes.Nodes.replace.Goals as goal
 
 pub relink-requires : goal.relink-requires
@@ -16,5 +16,5 @@ invariant_of-self c =
     let there : child c.self.inside.inodes.items c.args.from.now.parent c.args.from.now.name ≡ Some c.args.moved = search rules in
     let other : child c.self.inside.inodes.items c.args.to.parent c.args.to.name ≡ Some c.args.there = search rules in
     let out : is_within c.self.inside.inodes.items c.args.moved c.args.to.parent ≡ false = search rules in
-    let childless : (is_dir c.self.inside.inodes.items c.args.there && has_entries c.self.inside.inodes.items c.args.there) ≡ false = replace_fault-childless c.self.inside.inodes.items c.args.moved c.args.there (search rules) in
+    let childless : (is_dir c.self.inside.inodes.items c.args.there && has_entries c.self.inside.inodes.items c.args.there) ≡ false = replace_fault-none c.self.inside.inodes.items c.args.moved c.args.there (search rules) in
     rw (c.set_place-2.ensures, c.set_place.ensures) (replaced_index c.self.inside.inodes.items c.self.inside.directories c.self.invariant c.args.from.now.parent c.args.from.now.name c.args.to.parent c.args.to.name c.args.moved dir stays there out c.relink.new.self c.unlink.new.self c.give_back.new.self c.args.there other c.requires.apart childless c.relink.ensures c.unlink.ensures c.give_back.ensures)
