@@ -15,6 +15,8 @@ use tree_model::{Answer, Step};
 mod clearing;
 mod frame;
 mod phase;
+#[cfg(test)]
+mod tests;
 
 pub use clearing::CLEARING_STEPS_MAX;
 
