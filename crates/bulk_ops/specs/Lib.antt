@@ -1,0 +1,13 @@
+pub use Rattle.path_text.specs.Errno
+pub use Rattle.path_text.specs.Name
+pub use Rattle.path_text.specs.Names
+pub use Rattle.path_text.specs.Reading
+pub use Rattle.tree_model.specs.State
+pub use Rattle.tree_model.specs.Steps
+pub use Rattle.tree_model.specs.History
+pub use Rattle.step_resolver.specs.Order
+pub use Rattle.step_resolver.specs.View
+pub use Rattle.step_resolver.specs.TurnView
+pub mod RemoveAllOrder
+pub mod RemoveAllView
+pub mod RemoveAllTurnView

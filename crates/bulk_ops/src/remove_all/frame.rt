@@ -1,0 +1,67 @@
+//! A directory that is being cleared.
+ghost use Rattle.std.specs.Prelude.{◌≡◌, ◌<◌, [], ◌∷◌, IfOk, MatchResult, length};
+
+use handles::Reached;
+use path_text::{Name, Names, NoMemory};
+use std::alloc::Global;
+
+/// A directory that is held, and the names of the entries that are to be cleared in it: those before the place are, and
+/// the one at the place is under way.
+#[derive(Debug)]
+pub(crate) struct Frame {
+    pub(crate) dir: Reached,
+    pub(crate) names: Names,
+    pub(crate) at: usize,
+    ghost under_way: { at < length names },
+}
+
+impl Frame {
+    ghost use Rattle.bulk_ops.specs.RemoveAllView.{level_of, level_at};
+
+    /// The directory with the first of its entries under way; or the directory itself, where it has none.
+    pub(crate) fn first(dir: Reached, names: Names) -> Result<Frame, Reached>
+        ensures { MatchResult result (λ frame. level_at dir.handle names ≡ level_of frame ∷ []) (λ empty. (names ≡ []) × (empty ≡ dir)) }
+    {
+        if names.is_empty() {
+            Err(dir)
+        } else {
+            Ok(Frame { dir, names, at: 0 })
+        }
+    }
+
+    /// The directory with the next of its entries under way; or the directory itself, where that was the last.
+    pub(crate) fn next(self) -> Result<Frame, Reached>
+        ensures { MatchResult result (λ frame. level_at self.dir.handle (level_of self).others ≡ level_of frame ∷ []) (λ cleared. ((level_of self).others ≡ []) × (cleared ≡ self.dir)) }
+    {
+        let Frame { dir, names, at } = self;
+        let count = names.len();
+        if at + 1 < count {
+            Ok(Frame {
+                dir,
+                names,
+                at: at + 1,
+            })
+        } else {
+            Err(dir)
+        }
+    }
+
+    /// The directory alone.
+    pub(crate) fn into_dir(self) -> Reached
+        ensures { result ≡ self.dir }
+    {
+        let Frame {
+            dir,
+            names: _,
+            at: _,
+        } = self;
+        dir
+    }
+
+    /// The name of the entry under way. NoMemory where its room was refused.
+    pub(crate) fn name(&self, alloc: Global) -> Result<Name, NoMemory>
+        ensures { IfOk result (λ name. name ≡ (level_of self.now).name) }
+    {
+        self.names.to_name(alloc, self.at)
+    }
+}
