@@ -1,0 +1,2 @@
+pub mod MakeAllNames
+pub mod MakeAllSteps

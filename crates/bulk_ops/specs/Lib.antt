@@ -1,0 +1,6 @@
+pub use Rattle.step_resolver.specs.Order
+pub use Rattle.step_resolver.specs.WalkHistory
+pub use Rattle.step_resolver.specs.TurnView
+pub mod MakeAllOrder
+pub mod MakeAllView
+pub mod MakeAllSteps
