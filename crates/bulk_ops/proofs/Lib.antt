@@ -1,1 +1,3 @@
+pub mod MakeAllNames
+pub mod MakeAllSteps
 pub mod RemovingAll

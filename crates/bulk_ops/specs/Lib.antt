@@ -6,8 +6,12 @@ pub use Rattle.tree_model.specs.State
 pub use Rattle.tree_model.specs.Steps
 pub use Rattle.tree_model.specs.History
 pub use Rattle.step_resolver.specs.Order
+pub use Rattle.step_resolver.specs.WalkHistory
 pub use Rattle.step_resolver.specs.View
 pub use Rattle.step_resolver.specs.TurnView
+pub mod MakeAllOrder
+pub mod MakeAllView
+pub mod MakeAllSteps
 pub mod RemoveAllOrder
 pub mod RemoveAllView
 pub mod RemoveAllTurnView

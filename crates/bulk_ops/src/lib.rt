@@ -1,12 +1,20 @@
-//! Calls of many steps on a tree that others change meanwhile: an entry is removed with all that is below it.
+//! Calls that make or remove many entries, one step at a time, while others change the tree in between.
 //!
-//! `RemoveAll` asks for one step at a time and is told its answer, as a `Walk` does. Its `start`, `due` and `take` are
-//! exactly the order of steps of `specs/RemoveAllOrder.antt`, and each `take` leaves fewer steps to come: none that
-//! clears comes after `CLEARING_STEPS_MAX` of them.
+//! `MkdirAll` makes what is missing of a path (`mkdir -p`), and `RemoveAll` removes an entry with all that is below it
+//! (`rm -r`). Each asks for one step at a time and is told its answer, as a `Walk` does. Their `start`, `due` and `take`
+//! are exactly the orders of steps of `specs/MakeAllOrder.antt` and `specs/RemoveAllOrder.antt`, and each `take` leaves
+//! fewer steps to come: none that clears comes after `CLEARING_STEPS_MAX` of them.
 #![tactic(auto)]
 
+mod make_all;
+mod make_all_laws;
 mod remove_all;
 mod turn;
 
+pub use make_all::MkdirAll;
+pub use make_all_laws::steps_after_the_walk;
 pub use remove_all::{CLEARING_STEPS_MAX, RemoveAll};
 pub use turn::BulkTurn;
+
+#[cfg(test)]
+mod tests;

@@ -1,0 +1,269 @@
+-- The names of a path's rest, those that are expected at the end, and what the answers make of the next one.
+use Rattle.std.specs.Prelude.{◌≡◌, ◌≢◌, ℕ, zero, suc, ◌<◌, List, [], ◌∷◌, ◌++◌, Bool, true, false, length, take, drop, reverse, slice_get, Option, Some, None, if◌then◌else◌, refl}
+use Rattle.std.proofs.Common.{sym, ap, subst, ◌∙◌, not-suc-le-zero, le_of_suc-le-suc}
+use Rattle.std.proofs.lemmas.List.{reverse-append, reverse-reverse}
+use Rattle.std.proofs.lemmas.Option.{same_Some}
+use Rattle.path_text.specs.declared.errno.Errno.{Errno}
+use Rattle.path_text.specs.declared.errno.Errno.TheVariants.{Exists, NotDir, TooLong, Raced, NoMemory}
+use Rattle.path_text.specs.declared.part.Part.{Part}
+use Rattle.path_text.specs.declared.part.Part.TheVariants as part
+use Rattle.path_text.specs.Name.{is_component, component_fault, name_fault}
+use Rattle.path_text.specs.Names.{same_names}
+use Rattle.tree_model.specs.declared.answer.Answer.{Answer}
+use Rattle.tree_model.specs.declared.answer.Answer.TheVariants.{Opened, Text, Names, NotBelow, Listed, Done, Refused}
+use Rattle.tree_model.specs.declared.step.StepOf.TheVariants.{Open, MakeDir}
+use Rattle.handles.specs.Objects.{ReachedObject, StandingObject, reached_by}
+use Rattle.handles.proofs.SameNames.{same_where_equal, other_where_not}
+use Rattle.step_resolver.specs.Asked.{asked}
+use Rattle.step_resolver.specs.Meaning.{is_too_long}
+use Rattle.step_resolver.specs.Order.{Way, Handle, refusal_of, is_dir_kind}
+use Rattle.step_resolver.specs.View.{handle_of, check_refusal}
+use Rattle.step_resolver.specs.TurnView.{standing_handle}
+use Rattle.bulk_ops.specs.MakeAllOrder.{Making, making, opening, leaving, ending, MakeTurn, more, made, rest_fault, rest_names, gives_up, goes_down, begins_to_make, raced_if_missing, refused_make, enters, due}
+use Rattle.bulk_ops.specs.MakeAllOrder.{take as takes}
+use Rattle.bulk_ops.specs.MakeAllView.{MakingView, IsTurn, at_next, gone_into, passed, to_come, fault_in, names_in, has_a_name, view_of, IsStage, making_of}
+use Rattle.bulk_ops.specs.declared.make_all.Call.{Call}
+use Rattle.bulk_ops.specs.declared.make_all.Chain.{Chain}
+use Rattle.bulk_ops.specs.declared.make_all.Stage.{Stage}
+use Rattle.bulk_ops.specs.declared.make_all.Stage.TheVariants.{Making as MakingIn, Opening}
+use Rattle.std.specs.Global.{Global}
+use Rattle.std.specs.Prelude.{Box}
+use Rattle.bulk_ops.specs.declared.turn.BulkTurn.{BulkTurn}
+
+-- ---- the rest
+
+-- the rest of the caller's parts, as they were asked
+pub fault_asked : (rest : List Part) → rest_fault (asked true rest) ≡ fault_in rest
+fault_asked [] = refl
+fault_asked (part.Cur ∷ []) = refl
+fault_asked (part.Up ∷ []) = refl
+fault_asked (part.Named n ∷ []) = refl
+fault_asked (part.Cur ∷ q ∷ rest) = fault_asked (q ∷ rest)
+fault_asked (part.Up ∷ q ∷ rest) = refl
+fault_asked (part.Named n ∷ q ∷ rest) = ap (λ f. if is_too_long n then Some TooLong else f) (fault_asked (q ∷ rest))
+
+pub names_asked : (rest : List Part) → rest_names (asked true rest) ≡ names_in rest
+names_asked [] = refl
+names_asked (part.Cur ∷ []) = refl
+names_asked (part.Up ∷ []) = refl
+names_asked (part.Named n ∷ []) = refl
+names_asked (part.Cur ∷ q ∷ rest) = names_asked (q ∷ rest)
+names_asked (part.Up ∷ q ∷ rest) = names_asked (q ∷ rest)
+names_asked (part.Named n ∷ q ∷ rest) = ap (λ (ns : List (List ℕ)). n ∷ ns) (names_asked (q ∷ rest))
+
+-- a part that isn't too long is a name
+pub named : (n : List ℕ) → component_fault n ≡ None → is_too_long n ≡ false → name_fault n ≡ None
+named n whole short = on (is_component n) refl
+  where
+    on : (b : Bool) → is_component n ≡ b → name_fault n ≡ None
+    on true e = rw (e, short) refl
+    on false e = cc (rw e at whole)
+
+-- ---- the next name
+
+taken : (xs ys : List (List ℕ)) → take (length xs) (xs ++ ys) ≡ xs
+taken [] ys = refl
+taken (x ∷ xs) ys = ap (λ (zs : List (List ℕ)). x ∷ zs) (taken xs ys)
+
+dropped : (xs ys : List (List ℕ)) → drop (length xs) (xs ++ ys) ≡ ys
+dropped [] ys = refl
+dropped (x ∷ xs) ys = dropped xs ys
+
+pub record IsNext (k : ℕ) (xs : List (List ℕ)) : Type 0 where
+  pub name : List ℕ
+  pub is : slice_get xs k ≡ Some name
+  pub left : drop k xs ≡ name ∷ drop (suc k) xs
+  pub passes : reverse (take (suc k) xs) ≡ name ∷ reverse (take k xs)
+
+next_taken : (k : ℕ) (xs : List (List ℕ)) → k < length xs
+    → (name : List ℕ) × (slice_get xs k ≡ Some name) × (drop k xs ≡ name ∷ drop (suc k) xs) × (take (suc k) xs ≡ take k xs ++ name ∷ [])
+next_taken k [] less = absurd (not-suc-le-zero less)
+next_taken zero (x ∷ xs) less = (x, refl, refl, refl)
+next_taken (suc k) (x ∷ xs) less =
+    let next = next_taken k xs (le_of_suc-le-suc less) in
+    (next.0, next.1, next.2, ap (λ (ys : List (List ℕ)). x ∷ ys) next.3)
+
+pub next_of : (k : ℕ) (xs : List (List ℕ)) → k < length xs → IsNext k xs
+next_of k xs less =
+    let next = next_taken k xs less in
+    record { name = next.0; is = next.1; left = next.2; passes = ap reverse next.3 ∙ reverse-append (take k xs) (next.0 ∷ []) }
+
+pub comes_next : (k : ℕ) (xs : List (List ℕ)) (name : List ℕ) → k < length xs → slice_get xs k ≡ Some name → drop k xs ≡ name ∷ drop (suc k) xs
+comes_next k xs name less e =
+    let next = next_of k xs less in
+    next.left ∙ ap (λ (n : List ℕ). n ∷ drop (suc k) xs) (same_Some next.name name (sym next.is ∙ e))
+
+-- ---- what is due
+
+pub due_making : (way : Way) (held : ReachedObject) (chain : Chain) (name : List ℕ) (left : List (List ℕ)) → to_come chain ≡ name ∷ left
+    → MakeDir held.handle name ≡ due way (at_next (making (handle_of held) (passed chain)) (handle_of held) (passed chain) (to_come chain))
+due_making way held chain name left e = sym (ap (λ (ns : List (List ℕ)). due way (at_next (making (handle_of held) (passed chain)) (handle_of held) (passed chain) ns)) e)
+
+pub due_opening : (way : Way) (held : ReachedObject) (chain : Chain) (name : List ℕ) (left : List (List ℕ)) → to_come chain ≡ name ∷ left
+    → Open held.handle name ≡ due way (at_next (opening (handle_of held) (passed chain)) (handle_of held) (passed chain) (to_come chain))
+due_opening way held chain name left e = sym (ap (λ (ns : List (List ℕ)). due way (at_next (opening (handle_of held) (passed chain)) (handle_of held) (passed chain) ns)) e)
+
+-- ---- turns
+
+pub same_turn : (result : BulkTurn MakingView) {t u : MakeTurn} → t ≡ u → IsTurn result t → IsTurn result u
+same_turn result e is = subst (IsTurn result) e is
+
+refusal_made : (held : Handle) (names : List (List ℕ)) (n : List ℕ) (left : List (List ℕ)) (error : Errno) → error ≢ Exists
+    → refused_make held names n left error ≡ gives_up (held.number ∷ []) (raced_if_missing error)
+refusal_made held names n left Exists ne = absurd (ne refl)
+refusal_made held names n left error ne = refl
+
+made_otherwise : (way : Way) (held : Handle) (names : List (List ℕ)) (n : List ℕ) (left : List (List ℕ)) (answer : Answer) → answer ≢ Done
+    → takes way true (making held names n left) answer ≡ refused_make held names n left (refusal_of answer)
+made_otherwise way held names n left Done ne = absurd (ne refl)
+made_otherwise way held names n left answer ne = refl
+
+reached_is : (answer : Answer) (new : ReachedObject) → Some new ≡ reached_by answer → answer ≡ Opened new.handle new.node new.kind
+reached_is (Opened h x k) new e = ap (λ (o : ReachedObject). Opened o.handle o.node o.kind) (same_Some _ _ (sym e))
+reached_is (Text text) new e = cc (e)
+reached_is (Names names) new e = cc (e)
+reached_is NotBelow new e = cc (e)
+reached_is (Listed names) new e = cc (e)
+reached_is Done new e = cc (e)
+reached_is (Refused error) new e = cc (e)
+
+unreached : (way : Way) (held : Handle) (names : List (List ℕ)) (n : List ℕ) (left : List (List ℕ)) (answer : Answer) → None ≡ reached_by answer
+    → takes way true (opening held names n left) answer ≡ gives_up (held.number ∷ []) (raced_if_missing (refusal_of answer))
+unreached way held names n left (Opened h x k) e = cc (e)
+unreached way held names n left answer e = refl
+
+module _ (way : Way) (held : ReachedObject) (chain : Chain) (less : chain.done < length chain.names) where
+  abbrev handle : Handle
+  handle = handle_of held
+
+  abbrev names : List (List ℕ)
+  names = passed chain
+
+  abbrev at_making : Making
+  at_making = at_next (making handle names) handle names (to_come chain)
+
+  abbrev at_opening : Making
+  at_opening = at_next (opening handle names) handle names (to_come chain)
+
+  next : IsNext chain.done chain.names
+  next = next_of chain.done chain.names less
+
+  is_making : at_making ≡ making handle names next.name (drop (suc chain.done) chain.names)
+  is_making = ap (λ (ns : List (List ℕ)). at_next (making handle names) handle names ns) next.left
+
+  is_opening : at_opening ≡ opening handle names next.name (drop (suc chain.done) chain.names)
+  is_opening = ap (λ (ns : List (List ℕ)). at_next (opening handle names) handle names ns) next.left
+
+  pub name_made : (answer : Answer) → answer ≡ Done → more at_opening ≡ takes way true at_making answer
+  name_made answer e =
+      ap (λ (m : Making). more m) is_opening ∙ ap (λ (a : Answer). takes way true (making handle names next.name (drop (suc chain.done) chain.names)) a) (sym e)
+      ∙ ap (λ (m : Making). takes way true m answer) (sym is_making)
+
+  pub name_there : (answer : Answer) (error : Errno) → answer ≢ Done → error ≡ refusal_of answer → error ≡ Exists → more at_opening ≡ takes way true at_making answer
+  name_there answer error ne e exists =
+      ap (λ (m : Making). more m) is_opening ∙ ap (λ (x : Errno). refused_make handle names next.name (drop (suc chain.done) chain.names) x) (sym exists ∙ e)
+      ∙ sym (made_otherwise way handle names next.name (drop (suc chain.done) chain.names) answer ne)
+      ∙ ap (λ (m : Making). takes way true m answer) (sym is_making)
+
+  pub name_refused : (answer : Answer) (error : Errno) → answer ≢ Done → error ≡ refusal_of answer → error ≢ Exists
+      → gives_up (held.handle ∷ []) (raced_if_missing error) ≡ takes way true at_making answer
+  name_refused answer error ne e other =
+      sym (refusal_made handle names next.name (drop (suc chain.done) chain.names) error other)
+      ∙ ap (λ (x : Errno). refused_make handle names next.name (drop (suc chain.done) chain.names) x) e
+      ∙ sym (made_otherwise way handle names next.name (drop (suc chain.done) chain.names) answer ne)
+      ∙ ap (λ (m : Making). takes way true m answer) (sym is_making)
+
+  pub name_unopened : (answer : Answer) → None ≡ reached_by answer → gives_up (held.handle ∷ []) (raced_if_missing (refusal_of answer)) ≡ takes way true at_opening answer
+  name_unopened answer e =
+      sym (unreached way handle names next.name (drop (suc chain.done) chain.names) answer e) ∙ ap (λ (m : Making). takes way true m answer) (sym is_opening)
+
+  opened_takes : (answer : Answer) (new : ReachedObject) → Some new ≡ reached_by answer
+      → takes way true at_opening answer ≡ enters handle names next.name (drop (suc chain.done) chain.names) (handle_of new)
+  opened_takes answer new e =
+      ap (λ (a : Answer). takes way true at_opening a) (reached_is answer new e)
+      ∙ ap (λ (m : Making). takes way true m (Opened new.handle new.node new.kind)) is_opening
+
+  pub dir_opened : (answer : Answer) (new : ReachedObject) → Some new ≡ reached_by answer → is_dir_kind new.kind ≡ true
+      → more (gone_into held new chain) ≡ takes way true at_opening answer
+  dir_opened answer new e dir =
+      ap (λ (ns : List (List ℕ)). more (leaving held.handle (handle_of new) ns (drop (suc chain.done) chain.names))) next.passes
+      ∙ sym (ap (λ b. if b then more (leaving held.handle (handle_of new) (next.name ∷ names) (drop (suc chain.done) chain.names)) else gives_up (new.handle ∷ held.handle ∷ []) NotDir) dir)
+      ∙ sym (opened_takes answer new e)
+
+  pub other_opened : (answer : Answer) (new : ReachedObject) → Some new ≡ reached_by answer → is_dir_kind new.kind ≡ false
+      → gives_up (new.handle ∷ held.handle ∷ []) NotDir ≡ takes way true at_opening answer
+  other_opened answer new e ne =
+      sym (ap (λ b. if b then more (leaving held.handle (handle_of new) (next.name ∷ names) (drop (suc chain.done) chain.names)) else gives_up (new.handle ∷ held.handle ∷ []) NotDir) ne)
+      ∙ sym (opened_takes answer new e)
+
+-- ---- the last directory
+
+pub ended_made : (way : Way) (held : ReachedObject) (all : List (List ℕ)) (answer : Answer) → answer ≡ Names all
+    → made (handle_of held) (reverse all) ≡ takes way true (ending (handle_of held) (reverse all)) answer
+ended_made way held all answer e =
+    sym (ap (λ (a : Answer). takes way true (ending (handle_of held) (reverse all)) a) e
+    ∙ ap (λ b. if b then made (handle_of held) (reverse all) else gives_up (held.handle ∷ []) Raced)
+    (ap (same_names all) (reverse-reverse all) ∙ same_where_equal all all refl))
+
+pub ended_raced : (way : Way) (held : ReachedObject) (all : List (List ℕ)) (answer : Answer) → answer ≢ Names all
+    → gives_up (held.handle ∷ []) (check_refusal answer) ≡ takes way true (ending (handle_of held) (reverse all)) answer
+ended_raced way held all (Names told) other =
+    sym (ap (λ b. if b then made (handle_of held) (reverse all) else gives_up (held.handle ∷ []) Raced)
+    (ap (same_names told) (reverse-reverse all) ∙ other_where_not told all (λ e. other (ap (λ (ns : List (List ℕ)). Names ns) e))))
+ended_raced way held all NotBelow other = refl
+ended_raced way held all (Opened h x k) other = refl
+ended_raced way held all (Text text) other = refl
+ended_raced way held all (Listed told) other = refl
+ended_raced way held all Done other = refl
+ended_raced way held all (Refused error) other = refl
+
+-- ---- the rest of the path
+
+module _ (deepest : StandingObject) (rest : List Part) where
+  abbrev begun : Bool → MakeTurn
+  begun room = begins_to_make room (standing_handle deepest) (reverse deepest.names) (asked true rest) (rest_fault (asked true rest))
+
+  pub rest_refused : (fault : Errno) → Some fault ≡ fault_in rest → gives_up (deepest.handle ∷ []) fault ≡ begun true
+  rest_refused fault e =
+      sym (ap (λ (f : Option Errno). begins_to_make true (standing_handle deepest) (reverse deepest.names) (asked true rest) f) (fault_asked rest ∙ sym e))
+
+  pub rest_unheld : None ≡ fault_in rest → gives_up (deepest.handle ∷ []) NoMemory ≡ begun false
+  rest_unheld e =
+      sym (ap (λ (f : Option Errno). begins_to_make false (standing_handle deepest) (reverse deepest.names) (asked true rest) f) (fault_asked rest ∙ sym e))
+
+  pub rest_held : (chain : Chain) → None ≡ fault_in rest → chain.names ≡ deepest.names ++ names_in rest → chain.done ≡ length deepest.names
+      → goes_down (standing_handle deepest) (passed chain) (to_come chain) ≡ begun true
+  rest_held chain e names done =
+      let passed_is : passed chain ≡ reverse deepest.names =
+      ap (λ (k : ℕ). reverse (take k chain.names)) done ∙ ap (λ (ns : List (List ℕ)). reverse (take (length deepest.names) ns)) names
+      ∙ ap reverse (taken deepest.names (names_in rest)) in
+      let left_is : to_come chain ≡ names_in rest =
+      ap (λ (k : ℕ). drop k chain.names) done ∙ ap (λ (ns : List (List ℕ)). drop (length deepest.names) ns) names ∙ dropped deepest.names (names_in rest) in
+      ap (λ (ns : List (List ℕ)). goes_down (standing_handle deepest) ns (to_come chain)) passed_is
+      ∙ ap (λ (ns : List (List ℕ)). goes_down (standing_handle deepest) (reverse deepest.names) ns) (left_is ∙ sym (names_asked rest))
+      ∙ sym (ap (λ (f : Option Errno). begins_to_make true (standing_handle deepest) (reverse deepest.names) (asked true rest) f) (fault_asked rest ∙ sym e))
+
+-- ---- a step with a name
+
+making_named : (held : ReachedObject) (chain : Chain) → chain.done < length chain.names
+    → has_a_name (at_next (making (handle_of held) (passed chain)) (handle_of held) (passed chain) (to_come chain)) ≡ true
+making_named held chain less =
+    ap (λ (ns : List (List ℕ)). has_a_name (at_next (making (handle_of held) (passed chain)) (handle_of held) (passed chain) ns)) (next_of chain.done chain.names less).left
+
+opening_named : (held : ReachedObject) (chain : Chain) → chain.done < length chain.names
+    → has_a_name (at_next (opening (handle_of held) (passed chain)) (handle_of held) (passed chain) (to_come chain)) ≡ true
+opening_named held chain less =
+    ap (λ (ns : List (List ℕ)). has_a_name (at_next (opening (handle_of held) (passed chain)) (handle_of held) (passed chain) ns)) (next_of chain.done chain.names less).left
+
+-- a call at this stage
+pub making_has_name : (call : Call) (stage : Stage) (held : ReachedObject) (chain : Box Chain Global) (self : MakingView) → view_of call stage ≡ self → IsStage call stage
+    → stage ≡ MakingIn held chain → has_a_name self.making ≡ true
+making_has_name call stage held chain self e is at =
+    ap (λ (m : MakingView). has_a_name m.making) (sym e) ∙ ap (λ (s : Stage). has_a_name (making_of s)) at
+    ∙ making_named held chain.value (subst (IsStage call) at is)
+
+pub opening_has_name : (call : Call) (stage : Stage) (held : ReachedObject) (chain : Box Chain Global) (self : MakingView) → view_of call stage ≡ self → IsStage call stage
+    → stage ≡ Opening held chain → has_a_name self.making ≡ true
+opening_has_name call stage held chain self e is at =
+    ap (λ (m : MakingView). has_a_name m.making) (sym e) ∙ ap (λ (s : Stage). has_a_name (making_of s)) at
+    ∙ opening_named held chain.value (subst (IsStage call) at is)
