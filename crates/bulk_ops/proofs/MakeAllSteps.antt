@@ -12,8 +12,9 @@ use Rattle.path_text.specs.Reading.{Reading}
 use Rattle.path_text.specs.Text.{text_fault, parts_of, begins_with_slash}
 use Rattle.tree_model.specs.declared.answer.Answer.{Answer}
 use Rattle.tree_model.specs.declared.answer.Answer.TheVariants.{Opened, Text, Names, NotBelow, Done, Refused}
-use Rattle.step_resolver.specs.Asked.{AskedPart, Cur, Up, Named, asked, followed, follows, is_deepest}
-use Rattle.step_resolver.specs.Meaning.{LINKS_MAX, is_too_long, crosses}
+use Rattle.step_resolver.specs.Asked.{AskedPart, Cur, Up, Named, asked, followed, is_deepest}
+use Rattle.walk_plan.specs.Plan.{follows, leads_out}
+use Rattle.step_resolver.specs.Meaning.{LINKS_MAX, is_too_long}
 use Rattle.step_resolver.specs.Order.{Way, Handle, Position, root_itself, holds, Todo, todo, After, gives, onward, judges, Walking, opening, reading, rising, judging, duping, ending, closing, names_of, handles_of, is_dir_position, is_dir_kind, is_followed, at_end, in_directory, on_part, on_own, on_parts, goes_on, for_walk, comes, closes, refusal_of, with_room, follows_link, enters, refused_open, from_link, read_text, end_of, judged, refused_rise, Line, answered, no_room, not_made}
 use Rattle.step_resolver.specs.Order as walk
 use Rattle.step_resolver.specs.View.{WalkView}
@@ -134,7 +135,7 @@ module _ (way : Way) where
       → GoesOnWithin (own_in rest) (read_text way room position link rest text fault)
   read_text_within room position link rest text (Some fault) = given_up (own_in rest) (link.number ∷ handles_of position) fault
   read_text_within room position link rest text None =
-      either (own_in rest) (crosses way.flags text) _ _ (given_up (own_in rest) (link.number ∷ handles_of position) CrossRoot)
+      either (own_in rest) (leads_out (begins_with_slash text) way.flags) _ _ (given_up (own_in rest) (link.number ∷ handles_of position) CrossRoot)
       (from_link_within room position link (begins_with_slash text) (followed (parts_of text)) rest)
 
   refused_rise_within : (k : ℕ) (handle : Handle) (error : Errno) → GoesOnWithin k (refused_rise handle error)
@@ -249,7 +250,7 @@ walk_taken call w answer result outcome same taken s is =
 -- the first turn needs none either
 begun_within : (way : Way) (path : Reading) → GoesOnWithin (length (asked (follows way.goal) path.parts)) (walk.begins way path)
 begun_within way path =
-    either (length (asked (follows way.goal) path.parts)) (way.flags.beneath && path.absolute) _ _ tt (on_own_within way root_itself (asked (follows way.goal) path.parts) LINKS_MAX)
+    either (length (asked (follows way.goal) path.parts)) (leads_out path.absolute way.flags) _ _ tt (on_own_within way root_itself (asked (follows way.goal) path.parts) LINKS_MAX)
 
 for_walk_within : (k : ℕ) (room : Bool) (turn : walk.Turn) → GoesOnWithin k turn → GoesOnWithin k (for_walk room turn)
 for_walk_within k true turn few = few

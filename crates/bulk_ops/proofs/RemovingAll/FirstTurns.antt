@@ -6,7 +6,8 @@ use Rattle.path_text.specs.declared.errno.Errno.{Errno}
 use Rattle.path_text.specs.declared.errno.Errno.TheVariants.{NoMemory, CrossRoot, TooLong}
 use Rattle.path_text.specs.Reading.{Reading}
 use Rattle.tree_model.specs.declared.answer.Answer.TheVariants.{Refused}
-use Rattle.step_resolver.specs.Asked.{AskedPart, Cur, Up, Named, asked, follows}
+use Rattle.step_resolver.specs.Asked.{AskedPart, Cur, Up, Named, asked}
+use Rattle.walk_plan.specs.Plan.{follows, leads_out}
 use Rattle.step_resolver.specs.Meaning.{LINKS_MAX, is_too_long}
 use Rattle.step_resolver.specs.Order.{Way, Handle, root_itself, holds, Todo, todo, Walking, opening, reading, rising, judging, duping, ending, closing, in_directory, on_own, on_parts, goes_on}
 use Rattle.step_resolver.specs.Order as walk
@@ -37,7 +38,7 @@ module _ (way : Way) where
 
   begins_first : (path : Reading) → IsFirst (walk.begins way path)
   begins_first path =
-      either (way.flags.beneath && path.absolute) (walk.failed CrossRoot) (goes_on way root_itself (todo [] (asked (follows way.goal) path.parts) LINKS_MAX)) tt
+      either (leads_out path.absolute way.flags) (walk.failed CrossRoot) (goes_on way root_itself (todo [] (asked (follows way.goal) path.parts) LINKS_MAX)) tt
       (own_first (asked (follows way.goal) path.parts) LINKS_MAX)
 
   for_walk_first : (room : Bool) (turn : walk.Turn) → IsFirst turn → IsFirst (walk.for_walk room turn)
