@@ -1,0 +1,14 @@
+pub use Rattle.path_text.specs.Errno
+pub use Rattle.path_text.specs.Reading
+pub use Rattle.path_text.specs.Split
+pub use Rattle.path_text.specs.Text
+pub use Rattle.tree_model.specs.State
+pub use Rattle.tree_model.specs.Steps
+pub use Rattle.tree_model.specs.Trees
+pub use Rattle.tree_model.specs.History
+pub use Rattle.handles.specs.Objects
+pub use Rattle.step_resolver.specs.Asked
+pub mod Copies
+pub mod Order
+pub mod View
+pub mod TurnView

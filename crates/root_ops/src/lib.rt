@@ -1,0 +1,17 @@
+//! The operations of a root, each as a call that asks for one step at a time.
+#![tactic(auto)]
+
+mod aim;
+mod answers;
+mod begin;
+mod below;
+mod call;
+mod doing;
+mod op;
+mod reply;
+
+pub use aim::{Aim, Change, Renaming, Wanted};
+pub use below::Below;
+pub use call::{Call, CallTurn};
+pub use op::{Op, Request};
+pub use reply::Reply;
