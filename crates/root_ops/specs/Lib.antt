@@ -12,3 +12,5 @@ pub mod Copies
 pub mod Order
 pub mod View
 pub mod TurnView
+pub mod Meaning
+pub mod MeaningWorked

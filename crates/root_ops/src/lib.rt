@@ -8,10 +8,12 @@ mod below;
 mod call;
 mod doing;
 mod op;
+mod quiet_laws;
 mod reply;
 
 pub use aim::{Aim, Change, Renaming, Wanted};
 pub use below::Below;
 pub use call::{Call, CallTurn};
 pub use op::{Op, Request};
+pub use quiet_laws::worked_operations;
 pub use reply::Reply;

@@ -1,0 +1,2 @@
+-- Lemmas of what a call comes to where nobody else acts.
+pub mod WorkedOperations
