@@ -14,3 +14,4 @@ pub mod View
 pub mod TurnView
 pub mod Meaning
 pub mod MeaningWorked
+pub mod Quiet

@@ -15,5 +15,5 @@ pub use aim::{Aim, Change, Renaming, Wanted};
 pub use below::Below;
 pub use call::{Call, CallTurn};
 pub use op::{Op, Request};
-pub use quiet_laws::worked_operations;
+pub use quiet_laws::{quiet_calls_mean, worked_operations};
 pub use reply::Reply;
