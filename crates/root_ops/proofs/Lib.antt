@@ -1,1 +1,4 @@
 pub mod Rooms
+pub mod Texts
+pub mod Steps
+pub mod FirstSteps

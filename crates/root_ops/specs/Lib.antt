@@ -12,3 +12,4 @@ pub mod Copies
 pub mod Order
 pub mod View
 pub mod TurnView
+pub mod StepCount

@@ -7,11 +7,13 @@ mod begin;
 mod below;
 mod call;
 mod doing;
+mod laws;
 mod op;
 mod reply;
 
 pub use aim::{Aim, Change, Renaming, Wanted};
 pub use below::Below;
 pub use call::{Call, CallTurn};
+pub use laws::five_steps_after_walks;
 pub use op::{Op, Request};
 pub use reply::Reply;
