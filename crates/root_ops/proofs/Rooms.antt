@@ -12,7 +12,9 @@ use Rattle.tree_model.specs.declared.answer.Answer.TheVariants.{Opened, Text, Na
 use Rattle.step_resolver.specs.Asked.{AskedPart, Cur, Up, Named, asked, followed, follows}
 use Rattle.step_resolver.specs.Meaning.{LINKS_MAX, is_too_long, crosses}
 use Rattle.step_resolver.specs.Order.{Way, Handle, Position, root_itself, holds, Todo, todo, After, gives, onward, judges, Walking, opening, reading, rising, judging, duping, ending, closing, Turn, more, found, partial, failed, names_of, handles_of, is_dir_position, is_followed, gives_up, at_end, in_directory, on_part, on_own, on_parts, goes_on, begins, for_walk, starts, comes, closes, refusal_of, with_room, follows_link, enters, refused_open, from_link, read_text, judged, refused_rise, take, due}
-use Rattle.step_resolver.specs.View.{opens_a_name}
+use Rattle.walk_plan.specs.declared.goal.Goal.{Goal}
+use Rattle.step_resolver.specs.View.{WalkView, way_from, opens_a_name}
+use Rattle.step_resolver.specs.declared.walk.Turn.{Turn as Outcome}
 use Rattle.step_resolver.specs.TurnView as walk
 use Rattle.root_ops.specs.declared.aim.Aim.{Aim}
 use Rattle.root_ops.specs.declared.below.Below.{Below}
@@ -158,11 +160,21 @@ begun_by below aim path (partial handle names rest) false other next e none empt
 begun_by below aim path (failed error) true other next e none empty by = (true, by ∙ ap (walked below true aim) (sym e))
 begun_by below aim path (failed error) false other next e none empty by = (true, by ∙ ap (walked below true aim) (sym e))
 
-pub walks_by : (below : Below) (aim : Aim) (path : Reading) (turn : Turn) (next : CallTurn) → call.held_by aim ≡ []
-    → walk.StartsTo (way_of below aim) path turn → (room : Bool) × (next ≡ walked below room aim turn) → Begun below aim path next
-walks_by below aim path turn next empty started by =
-    begun_by below aim path (begins (way_of below aim) path) started.0 by.0 next refl (first_turn (way_of below aim) path) empty
-    (by.1 ∙ ap (walked below by.0 aim) started.1)
+pub walks_by : (below : Below) (aim : Aim) (path : Reading) (goal : Goal) (outcome : Outcome) (next : CallTurn) → call.held_by aim ≡ [] → goal ≡ call.goal_of aim
+    → walk.StartsTo (way_from below.root goal below.flags) path (walk.turn_view goal outcome)
+    → (room : Bool) × (next ≡ walked below room aim (walk.turn_view (call.goal_of aim) outcome)) → Begun below aim path next
+walks_by below aim path goal outcome next empty same started by =
+    let begun = subst (λ (g : Goal). walk.StartsTo (way_from below.root g below.flags) path (walk.turn_view g outcome)) same started in
+    begun_by below aim path (begins (way_of below aim) path) begun.0 by.0 next refl (first_turn (way_of below aim) path) empty
+    (by.1 ∙ ap (walked below by.0 aim) begun.1)
+
+-- a walk of the call's own, an answer to its step, and where it has come to by it
+pub taken_by : (below : Below) (aim : Aim) (w : WalkView) (answer : Answer) (outcome : Outcome) (next : CallTurn) → w.way ≡ way_of below aim
+    → walk.TakesTo w.way w.walking answer (walk.turn_view w.way.goal outcome)
+    → (room : Bool) × (next ≡ walked below room aim (walk.turn_view (call.goal_of aim) outcome)) → TakesTo below (call.walking w.walking aim) answer next
+taken_by below aim w answer outcome next same taken by =
+    walked_by below aim w.walking answer (walk.turn_view (call.goal_of aim) outcome) next
+    (subst (λ (way : Way). walk.TakesTo way w.walking answer (walk.turn_view way.goal outcome)) same taken) by
 
 -- what a step without a name is due of opens no name
 pub nameless_opens_none : (way : Way) (walking : Walking) → is_nameless (due way walking) ≡ true → opens_a_name walking ≡ false

@@ -12,6 +12,7 @@ pub mod Copies
 pub mod Order
 pub mod View
 pub mod TurnView
+pub mod StepCount
 pub mod Meaning
 pub mod MeaningWorked
 pub mod Quiet

@@ -2,11 +2,10 @@
 -- A call on an entry walks to its directory, the last link followed, and makes one step on the last name there; what it
 -- opened it closes again, just opened first. So a change is made by a handle on the directory that was found, as
 -- mkdirat(2), unlinkat(2) and renameat2(2) take one, and no path is looked up twice.
-use Rattle.std.specs.Prelude.{◌≡◌, ℕ, suc, ◌+◌, ◌*◌, ◌==◌, ◌&&◌, ◌||◌, List, [], ◌∷◌, Bool, true, false, if◌then◌else◌, length, Option, Some, None, Result, Ok, Err}
+use Rattle.std.specs.Prelude.{◌≡◌, ℕ, suc, ◌+◌, ◌==◌, ◌&&◌, ◌||◌, List, [], ◌∷◌, Bool, true, false, if◌then◌else◌, length, Option, Some, None, Result, Ok, Err}
 use Rattle.path_text.specs.declared.errno.Errno.{Errno}
 use Rattle.path_text.specs.declared.errno.Errno.TheVariants.{NotFound, NotDir, Invalid, NoMemory, BadHandle}
 use Rattle.path_text.specs.declared.flags.Flags.{Flags}
-use Rattle.path_text.specs.declared.path.TheConstants.{PARTS_MAX}
 use Rattle.path_text.specs.declared.path.Rule.{Rule}
 use Rattle.path_text.specs.declared.path.Rule.TheVariants.{Drop, Refuse}
 use Rattle.path_text.specs.declared.path.Split.{Split}
@@ -23,7 +22,6 @@ use Rattle.handles.specs.declared.owner.Owner.{Owner}
 use Rattle.handles.specs.Objects.{StandingObject}
 use Rattle.walk_plan.specs.declared.goal.Goal.{Goal}
 use Rattle.walk_plan.specs.declared.goal.Goal.TheVariants.{Follow, NoFollow}
-use Rattle.step_resolver.specs.Meaning.{LINKS_MAX}
 use Rattle.step_resolver.specs.Order.{Way, Handle, Walking, Turn, found, partial, failed, is_dir_kind, refusal_of, Line, answered, no_room, not_made, IsWant}
 use Rattle.step_resolver.specs.Order as walk
 use Rattle.step_resolver.specs.View.{way_from}
@@ -303,25 +301,27 @@ LeadsTo below _ (line ∷ lines) end = ⊥
 
 -- ---- how many steps are left at most
 
--- a whole walk takes four steps for each part that it can pass, and four more
-abbrev pub steps_along : Reading → ℕ
-steps_along path = 4 * (length path.parts + PARTS_MAX * LINKS_MAX) + 4
+abbrev pub steps_of : Turn → ℕ
+steps_of (walk.more walking') = walk.steps_left walking'
+steps_of (found handle names) = 0
+steps_of (partial handle names rest) = 0
+steps_of (failed error) = 0
 
 -- once the walk has come to its end
-abbrev pub steps_then : Aim → ℕ
-steps_then (Opens goal) = 1
-steps_then Reads = 2
-steps_then (Changes change n) = 2
-steps_then (WalksOn path renaming) = steps_along path + 6
-steps_then (Renames old renaming) = 5
+abbrev pub steps_then : Below → Aim → ℕ
+steps_then below (Opens goal) = 1
+steps_then below Reads = 2
+steps_then below (Changes change n) = 2
+steps_then below (WalksOn path renaming) = steps_of (walk.begins (way_from below.root Follow below.flags) path) + 6
+steps_then below (Renames old renaming) = 5
 
 abbrev pub steps_after : After → ℕ
 steps_after (gives reply) = 0
 steps_after (acts wanted step hs) = suc (length hs)
 
-abbrev pub steps_left : Doing → ℕ
-steps_left (walking walking' aim) = walk.steps_left walking' + steps_then aim
-steps_left (acting wanted step hs) = suc (length hs)
-steps_left (checking old new renaming) = 5
-steps_left (closing h hs after) = suc (length hs) + steps_after after
-steps_left (releasing h) = 1
+abbrev pub steps_left : Below → Doing → ℕ
+steps_left below (walking walking' aim) = walk.steps_left walking' + steps_then below aim
+steps_left below (acting wanted step hs) = suc (length hs)
+steps_left below (checking old new renaming) = 5
+steps_left below (closing h hs after) = suc (length hs) + steps_after after
+steps_left below (releasing h) = 1

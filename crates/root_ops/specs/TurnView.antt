@@ -37,7 +37,7 @@ TakesTo below doing answer turn = (room : Bool) × (turn ≡ take below room doi
 
 -- how many steps are to come at most; none at an end
 abbrev pub steps_to_come : Outcome → ℕ
-steps_to_come (outcome.More call) = steps_left call.doing
+steps_to_come (outcome.More call) = steps_left call.below call.doing
 steps_to_come (outcome.Done reply) = 0
 
 -- two walks, and the steps of a rename

@@ -1,5 +1,5 @@
 //! The first turn of a call, by the kind of its operation.
-ghost use Rattle.std.specs.Prelude.{◌≡◌, [], Ok};
+ghost use Rattle.std.specs.Prelude.{◌≡◌, ◌||◌, [], Ok};
 ghost use Rattle.path_text.specs.Split.{split_of};
 ghost use Rattle.path_text.specs.Text.{text_fault, reading_of};
 ghost use Rattle.root_ops.specs.Order.{held_by, walks, on_path, on_entry, from_entry, unless_fault, lacks, single, begins_without, releases, is_single, same_owner, ends, fault};
@@ -38,9 +38,15 @@ fn is_single(step: &Step) -> bool
     )
 }
 
+// Whether one of the two paths ended in a slash.
+fn one_has_slash(old: &Split, new: &Split) -> bool
+    ensures { result ≡ (old.now.slash || new.now.slash) }
+{
+    old.slash || new.slash
+}
+
 impl Call {
     // A call that begins with a walk. The box is asked for first, since a walk under way can't be let go.
-    #[tactic(auto, using(crate::proofs::Rooms::walks_by))]
     fn walk(alloc: Global, below: Below, aim: Aim, path: Path) -> CallTurn
         requires { held_by aim ≡ [] }
         ensures turn { Either (walks below aim path) (ends (fault Errno.NoMemory)) (turn_view result) }
@@ -61,6 +67,7 @@ impl Call {
 
     /// A call on the object that a path means.
     pub(crate) fn on_path(alloc: Global, below: Below, aim: Aim, text: &Bytes) -> CallTurn
+        requires { held_by aim ≡ [] }
         ensures turn { Either (on_path below aim text.now) (lacks text.now) (turn_view result) }
         ensures kept { Keeps below result }
     {
@@ -121,11 +128,12 @@ impl Call {
         match Path::parse(alloc, new.as_slice()) {
             Ok(path) => match path.split_last(Rule::Drop) {
                 Ok(new) => {
+                    let slash = one_has_slash(&old, &new);
                     let renaming = Renaming {
                         old: old.name,
                         new: new.name,
                         mode,
-                        slash: old.slash || new.slash,
+                        slash,
                     };
                     Call::walk(alloc, below, Aim::WalksOn(new.dir, renaming), old.dir)
                 }

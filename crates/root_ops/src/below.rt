@@ -204,7 +204,6 @@ impl Below {
     }
 
     /// What the answer to the step that is due comes to.
-    #[tactic(auto, using(crate::proofs::Rooms::walked_by))]
     pub(crate) fn taken(&self, alloc: Global, doing: Doing, answer: Answer) -> Next
         requires { IsOurs self.now doing }
         ensures turn { TakesTo self.now (doing_view doing) answer (next_view result) }

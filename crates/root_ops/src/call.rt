@@ -63,6 +63,15 @@ impl Call {
     pub fn start(alloc: Global, request: Request, root: Root) -> CallTurn
         ensures turn { StartsTo (below_of root request.flags) request.op (turn_view result) }
         ensures kept { Keeps (below_of root request.flags) result }
+        ensures few { steps_to_come result ≤ STEPS_MAX }
+    {
+        Call::begin(alloc, request, root)
+    }
+
+    // The same, as the order of steps has it.
+    fn begin(alloc: Global, request: Request, root: Root) -> CallTurn
+        ensures turn { StartsTo (below_of root request.flags) request.op (turn_view result) }
+        ensures kept { Keeps (below_of root request.flags) result }
     {
         let Request { op, flags } = request;
         let below = Below { root, flags };
@@ -111,6 +120,15 @@ impl Call {
     /// of a path with a slash at its end the refusal of Open of the entry, and NotDir where that is no directory
     /// (rename(2)).
     pub fn take(self, alloc: Global, answer: Answer) -> CallTurn
+        ensures turn { TakesTo self.below self.doing answer (turn_view result) }
+        ensures kept { Keeps self.below result }
+        ensures fewer { steps_to_come result < steps_left self.below self.doing }
+    {
+        self.taken(alloc, answer)
+    }
+
+    // The same, as the order of steps has it.
+    fn taken(self, alloc: Global, answer: Answer) -> CallTurn
         ensures turn { TakesTo self.below self.doing answer (turn_view result) }
         ensures kept { Keeps self.below result }
     {

@@ -23,7 +23,10 @@ pub(crate) enum Handles {
 #[derive(Debug)]
 pub(crate) enum Doing {
     /// That of a walk, and what is done with the object that it finds.
-    Walking { walk: Walk, aim: Aim },
+    Walking {
+        walk: Walk,
+        aim: Aim,
+    },
     /// The call's own step, whose answer gives the reply; then the handles are closed.
     Acting {
         wanted: Wanted,
