@@ -13,6 +13,7 @@ pub mod Order
 pub mod View
 pub mod TurnView
 pub mod StepCount
+pub mod CallHistory
 pub mod Meaning
 pub mod MeaningWorked
 pub mod Quiet

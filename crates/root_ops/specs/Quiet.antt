@@ -1,22 +1,19 @@
 -- A call in a history, and what comes of it where nobody else acts meanwhile.
-use Rattle.std.specs.Prelude.{◌≡◌, ◌⊎◌, ℕ, List, ◌∷◌, true, Some, None, slice_get}
+use Rattle.std.specs.Prelude.{◌≡◌, ◌⊎◌, ℕ, List, [], ◌∷◌, Bool, true, false, Some, None, slice_get}
 use Rattle.std.specs.Option.{option_map}
 use Rattle.path_text.specs.declared.errno.Errno.{Errno}
-use Rattle.path_text.specs.declared.errno.Errno.TheVariants.{BadHandle}
+use Rattle.path_text.specs.declared.errno.Errno.TheVariants.{BadHandle, NoMemory, TooMany}
+use Rattle.tree_model.specs.declared.answer.Answer.TheVariants.{Refused}
 use Rattle.tree_model.specs.declared.answer.Event.{Event}
-use Rattle.tree_model.specs.State.{State, Stands, object_at, is_dir}
+use Rattle.tree_model.specs.State.{State, Stands, object_at}
 use Rattle.tree_model.specs.Steps.{held, kind_of}
-use Rattle.tree_model.specs.Trees.{IsState}
-use Rattle.tree_model.specs.History.{IsLegal, after_events}
 use Rattle.handles.specs.Objects.{StandingObject}
 use Rattle.step_resolver.specs.Footprint.{is_want}
-use Rattle.step_resolver.specs.Order.{Handle, Line, not_made, events_of}
-use Rattle.step_resolver.specs.WalkHistory.{own_events}
-use Rattle.root_ops.specs.declared.below.Below.{Below}
-use Rattle.root_ops.specs.declared.op.Op.{Op}
+use Rattle.step_resolver.specs.Order.{Handle, Line, answered, no_room, not_made}
 use Rattle.root_ops.specs.declared.op.Op.TheVariants.{Release}
+use Rattle.root_ops.specs.CallHistory.{CallInHistory, actor_of, begin_of, end_of, IsCallInHistory, RepliesWith}
 use Rattle.root_ops.specs.Meaning.{Caller, Told, is_open, has_text, is_done, answers, keeps, fails, Whole, op_means}
-use Rattle.root_ops.specs.Order.{Reply, opened, link_text, done, stepped, kept, fault, begins, ends, LeadsTo}
+use Rattle.root_ops.specs.Order.{Reply, opened, link_text, done, stepped, kept, fault}
 
 -- ---- what comes of a call
 
@@ -43,62 +40,47 @@ pub record IsDone (c : Caller) (end : State) (whole : Whole) (reply : Reply) : T
   pub is_reply : IsReply c end whole.reply reply
   pub nodes : end.nodes ≡ whole.nodes
 
+-- a step wasn't made for that want, what its answer brings found no memory, or it was refused for want of handles
+abbrev pub Meets : Errno → Line → Type 0
+Meets error (answered step answer) = (error ≡ TooMany) × (answer ≡ Refused TooMany)
+Meets error (no_room step answer) = (error ≡ NoMemory) ⊎ ((error ≡ TooMany) × (answer ≡ Refused TooMany))
+Meets error (not_made cause) = error ≡ cause
+
+abbrev pub MetWant : List Line → Errno → Type 0
+MetWant [] error = ⊥
+MetWant (line ∷ lines) error = Meets error line ⊎ MetWant lines error
+
+-- a call met that want: at one of its lines, or there was no memory for its first turn
+abbrev pub MetBy : Bool → List Line → Errno → Type 0
+MetBy room lines error = MetWant lines error ⊎ ((room ≡ false) × (error ≡ NoMemory))
+
 -- memory, room in the book or handles ran short, which is the reply, and no node was changed
-pub record RanShort (c : Caller) (end : State) (reply : Reply) : Type 0 where
+pub record RanShort (c : Caller) (end : State) (room : Bool) (lines : List Line) (reply : Reply) : Type 0 where
   pub error : Errno
   pub is_reply : reply ≡ fault error
   pub want : is_want error ≡ true
+  pub met : MetBy room lines error
   pub nodes : end.nodes ≡ c.tree.nodes
 
-abbrev pub ComesTo : Caller → State → Whole → Reply → Type 0
-ComesTo c end whole reply = IsDone c end whole reply ⊎ RanShort c end reply
+abbrev pub ComesTo : Caller → State → Bool → List Line → Whole → Reply → Type 0
+ComesTo c end room lines whole reply = IsDone c end whole reply ⊎ RanShort c end room lines reply
 
 -- ---- a call in a history
 
--- The tree at the history's opening, the events before the call, those of its window, whose they are, the root with the walks'
--- restrictions, the node of the root's handle, what is asked, and what the call was told.
-pub record CallInHistory : Type 0 where
-  pub opening : State
-  pub before : List Event
-  pub window : List Event
-  pub actor : ℕ
-  pub below : Below
-  pub root : ℕ
-  pub op : Op
-  pub lines : List Line
-
--- the tree as the window begins, and as it ends
-abbrev pub begin_of : CallInHistory → State
-begin_of c = after_events c.opening c.before
-
-abbrev pub end_of : CallInHistory → State
-end_of c = after_events (begin_of c) c.window
-
--- The opening is a tree, the history is legal, the actor's own events in the window are those of the call, and the root's
--- handle is open, its own, and names a directory.
-pub record IsCallInHistory (c : CallInHistory) : Type 0 where
-  pub tree : IsState c.opening
-  pub legal_before : IsLegal c.opening c.before
-  pub legal : IsLegal (begin_of c) c.window
-  pub own : own_events c.actor c.window ≡ events_of c.actor c.lines
-  pub root : held (begin_of c) c.actor c.below.root.handle ≡ Some c.root
-  pub root_is_dir : is_dir (begin_of c).nodes c.root ≡ true
-
 -- no event of another stands in the window
 abbrev pub IsQuiet : CallInHistory → Type 0
-IsQuiet c = (t : ℕ) (event : Event) → slice_get c.window t ≡ Some event → event.actor ≡ c.actor
+IsQuiet c = (t : ℕ) (event : Event) → slice_get c.window t ≡ Some event → event.actor ≡ actor_of c
 
--- a book makes no Close of what is to be released only where that isn't open
+-- The Close of what is to be released is left out only where that isn't open, as by a book that makes no such Close.
 abbrev pub ClosesWhatIsOpen : CallInHistory → Type 0
 ClosesWhatIsOpen c = (standing : StandingObject) (others : List Line) → c.op ≡ Release standing → c.lines ≡ not_made BadHandle ∷ others
-    → held (begin_of c) c.actor standing.handle ≡ None
+    → held (begin_of c) (actor_of c) standing.handle ≡ None
 
 abbrev pub caller_of : CallInHistory → Caller
-caller_of c = record { tree = begin_of c; actor = c.actor; root = c.root; below = c.below }
+caller_of c = record { tree = begin_of c; actor = actor_of c; root = c.root; below = c.below }
 
 -- Where nobody else acts in the window, the reply and the nodes at its end are those that the operation means in the tree as
 -- the window begins, unless memory, room in the book or handles ran short.
 abbrev pub QuietCallsMean : Type 0
-QuietCallsMean = (c : CallInHistory) (reply : Reply) → IsCallInHistory c → LeadsTo c.below (begins c.below c.op) c.lines (ends reply)
-    → IsQuiet c → ClosesWhatIsOpen c
-    → ComesTo (caller_of c) (end_of c) (op_means (caller_of c) c.op) reply
+QuietCallsMean = (c : CallInHistory) (reply : Reply) → IsCallInHistory c → RepliesWith c reply → IsQuiet c → ClosesWhatIsOpen c
+    → ComesTo (caller_of c) (end_of c) c.room c.lines (op_means (caller_of c) c.op) reply

@@ -14,9 +14,9 @@ pub fn worked_operations()
 
 /// Where no other actor acts in a call's window, and its root's handle is open, the actor's own and on a directory, the
 /// reply and the nodes after it are those that the operation means in the tree as the window begins: an object is open
-/// then by a new handle, and stands at the names that are told, and after an error no node is changed. Unless memory,
-/// room in the book or handles ran short, which is the reply, and changes no node either. That holds for every legal
-/// history; a Release is to be left out by a book only where its handle isn't open.
+/// by a new handle and stands at the names that are told, and an error changes no node. Otherwise memory, room in the
+/// book or handles ran short at one of the call's lines or at its first turn, which is the reply, and no node is changed
+/// either. It holds in every legal history, where the Close of a Release is left out only if its handle isn't open.
 pub fn quiet_calls_mean()
     ensures { QuietCallsMean }
 {}

@@ -1,6 +1,6 @@
 -- A rename, where nobody else acts.
 use Rattle.std.proofs.Common.{◌≡◌, ◌≢◌, ◌⊎◌, inl, inr, ℕ, List, [], ◌∷◌, length, Bool, true, false, not, ◌||◌, if◌then◌else◌, Result, Ok, Err, Option, Some, None, is_some, refl, sym, ap, ◌∙◌, subst}
-use Rattle.std.proofs.lemmas.Bool.{false≢true}
+use Rattle.std.proofs.lemmas.Bool.{false≢true, true≢false}
 use Rattle.std.proofs.lemmas.Option.{none-some}
 use Rattle.path_text.specs.declared.errno.Errno.{Errno}
 use Rattle.path_text.specs.declared.errno.Errno.TheVariants.{NotFound, NoMemory, BadHandle, NotDir, TooMany}
@@ -9,7 +9,7 @@ use Rattle.path_text.specs.declared.path.Split.{Split as SplitPath}
 use Rattle.path_text.specs.Text.{text_fault, reading_of}
 use Rattle.path_text.specs.Split.{split_of}
 use Rattle.tree_model.specs.declared.answer.Answer.{Answer}
-use Rattle.tree_model.specs.declared.answer.Answer.TheVariants.{Opened}
+use Rattle.tree_model.specs.declared.answer.Answer.TheVariants.{Opened, Refused}
 use Rattle.tree_model.specs.declared.inode.Inode.{Inode}
 use Rattle.tree_model.specs.declared.inode.Object.{Object}
 use Rattle.tree_model.specs.declared.inode.Object.TheVariants as object
@@ -35,9 +35,9 @@ use Rattle.root_ops.specs.declared.aim.Wanted.TheVariants as wants
 use Rattle.root_ops.specs.Meaning.{Caller, fails, Whole, and_then, directory_of, no_directory, renamed, changes}
 use Rattle.root_ops.specs.Meaning as meaning
 use Rattle.root_ops.specs.Order.{Reply, more, ends, acting, checking, acts, closes, gives_up, walked, walked_on, walks, way_of, unless_fault, between, from_entry, renaming_of, rename_step, reply_to, take, LeadsTo}
-use Rattle.root_ops.specs.Quiet.{ComesTo}
+use Rattle.root_ops.specs.Quiet.{Meets, MetBy, ComesTo}
 use Rattle.root_ops.proofs.Quiet.WalksAlone.{HasRoot, FindsIt}
-use Rattle.root_ops.proofs.Quiet.StepsAlone.{fails_alone, runs_short, is_a_want, Acts, acts_alone, is_changed}
+use Rattle.root_ops.proofs.Quiet.StepsAlone.{fails_alone, runs_short, widened, met_later, is_a_want, Acts, acts_alone, is_changed}
 use Rattle.root_ops.proofs.Quiet.EntriesAlone.{Onward, walks_then, acts_short, faults_alone}
 
 -- ---- what an entry is, and what Open of it is answered
@@ -95,6 +95,11 @@ module _ (c : Caller) (ren : Renaming) (d f : ℕ) (reply : Reply) where
   abbrev result : Result (List Inode) Errno
   result = renames c.tree.nodes d ren.old f ren.new ren.mode
 
+  -- after one more line
+  one_more : (s : State) (line : Line) (lines : List Line) (whole : Whole)
+      → ComesTo c (after_events s (events_of c.actor lines)) true lines whole reply → ComesTo c (after_events s (events_of c.actor lines)) true (line ∷ lines) whole reply
+  one_more s line lines whole = widened c (after_events s (events_of c.actor lines)) true lines true (line ∷ lines) whole reply (met_later true line lines)
+
   -- both are open
   pub record Holds (t : State) (old new : ℕ) : Type 0 where
     pub nodes : t.nodes ≡ c.tree.nodes
@@ -107,14 +112,14 @@ module _ (c : Caller) (ren : Renaming) (d f : ℕ) (reply : Reply) where
     renamed_is = rename_is t c.actor old new d f ren.old ren.new ren.mode is_old is_new
         ∙ ap (λ ns. made t (renames ns d ren.old f ren.new ren.mode)) nodes
 
-    acted_by : (end : State) → Acts t c.actor wants.Done (rename_step ren old new) end reply → ComesTo c end (changes c result) reply
-    acted_by end (inl short) = inr (acts_short c t end reply nodes short)
-    acted_by end (inr acted) = inl (is_changed c t end reply nodes result
+    acted_by : (end : State) (lines : List Line) → Acts t c.actor wants.Done (rename_step ren old new) end lines reply → ComesTo c end true lines (changes c result) reply
+    acted_by end lines (inl short) = inr (acts_short c t end true lines reply nodes short)
+    acted_by end lines (inr acted) = inl (is_changed c t end reply nodes result
         (acted.0 ∙ ap (λ (o : Outcome). reply_to wants.Done o.answer) renamed_is) (acted.1 ∙ ap (λ (o : Outcome). o.after.nodes) renamed_is))
 
     renames_alone : (lines : List Line) → LeadsTo c.below (more (acting wants.Done (rename_step ren old new) (new ∷ old ∷ []))) lines (ends reply)
-        → IsLegal t (events_of c.actor lines) → ComesTo c (after_events t (events_of c.actor lines)) (changes c result) reply
-    renames_alone lines leads legal = acted_by (after_events t (events_of c.actor lines))
+        → IsLegal t (events_of c.actor lines) → ComesTo c (after_events t (events_of c.actor lines)) true lines (changes c result) reply
+    renames_alone lines leads legal = acted_by (after_events t (events_of c.actor lines)) lines
         (acts_alone c.below c.actor wants.Done (rename_step ren old new) (new ∷ old ∷ []) reply t lines leads legal)
 
   -- the entry's directory was opened, and is closed again before the rename
@@ -137,7 +142,7 @@ module _ (c : Caller) (ren : Renaming) (d f : ℕ) (reply : Reply) where
     closed_then : (step : StepOf ℕ) (lines : List Line) → step ≡ Close k
         → LeadsTo c.below (more (acting wants.Done (rename_step ren old new) (new ∷ old ∷ []))) lines (ends reply)
         → IsLegal (outcome opened c.actor step).after (events_of c.actor lines)
-        → ComesTo c (after_events (outcome opened c.actor step).after (events_of c.actor lines)) (changes c result) reply
+        → ComesTo c (after_events (outcome opened c.actor step).after (events_of c.actor lines)) true lines (changes c result) reply
     closed_then step lines is leads legal =
         renames_alone (outcome opened c.actor step).after old new
         (nodes_are_left opened c.actor step (ap is_on_entries is) ∙ holds.nodes)
@@ -145,78 +150,93 @@ module _ (c : Caller) (ren : Renaming) (d f : ℕ) (reply : Reply) where
 
     closes_then : (lines : List Line) → LeadsTo c.below (closes (k ∷ []) (acts wants.Done (rename_step ren old new) (new ∷ old ∷ []))) lines (ends reply)
         → IsLegal opened (events_of c.actor lines)
-        → ComesTo c (after_events opened (events_of c.actor lines)) (changes c result) reply
+        → ComesTo c (after_events opened (events_of c.actor lines)) true lines (changes c result) reply
     closes_then [] leads legal = cc (leads)
-    closes_then (answered step answer ∷ lines) leads legal = closed_then step lines leads.0 leads.1 legal.1
-    closes_then (no_room step answer ∷ lines) leads legal = closed_then step lines leads.0 leads.1 legal.1
+    closes_then (answered step answer ∷ lines) leads legal =
+        one_more (outcome opened c.actor step).after (answered step answer) lines (changes c result) (closed_then step lines leads.0 leads.1 legal.1)
+    closes_then (no_room step answer ∷ lines) leads legal =
+        one_more (outcome opened c.actor step).after (no_room step answer) lines (changes c result) (closed_then step lines leads.0 leads.1 legal.1)
     closes_then (not_made error ∷ lines) leads legal = absurd leads.0
 
   module _ (t : State) (old new : ℕ) (holds : Holds t old new) where
-    abbrev Comes : State → List Line → Option Errno → Type 0
-    Comes s lines why = ComesTo c (after_events s (events_of c.actor lines)) (changes c (refuse_by why result)) reply
+    abbrev Comes : State → List Line → List Line → Option Errno → Type 0
+    Comes s lines all why = ComesTo c (after_events s (events_of c.actor lines)) true all (changes c (refuse_by why result)) reply
 
     -- the entry was opened
-    by_kind : (room : Bool) (x : ℕ) (what : Object) (lines : List Line)
+    by_kind : (room : Bool) (x : ℕ) (what : Object) (line : Line) (lines : List Line)
         → LeadsTo c.below (take c.below room (checking old new ren) (Opened (length t.handles) x (kind_of what))) lines (ends reply)
         → IsLegal (with_handle t c.actor x) (events_of c.actor lines)
-        → Comes (with_handle t c.actor x) lines (refuse_if (not (is_directory (Some what))) (Some NotDir) None)
-    by_kind room x object.Dir lines leads legal = closes_then t old new (length t.handles) x holds refl lines leads legal
-    by_kind room x object.File lines leads legal =
+        → Comes (with_handle t c.actor x) lines (line ∷ lines) (refuse_if (not (is_directory (Some what))) (Some NotDir) None)
+    by_kind room x object.Dir line lines leads legal =
+        one_more (with_handle t c.actor x) line lines (changes c result) (closes_then t old new (length t.handles) x holds refl lines leads legal)
+    by_kind room x object.File line lines leads legal =
         inl (fails_alone c (with_handle t c.actor x) holds.nodes (length t.handles ∷ new ∷ old ∷ []) NotDir lines reply leads)
-    by_kind room x (object.Link text) lines leads legal =
+    by_kind room x (object.Link text) line lines leads legal =
         inl (fails_alone c (with_handle t c.actor x) holds.nodes (length t.handles ∷ new ∷ old ∷ []) NotDir lines reply leads)
 
-    abbrev Onwards : Bool → List Line → Option Errno → Outcome → Type 0
-    Onwards room lines why o = LeadsTo c.below (take c.below room (checking old new ren) o.answer) lines (ends reply)
-        → IsLegal o.after (events_of c.actor lines) → Comes o.after lines why
+    abbrev Onwards : Bool → Line → List Line → Option Errno → Outcome → Type 0
+    Onwards room line lines why o = LeadsTo c.below (take c.below room (checking old new ren) o.answer) lines (ends reply)
+        → IsLegal o.after (events_of c.actor lines) → Comes o.after lines (line ∷ lines) why
 
-    by_answer : (room : Bool) (lines : List Line) (why : Option Errno) (o : Outcome) → Tried t c.actor why o → Onwards room lines why o
-    by_answer room lines why o (is_refused error is e) =
-        subst (λ w. Onwards room lines w o) (sym is)
-        (subst (Onwards room lines (Some error)) (sym e)
+    by_answer : (room : Bool) (line : Line) (lines : List Line) (why : Option Errno) (o : Outcome) → (o.answer ≡ Refused TooMany → Meets TooMany line)
+        → Tried t c.actor why o → Onwards room line lines why o
+    by_answer room line lines why o meets (is_refused error is e) =
+        subst (λ w. Onwards room line lines w o) (sym is)
+        (subst (Onwards room line lines (Some error)) (sym e)
         (λ leads legal. inl (fails_alone c t holds.nodes (new ∷ old ∷ []) error lines reply leads)))
-    by_answer room lines why o (can_open_no_more e) =
-        subst (Onwards room lines why) (sym e) (λ leads legal. inr (runs_short c t holds.nodes (new ∷ old ∷ []) TooMany lines reply leads refl))
-    by_answer room lines why o (opens_it x what is e) =
-        subst (λ w. Onwards room lines w o) (sym is)
-        (subst (Onwards room lines (refuse_if (not (is_directory (Some what))) (Some NotDir) None)) (sym e) (by_kind room x what lines))
+    by_answer room line lines why o meets (can_open_no_more e) =
+        subst (Onwards room line lines why) (sym e)
+        (λ leads legal. inr (runs_short c t holds.nodes (new ∷ old ∷ []) TooMany lines reply leads true (line ∷ lines)
+        (inl (inl (meets (ap (λ (p : Outcome). p.answer) e)))) refl))
+    by_answer room line lines why o meets (opens_it x what is e) =
+        subst (λ w. Onwards room line lines w o) (sym is)
+        (subst (Onwards room line lines (refuse_if (not (is_directory (Some what))) (Some NotDir) None)) (sym e) (by_kind room x what line lines))
 
     -- the step was made
-    checked_by : (room : Bool) (step : StepOf ℕ) (answer : Answer) (lines : List Line) → step ≡ Open old ren.old → answer ≡ (outcome t c.actor step).answer
+    checked_by : (room : Bool) (step : StepOf ℕ) (answer : Answer) (line : Line) (lines : List Line) → (answer ≡ Refused TooMany → Meets TooMany line)
+        → step ≡ Open old ren.old → answer ≡ (outcome t c.actor step).answer
         → LeadsTo c.below (take c.below room (checking old new ren) answer) lines (ends reply)
         → IsLegal (outcome t c.actor step).after (events_of c.actor lines)
-        → Comes (outcome t c.actor step).after lines (no_directory c.tree.nodes d ren.old)
-    checked_by room step answer lines is told leads legal =
-        subst (λ ns. Comes (outcome t c.actor step).after lines (no_directory ns d ren.old)) holds.nodes
-        (by_answer room lines (no_directory t.nodes d ren.old) (outcome t c.actor step)
+        → Comes (outcome t c.actor step).after lines (line ∷ lines) (no_directory c.tree.nodes d ren.old)
+    checked_by room step answer line lines meets is told leads legal =
+        subst (λ ns. Comes (outcome t c.actor step).after lines (line ∷ lines) (no_directory ns d ren.old)) holds.nodes
+        (by_answer room line lines (no_directory t.nodes d ren.old) (outcome t c.actor step) (λ e. meets (told ∙ e))
         (subst (λ st. Tried t c.actor (no_directory t.nodes d ren.old) (outcome t c.actor st)) (sym is) (entry_tried t c.actor holds.tree old d ren.old holds.is_old))
         (subst (λ an. LeadsTo c.below (take c.below room (checking old new ren) an) lines (ends reply)) told leads) legal)
 
     checks_alone : (lines : List Line) → LeadsTo c.below (more (checking old new ren)) lines (ends reply) → IsLegal t (events_of c.actor lines)
-        → Comes t lines (no_directory c.tree.nodes d ren.old)
+        → Comes t lines lines (no_directory c.tree.nodes d ren.old)
     checks_alone [] leads legal = cc (leads)
-    checks_alone (answered step answer ∷ lines) leads legal = checked_by true step answer lines leads.0 legal.0 leads.1 legal.1
-    checks_alone (no_room step answer ∷ lines) leads legal = checked_by false step answer lines leads.0 legal.0 leads.1 legal.1
-    checks_alone (not_made error ∷ lines) leads legal = inr (runs_short c t holds.nodes (new ∷ old ∷ []) error lines reply leads.1 (is_a_want error leads.0))
+    checks_alone (answered step answer ∷ lines) leads legal =
+        checked_by true step answer (answered step answer) lines (λ e. (refl, e)) leads.0 legal.0 leads.1 legal.1
+    checks_alone (no_room step answer ∷ lines) leads legal =
+        checked_by false step answer (no_room step answer) lines (λ e. inr (refl, e)) leads.0 legal.0 leads.1 legal.1
+    checks_alone (not_made error ∷ lines) leads legal = inr (runs_short c t holds.nodes (new ∷ old ∷ []) error lines reply leads.1
+        true (not_made error ∷ lines) (inl (inl refl)) (is_a_want error leads.0))
 
     pub both_held : (slash : Bool) (lines : List Line)
         → LeadsTo c.below (if slash then more (checking old new ren) else more (acting wants.Done (rename_step ren old new) (new ∷ old ∷ []))) lines (ends reply)
         → IsLegal t (events_of c.actor lines)
-        → Comes t lines (if slash then no_directory c.tree.nodes d ren.old else None)
+        → Comes t lines lines (if slash then no_directory c.tree.nodes d ren.old else None)
     both_held true lines leads legal = checks_alone lines leads legal
     both_held false lines leads legal = renames_alone t old new holds.nodes holds.is_old holds.is_new lines leads legal
 
 -- ---- the two walks
 
+-- with room for the first turn a want is met at a line
+with_room : (room : Bool) (lines : List Line) (error : Errno) → MetBy true lines error → MetBy room lines error
+with_room room lines error (inl met) = inl met
+with_room room lines error (inr short) = absurd (true≢false short.0)
+
 -- the second walk begins, or finds no memory to begin
 second_begins : (c : Caller) (old : ℕ) (ren : Renaming) (room : Bool) (turn : Turn) (lines : List Line) (reply : Reply)
     → LeadsTo c.below (walked_on old ren (walk.for_walk room turn)) lines (ends reply)
-    → LeadsTo c.below (walked c.below true (Renames old ren) turn) lines (ends reply) ⊎ LeadsTo c.below (gives_up (old ∷ []) NoMemory) lines (ends reply)
+    → LeadsTo c.below (walked c.below true (Renames old ren) turn) lines (ends reply) ⊎ ((room ≡ false) × LeadsTo c.below (gives_up (old ∷ []) NoMemory) lines (ends reply))
 second_begins c old ren true (walk.more walking) lines reply leads = inl leads
 second_begins c old ren true (walk.found handle names) lines reply leads = inl leads
 second_begins c old ren true (walk.partial handle names rest) lines reply leads = inl leads
 second_begins c old ren true (walk.failed error) lines reply leads = inl leads
-second_begins c old ren false (walk.more walking) lines reply leads = inr leads
+second_begins c old ren false (walk.more walking) lines reply leads = inr (refl, leads)
 second_begins c old ren false (walk.found handle names) lines reply leads = inl leads
 second_begins c old ren false (walk.partial handle names rest) lines reply leads = inl leads
 second_begins c old ren false (walk.failed error) lines reply leads = inl leads
@@ -245,57 +265,59 @@ module _ (c : Caller) (has : HasRoot c.tree c.actor c.below.root.handle c.root) 
 
     second_onward : Onward c t (Renames first.number ren) (in_first first.node) reply
     second_onward u second others room rest tree_u nodes_u finds_u leads legal =
-        both_held c ren first.node second.node reply u first.number second.number
+        widened c (after_events u (events_of c.actor rest)) true rest room rest (in_first first.node (Ok second.node)) reply (with_room room rest)
+        (both_held c ren first.node second.node reply u first.number second.number
         (record {
           nodes = nodes_u;
           tree = tree_u;
           is_old = finds_u.others first.number (other_handle t c.actor first.number second.number first.node finds.is_open finds_u.fresh) ∙ finds.is_open;
           is_new = finds_u.is_open;
         })
-        (from.slash || to.slash) rest leads legal
+        (from.slash || to.slash) rest leads legal)
 
     second_walk : (rest : List Line) → LeadsTo c.below (walked c.below true (Renames first.number ren) (walk.begins (way_of c.below (Renames first.number ren)) to.dir)) rest (ends reply)
         → IsLegal t (events_of c.actor rest)
-        → ComesTo c (after_events t (events_of c.actor rest)) (in_first first.node (directory_of c to.dir)) reply
+        → ComesTo c (after_events t (events_of c.actor rest)) true rest (in_first first.node (directory_of c to.dir)) reply
     second_walk rest leads legal =
-        subst (λ ns. ComesTo c (after_events t (events_of c.actor rest))
+        subst (λ ns. ComesTo c (after_events t (events_of c.actor rest)) true rest
         (in_first first.node (meaning.found (resolution (reading_means (record { nodes = ns; root = c.root; flags = c.below.flags }) to.dir true)))) reply) nodes
-        (walks_then c t has_root nodes (Renames first.number ren) refl to.dir reply (in_first first.node) (λ error. refl) second_onward true rest leads legal)
+        (walks_then c t has_root nodes (Renames first.number ren) refl to.dir reply (in_first first.node) (λ error. refl) second_onward rest leads legal)
 
     first_found : (room : Bool) (rest : List Line)
         → LeadsTo c.below (walked_on first.number ren (walk.for_walk room (walk.begins (way_of c.below (Renames first.number ren)) to.dir))) rest (ends reply)
         → IsLegal t (events_of c.actor rest)
-        → ComesTo c (after_events t (events_of c.actor rest)) (from_first (Ok first.node)) reply
+        → ComesTo c (after_events t (events_of c.actor rest)) room rest (from_first (Ok first.node)) reply
     first_found room rest leads legal = on (second_begins c first.number ren room (walk.begins (way_of c.below (Renames first.number ren)) to.dir) rest reply leads)
       where
         on : LeadsTo c.below (walked c.below true (Renames first.number ren) (walk.begins (way_of c.below (Renames first.number ren)) to.dir)) rest (ends reply)
-            ⊎ LeadsTo c.below (gives_up (first.number ∷ []) NoMemory) rest (ends reply)
-            → ComesTo c (after_events t (events_of c.actor rest)) (from_first (Ok first.node)) reply
-        on (inl begun) = second_walk rest begun legal
-        on (inr short) = inr (runs_short c t nodes (first.number ∷ []) NoMemory rest reply short refl)
+            ⊎ ((room ≡ false) × LeadsTo c.below (gives_up (first.number ∷ []) NoMemory) rest (ends reply))
+            → ComesTo c (after_events t (events_of c.actor rest)) room rest (from_first (Ok first.node)) reply
+        on (inl begun) = widened c (after_events t (events_of c.actor rest)) true rest room rest (from_first (Ok first.node)) reply (with_room room rest)
+            (second_walk rest begun legal)
+        on (inr short) = inr (runs_short c t nodes (first.number ∷ []) NoMemory rest reply short.1 room rest (inr (short.0, refl)) refl)
 
   first_onward : Onward c c.tree (WalksOn to.dir ren) from_first reply
   first_onward t handle names room rest tree nodes finds leads legal = first_found t handle names tree nodes finds room rest leads legal
 
   pub first_walk : (lines : List Line) → LeadsTo c.below (walks c.below (WalksOn to.dir ren) from.dir) lines (ends reply) → IsLegal c.tree (events_of c.actor lines)
-      → ComesTo c (after_events c.tree (events_of c.actor lines)) (changes c (renamed c from to mode)) reply
+      → ComesTo c (after_events c.tree (events_of c.actor lines)) true lines (changes c (renamed c from to mode)) reply
   first_walk lines leads legal =
-      walks_then c c.tree has refl (WalksOn to.dir ren) refl from.dir reply from_first (λ error. refl) first_onward true lines leads legal
+      walks_then c c.tree has refl (WalksOn to.dir ren) refl from.dir reply from_first (λ error. refl) first_onward lines leads legal
 
 -- ---- the texts
 
 module _ (c : Caller) (has : HasRoot c.tree c.actor c.below.root.handle c.root) (mode : Mode) where
   second_text : (from : SplitPath) (found_fault : Option Errno) (split : Result SplitPath Errno) (lines : List Line) (reply : Reply)
       → LeadsTo c.below (unless_fault found_fault (between c.below mode from split)) lines (ends reply) → IsLegal c.tree (events_of c.actor lines)
-      → ComesTo c (after_events c.tree (events_of c.actor lines)) (changes c (and_then (refuse_by found_fault split) (λ to. renamed c from to mode))) reply
-  second_text from (Some error) split lines reply leads legal = faults_alone c has error lines reply leads
-  second_text from None (Err error) lines reply leads legal = faults_alone c has error lines reply leads
+      → ComesTo c (after_events c.tree (events_of c.actor lines)) true lines (changes c (and_then (refuse_by found_fault split) (λ to. renamed c from to mode))) reply
+  second_text from (Some error) split lines reply leads legal = faults_alone c has error true lines reply leads
+  second_text from None (Err error) lines reply leads legal = faults_alone c has error true lines reply leads
   second_text from None (Ok to) lines reply leads legal = first_walk c has from to mode reply lines leads legal
 
   pub rename_alone : (new : List ℕ) (found_fault : Option Errno) (split : Result SplitPath Errno) (lines : List Line) (reply : Reply)
       → LeadsTo c.below (unless_fault found_fault (from_entry c.below mode new split)) lines (ends reply) → IsLegal c.tree (events_of c.actor lines)
-      → ComesTo c (after_events c.tree (events_of c.actor lines))
+      → ComesTo c (after_events c.tree (events_of c.actor lines)) true lines
       (changes c (and_then (refuse_by found_fault split) (λ from. and_then (meaning.entry_of new Drop) (λ to. renamed c from to mode)))) reply
-  rename_alone new (Some error) split lines reply leads legal = faults_alone c has error lines reply leads
-  rename_alone new None (Err error) lines reply leads legal = faults_alone c has error lines reply leads
+  rename_alone new (Some error) split lines reply leads legal = faults_alone c has error true lines reply leads
+  rename_alone new None (Err error) lines reply leads legal = faults_alone c has error true lines reply leads
   rename_alone new None (Ok from) lines reply leads legal = second_text from (text_fault new) (split_of (reading_of new) Drop) lines reply leads legal

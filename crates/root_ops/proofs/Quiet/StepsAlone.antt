@@ -1,5 +1,5 @@
 -- A call's own step and its closings, where nobody else acts.
-use Rattle.std.proofs.Common.{◌≡◌, ◌⊎◌, inl, inr, ℕ, List, [], ◌∷◌, true, Result, Ok, Err, Option, Some, refl, sym, ap, ◌∙◌, subst}
+use Rattle.std.proofs.Common.{◌≡◌, ◌⊎◌, inl, inr, ℕ, List, [], ◌∷◌, Bool, true, Result, Ok, Err, Option, Some, refl, sym, ap, ◌∙◌, subst}
 use Rattle.path_text.specs.declared.errno.Errno.{Errno}
 use Rattle.path_text.specs.declared.errno.Errno.TheVariants.{BadHandle}
 use Rattle.tree_model.specs.declared.answer.Answer.{Answer}
@@ -20,10 +20,10 @@ use Rattle.root_ops.specs.declared.aim.Change.TheVariants.{MakeFile, MakeDir, Ma
 use Rattle.root_ops.specs.declared.aim.Wanted.{Wanted}
 use Rattle.root_ops.specs.declared.aim.Wanted.TheVariants as wants
 use Rattle.root_ops.specs.declared.below.Below.{Below}
-use Rattle.root_ops.specs.Meaning.{Caller, fails}
+use Rattle.root_ops.specs.Meaning.{Caller, Whole, fails}
 use Rattle.root_ops.specs.Meaning as meaning
 use Rattle.root_ops.specs.Order.{Reply, fault, gives, acting, more, ends, closes, gives_up, change_step, reply_to, LeadsTo}
-use Rattle.root_ops.specs.Quiet.{IsReply, IsDone, RanShort}
+use Rattle.root_ops.specs.Quiet.{MetWant, MetBy, IsReply, IsDone, RanShort, ComesTo}
 
 -- ---- closings
 
@@ -52,15 +52,27 @@ module _ (c : Caller) (t : State) (same : t.nodes ≡ c.tree.nodes) (hs : List �
   pub fails_alone : IsDone c end (record { reply = fails error; nodes = c.tree.nodes }) reply
   fails_alone = record { is_reply = subst (IsReply c end (fails error)) (sym closed.0) refl; nodes = closed.1 ∙ same }
 
-  pub runs_short : is_want error ≡ true → RanShort c end reply
-  runs_short want = record { error = error; is_reply = closed.0; want = want; nodes = closed.1 ∙ same }
+  pub runs_short : (room : Bool) (all : List Line) → MetBy room all error → is_want error ≡ true → RanShort c end room all reply
+  runs_short room all met want = record { error = error; is_reply = closed.0; want = want; met = met; nodes = closed.1 ∙ same }
+
+-- a want that was met at some of the lines was met
+pub widened : (c : Caller) (last : State) (room : Bool) (lines : List Line) (room' : Bool) (lines' : List Line) (whole : Whole) (reply : Reply)
+    → ((error : Errno) → MetBy room lines error → MetBy room' lines' error)
+    → ComesTo c last room lines whole reply → ComesTo c last room' lines' whole reply
+widened c last room lines room' lines' whole reply within (inl is) = inl is
+widened c last room lines room' lines' whole reply within (inr short) =
+    inr (record { error = short.error; is_reply = short.is_reply; want = short.want; met = within short.error short.met; nodes = short.nodes })
+
+pub met_later : (room : Bool) (line : Line) (lines : List Line) (error : Errno) → MetBy room lines error → MetBy room (line ∷ lines) error
+met_later room line lines error (inl met) = inl (inr met)
+met_later room line lines error (inr short) = inr short
 
 -- ---- the call's own step
 
 -- it was refused for a want; or it was made, and its answer gives the reply
-abbrev pub Acts : State → ℕ → Wanted → StepOf ℕ → State → Reply → Type 0
-Acts t a wanted step end reply =
-    ((error : Errno) × ((reply ≡ fault error) × (is_want error ≡ true) × (end.nodes ≡ t.nodes)))
+abbrev pub Acts : State → ℕ → Wanted → StepOf ℕ → State → List Line → Reply → Type 0
+Acts t a wanted step end lines reply =
+    ((error : Errno) × ((reply ≡ fault error) × (is_want error ≡ true) × (end.nodes ≡ t.nodes) × MetWant lines error))
     ⊎ ((reply ≡ reply_to wanted (outcome t a step).answer) × (end.nodes ≡ (outcome t a step).after.nodes))
 
 refused_reply : (wanted : Wanted) (error : Errno) → reply_to wanted (Refused error) ≡ fault error
@@ -73,10 +85,10 @@ is_a_want error (inl e) = ap is_want e
 is_a_want error (inr e) = ap is_want e
 
 module _ (below : Below) (a : ℕ) (wanted : Wanted) (step : StepOf ℕ) (hs : List ℕ) (reply : Reply) (t : State) where
-  step_made : (made : StepOf ℕ) (answer : Answer) (lines : List Line) → made ≡ step → answer ≡ (outcome t a made).answer
+  step_made : (made : StepOf ℕ) (answer : Answer) (lines all : List Line) → made ≡ step → answer ≡ (outcome t a made).answer
       → LeadsTo below (closes hs (gives (reply_to wanted answer))) lines (ends reply)
-      → Acts t a wanted step (after_events (outcome t a made).after (events_of a lines)) reply
-  step_made made answer lines same told leads =
+      → Acts t a wanted step (after_events (outcome t a made).after (events_of a lines)) all reply
+  step_made made answer lines all same told leads =
       let rest = closes_alone below a hs (reply_to wanted answer) reply (outcome t a made).after lines leads in
       inr (
         rest.0 ∙ ap (reply_to wanted) (told ∙ ap (λ st. (outcome t a st).answer) same),
@@ -84,13 +96,13 @@ module _ (below : Below) (a : ℕ) (wanted : Wanted) (step : StepOf ℕ) (hs : L
       )
 
   pub acts_alone : (lines : List Line) → LeadsTo below (more (acting wanted step hs)) lines (ends reply) → IsLegal t (events_of a lines)
-      → Acts t a wanted step (after_events t (events_of a lines)) reply
+      → Acts t a wanted step (after_events t (events_of a lines)) lines reply
   acts_alone [] leads legal = cc (leads)
-  acts_alone (answered made answer ∷ lines) leads legal = step_made made answer lines leads.0 legal.0 leads.1
-  acts_alone (no_room made answer ∷ lines) leads legal = step_made made answer lines leads.0 legal.0 leads.1
+  acts_alone (answered made answer ∷ lines) leads legal = step_made made answer lines (answered made answer ∷ lines) leads.0 legal.0 leads.1
+  acts_alone (no_room made answer ∷ lines) leads legal = step_made made answer lines (no_room made answer ∷ lines) leads.0 legal.0 leads.1
   acts_alone (not_made error ∷ lines) leads legal =
       let rest = closes_alone below a hs (reply_to wanted (Refused error)) reply t lines leads.1 in
-      inl (error, (rest.0 ∙ refused_reply wanted error, is_a_want error leads.0, rest.1))
+      inl (error, (rest.0 ∙ refused_reply wanted error, is_a_want error leads.0, rest.1, inl refl))
 
 -- ---- changes of entries
 
