@@ -1,0 +1,187 @@
+-- A call begins with few steps to come; and once its walks are over it makes at most five.
+use Rattle.std.specs.Prelude.{◌≡◌, ℕ, zero, suc, ◌+◌, ◌-◌, ◌*◌, ◌<◌, ◌≤◌, ◌&&◌, List, [], ◌∷◌, Bool, true, false, length, take, nat_lt, Option, Some, None, Result, Ok, Err, if◌then◌else◌, refl}
+use Rattle.std.proofs.Common.{sym, ap, ◌∙◌, subst, arith}
+use Rattle.path_text.specs.declared.errno.Errno.{Errno}
+use Rattle.path_text.specs.declared.errno.Errno.TheVariants.{NoMemory, Invalid, NotDir, TooLong}
+use Rattle.path_text.specs.declared.name.TheConstants.{NAME_MAX}
+use Rattle.path_text.specs.declared.part.Part.{Part}
+use Rattle.path_text.specs.declared.part.Part.TheVariants.{Cur, Up, Named}
+use Rattle.path_text.specs.declared.path.Rule.{Rule}
+use Rattle.path_text.specs.declared.path.Rule.TheVariants.{Drop, Refuse}
+use Rattle.path_text.specs.declared.path.Split.{Split}
+use Rattle.path_text.specs.declared.path.TheConstants.{PARTS_MAX}
+use Rattle.path_text.specs.Reading.{Reading}
+use Rattle.path_text.specs.Split.{split_of, split_at, dir_of, before_last, last_part, parts_without_slash, refuses_slash}
+use Rattle.path_text.specs.Text.{text_fault, reading_of}
+use Rattle.path_text.proofs.TextLemmas.{reading_few}
+use Rattle.tree_model.specs.declared.answer.Answer.{Answer}
+use Rattle.tree_model.specs.declared.step.Mode.{Mode}
+use Rattle.tree_model.specs.declared.step.StepOf.{StepOf}
+use Rattle.handles.specs.declared.owner.Owner.{Owner}
+use Rattle.handles.specs.Objects.{StandingObject}
+use Rattle.walk_plan.specs.declared.goal.Goal.TheVariants.{Follow, NoFollow}
+use Rattle.step_resolver.specs.Order.{Way, Turn, found, partial, failed}
+use Rattle.step_resolver.specs.Order as walk
+use Rattle.step_resolver.specs.View.{way_from}
+use Rattle.step_resolver.specs.TurnView as walk_view
+use Rattle.step_resolver.proofs.WalkSteps as walk_steps
+use Rattle.root_ops.specs.declared.aim.Aim.{Aim}
+use Rattle.root_ops.specs.declared.aim.Aim.TheVariants.{Opens, Reads, Changes, WalksOn, Renames}
+use Rattle.root_ops.specs.declared.aim.Change.{Change}
+use Rattle.root_ops.specs.declared.below.Below.{Below}
+use Rattle.root_ops.specs.declared.op.Op.{Op}
+use Rattle.root_ops.specs.declared.op.Op.TheVariants.{Resolve, ResolveNoFollow, ReadLink, CreateFile, CreateDir, CreateLink, RemoveFile, RemoveDir, Rename, Single, Release}
+use Rattle.root_ops.specs.Order as call
+use Rattle.root_ops.specs.Order.{Doing, walking, acting, checking, closing, releasing, CallTurn, more, ends, walks, unless_fault, in_directory, between, from_entry, is_single, single, same_owner, releases, lacks, starts, begins, way_of, renaming_of, steps_of, steps_then}
+use Rattle.root_ops.specs.declared.call.CallTurn.{CallTurn as Outcome}
+use Rattle.root_ops.specs.TurnView.{turn_view, Keeps, StartsTo, steps_to_come, STEPS_MAX}
+use Rattle.root_ops.specs.StepCount.{is_walking, WalksOrFew, FewerThan, FiveAfterWalks}
+use Rattle.root_ops.proofs.Steps.{IsLower, either_lower, walked_lower, walking_lower, fewer_after, lower_to_come}
+
+-- ---- the parts of a directory's path are few
+
+shorter : (n : ℕ) (ps : List Part) → length (take n ps) ≤ length ps
+shorter zero ps = omega arith
+shorter (suc n) [] = omega arith
+shorter (suc n) (p ∷ ps) = omega (arith, shorter n ps)
+
+fewer_parts : (path : Reading) (slash : Bool) → length (before_last (if slash then before_last path.parts else path.parts)) ≤ length path.parts
+fewer_parts path true = omega (arith, shorter (length (before_last path.parts) - 1) (before_last path.parts), shorter (length path.parts - 1) path.parts)
+fewer_parts path false = shorter (length path.parts - 1) path.parts
+
+abbrev IsShort : Reading → Result Split Errno → Type 0
+IsShort path (Err error) = Unit {0}
+IsShort path (Ok split) = length split.dir.parts ≤ length path.parts
+
+short_if : (path : Reading) (b : Bool) (s t : Result Split Errno) → IsShort path s → IsShort path t → IsShort path (if b then s else t)
+short_if path true s t short other = short
+short_if path false s t short other = other
+
+short_at : (path : Reading) (rule : Rule) (last : Option Part) → IsShort path (split_at path rule last)
+short_at path rule (Some (Named bytes)) =
+    short_if path (path.slash && refuses_slash rule) _ _ tt (short_if path (nat_lt NAME_MAX (length bytes)) _ _ tt (fewer_parts path path.slash))
+short_at path rule None = tt
+short_at path rule (Some Cur) = tt
+short_at path rule (Some Up) = tt
+
+short_split : (path : Reading) (rule : Rule) → IsShort path (split_of path rule)
+short_split path rule = short_at path rule (last_part (parts_without_slash path))
+
+-- ---- the first turn
+
+walk_few : (turn : Turn) → walk_steps.FewerThan (suc (steps_of turn)) turn
+walk_few (walk.more w) = omega arith
+walk_few (found handle names) = tt
+walk_few (partial handle names rest) = tt
+walk_few (failed error) = tt
+
+steps_few : (k : ℕ) (turn : Turn) → 0 < k → walk_steps.FewerThan k turn → steps_of turn < k
+steps_few k (walk.more w) some few = few
+steps_few k (found handle names) some few = some
+steps_few k (partial handle names rest) some few = some
+steps_few k (failed error) some few = some
+
+lower_still : (below : Below) (j k : ℕ) (turn : CallTurn) → j ≤ k → IsLower below j turn → IsLower below k turn
+lower_still below j k (more doing) le lower = (omega (arith, lower.0), lower.1)
+lower_still below j k (ends reply) le lower = tt
+
+module _ (below : Below) where
+  begun_few : (aim : Aim) (path : Reading) → length path.parts ≤ PARTS_MAX → steps_of (walk.begins (way_of below aim) path) ≤ walk_view.STEPS_MAX
+  begun_few aim path few =
+      let fewer = steps_few (suc walk_view.STEPS_MAX) (walk.begins (way_of below aim) path) (omega arith) (walk_steps.begins_few (way_of below aim) path few) in
+      omega (arith, fewer)
+
+  walks_lower : (aim : Aim) (path : Reading) → length path.parts ≤ PARTS_MAX → steps_then below aim ≤ walk_view.STEPS_MAX + 6 → IsLower below (suc STEPS_MAX) (walks below aim path)
+  walks_lower aim path few most =
+      let turn = walk.begins (way_of below aim) path in
+      lower_still below (suc (steps_of turn) + steps_then below aim) (suc STEPS_MAX) (walks below aim path) (omega (arith, begun_few aim path few, most))
+      (walked_lower below (suc (steps_of turn)) true aim turn (omega arith) (walk_few turn))
+
+  past_fault : (k : ℕ) (why : Option Errno) (turn : CallTurn) → (why ≡ None → IsLower below k turn) → IsLower below k (unless_fault why turn)
+  past_fault k (Some error) turn lower = tt
+  past_fault k None turn lower = lower refl
+
+  in_directory_lower : (change : Change) (path : Reading) (split : Result Split Errno) → length path.parts ≤ PARTS_MAX → IsShort path split → IsLower below (suc STEPS_MAX) (in_directory below change split)
+  in_directory_lower change path (Err error) few short = tt
+  in_directory_lower change path (Ok split) few short = walks_lower (Changes change split.name) split.dir (omega (arith, few, short)) (omega arith)
+
+  between_lower : (mode : Mode) (old : Split) (path : Reading) (split : Result Split Errno) → length old.dir.parts ≤ PARTS_MAX → length path.parts ≤ PARTS_MAX → IsShort path split
+      → IsLower below (suc STEPS_MAX) (between below mode old split)
+  between_lower mode old path (Err error) few fewer short = tt
+  between_lower mode old path (Ok new) few fewer short =
+      walks_lower (WalksOn new.dir (renaming_of old new mode)) old.dir few
+      (omega (arith, begun_few (WalksOn new.dir (renaming_of old new mode)) new.dir (omega (arith, fewer, short))))
+
+  from_entry_lower : (mode : Mode) (text : List ℕ) (path : Reading) (split : Result Split Errno) → length path.parts ≤ PARTS_MAX → IsShort path split
+      → IsLower below (suc STEPS_MAX) (from_entry below mode text split)
+  from_entry_lower mode text path (Err error) few short = tt
+  from_entry_lower mode text path (Ok old) few short =
+      past_fault (suc STEPS_MAX) (text_fault text) _ (λ fine.
+      between_lower mode old (reading_of text) (split_of (reading_of text) Drop) (omega (arith, few, short)) (reading_few text fine) (short_split (reading_of text) Drop))
+
+  on_path_lower : (aim : Aim) (text : List ℕ) → steps_then below aim ≤ walk_view.STEPS_MAX + 6 → IsLower below (suc STEPS_MAX) (unless_fault (text_fault text) (walks below aim (reading_of text)))
+  on_path_lower aim text most = past_fault (suc STEPS_MAX) (text_fault text) _ (λ fine. walks_lower aim (reading_of text) (reading_few text fine) most)
+
+  on_entry_lower : (rule : Rule) (change : Change) (text : List ℕ) → IsLower below (suc STEPS_MAX) (unless_fault (text_fault text) (in_directory below change (split_of (reading_of text) rule)))
+  on_entry_lower rule change text =
+      past_fault (suc STEPS_MAX) (text_fault text) _ (λ fine. in_directory_lower change (reading_of text) (split_of (reading_of text) rule) (reading_few text fine) (short_split (reading_of text) rule))
+
+  lacks_lower : (text : List ℕ) → IsLower below (suc STEPS_MAX) (lacks text)
+  lacks_lower text = past_fault (suc STEPS_MAX) (text_fault text) _ (λ fine. tt)
+
+  releases_lower : (owner : Owner) (standing : StandingObject) → IsLower below (suc STEPS_MAX) (releases owner standing)
+  releases_lower owner standing = either_lower below (suc STEPS_MAX) (same_owner standing.owner owner) _ _ (omega arith, λ e. omega arith) tt
+
+  begins_lower : (op : Op) → IsLower below (suc STEPS_MAX) (begins below op)
+  begins_lower (Resolve path) = on_path_lower (Opens Follow) path (omega arith)
+  begins_lower (ResolveNoFollow path) = on_path_lower (Opens NoFollow) path (omega arith)
+  begins_lower (ReadLink path) = on_path_lower Reads path (omega arith)
+  begins_lower (CreateFile path) = on_entry_lower Refuse _ path
+  begins_lower (CreateDir path) = on_entry_lower Drop _ path
+  begins_lower (CreateLink path text) = on_entry_lower Refuse _ path
+  begins_lower (RemoveFile path) = on_entry_lower Refuse _ path
+  begins_lower (RemoveDir path) = on_entry_lower Drop _ path
+  begins_lower (Rename old new mode) =
+      past_fault (suc STEPS_MAX) (text_fault old) _ (λ fine.
+      from_entry_lower mode new (reading_of old) (split_of (reading_of old) Drop) (reading_few old fine) (short_split (reading_of old) Drop))
+  begins_lower (Single step) = either_lower below (suc STEPS_MAX) (is_single step) _ _ (omega arith, λ e. omega arith) tt
+  begins_lower (Release standing) = releases_lower below.root.owner standing
+
+  starts_lower : (room : Bool) (op : Op) → IsLower below (suc STEPS_MAX) (starts below room op)
+  starts_lower true op = begins_lower op
+  starts_lower false (Resolve path) = lacks_lower path
+  starts_lower false (ResolveNoFollow path) = lacks_lower path
+  starts_lower false (ReadLink path) = lacks_lower path
+  starts_lower false (CreateFile path) = lacks_lower path
+  starts_lower false (CreateDir path) = lacks_lower path
+  starts_lower false (CreateLink path text) = lacks_lower path
+  starts_lower false (RemoveFile path) = lacks_lower path
+  starts_lower false (RemoveDir path) = lacks_lower path
+  starts_lower false (Rename old new mode) = lacks_lower old
+  starts_lower false (Single step) = either_lower below (suc STEPS_MAX) (is_single step) _ _ tt tt
+  starts_lower false (Release standing) = releases_lower below.root.owner standing
+
+pub started_few : (below : Below) (op : Op) (outcome : Outcome) → StartsTo below op (turn_view outcome) → Keeps below outcome → steps_to_come outcome ≤ STEPS_MAX
+started_few below op outcome started kept =
+    let fewer = lower_to_come (suc STEPS_MAX) below outcome (omega arith) (subst (IsLower below (suc STEPS_MAX)) (sym started.1) (starts_lower below started.0 op)) kept in
+    omega (arith, fewer)
+
+-- ---- after the walks
+
+or_few : (k : ℕ) (below : Below) (turn : CallTurn) → IsLower below k turn → WalksOrFew 5 below turn
+or_few k below (more doing) lower = lower.1
+or_few k below (ends reply) lower = tt
+
+walked_few : (below : Below) (room : Bool) (doing : Doing) (answer : Answer) → is_walking doing ≡ true → WalksOrFew 5 below (call.take below room doing answer)
+walked_few below room (walking w aim) answer e = or_few _ below _ (walking_lower below room w aim answer)
+walked_few below room (acting wanted step hs) answer e = cc (e)
+walked_few below room (checking old new renaming) answer e = cc (e)
+walked_few below room (closing h hs after) answer e = cc (e)
+walked_few below room (releasing h) answer e = cc (e)
+
+pub five_after_walks : FiveAfterWalks
+five_after_walks = record {
+  begun = λ below room op. or_few (suc STEPS_MAX) below (starts below room op) (starts_lower below room op);
+  walked = walked_few;
+  after = fewer_after;
+}

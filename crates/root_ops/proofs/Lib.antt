@@ -1,0 +1,5 @@
+pub mod Rooms
+pub mod Texts
+pub mod Steps
+pub mod FirstSteps
+pub mod Quiet

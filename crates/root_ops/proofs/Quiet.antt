@@ -1,0 +1,7 @@
+-- Lemmas of what a call comes to where nobody else acts.
+pub mod WorkedOperations
+pub mod WalksAlone
+pub mod StepsAlone
+pub mod EntriesAlone
+pub mod RenamesAlone
+pub mod CallsAlone

@@ -1,0 +1,48 @@
+-- Past the reading of a path text, which has no fault then.
+use Rattle.std.proofs.Common.{◌≡◌, List, ℕ, Bool, true, false, refl, sym, subst, ap, ◌∙◌}
+use Rattle.std.specs.Prelude.{Option, Some, None, Result, Ok, Err, MatchOption}
+use Rattle.path_text.specs.declared.errno.Errno.{Errno}
+use Rattle.path_text.specs.declared.errno.Errno.TheVariants.{NoMemory}
+use Rattle.path_text.specs.Reading.{Reading}
+use Rattle.path_text.specs.Text.{text_fault, reading_of}
+use Rattle.root_ops.specs.declared.below.Below.{Below}
+use Rattle.root_ops.specs.declared.op.Op.{Op}
+use Rattle.root_ops.specs.Order.{CallTurn, ends, fault, unless_fault, lacks, begins, begins_without}
+use Rattle.root_ops.specs.TurnView.{Either, StartsTo}
+
+-- what a text was read as, where it was read
+abbrev pub IsRead : Option Errno → Reading → Reading → Type 0
+IsRead why path reading = MatchOption why (path ≡ reading) (λ error. ◌≡◌ {A = Result Reading Errno} (Ok path) (Err error))
+
+is_path : (why : Option Errno) (path reading : Reading) → IsRead why path reading → (why ≡ None) × (path ≡ reading)
+is_path None path reading read = (refl, read)
+is_path (Some error) path reading read = cc (read)
+
+passed : (why : Option Errno) (begun without turn : CallTurn) → why ≡ None → Either begun without turn → Either (unless_fault why begun) without turn
+passed None begun without turn e by = by
+passed (Some error) begun without turn e by = cc (e)
+
+lacking : (why : Option Errno) (begun without turn : CallTurn) → why ≡ None → Either begun without turn → Either (unless_fault why begun) (unless_fault why without) turn
+lacking None begun without turn e by = by
+lacking (Some error) begun without turn e by = cc (e)
+
+-- the first text
+pub first_read : (next : Reading → CallTurn) (text given : List ℕ) (path : Reading) (turn : CallTurn) → given ≡ text → IsRead (text_fault given) path (reading_of given)
+    → Either (next path) (ends (fault NoMemory)) turn → Either (unless_fault (text_fault text) (next (reading_of text))) (lacks text) turn
+first_read next text given path turn same read by =
+    let is = is_path (text_fault text) path (reading_of text) (subst (λ (bytes : List ℕ). IsRead (text_fault bytes) path (reading_of bytes)) same read) in
+    lacking (text_fault text) (next (reading_of text)) (ends (fault NoMemory)) turn is.0
+    (subst (λ (p : Reading). Either (next p) (ends (fault NoMemory)) turn) is.1 by)
+
+-- a further one
+pub next_read : (next : Reading → CallTurn) (text given : List ℕ) (path : Reading) (turn : CallTurn) → given ≡ text → IsRead (text_fault given) path (reading_of given)
+    → Either (next path) (ends (fault NoMemory)) turn → Either (unless_fault (text_fault text) (next (reading_of text))) (ends (fault NoMemory)) turn
+next_read next text given path turn same read by =
+    let is = is_path (text_fault text) path (reading_of text) (subst (λ (bytes : List ℕ). IsRead (text_fault bytes) path (reading_of bytes)) same read) in
+    passed (text_fault text) (next (reading_of text)) (ends (fault NoMemory)) turn is.0
+    (subst (λ (p : Reading). Either (next p) (ends (fault NoMemory)) turn) is.1 by)
+
+-- a first turn with memory or without
+pub starts_by : (below : Below) (op : Op) (turn : CallTurn) → Either (begins below op) (begins_without below op) turn → StartsTo below op turn
+starts_by below op turn (true, e) = (true, e)
+starts_by below op turn (false, e) = (false, e)

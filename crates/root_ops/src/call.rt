@@ -1,0 +1,167 @@
+//! A call that is under way.
+ghost use Rattle.std.specs.Prelude.{◌≡◌, ◌<◌, ◌≤◌, true, IfOk, IsOk};
+ghost use Rattle.step_resolver.specs.View.{opens_a_name};
+
+use crate::aim::{Aim, Change, Wanted};
+use crate::answers::reply_to;
+use crate::below::Below;
+use crate::doing::{Doing, Next, Stage};
+use crate::op::{Op, Request};
+use crate::reply::Reply;
+use path_text::{NoMemory, Rule};
+use std::alloc::Global;
+use std::marker::Model;
+use std::mem;
+use step_resolver::Root;
+use tree_model::{Answer, Step, StepOf};
+use walk_plan::Goal;
+
+/// A call that is under way. It can't be let go: each `due` step is to be made, and its answer taken, until the call
+/// ends. One to be given up has each Close made that is due, and is told `Refused(NoMemory)` at every other step.
+/// It lies in a box, and moving it moves a pointer and its root. Contracts see it as a `CallView`: where it walks,
+/// and what is due.
+#[derive(Debug)]
+pub struct Call {
+    pub(crate) below: Below,
+    pub(crate) stage: Stage,
+}
+
+impl Model for Call {
+    ghost use Rattle.root_ops.specs.View.{CallView};
+
+    ghost Value = { CallView };
+
+    ghost use Rattle.root_ops.specs.View.{call_view, IsStage};
+
+    ghost view = { λ c. call_view c.below c.stage };
+
+    ghost invariant = { λ c. IsStage c.below c.stage };
+}
+
+/// What a call has come to.
+#[derive(Debug)]
+pub enum CallTurn {
+    /// It goes on: a step is due.
+    More(Call),
+    /// It has ended.
+    Done(Reply),
+}
+
+impl Call {
+    ghost use Rattle.root_ops.specs.Order.{due, steps_left, is_closing};
+    ghost use Rattle.root_ops.specs.View.{is_nameless, next_view, HoldsNoWalk, IsNext};
+    ghost use Rattle.root_ops.specs.TurnView.{below_of, turn_view, Keeps, StartsTo, TakesTo, steps_to_come, STEPS_MAX};
+
+    /// Begins a call below the root. The path texts are read and split first, the old one of a Rename before the new one.
+    ///
+    /// Faults that come before any step: those of the path text (NotFound of an empty one, Invalid of one with a NUL,
+    /// TooLong past 4,095 bytes); for an operation on one entry Invalid of a last part that is no name, NotDir of a slash
+    /// at the end where a file or a link is made or a file removed, TooLong of a last name over 255 bytes; those of
+    /// `Walk::start`; Invalid of a Single that opens or closes a handle; and where the first text has no fault,
+    /// NoMemory. A link's text is the MakeLink step's to refuse. To release another owner's handle is refused by
+    /// handing it back, as Kept. A Release takes no memory.
+    pub fn start(alloc: Global, request: Request, root: Root) -> CallTurn
+        ensures turn { StartsTo (below_of root request.flags) request.op (turn_view result) }
+        ensures kept { Keeps (below_of root request.flags) result }
+        ensures few { steps_to_come result ≤ STEPS_MAX }
+    {
+        Call::begin(alloc, request, root)
+    }
+
+    // The same, as the order of steps has it.
+    fn begin(alloc: Global, request: Request, root: Root) -> CallTurn
+        ensures turn { StartsTo (below_of root request.flags) request.op (turn_view result) }
+        ensures kept { Keeps (below_of root request.flags) result }
+    {
+        let Request { op, flags } = request;
+        let below = Below { root, flags };
+        match op {
+            Op::Resolve(path) => Call::on_path(alloc, below, Aim::Opens(Goal::Follow), &path),
+            Op::ResolveNoFollow(path) => {
+                Call::on_path(alloc, below, Aim::Opens(Goal::NoFollow), &path)
+            }
+            Op::ReadLink(path) => Call::on_path(alloc, below, Aim::Reads, &path),
+            Op::CreateFile(path) => {
+                Call::on_entry(alloc, below, Rule::Refuse, Change::MakeFile, &path)
+            }
+            Op::CreateDir(path) => Call::on_entry(alloc, below, Rule::Drop, Change::MakeDir, &path),
+            Op::CreateLink(path, text) => {
+                Call::on_entry(alloc, below, Rule::Refuse, Change::MakeLink(text), &path)
+            }
+            Op::RemoveFile(path) => {
+                Call::on_entry(alloc, below, Rule::Refuse, Change::RemoveFile, &path)
+            }
+            Op::RemoveDir(path) => {
+                Call::on_entry(alloc, below, Rule::Drop, Change::RemoveDir, &path)
+            }
+            Op::Rename(old, new, mode) => Call::between(alloc, below, &old, &new, mode),
+            Op::Single(step) => Call::single(alloc, below, step),
+            Op::Release(standing) => Call::release(below, standing),
+        }
+    }
+
+    /// The step that is due. NoMemory where the room of a name was refused; a step without a name takes no memory.
+    pub fn due(&self, alloc: Global) -> Result<Step, NoMemory>
+        ensures exact { IfOk result (λ step. step ≡ due self.now.below self.now.doing) }
+        ensures no_memory { is_nameless (due self.now.below self.now.doing) ≡ true → IsOk result }
+    {
+        match &self.stage {
+            Stage::Releasing(handle) => Ok(StepOf::Close(*handle)),
+            Stage::Boxed(doing) => doing.due(alloc),
+        }
+    }
+
+    /// What the answer to the due step makes of the call. A driver that couldn't make the step, for want of memory or of
+    /// room in its book, hands in that refusal; the answer to a Close isn't looked at, but for that of a Release. An
+    /// answer that doesn't fit the step counts as BadHandle. A refused growth counts as NoMemory. Before the call fails all
+    /// that it opened is closed, just opened first, which takes no memory.
+    ///
+    /// Faults: those of `Walk::take` for each walk; then the refusal of the one step on the last name; and for a Rename
+    /// of a path with a slash at its end the refusal of Open of the entry, and NotDir where that is no directory
+    /// (rename(2)).
+    pub fn take(self, alloc: Global, answer: Answer) -> CallTurn
+        ensures turn { TakesTo self.below self.doing answer (turn_view result) }
+        ensures kept { Keeps self.below result }
+        ensures fewer { steps_to_come result < steps_left self.below self.doing }
+    {
+        self.taken(alloc, answer)
+    }
+
+    // The same, as the order of steps has it.
+    fn taken(self, alloc: Global, answer: Answer) -> CallTurn
+        ensures turn { TakesTo self.below self.doing answer (turn_view result) }
+        ensures kept { Keeps self.below result }
+    {
+        let Call { below, stage } = self;
+        match stage {
+            Stage::Releasing(_) => CallTurn::Done(reply_to(Wanted::Done, answer)),
+            Stage::Boxed(mut state) => {
+                // Nothing can be moved out of a box: a step that holds no walk stands in until the next one is known.
+                let doing = mem::replace(&mut *state, Doing::stand_in(below.handle()));
+                let next = below.taken(alloc, doing, answer);
+                Call::turned(below, state, next)
+            }
+        }
+    }
+
+    // What comes next takes the place of the step that stood in.
+    pub(crate) fn turned(below: Below, mut state: Box<Doing>, next: Next) -> CallTurn
+        requires stand_in { HoldsNoWalk state.value }
+        requires next { IsNext below next }
+        ensures turn { turn_view result ≡ next_view next }
+        ensures kept { Keeps below result }
+    {
+        match next {
+            Next::Due(doing) => {
+                // What comes back is the one that stood in. An assignment would have to drop it, and no step can be.
+                mem::replace(&mut *state, doing).let_go();
+                let stage = Stage::Boxed(state);
+                CallTurn::More(Call { below, stage })
+            }
+            Next::Over(reply) => {
+                Box::into_inner(state).let_go();
+                CallTurn::Done(reply)
+            }
+        }
+    }
+}

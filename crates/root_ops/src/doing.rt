@@ -1,0 +1,158 @@
+//! What a call holds while the step that is due is made, and what its answer comes to.
+ghost use Rattle.std.specs.Prelude.{◌≡◌, true, IfOk, IsOk};
+ghost use Rattle.root_ops.specs.declared.below.Below.{Below};
+ghost use Rattle.root_ops.specs.View.{HoldsNoWalk, IsOurs, is_nameless};
+
+use crate::aim::{Aim, Renaming, Wanted};
+use crate::reply::Reply;
+use path_text::NoMemory;
+use std::alloc::Global;
+use step_resolver::Walk;
+use tree_model::{HandleNo, Step, StepOf};
+
+/// Handles that are closed in their order: just opened first.
+#[derive(Clone, Copy, Debug, PartialEq, Eq)]
+pub(crate) enum Handles {
+    Empty,
+    One(HandleNo),
+    Two(HandleNo, HandleNo),
+    Three(HandleNo, HandleNo, HandleNo),
+}
+
+/// The step that is due, by what is held while it is made.
+#[derive(Debug)]
+pub(crate) enum Doing {
+    /// That of a walk, and what is done with the object that it finds.
+    Walking {
+        walk: Walk,
+        aim: Aim,
+    },
+    /// The call's own step, whose answer gives the reply; then the handles are closed.
+    Acting {
+        wanted: Wanted,
+        step: Step,
+        held: Handles,
+    },
+    /// Open of the entry to be renamed, to see that it is a directory. The old directory and the new one are held.
+    Checking {
+        old: HandleNo,
+        new: HandleNo,
+        renaming: Renaming,
+    },
+    /// The first is closed, then the others.
+    Closing {
+        first: HandleNo,
+        others: Handles,
+        after: After,
+    },
+}
+
+/// What comes once all that is due to be closed is closed.
+#[derive(Debug, Drop)]
+pub(crate) enum After {
+    /// The call ends.
+    Gives(Reply),
+    /// Its own step is due.
+    Acts {
+        wanted: Wanted,
+        step: Step,
+        held: Handles,
+    },
+}
+
+/// What comes after an answer: the next step, or the end.
+#[derive(Debug)]
+pub(crate) enum Next {
+    Due(Doing),
+    Over(Reply),
+}
+
+/// A call under way: in a box, which is changed in place; or the release of a handle, which takes no memory.
+#[derive(Debug)]
+pub(crate) enum Stage {
+    Boxed(Box<Doing>),
+    Releasing(HandleNo),
+}
+
+// An equal step. One without a name takes no memory.
+fn copy_of(alloc: Global, step: &Step) -> Result<Step, NoMemory>
+    ensures copy { IfOk result (λ copy. copy ≡ step.now) }
+    ensures no_memory { is_nameless step.now ≡ true → IsOk result }
+{
+    match step {
+        StepOf::Dup(handle) => Ok(StepOf::Dup(*handle)),
+        StepOf::Parent(handle) => Ok(StepOf::Parent(*handle)),
+        StepOf::ReadLink(handle) => Ok(StepOf::ReadLink(*handle)),
+        StepOf::NameBelow(root, handle) => Ok(StepOf::NameBelow(*root, *handle)),
+        StepOf::List(handle) => Ok(StepOf::List(*handle)),
+        StepOf::Close(handle) => Ok(StepOf::Close(*handle)),
+        named => named.copy(alloc),
+    }
+}
+
+impl Doing {
+    ghost use Rattle.root_ops.specs.Order.{due};
+    ghost use Rattle.root_ops.specs.View.{doing_view};
+
+    /// Holds no walk, and stands in a box from which the pending step was moved.
+    pub(crate) fn stand_in(handle: HandleNo) -> Doing
+        ensures { HoldsNoWalk result }
+    {
+        Doing::Acting {
+            wanted: Wanted::Done,
+            step: StepOf::Dup(handle),
+            held: Handles::Empty,
+        }
+    }
+
+    /// The step that is due. NoMemory where the room of a name was refused; a step without a name takes no memory.
+    #[tactic(auto, using(crate::proofs::Rooms::nameless_opens_none))]
+    pub(crate) fn due(&self, alloc: Global) -> Result<Step, NoMemory>
+        ensures exact { (below : Below) → IsOurs below self.now → IfOk result (λ step. step ≡ due below (doing_view self.now)) }
+        ensures no_memory { (below : Below) → IsOurs below self.now → is_nameless (due below (doing_view self.now)) ≡ true → IsOk result }
+    {
+        match self {
+            Doing::Walking { walk, aim: _ } => walk.due(alloc),
+            Doing::Acting {
+                wanted: _,
+                step,
+                held: _,
+            } => copy_of(alloc, step),
+            Doing::Checking {
+                old,
+                new: _,
+                renaming,
+            } => Ok(StepOf::Open(*old, renaming.old.copy(alloc)?)),
+            Doing::Closing {
+                first,
+                others: _,
+                after: _,
+            } => Ok(StepOf::Close(*first)),
+        }
+    }
+
+    /// Lets go of what holds no walk.
+    pub(crate) fn let_go(self)
+        requires { HoldsNoWalk self }
+    {
+        match self {
+            Doing::Acting {
+                wanted: _,
+                step: _,
+                held: _,
+            } => {}
+            Doing::Checking {
+                old: _,
+                new: _,
+                renaming: _,
+            } => {}
+            Doing::Closing {
+                first: _,
+                others: _,
+                after: _,
+            } => {}
+            // A walk can't be let go.
+            _ => unreachable!(),
+        }
+    }
+}

@@ -1,0 +1,22 @@
+//! What an operation means where nobody else acts: laws, each the contract of a function without a body.
+ghost use Rattle.root_ops.specs.Quiet.{QuietCallsMean};
+ghost use Rattle.root_ops.specs.MeaningWorked.{RenamesAreWorked, MovesAreWorked, MadeAreWorked, ToldAreWorked, RemovedAreWorked};
+
+/// What operations of each kind come to on a small tree, computed: what is made, removed and renamed, which nodes
+/// there are afterwards, and which error comes where nothing is.
+pub fn worked_operations()
+    ensures renames { RenamesAreWorked }
+    ensures moves { MovesAreWorked }
+    ensures made { MadeAreWorked }
+    ensures told { ToldAreWorked }
+    ensures removed { RemovedAreWorked }
+{}
+
+/// Where no other actor acts in a call's window, and its root's handle is open, the actor's own and on a directory, the
+/// reply and the nodes after it are those that the operation means in the tree as the window begins: an object is open
+/// by a new handle and stands at the names that are told, and an error changes no node. Otherwise memory, room in the
+/// book or handles ran short at one of the call's lines or at its first turn, which is the reply, and no node is changed
+/// either. It holds in every legal history, where the Close of a Release is left out only if its handle isn't open.
+pub fn quiet_calls_mean()
+    ensures { QuietCallsMean }
+{}
