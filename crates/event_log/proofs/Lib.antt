@@ -1,0 +1,4 @@
+pub mod Growth
+pub mod Again
+pub mod Pieces
+pub mod Placed

@@ -1,0 +1,4 @@
+pub mod Shapes
+pub mod Records
+pub mod Log
+pub mod Written
