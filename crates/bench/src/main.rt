@@ -1,11 +1,13 @@
-//! How long resolutions take: walks along paths of several kinds, over a tree in memory, one after another.
+//! How long resolutions take: walks along paths of several kinds, over a tree in memory, one after another; and how long
+//! single steps and the building of trees take.
 //!
-//! Without arguments each workload's paths are resolved once, and how many led to an object is printed. `time` times
-//! them. `repeat WORKLOAD COUNT` resolves so many, for a program that counts from outside. Nothing is claimed of
+//! Without arguments each workload's paths are resolved once, and how many led to an object is printed; then how many
+//! steps are done of the smaller workloads of steps. `time` times resolutions, and `steps` steps. `repeat WORKLOAD COUNT` resolves so many, for a program that counts from outside. Nothing is claimed of
 //! time; what a walk comes to is what `step_resolver` proves of it.
 #![tactic(auto)]
 
 mod drive;
+mod steps;
 mod tree;
 mod workload;
 
@@ -13,11 +15,18 @@ use anyhow::bail;
 use drive::resolve_and_release;
 use std::alloc::Global;
 use std::time::Instant;
+use steps::{STEP_WORKLOADS, StepWorkload, time_indexed, time_plain};
 use tree::{Ground, set_up};
 use workload::{WORKLOADS, Workload, paths_of};
 
 /// Rounds of a workload, each on a new tree. The median is told.
 const ROUNDS: usize = 9;
+
+/// The same of a workload of steps.
+const STEP_ROUNDS: usize = 5;
+
+/// The most files of a workload of steps that is run without being timed.
+const FEW_FILES: u32 = 1_000;
 
 /// Resolutions of the round by which the length of the others is chosen.
 const TRIAL: u64 = 2_000;
@@ -62,8 +71,39 @@ fn time(rt: &HostRuntime, workload: &Workload) -> anyhow::Result<u64> {
     for _ in 0..ROUNDS {
         rounds.push(time_round(rt, workload, &paths, count.max(64))? / count.max(64))?;
     }
+    Ok(median(rounds))
+}
+
+// The one in the middle.
+fn median(mut rounds: Vec<u64>) -> u64 {
     rounds.sort_unstable();
-    Ok(rounds.get(ROUNDS / 2).copied().unwrap_or(0))
+    rounds.get(rounds.len() / 2).copied().unwrap_or(0)
+}
+
+// The medians on the indexed tree, and on the plain one where it is timed.
+fn time_step(rt: &HostRuntime, workload: StepWorkload) -> anyhow::Result<(u64, Option<u64>)> {
+    let (_, work, files, on_plain) = workload;
+    let mut indexed = Vec::new(rt.alloc());
+    let mut plain = Vec::new(rt.alloc());
+    for _ in 0..STEP_ROUNDS {
+        indexed.push(time_indexed(rt, work, files)?.0)?;
+        if on_plain {
+            plain.push(time_plain(rt, work, files)?.0)?;
+        }
+    }
+    Ok((median(indexed), on_plain.then(|| median(plain))))
+}
+
+fn time_steps(rt: &HostRuntime) -> anyhow::Result<()> {
+    for workload in STEP_WORKLOADS {
+        let name = workload.0;
+        let (indexed, plain) = time_step(rt, workload)?;
+        match plain {
+            Some(plain) => println!(rt; "{name}\t{indexed}\t{plain}")?,
+            None => println!(rt; "{name}\t{indexed}\t-")?,
+        }
+    }
+    Ok(())
 }
 
 fn workload_named(name: &str) -> Option<&'static Workload> {
@@ -99,6 +139,12 @@ fn answer_all(rt: &HostRuntime) -> anyhow::Result<()> {
         let found = resolve_all(alloc, &mut set_up(alloc, workload)?, &paths, count as u64);
         println!(rt; "{name}: {found} of {count} found")?;
     }
+    for (name, work, files, _) in STEP_WORKLOADS {
+        if files <= FEW_FILES {
+            let (_, done) = time_indexed(rt, work, files)?;
+            println!(rt; "{name}: {done} done")?;
+        }
+    }
     Ok(())
 }
 
@@ -107,9 +153,10 @@ fn main(rt: HostRuntime) -> anyhow::Result<()> {
     match words.as_slice() {
         [] => answer_all(&rt),
         [word] if word.as_str() == "time" => time_all(&rt),
+        [word] if word.as_str() == "steps" => time_steps(&rt),
         [word, name, count] if word.as_str() == "repeat" => {
             repeat(&rt, name.as_str(), count.as_str())
         }
-        _ => bail!("usage: bench [time | repeat WORKLOAD COUNT]"),
+        _ => bail!("usage: bench [time | steps | repeat WORKLOAD COUNT]"),
     }
 }

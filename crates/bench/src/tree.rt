@@ -8,7 +8,7 @@ use tree_model::{Actor, Answer, HandleNo, Step, StepOf, Tree};
 use tree_slab::SlabTree;
 
 /// The entries that the tree may keep at hand.
-const CACHED_ENTRIES: usize = 1_024;
+pub const CACHED_ENTRIES: usize = 1_024;
 
 /// A tree, and its top as the root, by an open handle.
 #[derive(Drop)]
@@ -26,7 +26,8 @@ fn must(alloc: Global, ground: &mut Ground, step: Step) -> anyhow::Result<Handle
     }
 }
 
-fn name(alloc: Global, text: &str) -> Result<Name, Errno> {
+/// The name of that text.
+pub fn name(alloc: Global, text: &str) -> Result<Name, Errno> {
     Name::new(alloc, text.as_bytes())
 }
 

@@ -3,3 +3,4 @@ pub mod Entries
 pub mod FirstRefused
 pub mod Roots
 pub mod Lines
+pub mod Opened

@@ -99,6 +99,13 @@ line_by d text line flags s a h hand is =
     (said_by (rooted_tree_of d) s a h hand)
     ∙ ap (λ (l : List ℕ). Ok l) (sym is)
 
+-- and so it is where there is a line
+pub lines_by : (d : Data) (text : List ℕ) (flags : Flags) (s : State) (a h : ℕ) (result : Result (List ℕ) RunFault) → IsAtHand (rooted_tree_of d) s a h
+    → IfOk result (λ line. line ≡ line_of s.nodes (node_of s a h) (resolved s.nodes (node_of s a h) text true flags))
+    → IfOk result (λ line. line_for d text flags ≡ Ok line)
+lines_by d text flags s a h (Ok line) hand is = line_by d text line flags s a h hand is
+lines_by d text flags s a h (Err fault) hand is = tt
+
 -- ---- what is written
 
 -- a line has its first byte

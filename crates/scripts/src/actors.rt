@@ -11,8 +11,8 @@ use crate::fault::{Cause, RunFault, ScriptFault};
 use path_text::{Errno, Names, NoMemory};
 use serde_json::Value;
 use std::alloc::Global;
-use tree_list::ListTree;
 use tree_model::{Actor, HandleNo, Tree, steps_keep_trees};
+use tree_slab::SlabTree;
 
 /// The actor that the program walks as.
 pub const ACTOR: u32 = 0;
@@ -35,7 +35,7 @@ pub fn first_actor_of(script: &Value) -> Option<&Value>
 }
 
 /// Opens the directory at these names for the actor, who has no handle yet.
-pub fn open_root(alloc: Global, tree: &mut ListTree, names: &Names) -> Result<HandleNo, RunFault>
+pub fn open_root(alloc: Global, tree: &mut SlabTree, names: &Names) -> Result<HandleNo, RunFault>
     requires none { tree.old.handles ≡ [] }
     requires tree { IsState tree.old }
     ensures ok { IfOk result (λ root. IsAtHand (rooted tree.old.nodes (directory_at tree.old.nodes TOP names.now)) tree.new ACTOR root) }

@@ -20,13 +20,13 @@ use std::alloc::Global;
 use std::io::{Read, Write};
 use step_resolver::{Goal, Resolved, Root, resolve};
 use transcript::Output;
-use tree_list::ListTree;
 use tree_model::{Actor, HandleNo, name_below_is_standing};
+use tree_slab::SlabTree;
 
 /// What a path text means below the root that is open. Errors: the text's faults, then those of `resolve`.
 fn look_up(
     alloc: Global,
-    tree: &mut ListTree,
+    tree: &mut SlabTree,
     root: HandleNo,
     text: &[u8],
     flags: Flags,
@@ -76,7 +76,7 @@ fn fault_line(alloc: Global, error: Errno) -> Result<Output, RunFault>
 /// The line of what a path text means below the root that is open. `NoMemory`.
 fn line_of(
     alloc: Global,
-    tree: &mut ListTree,
+    tree: &mut SlabTree,
     root: HandleNo,
     text: &[u8],
     flags: Flags,

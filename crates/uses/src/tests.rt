@@ -7,7 +7,7 @@ use handles::Owner;
 use path_text::{Bytes, Errno, Flags, Name, Names, Path};
 use std::alloc::Global;
 use std::test::*;
-use step_resolver::{Goal, Resolved, Root};
+use step_resolver::{Goal, Resolved, Root, resolve};
 use tree_list::{Entry, ListTree, New};
 use tree_model::{Actor, HandleNo, StepOf, Tree, steps_keep_trees};
 
@@ -87,6 +87,33 @@ fn nodes_are_looked_up(rt: HostRuntime) -> Result<(), Fail> {
         ("host", Err(Errno::NotFound)),
     ] {
         assert!(rt; node_below(rt.alloc(), text) == wanted, "{text}");
+    }
+    Ok(())
+}
+
+// What a path comes to below `/c` for a goal: the node, and how many of its parts are left.
+fn comes_to(alloc: Global, text: &str, goal: Goal) -> Result<(u64, usize), Errno> {
+    let (mut tree, root) = tree(alloc)?;
+    let path = Path::parse(alloc, text.as_bytes())?;
+    match resolve(alloc, &mut tree, root, path, goal, PLAIN)? {
+        Resolved::Found(standing) => Ok((standing.node().number(), 0)),
+        Resolved::Partial(standing, rest) => Ok((standing.node().number(), rest.as_slice().len())),
+    }
+}
+
+#[test]
+fn paths_are_resolved_for_each_goal(rt: HostRuntime) -> Result<(), Fail> {
+    for (text, goal, wanted) in [
+        ("a/b", Goal::Follow, Ok((3, 0))),
+        ("link", Goal::Follow, Ok((3, 0))),
+        ("link", Goal::NoFollow, Ok((4, 0))),
+        ("link/", Goal::NoFollow, Ok((3, 0))),
+        ("none", Goal::NoFollow, Err(Errno::NotFound)),
+        ("a/b", Goal::Deepest, Ok((3, 0))),
+        ("link/../n/m", Goal::Deepest, Ok((2, 2))),
+        ("none", Goal::Deepest, Ok((1, 1))),
+    ] {
+        assert!(rt; comes_to(rt.alloc(), text, goal) == wanted, "{text}");
     }
     Ok(())
 }

@@ -1,7 +1,8 @@
-//! Walks driven over the plain tree, step by step, while another actor acts in between.
+//! Walks driven over the plain tree and over the indexed one, step by step, while another actor acts in between.
 use super::{BASE, PLAIN};
 use crate::input::value_of;
-use crate::script::open_script;
+use crate::script::{entries_in, open_script};
+use crate::tree::list_of;
 use handles::{Owner, Standing};
 use path_text::{Errno, Flags, Name, Names, Path};
 use std::alloc::Global;
@@ -10,6 +11,7 @@ use step_resolver::{Goal, Root, Turn, Walk, advance};
 use transcript::read_step;
 use tree_list::ListTree;
 use tree_model::{Actor, Answer, HandleNo, Kind, Node, Row, StepOf, Tree};
+use tree_slab::SlabTree;
 
 const BENEATH: Flags = Flags {
     beneath: true,
@@ -64,17 +66,27 @@ fn names_of(alloc: Global, path: &str) -> Result<Names, Errno> {
     Ok(names)
 }
 
-/// The base tree, with the handles of both.
-fn tree_of(alloc: Global) -> Result<ListTree, Fail> {
-    let mut tree = open_script(alloc, &value_of(alloc, BASE.as_bytes())?)?.tree;
+/// Opens the other's directories.
+fn open_others<T: Tree>(alloc: Global, tree: &mut T) -> Result<(), Fail> {
     for path in OTHERS {
         tree.grant(alloc, Actor::new(OTHER), &names_of(alloc, path)?)?;
     }
-    Ok(tree)
+    Ok(())
+}
+
+/// The base tree with the handles of both, as the plain tree and as the indexed one.
+fn trees(alloc: Global) -> Result<(ListTree, SlabTree), Fail> {
+    let script = value_of(alloc, BASE.as_bytes())?;
+    let mut list = list_of(alloc, entries_in(&script).unwrap_or(&[]))?;
+    list.grant(alloc, Actor::new(WALKER), &names_of(alloc, "/c")?)?;
+    open_others(alloc, &mut list)?;
+    let mut slab = open_script(alloc, &script)?.tree;
+    open_others(alloc, &mut slab)?;
+    Ok((list, slab))
 }
 
 /// Whether the other's step is done.
-fn is_done(alloc: Global, tree: &mut ListTree, line: &str) -> bool {
+fn is_done<T: Tree>(alloc: Global, tree: &mut T, line: &str) -> bool {
     let Ok(Some(step)) = read_step(alloc, line.as_bytes()) else {
         return false;
     };
@@ -82,7 +94,7 @@ fn is_done(alloc: Global, tree: &mut ListTree, line: &str) -> bool {
 }
 
 /// What the other does after so many events; whether all of it is done.
-fn act_between(alloc: Global, tree: &mut ListTree, others: &str, events: u32) -> bool {
+fn act_between<T: Tree>(alloc: Global, tree: &mut T, others: &str, events: u32) -> bool {
     let mut all_done = true;
     for line in others.split(", ") {
         let (after, step) = cut(line);
@@ -96,7 +108,7 @@ fn act_between(alloc: Global, tree: &mut ListTree, others: &str, events: u32) ->
 /// The walk's end, the number of its events, and whether all that the other did in between was done.
 type End = (Result<Standing, Errno>, u32, bool);
 
-fn drive(alloc: Global, tree: &mut ListTree, others: &str, mut turn: Turn) -> End {
+fn drive<T: Tree>(alloc: Global, tree: &mut T, others: &str, mut turn: Turn) -> End {
     let mut events: u32 = 0;
     let mut all_done = true;
     loop {
@@ -149,7 +161,7 @@ fn is_end(alloc: Global, end: &Result<Standing, Errno>, line: &str) -> bool {
     }
 }
 
-fn has_row(alloc: Global, tree: &ListTree, line: &str) -> Result<bool, Fail> {
+fn has_row<T: Tree>(alloc: Global, tree: &T, line: &str) -> Result<bool, Fail> {
     let (parent, words) = cut(line);
     let (entry, child) = cut(words);
     let row = Row {
@@ -161,13 +173,19 @@ fn has_row(alloc: Global, tree: &ListTree, line: &str) -> Result<bool, Fail> {
 }
 
 /// Whether the walk comes to that end, and leaves that tree.
-fn holds(alloc: Global, tree: &mut ListTree, case: &Case<'_>) -> Result<bool, Fail> {
+fn holds<T: Tree>(alloc: Global, tree: &mut T, case: &Case<'_>) -> Result<bool, Fail> {
     let path = Path::parse(alloc, case.path.as_bytes())?;
     let turn = Walk::start(alloc, root(), path, case.goal, case.flags);
     let (end, events, all_done) = drive(alloc, tree, case.others, turn);
     let as_told = is_end(alloc, &end, case.end) && events == case.events;
     let held = tree.held(Actor::new(WALKER));
     Ok(has_row(alloc, tree, case.row)? && as_told && all_done && held == case.held)
+}
+
+/// The same of both trees.
+fn holds_on_both(alloc: Global, case: &Case<'_>) -> Result<bool, Fail> {
+    let (mut list, mut slab) = trees(alloc)?;
+    Ok(holds(alloc, &mut list, case)? && holds(alloc, &mut slab, case)?)
 }
 
 #[test]
@@ -255,8 +273,7 @@ fn walks_among_renames(rt: HostRuntime) -> Result<(), Fail> {
             row: "1 up 6",
         },
     ] {
-        let mut tree = tree_of(alloc)?;
-        assert!(rt; holds(alloc, &mut tree, &case)?, "{}", case.path);
+        assert!(rt; holds_on_both(alloc, &case)?, "{}", case.path);
     }
     Ok(())
 }
@@ -294,8 +311,16 @@ fn walks_undisturbed(rt: HostRuntime) -> Result<(), Fail> {
             held: if opens { 2 } else { 1 },
             row: "3 f 4",
         };
-        let mut tree = tree_of(alloc)?;
-        assert!(rt; holds(alloc, &mut tree, &case)?, "{}", case.path);
+        assert!(rt; holds_on_both(alloc, &case)?, "{}", case.path);
+    }
+    Ok(())
+}
+
+/// Opens the walker's root until room for two handles is left.
+fn hold_more<T: Tree>(alloc: Global, tree: &mut T) -> Result<(), Fail> {
+    for _ in 0..1022 {
+        let root = StepOf::Dup(HandleNo::new(0));
+        tree.step(alloc, Actor::new(WALKER), &root)?;
     }
     Ok(())
 }
@@ -307,11 +332,9 @@ fn walks_with_few_handles_left(rt: HostRuntime) -> Result<(), Fail> {
         ("a", "opened dir 2 /a", 2, 1024),
         ("a/b", "fault EMFILE", 3, 1023),
     ] {
-        let mut tree = tree_of(alloc)?;
-        for _ in 0..1022 {
-            let root = StepOf::Dup(HandleNo::new(0));
-            tree.step(alloc, Actor::new(WALKER), &root)?;
-        }
+        let (mut list, mut slab) = trees(alloc)?;
+        hold_more(alloc, &mut list)?;
+        hold_more(alloc, &mut slab)?;
         let case = Case {
             path,
             goal: Goal::Follow,
@@ -322,7 +345,8 @@ fn walks_with_few_handles_left(rt: HostRuntime) -> Result<(), Fail> {
             held,
             row: "3 f 4",
         };
-        assert!(rt; holds(alloc, &mut tree, &case)?, "{}", case.path);
+        let on_both = holds(alloc, &mut list, &case)? && holds(alloc, &mut slab, &case)?;
+        assert!(rt; on_both, "{}", case.path);
     }
     Ok(())
 }

@@ -1,6 +1,6 @@
 use Rattle.std.proofs.Common.{◌≡◌, length, sym, ◌∙◌}
 use Rattle.scripts.proofs.Entries.{too_many, tree_whole, tree_misshaped, tree_refused}
-use Rattle.scripts.proofs.tree.tree_of.Goals as goal
+use Rattle.scripts.proofs.tree.list_of.Goals as goal
 
 pub returns-then-values-gt-ENTRIES_MAX-clause-err : goal.returns-then-values-gt-ENTRIES_MAX-clause-err
 returns-then-values-gt-ENTRIES_MAX-clause-err c = too_many c.args.values.now c.if-values-gt-ENTRIES_MAX.true
