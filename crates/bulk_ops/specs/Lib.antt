@@ -11,3 +11,4 @@ pub use Rattle.step_resolver.specs.TurnView
 pub mod RemoveAllOrder
 pub mod RemoveAllView
 pub mod RemoveAllTurnView
+pub mod RemoveAllTells
