@@ -3,3 +3,7 @@ pub mod Levels
 pub mod FirstTurns
 pub mod StepCount
 pub mod Phases
+pub mod Happening
+pub mod StepAnswers
+pub mod Underway
+pub mod AfterAnswers

@@ -15,3 +15,4 @@ pub mod MakeAllSteps
 pub mod RemoveAllOrder
 pub mod RemoveAllView
 pub mod RemoveAllTurnView
+pub mod RemoveAllTells

@@ -1,5 +1,5 @@
 use Rattle.bulk_ops.specs.RemoveAllTurnView.{steps_to_come}
 use Rattle.bulk_ops.proofs.remove_all.tests.drive.Given as goal
 
-abbrev pub decreases-loop-turn : goal.decreases-loop-turn
-decreases-loop-turn l = steps_to_come l.turn
+abbrev pub decreases-loop-steps : goal.decreases-loop-steps
+decreases-loop-steps l = steps_to_come l.turn
