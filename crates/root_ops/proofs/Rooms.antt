@@ -10,7 +10,8 @@ use Rattle.path_text.specs.Text.{text_fault, parts_of, begins_with_slash}
 use Rattle.tree_model.specs.declared.answer.Answer.{Answer}
 use Rattle.tree_model.specs.declared.answer.Answer.TheVariants.{Opened, Text, Names, NotBelow}
 use Rattle.step_resolver.specs.Asked.{AskedPart, Cur, Up, Named, asked, followed, follows}
-use Rattle.step_resolver.specs.Meaning.{LINKS_MAX, is_too_long, crosses}
+use Rattle.step_resolver.specs.Meaning.{LINKS_MAX, is_too_long}
+use Rattle.walk_plan.specs.Plan.{leads_out}
 use Rattle.step_resolver.specs.Order.{Way, Handle, Position, root_itself, holds, Todo, todo, After, gives, onward, judges, Walking, opening, reading, rising, judging, duping, ending, closing, Turn, more, found, partial, failed, names_of, handles_of, is_dir_position, is_followed, gives_up, at_end, in_directory, on_part, on_own, on_parts, goes_on, begins, for_walk, starts, comes, closes, refusal_of, with_room, follows_link, enters, refused_open, from_link, read_text, judged, refused_rise, take, due}
 use Rattle.walk_plan.specs.declared.goal.Goal.{Goal}
 use Rattle.step_resolver.specs.View.{WalkView, way_from, opens_a_name}
@@ -98,7 +99,7 @@ module _ (way : Way) where
 
   read : (room : Bool) (position : Position) (link : Handle) (rest : Todo) (text : List ℕ) (why : Option Errno) → FindsNone (read_text way room position link rest text why)
   read room position link rest text (Some error) = tt
-  read room position link rest text None = either (crosses way.flags text) _ _ tt (from_a_link room position link (begins_with_slash text) (followed (parts_of text)) rest)
+  read room position link rest text None = either (leads_out (begins_with_slash text) way.flags) _ _ tt (from_a_link room position link (begins_with_slash text) (followed (parts_of text)) rest)
 
   reading_finds_none : (room : Bool) (position : Position) (link : Handle) (rest : Todo) (answer : Answer) → FindsNone (take way room (reading position link rest) answer)
   reading_finds_none room position link rest (Text text) = read room position link rest text (text_fault text)
@@ -142,7 +143,7 @@ walked_by below aim walking answer turn next taken by =
 
 -- a first turn finds none, and without room for the walk it is the want
 first_turn : (way : Way) (path : Reading) → FindsNone (begins way path)
-first_turn way path = either (way.flags.beneath && path.absolute) _ _ tt (onwards way root_itself (todo [] (asked (follows way.goal) path.parts) LINKS_MAX))
+first_turn way path = either (leads_out path.absolute way.flags) _ _ tt (onwards way root_itself (todo [] (asked (follows way.goal) path.parts) LINKS_MAX))
 
 -- where the first turn of a walk leads: with room for the walk and for the call, or without
 abbrev Begun : Below → Aim → Reading → CallTurn → Type 0
