@@ -19,7 +19,7 @@ use Rattle.tree_slab.specs.Directories.{is_name, entries_at, has_map, entry_in, 
 use Rattle.tree_slab.specs.Index.{is_standing_dir, IsIndexed}
 use Rattle.tree_slab.proofs.Agreement.{with_entry-cases, alike, child-look, taken, made_entry, moved_entry, replaced_entry, exchanged_entry}
 
-abbrev Tables : Type 0
+abbrev pub Tables : Type 0
 Tables = List (Option (List (List ℕ × ℕ)))
 
 -- ---- which directories stand
@@ -112,7 +112,7 @@ childless_look nodes directories i e childless n = by (is_dir nodes e) refl
     by false q = no_map directories e (i.maps e ∙ ap (λ b. b && not (is_gone nodes e)) q) n
 
 -- where a map without entries goes, no look-up changes
-lost_look : (mid new : Tables) (e : ℕ) → ((n : List ℕ) → entry_in mid e n ≡ None) → LosesMap mid new e → (f : ℕ) (m : List ℕ) → entry_in new f m ≡ entry_in mid f m
+pub lost_look : (mid new : Tables) (e : ℕ) → ((n : List ℕ) → entry_in mid e n ≡ None) → LosesMap mid new e → (f : ℕ) (m : List ℕ) → entry_in new f m ≡ entry_in mid f m
 lost_look mid new e none l f m = elim (cases_eq f e) [
   | inl q ↦ rw (q, l.entries e, eq-eqb e e refl) (sym (none m))
   | inr ne ↦ rw (l.entries f, ne_eqb f e ne) refl
@@ -146,6 +146,18 @@ module _ (nodes : List Inode) (old : Tables) (i : IsIndexed nodes old) where
   present_after mid f m x d n c s e =
       ap is_some (s.entries d n) ∙ ⊎_elim (λ r. ap is_some r.1) (λ r. ap is_some r.1 ∙ present d n c e) (with_entry-cases (entry_in old) f m (Some x) d n)
 
+  -- what has its entry taken away has none of its own
+  pub emptied : (mid : Tables) (d : ℕ) (n : List ℕ) (c : ℕ) → (is_dir nodes c && has_entries nodes c) ≡ false → SetsEntry old mid d n None → (m : List ℕ) → entry_in mid c m ≡ None
+  emptied mid d n c childless s = none_set old mid d n s c (childless_look nodes old i c childless)
+
+  -- nor has what is replaced
+  pub replaced_empty : (mid left : Tables) (d : ℕ) (n : List ℕ) (f : ℕ) (m : List ℕ) (c e : ℕ) → child nodes f m ≡ Some e → (is_dir nodes e && has_entries nodes e) ≡ false
+      → SetsEntry old mid f m (Some c) → SetsEntry mid left d n None → (k : List ℕ) → entry_in left e k ≡ None
+  replaced_empty mid left d n f m c e other childless s s2 =
+      let none = childless_look nodes old i e childless in
+      let apart : f ≢ e = λ q. none-some e (sym (none m) ∙ ap (λ k. entry_in old k m) (sym q) ∙ look_from_child f m e other) in
+      none_set mid left d n s2 e (λ k. s.entries e k ∙ ⊎_elim (λ r. absurd (apart (sym (ap (λ place. place.parent) r.0)))) (λ r. r.1 ∙ none k) (with_entry-cases (entry_in old) f m (Some c) e k))
+
   pub removed_index : (mid new : Tables) (d : ℕ) (n : List ℕ) (c : ℕ) → child nodes d n ≡ Some c → (is_dir nodes c && has_entries nodes c) ≡ false
       → SetsEntry old mid d n None → LosesMap mid new c → IsIndexed (put_at nodes c None) new
   removed_index mid new d n c there childless s l =
@@ -153,7 +165,7 @@ module _ (nodes : List Inode) (old : Tables) (i : IsIndexed nodes old) where
       record {
         tree = Changed-tree i.tree (removed d n c there childless);
         entries = alike (with_entry (entry_in old) d n None) (entry_in new) (put_at nodes c None)
-            (λ f m. lost_look mid new c (none_set old mid d n s c (childless_look nodes old i c childless)) l f m ∙ s.entries f m)
+            (λ f m. lost_look mid new c (emptied mid d n c childless s) l f m ∙ s.entries f m)
             (taken (entry_in old) nodes i.entries d n c (look_from_child d n c there));
         maps = λ x. lost_map mid new c l x ∙ ap (λ b. if x == c then false else b) (s.maps x ∙ i.maps x) ∙ sym (standing-put_none nodes i.tree c (entry d n) was x);
         count = l.count ∙ s.count ∙ i.count ∙ sym (length-put_at nodes c None);
@@ -178,14 +190,11 @@ module _ (nodes : List Inode) (old : Tables) (i : IsIndexed nodes old) where
         → SetsEntry old mid f m (Some c) → SetsEntry mid left d n None → LosesMap left new e → IsIndexed (put_at (put_at nodes e None) c (Some (entry f m))) new
     replaced_index mid left new e other ne childless s s2 l =
         let e_was = place_at-child nodes f m e other in
-        let none = childless_look nodes old i e childless in
-        let apart : f ≢ e = λ q. none-some e (sym (none m) ∙ ap (λ k. entry_in old k m) (sym q) ∙ look_from_child f m e other) in
-        let mid_none : (k : List ℕ) → entry_in mid e k ≡ None = λ k. s.entries e k ∙ ⊎_elim (λ r. absurd (apart (sym (ap (λ place. place.parent) r.0)))) (λ r. r.1 ∙ none k) (with_entry-cases (entry_in old) f m (Some c) e k) in
         let still = place_at-put_other nodes e None c ne ∙ was in
         record {
           tree = Changed-tree i.tree (replaced d n f m c e dir stays there other ne out childless);
           entries = alike (with_entry (with_entry (entry_in old) f m (Some c)) d n None) (entry_in new) (put_at (put_at nodes e None) c (Some (entry f m)))
-              (λ g k. lost_look left new e (none_set mid left d n s2 e mid_none) l g k ∙ s2.entries g k ∙ ap (λ z. if g == d && is_name n k then None else z) (s.entries g k))
+              (λ g k. lost_look left new e (replaced_empty mid left d n f m c e other childless s s2) l g k ∙ s2.entries g k ∙ ap (λ z. if g == d && is_name n k then None else z) (s.entries g k))
               (replaced_entry (entry_in old) nodes i.entries d n f m c (look_from_child d n c there) e (look_from_child f m e other) ne);
           maps = λ x. lost_map left new e l x ∙ ap (λ b. if x == e then false else b) (s2.maps x ∙ s.maps x ∙ i.maps x)
               ∙ sym (standing-put_none nodes i.tree e (entry f m) e_was x) ∙ sym (standing-put_some (put_at nodes e None) c (entry d n) (entry f m) still x);

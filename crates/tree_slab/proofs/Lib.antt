@@ -7,3 +7,4 @@ pub mod Index
 pub mod Listed
 pub mod Started
 pub mod Counts
+pub mod Remembered

@@ -1,4 +1,4 @@
 pub mod Directories
 pub mod Index
 pub mod Counts
-pub mod Cap
+pub mod Cached

@@ -1,13 +1,16 @@
 //! The nodes of a tree by their numbers, and beside them the maps of their entries.
-ghost use Rattle.std.specs.Prelude.{◌≡◌, ◌≢◌, ◌&&◌, ◌++◌, ◌∷◌, [], List, ℕ, true, false, Some, None, IfOk, OnOk, MatchResult, length};
+ghost use Rattle.std.specs.Prelude.{◌≡◌, ◌≢◌, ◌&&◌, ◌++◌, ◌∷◌, [], List, ℕ, true, false, Some, None, ◌<◌, IfOk, OnOk, OnErr, MatchResult, length};
 ghost use Rattle.tree_model.specs.State.{put_at, is_directory, is_dir, is_gone, is_within, child, has_entries, names_in, sorted_names};
 ghost use Rattle.tree_model.specs.Entries.{makes, removes_file, removes_dir, moves, replace_fault, replaces, exchanges, renames};
 ghost use Rattle.tree_model.specs.Trees.{IsTree, HasPathText};
+ghost use Rattle.tree_model.specs.declared.tree.TheConstants.{NUMBERS_MAX};
 ghost use Rattle.tree_list.specs.Build.{top_alone};
 ghost use Rattle.tree_list.specs.Changes.{IsChange, IsGrowth};
 ghost use Rattle.tree_slab.specs.Index.{is_standing_dir, HasEmptyMaps, HasParentMap, Links, IsIndexed};
 
+use crate::cached::CachedDirectories;
 use crate::directories::Directories;
+use dentry_cache::DentryCache;
 use path_text::{Errno, Name, Names, NoMemory};
 use std::alloc::Global;
 use std::marker::Model;
@@ -18,7 +21,7 @@ use tree_model::{Inode, Mode, NUMBERS_MAX, Node, Object, Place, is_dir, is_gone}
 #[derive(Debug, Drop)]
 pub(crate) struct Nodes {
     inodes: Vec<Inode>,
-    directories: Directories,
+    directories: CachedDirectories,
 }
 
 impl Model for Nodes {
@@ -97,8 +100,9 @@ fn link_all(directories: &mut Directories, alloc: Global, inodes: &[Inode]) -> R
 }
 
 impl Nodes {
-    /// The top alone. NoMemory where its room was refused.
-    pub(crate) fn new(alloc: Global) -> Result<Nodes, NoMemory>
+    /// The top alone, and a cache that remembers nothing yet. NoMemory where its room was refused.
+    pub(crate) fn new(alloc: Global, cache: DentryCache) -> Result<Nodes, NoMemory>
+        requires { cache.entries ≡ [] }
         ensures { IfOk result (λ nodes. nodes ≡ top_alone) }
     {
         let mut inodes = Vec::new(alloc);
@@ -106,19 +110,24 @@ impl Nodes {
             object: Object::Dir,
             place: None,
         })?;
-        Nodes::from_vec(alloc, inodes)
+        Nodes::from_vec(alloc, inodes, cache)
     }
 
-    /// The nodes of a tree. NoMemory where room was refused.
-    pub(crate) fn from_vec(alloc: Global, inodes: Vec<Inode>) -> Result<Nodes, NoMemory>
-        requires { IsTree inodes.items }
+    /// The nodes of a tree, and a cache that remembers nothing yet. NoMemory where room was refused.
+    pub(crate) fn from_vec(
+        alloc: Global,
+        inodes: Vec<Inode>,
+        cache: DentryCache,
+    ) -> Result<Nodes, NoMemory>
+        requires tree { IsTree inodes.items }
+        requires new { cache.entries ≡ [] }
         ensures { IfOk result (λ nodes. nodes ≡ inodes.items) }
     {
-        let mut directories = empty_maps(alloc, &inodes)?;
-        link_all(&mut directories, alloc, &inodes)?;
+        let mut maps = empty_maps(alloc, &inodes)?;
+        link_all(&mut maps, alloc, &inodes)?;
         Ok(Nodes {
             inodes,
-            directories,
+            directories: CachedDirectories::new(maps, cache),
         })
     }
 
@@ -129,11 +138,29 @@ impl Nodes {
         self.inodes.as_slice()
     }
 
-    /// The node at the entry of that name in that directory.
-    pub(crate) fn child(&self, dir: Node, name: &Name) -> Option<Node>
-        ensures { result ≡ child self.now dir name.now }
+    /// The node at the entry of that name in that directory, which is remembered then.
+    pub(crate) fn find(&mut self, dir: Node, name: &Name) -> Option<Node>
+        ensures found { result ≡ child self.old dir name.now }
+        ensures same { self.new ≡ self.old }
     {
         self.directories.find(dir, name)
+    }
+
+    // The same, for a step that is about to change the entry. Takes no memory.
+    fn child(&mut self, dir: Node, name: &Name) -> Option<Node>
+        ensures found { result ≡ child self.old dir name.now }
+        ensures same { self.new ≡ self.old }
+    {
+        self.directories.look(dir, name)
+    }
+
+    // The error of a step that is refused for what an entry leads to, which is remembered then.
+    fn refuse(&mut self, dir: Node, name: &Name, error: Errno) -> Errno
+        ensures error { result ≡ error }
+        ensures same { self.new ≡ self.old }
+    {
+        self.find(dir, name);
+        error
     }
 
     /// Whether a directory has an entry.
@@ -150,29 +177,16 @@ impl Nodes {
         self.directories.names(alloc, dir)
     }
 
-    /// Makes a node at an entry that wasn't there.
-    pub(crate) fn make(
-        &mut self,
-        alloc: Global,
-        dir: Node,
-        name: &Name,
-        object: Object,
-    ) -> Result<Result<(), Errno>, NoMemory>
-        requires { HasPathText object }
-        ensures { IsGrowth self.old self.new (makes self.old dir name.now object) result }
+    // Adds a node at an entry that isn't there. NoMemory where its room was refused.
+    fn add(&mut self, alloc: Global, dir: Node, name: &Name, object: Object) -> Result<(), NoMemory>
+        requires dir { is_dir self.old dir ≡ true }
+        requires stays { is_gone self.old dir ≡ false }
+        requires free { child self.old dir name.now ≡ None }
+        requires few { length self.old < NUMBERS_MAX }
+        requires text { HasPathText object }
+        ensures ok { OnOk result (self.new ≡ self.old ++ record { object = object; place = Some (record { parent = dir; name = name.now }) } ∷ []) }
+        ensures err { OnErr result (self.new ≡ self.old) }
     {
-        if !is_dir(&self.inodes, dir) {
-            return Ok(Err(Errno::NotDir));
-        }
-        if is_gone(&self.inodes, dir) {
-            return Ok(Err(Errno::NotFound));
-        }
-        if self.child(dir, name).is_some() {
-            return Ok(Err(Errno::Exists));
-        }
-        if self.inodes.len() >= NUMBERS_MAX {
-            return Ok(Err(Errno::TooMany));
-        }
         let mapped = is_directory(&object);
         let place = Place {
             parent: dir,
@@ -186,6 +200,33 @@ impl Nodes {
         self.inodes.reserve(1)?;
         self.directories.add(alloc, dir, key, mapped)?;
         self.inodes.push_reserved(inode);
+        Ok(())
+    }
+
+    /// Makes a node at an entry that wasn't there.
+    pub(crate) fn make(
+        &mut self,
+        alloc: Global,
+        dir: Node,
+        name: &Name,
+        object: Object,
+    ) -> Result<Result<(), Errno>, NoMemory>
+        requires { HasPathText object }
+        ensures { IsGrowth self.old self.new (makes self.old dir name.now object) result }
+    {
+        if !is_dir(self.as_slice(), dir) {
+            return Ok(Err(Errno::NotDir));
+        }
+        if is_gone(self.as_slice(), dir) {
+            return Ok(Err(Errno::NotFound));
+        }
+        if self.child(dir, name).is_some() {
+            return Ok(Err(self.refuse(dir, name, Errno::Exists)));
+        }
+        if self.as_slice().len() >= NUMBERS_MAX {
+            return Ok(Err(Errno::TooMany));
+        }
+        self.add(alloc, dir, name, object)?;
         Ok(Ok(()))
     }
 
@@ -204,13 +245,13 @@ impl Nodes {
     pub(crate) fn remove_file(&mut self, dir: Node, name: &Name) -> Result<(), Errno>
         ensures { IsChange self.old self.new (removes_file self.old dir name.now) result }
     {
-        if !is_dir(&self.inodes, dir) {
+        if !is_dir(self.as_slice(), dir) {
             return Err(Errno::NotDir);
         }
         let Some(file) = self.child(dir, name) else {
             return Err(Errno::NotFound);
         };
-        if is_dir(&self.inodes, file) {
+        if is_dir(self.as_slice(), file) {
             return Err(Errno::IsDir);
         }
         self.take_out(dir, name, file);
@@ -221,13 +262,13 @@ impl Nodes {
     pub(crate) fn remove_dir(&mut self, dir: Node, name: &Name) -> Result<(), Errno>
         ensures { IsChange self.old self.new (removes_dir self.old dir name.now) result }
     {
-        if !is_dir(&self.inodes, dir) {
+        if !is_dir(self.as_slice(), dir) {
             return Err(Errno::NotDir);
         }
         let Some(removed) = self.child(dir, name) else {
             return Err(Errno::NotFound);
         };
-        if !is_dir(&self.inodes, removed) {
+        if !is_dir(self.as_slice(), removed) {
             return Err(Errno::NotDir);
         }
         if self.has_entries(removed) {
@@ -329,22 +370,22 @@ impl Nodes {
     ) -> Result<Result<(), Errno>, NoMemory>
         ensures { IsGrowth self.old self.new (renames self.old from.parent from.name to.parent to.name mode) result }
     {
-        if !is_dir(&self.inodes, from.parent) {
+        if !is_dir(self.as_slice(), from.parent) {
             return Ok(Err(Errno::NotDir));
         }
-        if !is_dir(&self.inodes, to.parent) {
+        if !is_dir(self.as_slice(), to.parent) {
             return Ok(Err(Errno::NotDir));
         }
         let Some(moved) = self.child(from.parent, &from.name) else {
-            return Ok(Err(Errno::NotFound));
+            return Ok(Err(self.refuse(from.parent, &from.name, Errno::NotFound)));
         };
-        if is_gone(&self.inodes, to.parent) {
+        if is_gone(self.as_slice(), to.parent) {
             return Ok(Err(Errno::NotFound));
         }
         match (mode, self.child(to.parent, &to.name)) {
-            (Mode::Exchange, None) => Ok(Err(Errno::NotFound)),
+            (Mode::Exchange, None) => Ok(Err(self.refuse(to.parent, &to.name, Errno::NotFound))),
             (Mode::Plain | Mode::NoReplace, None) => self.move_to(alloc, &from, to, moved),
-            (Mode::NoReplace, Some(_)) => Ok(Err(Errno::Exists)),
+            (Mode::NoReplace, Some(_)) => Ok(Err(self.refuse(to.parent, &to.name, Errno::Exists))),
             (_, Some(there)) if there == moved => Ok(Ok(())),
             (Mode::Plain, Some(there)) => Ok(self.replace(&from, to, moved, there)),
             (Mode::Exchange, Some(there)) => Ok(self.exchange(from, to, moved, there)),

@@ -83,7 +83,7 @@ impl SlabTree {
         if !is_dir(self.nodes.as_slice(), dir) {
             return Ok(Answer::Refused(Errno::NotDir));
         }
-        let Some(there) = self.nodes.child(dir, name) else {
+        let Some(there) = self.nodes.find(dir, name) else {
             return Ok(Answer::Refused(Errno::NotFound));
         };
         self.open_node(actor, there)

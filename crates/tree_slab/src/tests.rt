@@ -239,6 +239,31 @@ const RENAMES: [Row; 39] = [
     ("list", 6, "", 0, "", Wanted::Listed("/g")),
 ];
 
+/// Entries that are looked up before they are made, moved and removed, and after it, on the base tree with handle 0 on
+/// `/c`.
+const REMEMBERED: [Row; 20] = [
+    ("open", 0, "q", 0, "", Wanted::Refused(Errno::NotFound)),
+    ("make_file", 0, "q", 0, "", Wanted::Done),
+    ("open", 0, "q", 0, "", Wanted::Opened(1, 11, Kind::File)),
+    ("rename", 0, "q", 0, "r", Wanted::Done),
+    ("open", 0, "q", 0, "", Wanted::Refused(Errno::NotFound)),
+    ("open", 0, "r", 0, "", Wanted::Opened(2, 11, Kind::File)),
+    ("remove_file", 0, "r", 0, "", Wanted::Done),
+    ("open", 0, "r", 0, "", Wanted::Refused(Errno::NotFound)),
+    ("make_dir", 0, "r", 0, "", Wanted::Done),
+    ("make_dir", 0, "r", 0, "", Wanted::Refused(Errno::Exists)),
+    ("open", 0, "r", 0, "", Wanted::Opened(3, 12, Kind::Dir)),
+    ("open", 3, "s", 0, "", Wanted::Refused(Errno::NotFound)),
+    ("exchange", 0, "r", 0, "abs", Wanted::Done),
+    ("open", 0, "r", 0, "", Wanted::Opened(4, 5, Kind::Link)),
+    ("open", 0, "abs", 0, "", Wanted::Opened(5, 12, Kind::Dir)),
+    ("remove_dir", 0, "abs", 0, "", Wanted::Done),
+    ("open", 3, "s", 0, "", Wanted::Refused(Errno::NotFound)),
+    ("make_file", 3, "s", 0, "", Wanted::Refused(Errno::NotFound)),
+    ("rename", 0, "r", 0, "up", Wanted::Done),
+    ("open", 0, "up", 0, "", Wanted::Opened(6, 5, Kind::Link)),
+];
+
 fn names_of(alloc: Global, path: &str) -> Result<Names, Fail> {
     let mut names = Names::new(alloc);
     for name in path.split('/').filter(|name| !name.is_empty()) {
@@ -266,7 +291,7 @@ fn base(alloc: Global) -> Result<ListTree, Fail>
 }
 
 /// The plain tree and the indexed one, with the same entries and handle 0 of actor 0 at the same directory.
-fn both(alloc: Global, top_alone: bool) -> Result<(ListTree, SlabTree), Fail> {
+fn both(alloc: Global, top_alone: bool, cap: usize) -> Result<(ListTree, SlabTree), Fail> {
     let at = if top_alone { "/" } else { "/c" };
     let mut list = if top_alone {
         ListTree::new(alloc)?
@@ -274,9 +299,9 @@ fn both(alloc: Global, top_alone: bool) -> Result<(ListTree, SlabTree), Fail> {
         base(alloc)?
     };
     let mut slab = if top_alone {
-        SlabTree::new(alloc, 4)?
+        SlabTree::new(alloc, cap)?
     } else {
-        SlabTree::from_list(alloc, &list, 1024)?
+        SlabTree::from_list(alloc, &list, cap)?
     };
     let names = names_of(alloc, at)?;
     list.grant(alloc, Actor::new(0), &names)?;
@@ -370,9 +395,15 @@ fn same(alloc: Global, list: &ListTree, slab: &SlabTree) -> Result<bool, Fail> {
     Ok(snapshot.same(&other))
 }
 
-/// The first row that one of the trees answers wrongly, or the number of rows where they differ at last.
-fn first_wrong(alloc: Global, top_alone: bool, rows: &[Row]) -> Result<Option<usize>, Fail> {
-    let (mut list, mut slab) = both(alloc, top_alone)?;
+/// The first row that one of the trees answers wrongly, or the number of rows where they differ at last, with so many
+/// entries remembered.
+fn first_wrong_at(
+    alloc: Global,
+    top_alone: bool,
+    cap: usize,
+    rows: &[Row],
+) -> Result<Option<usize>, Fail> {
+    let (mut list, mut slab) = both(alloc, top_alone, cap)?;
     for (at, row) in rows.iter().enumerate() {
         if !is_answered(alloc, &mut list, &mut slab, row)? {
             return Ok(Some(at));
@@ -380,6 +411,13 @@ fn first_wrong(alloc: Global, top_alone: bool, rows: &[Row]) -> Result<Option<us
     }
     let is_same = same(alloc, &list, &slab)?;
     Ok((!is_same).then_some(rows.len()))
+}
+
+/// The same with one entry remembered and with many.
+fn first_wrong(alloc: Global, top_alone: bool, rows: &[Row]) -> Result<Option<usize>, Fail> {
+    let wrong = first_wrong_at(alloc, top_alone, 1, rows)?;
+    let other = first_wrong_at(alloc, top_alone, 1024, rows)?;
+    Ok(wrong.or(other))
 }
 
 #[test]
@@ -424,6 +462,15 @@ fn renames_and_exchanges(rt: HostRuntime) -> Result<(), Fail> {
     Ok(())
 }
 
+#[test]
+fn forgets_what_changes(rt: HostRuntime) -> Result<(), Fail> {
+    for cap in [1, 2, 256] {
+        let wrong = first_wrong_at(rt.alloc(), false, cap, REMEMBERED.as_slice())?;
+        assert_eq!(rt; wrong, None, "cap {cap}");
+    }
+    Ok(())
+}
+
 /// The steps where handle 0 and 1,023 more are open.
 const FULL: [Row; 6] = [
     ("dup", 0, "", 0, "", Wanted::Refused(Errno::TooMany)),
@@ -436,7 +483,7 @@ const FULL: [Row; 6] = [
 
 /// How many handles are open after 1,023 more, whether the answers are right then, and how many are open at last.
 fn full_share(alloc: Global) -> Result<(usize, bool, usize), Fail> {
-    let (mut list, mut slab) = both(alloc, false)?;
+    let (mut list, mut slab) = both(alloc, false, 1024)?;
     let dup = StepOf::Dup(HandleNo::new(0));
     for _ in 1..1024 {
         list.step(alloc, Actor::new(0), &dup)?;

@@ -2,18 +2,16 @@
 ghost use Rattle.std.specs.Prelude.{◌≡◌, ℕ, ◌≤◌, IfOk, MatchOption, MatchResult, None, Some, Err};
 ghost use Rattle.tree_model.specs.Trees.{IsTree};
 ghost use Rattle.tree_list.specs.Build.{with_nodes, top_alone};
-ghost use Rattle.tree_slab.specs.Cap.{cap_fault};
+ghost use Rattle.dentry_cache.specs.Cache.{cap_fault};
 
 use crate::handles::Handles;
 use crate::nodes::Nodes;
+use dentry_cache::DentryCache;
 use path_text::{Errno, Names, NoMemory};
 use std::alloc::Global;
 use std::marker::Model;
 use tree_list::{ListTree, copy_nodes, directory_at};
 use tree_model::{Actor, Answer, HandleNo, Object, Snapshot, Step, StepOf, Tree};
-
-/// The most entries of directories that a tree is asked to remember beside its maps.
-pub const CAP_MAX: usize = 65_536;
 
 /// A tree whose entries are found by an ordered map for each directory that stands, and whose handles are
 /// counted by their actors. Contracts see it as its state.
@@ -31,13 +29,6 @@ impl Model for SlabTree {
     ghost view = { λ t. record { nodes = t.nodes; handles = t.handles } };
 }
 
-// Why that many entries can't be remembered.
-fn cap_fault(cap: usize) -> Option<Errno>
-    ensures { result ≡ cap_fault cap }
-{
-    (cap == 0 || cap > CAP_MAX).then_some(Errno::Invalid)
-}
-
 impl SlabTree {
     /// The top alone. At most `cap` entries are remembered beside the maps.
     ///
@@ -45,10 +36,8 @@ impl SlabTree {
     pub fn new(alloc: Global, cap: usize) -> Result<SlabTree, Errno>
         ensures { MatchOption (cap_fault cap) (MatchResult result (λ tree. tree ≡ with_nodes top_alone) (λ error. error ≡ Errno.NoMemory)) (λ fault. result ≡ Err fault) }
     {
-        if let Some(fault) = cap_fault(cap) {
-            return Err(fault);
-        }
-        let nodes = Nodes::new(alloc)?;
+        let cache = DentryCache::new(alloc, cap)?;
+        let nodes = Nodes::new(alloc, cache)?;
         Ok(SlabTree {
             nodes,
             handles: Handles::new(alloc),
@@ -63,12 +52,10 @@ impl SlabTree {
         requires { IsTree list.now.nodes }
         ensures { MatchOption (cap_fault cap) (MatchResult result (λ tree. tree ≡ list.now) (λ error. error ≡ Errno.NoMemory)) (λ fault. result ≡ Err fault) }
     {
-        if let Some(fault) = cap_fault(cap) {
-            return Err(fault);
-        }
+        let cache = DentryCache::new(alloc, cap)?;
         let (nodes, handles) = list.copy(alloc)?.into_parts();
         Ok(SlabTree {
-            nodes: Nodes::from_vec(alloc, nodes)?,
+            nodes: Nodes::from_vec(alloc, nodes, cache)?,
             handles: Handles::from_vec(alloc, handles)?,
         })
     }

@@ -6,4 +6,4 @@ use Rattle.tree_slab.proofs.nodes.Nodes.new.Goals as goal
 pub from_vec-requires : goal.from_vec-requires
 from_vec-requires c =
     let items : c.push.new.self.items ≡ top_alone = search rules in
-    rw items (new_state (with_nodes top_alone) refl).tree
+    record { tree = rw items (new_state (with_nodes top_alone) refl).tree; new = c.requires }

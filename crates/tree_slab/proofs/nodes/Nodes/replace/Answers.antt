@@ -1,6 +1,6 @@
 use Rattle.std.proofs.Common.{rules, ◌≡◌, ◌&&◌, true, false, Some}
 use Rattle.tree_model.specs.State.{child, is_dir, is_gone, is_within, has_entries}
-use Rattle.tree_slab.proofs.Index.{present, replaced_index}
+use Rattle.tree_slab.proofs.Index.{present, replaced_index, replaced_empty}
 use Rattle.tree_model.proofs.Changed.{replace_fault-none}
 use Rattle.tree_slab.proofs.nodes.Nodes.replace.Goals as goal
 
@@ -8,6 +8,12 @@ pub relink-requires : goal.relink-requires
 relink-requires c =
     let other : child c.self.inside.inodes.items c.args.to.parent c.args.to.name ≡ Some c.args.there = search rules in
     present c.self.inside.inodes.items c.self.inside.directories c.self.invariant c.args.to.parent c.args.to.name c.args.there other
+
+pub give_back-requires : goal.give_back-requires
+give_back-requires c =
+    let other : child c.self.inside.inodes.items c.args.to.parent c.args.to.name ≡ Some c.args.there = search rules in
+    let childless : (is_dir c.self.inside.inodes.items c.args.there && has_entries c.self.inside.inodes.items c.args.there) ≡ false = replace_fault-none c.self.inside.inodes.items c.args.moved c.args.there (search rules) in
+    replaced_empty c.self.inside.inodes.items c.self.inside.directories c.self.invariant c.relink.new.self c.unlink.new.self c.args.from.now.parent c.args.from.now.name c.args.to.parent c.args.to.name c.args.moved c.args.there other childless c.relink.ensures c.unlink.ensures
 
 pub invariant_of-self : goal.invariant_of-self
 invariant_of-self c =

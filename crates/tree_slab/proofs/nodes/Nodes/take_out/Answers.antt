@@ -1,7 +1,12 @@
 use Rattle.std.proofs.Common.{rules, ◌≡◌, ◌&&◌, false, Some}
 use Rattle.tree_model.specs.State.{child, is_dir, has_entries}
-use Rattle.tree_slab.proofs.Index.{removed_index}
+use Rattle.tree_slab.proofs.Index.{removed_index, emptied}
 use Rattle.tree_slab.proofs.nodes.Nodes.take_out.Goals as goal
+
+pub give_back-requires : goal.give_back-requires
+give_back-requires c =
+    let childless : (is_dir c.self.inside.inodes.items c.args.x && has_entries c.self.inside.inodes.items c.args.x) ≡ false = search rules in
+    emptied c.self.inside.inodes.items c.self.inside.directories c.self.invariant c.unlink.new.self c.args.dir c.args.name.now c.args.x childless c.unlink.ensures
 
 pub invariant_of-self : goal.invariant_of-self
 invariant_of-self c =

@@ -1,17 +1,17 @@
-use Rattle.std.proofs.Common.{rules, arith, ◌≡◌, ◌++◌, ◌∷◌, [], true, false, nat_le, length, Some, None}
+use Rattle.std.proofs.Common.{rules, arith, ◌≡◌, ◌++◌, ◌∷◌, [], true, false, nat_le, ◌<◌, length, Some, None}
 use Rattle.tree_model.specs.State.{child, is_dir, is_gone}
 use Rattle.tree_model.specs.declared.tree.TheConstants.{NUMBERS_MAX}
 use Rattle.std.proofs.lemmas.Bool.{lt-leb}
 use Rattle.tree_slab.proofs.Index.{made_index}
-use Rattle.tree_slab.proofs.nodes.Nodes.make.Goals as goal
+use Rattle.tree_slab.proofs.nodes.Nodes.add.Goals as goal
 
 pub invariant_of-self-2 : goal.invariant_of-self-2
 invariant_of-self-2 c =
     let dir : is_dir c.self.inside.inodes.items c.args.dir ≡ true = search rules in
     let stays : is_gone c.self.inside.inodes.items c.args.dir ≡ false = search rules in
     let free : child c.self.inside.inodes.items c.args.dir c.args.name.now ≡ None = search rules in
-    let whole = c.self.inside.inodes.ok.0 in
+    let bound : length c.self.inside.inodes.items < NUMBERS_MAX = search rules in
     let few : nat_le NUMBERS_MAX (length c.self.inside.inodes.items) ≡ false = lt-leb NUMBERS_MAX (length c.self.inside.inodes.items) (omega arith) in
     let key : c.in_ok-key.key ≡ c.args.name.now = search rules in
     let grown : c.push_reserved.new.self.items ≡ c.self.inside.inodes.items ++ record { object = c.args.object; place = Some (record { parent = c.args.dir; name = c.args.name.now }) } ∷ [] = search rules in
-    rw grown (made_index c.self.inside.inodes.items c.self.inside.directories c.add.new.self c.self.invariant c.args.dir c.args.name.now c.args.object c.is_directory-mapped.result dir stays free few c.requires c.is_directory-mapped.ensures (rw (← key) c.in_ok-add.ensures.ok))
+    rw grown (made_index c.self.inside.inodes.items c.self.inside.directories c.add.new.self c.self.invariant c.args.dir c.args.name.now c.args.object c.is_directory-mapped.result dir stays free few c.requires.text c.is_directory-mapped.ensures (rw (← key) c.in_ok-add.ensures.ok))

@@ -1,0 +1,5 @@
+pub mod Keys
+pub mod Lists
+pub mod Turns
+pub mod Finds
+pub mod Runs

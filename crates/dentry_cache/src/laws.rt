@@ -1,0 +1,17 @@
+//! What holds of every run of calls: laws, each the contract of a function without a body.
+ghost use Rattle.dentry_cache.specs.Calls.{HitsAreNotedLast, NotesAreFound, CallsKeepCaches};
+
+/// After any calls, what a look-up finds was noted last of that entry, and not forgotten since.
+pub fn hits_are_noted_last()
+    ensures { HitsAreNotedLast }
+{}
+
+/// What was just noted is found.
+pub fn notes_are_found()
+    ensures { NotesAreFound }
+{}
+
+/// No call makes an entry be remembered twice, or more than the cap.
+pub fn calls_keep_caches()
+    ensures { CallsKeepCaches }
+{}
