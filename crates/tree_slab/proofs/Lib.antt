@@ -8,3 +8,4 @@ pub mod Index
 pub mod Listed
 pub mod Started
 pub mod Counts
+pub mod HeldCounts

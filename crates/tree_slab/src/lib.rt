@@ -7,6 +7,7 @@
 
 mod directories;
 mod handles;
+mod held;
 mod nodes;
 mod step;
 mod tree;
