@@ -1,5 +1,6 @@
 //! A walk along a path below a root.
-ghost use Rattle.std.specs.Prelude.{◌≡◌, ◌<◌, ◌≤◌, [], Bool, false, IfOk, IsOk};
+ghost use Rattle.std.specs.Prelude.{◌≡◌, ◌<◌, ◌≤◌, [], Bool, false, IfOk, IsOk, IsTrue, length};
+ghost use Rattle.path_text.specs.declared.path.TheConstants.{PARTS_MAX};
 
 use crate::course::Course;
 use crate::footprint_laws::walks_mean;
@@ -189,14 +190,12 @@ impl Walk {
                 Turn::More(Walk { state })
             }
             Next::Found(standing) => {
-                let _ = Box::into_inner(state).over();
+                State::let_go(state);
                 Turn::Found(standing)
             }
-            Next::Partial(standing) => {
-                Turn::Partial(standing, Box::into_inner(state).over().plan.rest())
-            }
+            Next::Partial(standing) => Turn::Partial(standing, State::rest(state)),
             Next::Failed(error) => {
-                let _ = Box::into_inner(state).over();
+                State::let_go(state);
                 Turn::Failed(error)
             }
         }
@@ -205,6 +204,27 @@ impl Walk {
 
 impl State {
     ghost use Rattle.step_resolver.specs.View.{HoldsNothing};
+    ghost use Rattle.walk_plan.specs.Plan.{is_own};
+
+    // Lets a walk's box go where nothing is held any more. Apart from `taken`, so that a turn which goes on makes no room
+    // for what lies in the box.
+    #[inline(never)]
+    fn let_go(state: Box<State>)
+        requires { HoldsNothing state.value.pending }
+    {
+        let _ = Box::into_inner(state).over();
+    }
+
+    // The caller's own parts that are left where nothing is held any more.
+    #[inline(never)]
+    fn rest(state: Box<State>) -> Parts
+        requires nothing { HoldsNothing state.value.pending }
+        requires own { IsTrue (is_own state.value.course.plan) }
+        ensures parts { result ≡ state.value.course.plan.own }
+        ensures few { length result ≤ PARTS_MAX }
+    {
+        Box::into_inner(state).over().plan.rest()
+    }
 
     // What is left where nothing is held any more.
     fn over(self) -> Course

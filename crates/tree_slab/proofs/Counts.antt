@@ -5,12 +5,9 @@ use Rattle.std.proofs.lemmas.Bool.{ne_eqb, false≢true, true≢false}
 use Rattle.std.proofs.lemmas.List.Sums.{sum_by-set, sum_by-append, count_by-le-length}
 use Rattle.std.proofs.lemmas.List.{take_more, length-take}
 use Rattle.std.proofs.lemmas.Option.{none-some, same_Some}
-use Rattle.std.specs.HashMap.{HashMap, get, IsEmpty}
-use Rattle.std.specs.Map.{count_at, lookup}
-use Rattle.std.specs.Option.{unwrap_or}
 use Rattle.tree_model.specs.declared.inode.OpenHandle.{OpenHandle}
 use Rattle.tree_model.specs.Steps.{is_held_by, node_held}
-use Rattle.tree_slab.specs.Counts.{IsCounted, CountsPlace}
+use Rattle.tree_slab.specs.Counts.{IsCounted, SetsCount, CountsPlace}
 
 -- one more handle, of an actor
 pub count_opened : (handles : List (Option OpenHandle)) (h : OpenHandle) (b : ℕ)
@@ -53,13 +50,6 @@ held_handle a (Some (Some handle)) held = by (handle.actor == a) refl held
     by true e held = (handle, (refl, eqb-true handle.actor a e))
     by false e held = absurd (false≢true held)
 
-count_at-some : {S : Type 0} (counts : HashMap ℕ ℕ S) (a : ℕ) → 1 ≤ count_at (get nat_eq counts) a → IsSome (get nat_eq counts a)
-count_at-some counts a less = by (get nat_eq counts a) less
-  where
-    by : (o : Option ℕ) → 1 ≤ unwrap_or o 0 → IsSome o
-    by None less = absurd (omega arith)
-    by (Some n) less = refl
-
 module _ (handles : List (Option OpenHandle)) (a h : ℕ) (held : IsSome (node_held a (slice_get handles h))) where
   pub held_counts : 1 ≤ count_by (is_held_by a) handles
   held_counts =
@@ -73,63 +63,55 @@ module _ (handles : List (Option OpenHandle)) (a h : ℕ) (held : IsSome (node_h
       let r = held_handle a (slice_get handles h) held in
       (slice_get-within handles h (Some r.0) r.1.0).0
 
-  pub held_has_count : {S : Type 0} (counts : HashMap ℕ ℕ S) → IsCounted handles counts → IsSome (get nat_eq counts a)
-  held_has_count counts counted = count_at-some counts a (let c = counted a in let less = held_counts in omega arith)
-
-  pub counted_closed : {S : Type 0} (old new : HashMap ℕ ℕ S) (count : ℕ) → IsCounted handles old → count ≡ count_by (is_held_by a) handles
-      → ((q : ℕ) → get nat_eq new q ≡ cond (nat_eq a q) (Some (count - 1)) (get nat_eq old q)) → IsCounted (set handles h None) new
-  counted_closed old new count counted is updates b = ap (λ o. unwrap_or o 0) (updates b) ∙ value (nat_eq a b) refl
+  pub counted_closed : (old new : ℕ → ℕ) → IsCounted handles old → SetsCount old new a (old a - 1) → IsCounted (set handles h None) new
+  counted_closed old new counted sets b = sets b ∙ value (nat_eq a b) refl
     where
-      value : (t : Bool) → nat_eq a b ≡ t → unwrap_or (cond t (Some (count - 1)) (get nat_eq old b)) 0 ≡ count_by (is_held_by b) (set handles h None)
+      value : (t : Bool) → nat_eq a b ≡ t → cond t (old a - 1) (old b) ≡ count_by (is_held_by b) (set handles h None)
       value true e =
           let r = held_handle a (slice_get handles h) held in
           let one = eqb-true a b e in
           let both = count_closed handles h r.0 b r.1.0 in
           let same : bit (r.0.actor == b) ≡ 1 = bit-true (r.0.actor == b) (eq-eqb r.0.actor b (r.1.1 ∙ one)) in
-          let is_b : count ≡ count_by (is_held_by b) handles = is ∙ ap (λ z. count_by (is_held_by z) handles) one in
+          let is_b : old a ≡ count_by (is_held_by b) handles = counted a ∙ ap (λ z. count_by (is_held_by z) handles) one in
           omega (arith, both, same, is_b)
       value false e =
           let r = held_handle a (slice_get handles h) held in
           let ne : r.0.actor ≢ b = λ q. true≢false (sym (eq-eqb a b (sym r.1.1 ∙ q)) ∙ e) in
           let both = count_closed handles h r.0 b r.1.0 in
           let same : bit (r.0.actor == b) ≡ 0 = bit-false (r.0.actor == b) (ne_eqb r.0.actor b ne) in
-          let was : unwrap_or (get nat_eq old b) 0 ≡ count_by (is_held_by b) handles = counted b in
+          let was : old b ≡ count_by (is_held_by b) handles = counted b in
           omega (arith, both, same, was)
 
-module _ {S : Type 0} (handles : List (Option OpenHandle)) (old new : HashMap ℕ ℕ S) where
-  pub counted_opened : (a node count : ℕ) → IsCounted handles old → count ≡ count_by (is_held_by a) handles
-      → ((q : ℕ) → get nat_eq new q ≡ cond (nat_eq a q) (Some (count + 1)) (get nat_eq old q))
+module _ (handles : List (Option OpenHandle)) (old new : ℕ → ℕ) where
+  pub counted_opened : (a node : ℕ) → IsCounted handles old → SetsCount old new a (old a + 1)
       → IsCounted (handles ++ Some (record { actor = a; node = node }) ∷ []) new
-  counted_opened a node count counted is updates b =
-      ap (λ o. unwrap_or o 0) (updates b) ∙ value (nat_eq a b) refl ∙ sym (count_opened handles (record { actor = a; node = node }) b)
+  counted_opened a node counted sets b =
+      sets b ∙ value (nat_eq a b) refl ∙ sym (count_opened handles (record { actor = a; node = node }) b)
     where
-      value : (t : Bool) → nat_eq a b ≡ t → unwrap_or (cond t (Some (count + 1)) (get nat_eq old b)) 0 ≡ count_by (is_held_by b) handles + cond (a == b) 1 0
+      value : (t : Bool) → nat_eq a b ≡ t → cond t (old a + 1) (old b) ≡ count_by (is_held_by b) handles + cond (a == b) 1 0
       value true e =
           let one = eqb-true a b e in
           let same : bit (a == b) ≡ 1 = bit-true (a == b) (eq-eqb a b one) in
-          let is_b : count ≡ count_by (is_held_by b) handles = is ∙ ap (λ z. count_by (is_held_by z) handles) one in
+          let is_b : old a ≡ count_by (is_held_by b) handles = counted a ∙ ap (λ z. count_by (is_held_by z) handles) one in
           omega (arith, same, is_b)
       value false e =
           let same : bit (a == b) ≡ 0 = bit-false (a == b) e in
-          let was : unwrap_or (get nat_eq old b) 0 ≡ count_by (is_held_by b) handles = counted b in
+          let was : old b ≡ count_by (is_held_by b) handles = counted b in
           omega (arith, same, was)
 
   -- the place of a handle is counted
   pub counted_place : (place : Option OpenHandle) → IsCounted handles old → CountsPlace old new place → IsCounted (handles ++ place ∷ []) new
   counted_place None counted same b =
-      ap (λ counts. count_at (get nat_eq counts) b) same ∙ counted b ∙ sym (sum_by-append (λ place. cond (is_held_by b place) 1 0) handles (None ∷ []) ∙ add-zero (count_by (is_held_by b) handles))
-  counted_place (Some handle) counted updates b = counted_opened handle.actor handle.node (count_at (get nat_eq old) handle.actor) counted (counted handle.actor) updates b
+      same b ∙ counted b ∙ sym (sum_by-append (λ place. cond (is_held_by b place) 1 0) handles (None ∷ []) ∙ add-zero (count_by (is_held_by b) handles))
+  counted_place (Some handle) counted sets b = counted_opened handle.actor handle.node counted sets b
 
-pub counted_none : {S : Type 0} (counts : HashMap ℕ ℕ S) → IsEmpty counts → IsCounted [] counts
-counted_none counts empty b = ap (λ entries. unwrap_or (lookup (nat_eq b) entries) 0) empty
-
-pub counted_take_more : {S : Type 0} (handles : List (Option OpenHandle)) (i : ℕ) (place : Option OpenHandle) (old new : HashMap ℕ ℕ S)
+pub counted_take_more : (handles : List (Option OpenHandle)) (i : ℕ) (place : Option OpenHandle) (old new : ℕ → ℕ)
     → i < length handles → place ≡ get_or handles i place → IsCounted (take i handles) old → CountsPlace old new place → IsCounted (take (i + 1) handles) new
 counted_take_more handles i place old new more is counted counts =
     subst (λ places. IsCounted places new) (sym (take_more handles i place more ∙ ap (λ p. take i handles ++ p ∷ []) (sym is))) (counted_place (take i handles) old new place counted counts)
 
-pub counted_below : {S : Type 0} (handles : List (Option OpenHandle)) (i : ℕ) (counts : HashMap ℕ ℕ S) → IsCounted (take i handles) counts → i < length handles → (a : ℕ) → count_at (get nat_eq counts) a < length handles
-counted_below handles i counts counted more a =
+pub counted_below : (handles : List (Option OpenHandle)) (i : ℕ) (count : ℕ → ℕ) → IsCounted (take i handles) count → i < length handles → (a : ℕ) → count a < length handles
+counted_below handles i count counted more a =
     let c = counted a in
     let few = count_by-le-length (is_held_by a) (take i handles) in
     let short = length-take i handles in

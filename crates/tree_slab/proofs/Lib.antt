@@ -8,3 +8,4 @@ pub mod Listed
 pub mod Started
 pub mod Counts
 pub mod Remembered
+pub mod HeldCounts

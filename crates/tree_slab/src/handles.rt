@@ -1,13 +1,11 @@
 //! The handles by their numbers, and how many each actor has open.
 ghost use Rattle.std.specs.Prelude.{◌≡◌, ◌<◌, ◌++◌, ◌∷◌, [], ◌||◌, ℕ, nat_le, nat_eq, count_by, length, slice_get, slice_set, Some, None, IfOk, OnOk, OnErr, IsSome};
-ghost use Rattle.std.specs.HashMap.{get, Updates};
-ghost use Rattle.std.specs.Map.{count_at};
 ghost use Rattle.tree_model.specs.Steps.{is_held_by, node_held};
-ghost use Rattle.tree_slab.specs.Counts.{IsCounted, CountsPlace};
+ghost use Rattle.tree_slab.specs.Counts.{IsCounted, CountsPlace, count_in};
 
+use crate::held::HeldCounts;
 use path_text::NoMemory;
 use std::alloc::Global;
-use std::collections::HashMap;
 use std::marker::Model;
 use tree_model::{Actor, HANDLES_MAX, HandleNo, NUMBERS_MAX, Node, OpenHandle};
 
@@ -15,8 +13,7 @@ use tree_model::{Actor, HANDLES_MAX, HandleNo, NUMBERS_MAX, Node, OpenHandle};
 #[derive(Debug, Drop)]
 pub(crate) struct Handles {
     places: Vec<Option<OpenHandle>>,
-    // By an actor's number, how many handles it has open.
-    counts: HashMap<u32, usize>,
+    counts: HeldCounts,
 }
 
 impl Model for Handles {
@@ -25,49 +22,30 @@ impl Model for Handles {
 
     ghost Value = { List (Option OpenHandle) };
 
-    ghost use Rattle.tree_slab.specs.Counts.{IsCounted};
+    ghost use Rattle.tree_slab.specs.Counts.{IsCounted, count_in};
 
     ghost view = { λ h. h.places.items };
 
-    ghost invariant = { λ h. IsCounted h.places.items h.counts };
-}
-
-// An actor's count; one without a count has no handle open.
-fn count_of(counts: &HashMap<u32, usize>, actor: u32) -> usize
-    ensures { result ≡ count_at (get nat_eq counts.now) actor }
-{
-    counts.get(&actor).copied().unwrap_or(0)
-}
-
-// Another count for an actor that has one.
-fn set_count(counts: &mut HashMap<u32, usize>, actor: u32, count: usize)
-    requires { IsSome (get nat_eq counts.old actor) }
-    ensures { Updates nat_eq counts.old counts.new actor (Some count) }
-{
-    if let Some(there) = counts.get_mut(&actor) {
-        *there = count;
-    }
+    ghost invariant = { λ h. IsCounted h.places.items (count_in h.counts.low h.counts.high) };
 }
 
 // Counts a handle for its actor, if it is open. NoMemory where room was refused.
-fn count_place(counts: &mut HashMap<u32, usize>, place: &Option<OpenHandle>) -> Result<(), NoMemory>
-    requires { (actor : ℕ) → count_at (get nat_eq counts.old) actor < usize.MAX }
-    ensures { OnOk result (CountsPlace counts.old counts.new place.now) }
+fn count_place(counts: &mut HeldCounts, place: &Option<OpenHandle>) -> Result<(), NoMemory>
+    requires { (actor : ℕ) → count_in counts.old.low counts.old.high actor < usize.MAX }
+    ensures { OnOk result (CountsPlace (count_in counts.old.low counts.old.high) (count_in counts.new.low counts.new.high) place.now) }
 {
     let Some(open) = place else {
         return Ok(());
     };
-    let actor = open.actor.number();
-    let count = count_of(counts, actor);
-    counts.insert(actor, count + 1)?;
-    Ok(())
+    let count = counts.of(open.actor);
+    counts.set(open.actor, count + 1)
 }
 
 // The counts of the actors' open handles. NoMemory where room was refused.
-fn counts_of(alloc: Global, places: &[Option<OpenHandle>]) -> Result<HashMap<u32, usize>, NoMemory>
-    ensures { IfOk result (λ counts. IsCounted places.now counts) }
+fn counts_of(alloc: Global, places: &[Option<OpenHandle>]) -> Result<HeldCounts, NoMemory>
+    ensures { IfOk result (λ counts. IsCounted places.now (count_in counts.low counts.high)) }
 {
-    let mut counts = HashMap::new(alloc);
+    let mut counts = HeldCounts::new(alloc);
     for place in places {
         count_place(&mut counts, place)?;
     }
@@ -92,7 +70,7 @@ impl Handles {
     {
         Handles {
             places: Vec::new(alloc),
-            counts: HashMap::new(alloc),
+            counts: HeldCounts::new(alloc),
         }
     }
 
@@ -107,7 +85,7 @@ impl Handles {
     pub(crate) fn held(&self, actor: Actor) -> usize
         ensures { result ≡ count_by (is_held_by actor) self.now }
     {
-        count_of(&self.counts, actor.number())
+        self.counts.of(actor)
     }
 
     /// The node of a handle that is open and the actor's.
@@ -135,7 +113,7 @@ impl Handles {
     {
         let held = self.held(actor);
         self.places.reserve(1)?;
-        self.counts.insert(actor.number(), held + 1)?;
+        self.counts.set(actor, held + 1)?;
         let handle = HandleNo::new(self.places.len() as u64);
         self.places.push_reserved(Some(OpenHandle { actor, node }));
         Ok(handle)
@@ -146,8 +124,7 @@ impl Handles {
         requires { IsSome (node_held actor (slice_get self.old handle)) }
         ensures { self.new ≡ slice_set self.old handle None }
     {
-        let held = self.held(actor);
-        set_count(&mut self.counts, actor.number(), held - 1);
+        self.counts.lower(actor);
         self.places[handle.number() as usize] = None;
     }
 }

@@ -8,6 +8,7 @@
 mod cached;
 mod directories;
 mod handles;
+mod held;
 mod nodes;
 mod step;
 mod tree;
