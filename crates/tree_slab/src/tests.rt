@@ -529,3 +529,24 @@ fn refuses_caps(rt: HostRuntime) -> Result<(), Fail> {
     }
     Ok(())
 }
+
+/// How many handles the actor has open after three grants of the top, and after one of them is closed.
+fn counted(alloc: Global, number: u32) -> Result<(usize, usize), Fail> {
+    let actor = Actor::new(number);
+    let mut slab = SlabTree::new(alloc, 1)?;
+    let top = Names::new(alloc);
+    let first = slab.grant(alloc, actor, &top)?;
+    slab.grant(alloc, actor, &top)?;
+    slab.grant(alloc, actor, &top)?;
+    let granted = slab.held(actor);
+    slab.step(alloc, actor, &StepOf::Close(first))?;
+    Ok((granted, slab.held(actor)))
+}
+
+#[test]
+fn counts_each_actor(rt: HostRuntime) -> Result<(), Fail> {
+    for number in [0, 63, 64, u32::MAX] {
+        assert_eq!(rt; counted(rt.alloc(), number)?, (3, 2), "{number}");
+    }
+    Ok(())
+}
