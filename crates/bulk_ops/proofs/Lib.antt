@@ -1,2 +1,7 @@
 pub mod MakeAllNames
 pub mod MakeAllSteps
+pub mod MakeAllHappens
+pub mod MakeAllGood
+pub mod MakeAllAnswers
+pub mod MakeAllEnds
+pub mod MakeAllTurns
