@@ -148,7 +148,7 @@ module _ (way : Way) where
   -- ---- each answer
 
   -- the place of what is held at the end is asked
-  abbrev IsEnding : Walking → Type 0
+  abbrev pub IsEnding : Walking → Type 0
   IsEnding (opening position own follow n rest) = ⊥
   IsEnding (reading position link rest) = ⊥
   IsEnding (rising handle names rest) = ⊥
@@ -157,7 +157,7 @@ module _ (way : Way) where
   IsEnding (ending handle names rest) = Unit {0}
   IsEnding (closing h hs after) = ⊥
 
-  take_within : (room : Bool) (w : Walking) → (IsEnding w → ⊥) → (answer : Answer) → GoesOnWithin (own_left w) (walk.take way room w answer)
+  pub take_within : (room : Bool) (w : Walking) → (IsEnding w → ⊥) → (answer : Answer) → GoesOnWithin (own_left w) (walk.take way room w answer)
   take_within room (opening position own follow n rest) other (Opened h x kind) =
       weaker (own_in rest) (own_here own (own_in rest)) _ (here_more own (own_in rest))
       (either (own_in rest) (is_followed follow kind) _ _ (follows_link_within position _ rest) (enters_within room position n _ rest))
@@ -173,6 +173,16 @@ module _ (way : Way) where
   take_within room (duping rest) other answer = tt
   take_within room (ending handle names rest) other answer = absurd (other tt)
   take_within room (closing h hs after) other answer = closes_within hs after
+
+-- a walk that is refused a step doesn't end in the deepest directory
+pub refused_within : (way : Way) (w : Walking) (error : Errno) → GoesOnWithin (own_left w) (walk.take way true w (Refused error))
+refused_within way (ending handle names rest) error = omega arith
+refused_within way (opening position own follow n rest) error = take_within way true (opening position own follow n rest) (λ z. z) (Refused error)
+refused_within way (reading position link rest) error = take_within way true (reading position link rest) (λ z. z) (Refused error)
+refused_within way (rising old names rest) error = take_within way true (rising old names rest) (λ z. z) (Refused error)
+refused_within way (judging new names rest) error = take_within way true (judging new names rest) (λ z. z) (Refused error)
+refused_within way (duping rest) error = take_within way true (duping rest) (λ z. z) (Refused error)
+refused_within way (closing h hs after) error = take_within way true (closing h hs after) (λ z. z) (Refused error)
 
 -- ---- the deepest directory, with no more parts than were left
 
@@ -211,7 +221,7 @@ taken_within way room (closing h hs after) answer = ends_within _ _ (take_within
 -- ---- the call's own room
 
 -- a turn that isn't the deepest directory needs none
-needs_no_room : (k : ℕ) (turn : walk.Turn) → GoesOnWithin k turn → (r s : Bool) → after_walk r turn ≡ after_walk s turn
+pub needs_no_room : (k : ℕ) (turn : walk.Turn) → GoesOnWithin k turn → (r s : Bool) → after_walk r turn ≡ after_walk s turn
 needs_no_room k (walk.more w) few r s = refl
 needs_no_room k (walk.found handle names) few r s = refl
 needs_no_room k (walk.partial handle names rest) few r s = elim few [ ]
@@ -248,7 +258,7 @@ walk_taken call w answer result outcome same taken s is =
     (one.room, subst (IsTurn result) (ap (after_walk s) on_way.1 ∙ one.same) is)
 
 -- the first turn needs none either
-begun_within : (way : Way) (path : Reading) → GoesOnWithin (length (asked (follows way.goal) path.parts)) (walk.begins way path)
+pub begun_within : (way : Way) (path : Reading) → GoesOnWithin (length (asked (follows way.goal) path.parts)) (walk.begins way path)
 begun_within way path =
     either (length (asked (follows way.goal) path.parts)) (leads_out path.absolute way.flags) _ _ tt (on_own_within way root_itself (asked (follows way.goal) path.parts) LINKS_MAX)
 

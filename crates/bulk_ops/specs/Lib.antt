@@ -16,3 +16,5 @@ pub mod RemoveAllOrder
 pub mod RemoveAllView
 pub mod RemoveAllTurnView
 pub mod RemoveAllTells
+pub mod MakeAllTells
+pub mod MakeAllTurnsTell

@@ -4,6 +4,8 @@
 //! (`rm -r`). Each asks for one step at a time and is told its answer, as a `Walk` does. Their `start`, `due` and `take`
 //! are exactly the orders of steps of `specs/MakeAllOrder.antt` and `specs/RemoveAllOrder.antt`, and each `take` leaves
 //! fewer steps to come: none that clears comes after `CLEARING_STEPS_MAX` of them.
+//! What a call of `MkdirAll` made, and what its end tells, in every legal history is the law `makes_tell`, stated in
+//! `specs/MakeAllTells.antt`; its `start` and `take` tell it themselves, by their clause `tells`.
 #![tactic(auto)]
 
 mod make_all;
@@ -12,7 +14,7 @@ mod remove_all;
 mod turn;
 
 pub use make_all::MkdirAll;
-pub use make_all_laws::steps_after_the_walk;
+pub use make_all_laws::{makes_tell, steps_after_the_walk};
 pub use remove_all::{CLEARING_STEPS_MAX, RemoveAll};
 pub use turn::BulkTurn;
 

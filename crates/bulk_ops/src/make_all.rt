@@ -78,16 +78,19 @@ impl MkdirAll {
     ghost use Rattle.step_resolver.specs.View.{way_from};
     ghost use Rattle.walk_plan.specs.declared.goal.Goal.TheVariants.{Deepest};
     ghost use Rattle.bulk_ops.specs.MakeAllOrder.{due, steps_left};
+    ghost use Rattle.bulk_ops.specs.MakeAllTurnsTell.{TellsBegun, TellsTaken};
     ghost use Rattle.bulk_ops.specs.MakeAllView.{StartsTo, TakesTo, Keeps, has_a_name, steps_to_come, MAKE_STEPS_MAX};
 
     /// Begins to make all that is missing of the path below the root, each a directory (mkdir(2); the walk to what is
     /// there is that of openat2(2), RESOLVE_IN_ROOT, for `Goal::Deepest`).
     ///
-    /// Errors that come before any step: those of `Walk::start`.
+    /// Errors that come before any step: those of `Walk::start`. Such an end tells the truth of every history in which it
+    /// comes, as those of `take` do.
     pub fn start(alloc: Global, root: Root, path: Path, flags: Flags) -> BulkTurn<MkdirAll>
         ensures turn { StartsTo (way_from root Deepest flags) path result }
         ensures kept { Keeps root.owner (way_from root Deepest flags) result }
         ensures few { steps_to_come result ≤ MAKE_STEPS_MAX }
+        ensures tells { TellsBegun (way_from root Deepest flags) path result }
     {
         // A path has few parts, which bounds the steps to come.
         let few = path.parts.len() <= PARTS_MAX;
@@ -136,10 +139,14 @@ impl MkdirAll {
     /// a missing name, and TooLong (ENAMETOOLONG) for a name of more than 255 bytes there, whichever comes first: then
     /// nothing is made; Raced (EAGAIN) where what was held or made is gone, or the last directory isn't at the names
     /// expected; BadHandle for an answer that doesn't fit the step; and any other refusal of a step.
+    ///
+    /// Where the call ends here, the end tells the truth of every legal history whose steps of this call led to it,
+    /// whatever others changed in between: what it made, where, and why it failed (`specs/MakeAllTells.antt`).
     pub fn take(self, alloc: Global, answer: Answer) -> BulkTurn<MkdirAll>
         ensures turn { TakesTo self.way self.making answer result }
         ensures kept { Keeps self.owner self.way result }
         ensures fewer { steps_to_come result < steps_left self.making }
+        ensures tells { TellsTaken self.way self.making answer result }
     {
         self.taken(alloc, answer)
     }

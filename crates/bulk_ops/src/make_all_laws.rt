@@ -1,8 +1,19 @@
 //! What holds of every call to `MkdirAll`: laws, each the contract of a function without a body.
+ghost use Rattle.bulk_ops.specs.MakeAllTells.{MakesTell};
 ghost use Rattle.bulk_ops.specs.MakeAllSteps.{StepsAfterTheWalk};
 
 /// After its walk a call takes at most three steps for each part of the rest of the path, and two more; and one where the
 /// walk found what the whole path means.
 pub fn steps_after_the_walk()
     ensures { StepsAfterTheWalk }
+{}
+
+/// For every interleaving of actors' single steps, a call makes entries only in the deepest directory that its walk came to
+/// and in directories that it then opened by the names of the rest, in order and never through a link; each by one of its
+/// own events, and its other events leave the nodes. Made, the last directory was reached by all these names, and stood
+/// under the root at the names of the deepest one followed by them, at the call's last event; or the whole path led to a
+/// directory that was there, and nothing was made. Each failure was true at moments of the call. After a failure the
+/// actor's open handles are those from before the call; after the other end these and one more, which names the directory.
+pub fn makes_tell()
+    ensures { MakesTell }
 {}

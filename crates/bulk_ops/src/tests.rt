@@ -7,7 +7,7 @@ use std::test::*;
 use step_resolver::Root;
 use transcript::{Output, read_step};
 use tree_list::{Entry, ListTree, New};
-use tree_model::{Actor, Answer, HandleNo, Inode, Tree, child, top};
+use tree_model::{Actor, Answer, HandleNo, Inode, StepOf, Tree, child, top};
 
 const PLAIN: Flags = Flags {
     beneath: false,
@@ -49,6 +49,16 @@ fn actor() -> Actor {
 // Who acts in between: its handle 1 is on `/c`, 2 on `/c/a` and 3 on `/secret`.
 fn other() -> Actor {
     Actor::new(1)
+}
+
+fn root() -> Root {
+    Root {
+        owner: Owner {
+            tag: 7,
+            actor: actor(),
+        },
+        handle: HandleNo::new(0),
+    }
 }
 
 fn names_of(alloc: Global, path: &str) -> Result<Names, Errno> {
@@ -149,14 +159,7 @@ fn run(
     others: &str,
 ) -> Result<(Output, u64), Errno> {
     let path = Path::parse(alloc, path.as_bytes())?;
-    let root = Root {
-        owner: Owner {
-            tag: 7,
-            actor: actor(),
-        },
-        handle: HandleNo::new(0),
-    };
-    let mut turn = MkdirAll::start(alloc, root, path, flags);
+    let mut turn = MkdirAll::start(alloc, root(), path, flags);
     let mut events: u64 = 0;
     loop {
         let _ = others_act(alloc, tree, others, events);
@@ -167,6 +170,32 @@ fn run(
                 events = events.saturating_add(u64::from(made));
             }
             ended => return Ok((end_of(alloc, ended), events)),
+        }
+    }
+}
+
+// The end of a call that is told of want of memory at each step that is due from a number on, but for a Close.
+fn run_short_of_memory(
+    alloc: Global,
+    tree: &mut ListTree,
+    path: &str,
+    from: u64,
+) -> Result<Output, Errno> {
+    let path = Path::parse(alloc, path.as_bytes())?;
+    let mut turn = MkdirAll::start(alloc, root(), path, PLAIN);
+    let mut steps: u64 = 0;
+    loop {
+        match turn {
+            BulkTurn::More(call) => {
+                let answer = if steps < from || matches!(call.due(alloc), Ok(StepOf::Close(_))) {
+                    answer_due(alloc, tree, &call).0
+                } else {
+                    Answer::Refused(Errno::NoMemory)
+                };
+                turn = call.take(alloc, answer);
+                steps = steps.saturating_add(1);
+            }
+            ended => return Ok(end_of(alloc, ended)),
         }
     }
 }
@@ -373,6 +402,21 @@ fn ends_truly_where_others_act(rt: HostRuntime) -> Result<(), Fail> {
             assert!(rt; ends_so(rt.alloc(), &mut tree, &case)?, "{}", others);
             assert!(rt; stand(rt.alloc(), &tree, places)?, "{}", others);
         }
+    }
+    Ok(())
+}
+
+#[test]
+fn closes_what_it_holds_where_memory_ends(rt: HostRuntime) -> Result<(), Fail> {
+    for from in 0..15_u64 {
+        let mut tree = tree(rt.alloc())?;
+        let line = run_short_of_memory(rt.alloc(), &mut tree, "abs/n/m", from)?;
+        assert!(rt;
+            line.as_slice().trim_ascii() == b"fault ENOMEM".as_slice(),
+            "{}",
+            from
+        );
+        assert!(rt; tree.held(actor()) == 1, "{}", from);
     }
     Ok(())
 }
