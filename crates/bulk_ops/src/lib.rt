@@ -8,5 +8,5 @@
 mod remove_all;
 mod turn;
 
-pub use remove_all::{CLEARING_STEPS_MAX, RemoveAll};
+pub use remove_all::{CLEARING_STEPS_MAX, RemoveAll, remove_all_tells};
 pub use turn::BulkTurn;
