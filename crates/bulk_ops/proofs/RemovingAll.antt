@@ -7,3 +7,5 @@ pub mod Happening
 pub mod StepAnswers
 pub mod Underway
 pub mod AfterAnswers
+pub mod Parts
+pub mod EachEnd

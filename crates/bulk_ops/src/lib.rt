@@ -15,7 +15,7 @@ mod turn;
 
 pub use make_all::MkdirAll;
 pub use make_all_laws::{makes_tell, steps_after_the_walk};
-pub use remove_all::{CLEARING_STEPS_MAX, RemoveAll};
+pub use remove_all::{CLEARING_STEPS_MAX, RemoveAll, remove_all_tells};
 pub use turn::BulkTurn;
 
 #[cfg(test)]

@@ -14,11 +14,13 @@ use tree_model::{Answer, Step};
 
 mod clearing;
 mod frame;
+mod laws;
 mod phase;
 #[cfg(test)]
 mod tests;
 
 pub use clearing::CLEARING_STEPS_MAX;
+pub use laws::remove_all_tells;
 
 /// A call that is under way: it removes an entry with all that is below it, by single steps, and follows no link below
 /// the target. It can't be let go: each `due` step is to be made, and its answer taken, until the call ends. One to be

@@ -1,5 +1,5 @@
 -- What each answer makes of a call that clears.
-use Rattle.std.specs.Prelude.{◌≡◌, ◌≢◌, ℕ, zero, suc, ◌≤◌, ◌⊎◌, List, [], ◌∷◌, Bool, true, false, drop, slice_get, Option, Some, None, is_some, refl}
+use Rattle.std.specs.Prelude.{◌≡◌, ◌≢◌, ℕ, zero, suc, ◌+◌, ◌≤◌, ◌⊎◌, List, [], ◌∷◌, Bool, true, false, drop, length, slice_get, Option, Some, None, is_some, refl}
 use Rattle.std.proofs.Common.{sym, ap, subst, ◌∙◌, inl, inr, le_refl, le_trans}
 use Rattle.std.proofs.Math.Nat.{le-suc}
 use Rattle.std.proofs.lemmas.Bool.{false≢true}
@@ -159,3 +159,255 @@ module _ {c : WalkInHistory} (lived : Lived c) (dir : ℕ) (target : List ℕ) (
 
         kept : (h : ℕ) → held_at c (suc t) h ≡ held_at c now h
         kept h = ap (λ hs. node_held c.actor (slice_get hs h)) (ap (λ s. s.handles) (is.made.after ∙ ap (λ r. r.after) q)) ∙ is.made.kept h
+
+  -- ---- each stage
+
+  module _ (now t : ℕ) (line : Line) (lines : List Line) (level : Level) (above : List Level) (count left : ℕ) (answer : Answer) where
+    -- what an answer to RemoveFile makes of it
+    pub file_good : Clears c dir target b now (line ∷ lines) removes_file level above count (suc left) → AloneAt c now t (RemoveFile level.dir level.name) answer
+        → removals (line ∷ lines) ≡ one_more_if (is_removal (RemoveFile level.dir level.name) answer) (removals lines)
+        → Good c dir target b (suc t) lines (file_removed level above count left answer)
+    file_good g is e = on (file_case (state_at c t) c.actor level.dir level.name (spot c dir target now level above g.at).node (is.made.kept level.dir ∙ (spot c dir target now level above g.at).is_open))
+      where
+        to : (v : Answer) → answer ≡ v → Good c dir target b (suc t) lines (file_removed level above count left v)
+            → Good c dir target b (suc t) lines (file_removed level above count left answer)
+        to v q good = subst (λ a. Good c dir target b (suc t) lines (file_removed level above count left a)) (sym q) good
+
+        on : FileCase (state_at c t) (spot c dir target now level above g.at).node level.name (outcome (state_at c t) c.actor (RemoveFile level.dir level.name))
+            → Good c dir target b (suc t) lines (file_removed level above count left answer)
+        on (no_dir f q) = to (Refused NotDir) (is.made.told ∙ ap (λ r. r.answer) q)
+            (refused_fails now t line lines level above count left (RemoveFile level.dir level.name) answer g.at g.holds g.tally is (inl refl) (λ error. refl) e removes_file NotDir refl q
+            (not_dir now t line lines level above count left (RemoveFile level.dir level.name) answer g.at g.holds g.tally is (inl refl) (λ error. refl) e f))
+        on (no_entry f q) = to (Refused NotFound) (is.made.told ∙ ap (λ r. r.answer) q)
+            (missing_good now t line lines level above count left (RemoveFile level.dir level.name) answer g.at g.holds g.tally is (inl refl) (λ error. refl) e f q)
+        on (at_dir q) = to (Refused IsDir) (is.made.told ∙ ap (λ r. r.answer) q)
+            (refused_due now t line lines level above count left (RemoveFile level.dir level.name) answer g.at g.holds g.tally is (inl refl) (λ error. refl) e order.opens IsDir refl tt q)
+        on (gone entry f q) = to Done (is.made.told ∙ ap (λ r. r.answer) q)
+            (gone_good now t line lines level above count left (RemoveFile level.dir level.name) answer g.at g.holds g.tally is (inl refl) (λ error. refl) e refl entry f q)
+
+    -- and one to RemoveDir
+    pub dir_good : Clears c dir target b now (line ∷ lines) removes_dir level above count (suc left) → AloneAt c now t (RemoveDir level.dir level.name) answer
+        → removals (line ∷ lines) ≡ one_more_if (is_removal (RemoveDir level.dir level.name) answer) (removals lines)
+        → Good c dir target b (suc t) lines (dir_removed level above count left answer)
+    dir_good g is e = on (dir_case (state_at c t) c.actor level.dir level.name (spot c dir target now level above g.at).node (is.made.kept level.dir ∙ (spot c dir target now level above g.at).is_open))
+      where
+        to : (v : Answer) → answer ≡ v → Good c dir target b (suc t) lines (dir_removed level above count left v)
+            → Good c dir target b (suc t) lines (dir_removed level above count left answer)
+        to v q good = subst (λ a. Good c dir target b (suc t) lines (dir_removed level above count left a)) (sym q) good
+
+        on : DirCase (state_at c t) (spot c dir target now level above g.at).node level.name (outcome (state_at c t) c.actor (RemoveDir level.dir level.name))
+            → Good c dir target b (suc t) lines (dir_removed level above count left answer)
+        on (not_in_dir f q) = to (Refused NotDir) (is.made.told ∙ ap (λ r. r.answer) q)
+            (refused_due now t line lines level above count left (RemoveDir level.dir level.name) answer g.at g.holds g.tally is (inr (inr refl)) (λ error. refl) e removes_file NotDir refl tt q)
+        on (no_such_entry f q) = to (Refused NotFound) (is.made.told ∙ ap (λ r. r.answer) q)
+            (missing_good now t line lines level above count left (RemoveDir level.dir level.name) answer g.at g.holds g.tally is (inr (inr refl)) (λ error. refl) e f q)
+        on (at_no_dir q) = to (Refused NotDir) (is.made.told ∙ ap (λ r. r.answer) q)
+            (refused_due now t line lines level above count left (RemoveDir level.dir level.name) answer g.at g.holds g.tally is (inr (inr refl)) (λ error. refl) e removes_file NotDir refl tt q)
+        on (not_empty q) = to (Refused NotEmpty) (is.made.told ∙ ap (λ r. r.answer) q)
+            (refused_due now t line lines level above count left (RemoveDir level.dir level.name) answer g.at g.holds g.tally is (inr (inr refl)) (λ error. refl) e order.opens NotEmpty refl tt q)
+        on (dir_gone entry f q) = to Done (is.made.told ∙ ap (λ r. r.answer) q)
+            (gone_good now t line lines level above count left (RemoveDir level.dir level.name) answer g.at g.holds g.tally is (inr (inr refl)) (λ error. refl) e refl entry f q)
+
+    -- what is opened by the name under way is closed again where it is no directory, and else listed
+    child_good : (g : Clears c dir target b now (line ∷ lines) order.opens level above count (suc left)) → AloneAt c now t (Open level.dir level.name) answer
+        → (x : ℕ) (what : Object) → child ((timeline c).nodes_at t) (spot c dir target now level above g.at).node level.name ≡ Some x
+        → object_at (state_at c t).nodes x ≡ Some what → (h : ℕ) → IsMore (state_at c t) c.actor (state_at c (suc t)) h x
+        → Tally c dir target (suc t) lines count left → Good c dir target b (suc t) lines (order.is_opened level above count left h (kind_of what))
+    child_good g is x what there z h new tally = on what refl
+      where
+        at_then : IsAt c dir target t level above
+        at_then = at_moved c dir target now t level above is.made.at.later (same_all c now t (dirs (level ∷ above)) is.made.kept) g.at
+
+        out : IsNotIn h (dirs (level ∷ above))
+        out = new_is_out c dir target t level above h new.fresh at_then
+
+        at_now : IsAt c dir target (suc t) level above
+        at_now = at_moved c dir target t (suc t) level above (le-suc t) (same_but c t (suc t) h (dirs (level ∷ above)) out new.others) at_then
+
+        holds_now : Holds c b (suc t) (h ∷ dirs (level ∷ above))
+        holds_now = holds_more (holds_kept is.made.kept g.holds) new
+
+        directory : what ≡ object.Dir → is_directory ((timeline c).object_of x) ≡ true
+        directory q = ap is_directory (lived.objects t x what z) ∙ ap (λ w. is_directory (Some w)) q
+
+        on : (o : Object) → what ≡ o → Good c dir target b (suc t) lines (order.is_opened level above count left h (kind_of o))
+        on object.Dir q = due_good c dir target b (suc t) lines (lists h) level above count left (record {
+          at = at_now;
+          stage_at = (record {
+            node = x;
+            name = level.name;
+            names = (spot c dir target now level above g.at).names;
+            way = under level.name t x (suc t) (spot c dir target now level above g.at).way is.made.at there (directory q) (le_refl (suc t));
+            below = (spot c dir target now level above g.at).below;
+            is_open = new.is_open;
+            is_dir = directory q;
+          }, out);
+          holds = holds_now;
+          tally = tally;
+        })
+        on object.File q = due_good c dir target b (suc t) lines (shuts h) level above count left (record { at = at_now; stage_at = out; holds = holds_now; tally = tally })
+        on (object.Link text) q = due_good c dir target b (suc t) lines (shuts h) level above count left (record { at = at_now; stage_at = out; holds = holds_now; tally = tally })
+
+    -- and one to Open
+    pub open_good : Clears c dir target b now (line ∷ lines) order.opens level above count (suc left) → AloneAt c now t (Open level.dir level.name) answer
+        → removals (line ∷ lines) ≡ one_more_if (is_removal (Open level.dir level.name) answer) (removals lines)
+        → Good c dir target b (suc t) lines (opened level above count left answer)
+    open_good g is e = on (open_case (state_at c t) c.actor level.dir level.name (spot c dir target now level above g.at).node open_then)
+      where
+        open_then : held_at c t level.dir ≡ Some (spot c dir target now level above g.at).node
+        open_then = is.made.kept level.dir ∙ (spot c dir target now level above g.at).is_open
+
+        to : (v : Answer) → answer ≡ v → Good c dir target b (suc t) lines (opened level above count left v)
+            → Good c dir target b (suc t) lines (opened level above count left answer)
+        to v q good = subst (λ a. Good c dir target b (suc t) lines (opened level above count left a)) (sym q) good
+
+        on_opening : (x : ℕ) → child (state_at c t).nodes (spot c dir target now level above g.at).node level.name ≡ Some x
+            → outcome (state_at c t) c.actor (Open level.dir level.name) ≡ opens (state_at c t) c.actor x → Opening (state_at c t) c.actor x (opens (state_at c t) c.actor x)
+            → Good c dir target b (suc t) lines (opened level above count left answer)
+        on_opening x there q (too_many full p) = to (Refused TooMany) (is.made.told ∙ ap (λ r. r.answer) (q ∙ p))
+            (refused_fails now t line lines level above count left (Open level.dir level.name) answer g.at g.holds g.tally is (inr (inl refl)) (λ error. refl) e order.opens TooMany refl (q ∙ p)
+            (record {
+              when = t;
+              step = Open level.dir level.name;
+              event = is.made.event ∙ ap (λ v. Some (record { actor = c.actor; step = Open level.dir level.name; answer = v })) (is.made.told ∙ ap (λ r. r.answer) (q ∙ p));
+              full = full;
+            }))
+        on_opening x there q (no_object z p) =
+            absurd (false≢true (sym (ap is_some z) ∙ (lookups_lead_to_nodes (state_at c t) (lived.states t)).1 _ level.name x there))
+        on_opening x there q (is_opened what z p) =
+            let made = q ∙ p in
+            let answer_is : answer ≡ Opened (length (state_at c t).handles) x (kind_of what) = is.made.told ∙ ap (λ r. r.answer) made in
+            to (Opened (length (state_at c t).handles) x (kind_of what)) answer_is
+            (child_good g is x what there z (length (state_at c t).handles) (more_on is.made x (ap (λ r. r.after) made))
+            (tally_next false g.tally (e ∙ ap (λ v. one_more_if (is_removal (Open level.dir level.name) v) (removals lines)) answer_is) is.alone
+            (inl (ap (λ s. s.nodes) (is.made.after ∙ ap (λ r. r.after) made)))))
+
+        on : OpenCase (state_at c t) c.actor (spot c dir target now level above g.at).node level.name (outcome (state_at c t) c.actor (Open level.dir level.name))
+            → Good c dir target b (suc t) lines (opened level above count left answer)
+        on (step_is.no_dir f q) = to (Refused NotDir) (is.made.told ∙ ap (λ r. r.answer) q)
+            (refused_fails now t line lines level above count left (Open level.dir level.name) answer g.at g.holds g.tally is (inr (inl refl)) (λ error. refl) e order.opens NotDir refl q
+            (not_dir now t line lines level above count left (Open level.dir level.name) answer g.at g.holds g.tally is (inr (inl refl)) (λ error. refl) e f))
+        on (step_is.no_child f q) = to (Refused NotFound) (is.made.told ∙ ap (λ r. r.answer) q)
+            (missing_good now t line lines level above count left (Open level.dir level.name) answer g.at g.holds g.tally is (inr (inl refl)) (λ error. refl) e f q)
+        on (step_is.at_child x there q) = on_opening x there q (opening_of (state_at c t) c.actor x)
+
+    -- and one to List
+    pub list_good : (room : Bool) → (room ≡ false → TellsWant NoMemory c.lines) → (h : ℕ) → Clears c dir target b now (line ∷ lines) (lists h) level above count (suc left)
+        → AloneAt c now t (ListNames h) answer → removals (line ∷ lines) ≡ one_more_if (is_removal (ListNames h) answer) (removals lines)
+        → Good c dir target b (suc t) lines (listed room h level above count left answer)
+    list_good room want h g is e =
+        subst (λ v. Good c dir target b (suc t) lines (listed room h level above count left v)) (sym answer_is)
+        (on room want (sorted_names (names_in (state_at c t).nodes g.stage_at.0.node)))
+      where
+        open_then : held_at c t h ≡ Some g.stage_at.0.node
+        open_then = is.made.kept h ∙ g.stage_at.0.is_open
+
+        made : outcome (state_at c t) c.actor (ListNames h) ≡ record { answer = Listed (sorted_names (names_in (state_at c t).nodes g.stage_at.0.node)); after = state_at c t }
+        made = list_is (state_at c t) c.actor h g.stage_at.0.node open_then (dir_at lived t h g.stage_at.0.node open_then ∙ g.stage_at.0.is_dir)
+
+        answer_is : answer ≡ Listed (sorted_names (names_in (state_at c t).nodes g.stage_at.0.node))
+        answer_is = is.made.told ∙ ap (λ r. r.answer) made
+
+        kept : (k : ℕ) → held_at c (suc t) k ≡ held_at c now k
+        kept = kept_on is.made (ap (λ r. r.after) made)
+
+        tally : Tally c dir target (suc t) lines count left
+        tally = tally_next false g.tally (e ∙ ap (λ v. one_more_if (is_removal (ListNames h) v) (removals lines)) answer_is) is.alone
+            (inl (ap (λ s. s.nodes) (is.made.after ∙ ap (λ r. r.after) made)))
+
+        at_now : IsAt c dir target (suc t) level above
+        at_now = at_moved c dir target now (suc t) level above (later is.made) (same_all c now (suc t) (dirs (level ∷ above)) kept) g.at
+
+        inner_now : Inner c dir target (suc t) h
+        inner_now = inner_moved (later is.made) (kept h) g.stage_at.0
+
+        on : (roomy : Bool) → (roomy ≡ false → TellsWant NoMemory c.lines) → (names : List (List ℕ)) → Good c dir target b (suc t) lines (listed roomy h level above count left (Listed names))
+        on true w [] = due_good c dir target b (suc t) lines (leaves h) level above count left
+            (record { at = at_now; stage_at = g.stage_at.1; holds = holds_kept kept g.holds; tally = tally })
+        on true w (n ∷ os) = due_good c dir target b (suc t) lines removes_file (record { dir = h; name = n; others = os }) (level ∷ above) count left
+            (record { at = (inner_now, (g.stage_at.1, at_now)); stage_at = tt; holds = holds_kept kept g.holds; tally = tally })
+        on false w names = closes_good c dir target b (suc t) lines (h ∷ dirs (level ∷ above)) (fails NoMemory)
+            (record { cause = λ close. w refl; holds = holds_kept kept g.holds; took = tally.took })
+
+    -- what a Close of what was opened by the name under way comes to
+    pub close_good : (stage next : Stage) (h : ℕ) → before stage (dirs (level ∷ above)) ≡ h ∷ dirs (level ∷ above) → before next (dirs (level ∷ above)) ≡ dirs (level ∷ above)
+        → IsAtStage c dir target (suc t) next level above → IsNotIn h (dirs (level ∷ above)) → Clears c dir target b now (line ∷ lines) stage level above count (suc left)
+        → AloneAt c now t (Close h) answer → removals (line ∷ lines) ≡ removals lines → Good c dir target b (suc t) lines (is_due next level above count left)
+    close_good stage next h closed none stage_at out g is e = due_good c dir target b (suc t) lines next level above count left (record {
+      at = at_moved c dir target t (suc t) level above (le-suc t) (same_but c t (suc t) h (dirs (level ∷ above)) out less.others)
+          (at_moved c dir target now t level above is.made.at.later (same_all c now t (dirs (level ∷ above)) is.made.kept) g.at);
+      stage_at = stage_at;
+      holds = subst (Holds c b (suc t)) (sym none) (holds_less (subst (Holds c b t) closed (holds_kept is.made.kept g.holds)) less);
+      tally = tally_next false g.tally e is.alone (inl (ap (λ s. s.nodes) is.made.after ∙ nodes_are_left (state_at c t) c.actor (Close h) refl));
+    })
+      where
+        less : IsLess (state_at c t) c.actor (state_at c (suc t)) h
+        less = subst (λ s. IsLess (state_at c t) c.actor s h) (sym is.made.after) (Close-is_less (state_at c t) c.actor h)
+
+  -- what a Close at the end comes to
+  pub closing_good : (now t : ℕ) (line : Line) (lines : List Line) (h : ℕ) (hs : List ℕ) (end : End) (answer : Answer) → Ends c dir target b now (line ∷ lines) (h ∷ hs) end
+      → AloneAt c now t (Close h) answer → removals (line ∷ lines) ≡ removals lines → (AllClose lines → AllClose (line ∷ lines)) → Good c dir target b (suc t) lines (closes hs end)
+  closing_good now t line lines h hs end answer is at e close = closes_good c dir target b (suc t) lines hs end (on end is)
+    where
+      less : IsLess (state_at c t) c.actor (state_at c (suc t)) h
+      less = subst (λ s. IsLess (state_at c t) c.actor s h) (sym at.made.after) (Close-is_less (state_at c t) c.actor h)
+
+      took : TookAway c dir target now → TookAway c dir target (suc t)
+      took so_far = record { each = up_to (λ k. LeavesEntries c k ⊎ TakesAway c dir target k) at.alone so_far.each
+          (inl (ap (λ s. s.nodes) at.made.after ∙ nodes_are_left (state_at c t) c.actor (Close h) refl)) }
+
+      last : LastSoFar c dir target now → LastSoFar c dir target (suc t)
+      last l = record {
+        when = l.when;
+        own = l.own;
+        handle = l.handle;
+        is_open = l.is_open;
+        step = l.step;
+        answer = l.answer;
+        event = l.event;
+        on = l.on;
+        ended = l.ended;
+        since = up_to (λ k. suc l.when ≤ k → ClosesAt c k) at.alone l.since (λ past. (h, (answer, at.made.event)));
+      }
+
+      on : (kind : End) → Ends c dir target b now (line ∷ lines) (h ∷ hs) kind → Ends c dir target b (suc t) lines hs kind
+      on (fails error) f = record { cause = λ all. f.cause (close all); holds = holds_less (holds_kept at.made.kept f.holds) less; took = took f.took }
+      on (removes count) f = record { counted = f.counted ∙ ap (λ n. count + n) e; holds = holds_less (holds_kept at.made.kept f.holds) less; took = took f.took; last = last f.last }
+
+  -- a step that isn't made
+  pub not_made_good : (now : ℕ) (lines : List Line) (error : Errno) → IsWant error → (stage : Stage) (level : Level) (above : List Level) (count left : ℕ) → closes_at stage ≡ false
+      → Clears c dir target b now (not_made error ∷ lines) stage level above count (suc left)
+      → Good c dir target b now lines (take true (clearing stage level above count left) (Refused error))
+  not_made_good now lines error want stage level above count left unclosed g =
+      on want stage unclosed g.holds
+    where
+      wanted : TellsWant error c.lines
+      wanted = wants_of_rest error c.lines g.tally.made (subst (TellsWant error) (sym g.tally.rest) (inl refl))
+
+      fails_with : (cause : Errno) → error ≡ cause → (k : Stage) → (TellsWant cause c.lines → TellsFault c dir cause) → Holds c b now (before k (dirs (level ∷ above)))
+          → Good c dir target b now lines (gives_up k level above cause)
+      fails_with cause q k to_fault holds = closes_good c dir target b now lines (before k (dirs (level ∷ above))) (fails cause)
+          (record { cause = λ close. to_fault (subst (λ x. TellsWant x c.lines) q wanted); holds = holds; took = g.tally.took })
+
+      memory : (k : Stage) → closes_at k ≡ false → error ≡ NoMemory → Holds c b now (before k (dirs (level ∷ above)))
+          → Good c dir target b now lines (take true (clearing k level above count left) (Refused NoMemory))
+      memory removes_file o q holds = fails_with NoMemory q removes_file (λ w. w) holds
+      memory order.opens o q holds = fails_with NoMemory q order.opens (λ w. w) holds
+      memory (lists h) o q holds = fails_with NoMemory q (lists h) (λ w. w) holds
+      memory (shuts h) o q holds = cc (o)
+      memory (leaves h) o q holds = cc (o)
+      memory removes_dir o q holds = fails_with NoMemory q removes_dir (λ w. w) holds
+
+      room : (k : Stage) → closes_at k ≡ false → error ≡ BookFull → Holds c b now (before k (dirs (level ∷ above)))
+          → Good c dir target b now lines (take true (clearing k level above count left) (Refused BookFull))
+      room removes_file o q holds = fails_with BookFull q removes_file (λ w. w) holds
+      room order.opens o q holds = fails_with BookFull q order.opens (λ w. w) holds
+      room (lists h) o q holds = fails_with BookFull q (lists h) (λ w. w) holds
+      room (shuts h) o q holds = cc (o)
+      room (leaves h) o q holds = cc (o)
+      room removes_dir o q holds = fails_with BookFull q removes_dir (λ w. w) holds
+
+      on : IsWant error → (k : Stage) → closes_at k ≡ false → Holds c b now (before k (dirs (level ∷ above)))
+          → Good c dir target b now lines (take true (clearing k level above count left) (Refused error))
+      on (inl q) k o holds = subst (λ x. Good c dir target b now lines (take true (clearing k level above count left) (Refused x))) (sym q) (memory k o q holds)
+      on (inr q) k o holds = subst (λ x. Good c dir target b now lines (take true (clearing k level above count left) (Refused x))) (sym q) (room k o q holds)

@@ -1,0 +1,248 @@
+-- What each end of a call tells, by induction on what the call was told.
+use Rattle.std.specs.Prelude.{◌≡◌, ◌≢◌, ℕ, zero, suc, ◌+◌, ◌≤◌, ◌⊎◌, List, [], ◌∷◌, ◌++◌, Bool, true, false, Option, Some, None, refl}
+use Rattle.std.proofs.Common.{sym, ap, subst, ◌∙◌, inl, inr, not-suc-le-zero, zero-add, arith}
+use Rattle.std.proofs.lemmas.Bool.{false≢true}
+use Rattle.std.proofs.lemmas.Option.{none-some}
+use Rattle.path_text.specs.declared.errno.Errno.{Errno}
+use Rattle.path_text.specs.declared.errno.Errno.TheVariants.{NoMemory}
+use Rattle.tree_model.specs.declared.answer.Answer.{Answer}
+use Rattle.tree_model.specs.declared.answer.Answer.TheVariants.{Refused}
+use Rattle.tree_model.specs.declared.step.StepOf.{StepOf}
+use Rattle.tree_model.specs.declared.step.StepOf.TheVariants.{Close}
+use Rattle.tree_model.specs.State.{State, is_dir, is_directory}
+use Rattle.tree_model.specs.Steps.{held}
+use Rattle.tree_model.specs.History.{IsLegal, after_events}
+use Rattle.tree_model.proofs.HistoryLaws.{IsLegal-append, IsLegal-front, IsLegal-back, after_events-append}
+use Rattle.tree_model.proofs.StepLaws.{others_handles_stay}
+use Rattle.step_resolver.specs.Order.{Handle, Line, answered, no_room, not_made, events_of, IsWant}
+use Rattle.step_resolver.specs.Order as walk
+use Rattle.step_resolver.specs.Asked.{is_deepest}
+use Rattle.step_resolver.specs.WalkHistory.{WalkInHistory, IsWalkInHistory, begin_of, end_of, state_at, timeline, own_events}
+use Rattle.step_resolver.specs.Failures.{HandlesStay, TellsWant}
+use Rattle.step_resolver.specs.Headline.{Opens, WalksTell}
+use Rattle.step_resolver.proofs.Underway.LegalHistory.{lived}
+use Rattle.step_resolver.proofs.Underway.WalkInvariant.{Lived, held_at}
+use Rattle.step_resolver.proofs.Ends.EveryWalk.{tree_laws}
+use Rattle.bulk_ops.specs.declared.remove_all.clearing.TheConstants.{CLEARING_STEPS_MAX}
+use Rattle.bulk_ops.specs.RemoveAllOrder.{Level, Stage, removes_file, lists, shuts, leaves, removes_dir, fails, removes, Removing, walking, clearing, closing, Turn, more, removed, failed, begins, walked, take, due, is_closing, LeadsTo}
+use Rattle.bulk_ops.specs.RemoveAllOrder as order
+use Rattle.bulk_ops.specs.RemoveAllTells.{removals, one_more_if, is_removal, TakesAway, LeavesEntries, OnlyTakesAway, IsLastOnTarget, IsClose, AllClose, TellsFault, first_part, second_part, Parts, clears, TellsRemoved, TellsGivenUp, Tells, RemoveAllTells}
+use Rattle.bulk_ops.proofs.RemovingAll.Happening.{AloneAt, Rests, HappensAlone, lines_happen}
+use Rattle.bulk_ops.proofs.RemovingAll.Underway.{Holds, wants_of_rest, TookAway, LastSoFar, Good, due_good}
+use Rattle.bulk_ops.proofs.RemovingAll.AfterAnswers.{file_good, dir_good, open_good, list_good, close_good, closing_good, not_made_good}
+use Rattle.bulk_ops.proofs.RemovingAll.Parts.{Cut, WalkEnd, goes_on, walk_fails, walk_finds, walk_stops, walk_end, walk_removes_none, events_of-append, Halves, halves}
+
+record EndsGood (c : WalkInHistory) (dir : ℕ) (target : List ℕ) (b : ℕ → Option ℕ) (end : Turn) : Type 0 where
+  pub m : ℕ
+  pub good : Good c dir target b m [] end
+  pub rests : Rests c m
+
+module _ {c : WalkInHistory} (alive : Lived c) (dir : ℕ) (target : List ℕ) (b : ℕ → Option ℕ) where
+  take_good : (room : Bool) (now t : ℕ) (line : Line) (lines : List Line) → (room ≡ false → TellsWant NoMemory (line ∷ lines)) → (call : Removing)
+      → Good c dir target b now (line ∷ lines) (more call) → (answer : Answer) → AloneAt c now t (due call) answer
+      → removals (line ∷ lines) ≡ one_more_if (is_removal (due call) answer) (removals lines)
+      → ((h : ℕ) → due call ≡ Close h → IsClose line) → Good c dir target b (suc t) lines (take room call answer)
+  take_good room now t line lines want (walking way name w) good answer is e close = absurd good
+  take_good room now t line lines want (clearing removes_file level above count left) good answer is e close =
+      file_good alive dir target b now t line lines level above count left answer good is e
+  take_good room now t line lines want (clearing order.opens level above count left) good answer is e close =
+      open_good alive dir target b now t line lines level above count left answer good is e
+  take_good room now t line lines want (clearing (lists h) level above count left) good answer is e close =
+      list_good alive dir target b now t line lines level above count left answer room
+      (λ q. wants_of_rest NoMemory c.lines good.tally.made (subst (TellsWant NoMemory) (sym good.tally.rest) (want q))) h good is e
+  take_good room now t line lines want (clearing (shuts h) level above count left) good answer is e close =
+      close_good alive dir target b now t line lines level above count left answer (shuts h) removes_file h refl refl tt good.stage_at good is e
+  take_good room now t line lines want (clearing (leaves h) level above count left) good answer is e close =
+      close_good alive dir target b now t line lines level above count left answer (leaves h) removes_dir h refl refl tt good.stage_at good is e
+  take_good room now t line lines want (clearing removes_dir level above count left) good answer is e close =
+      dir_good alive dir target b now t line lines level above count left answer good is e
+  take_good room now t line lines want (closing h hs end) good answer is e close =
+      closing_good alive dir target b now t line lines h hs end answer good is e (λ all. (close h refl, all))
+
+  unmade_good : (now : ℕ) (lines : List Line) (error : Errno) → IsWant error → (call : Removing) → is_closing call ≡ false
+      → Good c dir target b now (not_made error ∷ lines) (more call) → Good c dir target b now lines (take true call (Refused error))
+  unmade_good now lines error want (walking way name w) unclosed good = absurd good
+  unmade_good now lines error want (clearing stage level above count left) unclosed good =
+      not_made_good alive dir target b now lines error want stage level above count left unclosed good
+  unmade_good now lines error want (closing h hs end) unclosed good = cc (unclosed)
+
+  lines_good : (lines : List Line) (now : ℕ) (turn end : Turn) → Good c dir target b now lines turn → HappensAlone c now lines → LeadsTo turn lines end
+      → EndsGood c dir target b end
+  lines_good [] now turn end good happens leads = record { m = now; good = subst (Good c dir target b now []) leads good; rests = happens }
+  lines_good (answered step answer ∷ lines) now (more call) end good happens leads =
+      lines_good lines (suc happens.0) (take true call answer) end
+      (take_good true now happens.0 (answered step answer) lines (λ e. cc (e)) call good answer (subst (λ s. AloneAt c now happens.0 s answer) leads.0 happens.1.0)
+      (ap (λ s. one_more_if (is_removal s answer) (removals lines)) leads.0) (λ h q. (h, leads.0 ∙ q)))
+      happens.1.1 leads.1
+  lines_good (no_room step answer ∷ lines) now (more call) end good happens leads =
+      lines_good lines (suc happens.0) (take false call answer) end
+      (take_good false now happens.0 (no_room step answer) lines (λ e. inl refl) call good answer (subst (λ s. AloneAt c now happens.0 s answer) leads.0 happens.1.0)
+      (ap (λ s. one_more_if (is_removal s answer) (removals lines)) leads.0) (λ h q. (h, leads.0 ∙ q)))
+      happens.1.1 leads.1
+  lines_good (not_made error ∷ lines) now (more call) end good happens leads =
+      lines_good lines now (take true call (Refused error)) end (unmade_good now lines error leads.0 call leads.1.0 good) happens leads.1.1
+  lines_good (line ∷ lines) now (removed count) end good happens leads = absurd leads
+  lines_good (line ∷ lines) now (failed error) end good happens leads = absurd leads
+
+order_of : (i j : ℕ) → (suc i ≤ j) ⊎ (j ≤ i)
+order_of zero zero = inr (omega arith)
+order_of zero (suc j) = inl (omega arith)
+order_of (suc i) zero = inr (omega arith)
+order_of (suc i) (suc j) = step (order_of i j)
+  where
+    step : (suc i ≤ j) ⊎ (j ≤ i) → (suc (suc i) ≤ suc j) ⊎ (suc j ≤ suc i)
+    step (inl a) = inl (omega arith)
+    step (inr a) = inr (omega arith)
+
+-- what holds of each own event before the last one's moment holds of all
+of_all : {c : WalkInHistory} {m : ℕ} (P : ℕ → Type 0) → Rests c m → ((t : ℕ) → suc t ≤ m → (timeline c).is_own t ≡ true → P t) → (t : ℕ) → (timeline c).is_own t ≡ true → P t
+of_all {c} {m} P rests each t own = on (order_of t m)
+  where
+    on : (suc t ≤ m) ⊎ (m ≤ t) → P t
+    on (inl early) = each t early own
+    on (inr late) = absurd (false≢true (sym (rests.alone t late) ∙ own))
+
+module _ {c : WalkInHistory} {m : ℕ} {dir : ℕ} {target : List ℕ} (rests : Rests c m) where
+  takes_all : TookAway c dir target m → OnlyTakesAway c dir target
+  takes_all took = of_all (λ t. LeavesEntries c t ⊎ TakesAway c dir target t) rests took.each
+
+  is_last : LastSoFar c dir target m → IsLastOnTarget c dir target
+  is_last l = record {
+    when = l.when;
+    own = l.own;
+    handle = l.handle;
+    is_open = l.is_open;
+    step = l.step;
+    answer = l.answer;
+    event = l.event;
+    on = l.on;
+    ended = l.ended;
+    last = λ t past own. of_all (λ k. suc l.when ≤ k → _) rests l.since t own past;
+  }
+
+-- ---- the whole
+
+-- the parts of the call, where its walk found the object
+module _ (tell : WalksTell) (w : WalkInHistory) (target : List ℕ) (end : Turn) (is : IsWalkInHistory w) where
+  abbrev Halved : (walk_lines rest : List Line) → Type 0
+  Halved walk_lines rest = Halves w.actor w.window (events_of w.actor walk_lines) (events_of w.actor rest)
+
+  halved : (walk_lines rest : List Line) → w.lines ≡ walk_lines ++ rest → Halved walk_lines rest
+  halved walk_lines rest e = halves w.actor w.window (events_of w.actor walk_lines) (events_of w.actor rest)
+      (is.own ∙ ap (events_of w.actor) e ∙ events_of-append w.actor walk_lines rest)
+
+  first_is : (walk_lines rest : List Line) → (h : Halved walk_lines rest) → IsWalkInHistory (first_part w h.first walk_lines)
+  first_is walk_lines rest h = record {
+    tree = is.tree;
+    legal_before = is.legal_before;
+    legal = IsLegal-front (begin_of w) h.first h.second (subst (IsLegal (begin_of w)) h.whole is.legal);
+    own = h.first_own;
+    root = is.root;
+    root_is_dir = is.root_is_dir;
+  }
+
+  -- where the walk ended, and clearing begins
+  begins_there : (walk_lines rest : List Line) → (h : Halved walk_lines rest)
+      → begin_of (second_part w h.first h.second rest) ≡ end_of (first_part w h.first walk_lines)
+  begins_there walk_lines rest h = after_events-append w.opening w.before h.first
+
+  ends_there : (walk_lines rest : List Line) → (h : Halved walk_lines rest) → end_of (second_part w h.first h.second rest) ≡ end_of w
+  ends_there walk_lines rest h =
+      ap (λ s. after_events s h.second) (begins_there walk_lines rest h)
+      ∙ sym (after_events-append (begin_of w) h.first h.second) ∙ ap (after_events (begin_of w)) (sym h.whole)
+
+  module _ (walk_lines rest : List Line) (h : Halved walk_lines rest) (handle : Handle) (names : List (List ℕ))
+      (opens : Opens (first_part w h.first walk_lines) handle names) where
+    abbrev c : WalkInHistory
+    c = second_part w h.first h.second rest
+
+    abbrev b : ℕ → Option ℕ
+    b k = held (begin_of w) w.actor k
+
+    there : (k : ℕ) → held (begin_of c) w.actor k ≡ held (end_of (first_part w h.first walk_lines)) w.actor k
+    there k = ap (λ s. held s w.actor k) (begins_there walk_lines rest h)
+
+    root_is_other : w.way.root ≢ handle.number
+    root_is_other e = none-some w.root (sym opens.new.fresh ∙ ap b (sym e) ∙ is.root)
+
+    second_is : IsWalkInHistory c
+    second_is = record {
+      tree = is.tree;
+      legal_before = IsLegal-append w.opening w.before h.first is.legal_before (first_is walk_lines rest h).legal;
+      legal = subst (λ s. IsLegal s h.second) (sym (begins_there walk_lines rest h))
+          (IsLegal-back (begin_of w) h.first h.second (subst (IsLegal (begin_of w)) h.whole is.legal));
+      own = h.second_own;
+      root = there w.way.root ∙ opens.new.others w.way.root root_is_other ∙ is.root;
+      root_is_dir = ap (λ (s : State). is_dir s.nodes w.root) (begins_there walk_lines rest h)
+          ∙ (lived tree_laws (first_part w h.first walk_lines) (first_is walk_lines rest h)).root_is_dir;
+    }
+
+    first_good : Good c handle.node target b 0 rest (walked w.way target (walk.found handle names))
+    first_good = due_good c handle.node target b 0 rest removes_file (record { dir = handle.number; name = target; others = [] }) [] 0 CLEARING_STEPS_MAX (record {
+      at = record { is_open = there handle.number ∙ opens.new.is_open; name = refl; none = refl };
+      stage_at = tt;
+      holds = record { others = λ k out. there k ∙ opens.new.others k out.0; fresh = (opens.new.fresh, tt) };
+      tally = record {
+        took = record { each = λ t le own. absurd (not-suc-le-zero le) };
+        counted = sym (zero-add (removals rest));
+        made = 0;
+        rest = refl;
+        enough = omega arith;
+        steps = refl;
+      };
+    })
+
+    ended : LeadsTo (walked w.way target (walk.found handle names)) rest end → EndsGood c handle.node target b end
+    ended leads = lines_good (lived tree_laws c second_is) handle.node target b rest 0 (walked w.way target (walk.found handle names)) end first_good
+        (lines_happen others_handles_stay c second_is.legal second_is.own) leads
+
+    abbrev parts : w.lines ≡ walk_lines ++ rest → walk.LeadsTo w.way (walk.begins w.way w.path) walk_lines (walk.found handle names) → Parts w
+    parts e walks = record {
+      walk_window = h.first;
+      window = h.second;
+      windows = h.whole;
+      walk_lines = walk_lines;
+      lines = rest;
+      all_lines = e;
+      handle = handle;
+      names = names;
+      walked = walks;
+      is_walk = first_is walk_lines rest h;
+      opens = opens;
+    }
+
+    handles_stay : {m : ℕ} → Rests c m → Holds c b m [] → HandlesStay w
+    handles_stay rests holds k = ap (λ s. held s w.actor k) (sym (ends_there walk_lines rest h)) ∙ rests.kept k ∙ holds.others k tt
+
+    cleared : w.lines ≡ walk_lines ++ rest → walk.LeadsTo w.way (walk.begins w.way w.path) walk_lines (walk.found handle names) → (turn : Turn)
+        → EndsGood c handle.node target b turn → Tells w target turn
+    cleared e walks (more call) good = tt
+    cleared e walks (removed count) good = record {
+      parts = parts e walks;
+      entries = takes_all good.rests good.good.took;
+      counted = omega (arith, good.good.counted, ap removals e, walk_removes_none w.way target walk_lines rest (walk.begins w.way w.path) (walk.found handle names) walks);
+      last = is_last good.rests good.good.last;
+      handles = handles_stay good.rests good.good.holds;
+    }
+    cleared e walks (failed error) good = record {
+      why = inr (record { parts = parts e walks; entries = takes_all good.rests good.good.took; fault = good.good.cause tt });
+      handles = handles_stay good.rests good.good.holds;
+    }
+
+  told : is_deepest w.way.goal ≡ false → WalkEnd w.way target (walk.begins w.way w.path) w.lines end → Tells w target end
+  told shallow (goes_on call e) = subst (Tells w target) (sym e) tt
+  told shallow (walk_fails error leads e) = subst (Tells w target) (sym e) (record {
+    why = inl (record { walked = leads; true_once = (tell w (walk.failed error) is leads).true_once });
+    handles = (tell w (walk.failed error) is leads).handles;
+  })
+  told shallow (walk_finds handle names cut) =
+      let h = halved cut.walk_lines cut.rest cut.all in
+      let opens = tell (first_part w h.first cut.walk_lines) (walk.found handle names) (first_is cut.walk_lines cut.rest h) cut.walks in
+      cleared cut.walk_lines cut.rest h handle names opens cut.all cut.walks end (ended cut.walk_lines cut.rest h handle names opens cut.leads)
+  told shallow (walk_stops handle names ps cut) =
+      let h = halved cut.walk_lines cut.rest cut.all in
+      let deepest = tell (first_part w h.first cut.walk_lines) (walk.partial handle names ps) (first_is cut.walk_lines cut.rest h) cut.walks in
+      absurd (false≢true (sym shallow ∙ deepest.goal))
+
+pub every_call_tells : WalksTell → RemoveAllTells
+every_call_tells tell w target end is shallow leads = told tell w target end is shallow (walk_end w.way target w.lines (walk.begins w.way w.path) end leads)
