@@ -3,3 +3,4 @@ pub mod Lists
 pub mod Turns
 pub mod Finds
 pub mod Runs
+pub mod Kept

@@ -1,5 +1,6 @@
 -- What a cache finds is what its calls told last.
-use Rattle.std.specs.Prelude.{◌≡◌, ◌<◌, ℕ, if◌then◌else◌, nat_eq, List, [], ◌∷◌, Option, Some, None}
+use Rattle.std.specs.Prelude.{◌≡◌, ◌<◌, ℕ, Bool, false, if◌then◌else◌, nat_eq, List, [], ◌∷◌, ◌++◌, length, Option, Some, None}
+use Rattle.std.specs.List.{AllByRecursion}
 use Rattle.dentry_cache.specs.Cache.{Cache, IsCache, same_entry, empty, found, looked, noted, forgotten, forgotten_dir}
 
 pub data Call : Type 0 where
@@ -35,3 +36,14 @@ NotesAreFound = (c : Cache) (d : ℕ) (n : List ℕ) (x : Option ℕ) → 0 < c.
 -- no call makes an entry be remembered twice, or too many
 abbrev pub CallsKeepCaches : Type 0
 CallsKeepCaches = (cap : ℕ) (calls : List Call) → IsCache (cache_after cap calls)
+
+-- whether a call may change what is known of an entry
+abbrev pub changes : Call → ℕ → List ℕ → Bool
+changes (Look e m) d n = false
+changes (Note e m x) d n = same_entry (e, m) (d, n)
+changes (Forget e m) d n = same_entry (e, m) (d, n)
+changes (ForgetDir e) d n = nat_eq d e
+
+-- what was noted is found while fewer calls than the cap follow, none of which may change it
+abbrev pub NotesAreKept : Type 0
+NotesAreKept = (cap : ℕ) (since before : List Call) (d : ℕ) (n : List ℕ) (x : Option ℕ) → AllByRecursion (λ call. changes call d n ≡ false) since → length since < cap → found (cache_after cap (since ++ Note d n x ∷ before)) d n ≡ Some x

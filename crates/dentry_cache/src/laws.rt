@@ -1,5 +1,5 @@
 //! What holds of every run of calls: laws, each the contract of a function without a body.
-ghost use Rattle.dentry_cache.specs.Calls.{HitsAreNotedLast, NotesAreFound, CallsKeepCaches};
+ghost use Rattle.dentry_cache.specs.Calls.{HitsAreNotedLast, NotesAreFound, NotesAreKept, CallsKeepCaches};
 
 /// After any calls, what a look-up finds was noted last of that entry, and not forgotten since.
 pub fn hits_are_noted_last()
@@ -9,6 +9,11 @@ pub fn hits_are_noted_last()
 /// What was just noted is found.
 pub fn notes_are_found()
     ensures { NotesAreFound }
+{}
+
+/// What was noted is found while fewer calls than the cap follow, none of which notes that entry anew or forgets it.
+pub fn notes_are_kept()
+    ensures { NotesAreKept }
 {}
 
 /// No call makes an entry be remembered twice, or more than the cap.
