@@ -1,4 +1,10 @@
 //! The operations of a root, each as a call that asks for one step at a time.
+//!
+//! A `Call` is begun with a `Request`, asks for its `due` step and is told the answer, until it ends with a `Reply`; others may
+//! change the tree in between. It walks to what the path means, or to the directory of its last name, makes its one step
+//! by the handle that the walk found, and closes what it opened (mkdirat(2), unlinkat(2), renameat2(2), readlinkat(2)). Its
+//! `start`, `due` and `take` are exactly the order of steps of `specs/Order.antt`, which is over that of a walk, and each
+//! `take` leaves fewer steps to come. The layers above use these contracts, and the law `five_steps_after_walks`.
 #![tactic(auto)]
 
 mod aim;
@@ -19,3 +25,6 @@ pub use laws::five_steps_after_walks;
 pub use op::{Op, Request};
 pub use quiet_laws::{operations_keep_trees, quiet_calls_mean, worked_operations, worked_rename};
 pub use reply::Reply;
+
+#[cfg(test)]
+mod tests;
