@@ -1,7 +1,9 @@
 -- Lemmas of what a call comes to where nobody else acts.
+pub mod WhatIsMeant
 pub mod WorkedOperations
 pub mod WalksAlone
 pub mod StepsAlone
 pub mod EntriesAlone
 pub mod RenamesAlone
 pub mod CallsAlone
+pub mod WorkedRename

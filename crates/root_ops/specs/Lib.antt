@@ -15,5 +15,7 @@ pub mod TurnView
 pub mod StepCount
 pub mod CallHistory
 pub mod Meaning
+pub mod MeaningLaws
 pub mod MeaningWorked
 pub mod Quiet
+pub mod QuietWorked

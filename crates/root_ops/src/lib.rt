@@ -23,7 +23,7 @@ pub use below::Below;
 pub use call::{Call, CallTurn};
 pub use laws::five_steps_after_walks;
 pub use op::{Op, Request};
-pub use quiet_laws::{quiet_calls_mean, worked_operations};
+pub use quiet_laws::{operations_keep_trees, quiet_calls_mean, worked_operations, worked_rename};
 pub use reply::Reply;
 
 #[cfg(test)]

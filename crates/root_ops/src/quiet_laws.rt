@@ -1,6 +1,16 @@
 //! What an operation means where nobody else acts: laws, each the contract of a function without a body.
 ghost use Rattle.root_ops.specs.Quiet.{QuietCallsMean};
+ghost use Rattle.root_ops.specs.QuietWorked.{RenameIsWorked};
+ghost use Rattle.root_ops.specs.MeaningLaws.{OperationsKeepTrees, OperationsKeepNodes, ErrorsChangeNothing};
 ghost use Rattle.root_ops.specs.MeaningWorked.{RenamesAreWorked, MovesAreWorked, MadeAreWorked, ToldAreWorked, RemovedAreWorked};
+
+/// What an operation means leads from a tree to a tree, in which each node is what it was and at most one is new; and an
+/// error changes no node.
+pub fn operations_keep_trees()
+    ensures trees { OperationsKeepTrees }
+    ensures nodes { OperationsKeepNodes }
+    ensures errors { ErrorsChangeNothing }
+{}
 
 /// What operations of each kind come to on a small tree, computed: what is made, removed and renamed, which nodes
 /// there are afterwards, and which error comes where nothing is.
@@ -19,4 +29,10 @@ pub fn worked_operations()
 /// either. It holds in every legal history, where the Close of a Release is left out only if its handle isn't open.
 pub fn quiet_calls_mean()
     ensures { QuietCallsMean }
+{}
+
+/// A rename of a directory by a path with a slash at its end: a legal history in which nobody else acts, computed, with
+/// each of its nine steps, and what it comes to.
+pub fn worked_rename()
+    ensures { RenameIsWorked }
 {}

@@ -129,7 +129,7 @@ parted s a first rest lines joined legal =
     record { legal = cut.0; legal_rest = cut.1; after = sym (ap (after_events s) same ∙ both.1) }
 
 -- each event is the actor's
-by_own : (a : ℕ) (lines : List Line) (t : ℕ) (event : Event) → slice_get (events_of a lines) t ≡ Some event → event.actor ≡ a
+pub by_own : (a : ℕ) (lines : List Line) (t : ℕ) (event : Event) → slice_get (events_of a lines) t ≡ Some event → event.actor ≡ a
 by_own a [] t event e = absurd (none-some event e)
 by_own a (answered step answer ∷ lines) zero event e = sym (ap (λ (v : Event). v.actor) (same_Some _ event e))
 by_own a (answered step answer ∷ lines) (suc t) event e = by_own a lines t event e

@@ -1,0 +1,116 @@
+-- What an operation means changes the entries of a tree in one of the ways that the step table knows, or nothing.
+use Rattle.std.proofs.Common.{◌≡◌, ℕ, List, Bool, true, false, ◌||◌, if◌then◌else◌, None, Result, Ok, Err, refl, ap}
+use Rattle.path_text.specs.declared.errno.Errno.{Errno}
+use Rattle.path_text.specs.declared.errno.Errno.TheVariants.{Invalid}
+use Rattle.path_text.specs.declared.path.Rule.{Rule}
+use Rattle.path_text.specs.declared.path.Rule.TheVariants.{Drop, Refuse}
+use Rattle.tree_model.specs.declared.answer.Answer.{Answer}
+use Rattle.tree_model.specs.declared.answer.Answer.TheVariants as answer
+use Rattle.tree_model.specs.declared.inode.Inode.{Inode}
+use Rattle.tree_model.specs.declared.step.StepOf.{StepOf}
+use Rattle.tree_model.specs.State.{State}
+use Rattle.tree_model.specs.Steps.{Outcome, outcome}
+use Rattle.tree_model.specs.StepLaws.{only_tells}
+use Rattle.tree_model.proofs.Changed.{Changed, kept, IfDone, MakeDir-changed, MakeFile-changed, MakeLink-changed, RemoveFile-changed, RemoveDir-changed, Rename-changed, Changed-tree, Changed-grows, Changed-by_one}
+use Rattle.tree_model.proofs.Outcomes.{Does, refuses, tells as only_tells_it, opens_on, closes as closes_it, changes_to, does}
+use Rattle.tree_model.proofs.Refusals.{refuse_by-both}
+use Rattle.tree_model.proofs.StepLaws.{telling_changes_nothing}
+use Rattle.root_ops.specs.declared.op.Op.{Op}
+use Rattle.root_ops.specs.declared.op.Op.TheVariants.{Resolve, ResolveNoFollow, ReadLink, CreateFile, CreateDir, CreateLink, RemoveFile, RemoveDir, Rename, Single, Release}
+use Rattle.root_ops.specs.Meaning.{Caller, Told, fails, Whole, and_then, directory_of, entry_of, changed_at, no_directory, tells, changes, told_by, steps, op_means}
+use Rattle.root_ops.specs.MeaningLaws.{OperationsKeepTrees, OperationsKeepNodes, ErrorsChangeNothing}
+use Rattle.root_ops.specs.Order.{is_single}
+
+onward_done : {A : Type 0} (P : List Inode → Type 0) (first : Result A Errno) (onward : A → Result (List Inode) Errno) → ((x : A) → IfDone P (onward x))
+    → IfDone P (and_then first onward)
+onward_done P (Ok x) onward each = each x
+onward_done P (Err error) onward each = tt
+
+module _ (c : Caller) where
+  abbrev IsChange : Whole → Type 0
+  IsChange whole = Changed c.tree.nodes whole.nodes
+
+  tells_is : {A : Type 0} (reply : A → Told) (result : Result A Errno) → IsChange (tells c reply result)
+  tells_is reply (Ok value) = kept
+  tells_is reply (Err error) = kept
+
+  changes_is : (result : Result (List Inode) Errno) → IfDone (Changed c.tree.nodes) result → IsChange (changes c result)
+  changes_is (Ok nodes) changed = changed
+  changes_is (Err error) changed = kept
+
+  at_entry : (text : List ℕ) (rule : Rule) (change : ℕ → List ℕ → Result (List Inode) Errno)
+      → ((d : ℕ) (n : List ℕ) → IfDone (Changed c.tree.nodes) (change d n)) → IsChange (changes c (changed_at c text rule change))
+  at_entry text rule change each = changes_is (changed_at c text rule change)
+      (onward_done (Changed c.tree.nodes) (entry_of text rule) _ (λ split. onward_done (Changed c.tree.nodes) (directory_of c split.dir) _ (λ d. each d split.name)))
+
+  step_is : {step : StepOf ℕ} {o : Outcome} → Does c.tree c.actor step o → Changed c.tree.nodes o.after.nodes
+  step_is (refuses error) = kept
+  step_is (only_tells_it answer e) = kept
+  step_is (opens_on x what e1 e2 e3) = kept
+  step_is (closes_it h x e) = kept
+  step_is (changes_to nodes e changed) = changed
+
+  single_is : (step : StepOf ℕ) (allowed : Bool) → IsChange (if allowed then steps (outcome c.tree c.actor step) else record { reply = fails Invalid; nodes = c.tree.nodes })
+  single_is step true = step_is (does c.tree c.actor step)
+  single_is step false = kept
+
+  op_changes : (op : Op) → IsChange (op_means c op)
+  op_changes (Resolve text) = tells_is _ _
+  op_changes (ResolveNoFollow text) = tells_is _ _
+  op_changes (ReadLink text) = tells_is _ _
+  op_changes (CreateFile text) = at_entry text Refuse _ (MakeFile-changed c.tree.nodes)
+  op_changes (CreateDir text) = at_entry text Drop _ (MakeDir-changed c.tree.nodes)
+  op_changes (CreateLink text target) = at_entry text Refuse _ (λ d n. MakeLink-changed c.tree.nodes d n target)
+  op_changes (RemoveFile text) = at_entry text Refuse _ (RemoveFile-changed c.tree.nodes)
+  op_changes (RemoveDir text) = at_entry text Drop _ (RemoveDir-changed c.tree.nodes)
+  op_changes (Rename old new mode) = changes_is _
+      (onward_done (Changed c.tree.nodes) (entry_of old Drop) _ (λ from. onward_done (Changed c.tree.nodes) (entry_of new Drop) _ (λ to.
+      onward_done (Changed c.tree.nodes) (directory_of c from.dir) _ (λ d. onward_done (Changed c.tree.nodes) (directory_of c to.dir) _ (λ f.
+      refuse_by-both (IfDone (Changed c.tree.nodes)) (if from.slash || to.slash then no_directory c.tree.nodes d from.name else None) _ (λ error. tt)
+      (λ e. Rename-changed c.tree.nodes d from.name f to.name mode))))))
+  op_changes (Single step) = single_is step (is_single step)
+  op_changes (Release standing) = kept
+
+  -- ---- errors
+
+  tells_same : {A : Type 0} (reply : A → Told) (result : Result A Errno) → (tells c reply result).nodes ≡ c.tree.nodes
+  tells_same reply (Ok value) = refl
+  tells_same reply (Err error) = refl
+
+  changes_same : (result : Result (List Inode) Errno) (error : Errno) → (changes c result).reply ≡ fails error → (changes c result).nodes ≡ c.tree.nodes
+  changes_same (Ok nodes) error is = cc (is)
+  changes_same (Err cause) error is = refl
+
+  error_tells : (told : Answer) (error : Errno) → told_by told ≡ fails error → only_tells told ≡ true
+  error_tells (answer.Opened h x kind) error is = cc (is)
+  error_tells (answer.Text text) error is = refl
+  error_tells (answer.Names names) error is = refl
+  error_tells answer.NotBelow error is = refl
+  error_tells (answer.Listed names) error is = refl
+  error_tells answer.Done error is = cc (is)
+  error_tells (answer.Refused cause) error is = refl
+
+  single_same : (step : StepOf ℕ) (allowed : Bool) (error : Errno)
+      → (if allowed then steps (outcome c.tree c.actor step) else record { reply = fails Invalid; nodes = c.tree.nodes }).reply ≡ fails error
+      → (if allowed then steps (outcome c.tree c.actor step) else record { reply = fails Invalid; nodes = c.tree.nodes }).nodes ≡ c.tree.nodes
+  single_same step true error is = ap (λ (s : State). s.nodes) (telling_changes_nothing c.tree c.actor step (error_tells (outcome c.tree c.actor step).answer error is))
+  single_same step false error is = refl
+
+pub operations_keep_trees : OperationsKeepTrees
+operations_keep_trees c op is = Changed-tree is (op_changes c op)
+
+pub operations_keep_nodes : OperationsKeepNodes
+operations_keep_nodes c op = ((Changed-grows (op_changes c op)).objects, Changed-by_one (op_changes c op))
+
+pub errors_change_nothing : ErrorsChangeNothing
+errors_change_nothing c (Resolve text) error is = tells_same c _ _
+errors_change_nothing c (ResolveNoFollow text) error is = tells_same c _ _
+errors_change_nothing c (ReadLink text) error is = tells_same c _ _
+errors_change_nothing c (CreateFile text) error is = changes_same c _ error is
+errors_change_nothing c (CreateDir text) error is = changes_same c _ error is
+errors_change_nothing c (CreateLink text target) error is = changes_same c _ error is
+errors_change_nothing c (RemoveFile text) error is = changes_same c _ error is
+errors_change_nothing c (RemoveDir text) error is = changes_same c _ error is
+errors_change_nothing c (Rename old new mode) error is = changes_same c _ error is
+errors_change_nothing c (Single step) error is = single_same c step (is_single step) error is
+errors_change_nothing c (Release standing) error is = refl
