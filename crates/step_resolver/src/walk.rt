@@ -55,7 +55,7 @@ impl Model for Walk {
 pub enum Turn {
     /// It goes on: a step is due.
     More(Walk),
-    /// The object that the whole path means, with the names at which it stood when that was asked.
+    /// The object that the whole path led to, with the names at which it stood when that was asked.
     Found(Standing),
     /// The deepest directory on the way, and the caller's own parts from the first missing name on.
     Partial(Standing, Parts),
