@@ -233,15 +233,18 @@ module _ {c : WalkInHistory} (lived : Lived c) (dir : ℕ) (target : List ℕ) (
         on : (o : Object) → what ≡ o → Good c dir target b (suc t) lines (order.is_opened level above count left h (kind_of o))
         on object.Dir q = due_good c dir target b (suc t) lines (lists h) level above count left (record {
           at = at_now;
-          stage_at = (record {
-            node = x;
-            name = level.name;
-            names = (spot c dir target now level above g.at).names;
-            way = under level.name t x (suc t) (spot c dir target now level above g.at).way is.made.at there (directory q) (le_refl (suc t));
-            below = (spot c dir target now level above g.at).below;
-            is_open = new.is_open;
-            is_dir = directory q;
-          }, out);
+          stage_at = (
+            record {
+              node = x;
+              name = level.name;
+              names = (spot c dir target now level above g.at).names;
+              way = under level.name t x (suc t) (spot c dir target now level above g.at).way is.made.at there (directory q) (le_refl (suc t));
+              below = (spot c dir target now level above g.at).below;
+              is_open = new.is_open;
+              is_dir = directory q;
+            },
+            out,
+          );
           holds = holds_now;
           tally = tally;
         })
@@ -353,8 +356,10 @@ module _ {c : WalkInHistory} (lived : Lived c) (dir : ℕ) (target : List ℕ) (
       less = subst (λ s. IsLess (state_at c t) c.actor s h) (sym at.made.after) (Close-is_less (state_at c t) c.actor h)
 
       took : TookAway c dir target now → TookAway c dir target (suc t)
-      took so_far = record { each = up_to (λ k. LeavesEntries c k ⊎ TakesAway c dir target k) at.alone so_far.each
-          (inl (ap (λ s. s.nodes) at.made.after ∙ nodes_are_left (state_at c t) c.actor (Close h) refl)) }
+      took so_far = record {
+        each = up_to (λ k. LeavesEntries c k ⊎ TakesAway c dir target k) at.alone so_far.each
+            (inl (ap (λ s. s.nodes) at.made.after ∙ nodes_are_left (state_at c t) c.actor (Close h) refl));
+      }
 
       last : LastSoFar c dir target now → LastSoFar c dir target (suc t)
       last l = record {
