@@ -73,7 +73,7 @@ impl EventLog {
         }
     }
 
-    /// Gets room for that many more events. NoMemory where it was refused; the room is then as it was.
+    /// Gets room for that many more events. NoMemory where it was refused; no room is lost then.
     pub fn reserve(&mut self, more: usize) -> Result<(), NoMemory>
         ensures events { self.new.events ≡ self.old.events }
         ensures ok { OnOk result (more ≤ self.new.room) }
@@ -85,7 +85,7 @@ impl EventLog {
     }
 
     /// Gets room for the names and the text of a step. NoMemory where it was refused, or where the log would have
-    /// more than 4,294,967,295 bytes of them; the room is then as it was.
+    /// more than 4,294,967,295 bytes of them; no room is lost then.
     pub fn reserve_texts(&mut self, step: &Step) -> Result<(), NoMemory>
         ensures events { self.new.events ≡ self.old.events }
         ensures ok { OnOk result (length (step_texts step.now) ≤ self.new.text_room) }

@@ -45,6 +45,9 @@ pub(crate) struct Record {
     pub(crate) answer: AnswerShape,
 }
 
+// What an event costs beside its names and texts.
+const _: () = prove!(size_of::<Record>() == 56);
+
 impl StepShape {
     /// The shape of a step, whose names are valid.
     pub(crate) fn of(step: &Step) -> StepShape

@@ -1,5 +1,5 @@
 -- One event more in a book.
-use Rattle.std.proofs.Common.{◌≡◌, ℕ, suc, ◌+◌, ◌-◌, ◌≤◌, ◌<◌, List, [], ◌∷◌, ◌++◌, length, Option, Some, None, is_some, Bool, true, false, not, refl, sym, ap, ◌∙◌, subst, arith}
+use Rattle.std.proofs.Common.{◌≡◌, ℕ, suc, ◌+◌, ◌-◌, ◌≤◌, ◌<◌, List, [], ◌∷◌, ◌++◌, length, Option, Some, None, is_some, true, false, not, refl, sym, ap, ◌∙◌, arith}
 use Rattle.std.proofs.lemmas.Bool.{false≢true}
 use Rattle.std.proofs.lemmas.List.{length_push}
 use Rattle.tree_model.specs.declared.answer.Answer.{Answer}
@@ -8,7 +8,7 @@ use Rattle.tree_model.specs.declared.answer.Event.{Event}
 use Rattle.tree_model.specs.declared.step.StepOf.{StepOf}
 use Rattle.tree_model.specs.declared.step.StepOf.TheVariants.{Open, Dup, Parent, ReadLink, NameBelow, List as ListNames, Close, MakeDir, MakeFile, MakeLink, RemoveFile, RemoveDir, Rename}
 use Rattle.tree_model.specs.Entries.{with_some}
-use Rattle.tree_model.specs.History.{after_event, after_events, IsLegal}
+use Rattle.tree_model.specs.History.{after_events}
 use Rattle.tree_model.specs.State.{State, object_at, is_dir, names_below}
 use Rattle.tree_model.specs.declared.inode.Object.{Object}
 use Rattle.tree_model.specs.declared.inode.Object.TheVariants as object
@@ -21,7 +21,7 @@ use Rattle.tree_model.proofs.StepLaws.{telling_changes_nothing}
 use Rattle.event_log.specs.Log.{is_bare}
 use Rattle.tree_model.proofs.Counts.{handles_are_counted}
 use Rattle.tree_model.proofs.HistoryLaws.{after_events-append, legal_goes_on}
-use Rattle.race_core.specs.Book.{BookedHistory, tree_now, free_lines, booked, is_close, is_done, lines_needed, IsBook}
+use Rattle.race_core.specs.Book.{tree_now, free_lines, booked, is_close, is_done, lines_needed, IsBook}
 use Rattle.race_core.specs.BookLaws.{FreeLinesNeverRise}
 
 closed_few : (answer : Answer) (step : StepOf ℕ) → closed_count answer step ≤ 1

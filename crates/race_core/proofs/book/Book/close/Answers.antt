@@ -1,6 +1,4 @@
-use Rattle.std.proofs.Common.{◌≡◌, ◌<◌, ◌∙◌, sym, arith, true, false}
-use Rattle.std.specs.Prelude.{is_some}
-use Rattle.tree_model.specs.Steps.{held}
+use Rattle.std.proofs.Common.{◌<◌, ◌∙◌, sym, arith}
 use Rattle.race_core.proofs.Booked.{close_frees, book_closed, book_unclosed}
 use Rattle.race_core.proofs.book.Book.close.Goals as goal
 
