@@ -4,8 +4,9 @@
 //! (`rm -r`). Each asks for one step at a time and is told its answer, as a `Walk` does. Their `start`, `due` and `take`
 //! are exactly the orders of steps of `specs/MakeAllOrder.antt` and `specs/RemoveAllOrder.antt`, and each `take` leaves
 //! fewer steps to come: none that clears comes after `CLEARING_STEPS_MAX` of them.
-//! What a call of `MkdirAll` made, and what its end tells, in every legal history is the law `makes_tell`, stated in
-//! `specs/MakeAllTells.antt`; its `start` and `take` tell it themselves, by their clause `tells`.
+//! What a call did, and what its end tells, in every legal history are the laws `makes_tell` and `remove_all_tells`, stated
+//! in `specs/MakeAllTells.antt` and `specs/RemoveAllTells.antt`; `start` and `take` of `MkdirAll` tell it themselves, by
+//! their clause `tells`. The layers above use the orders of steps and these laws.
 #![tactic(auto)]
 
 mod make_all;
