@@ -18,3 +18,5 @@ pub mod RemoveAllTurnView
 pub mod RemoveAllTells
 pub mod MakeAllTells
 pub mod MakeAllTurnsTell
+pub mod MakeAllQuiet
+pub mod MakeAllWorked
