@@ -71,7 +71,8 @@ rename a .. plain -> 0 fault EINVAL
 rename a/b/x/y none/z plain -> 5 fault ENOENT
 rename a none/z plain -> * fault ENOENT";
 
-const CHANGES: &str = "create_file a/n -> 4 done, create_file a/n -> * fault EEXIST, resolve a/n -> * opened file 11 /a/n, create_file abs -> * fault EEXIST, create_file x/ -> 0 fault ENOTDIR, create_file a/b/f/x -> * fault ENOTDIR, create_dir d/ -> * done, resolve d -> * opened dir 12 /d, create_link l  -> * fault ENOENT, create_link l q -> * done, no_follow l -> * opened link 13 /l, read_link abs -> * text /a/b, read_link a -> * fault EINVAL, read_link abs/ -> * fault EINVAL, remove_file a -> * fault EISDIR, remove_dir abs -> * fault ENOTDIR, remove_dir a -> * fault ENOTEMPTY, remove_dir a/. -> 0 fault EINVAL, remove_dir / -> 0 fault EINVAL, remove_file abs -> * done, no_follow abs -> * fault ENOENT, dup 0 -> 0 fault EINVAL
+const CHANGES: &str =
+    "create_file a/n -> 4 done, create_file a/n -> * fault EEXIST, resolve a/n -> * opened file 11 /a/n, create_file abs -> * fault EEXIST, create_file x/ -> 0 fault ENOTDIR, create_file a/b/f/x -> * fault ENOTDIR, create_dir d/ -> * done, resolve d -> * opened dir 12 /d, create_link l  -> * fault ENOENT, create_link l q -> * done, no_follow l -> * opened link 13 /l, read_link abs -> * text /a/b, read_link a -> * fault EINVAL, read_link abs/ -> * fault EINVAL, remove_file a -> * fault EISDIR, remove_dir abs -> * fault ENOTDIR, remove_dir a -> * fault ENOTEMPTY, remove_dir a/. -> 0 fault EINVAL, remove_dir / -> 0 fault EINVAL, remove_file abs -> * done, no_follow abs -> * fault ENOENT, dup 0 -> 0 fault EINVAL
 create_dir none/d -> * fault ENOENT, create_dir a -> * fault EEXIST, create_dir .. -> 0 fault EINVAL
 create_link a q -> * fault EEXIST, create_link l/ q -> 0 fault ENOTDIR, create_link abs/l q -> * done, read_link a/b/l -> * text q
 remove_file none -> * fault ENOENT, remove_file a/b/f/ -> 0 fault ENOTDIR, remove_file loop/x -> * fault ELOOP
@@ -340,7 +341,10 @@ fn releases_what_is_the_owners(rt: HostRuntime) -> Result<(), Fail> {
         (OWN, true, "fault EBADF", 1),
     ] {
         let (reply, made) = released(rt.alloc(), tag, is_closed)?;
-        assert!(rt; is_reply(rt.alloc(), &reply, wanted) && made == steps, "{wanted}");
+        assert!(rt;
+            is_reply(rt.alloc(), &reply, wanted) && made == steps,
+            "{wanted}"
+        );
     }
     Ok(())
 }
