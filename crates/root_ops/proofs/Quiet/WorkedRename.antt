@@ -1,6 +1,5 @@
 -- The worked rename, computed, and what it comes to by the law.
 use Rattle.std.specs.Prelude.{refl}
-use Rattle.std.proofs.lemmas.Option.{none-some}
 use Rattle.tree_model.proofs.TreeTests.{IsState-from_test}
 use Rattle.step_resolver.proofs.DrivenWalks.{all_own}
 use Rattle.root_ops.specs.CallHistory.{IsCallInHistory, RepliesWith}
