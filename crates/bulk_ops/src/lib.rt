@@ -6,7 +6,9 @@
 //! fewer steps to come: none that clears comes after `CLEARING_STEPS_MAX` of them.
 //! What a call did, and what its end tells, in every legal history are the laws `makes_tell` and `remove_all_tells`, stated
 //! in `specs/MakeAllTells.antt` and `specs/RemoveAllTells.antt`; `start` and `take` of `MkdirAll` tell it themselves, by
-//! their clause `tells`. The layers above use the orders of steps and these laws.
+//! their clause `tells`. Where nobody else acts, `MkdirAll` ends as its path means in the tree as it stood, and makes a chain
+//! of directories: the law `quiet_makes_mean`, stated in `specs/MakeAllQuiet.antt`. The layers above use the orders of steps
+//! and these laws.
 #![tactic(auto)]
 
 mod make_all;
@@ -15,7 +17,7 @@ mod remove_all;
 mod turn;
 
 pub use make_all::MkdirAll;
-pub use make_all_laws::{makes_tell, steps_after_the_walk};
+pub use make_all_laws::{makes_tell, quiet_makes_mean, steps_after_the_walk, worked_makes};
 pub use remove_all::{CLEARING_STEPS_MAX, RemoveAll, remove_all_tells};
 pub use turn::BulkTurn;
 
