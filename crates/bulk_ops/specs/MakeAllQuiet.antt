@@ -1,6 +1,6 @@
 -- What a path means to MkdirAll in one tree that nobody else changes meanwhile: its end, and the nodes after it. It knows no
 -- steps and no handles. mkdir(2), path_resolution(7).
-use Rattle.std.specs.Prelude.{◌≡◌, ℕ, suc, List, [], ◌∷◌, ◌++◌, false, if◌then◌else◌, length, Option, Some, None}
+use Rattle.std.specs.Prelude.{◌≡◌, ◌⊎◌, ℕ, suc, List, [], ◌∷◌, ◌++◌, true, if◌then◌else◌, length, Option, Some, None}
 use Rattle.path_text.specs.declared.errno.Errno.{Errno}
 use Rattle.path_text.specs.declared.errno.Errno.TheVariants.{Raced, NotDir}
 use Rattle.tree_model.specs.declared.inode.Inode.{Inode}
@@ -53,17 +53,34 @@ IsMeantEnd before after r (gives x nodes) (made handle names) = (handle.node ≡
 IsMeantEnd before after r (refuses error) (failed told) = (told ≡ error) × (after ≡ before)
 IsMeantEnd before after r _ _ = ⊥
 
-abbrev pub IsMakeMeant : WalkInHistory → MakeMeant → MakeTurn → Type 0
-IsMakeMeant w meant end = IsMeantEnd (begin_of w).nodes (end_of w).nodes w.root meant end
+-- some of the new nodes are there, in order, and the others are left out
+pub record IsPart (before after nodes : List Inode) : Type 0 where
+  pub new : List Inode
+  pub left_out : List Inode
+  pub is_after : after ≡ before ++ new
+  pub is_whole : nodes ≡ after ++ left_out
 
--- the call is over, and not for want of memory, of room in the book or of handles
-abbrev pub IsUnwanting : MakeTurn → Type 0
-IsUnwanting (more call) = ⊥
-IsUnwanting (made handle names) = Unit {0}
-IsUnwanting (failed error) = is_want error ≡ false
+abbrev pub IsPartOf : List Inode → List Inode → MakeMeant → Type 0
+IsPartOf before after (gives x nodes) = IsPart before after nodes
+IsPartOf before after (refuses error) = after ≡ before
+
+-- Memory, room in the book or handles ran short, which is the end, and what was made is a part of what is meant.
+abbrev pub RanShort : List Inode → List Inode → MakeMeant → MakeTurn → Type 0
+RanShort before after meant (failed error) = (is_want error ≡ true) × IsPartOf before after meant
+RanShort before after meant _ = ⊥
+
+abbrev pub ComesTo : List Inode → List Inode → ℕ → MakeMeant → MakeTurn → Type 0
+ComesTo before after r meant end = IsMeantEnd before after r meant end ⊎ RanShort before after meant end
+
+-- the call is over
+abbrev pub IsOver : MakeTurn → Type 0
+IsOver (more call) = ⊥
+IsOver (made handle names) = Unit {0}
+IsOver (failed error) = Unit {0}
 
 -- Where no other actor acts in the window, the end is what the path means in the tree as the window begins, and the nodes
--- after it are those that are meant.
+-- after it are those that are meant; or something ran short.
 abbrev pub QuietMakesMean : Type 0
 QuietMakesMean = (w : WalkInHistory) (end : MakeTurn) → IsWalkInHistory w → w.way.goal ≡ Deepest → LeadsTo w.way (begins w.way w.path) w.lines end
-    → IsUnwanting end → IsQuiet w → IsMakeMeant w (make_means (begin_of w).nodes (reading_deepest (ground w) w.path)) end
+    → IsOver end → IsQuiet w
+    → ComesTo (begin_of w).nodes (end_of w).nodes w.root (make_means (begin_of w).nodes (reading_deepest (ground w) w.path)) end

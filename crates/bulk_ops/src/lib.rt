@@ -6,9 +6,9 @@
 //! fewer steps to come: none that clears comes after `CLEARING_STEPS_MAX` of them.
 //! What a call did, and what its end tells, in every legal history are the laws `makes_tell` and `remove_all_tells`, stated
 //! in `specs/MakeAllTells.antt` and `specs/RemoveAllTells.antt`; `start` and `take` of `MkdirAll` tell it themselves, by
-//! their clause `tells`. Where nobody else acts, `MkdirAll` ends as its path means in the tree as it stood, and makes a chain
-//! of directories: the law `quiet_makes_mean`, stated in `specs/MakeAllQuiet.antt`. The layers above use the orders of steps
-//! and these laws.
+//! their clause `tells`. Where nobody else acts, `MkdirAll` ends as its path means in the tree as it stood, and makes the
+//! chain of directories that is missing, or a part of it where something ran short: the law `quiet_makes_mean`, stated in
+//! `specs/MakeAllQuiet.antt`. The layers above use the orders of steps and these laws.
 #![tactic(auto)]
 
 mod make_all;

@@ -20,10 +20,11 @@ pub fn makes_tell()
     ensures { MakesTell }
 {}
 
-/// Where no other actor's event stands in the call's window and neither memory, room in a book nor handles ran short, the
-/// call's end and the nodes after it are those that the path means in the tree as the window begins: the directory that is
-/// there; `NotDir` for anything else; the first fault of the rest; `Raced` where the directory that lacks a name is gone;
-/// else a chain of new directories below it, the last of them the reply. mkdir(2), path_resolution(7).
+/// Where no other actor's event stands in the call's window, the call's end and the nodes after it are those that the path
+/// means in the tree as the window begins: the directory that is there; `NotDir` for anything else; the first fault of the
+/// rest; `Raced` where the directory that lacks a name is gone; else a chain of new directories below it, the last of them
+/// the reply, which stands at the names told. Or memory, room in a book or handles ran short, which is the error, and what
+/// was made is a part of that chain, from its first directory on. mkdir(2), path_resolution(7).
 pub fn quiet_makes_mean()
     ensures { QuietMakesMean }
 {}

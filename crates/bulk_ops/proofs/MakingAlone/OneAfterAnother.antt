@@ -24,13 +24,13 @@ use Rattle.step_resolver.specs.Order.{Way, Handle, Line, answered, no_room, not_
 use Rattle.step_resolver.specs.Footprint.{is_want}
 use Rattle.step_resolver.proofs.Underway.StepOutcomes.{IsMore, with_handle-is_more, IsLess, Close-is_less, Opening, too_many, no_object, is_opened, opening_of, OpenCase, no_dir, no_child, at_child, open_case, below_is}
 use Rattle.bulk_ops.specs.MakeAllOrder.{Making, walking, making, opening, leaving, ending, closing, MakeTurn, more, made, failed, gives_up, goes_down, take, due, is_closing, LeadsTo}
-use Rattle.bulk_ops.specs.MakeAllQuiet.{chain_of, last_of, MakeMeant, refuses, gives, rest_means, IsMeantEnd, IsUnwanting}
+use Rattle.bulk_ops.specs.MakeAllQuiet.{chain_of, last_of, MakeMeant, refuses, gives, rest_means, IsMeantEnd, IsPartOf, ComesTo, IsOver}
 use Rattle.bulk_ops.proofs.MakingAlone.NewDirectories.{length-one_more, dir_stays, stands_on, with_new, new_inode, new_is_dir, new_not_gone, new_is_found, new_is_empty, new_stands, NewCase, dir_gone, no_number, is_new, new_case}
 
 -- ---- what is known
 
--- a directory below the root is open beside the root's own handle
-pub record Ready (s : State) (a : ℕ) (way : Way) (r : ℕ) (held : Handle) (names : List (List ℕ)) : Type 0 where
+-- a directory below the root is open beside the root's own handle, and nodes were only added
+pub record Ready (s : State) (a : ℕ) (way : Way) (r : ℕ) (base : List Inode) (held : Handle) (names : List (List ℕ)) : Type 0 where
   pub tree : IsState s
   pub root : holding s a way.root ≡ Some r
   pub root_dir : is_dir s.nodes r ≡ true
@@ -38,6 +38,8 @@ pub record Ready (s : State) (a : ℕ) (way : Way) (r : ℕ) (held : Handle) (na
   pub dir : is_dir s.nodes held.node ≡ true
   pub stands : Stands s.nodes r held.node names
   pub apart : held.number ≢ way.root
+  pub new : List Inode
+  pub grown : s.nodes ≡ base ++ new
 
 -- a directory without entries, in which these names are still to be made
 pub record Fresh (nodes : List Inode) (meant : MakeMeant) (c : ℕ) (left : List (List ℕ)) : Type 0 where
@@ -58,9 +60,14 @@ pub record Lacks (nodes base : List Inode) (meant : MakeMeant) (d : ℕ) (n : Li
   pub goal : meant ≡ rest_means nodes d None (n ∷ left)
   pub none_made : is_gone nodes d ≡ true → nodes ≡ base
 
--- it is a want; or that error is meant, and nothing was made
+-- it is a want, and some of what is meant was made; or that error is meant, and nothing was made
 abbrev pub Fails : List Inode → List Inode → MakeMeant → Errno → Type 0
-Fails nodes base meant error = (is_want error ≡ true) ⊎ ((meant ≡ refuses error) × (nodes ≡ base))
+Fails nodes base meant error = ((is_want error ≡ true) × IsPartOf base nodes meant) ⊎ ((meant ≡ refuses error) × (nodes ≡ base))
+
+-- what is still to be added is left out
+part_left : (base nodes new left : List Inode) (x : ℕ) (meant : MakeMeant) → nodes ≡ base ++ new → meant ≡ gives x (nodes ++ left) → IsPartOf base nodes meant
+part_left base nodes new left x meant grown goal =
+    subst (IsPartOf base nodes) (sym goal) (record { new = new; left_out = left; is_after = grown; is_whole = refl })
 
 is_some_other : (s : State) (a h k x : ℕ) → holding s a h ≡ None → holding s a k ≡ Some x → k ≢ h
 is_some_other s a h k x none some e = none-some x (sym none ∙ ap (λ j. holding s a j) (sym e) ∙ some)
@@ -68,10 +75,10 @@ is_some_other s a h k x none some e = none-some x (sym none ∙ ap (λ j. holdin
 module _ (a : ℕ) (way : Way) (r : ℕ) (base : List Inode) (meant : MakeMeant) where
   abbrev pub GoodCall : State → Making → Type 0
   GoodCall s (walking walker) = ⊥
-  GoodCall s (making held names n left) = Ready s a way r held names × Lacks s.nodes base meant held.node n left
-  GoodCall s (opening held names n left) = Ready s a way r held names × ((c : ℕ) × JustMade s.nodes meant r held.node names n left c)
-  GoodCall s (leaving old new names left) = Ready s a way r new names × (Fresh s.nodes meant new.node left × ((old ≢ new.number) × (old ≢ way.root)))
-  GoodCall s (ending held names) = Ready s a way r held names × (meant ≡ gives held.node s.nodes)
+  GoodCall s (making held names n left) = Ready s a way r base held names × Lacks s.nodes base meant held.node n left
+  GoodCall s (opening held names n left) = Ready s a way r base held names × ((c : ℕ) × JustMade s.nodes meant r held.node names n left c)
+  GoodCall s (leaving old new names left) = Ready s a way r base new names × (Fresh s.nodes meant new.node left × ((old ≢ new.number) × (old ≢ way.root)))
+  GoodCall s (ending held names) = Ready s a way r base held names × (meant ≡ gives held.node s.nodes)
   GoodCall s (closing h hs error) = Fails s.nodes base meant error
 
   abbrev pub GoodTurn : State → MakeTurn → Type 0
@@ -87,7 +94,7 @@ module _ (a : ℕ) (way : Way) (r : ℕ) (base : List Inode) (meant : MakeMeant)
   goal_with : List Inode → ℕ → List (List ℕ) → Bool → MakeMeant
   goal_with nodes d names b = if b then refuses Raced else gives (last_of (length nodes) d names) (nodes ++ chain_of (length nodes) d names)
 
-  goes_down_good : (s : State) (held : Handle) (names left : List (List ℕ)) → Ready s a way r held names → Fresh s.nodes meant held.node left
+  goes_down_good : (s : State) (held : Handle) (names left : List (List ℕ)) → Ready s a way r base held names → Fresh s.nodes meant held.node left
       → GoodTurn s (goes_down held names left)
   unfolding goal_with
   goes_down_good s held names [] ready fresh = (ready, fresh.goal ∙ ap (gives held.node) (append-nil s.nodes))
@@ -100,6 +107,33 @@ module _ (a : ℕ) (way : Way) (r : ℕ) (base : List Inode) (meant : MakeMeant)
     },
   )
 
+  -- what was made so far is a part of what is meant
+  lacks_part : (s : State) (held : Handle) (names : List (List ℕ)) (n : List ℕ) (left : List (List ℕ)) → Ready s a way r base held names
+      → Lacks s.nodes base meant held.node n left → IsPartOf base s.nodes meant
+  unfolding goal_with
+  lacks_part s held names n left ready lacks = on (is_gone s.nodes held.node) refl
+    where
+      goal_is : (b : Bool) → is_gone s.nodes held.node ≡ b → meant ≡ goal_with s.nodes held.node (n ∷ left) b
+      goal_is b e = lacks.goal ∙ ap (goal_with s.nodes held.node (n ∷ left)) e
+
+      on : (b : Bool) → is_gone s.nodes held.node ≡ b → IsPartOf base s.nodes meant
+      on true e = subst (IsPartOf base s.nodes) (sym (goal_is true e)) (lacks.none_made e)
+      on false e = part_left base s.nodes ready.new (chain_of (length s.nodes) held.node (n ∷ left)) (last_of (length s.nodes) held.node (n ∷ left)) meant ready.grown (goal_is false e)
+
+  fresh_part : (s : State) (held : Handle) (names : List (List ℕ)) (c : ℕ) (left : List (List ℕ)) → Ready s a way r base held names
+      → Fresh s.nodes meant c left → IsPartOf base s.nodes meant
+  fresh_part s held names c left ready fresh =
+      part_left base s.nodes ready.new (chain_of (length s.nodes) c left) (last_of (length s.nodes) c left) meant ready.grown fresh.goal
+
+  part_so_far : (s : State) (call : Making) → is_closing call ≡ false → GoodCall s call → IsPartOf base s.nodes meant
+  part_so_far s (walking walker) e good = absurd good
+  part_so_far s (making held names n left) e good = lacks_part s held names n left good.0 good.1
+  part_so_far s (opening held names n left) e good = fresh_part s held names good.1.0 left good.0 good.1.1.fresh
+  part_so_far s (leaving old new names left) e good = fresh_part s new names new.node left good.0 good.1.0
+  part_so_far s (ending held names) e good =
+      part_left base s.nodes good.0.new [] held.node meant good.0.grown (good.1 ∙ ap (gives held.node) (sym (append-nil s.nodes)))
+  part_so_far s (closing h hs error) e good = absurd (true≢false e)
+
   -- an outcome and what the call makes of its answer
   abbrev Onward : Bool → Making → Outcome → Type 0
   Onward room call o = IsState o.after → GoodTurn o.after (take way room call o.answer)
@@ -107,7 +141,7 @@ module _ (a : ℕ) (way : Way) (r : ℕ) (base : List Inode) (meant : MakeMeant)
   -- ---- MakeDir
 
   module _ (s : State) (held : Handle) (names : List (List ℕ)) (n : List ℕ) (left : List (List ℕ)) (room : Bool)
-      (ready : Ready s a way r held names) (lacks : Lacks s.nodes base meant held.node n left) where
+      (ready : Ready s a way r base held names) (lacks : Lacks s.nodes base meant held.node n left) where
     abbrev after_new : State
     after_new = record { nodes = with_new s.nodes ready.tree.tree held.node n ready.dir; handles = s.handles }
 
@@ -132,6 +166,8 @@ module _ (a : ℕ) (way : Way) (r : ℕ) (base : List Inode) (meant : MakeMeant)
         dir = dir_stays s.nodes _ held.node ready.dir;
         stands = stands_on s.nodes _ r held.node names ready.stands;
         apart = ready.apart;
+        new = ready.new ++ new_inode s.nodes ready.tree.tree held.node n ready.dir ∷ [];
+        grown = ap (λ ns. ns ++ new_inode s.nodes ready.tree.tree held.node n ready.dir ∷ []) ready.grown ∙ append_assoc base ready.new (new_inode s.nodes ready.tree.tree held.node n ready.dir ∷ []);
       },
       (
         k,
@@ -152,7 +188,7 @@ module _ (a : ℕ) (way : Way) (r : ℕ) (base : List Inode) (meant : MakeMeant)
     unfolding goal_with
     on_new (dir_gone g o) = subst (Onward room (making held names n left)) (sym o)
         (λ tree. inr (lacks.goal ∙ ap (goal_with s.nodes held.node (n ∷ left)) g, lacks.none_made g))
-    on_new (no_number o) = subst (Onward room (making held names n left)) (sym o) (λ tree. inl refl)
+    on_new (no_number o) = subst (Onward room (making held names n left)) (sym o) (λ tree. inl (refl, lacks_part s held names n left ready lacks))
     on_new (is_new g o) = subst (Onward room (making held names n left)) (sym o) (λ tree. made_now g tree)
 
     making_good : Onward room (making held names n left) (outcome s a (MakeDir held.number n))
@@ -161,7 +197,7 @@ module _ (a : ℕ) (way : Way) (r : ℕ) (base : List Inode) (meant : MakeMeant)
   -- ---- Open
 
   module _ (s : State) (held : Handle) (names : List (List ℕ)) (n : List ℕ) (left : List (List ℕ)) (room : Bool)
-      (ready : Ready s a way r held names) (c : ℕ) (just : JustMade s.nodes meant r held.node names n left c) where
+      (ready : Ready s a way r base held names) (c : ℕ) (just : JustMade s.nodes meant r held.node names n left c) where
     abbrev new_number : ℕ
     new_number = length s.handles
 
@@ -178,6 +214,8 @@ module _ (a : ℕ) (way : Way) (r : ℕ) (base : List Inode) (meant : MakeMeant)
             dir = ap is_directory just.dir;
             stands = just.stands;
             apart = λ e. root_other (sym e);
+            new = ready.new;
+            grown = ready.grown;
           },
           (just.fresh, (is_some_other s a new_number held.number held.node one_more.fresh ready.is_open, ready.apart)),
         )
@@ -187,7 +225,7 @@ module _ (a : ℕ) (way : Way) (r : ℕ) (base : List Inode) (meant : MakeMeant)
 
     on_opening : (x : ℕ) → x ≡ c → outcome s a (Open held.number n) ≡ opens s a x → Opening s a x (opens s a x)
         → Onward room (opening held names n left) (outcome s a (Open held.number n))
-    on_opening x e o (too_many f q) = subst (Onward room (opening held names n left)) (sym (o ∙ q)) (λ tree. inl refl)
+    on_opening x e o (too_many f q) = subst (Onward room (opening held names n left)) (sym (o ∙ q)) (λ tree. inl (refl, fresh_part s held names c left ready just.fresh))
     on_opening x e o (no_object z q) = absurd (none-some Dir (sym z ∙ ap (object_at s.nodes) e ∙ just.dir))
     on_opening x e o (is_opened what z q) =
         let same : what ≡ Dir = same_Some what Dir (sym z ∙ ap (object_at s.nodes) e ∙ just.dir) in
@@ -214,12 +252,14 @@ module _ (a : ℕ) (way : Way) (r : ℕ) (base : List Inode) (meant : MakeMeant)
         dir = ap (λ ns. is_dir ns new.node) same ∙ ready.dir;
         stands = subst (λ ns. Stands ns r new.node names) (sym same) ready.stands;
         apart = ready.apart;
+        new = ready.new;
+        grown = same ∙ ready.grown;
       })
       (subst (λ ns. Fresh ns meant new.node left) (sym same) fresh)
 
   -- ---- NameBelow
 
-  ended_now : (s : State) (held : Handle) (names : List (List ℕ)) (room : Bool) → Ready s a way r held names → meant ≡ gives held.node s.nodes
+  ended_now : (s : State) (held : Handle) (names : List (List ℕ)) (room : Bool) → Ready s a way r base held names → meant ≡ gives held.node s.nodes
       → Onward room (ending held names) (outcome s a (NameBelow way.root held.number))
   ended_now s held names room ready goal =
       subst (Onward room (ending held names))
@@ -251,18 +291,18 @@ module _ (a : ℕ) (way : Way) (r : ℕ) (base : List Inode) (meant : MakeMeant)
   -- a step that isn't made is a want
   unmade_memory : (s : State) (call : Making) → is_closing call ≡ false → GoodCall s call → GoodTurn s (take way true call (Refused NoMemory))
   unmade_memory s (walking walker) e good = absurd good
-  unmade_memory s (making held names n left) e good = inl refl
-  unmade_memory s (opening held names n left) e good = inl refl
+  unmade_memory s (making held names n left) e good = inl (refl, part_so_far s (making held names n left) e good)
+  unmade_memory s (opening held names n left) e good = inl (refl, part_so_far s (opening held names n left) e good)
   unmade_memory s (leaving old new names left) e good = absurd (true≢false e)
-  unmade_memory s (ending held names) e good = inl refl
+  unmade_memory s (ending held names) e good = inl (refl, part_so_far s (ending held names) e good)
   unmade_memory s (closing h hs error) e good = absurd (true≢false e)
 
   unmade_book : (s : State) (call : Making) → is_closing call ≡ false → GoodCall s call → GoodTurn s (take way true call (Refused BookFull))
   unmade_book s (walking walker) e good = absurd good
-  unmade_book s (making held names n left) e good = inl refl
-  unmade_book s (opening held names n left) e good = inl refl
+  unmade_book s (making held names n left) e good = inl (refl, part_so_far s (making held names n left) e good)
+  unmade_book s (opening held names n left) e good = inl (refl, part_so_far s (opening held names n left) e good)
   unmade_book s (leaving old new names left) e good = absurd (true≢false e)
-  unmade_book s (ending held names) e good = inl refl
+  unmade_book s (ending held names) e good = inl (refl, part_so_far s (ending held names) e good)
   unmade_book s (closing h hs error) e good = absurd (true≢false e)
 
   unmade_good : (s : State) (error : Errno) → IsWant error → (call : Making) → is_closing call ≡ false → GoodCall s call → GoodTurn s (take way true call (Refused error))
@@ -283,12 +323,12 @@ module _ (a : ℕ) (way : Way) (r : ℕ) (base : List Inode) (meant : MakeMeant)
 
   -- ---- the end
 
-  end_meant : (t : State) (end : MakeTurn) → IsUnwanting end → GoodTurn t end → IsMeantEnd base t.nodes r meant end
+  end_meant : (t : State) (end : MakeTurn) → IsOver end → GoodTurn t end → ComesTo base t.nodes r meant end
   end_meant t (more call) over good = absurd over
-  end_meant t (made handle names) over good = subst (λ m. IsMeantEnd base t.nodes r m (made handle names)) (sym good.0) (refl, (refl, good.1))
-  end_meant t (failed error) over (inl want) = absurd (false≢true (sym over ∙ want))
-  end_meant t (failed error) over (inr is) = subst (λ m. IsMeantEnd base t.nodes r m (failed error)) (sym is.0) (refl, is.1)
+  end_meant t (made handle names) over good = inl (subst (λ m. IsMeantEnd base t.nodes r m (made handle names)) (sym good.0) (refl, (refl, good.1)))
+  end_meant t (failed error) over (inl short) = inr short
+  end_meant t (failed error) over (inr is) = inl (subst (λ m. IsMeantEnd base t.nodes r m (failed error)) (sym is.0) (refl, is.1))
 
   pub makes_on : (lines : List Line) (s : State) (turn end : MakeTurn) → GoodTurn s turn → LeadsTo way turn lines end → IsLegal s (events_of a lines)
-      → IsUnwanting end → IsMeantEnd base (after_events s (events_of a lines)).nodes r meant end
+      → IsOver end → ComesTo base (after_events s (events_of a lines)).nodes r meant end
   makes_on lines s turn end good leads legal over = end_meant (after_events s (events_of a lines)) end over (lines_good lines s turn end good leads legal)

@@ -1,9 +1,9 @@
 -- The call's walk, where nobody else acts: the lines are those of the walk and the rest, and the walk ends with what its path
 -- means; and so the whole call.
-use Rattle.std.proofs.Common.{◌≡◌, ◌≢◌, inl, inr, ℕ, zero, suc, Bool, true, false, cond, if◌then◌else◌, List, [], ◌∷◌, ◌++◌, Option, Some, None, slice_get, refl, sym, ap, ◌∙◌, subst, eq-eqb}
+use Rattle.std.proofs.Common.{◌≡◌, ◌≢◌, inl, inr, ℕ, zero, suc, Bool, true, false, cond, if◌then◌else◌, List, [], ◌∷◌, ◌++◌, Option, Some, None, slice_get, length, append-nil, refl, sym, ap, ◌∙◌, subst, eq-eqb}
 use Rattle.std.proofs.lemmas.Option.{none-some, same_Some}
 use Rattle.path_text.specs.declared.errno.Errno.{Errno}
-use Rattle.path_text.specs.declared.errno.Errno.TheVariants.{CrossRoot, NotDir}
+use Rattle.path_text.specs.declared.errno.Errno.TheVariants.{Raced, CrossRoot, NotDir}
 use Rattle.path_text.specs.Reading.{Reading}
 use Rattle.tree_model.specs.declared.answer.Answer.TheVariants.{Refused}
 use Rattle.tree_model.specs.declared.answer.Event.{Event}
@@ -11,11 +11,13 @@ use Rattle.tree_model.specs.declared.inode.Inode.{Inode}
 use Rattle.tree_model.specs.declared.inode.Object.{Object}
 use Rattle.tree_model.specs.declared.inode.Object.TheVariants.{Dir, File, Link}
 use Rattle.tree_model.specs.declared.inode.Place.{Place}
-use Rattle.tree_model.specs.State.{State, Stands, child, is_dir, is_directory}
+use Rattle.tree_model.specs.State.{State, Stands, child, is_dir, is_directory, is_gone}
 use Rattle.tree_model.specs.Steps.{held as holding}
 use Rattle.tree_model.specs.Steps.{kind_of}
 use Rattle.tree_model.specs.Trees.{IsState}
-use Rattle.tree_model.specs.History.{IsLegal, after_events}
+use Rattle.tree_model.specs.History.{IsLegal, after_event, after_events}
+use Rattle.tree_model.proofs.StepLaws.{nodes_are_left}
+use Rattle.step_resolver.proofs.Ends.EntriesLeftAlone.{AllTell, lines_only_tell}
 use Rattle.tree_model.proofs.HistoryLaws.{legal_histories_join, histories_keep_trees}
 use Rattle.walk_plan.specs.declared.goal.Goal.TheVariants.{Deepest}
 use Rattle.walk_plan.specs.Plan.{leads_out}
@@ -33,7 +35,7 @@ use Rattle.step_resolver.proofs.Meaning.Deepest.{Missing, missing_parts, deepest
 use Rattle.step_resolver.proofs.Ends.EveryWalk.{walks_tell}
 use Rattle.step_resolver.proofs.Ends.WalksMean.{quiet_walks_mean}
 use Rattle.bulk_ops.specs.MakeAllOrder.{MakeTurn, made, begins, rest_fault, rest_names, gives_up, goes_down, begins_to_make, after_walk, LeadsTo}
-use Rattle.bulk_ops.specs.MakeAllQuiet.{MakeMeant, refuses, gives, rest_means, make_means, IsMeantEnd, IsUnwanting, QuietMakesMean}
+use Rattle.bulk_ops.specs.MakeAllQuiet.{MakeMeant, refuses, gives, chain_of, last_of, rest_means, make_means, IsPartOf, ComesTo, IsOver, QuietMakesMean}
 use Rattle.bulk_ops.proofs.MakingAlone.OneAfterAnother.{Ready, Fails, GoodTurn, makes_on}
 
 -- ---- the lines of the walk, and the rest
@@ -63,9 +65,9 @@ one_more way turn onward line lines end leads split = record {
   onward = split.onward;
 }
 
-split_lines : (way : Way) (room : Bool) (turn : walk.Turn) (lines : List Line) (end : MakeTurn) → IsUnwanting end
+split_lines : (way : Way) (room : Bool) (turn : walk.Turn) (lines : List Line) (end : MakeTurn) → IsOver end
     → LeadsTo way (after_walk room turn) lines end → Split way turn lines end
-split_lines way room (walk.more walker) [] end over leads = absurd (subst IsUnwanting (sym leads) over)
+split_lines way room (walk.more walker) [] end over leads = absurd (subst IsOver (sym leads) over)
 split_lines way room (walk.more walker) (answered step answer ∷ lines) end over leads =
     one_more way (walk.more walker) (walk.take way true walker answer) (answered step answer) lines end (λ first walked led. (leads.0, led))
     (split_lines way true (walk.take way true walker answer) lines end over leads.1)
@@ -152,6 +154,32 @@ partial_means g path (up_to x b others reads) e handle names rest is = record {
 }
 partial_means g path (none error reads) e handle names rest is = absurd is
 
+-- nothing of it was made yet
+nothing_made : (nodes : List Inode) (deep : Deep) → IsPartOf nodes nodes (make_means nodes deep)
+nothing_made nodes (whole x b reads) = on (is_dir nodes x)
+  where
+    on : (t : Bool) → IsPartOf nodes nodes (if t then gives x nodes else refuses NotDir)
+    on true = record { new = []; left_out = []; is_after = sym (append-nil nodes); is_whole = sym (append-nil nodes) }
+    on false = refl
+nothing_made nodes (up_to x b rest reads) = on (rest_fault rest)
+  where
+    gone_or : Bool → MakeMeant
+    gone_or t = if t then refuses Raced else gives (last_of (length nodes) x (rest_names rest)) (nodes ++ chain_of (length nodes) x (rest_names rest))
+
+    by_gone : (t : Bool) → IsPartOf nodes nodes (gone_or t)
+    by_gone true = refl
+    by_gone false = record { new = []; left_out = chain_of (length nodes) x (rest_names rest); is_after = sym (append-nil nodes); is_whole = refl }
+
+    on : (f : Option Errno) → IsPartOf nodes nodes (rest_means nodes x f (rest_names rest))
+    on (Some fault) = refl
+    on None = by_gone (is_gone nodes x)
+nothing_made nodes (none error reads) = refl
+
+telling_leaves : (s : State) (events : List Event) → AllTell events → (after_events s events).nodes ≡ s.nodes
+telling_leaves s [] tells = refl
+telling_leaves s (event ∷ events) tells =
+    telling_leaves (after_event s event) events tells.1 ∙ nodes_are_left s event.actor event.step tells.0
+
 -- ---- the end of the walk, and on from there
 
 module _ (s : State) (a r : ℕ) (way : Way) (path : Reading) (tree : IsState s) (root : holding s a way.root ≡ Some r)
@@ -202,7 +230,7 @@ module _ (s : State) (a r : ℕ) (way : Way) (path : Reading) (tree : IsState s)
     root_apart handle new e = none-some r (sym new.fresh ∙ ap (λ h. holding s a h) e ∙ root)
 
     ready_then : (handle : Handle) (names : List (List ℕ)) → IsNewHandle walk_here handle → t.nodes ≡ s.nodes → is_dir s.nodes handle.node ≡ true
-        → Stands s.nodes r handle.node names → Ready t a way r handle names
+        → Stands s.nodes r handle.node names → Ready t a way r s.nodes handle names
     ready_then handle names new same dir stands = record {
       tree = (histories_keep_trees s (events_of a lines) tree).0;
       root = new.others way.root (λ e. root_apart handle new (sym e)) ∙ root;
@@ -211,7 +239,12 @@ module _ (s : State) (a r : ℕ) (way : Way) (path : Reading) (tree : IsState s)
       dir = ap (λ ns. is_dir ns handle.node) same ∙ dir;
       stands = subst (λ ns. Stands ns r handle.node names) (sym same) stands;
       apart = root_apart handle new;
+      new = [];
+      grown = same ∙ sym (append-nil s.nodes);
     }
+
+    not_begun : t.nodes ≡ s.nodes → IsPartOf s.nodes t.nodes meant
+    not_begun same = subst (λ ns. IsPartOf s.nodes ns meant) (sym same) (nothing_made s.nodes (reading_deepest ground_here path))
 
     -- an object at the end
     found_good : (room : Bool) (handle : Handle) (names : List (List ℕ)) → walk.LeadsTo way (walk.begins way path) lines (walk.found handle names)
@@ -257,7 +290,7 @@ module _ (s : State) (a r : ℕ) (way : Way) (path : Reading) (tree : IsState s)
         lacks : Missing ground_here handle.node is.first.name
         lacks = missing_parts ground_here handle.node is.first.follow is.first.name is.first.missing
 
-        ready : Ready t a way r handle names
+        ready : Ready t a way r s.nodes handle names
         ready = ready_then handle names new q.nodes lacks.dir q.names
 
         goal : (f : Option Errno) → rest_fault rest ≡ f → meant ≡ rest_means t.nodes handle.node f (rest_names rest)
@@ -276,14 +309,14 @@ module _ (s : State) (a r : ℕ) (way : Way) (path : Reading) (tree : IsState s)
         on : (room : Bool) (f : Option Errno) → rest_fault rest ≡ f → GoodTurn a way r s.nodes meant t (begins_to_make room handle names rest f)
         on room (Some fault) e = inr (goal (Some fault) e, q.nodes)
         on true None e = goes e
-        on false None e = inl refl
+        on false None e = inl (refl, not_begun q.nodes)
 
     failed_good : (room : Bool) (error : Errno) → walk.LeadsTo way (walk.begins way path) lines (walk.failed error)
         → GoodTurn a way r s.nodes meant t (after_walk room (walk.failed error))
     failed_good room error led = on (is_want error) refl
       where
         on : (b : Bool) → is_want error ≡ b → Fails t.nodes s.nodes meant error
-        on true e = inl e
+        on true e = inl (e, not_begun (telling_leaves s (events_of a lines) (lines_only_tell a way lines (walk.begins way path) (walk.failed error) led)))
         on false e =
             let q : IsQuietEnd walk_here (walk.failed error) = quiet (walk.failed error) tt led e in
             inr (failed_means s.nodes (reading_deepest ground_here path) error (q.deepest deep_here), q.nodes)
@@ -296,14 +329,14 @@ module _ (s : State) (a r : ℕ) (way : Way) (path : Reading) (tree : IsState s)
     walked_good room (walk.failed error) over led = failed_good room error led
 
   -- the whole call, alone
-  alone : (lines : List Line) (end : MakeTurn) → IsUnwanting end → LeadsTo way (begins way path) lines end → IsLegal s (events_of a lines)
-      → IsMeantEnd s.nodes (after_events s (events_of a lines)).nodes r meant end
+  alone : (lines : List Line) (end : MakeTurn) → IsOver end → LeadsTo way (begins way path) lines end → IsLegal s (events_of a lines)
+      → ComesTo s.nodes (after_events s (events_of a lines)).nodes r meant end
   alone lines end over leads legal =
       let split : Split way (walk.begins way path) lines end = split_lines way true (walk.begins way path) lines end over leads in
       let same = ap (events_of a) split.joined ∙ joined_events a split.first split.rest in
       let both = legal_histories_join s (events_of a split.first) (events_of a split.rest) in
       let cut = both.0.0 (subst (IsLegal s) same legal) in
-      subst (λ (u : State). IsMeantEnd s.nodes u.nodes r meant end) (sym (ap (after_events s) same ∙ both.1))
+      subst (λ (u : State). ComesTo s.nodes u.nodes r meant end) (sym (ap (after_events s) same ∙ both.1))
       (makes_on a way r s.nodes meant split.rest (after_events s (events_of a split.first)) (after_walk split.room split.walked) end
       (walked_good split.first cut.0 split.room split.walked split.over split.led) split.onward cut.1 over)
 
@@ -318,6 +351,6 @@ own_all a (event ∷ events) own =
 pub quiet_makes_mean : QuietMakesMean
 quiet_makes_mean w end is goal leads over quiet =
     let same = sym (own_all w.actor w.window quiet) ∙ is.own in
-    subst (λ events. IsMeantEnd (begin_of w).nodes (after_events (begin_of w) events).nodes w.root (make_means (begin_of w).nodes (reading_deepest (ground w) w.path)) end) (sym same)
+    subst (λ events. ComesTo (begin_of w).nodes (after_events (begin_of w) events).nodes w.root (make_means (begin_of w).nodes (reading_deepest (ground w) w.path)) end) (sym same)
     (alone (begin_of w) w.actor w.root w.way w.path (histories_keep_trees w.opening w.before is.tree).0 is.root is.root_is_dir goal w.lines end over leads
     (subst (IsLegal (begin_of w)) same is.legal))
