@@ -3,3 +3,4 @@ pub mod NewDirectories
 pub mod OneAfterAnother
 pub mod WalkFirst
 pub mod WorkedMakes
+pub mod WorkedCall

@@ -20,3 +20,4 @@ pub mod MakeAllTells
 pub mod MakeAllTurnsTell
 pub mod MakeAllQuiet
 pub mod MakeAllWorked
+pub mod MakeAllQuietWorked

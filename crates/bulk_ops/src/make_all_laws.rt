@@ -3,6 +3,7 @@ ghost use Rattle.bulk_ops.specs.MakeAllTells.{MakesTell};
 ghost use Rattle.bulk_ops.specs.MakeAllSteps.{StepsAfterTheWalk};
 ghost use Rattle.bulk_ops.specs.MakeAllQuiet.{QuietMakesMean};
 ghost use Rattle.bulk_ops.specs.MakeAllWorked.{MakesAreWorked};
+ghost use Rattle.bulk_ops.specs.MakeAllQuietWorked.{MakeIsWorked};
 
 /// After its walk a call takes at most three steps for each part of the rest of the path, and two more; and one where the
 /// walk found what the whole path means.
@@ -32,4 +33,9 @@ pub fn quiet_makes_mean()
 /// What the definition comes to on a small tree.
 pub fn worked_makes()
     ensures { MakesAreWorked }
+{}
+
+/// One call where nobody else acts, with its ten steps, computed: what it ends with, and the nodes then.
+pub fn worked_make_call()
+    ensures { MakeIsWorked }
 {}

@@ -85,7 +85,7 @@ split_lines way room (walk.failed error) lines end over leads =
     record { first = []; rest = lines; joined = refl; walked = walk.failed error; over = tt; led = refl; room = room; onward = leads }
 
 -- each event is the actor's
-by_own : (a : ℕ) (lines : List Line) (t : ℕ) (event : Event) → slice_get (events_of a lines) t ≡ Some event → event.actor ≡ a
+pub by_own : (a : ℕ) (lines : List Line) (t : ℕ) (event : Event) → slice_get (events_of a lines) t ≡ Some event → event.actor ≡ a
 by_own a [] t event e = absurd (none-some event e)
 by_own a (answered step answer ∷ lines) zero event e = sym (ap (λ (v : Event). v.actor) (same_Some _ event e))
 by_own a (answered step answer ∷ lines) (suc t) event e = by_own a lines t event e
