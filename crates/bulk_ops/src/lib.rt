@@ -17,7 +17,9 @@ mod remove_all;
 mod turn;
 
 pub use make_all::MkdirAll;
-pub use make_all_laws::{makes_tell, quiet_makes_mean, steps_after_the_walk, worked_make_call, worked_makes};
+pub use make_all_laws::{
+    makes_tell, quiet_makes_mean, steps_after_the_walk, worked_make_call, worked_makes,
+};
 pub use remove_all::{CLEARING_STEPS_MAX, RemoveAll, remove_all_tells};
 pub use turn::BulkTurn;
 
