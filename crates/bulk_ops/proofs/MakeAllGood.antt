@@ -20,10 +20,11 @@ use Rattle.step_resolver.specs.Trail.{Spot}
 use Rattle.step_resolver.specs.Order.{Handle, is_dir_kind}
 use Rattle.step_resolver.specs.WalkHistory.{WalkInHistory, state_at, timeline}
 use Rattle.step_resolver.specs.Headline.{StoodAt}
+use Rattle.handles.proofs.SameNames.{same_where_equal}
 use Rattle.step_resolver.proofs.Meaning.NodesAtEntries.{names_below-stands}
 use Rattle.step_resolver.proofs.Underway.StepOutcomes.{below_is}
 use Rattle.step_resolver.proofs.Underway.WalkInvariant.{Lived, StepAt, held_at, HandlesAre, IsHeld, held_kept, GoodWalk, FoundAt}
-use Rattle.step_resolver.proofs.Underway.AfterParent.{names_same, same_same, reversed_same}
+use Rattle.step_resolver.proofs.Underway.AfterParent.{names_same, reversed_same}
 use Rattle.step_resolver.proofs.Underway.HandlesHeld.{kept_on}
 use Rattle.bulk_ops.specs.MakeAllOrder.{Making, walking, making, opening, leaving, ending, closing, MakeTurn, more, made, failed, rest_fault, rest_names, gives_up, goes_down}
 use Rattle.bulk_ops.specs.MakeAllTells.{Down, DeepestAt, start_of, LeavesNodes, Reach, not_begun, begun, MayDo, Cause}
@@ -227,7 +228,7 @@ module _ {w : WalkInHistory} (lived : Lived w) (m u h node : ℕ) (names : List 
       on_test told q true e = stands_there (reverse told) (answer_is (Some told) q) e
           (names_below-stands (state_at w u).nodes w.root node names (q ∙ ap Some (reversed_same told names (names_same (reverse told) (reverse names) e))))
       on_test told q false e = stands_elsewhere (reverse told) (answer_is (Some told) q) e
-          (λ stands. false≢true (sym e ∙ same_same (reverse told) (reverse names) (ap reverse (same_Some told names (sym q ∙ lived.below u node names stands)))))
+          (λ stands. false≢true (sym e ∙ same_where_equal (reverse told) (reverse names) (ap reverse (same_Some told names (sym q ∙ lived.below u node names stands)))))
 
       on_told : (o : Option (List (List ℕ))) → names_below (state_at w u).nodes w.root node ≡ o → BelowCase w u node names answer
       on_told None q = stands_nowhere (answer_is None q) (λ stands. none-some names (sym q ∙ lived.below u node names stands))
