@@ -16,5 +16,6 @@ pub mod RemoveAllOrder
 pub mod RemoveAllView
 pub mod RemoveAllTurnView
 pub mod RemoveAllTells
+pub mod RemoveAllTurnsTell
 pub mod MakeAllTells
 pub mod MakeAllTurnsTell

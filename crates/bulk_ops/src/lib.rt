@@ -5,8 +5,8 @@
 //! are exactly the orders of steps of `specs/MakeAllOrder.antt` and `specs/RemoveAllOrder.antt`, and each `take` leaves
 //! fewer steps to come: none that clears comes after `CLEARING_STEPS_MAX` of them.
 //! What a call did, and what its end tells, in every legal history are the laws `makes_tell` and `remove_all_tells`, stated
-//! in `specs/MakeAllTells.antt` and `specs/RemoveAllTells.antt`; `start` and `take` of `MkdirAll` tell it themselves, by
-//! their clause `tells`. The layers above use the orders of steps and these laws.
+//! in `specs/MakeAllTells.antt` and `specs/RemoveAllTells.antt`; `start` and `take` tell it themselves, by their clause
+//! `tells`. The layers above use the orders of steps and these laws.
 #![tactic(auto)]
 
 mod make_all;
