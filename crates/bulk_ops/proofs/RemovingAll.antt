@@ -10,3 +10,4 @@ pub mod AfterAnswers
 pub mod Parts
 pub mod EachEnd
 pub mod TurnsTell
+pub mod Quiet

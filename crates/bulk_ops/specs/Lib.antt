@@ -17,5 +17,6 @@ pub mod RemoveAllView
 pub mod RemoveAllTurnView
 pub mod RemoveAllTells
 pub mod RemoveAllTurnsTell
+pub mod RemoveAllQuiet
 pub mod MakeAllTells
 pub mod MakeAllTurnsTell

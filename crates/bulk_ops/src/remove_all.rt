@@ -20,7 +20,7 @@ mod phase;
 mod tests;
 
 pub use clearing::CLEARING_STEPS_MAX;
-pub use laws::remove_all_tells;
+pub use laws::{quiet_remove_all, remove_all_tells};
 
 /// A call that is under way: it removes an entry with all that is below it, by single steps, and follows no link below
 /// the target. It can't be let go: each `due` step is to be made, and its answer taken, until the call ends. One to be
