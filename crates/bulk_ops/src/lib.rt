@@ -5,8 +5,9 @@
 //! are exactly the orders of steps of `specs/MakeAllOrder.antt` and `specs/RemoveAllOrder.antt`, and each `take` leaves
 //! fewer steps to come: none that clears comes after `CLEARING_STEPS_MAX` of them.
 //! What a call did, and what its end tells, in every legal history are the laws `makes_tell` and `remove_all_tells`, stated
-//! in `specs/MakeAllTells.antt` and `specs/RemoveAllTells.antt`; `start` and `take` of `MkdirAll` tell it themselves, by
-//! their clause `tells`. The layers above use the orders of steps and these laws.
+//! in `specs/MakeAllTells.antt` and `specs/RemoveAllTells.antt`; `start` and `take` tell it themselves, by their clause
+//! `tells`. What `RemoveAll` means where nobody else acts is the law `quiet_remove_all`, stated in
+//! `specs/RemoveAllQuiet.antt`. The layers above use the orders of steps and these laws.
 #![tactic(auto)]
 
 mod make_all;
@@ -16,7 +17,7 @@ mod turn;
 
 pub use make_all::MkdirAll;
 pub use make_all_laws::{makes_tell, steps_after_the_walk};
-pub use remove_all::{CLEARING_STEPS_MAX, RemoveAll, remove_all_tells};
+pub use remove_all::{CLEARING_STEPS_MAX, RemoveAll, quiet_remove_all, remove_all_tells};
 pub use turn::BulkTurn;
 
 #[cfg(test)]
