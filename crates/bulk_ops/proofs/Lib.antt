@@ -6,3 +6,4 @@ pub mod MakeAllGood
 pub mod MakeAllAnswers
 pub mod MakeAllEnds
 pub mod MakeAllTurns
+pub mod MakingAlone

@@ -20,3 +20,5 @@ pub mod RemoveAllTurnsTell
 pub mod RemoveAllQuiet
 pub mod MakeAllTells
 pub mod MakeAllTurnsTell
+pub mod MakeAllQuiet
+pub mod MakeAllWorked

@@ -1,6 +1,8 @@
 //! What holds of every call to `MkdirAll`: laws, each the contract of a function without a body.
 ghost use Rattle.bulk_ops.specs.MakeAllTells.{MakesTell};
 ghost use Rattle.bulk_ops.specs.MakeAllSteps.{StepsAfterTheWalk};
+ghost use Rattle.bulk_ops.specs.MakeAllQuiet.{QuietMakesMean};
+ghost use Rattle.bulk_ops.specs.MakeAllWorked.{MakesAreWorked};
 
 /// After its walk a call takes at most three steps for each part of the rest of the path, and two more; and one where the
 /// walk found what the whole path means.
@@ -16,4 +18,18 @@ pub fn steps_after_the_walk()
 /// actor's open handles are those from before the call; after the other end these and one more, which names the directory.
 pub fn makes_tell()
     ensures { MakesTell }
+{}
+
+/// Where no other actor's event stands in the call's window, the call's end and the nodes after it are those that the path
+/// means in the tree as the window begins: the directory that is there; `NotDir` for anything else; the first fault of the
+/// rest; `Raced` where the directory that lacks a name is gone; else a chain of new directories below it, the last of them
+/// the reply, which stands at the names told. Or memory, room in a book or handles ran short, which is the error, and what
+/// was made is a part of that chain, from its first directory on. mkdir(2), path_resolution(7).
+pub fn quiet_makes_mean()
+    ensures { QuietMakesMean }
+{}
+
+/// What the definition comes to on a small tree.
+pub fn worked_makes()
+    ensures { MakesAreWorked }
 {}
