@@ -2,16 +2,21 @@
 //! single steps and the building of trees take.
 //!
 //! Without arguments each workload's paths are resolved once, and how many led to an object is printed; then how many
-//! steps are done of the smaller workloads of steps. `time` times resolutions, and `steps` steps. `repeat WORKLOAD COUNT` resolves so many, for a program that counts from outside. Nothing is claimed of
-//! time; what a walk comes to is what `step_resolver` proves of it.
+//! steps are done of the smaller workloads of steps. `time` times resolutions, `steps` steps, and `cache` look-ups and
+//! removals with one entry remembered and with many. `repeat WORKLOAD COUNT` resolves so many, for a program that counts
+//! from outside. Nothing is claimed of time; what a walk comes to is what `step_resolver` proves of it.
 #![tactic(auto)]
 
+mod cache;
+mod clock;
 mod drive;
 mod steps;
 mod tree;
 mod workload;
 
 use anyhow::bail;
+use cache::{CACHE_WORKLOADS, time_cache, time_cached};
+use clock::{median, nanoseconds};
 use drive::resolve_and_release;
 use std::alloc::Global;
 use std::time::Instant;
@@ -57,8 +62,7 @@ fn time_round(
     let mut ground = set_up(alloc, workload)?;
     let start = Instant::now(rt)?;
     resolve_all(alloc, &mut ground, paths, count);
-    let took = start.elapsed(rt)?;
-    Ok(u64::try_from(took.as_nanos()).unwrap_or(u64::MAX))
+    nanoseconds(rt, start)
 }
 
 // The median of the rounds, as nanoseconds for one resolution.
@@ -72,12 +76,6 @@ fn time(rt: &HostRuntime, workload: &Workload) -> anyhow::Result<u64> {
         rounds.push(time_round(rt, workload, &paths, count.max(64))? / count.max(64))?;
     }
     Ok(median(rounds))
-}
-
-// The one in the middle.
-fn median(mut rounds: Vec<u64>) -> u64 {
-    rounds.sort_unstable();
-    rounds.get(rounds.len() / 2).copied().unwrap_or(0)
 }
 
 // The medians on the indexed tree, and on the plain one where it is timed.
@@ -145,6 +143,13 @@ fn answer_all(rt: &HostRuntime) -> anyhow::Result<()> {
             println!(rt; "{name}: {done} done")?;
         }
     }
+    for workload in CACHE_WORKLOADS {
+        if workload.4 <= FEW_FILES {
+            let name = workload.0;
+            let (_, done) = time_cached(rt, workload, 1)?;
+            println!(rt; "{name}: {done} done")?;
+        }
+    }
     Ok(())
 }
 
@@ -154,9 +159,10 @@ fn main(rt: HostRuntime) -> anyhow::Result<()> {
         [] => answer_all(&rt),
         [word] if word.as_str() == "time" => time_all(&rt),
         [word] if word.as_str() == "steps" => time_steps(&rt),
+        [word] if word.as_str() == "cache" => time_cache(&rt),
         [word, name, count] if word.as_str() == "repeat" => {
             repeat(&rt, name.as_str(), count.as_str())
         }
-        _ => bail!("usage: bench [time | steps | repeat WORKLOAD COUNT]"),
+        _ => bail!("usage: bench [time | steps | cache | repeat WORKLOAD COUNT]"),
     }
 }

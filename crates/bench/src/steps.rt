@@ -2,6 +2,7 @@
 ghost use Rattle.std.specs.Prelude.{IfOk};
 ghost use Rattle.tree_model.specs.Trees.{IsState};
 
+use crate::clock::nanoseconds;
 use crate::tree::{CACHED_ENTRIES, name};
 use path_text::{Errno, Name, Names};
 use std::alloc::Global;
@@ -48,7 +49,7 @@ const HELD: u32 = 1_000;
 const TURNS: u32 = 2_000;
 
 /// Who makes the steps that are timed.
-fn actor() -> Actor {
+pub fn actor() -> Actor {
     Actor::new(0)
 }
 
@@ -132,8 +133,8 @@ fn make<T: Tree>(alloc: Global, tree: &mut T, step: &Step) -> bool {
     }
 }
 
-// Makes the steps in turn, that many in all. How many were done.
-fn make_all<T: Tree>(alloc: Global, tree: &mut T, steps: &[Step], count: u32) -> u32 {
+/// Makes the steps in turn, that many in all, and closes what each opened. How many were done.
+pub fn make_all<T: Tree>(alloc: Global, tree: &mut T, steps: &[Step], count: u32) -> u32 {
     let mut done = 0u32;
     for at in 0..count {
         if let Some(step) = steps.get(at as usize % steps.len().max(1)) {
@@ -149,11 +150,6 @@ fn turns(work: Work, files: u32) -> u32 {
         Work::Open | Work::Dup => TURNS,
         Work::Make | Work::Build => files,
     }
-}
-
-fn nanoseconds(rt: &HostRuntime, start: Instant) -> anyhow::Result<u64> {
-    let took = start.elapsed(rt)?;
-    Ok(u64::try_from(took.as_nanos()).unwrap_or(u64::MAX))
 }
 
 // Times a workload's steps on a tree that has its files, but where they are to be made: the nanoseconds of each, and how

@@ -9,3 +9,5 @@ pub mod Underway
 pub mod AfterAnswers
 pub mod Parts
 pub mod EachEnd
+pub mod TurnsTell
+pub mod Quiet

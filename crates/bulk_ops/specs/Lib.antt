@@ -16,6 +16,8 @@ pub mod RemoveAllOrder
 pub mod RemoveAllView
 pub mod RemoveAllTurnView
 pub mod RemoveAllTells
+pub mod RemoveAllTurnsTell
+pub mod RemoveAllQuiet
 pub mod MakeAllTells
 pub mod MakeAllTurnsTell
 pub mod MakeAllQuiet

@@ -5,10 +5,11 @@
 //! are exactly the orders of steps of `specs/MakeAllOrder.antt` and `specs/RemoveAllOrder.antt`, and each `take` leaves
 //! fewer steps to come: none that clears comes after `CLEARING_STEPS_MAX` of them.
 //! What a call did, and what its end tells, in every legal history are the laws `makes_tell` and `remove_all_tells`, stated
-//! in `specs/MakeAllTells.antt` and `specs/RemoveAllTells.antt`; `start` and `take` of `MkdirAll` tell it themselves, by
-//! their clause `tells`. Where nobody else acts, `MkdirAll` ends as its path means in the tree as it stood, and makes the
-//! chain of directories that is missing, or a part of it where something ran short: the law `quiet_makes_mean`, stated in
-//! `specs/MakeAllQuiet.antt`. The layers above use the orders of steps and these laws.
+//! in `specs/MakeAllTells.antt` and `specs/RemoveAllTells.antt`; `start` and `take` tell it themselves, by their clause
+//! `tells`. What they mean where nobody else acts are the laws `quiet_makes_mean` and `quiet_remove_all`, stated in
+//! `specs/MakeAllQuiet.antt` and `specs/RemoveAllQuiet.antt`: the chain of directories that is missing is made, or a part
+//! of it where something ran short; the target goes with every row below it. The layers above use the orders of steps and
+//! these laws.
 #![tactic(auto)]
 
 mod make_all;
@@ -20,7 +21,7 @@ pub use make_all::MkdirAll;
 pub use make_all_laws::{
     makes_tell, quiet_makes_mean, steps_after_the_walk, worked_make_call, worked_makes,
 };
-pub use remove_all::{CLEARING_STEPS_MAX, RemoveAll, remove_all_tells};
+pub use remove_all::{CLEARING_STEPS_MAX, RemoveAll, quiet_remove_all, remove_all_tells};
 pub use turn::BulkTurn;
 
 #[cfg(test)]

@@ -20,7 +20,7 @@ mod phase;
 mod tests;
 
 pub use clearing::CLEARING_STEPS_MAX;
-pub use laws::remove_all_tells;
+pub use laws::{quiet_remove_all, remove_all_tells};
 
 /// A call that is under way: it removes an entry with all that is below it, by single steps, and follows no link below
 /// the target. It can't be let go: each `due` step is to be made, and its answer taken, until the call ends. One to be
@@ -55,6 +55,7 @@ impl RemoveAll {
     ghost use Rattle.step_resolver.specs.View.{way_from};
     ghost use Rattle.bulk_ops.specs.RemoveAllOrder.{due, steps_left};
     ghost use Rattle.bulk_ops.specs.RemoveAllTurnView.{BeginsTo, StartsTo, TakesTo, steps_to_come, REMOVE_STEPS_MAX};
+    ghost use Rattle.bulk_ops.specs.RemoveAllTurnsTell.{TellsBegun, TellsTaken};
     ghost use Rattle.bulk_ops.specs.RemoveAllView.{is_named};
 
     /// Begins to remove the entry of this name in the directory of that path below the root, with all that is below it
@@ -62,8 +63,24 @@ impl RemoveAll {
     /// goes on takes memory.
     ///
     /// Errors that come before any step: those of `Walk::start`, and where none of them comes, NoMemory, which counts as
-    /// a first step that wasn't made for want of it.
+    /// a first step that wasn't made for want of it. Such an end tells the truth of every history in which it comes, as
+    /// those of `take` do.
     pub fn start(
+        alloc: Global,
+        root: Root,
+        directory: Path,
+        name: Name,
+        flags: Flags,
+    ) -> BulkTurn<RemoveAll>
+        ensures turn { StartsTo (way_from root Follow flags) name directory result }
+        ensures few { steps_to_come result ≤ REMOVE_STEPS_MAX }
+        ensures tells { TellsBegun (way_from root Follow flags) name directory result }
+    {
+        RemoveAll::started(alloc, root, directory, name, flags)
+    }
+
+    // The same, as the order of steps has it.
+    fn started(
         alloc: Global,
         root: Root,
         directory: Path,
@@ -119,7 +136,19 @@ impl RemoveAll {
     /// It fails with what its walk fails with; NotDir where the walk's object is no directory; TooMany where the actor
     /// can open no more handles; Busy where a step of clearing would come after `CLEARING_STEPS_MAX` of them; BadHandle
     /// for an answer that doesn't fit the step; and any other refusal of a step.
+    ///
+    /// Where the call ends here, the end tells the truth of every legal history whose steps of this call led to it,
+    /// whatever others changed in between: what it took away, from where, and why it failed (`specs/RemoveAllTells.antt`).
     pub fn take(self, alloc: Global, answer: Answer) -> BulkTurn<RemoveAll>
+        ensures turn { TakesTo self answer result }
+        ensures fewer { steps_to_come result < steps_left self }
+        ensures tells { TellsTaken self answer result }
+    {
+        self.taken(alloc, answer)
+    }
+
+    // The same, as the order of steps has it.
+    fn taken(self, alloc: Global, answer: Answer) -> BulkTurn<RemoveAll>
         ensures turn { TakesTo self answer result }
         ensures fewer { steps_to_come result < steps_left self }
     {

@@ -1,8 +1,7 @@
 -- A call begins with few steps to come; and once its walks are over it makes at most five.
-use Rattle.std.specs.Prelude.{◌≡◌, ℕ, zero, suc, ◌+◌, ◌-◌, ◌*◌, ◌<◌, ◌≤◌, ◌&&◌, List, [], ◌∷◌, Bool, true, false, length, take, nat_lt, Option, Some, None, Result, Ok, Err, if◌then◌else◌, refl}
-use Rattle.std.proofs.Common.{sym, ap, ◌∙◌, subst, arith}
+use Rattle.std.specs.Prelude.{◌≡◌, ℕ, zero, suc, ◌+◌, ◌-◌, ◌<◌, ◌≤◌, ◌&&◌, List, [], ◌∷◌, Bool, true, false, length, take, nat_lt, Option, Some, None, Result, Ok, Err, if◌then◌else◌, refl}
+use Rattle.std.proofs.Common.{sym, subst, arith}
 use Rattle.path_text.specs.declared.errno.Errno.{Errno}
-use Rattle.path_text.specs.declared.errno.Errno.TheVariants.{NoMemory, Invalid, NotDir, TooLong}
 use Rattle.path_text.specs.declared.name.TheConstants.{NAME_MAX}
 use Rattle.path_text.specs.declared.part.Part.{Part}
 use Rattle.path_text.specs.declared.part.Part.TheVariants.{Cur, Up, Named}
@@ -11,31 +10,29 @@ use Rattle.path_text.specs.declared.path.Rule.TheVariants.{Drop, Refuse}
 use Rattle.path_text.specs.declared.path.Split.{Split}
 use Rattle.path_text.specs.declared.path.TheConstants.{PARTS_MAX}
 use Rattle.path_text.specs.Reading.{Reading}
-use Rattle.path_text.specs.Split.{split_of, split_at, dir_of, before_last, last_part, parts_without_slash, refuses_slash}
+use Rattle.path_text.specs.Split.{split_of, split_at, before_last, last_part, parts_without_slash, refuses_slash}
 use Rattle.path_text.specs.Text.{text_fault, reading_of}
 use Rattle.path_text.proofs.TextLemmas.{reading_few}
 use Rattle.tree_model.specs.declared.answer.Answer.{Answer}
 use Rattle.tree_model.specs.declared.step.Mode.{Mode}
-use Rattle.tree_model.specs.declared.step.StepOf.{StepOf}
 use Rattle.handles.specs.declared.owner.Owner.{Owner}
 use Rattle.handles.specs.Objects.{StandingObject}
 use Rattle.walk_plan.specs.declared.goal.Goal.TheVariants.{Follow, NoFollow}
 use Rattle.step_resolver.specs.Order.{Way, Turn, found, partial, failed}
 use Rattle.step_resolver.specs.Order as walk
-use Rattle.step_resolver.specs.View.{way_from}
 use Rattle.step_resolver.specs.TurnView as walk_view
 use Rattle.step_resolver.proofs.WalkSteps as walk_steps
 use Rattle.root_ops.specs.declared.aim.Aim.{Aim}
-use Rattle.root_ops.specs.declared.aim.Aim.TheVariants.{Opens, Reads, Changes, WalksOn, Renames}
+use Rattle.root_ops.specs.declared.aim.Aim.TheVariants.{Opens, Reads, Changes, WalksOn}
 use Rattle.root_ops.specs.declared.aim.Change.{Change}
 use Rattle.root_ops.specs.declared.below.Below.{Below}
 use Rattle.root_ops.specs.declared.op.Op.{Op}
 use Rattle.root_ops.specs.declared.op.Op.TheVariants.{Resolve, ResolveNoFollow, ReadLink, CreateFile, CreateDir, CreateLink, RemoveFile, RemoveDir, Rename, Single, Release}
 use Rattle.root_ops.specs.Order as call
-use Rattle.root_ops.specs.Order.{Doing, walking, acting, checking, closing, releasing, CallTurn, more, ends, walks, unless_fault, in_directory, between, from_entry, is_single, single, same_owner, releases, lacks, starts, begins, way_of, renaming_of, steps_of, steps_then}
+use Rattle.root_ops.specs.Order.{Doing, walking, acting, checking, closing, releasing, CallTurn, more, ends, walks, unless_fault, in_directory, between, from_entry, is_single, single, same_owner, releases, lacks, starts, begins, way_of, renaming_of, steps_then}
 use Rattle.root_ops.specs.declared.call.CallTurn.{CallTurn as Outcome}
 use Rattle.root_ops.specs.TurnView.{turn_view, Keeps, StartsTo, steps_to_come, STEPS_MAX}
-use Rattle.root_ops.specs.StepCount.{is_walking, WalksOrFew, FewerThan, FiveAfterWalks}
+use Rattle.root_ops.specs.StepCount.{is_walking, WalksOrFew, FiveAfterWalks}
 use Rattle.root_ops.proofs.Steps.{IsLower, either_lower, walked_lower, walking_lower, fewer_after, lower_to_come}
 
 -- ---- the parts of a directory's path are few
@@ -69,13 +66,13 @@ short_split path rule = short_at path rule (last_part (parts_without_slash path)
 
 -- ---- the first turn
 
-walk_few : (turn : Turn) → walk_steps.FewerThan (suc (steps_of turn)) turn
+walk_few : (turn : Turn) → walk_steps.FewerThan (suc (walk.steps_left_at turn)) turn
 walk_few (walk.more w) = omega arith
 walk_few (found handle names) = tt
 walk_few (partial handle names rest) = tt
 walk_few (failed error) = tt
 
-steps_few : (k : ℕ) (turn : Turn) → 0 < k → walk_steps.FewerThan k turn → steps_of turn < k
+steps_few : (k : ℕ) (turn : Turn) → 0 < k → walk_steps.FewerThan k turn → walk.steps_left_at turn < k
 steps_few k (walk.more w) some few = few
 steps_few k (found handle names) some few = some
 steps_few k (partial handle names rest) some few = some
@@ -86,7 +83,7 @@ lower_still below j k (more doing) le lower = (omega (arith, lower.0), lower.1)
 lower_still below j k (ends reply) le lower = tt
 
 module _ (below : Below) where
-  begun_few : (aim : Aim) (path : Reading) → length path.parts ≤ PARTS_MAX → steps_of (walk.begins (way_of below aim) path) ≤ walk_view.STEPS_MAX
+  begun_few : (aim : Aim) (path : Reading) → length path.parts ≤ PARTS_MAX → walk.steps_left_at (walk.begins (way_of below aim) path) ≤ walk_view.STEPS_MAX
   begun_few aim path few =
       let fewer = steps_few (suc walk_view.STEPS_MAX) (walk.begins (way_of below aim) path) (omega arith) (walk_steps.begins_few (way_of below aim) path few) in
       omega (arith, fewer)
@@ -94,8 +91,8 @@ module _ (below : Below) where
   walks_lower : (aim : Aim) (path : Reading) → length path.parts ≤ PARTS_MAX → steps_then below aim ≤ walk_view.STEPS_MAX + 6 → IsLower below (suc STEPS_MAX) (walks below aim path)
   walks_lower aim path few most =
       let turn = walk.begins (way_of below aim) path in
-      lower_still below (suc (steps_of turn) + steps_then below aim) (suc STEPS_MAX) (walks below aim path) (omega (arith, begun_few aim path few, most))
-      (walked_lower below (suc (steps_of turn)) true aim turn (omega arith) (walk_few turn))
+      lower_still below (suc (walk.steps_left_at turn) + steps_then below aim) (suc STEPS_MAX) (walks below aim path) (omega (arith, begun_few aim path few, most))
+      (walked_lower below (suc (walk.steps_left_at turn)) true aim turn (omega arith) (walk_few turn))
 
   past_fault : (k : ℕ) (why : Option Errno) (turn : CallTurn) → (why ≡ None → IsLower below k turn) → IsLower below k (unless_fault why turn)
   past_fault k (Some error) turn lower = tt

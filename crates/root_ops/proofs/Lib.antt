@@ -3,3 +3,4 @@ pub mod Texts
 pub mod Steps
 pub mod FirstSteps
 pub mod Quiet
+pub mod Handles

@@ -1,18 +1,17 @@
 -- Where a walk finds its object the room for what the answer brings plays no part, so that one truth value tells both the
 -- walk's room and that of the next walk.
-use Rattle.std.proofs.Common.{◌≡◌, ℕ, zero, suc, List, [], ◌∷◌, ◌++◌, ◌&&◌, Bool, true, false, if◌then◌else◌, refl, sym, ◌∙◌, ap, subst}
-use Rattle.std.specs.Prelude.{reverse, Option, Some, None}
+use Rattle.std.proofs.Common.{◌≡◌, ℕ, zero, suc, List, [], ◌∷◌, Bool, true, false, if◌then◌else◌, refl, sym, ◌∙◌, ap, subst}
+use Rattle.std.specs.Prelude.{Option, Some, None}
 use Rattle.path_text.specs.declared.errno.Errno.{Errno}
-use Rattle.path_text.specs.declared.errno.Errno.TheVariants.{NotFound, Raced, NoMemory, CrossRoot, NotDir, TooLong, Loop}
-use Rattle.path_text.specs.Names.{same_names}
+use Rattle.path_text.specs.declared.errno.Errno.TheVariants.{NotFound, NoMemory, NotDir, TooLong}
 use Rattle.path_text.specs.Reading.{Reading}
 use Rattle.path_text.specs.Text.{text_fault, parts_of, begins_with_slash}
 use Rattle.tree_model.specs.declared.answer.Answer.{Answer}
-use Rattle.tree_model.specs.declared.answer.Answer.TheVariants.{Opened, Text, Names, NotBelow}
+use Rattle.tree_model.specs.declared.answer.Answer.TheVariants.{Opened, Text}
 use Rattle.step_resolver.specs.Asked.{AskedPart, Cur, Up, Named, asked, followed, follows}
 use Rattle.step_resolver.specs.Meaning.{LINKS_MAX, is_too_long}
 use Rattle.walk_plan.specs.Plan.{leads_out}
-use Rattle.step_resolver.specs.Order.{Way, Handle, Position, root_itself, holds, Todo, todo, After, gives, onward, judges, Walking, opening, reading, rising, judging, duping, ending, closing, Turn, more, found, partial, failed, names_of, handles_of, is_dir_position, is_followed, gives_up, at_end, in_directory, on_part, on_own, on_parts, goes_on, begins, for_walk, starts, comes, closes, refusal_of, with_room, follows_link, enters, refused_open, from_link, read_text, judged, refused_rise, take, due}
+use Rattle.step_resolver.specs.Order.{Way, Handle, Position, root_itself, holds, Todo, todo, After, gives, onward, judges, Walking, opening, reading, rising, judging, duping, ending, closing, Turn, more, found, partial, failed, names_of, handles_of, is_dir_position, is_followed, gives_up, at_end, in_directory, on_part, on_own, on_parts, goes_on, begins, for_walk, comes, closes, with_room, follows_link, enters, refused_open, from_link, read_text, refused_rise, take, due}
 use Rattle.walk_plan.specs.declared.goal.Goal.{Goal}
 use Rattle.step_resolver.specs.View.{WalkView, way_from, opens_a_name}
 use Rattle.step_resolver.specs.declared.walk.Turn.{Turn as Outcome}
@@ -24,11 +23,11 @@ use Rattle.root_ops.specs.Order as call
 use Rattle.root_ops.specs.View.{is_nameless}
 use Rattle.root_ops.specs.TurnView.{TakesTo, Either}
 
--- the turn finds no object
-abbrev FindsNone : Turn → Type 0
+-- the turn is no end at which something is held
+abbrev pub FindsNone : Turn → Type 0
 FindsNone (more walk) = Unit {0}
 FindsNone (found handle names) = ⊥
-FindsNone (partial handle names rest) = Unit {0}
+FindsNone (partial handle names rest) = ⊥
 FindsNone (failed error) = Unit {0}
 
 either : (b : Bool) (t u : Turn) → FindsNone t → FindsNone u → FindsNone (if b then t else u)
@@ -109,19 +108,19 @@ module _ (way : Way) where
   not_risen handle NotFound = tt
   not_risen handle error = tt
 
-  -- a found object is one that was found at any room
-  found_at : (room other : Bool) (walking : Walking) (answer : Answer) (handle : Handle) (names : List (List ℕ))
-      → found handle names ≡ take way room walking answer → found handle names ≡ take way other walking answer
-  found_at room other (opening position own follow n rest) (Opened h x kind) handle names e =
-      absurd (subst FindsNone (sym e) (either (is_followed follow kind) _ _ (at_a_link position _ rest) (entered room position n _ rest)))
-  found_at room other (opening position own follow n rest) answer handle names e = e
-  found_at room other (reading position link rest) answer handle names e =
-      absurd (subst FindsNone (sym e) (reading_finds_none room position link rest answer))
-  found_at room other (rising old ns rest) answer handle names e = e
-  found_at room other (judging new ns rest) answer handle names e = e
-  found_at room other (duping rest) answer handle names e = e
-  found_at room other (ending held ns rest) answer handle names e = e
-  found_at room other (closing h hs after) answer handle names e = e
+  -- an end at which something is held is one at any room
+  end_at : (room other : Bool) (walking : Walking) (answer : Answer) (turn : Turn) → (FindsNone turn → ⊥)
+      → turn ≡ take way room walking answer → turn ≡ take way other walking answer
+  end_at room other (opening position own follow n rest) (Opened h x kind) turn ends e =
+      absurd (ends (subst FindsNone (sym e) (either (is_followed follow kind) _ _ (at_a_link position _ rest) (entered room position n _ rest))))
+  end_at room other (opening position own follow n rest) answer turn ends e = e
+  end_at room other (reading position link rest) answer turn ends e =
+      absurd (ends (subst FindsNone (sym e) (reading_finds_none room position link rest answer)))
+  end_at room other (rising old ns rest) answer turn ends e = e
+  end_at room other (judging new ns rest) answer turn ends e = e
+  end_at room other (duping rest) answer turn ends e = e
+  end_at room other (ending held ns rest) answer turn ends e = e
+  end_at room other (closing h hs after) answer turn ends e = e
 
 -- ---- a call's walks
 
@@ -129,7 +128,7 @@ module _ (way : Way) where
 same_room : (below : Below) (room other : Bool) (aim : Aim) (turn : Turn) → FindsNone turn → walked below room aim turn ≡ walked below other aim turn
 same_room below room other aim (more walk) none = refl
 same_room below room other aim (found handle names) none = absurd none
-same_room below room other aim (partial handle names rest) none = refl
+same_room below room other aim (partial handle names rest) none = absurd none
 same_room below room other aim (failed error) none = refl
 
 -- an answer to a walk's step, and where the walk has come to by it
@@ -137,12 +136,14 @@ pub walked_by : (below : Below) (aim : Aim) (walking : Walking) (answer : Answer
     → walk.TakesTo (way_of below aim) walking answer turn → (room : Bool) × (next ≡ walked below room aim turn)
     → TakesTo below (call.walking walking aim) answer next
 walked_by below aim walking answer (found handle names) next taken by =
-    (by.0, by.1 ∙ ap (walked below by.0 aim) (found_at (way_of below aim) taken.0 by.0 walking answer handle names taken.1))
+    (by.0, by.1 ∙ ap (walked below by.0 aim) (end_at (way_of below aim) taken.0 by.0 walking answer (found handle names) (λ none. none) taken.1))
+walked_by below aim walking answer (partial handle names rest) next taken by =
+    (by.0, by.1 ∙ ap (walked below by.0 aim) (end_at (way_of below aim) taken.0 by.0 walking answer (partial handle names rest) (λ none. none) taken.1))
 walked_by below aim walking answer turn next taken by =
     (taken.0, by.1 ∙ same_room below by.0 taken.0 aim turn tt ∙ ap (walked below taken.0 aim) taken.1)
 
 -- a first turn finds none, and without room for the walk it is the want
-first_turn : (way : Way) (path : Reading) → FindsNone (begins way path)
+pub first_turn : (way : Way) (path : Reading) → FindsNone (begins way path)
 first_turn way path = either (leads_out path.absolute way.flags) _ _ tt (onwards way root_itself (todo [] (asked (follows way.goal) path.parts) LINKS_MAX))
 
 -- where the first turn of a walk leads: with room for the walk and for the call, or without
@@ -156,8 +157,7 @@ begun_by below aim path (more walk) true other next e none empty by =
 begun_by below aim path (more walk) false other next e none empty by =
     (false, by ∙ ap (λ hs. call.gives_up hs NoMemory) empty)
 begun_by below aim path (found handle names) room other next e none empty by = absurd none
-begun_by below aim path (partial handle names rest) true other next e none empty by = (true, by ∙ ap (walked below true aim) (sym e))
-begun_by below aim path (partial handle names rest) false other next e none empty by = (true, by ∙ ap (walked below true aim) (sym e))
+begun_by below aim path (partial handle names rest) room other next e none empty by = absurd none
 begun_by below aim path (failed error) true other next e none empty by = (true, by ∙ ap (walked below true aim) (sym e))
 begun_by below aim path (failed error) false other next e none empty by = (true, by ∙ ap (walked below true aim) (sym e))
 

@@ -1,41 +1,24 @@
 -- Each answer leaves fewer steps to come, and a call begins with few.
-use Rattle.std.specs.Prelude.{◌≡◌, ℕ, zero, suc, ◌+◌, ◌*◌, ◌<◌, ◌≤◌, ◌&&◌, List, [], ◌∷◌, Bool, true, false, length, Option, Some, None, Result, Ok, Err, if◌then◌else◌, refl}
-use Rattle.std.proofs.Common.{sym, ap, ◌∙◌, subst, arith}
+use Rattle.std.specs.Prelude.{◌≡◌, ℕ, suc, ◌+◌, ◌<◌, ◌≤◌, List, [], ◌∷◌, Bool, true, false, length, if◌then◌else◌, refl}
+use Rattle.std.proofs.Common.{sym, subst, arith}
 use Rattle.path_text.specs.declared.errno.Errno.{Errno}
-use Rattle.path_text.specs.declared.errno.Errno.TheVariants.{NotFound, NoMemory, Invalid, NotDir}
-use Rattle.path_text.specs.declared.path.Rule.{Rule}
-use Rattle.path_text.specs.declared.path.Rule.TheVariants.{Drop, Refuse}
-use Rattle.path_text.specs.declared.path.Split.{Split}
-use Rattle.path_text.specs.declared.path.TheConstants.{PARTS_MAX}
-use Rattle.path_text.specs.Reading.{Reading}
-use Rattle.path_text.specs.Split.{split_of}
-use Rattle.path_text.specs.Text.{text_fault, reading_of}
+use Rattle.path_text.specs.declared.errno.Errno.TheVariants.{NotFound}
 use Rattle.tree_model.specs.declared.answer.Answer.{Answer}
 use Rattle.tree_model.specs.declared.answer.Answer.TheVariants.{Opened}
-use Rattle.tree_model.specs.declared.step.Mode.{Mode}
-use Rattle.tree_model.specs.declared.step.StepOf.{StepOf}
-use Rattle.handles.specs.declared.owner.Owner.{Owner}
-use Rattle.handles.specs.Objects.{StandingObject}
-use Rattle.walk_plan.specs.declared.goal.Goal.{Goal}
-use Rattle.walk_plan.specs.declared.goal.Goal.TheVariants.{Follow, NoFollow}
+use Rattle.walk_plan.specs.declared.goal.Goal.TheVariants.{Follow}
 use Rattle.step_resolver.specs.Order.{Way, Handle, Turn, found, partial, failed, is_dir_kind, refusal_of}
 use Rattle.step_resolver.specs.Order as walk
 use Rattle.step_resolver.specs.View.{way_from}
-use Rattle.step_resolver.specs.TurnView as walk_view
 use Rattle.step_resolver.proofs.WalkSteps as walk_steps
 use Rattle.root_ops.specs.declared.aim.Aim.{Aim}
 use Rattle.root_ops.specs.declared.aim.Aim.TheVariants.{Opens, Reads, Changes, WalksOn, Renames}
-use Rattle.root_ops.specs.declared.aim.Change.{Change}
-use Rattle.root_ops.specs.declared.aim.Change.TheVariants as changes
 use Rattle.root_ops.specs.declared.aim.Renaming.{Renaming}
 use Rattle.root_ops.specs.declared.below.Below.{Below}
-use Rattle.root_ops.specs.declared.op.Op.{Op}
-use Rattle.root_ops.specs.declared.op.Op.TheVariants.{Resolve, ResolveNoFollow, ReadLink, CreateFile, CreateDir, CreateLink, RemoveFile, RemoveDir, Rename, Single, Release}
-use Rattle.root_ops.specs.Order.{Reply, fault, After, gives, acts, Doing, walking, acting, checking, closing, releasing, CallTurn, more, ends, closes, gives_up, renames, walked_on, reached, walked, walks, unless_fault, on_path, in_directory, on_entry, between, from_entry, is_single, single, same_owner, releases, begins, lacks, begins_without, starts, take, checked, reply_to, way_of, held_by, steps_of, steps_then, steps_after, steps_left}
+use Rattle.root_ops.specs.Order.{After, gives, acts, Doing, walking, acting, checking, closing, releasing, CallTurn, more, ends, closes, gives_up, renames, walked_on, reached, walked, take, checked, reply_to, way_of, held_by, steps_then, steps_after, steps_left}
 use Rattle.root_ops.specs.declared.call.CallTurn.{CallTurn as Outcome}
 use Rattle.root_ops.specs.declared.call.CallTurn.TheVariants as outcomes
 use Rattle.root_ops.specs.TurnView.{turn_view, Keeps, TakesTo, steps_to_come}
-use Rattle.root_ops.specs.StepCount.{is_walking, WalksOrFew, FewerThan, FiveAfterWalks}
+use Rattle.root_ops.specs.StepCount.{is_walking, FewerThan}
 
 -- fewer than this many steps are left where the call goes on; and at most five, where no walk's step is due
 abbrev pub IsLower : Below → ℕ → CallTurn → Type 0
@@ -56,7 +39,7 @@ module _ (below : Below) where
   renames_lower k old new renaming few = either_lower k renaming.slash _ _ (omega arith, λ e. omega arith) (omega arith, λ e. omega arith)
 
   -- the walk to the new directory begins, with room or without
-  on_lower : (k old : ℕ) (renaming : Renaming) (room : Bool) (begun : Turn) → 0 < k → IsLower below (k + (steps_of begun + 6)) (walked_on old renaming (walk.for_walk room begun))
+  on_lower : (k old : ℕ) (renaming : Renaming) (room : Bool) (begun : Turn) → 0 < k → IsLower below (k + (walk.steps_left_at begun + 6)) (walked_on old renaming (walk.for_walk room begun))
   on_lower k old renaming true (walk.more w) few = (omega arith, λ e. cc (e))
   on_lower k old renaming false (walk.more w) few = (omega arith, λ e. omega arith)
   on_lower k old renaming true (found handle names) few = renames_lower _ old handle.number renaming (omega arith)

@@ -1,5 +1,5 @@
 -- Past the reading of a path text, which has no fault then.
-use Rattle.std.proofs.Common.{◌≡◌, List, ℕ, Bool, true, false, refl, sym, subst, ap, ◌∙◌}
+use Rattle.std.proofs.Common.{◌≡◌, List, ℕ, true, false, refl, subst}
 use Rattle.std.specs.Prelude.{Option, Some, None, Result, Ok, Err, MatchOption}
 use Rattle.path_text.specs.declared.errno.Errno.{Errno}
 use Rattle.path_text.specs.declared.errno.Errno.TheVariants.{NoMemory}

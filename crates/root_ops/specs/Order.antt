@@ -5,7 +5,6 @@
 use Rattle.std.specs.Prelude.{◌≡◌, ℕ, suc, ◌+◌, ◌==◌, ◌&&◌, ◌||◌, List, [], ◌∷◌, Bool, true, false, if◌then◌else◌, length, Option, Some, None, Result, Ok, Err}
 use Rattle.path_text.specs.declared.errno.Errno.{Errno}
 use Rattle.path_text.specs.declared.errno.Errno.TheVariants.{NotFound, NotDir, Invalid, NoMemory, BadHandle}
-use Rattle.path_text.specs.declared.flags.Flags.{Flags}
 use Rattle.path_text.specs.declared.path.Rule.{Rule}
 use Rattle.path_text.specs.declared.path.Rule.TheVariants.{Drop, Refuse}
 use Rattle.path_text.specs.declared.path.Split.{Split}
@@ -301,18 +300,12 @@ LeadsTo below _ (line ∷ lines) end = ⊥
 
 -- ---- how many steps are left at most
 
-abbrev pub steps_of : Turn → ℕ
-steps_of (walk.more walking') = walk.steps_left walking'
-steps_of (found handle names) = 0
-steps_of (partial handle names rest) = 0
-steps_of (failed error) = 0
-
 -- once the walk has come to its end
 abbrev pub steps_then : Below → Aim → ℕ
 steps_then below (Opens goal) = 1
 steps_then below Reads = 2
 steps_then below (Changes change n) = 2
-steps_then below (WalksOn path renaming) = steps_of (walk.begins (way_from below.root Follow below.flags) path) + 6
+steps_then below (WalksOn path renaming) = walk.steps_left_at (walk.begins (way_from below.root Follow below.flags) path) + 6
 steps_then below (Renames old renaming) = 5
 
 abbrev pub steps_after : After → ℕ

@@ -4,7 +4,6 @@ use Rattle.tree_model.specs.declared.step.StepOf.{StepOf}
 use Rattle.tree_model.specs.declared.step.StepOf.TheVariants as steps
 use Rattle.handles.specs.declared.owner.Owner.{Owner}
 use Rattle.step_resolver.specs.TurnView.{standing_handle}
-use Rattle.root_ops.specs.declared.aim.Aim.{Aim}
 use Rattle.root_ops.specs.declared.below.Below.{Below}
 use Rattle.root_ops.specs.declared.doing.After.{After as ToCome}
 use Rattle.root_ops.specs.declared.doing.After.TheVariants.{Gives, Acts}

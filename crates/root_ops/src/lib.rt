@@ -4,7 +4,8 @@
 //! change the tree in between. It walks to what the path means, or to the directory of its last name, makes its one step
 //! by the handle that the walk found, and closes what it opened (mkdirat(2), unlinkat(2), renameat2(2), readlinkat(2)). Its
 //! `start`, `due` and `take` are exactly the order of steps of `specs/Order.antt`, which is over that of a walk, and each
-//! `take` leaves fewer steps to come. The layers above use these contracts, and the law `five_steps_after_walks`.
+//! `take` leaves fewer steps to come. The layers above use these contracts, and the laws `five_steps_after_walks` and
+//! `calls_tell`, which says what handles a call's end leaves open.
 #![tactic(auto)]
 
 mod aim;
@@ -21,7 +22,7 @@ mod reply;
 pub use aim::{Aim, Change, Renaming, Wanted};
 pub use below::Below;
 pub use call::{Call, CallTurn};
-pub use laws::five_steps_after_walks;
+pub use laws::{calls_tell, five_steps_after_walks};
 pub use op::{Op, Request};
 pub use quiet_laws::{operations_keep_trees, quiet_calls_mean, worked_operations, worked_rename};
 pub use reply::Reply;

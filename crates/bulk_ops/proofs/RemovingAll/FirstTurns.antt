@@ -36,7 +36,7 @@ module _ (way : Way) where
   own_first [] b = tt
   own_first (p ∷ own) b = at_the_root p true (todo [] own b) (on_own way root_itself own b) (own_first own b)
 
-  begins_first : (path : Reading) → IsFirst (walk.begins way path)
+  pub begins_first : (path : Reading) → IsFirst (walk.begins way path)
   begins_first path =
       either (leads_out path.absolute way.flags) (walk.failed CrossRoot) (goes_on way root_itself (todo [] (asked (follows way.goal) path.parts) LINKS_MAX)) tt
       (own_first (asked (follows way.goal) path.parts) LINKS_MAX)

@@ -1,4 +1,6 @@
-//! What the end of every call tells, in every history: a law, the contract of a function without a body.
+//! What the end of every call tells, in every history and in a quiet one: laws, each the contract of a function without a
+//! body.
+ghost use Rattle.bulk_ops.specs.RemoveAllQuiet.{QuietRemoveAll};
 ghost use Rattle.bulk_ops.specs.RemoveAllTells.{RemoveAllTells};
 
 /// For every interleaving of actors' single steps, what a call takes away is the target in the directory that its walk
@@ -9,4 +11,12 @@ ghost use Rattle.bulk_ops.specs.RemoveAllTells.{RemoveAllTells};
 /// closings alone after them. At each end the actor's open handles are those from before.
 pub fn remove_all_tells()
     ensures { RemoveAllTells }
+{}
+
+/// Where no other actor takes a step in the window, a call that ends with a count took away the target with every row below
+/// it, in the directory that the directory part means in the tree as the window began, and changed nothing else; the count
+/// is the number of these rows (unlink(2), rmdir(2); openat2(2)). Where it fails, but for want of memory, of room in the
+/// book, of handles or of steps, it changed nothing: the directory part means this failure, or what is no directory.
+pub fn quiet_remove_all()
+    ensures { QuietRemoveAll }
 {}

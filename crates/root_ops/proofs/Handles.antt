@@ -1,0 +1,5 @@
+pub mod HandlesHeld
+pub mod OwnEvents
+pub mod AfterWalks
+pub mod WalkParts
+pub mod CallsTell

@@ -1,0 +1,161 @@
+-- The walks of a call: their lines, up to their ends, and what these leave open.
+use Rattle.std.specs.Prelude.{◌≡◌, ℕ, List, [], ◌∷◌, ◌++◌, length, Bool, true, false, Option, Some, None, refl}
+use Rattle.std.proofs.Common.{sym, ap, subst, ◌∙◌, arith}
+use Rattle.path_text.specs.Reading.{Reading}
+use Rattle.tree_model.specs.declared.answer.Answer.TheVariants.{Refused}
+use Rattle.tree_model.specs.declared.answer.Event.{Event}
+use Rattle.tree_model.specs.declared.inode.Object.{Object}
+use Rattle.tree_model.specs.State.{State, object_at, is_dir, is_directory}
+use Rattle.tree_model.specs.Steps.{held}
+use Rattle.tree_model.specs.Trees.{IsState}
+use Rattle.tree_model.specs.History.{IsLegal, after_events, tree_at}
+use Rattle.tree_model.proofs.HistoryLaws.{histories_keep_trees, objects_stay_for_good, trees_begin_and_end, legal_histories_join}
+use Rattle.step_resolver.specs.Order.{Way, Handle, Walking, Turn, more, found, partial, failed, Line, answered, no_room, not_made, events_of, begins, take, for_walk, starts}
+use Rattle.step_resolver.specs.Order as walk
+use Rattle.step_resolver.specs.WalkHistory.{WalkInHistory, own_events}
+use Rattle.step_resolver.specs.Headline.{Tells}
+use Rattle.step_resolver.proofs.Ends.EveryWalk.{walks_tell}
+use Rattle.root_ops.specs.declared.aim.Aim.{Aim}
+use Rattle.root_ops.specs.declared.below.Below.{Below}
+use Rattle.root_ops.specs.Order.{Reply, ends, walked, way_of, LeadsTo}
+use Rattle.root_ops.proofs.Handles.OwnEvents.{events_append, cut}
+
+-- not on its way any more
+abbrev pub IsEnded : Turn → Type 0
+IsEnded (more walk) = ⊥
+IsEnded (found handle names) = Unit {0}
+IsEnded (partial handle names rest) = Unit {0}
+IsEnded (failed error) = Unit {0}
+
+module _ (below : Below) (aim : Aim) (reply : Reply) where
+  -- the walk's own lines led it to an end, and the others led on from there
+  pub record WalkEnds (turn : Turn) (lines : List Line) : Type 0 where
+    pub first : List Line
+    pub rest : List Line
+    pub end : Turn
+    pub room : Bool
+    pub whole : lines ≡ first ++ rest
+    pub leads : walk.LeadsTo (way_of below aim) turn first end
+    pub ended : IsEnded end
+    pub onward : LeadsTo below (walked below room aim end) rest (ends reply)
+
+  over : (room : Bool) (turn : Turn) (lines : List Line) → IsEnded turn → LeadsTo below (walked below room aim turn) lines (ends reply) → WalkEnds turn lines
+  over room turn lines ended leads = record { first = []; rest = lines; end = turn; room = room; whole = refl; leads = refl; ended = ended; onward = leads }
+
+  pub walk_ends : (lines : List Line) (room : Bool) (turn : Turn) → LeadsTo below (walked below room aim turn) lines (ends reply) → WalkEnds turn lines
+  walk_ends lines room (found handle names) leads = over room (found handle names) lines tt leads
+  walk_ends lines room (partial handle names rest) leads = over room (partial handle names rest) lines tt leads
+  walk_ends lines room (failed error) leads = over room (failed error) lines tt leads
+  walk_ends [] room (more w) leads = cc (leads)
+  walk_ends (answered step answer ∷ lines) room (more w) leads =
+      let later = walk_ends lines true (take (way_of below aim) true w answer) leads.1 in
+      record {
+        first = answered step answer ∷ later.first;
+        rest = later.rest;
+        end = later.end;
+        room = later.room;
+        whole = ap (λ ls. answered step answer ∷ ls) later.whole;
+        leads = (leads.0, later.leads);
+        ended = later.ended;
+        onward = later.onward;
+      }
+  walk_ends (no_room step answer ∷ lines) room (more w) leads =
+      let later = walk_ends lines false (take (way_of below aim) false w answer) leads.1 in
+      record {
+        first = no_room step answer ∷ later.first;
+        rest = later.rest;
+        end = later.end;
+        room = later.room;
+        whole = ap (λ ls. no_room step answer ∷ ls) later.whole;
+        leads = (leads.0, later.leads);
+        ended = later.ended;
+        onward = later.onward;
+      }
+  walk_ends (not_made error ∷ lines) room (more w) leads =
+      let later = walk_ends lines true (take (way_of below aim) true w (Refused error)) leads.1 in
+      record {
+        first = not_made error ∷ later.first;
+        rest = later.rest;
+        end = later.end;
+        room = later.room;
+        whole = ap (λ ls. not_made error ∷ ls) later.whole;
+        leads = (leads.0.0, (leads.0.1, later.leads));
+        ended = later.ended;
+        onward = later.onward;
+      }
+
+-- ---- the tree as a walk begins
+
+-- a tree with the root's handle open on a directory
+pub record HasRoot (below : Below) (r : ℕ) (now : State) : Type 0 where
+  pub tree : IsState now
+  pub root : held now below.root.owner.actor below.root.handle ≡ Some r
+  pub root_is_dir : is_dir now.nodes r ≡ true
+
+is_object : (o : Option Object) → is_directory o ≡ true → (what : Object) × (o ≡ Some what)
+is_object None e = cc (e)
+is_object (Some what) e = (what, refl)
+
+-- it is a directory still
+dir_stays : (now : State) (events : List Event) (r : ℕ) → is_dir now.nodes r ≡ true → is_dir (after_events now events).nodes r ≡ true
+dir_stays now events r e =
+    let what = is_object (object_at now.nodes r) e in
+    let later : object_at (tree_at now events (length events)).nodes r ≡ Some what.0
+    = objects_stay_for_good now events 0 (length events) r what.0 (omega arith) (ap (λ (s : State). object_at s.nodes r) (trees_begin_and_end now events).0 ∙ what.1) in
+    ap is_directory (ap (λ (s : State). object_at s.nodes r) (sym (trees_begin_and_end now events).1) ∙ later) ∙ ap is_directory (sym what.1) ∙ e
+
+pub root_later : (below : Below) (r : ℕ) (now : State) (events : List Event) → HasRoot below r now
+    → held (after_events now events) below.root.owner.actor below.root.handle ≡ Some r → HasRoot below r (after_events now events)
+root_later below r now events has open' = record {
+  tree = (histories_keep_trees now events has.tree).0;
+  root = open';
+  root_is_dir = dir_stays now events r has.root_is_dir;
+}
+
+-- ---- what the end of a walk leaves
+
+-- the walk whose lines these are, in its part of the window
+abbrev pub walk_in : Below → Aim → Reading → ℕ → State → List Event → List Line → WalkInHistory
+walk_in below aim path r now window lines = record {
+  opening = now;
+  before = [];
+  window = window;
+  actor = below.root.owner.actor;
+  way = way_of below aim;
+  root = r;
+  path = path;
+  lines = lines;
+}
+
+pub ends_tell : (below : Below) (aim : Aim) (path : Reading) (r : ℕ) (now : State) (window : List Event) (lines : List Line) (end : Turn) → HasRoot below r now → IsLegal now window
+    → own_events below.root.owner.actor window ≡ events_of below.root.owner.actor lines
+    → walk.LeadsTo (way_of below aim) (begins (way_of below aim) path) lines end → Tells (walk_in below aim path r now window lines) end
+ends_tell below aim path r now window lines end has legal own leads =
+    walks_tell (walk_in below aim path r now window lines) end
+    (record { tree = has.tree; legal_before = tt; legal = legal; own = own; root = has.root; root_is_dir = has.root_is_dir }) leads
+
+-- the part of the window that is the walk's, and the part after it
+pub record Parted (a : ℕ) (now : State) (window : List Event) (first rest : List Line) : Type 0 where
+  pub before : List Event
+  pub after : List Event
+  pub own_before : own_events a before ≡ events_of a first
+  pub own_after : own_events a after ≡ events_of a rest
+  pub legal_before : IsLegal now before
+  pub legal_after : IsLegal (after_events now before) after
+  pub last : after_events now window ≡ after_events (after_events now before) after
+
+pub part : (a : ℕ) (now : State) (window : List Event) (lines first rest : List Line) → IsLegal now window → own_events a window ≡ events_of a lines → lines ≡ first ++ rest
+    → Parted a now window first rest
+part a now window lines first rest legal own whole =
+    let parts = cut a window (events_of a first) (events_of a rest) (own ∙ ap (events_of a) whole ∙ events_append a first rest) in
+    let joined = legal_histories_join now parts.before parts.after in
+    let both = joined.0.0 (subst (λ (es : List Event). IsLegal now es) parts.whole legal) in
+    record {
+      before = parts.before;
+      after = parts.after;
+      own_before = parts.own_before;
+      own_after = parts.own_after;
+      legal_before = both.0;
+      legal_after = both.1;
+      last = ap (λ (es : List Event). after_events now es) parts.whole ∙ joined.1;
+    }
