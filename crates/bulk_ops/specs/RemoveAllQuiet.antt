@@ -51,10 +51,12 @@ pub record IsFoundAt (w : WalkInHistory) (dir : ℕ) : Type 0 where
   pub reads : List Place
   pub means : directory_means w ≡ object dir links reads
 
--- The target in it went with every row below it, nothing else was changed, and the count is the number of these rows.
+-- It is a directory; the target in it went with every row below it, nothing else was changed, and the count is the number of
+-- these rows.
 pub record QuietRemoved (w : WalkInHistory) (target : List ℕ) (count : ℕ) : Type 0 where
   pub dir : ℕ
   pub found : IsFoundAt w dir
+  pub directory : is_dir (begin_of w).nodes dir ≡ true
   pub nodes : (end_of w).nodes ≡ cleared (begin_of w).nodes dir target
   pub count_is : count ≡ cleared_rows (begin_of w).nodes dir target
 

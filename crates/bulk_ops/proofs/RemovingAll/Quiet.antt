@@ -2,4 +2,5 @@
 pub mod Gone
 pub mod Falls
 pub mod Shrinks
+pub mod FirstStep
 pub mod Whole

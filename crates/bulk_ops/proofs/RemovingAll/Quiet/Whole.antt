@@ -9,6 +9,7 @@ use Rattle.tree_model.specs.declared.answer.Event.{Event}
 use Rattle.tree_model.specs.declared.inode.Inode.{Inode}
 use Rattle.tree_model.specs.State.{State, place_at, object_at, child, is_dir, is_directory}
 use Rattle.tree_model.specs.Trees.{IsTree, IsState}
+use Rattle.tree_model.specs.Steps.{held}
 use Rattle.tree_model.specs.History.{IsLegal, after_events}
 use Rattle.tree_model.proofs.Children.{entry}
 use Rattle.tree_model.proofs.HistoryLaws.{IsLegal-append, IsLegal-front, IsLegal-back, after_events-append, histories_keep_trees, trees_begin_and_end}
@@ -22,13 +23,14 @@ use Rattle.step_resolver.specs.FootprintLaws as quiet_walk
 use Rattle.step_resolver.specs.WalkHistory.{WalkInHistory, IsWalkInHistory, begin_of, end_of, state_at, timeline, own_events}
 use Rattle.step_resolver.proofs.Ends.EveryWalk.{walks_tell}
 use Rattle.step_resolver.proofs.Ends.WalksMean.{quiet_walks_mean}
-use Rattle.bulk_ops.specs.RemoveAllOrder.{Turn, more, removed, failed, begins, LeadsTo}
+use Rattle.bulk_ops.specs.RemoveAllOrder.{Turn, more, removed, failed, walked, begins, LeadsTo}
 use Rattle.bulk_ops.specs.RemoveAllTells.{removals, OnlyTakesAway, IsLastOnTarget, TellsFault, first_part, second_part, Parts, clears, TellsRemoved, TellsGivenUp, TellsWalkFailed, Tells}
 use Rattle.bulk_ops.specs.RemoveAllQuiet.{is_at_or_below, how_many_from, cleared, cleared_rows, directory_means, IsFoundAt, QuietRemoved, MeansFailure, MeansNoDirectory, QuietFailed, is_short, IsQuietEnd, QuietRemoveAll}
 use Rattle.bulk_ops.proofs.RemovingAll.EachEnd.{every_call_tells}
 use Rattle.bulk_ops.proofs.RemovingAll.Parts.{events_of-append, walk_removes_none}
 use Rattle.bulk_ops.proofs.RemovingAll.Quiet.Gone.{placed, placed-without}
 use Rattle.bulk_ops.proofs.RemovingAll.Quiet.Falls.{removal_events, removals-events, removal_events-append, falls, all_own}
+use Rattle.bulk_ops.proofs.RemovingAll.Quiet.FirstStep.{after_walk, removes_none, same_rest}
 use Rattle.bulk_ops.proofs.RemovingAll.Quiet.Shrinks.{objects, none_taken, cleared_at, goes_stood, one_fewer}
 
 -- ---- what is in a part of a window is in the window
@@ -136,8 +138,30 @@ module _ (w : WalkInHistory) (target : List ℕ) (is : IsWalkInHistory w) (quiet
       placed-without goes 0 (begin_of second).nodes
       (λ x j e g. goes_stood second state legal second_quiet dir target only x (ap goes (omega arith) ∙ g))
 
-  removed_so : (count : ℕ) → OnlyTakesAway second dir target → IsLastOnTarget second dir target → count ≡ removals w.lines → QuietRemoved w target count
-  removed_so count only last counted =
+  window_is : parts.window ≡ events_of w.actor parts.lines
+  window_is = same_rest parts.walk_window parts.window (events_of w.actor parts.lines)
+      (sym parts.windows ∙ sym (all_own w.actor w.window quiet) ∙ is.own ∙ ap (events_of w.actor) parts.all_lines
+      ∙ events_of-append w.actor parts.walk_lines parts.lines
+      ∙ ap (λ es. es ++ events_of w.actor parts.lines) (sym parts.is_walk.own ∙ all_own w.actor parts.walk_window first_quiet))
+
+  -- what is no directory is never cleared
+  in_directory : (count : ℕ) → LeadsTo (begins w.way target w.path) w.lines (removed count) → is_dir (begin_of w).nodes dir ≡ true
+  in_directory count leads = on (is_dir (begin_of second).nodes dir) refl
+    where
+      cleared_there : LeadsTo (walked w.way target (walk.found parts.handle parts.names)) parts.lines (removed count)
+      cleared_there = after_walk w.way target parts.walk_lines parts.lines (walk.begins w.way w.path) (walk.found parts.handle parts.names) (removed count) parts.walked
+          (subst (λ ls. LeadsTo (begins w.way target w.path) ls (removed count)) parts.all_lines leads)
+
+      open_there : held (begin_of second) w.actor parts.handle.number ≡ Some dir
+      open_there = ap (λ s. held s w.actor parts.handle.number) begins_there ∙ parts.opens.new.is_open
+
+      on : (b : Bool) → is_dir (begin_of second).nodes dir ≡ b → is_dir (begin_of w).nodes dir ≡ true
+      on true q = ap (λ ns. is_dir ns dir) (sym same_nodes_there) ∙ q
+      on false q = absurd (removes_none (begin_of second) w.actor parts.handle.number dir target open_there q _ count parts.lines cleared_there
+          (subst (IsLegal (begin_of second)) window_is legal))
+
+  removed_so : (count : ℕ) → LeadsTo (begins w.way target w.path) w.lines (removed count) → OnlyTakesAway second dir target → IsLastOnTarget second dir target → count ≡ removals w.lines → QuietRemoved w target count
+  removed_so count leads only last counted =
       let all = removes_all only last in
       let fall = rows_fall only in
       let clear = rows_cleared only in
@@ -147,6 +171,7 @@ module _ (w : WalkInHistory) (target : List ℕ) (is : IsWalkInHistory w) (quiet
       record {
         dir = dir;
         found = found;
+        directory = in_directory count leads;
         nodes = sym last_nodes ∙ all ∙ ap (λ ns. cleared ns dir target) same_nodes_there;
         count_is = rows ∙ ap (λ ns. cleared_rows ns dir target) same_nodes_there;
       }
@@ -206,14 +231,16 @@ walk_failed w error is quiet shallow failure enough =
     let end = quiet_walks_mean w (walk.failed error) is failure.walked tt quiet (no_want error enough) in
     record { nodes = end.nodes; why = inl (fails_so w (directory_means w) error refl (end.means shallow)) }
 
-quietly : (w : WalkInHistory) (target : List ℕ) (end : Turn) → IsWalkInHistory w → IsQuiet w → is_deepest w.way.goal ≡ false → Tells w target end → IsQuietEnd w target end
-quietly w target (more call) is quiet shallow tells = tt
-quietly w target (removed count) is quiet shallow tells = removed_so w target is quiet shallow tells.parts count tells.entries tells.last tells.counted
-quietly w target (failed error) is quiet shallow tells = on tells.why
+quietly : (w : WalkInHistory) (target : List ℕ) (end : Turn) → IsWalkInHistory w → IsQuiet w → is_deepest w.way.goal ≡ false
+    → LeadsTo (begins w.way target w.path) w.lines end → Tells w target end → IsQuietEnd w target end
+quietly w target (more call) is quiet shallow leads tells = tt
+quietly w target (removed count) is quiet shallow leads tells =
+    removed_so w target is quiet shallow tells.parts count leads tells.entries tells.last tells.counted
+quietly w target (failed error) is quiet shallow leads tells = on tells.why
   where
     on : TellsWalkFailed w error ⊎ TellsGivenUp w target error → is_short error ≡ false → QuietFailed w error
     on (inl failure) enough = walk_failed w error is quiet shallow failure enough
     on (inr given) enough = given_up w target is quiet shallow given.parts error given.entries given.fault enough
 
 pub quiet_remove_all : QuietRemoveAll
-quiet_remove_all w target end is shallow leads quiet = quietly w target end is quiet shallow (every_call_tells walks_tell w target end is shallow leads)
+quiet_remove_all w target end is shallow leads quiet = quietly w target end is quiet shallow leads (every_call_tells walks_tell w target end is shallow leads)
