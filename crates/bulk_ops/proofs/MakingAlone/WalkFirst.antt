@@ -155,7 +155,7 @@ partial_means g path (up_to x b others reads) e handle names rest is = record {
 partial_means g path (none error reads) e handle names rest is = absurd is
 
 -- nothing of it was made yet
-nothing_made : (nodes : List Inode) (deep : Deep) → IsPartOf nodes nodes (make_means nodes deep)
+pub nothing_made : (nodes : List Inode) (deep : Deep) → IsPartOf nodes nodes (make_means nodes deep)
 nothing_made nodes (whole x b reads) = on (is_dir nodes x)
   where
     on : (t : Bool) → IsPartOf nodes nodes (if t then gives x nodes else refuses NotDir)

@@ -41,7 +41,7 @@ met_in_front [] rest error met = absurd met
 met_in_front (line ∷ first) rest error (inl met) = inl met
 met_in_front (line ∷ first) rest error (inr met) = inr (met_in_front first rest error met)
 
-met_behind : (first rest : List Line) (error : Errno) → MetWant rest error → MetWant (first ++ rest) error
+pub met_behind : (first rest : List Line) (error : Errno) → MetWant rest error → MetWant (first ++ rest) error
 met_behind [] rest error met = met
 met_behind (line ∷ first) rest error met = inr (met_behind first rest error met)
 

@@ -77,7 +77,7 @@ module _ (w : WalkInHistory) (target : List ℕ) (is : IsWalkInHistory w) (quiet
   walk_end : quiet_walk.IsQuietEnd first (walk.found parts.handle parts.names)
   walk_end = quiet_walks_mean first (walk.found parts.handle parts.names) parts.is_walk parts.walked tt first_quiet refl
 
-  found : IsFoundAt w dir
+  pub found : IsFoundAt w dir
   found = found_at w (directory_means w) parts.handle parts.names refl (walk_end.means shallow)
 
   begins_there : begin_of second ≡ end_of first
