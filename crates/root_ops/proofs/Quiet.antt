@@ -5,5 +5,6 @@ pub mod WalksAlone
 pub mod StepsAlone
 pub mod EntriesAlone
 pub mod RenamesAlone
+pub mod BulkAlone
 pub mod CallsAlone
 pub mod WorkedRename

@@ -2,7 +2,7 @@
 ghost use Rattle.root_ops.specs.CallHistory.{CallsTell};
 ghost use Rattle.root_ops.specs.StepCount.{FiveAfterWalks};
 
-/// Once its walks are over a call makes at most five steps.
+/// Once its walks are over a call makes at most five steps, if it is no bulk call.
 pub fn five_steps_after_walks()
     ensures { FiveAfterWalks }
 {}

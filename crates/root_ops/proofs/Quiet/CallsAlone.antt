@@ -1,7 +1,8 @@
 -- Every operation, where nobody else acts: alone in a history, and then in any window in which no other's event stands.
-use Rattle.std.proofs.Common.{◌≡◌, inl, inr, ℕ, suc, List, [], ◌∷◌, Bool, true, false, cond, if◌then◌else◌, Option, Some, None, slice_get, slice_set, refl, sym, ap, ◌∙◌, subst, eq-eqb}
+use Rattle.std.proofs.Common.{◌≡◌, ◌⊎◌, inl, inr, ℕ, suc, List, [], ◌∷◌, Bool, true, false, cond, if◌then◌else◌, Option, Some, None, Result, Ok, Err, slice_get, slice_set, refl, sym, ap, ◌∙◌, subst, eq-eqb}
 use Rattle.path_text.specs.declared.errno.Errno.{Errno}
 use Rattle.path_text.specs.declared.errno.Errno.TheVariants.{NoMemory, BadHandle, Invalid}
+use Rattle.path_text.specs.declared.path.Split.{Split}
 use Rattle.path_text.specs.declared.path.Rule.{Rule}
 use Rattle.path_text.specs.declared.path.Rule.TheVariants.{Drop, Refuse}
 use Rattle.path_text.specs.Text.{text_fault, reading_of}
@@ -27,12 +28,16 @@ use Rattle.root_ops.specs.declared.aim.Change.{Change}
 use Rattle.root_ops.specs.declared.aim.Change.TheVariants as change
 use Rattle.root_ops.specs.declared.aim.Wanted.TheVariants as wants
 use Rattle.root_ops.specs.declared.op.Op.{Op}
-use Rattle.root_ops.specs.declared.op.Op.TheVariants.{Resolve, ResolveNoFollow, ReadLink, CreateFile, CreateDir, CreateLink, RemoveFile, RemoveDir, Rename, Single, Release}
-use Rattle.root_ops.specs.Meaning.{Caller, Whole, is_open, is_done, keeps, fails, told_by, and_then, directory_of, entry_of, renamed, tells, changes, op_means}
+use Rattle.root_ops.specs.declared.op.Op.TheVariants.{Resolve, ResolveNoFollow, ReadLink, CreateFile, CreateDir, CreateLink, RemoveFile, RemoveDir, Rename, MkdirAll, RemoveAll, Single, Release}
+use Rattle.root_ops.specs.Meaning.{Caller, Whole, is_open, is_done, keeps, fails, told_by, and_then, directory_of, entry_of, renamed, tells, changes, unless_error, makes_along, clears as clears_in, op_means}
 use Rattle.root_ops.specs.Meaning as meaning
-use Rattle.root_ops.specs.Order.{Reply, kept, fault, more, ends, acting, releasing, unless_fault, reply_to, is_single, same_owner, begins, begins_without, starts, LeadsTo}
+use Rattle.root_ops.specs.Order.{Reply, kept, fault, more, ends, acting, releasing, unless_fault, make_way, makes, clear_in, reply_to, is_single, same_owner, begins, begins_without, starts, LeadsTo}
 use Rattle.root_ops.specs.CallHistory.{begin_of, actor_of}
-use Rattle.root_ops.specs.Quiet.{IsReply, ComesTo, caller_of, QuietCallsMean}
+use Rattle.root_ops.specs.Quiet.{IsReply, IsDone, ComesTo, MadePart, ClearedPart, OpComesTo, caller_of, QuietCallsMean}
+use Rattle.root_ops.proofs.Quiet.BulkAlone.{makes_alone, clears_alone, nothing_made_yet}
+use Rattle.bulk_ops.specs.MakeAllOrder as make
+use Rattle.bulk_ops.specs.MakeAllQuiet.{IsPart}
+use Rattle.root_ops.specs.StepCount.{is_bulk}
 use Rattle.root_ops.proofs.Quiet.WalksAlone.{HasRoot}
 use Rattle.root_ops.proofs.Quiet.StepsAlone.{fails_alone, runs_short, Acts, acts_alone, change_of}
 use Rattle.root_ops.proofs.Quiet.EntriesAlone.{ground_here, text_here, acts_short, faults_alone, opens_alone, reads_alone, changes_alone}
@@ -159,55 +164,132 @@ module _ (c : Caller) (has : HasRoot c.tree c.actor c.below.root.handle c.root) 
   OpenOnly op lines = (standing : StandingObject) (others : List Line) → op ≡ Release standing → lines ≡ not_made BadHandle ∷ others
       → held c.tree c.actor standing.handle ≡ None
 
-  with_memory : (op : Op) (lines : List Line) → OpenOnly op lines → LeadsTo c.below (begins c.below op) lines (ends reply) → IsLegal c.tree (events_of c.actor lines)
+  with_memory : (op : Op) (lines : List Line) → is_bulk op ≡ false → OpenOnly op lines → LeadsTo c.below (begins c.below op) lines (ends reply) → IsLegal c.tree (events_of c.actor lines)
       → ComesTo c (after_events c.tree (events_of c.actor lines)) true lines (op_means c op) reply
-  with_memory (Resolve text) lines open_only leads legal = opens_alone c has Follow refl text (text_fault text) lines reply leads legal
-  with_memory (ResolveNoFollow text) lines open_only leads legal = opens_alone c has NoFollow refl text (text_fault text) lines reply leads legal
-  with_memory (ReadLink text) lines open_only leads legal = reads_alone c has text (text_fault text) lines reply leads legal
-  with_memory (CreateFile text) lines open_only leads legal =
+  with_memory (Resolve text) lines single open_only leads legal = opens_alone c has Follow refl text (text_fault text) lines reply leads legal
+  with_memory (ResolveNoFollow text) lines single open_only leads legal = opens_alone c has NoFollow refl text (text_fault text) lines reply leads legal
+  with_memory (ReadLink text) lines single open_only leads legal = reads_alone c has text (text_fault text) lines reply leads legal
+  with_memory (CreateFile text) lines single open_only leads legal =
       changes_alone c has change.MakeFile (text_fault text) (split_of (reading_of text) Refuse) lines reply leads legal
-  with_memory (CreateDir text) lines open_only leads legal =
+  with_memory (CreateDir text) lines single open_only leads legal =
       changes_alone c has change.MakeDir (text_fault text) (split_of (reading_of text) Drop) lines reply leads legal
-  with_memory (CreateLink text target) lines open_only leads legal =
+  with_memory (CreateLink text target) lines single open_only leads legal =
       changes_alone c has (change.MakeLink target) (text_fault text) (split_of (reading_of text) Refuse) lines reply leads legal
-  with_memory (RemoveFile text) lines open_only leads legal =
+  with_memory (RemoveFile text) lines single open_only leads legal =
       changes_alone c has change.RemoveFile (text_fault text) (split_of (reading_of text) Refuse) lines reply leads legal
-  with_memory (RemoveDir text) lines open_only leads legal =
+  with_memory (RemoveDir text) lines single open_only leads legal =
       changes_alone c has change.RemoveDir (text_fault text) (split_of (reading_of text) Drop) lines reply leads legal
-  with_memory (Rename old new mode) lines open_only leads legal =
+  with_memory (Rename old new mode) lines single open_only leads legal =
       rename_alone c has mode new (text_fault old) (split_of (reading_of old) Drop) lines reply leads legal
-  with_memory (Single step) lines open_only leads legal = single_alone step (is_single step) lines leads legal
-  with_memory (Release standing) lines open_only leads legal =
+  with_memory (MkdirAll text) lines single open_only leads legal = cc (single)
+  with_memory (RemoveAll text) lines single open_only leads legal = cc (single)
+  with_memory (Single step) lines single open_only leads legal = single_alone step (is_single step) lines leads legal
+  with_memory (Release standing) lines single open_only leads legal =
       release_alone standing true (same_owner standing.owner c.below.root.owner) lines (λ others own is. open_only standing others refl is) leads legal
 
-  without_memory : (op : Op) (lines : List Line) → OpenOnly op lines → LeadsTo c.below (begins_without c.below op) lines (ends reply)
+  without_memory : (op : Op) (lines : List Line) → is_bulk op ≡ false → OpenOnly op lines → LeadsTo c.below (begins_without c.below op) lines (ends reply)
       → IsLegal c.tree (events_of c.actor lines)
       → ComesTo c (after_events c.tree (events_of c.actor lines)) false lines (op_means c op) reply
-  without_memory (Resolve text) lines open_only leads legal =
+  without_memory (Resolve text) lines single open_only leads legal =
       lacks_alone (text_fault text) (λ f. tells c is_open (meaning.found (resolution (resolves (ground_here c has) text true f)))) lines (λ error. refl) leads
-  without_memory (ResolveNoFollow text) lines open_only leads legal =
+  without_memory (ResolveNoFollow text) lines single open_only leads legal =
       lacks_alone (text_fault text) (λ f. tells c is_open (meaning.found (resolution (resolves (ground_here c has) text false f)))) lines (λ error. refl) leads
-  without_memory (ReadLink text) lines open_only leads legal =
+  without_memory (ReadLink text) lines single open_only leads legal =
       lacks_alone (text_fault text) (λ f. text_here c has (meaning.found (resolution (resolves (ground_here c has) text false f)))) lines (λ error. refl) leads
-  without_memory (CreateFile text) lines open_only leads legal = lacks_alone (text_fault text) (entry_whole change.MakeFile text Refuse) lines (λ error. refl) leads
-  without_memory (CreateDir text) lines open_only leads legal = lacks_alone (text_fault text) (entry_whole change.MakeDir text Drop) lines (λ error. refl) leads
-  without_memory (CreateLink text target) lines open_only leads legal =
+  without_memory (CreateFile text) lines single open_only leads legal = lacks_alone (text_fault text) (entry_whole change.MakeFile text Refuse) lines (λ error. refl) leads
+  without_memory (CreateDir text) lines single open_only leads legal = lacks_alone (text_fault text) (entry_whole change.MakeDir text Drop) lines (λ error. refl) leads
+  without_memory (CreateLink text target) lines single open_only leads legal =
       lacks_alone (text_fault text) (entry_whole (change.MakeLink target) text Refuse) lines (λ error. refl) leads
-  without_memory (RemoveFile text) lines open_only leads legal = lacks_alone (text_fault text) (entry_whole change.RemoveFile text Refuse) lines (λ error. refl) leads
-  without_memory (RemoveDir text) lines open_only leads legal = lacks_alone (text_fault text) (entry_whole change.RemoveDir text Drop) lines (λ error. refl) leads
-  without_memory (Rename old new mode) lines open_only leads legal =
+  without_memory (RemoveFile text) lines single open_only leads legal = lacks_alone (text_fault text) (entry_whole change.RemoveFile text Refuse) lines (λ error. refl) leads
+  without_memory (RemoveDir text) lines single open_only leads legal = lacks_alone (text_fault text) (entry_whole change.RemoveDir text Drop) lines (λ error. refl) leads
+  without_memory (Rename old new mode) lines single open_only leads legal =
       lacks_alone (text_fault old)
       (λ f. changes c (and_then (refuse_by f (split_of (reading_of old) Drop)) (λ from. and_then (entry_of new Drop) (λ to. renamed c from to mode))))
       lines (λ error. refl) leads
-  without_memory (Single step) lines open_only leads legal = single_lacks step (is_single step) lines leads
-  without_memory (Release standing) lines open_only leads legal =
+  without_memory (MkdirAll text) lines single open_only leads legal = cc (single)
+  without_memory (RemoveAll text) lines single open_only leads legal = cc (single)
+  without_memory (Single step) lines single open_only leads legal = single_lacks step (is_single step) lines leads
+  without_memory (Release standing) lines single open_only leads legal =
       release_alone standing false (same_owner standing.owner c.below.root.owner) lines (λ others own is. open_only standing others refl is) leads legal
+
+  -- ---- bulk calls
+
+  make_alone : (text : List ℕ) (why : Option Errno) (lines : List Line)
+      → LeadsTo c.below (unless_fault why (makes (make.begins (make_way c.below) (reading_of text)))) lines (ends reply) → IsLegal c.tree (events_of c.actor lines)
+      → IsDone c (after_events c.tree (events_of c.actor lines)) (unless_error c (refuse_by why (Ok (reading_of text))) (λ path. makes_along c path)) reply
+      ⊎ MadePart c (after_events c.tree (events_of c.actor lines)) true lines (unless_error c (refuse_by why (Ok (reading_of text))) (λ path. makes_along c path)) reply
+  make_alone text (Some error) lines leads legal = inl (fails_alone c c.tree refl [] error lines reply leads)
+  make_alone text None lines leads legal = makes_alone c has reply lines legal (reading_of text) leads
+
+  abbrev cleared_whole : Option Errno → Result Split Errno → Whole
+  cleared_whole why split = unless_error c (refuse_by why split) (λ at. unless_error c (directory_of c at.dir) (λ d. clears_in c at.name d))
+
+  make_lacks : (text : List ℕ) (why : Option Errno) (lines : List Line) → LeadsTo c.below (unless_fault why (ends (fault NoMemory))) lines (ends reply)
+      → IsDone c (after_events c.tree (events_of c.actor lines)) (unless_error c (refuse_by why (Ok (reading_of text))) (λ path. makes_along c path)) reply
+      ⊎ MadePart c (after_events c.tree (events_of c.actor lines)) false lines (unless_error c (refuse_by why (Ok (reading_of text))) (λ path. makes_along c path)) reply
+  make_lacks text (Some error) lines leads = inl (fails_alone c c.tree refl [] error lines reply leads)
+  make_lacks text None lines leads =
+      let over = ended c (fault NoMemory) reply lines c.tree leads in
+      inr (record {
+        error = NoMemory;
+        is_reply = sym over.0;
+        want = refl;
+        met = inr (refl, refl);
+        part = subst (λ (s : State). IsPart c.tree.nodes s.nodes (makes_along c (reading_of text)).nodes) (sym over.1) (nothing_made_yet c (reading_of text));
+      })
+
+  clear_alone : (split : Result Split Errno) (why : Option Errno) (lines : List Line) → LeadsTo c.below (unless_fault why (clear_in c.below split)) lines (ends reply)
+      → IsLegal c.tree (events_of c.actor lines)
+      → IsDone c (after_events c.tree (events_of c.actor lines)) (cleared_whole why split) reply
+      ⊎ ClearedPart c (after_events c.tree (events_of c.actor lines)) true lines (cleared_whole why split) reply
+  clear_alone split (Some error) lines leads legal = inl (fails_alone c c.tree refl [] error lines reply leads)
+  clear_alone (Err error) None lines leads legal = inl (fails_alone c c.tree refl [] error lines reply leads)
+  clear_alone (Ok split) None lines leads legal = clears_alone c has reply lines legal split leads
+
+  clear_lacks : (split : Result Split Errno) (why : Option Errno) (lines : List Line) → LeadsTo c.below (unless_fault why (ends (fault NoMemory))) lines (ends reply)
+      → IsDone c (after_events c.tree (events_of c.actor lines)) (cleared_whole why split) reply
+      ⊎ ClearedPart c (after_events c.tree (events_of c.actor lines)) false lines (cleared_whole why split) reply
+  clear_lacks split (Some error) lines leads = inl (fails_alone c c.tree refl [] error lines reply leads)
+  clear_lacks split None lines leads =
+      let over = ended c (fault NoMemory) reply lines c.tree leads in
+      inr (record {
+        error = NoMemory;
+        is_reply = sym over.0;
+        short = inl (refl, inr (refl, refl));
+        part = λ x. inl (ap (λ (s : State). slice_get s.nodes x) over.1);
+      })
+
+  -- ---- each
 
   pub alone : (room : Bool) (op : Op) (lines : List Line) → OpenOnly op lines → LeadsTo c.below (starts c.below room op) lines (ends reply)
       → IsLegal c.tree (events_of c.actor lines)
-      → ComesTo c (after_events c.tree (events_of c.actor lines)) room lines (op_means c op) reply
-  alone true op lines open_only leads legal = with_memory op lines open_only leads legal
-  alone false op lines open_only leads legal = without_memory op lines open_only leads legal
+      → OpComesTo c (after_events c.tree (events_of c.actor lines)) room lines op reply
+  alone true (MkdirAll text) lines open_only leads legal = make_alone text (text_fault text) lines leads legal
+  alone false (MkdirAll text) lines open_only leads legal = make_lacks text (text_fault text) lines leads
+  alone true (RemoveAll text) lines open_only leads legal = clear_alone (split_of (reading_of text) Drop) (text_fault text) lines leads legal
+  alone false (RemoveAll text) lines open_only leads legal = clear_lacks (split_of (reading_of text) Drop) (text_fault text) lines leads
+  alone true (Resolve text) lines open_only leads legal = with_memory (Resolve text) lines refl open_only leads legal
+  alone false (Resolve text) lines open_only leads legal = without_memory (Resolve text) lines refl open_only leads legal
+  alone true (ResolveNoFollow text) lines open_only leads legal = with_memory (ResolveNoFollow text) lines refl open_only leads legal
+  alone false (ResolveNoFollow text) lines open_only leads legal = without_memory (ResolveNoFollow text) lines refl open_only leads legal
+  alone true (ReadLink text) lines open_only leads legal = with_memory (ReadLink text) lines refl open_only leads legal
+  alone false (ReadLink text) lines open_only leads legal = without_memory (ReadLink text) lines refl open_only leads legal
+  alone true (CreateFile text) lines open_only leads legal = with_memory (CreateFile text) lines refl open_only leads legal
+  alone false (CreateFile text) lines open_only leads legal = without_memory (CreateFile text) lines refl open_only leads legal
+  alone true (CreateDir text) lines open_only leads legal = with_memory (CreateDir text) lines refl open_only leads legal
+  alone false (CreateDir text) lines open_only leads legal = without_memory (CreateDir text) lines refl open_only leads legal
+  alone true (CreateLink text target) lines open_only leads legal = with_memory (CreateLink text target) lines refl open_only leads legal
+  alone false (CreateLink text target) lines open_only leads legal = without_memory (CreateLink text target) lines refl open_only leads legal
+  alone true (RemoveFile text) lines open_only leads legal = with_memory (RemoveFile text) lines refl open_only leads legal
+  alone false (RemoveFile text) lines open_only leads legal = without_memory (RemoveFile text) lines refl open_only leads legal
+  alone true (RemoveDir text) lines open_only leads legal = with_memory (RemoveDir text) lines refl open_only leads legal
+  alone false (RemoveDir text) lines open_only leads legal = without_memory (RemoveDir text) lines refl open_only leads legal
+  alone true (Rename old new mode) lines open_only leads legal = with_memory (Rename old new mode) lines refl open_only leads legal
+  alone false (Rename old new mode) lines open_only leads legal = without_memory (Rename old new mode) lines refl open_only leads legal
+  alone true (Single step) lines open_only leads legal = with_memory (Single step) lines refl open_only leads legal
+  alone false (Single step) lines open_only leads legal = without_memory (Single step) lines refl open_only leads legal
+  alone true (Release standing) lines open_only leads legal = with_memory (Release standing) lines refl open_only leads legal
+  alone false (Release standing) lines open_only leads legal = without_memory (Release standing) lines refl open_only leads legal
 
 -- ---- in any window
 
@@ -221,7 +303,7 @@ all_own a (event ∷ events) own =
 pub quiet_calls_mean : QuietCallsMean
 quiet_calls_mean c reply is leads quiet open_only =
     let same = sym (all_own (actor_of c) c.window quiet) ∙ is.own in
-    subst (λ events. ComesTo (caller_of c) (after_events (begin_of c) events) c.room c.lines (op_means (caller_of c) c.op) reply) (sym same)
+    subst (λ events. OpComesTo (caller_of c) (after_events (begin_of c) events) c.room c.lines c.op reply) (sym same)
     (alone (caller_of c)
     (record { tree = (histories_keep_trees c.opening c.before is.tree).0; root = is.root; is_dir = is.root_is_dir })
     reply c.room c.op c.lines open_only leads (subst (IsLegal (begin_of c)) same is.legal))

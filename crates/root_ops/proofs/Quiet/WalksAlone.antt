@@ -186,7 +186,7 @@ no_partial (object x b reads) handle names rest is = is
 no_partial (fails cause reads) handle names rest is = is
 
 -- a want that an end tells of was met
-want_met : (lines : List Line) (error : Errno) → TellsWant error lines → MetWant lines error
+pub want_met : (lines : List Line) (error : Errno) → TellsWant error lines → MetWant lines error
 want_met [] error tells = tells
 want_met (answered step answer ∷ lines) error (inl tells) = absurd tells
 want_met (no_room step answer ∷ lines) error (inl tells) = inl (inl tells)
@@ -200,7 +200,7 @@ refusal_met (no_room made answer ∷ lines) step (inl met) = inl (inr (refl, met
 refusal_met (not_made cause ∷ lines) step (inl met) = absurd met
 refusal_met (line ∷ lines) step (inr met) = inr (refusal_met lines step met)
 
-met_by : (lines : List Line) (w : WalkInHistory) → w.lines ≡ lines → (error : Errno) → is_want error ≡ true → TellsError w error → MetWant lines error
+pub met_by : (lines : List Line) (w : WalkInHistory) → w.lines ≡ lines → (error : Errno) → is_want error ≡ true → TellsError w error → MetWant lines error
 met_by lines w same NoMemory want tells = subst (λ ls. MetWant ls NoMemory) same (want_met w.lines NoMemory tells)
 met_by lines w same BookFull want tells = subst (λ ls. MetWant ls BookFull) same (want_met w.lines BookFull tells)
 met_by lines w same TooMany want tells = subst (λ ls. MetWant ls TooMany) same (refusal_met w.lines tells.step tells.line)
