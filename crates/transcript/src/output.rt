@@ -22,7 +22,7 @@ impl Model for Output {
 }
 
 /// The word for what a node is.
-pub(crate) fn kind_word(kind: Kind) -> &'static str
+fn kind_word(kind: Kind) -> &'static str
     ensures { result.now ≡ kind_word kind }
 {
     match kind {
@@ -77,6 +77,13 @@ impl Output {
         self.text(buffer.format(number))
     }
 
+    /// Adds the word for what a node is: `dir`, `file` or `link`.
+    pub fn kind(&mut self, kind: Kind) -> Result<(), NoMemory>
+        ensures { Gains self.old self.new (kind_word kind) result }
+    {
+        self.text(kind_word(kind))
+    }
+
     /// Adds one byte of a name, a path or a link's text: a printed one as it is, but for the backslash, and
     /// any other as `\x` and two hexadecimal digits.
     fn byte(&mut self, byte: u8) -> Result<(), NoMemory>
@@ -113,7 +120,7 @@ impl Output {
     {
         let path = names.print(alloc)?;
         self.text("opened ")?;
-        self.text(kind_word(kind))?;
+        self.kind(kind)?;
         self.text(" ")?;
         self.number(node.number())?;
         self.text(" ")?;
