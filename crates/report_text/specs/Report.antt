@@ -1,6 +1,8 @@
--- The text of a report, from its events, the tree that they led to, and the actors.
+-- The text of a report, from its events, how the calls ended, the tree that the events led to, and the number of actors.
 use Rattle.std.specs.Prelude.{ℕ, zero, suc, List, [], ◌∷◌, ◌++◌, codes, decimal}
 use Rattle.std.specs.List.{flat_map}
+use Rattle.race_core.specs.declared.report.Outcome.{Outcome}
+use Rattle.race_core.specs.declared.report.Outcome.TheVariants.{Opened, Text, Done, Count, Stepped, Fault}
 use Rattle.tree_model.specs.declared.answer.Event.{Event}
 use Rattle.tree_model.specs.declared.inode.Inode.{Inode}
 use Rattle.tree_model.specs.declared.row.Row.{Row}
@@ -9,7 +11,7 @@ use Rattle.tree_model.specs.Entries.{with_some}
 use Rattle.tree_model.specs.Rows.{rows_in_order}
 use Rattle.tree_model.specs.State.{State, object_at}
 use Rattle.tree_model.specs.Steps.{held_count, kind_of}
-use Rattle.transcript.specs.Output.{escaped, kind_word}
+use Rattle.transcript.specs.Output.{escaped, kind_word, opened_line, fault_line}
 use Rattle.transcript.specs.Words.{line_of, step_words, answer_words}
 
 -- the lines of elements that are counted from k on
@@ -25,6 +27,27 @@ event_line k event =
 
 abbrev pub event_lines : List Event → List ℕ
 event_lines events = numbered event_line 0 events
+
+-- how a call ended, and a newline
+abbrev pub reply_text : Outcome → List ℕ
+reply_text (Opened node kind names) = opened_line kind node names
+reply_text (Text text) = codes "text " ++ (escaped text ++ codes "\n")
+reply_text Done = codes "done" ++ codes "\n"
+reply_text (Count count) = codes "count " ++ (decimal count ++ codes "\n")
+reply_text (Stepped answer) = codes "stepped " ++ (line_of (answer_words answer) ++ codes "\n")
+reply_text (Fault error) = fault_line error
+
+-- reply I J REPLY
+abbrev pub reply_line : ℕ → ℕ → Outcome → List ℕ
+reply_line actor call outcome = codes "reply " ++ (decimal actor ++ (codes " " ++ (decimal call ++ (codes " " ++ reply_text outcome))))
+
+-- an actor's calls
+abbrev pub actor_lines : ℕ → List Outcome → List ℕ
+actor_lines actor outcomes = numbered (reply_line actor) 0 outcomes
+
+-- each actor's calls
+abbrev pub reply_lines : List (List Outcome) → List ℕ
+reply_lines replies = numbered actor_lines 0 replies
 
 -- row PARENT NAME CHILD
 abbrev pub place_words : Row → List ℕ
@@ -50,3 +73,7 @@ held_line s actor = codes "held " ++ (decimal actor ++ (codes " " ++ (decimal (h
 abbrev pub held_lines : State → ℕ → List ℕ
 held_lines s zero = []
 held_lines s (suc actor) = held_lines s actor ++ held_line s actor
+
+-- the whole: events, replies, entries, open handles
+abbrev pub report_text : List Event → List (List Outcome) → State → ℕ → List ℕ
+report_text events replies s actors = event_lines events ++ (reply_lines replies ++ (row_lines s.nodes ++ held_lines s actors))

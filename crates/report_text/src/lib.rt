@@ -6,10 +6,14 @@
 #![tactic(auto)]
 
 mod history;
+mod outcomes;
 mod state;
 #[cfg(test)]
 mod tests;
+mod whole;
 mod words;
 
-pub use state::{held, rows};
 pub use history::events;
+pub use outcomes::replies;
+pub use state::{held, rows};
+pub use whole::report;

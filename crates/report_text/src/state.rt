@@ -1,7 +1,7 @@
 //! The lines of a tree's entries and of its open handles.
 ghost use Rattle.std.specs.Prelude.{◌≡◌};
 ghost use Rattle.std.specs.List.{flat_map};
-ghost use Rattle.transcript.specs.Output.{Gains, kind_word};
+ghost use Rattle.transcript.specs.Output.{Gains};
 ghost use Rattle.report_text.specs.Report.{place_words, entry_line, row_line, row_lines, held_line, held_lines};
 
 use crate::words::numbered;
@@ -9,17 +9,6 @@ use path_text::NoMemory;
 use std::alloc::Global;
 use transcript::Output;
 use tree_model::{Actor, Inode, Kind, Row, Snapshot, Tree, object_at};
-
-// The word for what a node is.
-fn kind_word(kind: Kind) -> &'static str
-    ensures { result.now ≡ kind_word kind }
-{
-    match kind {
-        Kind::Dir => "dir",
-        Kind::File => "file",
-        Kind::Link => "link",
-    }
-}
 
 // Adds a row's directory, its name and its node.
 fn place(out: &mut Output, row: &Row) -> Result<(), NoMemory>
@@ -37,7 +26,7 @@ fn entry(out: &mut Output, row: &Row, kind: Kind) -> Result<(), NoMemory>
 {
     place(out, row)?;
     out.text(" ")?;
-    out.text(kind_word(kind))?;
+    out.kind(kind)?;
     out.text("\n")
 }
 
