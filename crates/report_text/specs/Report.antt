@@ -11,7 +11,7 @@ use Rattle.tree_model.specs.Entries.{with_some}
 use Rattle.tree_model.specs.Rows.{rows_in_order}
 use Rattle.tree_model.specs.State.{State, object_at}
 use Rattle.tree_model.specs.Steps.{held_count, kind_of}
-use Rattle.transcript.specs.Output.{escaped, kind_word, opened_line, fault_line}
+use Rattle.transcript.specs.Output.{escaped, kind_word, opened_words, fault_words}
 use Rattle.transcript.specs.Words.{line_of, step_words, answer_words}
 
 -- the lines of elements that are counted from k on
@@ -19,27 +19,31 @@ abbrev pub numbered : {A : Type 0} → (ℕ → A → List ℕ) → ℕ → List
 numbered line k [] = []
 numbered line k (x ∷ xs) = line k x ++ numbered line (suc k) xs
 
+-- STEP = ANSWER
+abbrev pub event_words : Event → List ℕ
+event_words event = line_of (step_words event.step) ++ (codes " = " ++ line_of (answer_words event.answer))
+
 -- event K actor I STEP = ANSWER
 abbrev pub event_line : ℕ → Event → List ℕ
 event_line k event =
-    codes "event " ++ (decimal k ++ (codes " actor " ++ (decimal event.actor ++ (codes " " ++ (line_of (step_words event.step)
-    ++ (codes " = " ++ (line_of (answer_words event.answer) ++ codes "\n")))))))
+    codes "event " ++ (decimal k ++ (codes " actor " ++ (decimal event.actor ++ (codes " " ++ (event_words event ++ codes "\n")))))
 
 abbrev pub event_lines : List Event → List ℕ
 event_lines events = numbered event_line 0 events
 
--- how a call ended, and a newline
-abbrev pub reply_text : Outcome → List ℕ
-reply_text (Opened node kind names) = opened_line kind node names
-reply_text (Text text) = codes "text " ++ (escaped text ++ codes "\n")
-reply_text Done = codes "done" ++ codes "\n"
-reply_text (Count count) = codes "count " ++ (decimal count ++ codes "\n")
-reply_text (Stepped answer) = codes "stepped " ++ (line_of (answer_words answer) ++ codes "\n")
-reply_text (Fault error) = fault_line error
+-- how a call ended
+abbrev pub reply_words : Outcome → List ℕ
+reply_words (Opened node kind names) = opened_words kind node names
+reply_words (Text text) = codes "text " ++ escaped text
+reply_words Done = codes "done"
+reply_words (Count count) = codes "count " ++ decimal count
+reply_words (Stepped answer) = codes "stepped " ++ line_of (answer_words answer)
+reply_words (Fault error) = fault_words error
 
 -- reply I J REPLY
 abbrev pub reply_line : ℕ → ℕ → Outcome → List ℕ
-reply_line actor call outcome = codes "reply " ++ (decimal actor ++ (codes " " ++ (decimal call ++ (codes " " ++ reply_text outcome))))
+reply_line actor call outcome =
+    codes "reply " ++ (decimal actor ++ (codes " " ++ (decimal call ++ (codes " " ++ (reply_words outcome ++ codes "\n")))))
 
 -- an actor's calls
 abbrev pub actor_lines : ℕ → List Outcome → List ℕ

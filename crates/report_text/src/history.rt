@@ -1,13 +1,23 @@
 //! The lines of events.
 ghost use Rattle.std.specs.Prelude.{◌≡◌, ◌<◌, length, IfSome, slice_get};
 ghost use Rattle.transcript.specs.Output.{Gains};
-ghost use Rattle.report_text.specs.Report.{event_line, event_lines};
+ghost use Rattle.report_text.specs.Report.{event_words, event_line, event_lines};
 
 use crate::words::numbered;
 use event_log::EventLog;
 use path_text::NoMemory;
 use std::alloc::Global;
 use transcript::Output;
+use tree_model::Event;
+
+/// Adds what an event did, with no newline: `STEP = ANSWER`. NoMemory where its room was refused.
+pub fn event_words(alloc: Global, out: &mut Output, event: &Event) -> Result<(), NoMemory>
+    ensures { Gains out.old out.new (event_words event.now) result }
+{
+    out.step(&event.step)?;
+    out.text(" = ")?;
+    out.answer(alloc, &event.answer)
+}
 
 // Adds the line of the event at a place.
 fn event(alloc: Global, out: &mut Output, log: &EventLog, at: usize) -> Result<(), NoMemory>
@@ -18,9 +28,7 @@ fn event(alloc: Global, out: &mut Output, log: &EventLog, at: usize) -> Result<(
     numbered(out, "event ", at as u64)?;
     numbered(out, " actor ", u64::from(event.actor.number()))?;
     out.text(" ")?;
-    out.step(&event.step)?;
-    out.text(" = ")?;
-    out.answer(alloc, &event.answer)?;
+    event_words(alloc, out, &event)?;
     out.text("\n")
 }
 

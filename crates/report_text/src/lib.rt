@@ -6,6 +6,7 @@
 #![tactic(auto)]
 
 mod history;
+mod laws;
 mod outcomes;
 mod state;
 #[cfg(test)]
@@ -13,7 +14,8 @@ mod tests;
 mod whole;
 mod words;
 
-pub use history::events;
-pub use outcomes::replies;
+pub use history::{event_words, events};
+pub use laws::rows_have_lines;
+pub use outcomes::{replies, reply_words};
 pub use state::{held, rows};
 pub use whole::report;

@@ -1,7 +1,7 @@
 //! The lines of how calls ended.
 ghost use Rattle.std.specs.Prelude.{◌≡◌, ℕ, List, ◌++◌};
 ghost use Rattle.transcript.specs.Output.{Gains};
-ghost use Rattle.report_text.specs.Report.{reply_text, reply_line, actor_lines, reply_lines};
+ghost use Rattle.report_text.specs.Report.{reply_words, reply_line, actor_lines, reply_lines};
 
 use crate::words::numbered;
 use path_text::NoMemory;
@@ -9,25 +9,25 @@ use race_core::{Outcome, Outcomes};
 use std::alloc::Global;
 use transcript::Output;
 
-// Adds how a call ended, and a newline.
-fn end(alloc: Global, out: &mut Output, outcome: &Outcome) -> Result<(), NoMemory>
-    ensures { Gains out.old out.new (reply_text outcome.now) result }
+/// Adds how a call ended, with no newline: `opened KIND NODE PATH`, `text TEXT`, `done`, `count N`, `stepped ANSWER`
+/// or `fault ENAME`. NoMemory where its room was refused.
+pub fn reply_words(alloc: Global, out: &mut Output, outcome: &Outcome) -> Result<(), NoMemory>
+    ensures { Gains out.old out.new (reply_words outcome.now) result }
 {
     match outcome {
-        Outcome::Opened { node, kind, names } => return out.opened(alloc, *kind, *node, names),
-        Outcome::Fault(error) => return out.fault(*error),
+        Outcome::Opened { node, kind, names } => out.opened_words(alloc, *kind, *node, names),
         Outcome::Text(text) => {
             out.text("text ")?;
-            out.escaped(text.as_slice())?;
+            out.escaped(text.as_slice())
         }
-        Outcome::Done => out.text("done")?,
-        Outcome::Count(count) => numbered(out, "count ", *count)?,
+        Outcome::Done => out.text("done"),
+        Outcome::Count(count) => numbered(out, "count ", *count),
         Outcome::Stepped(answer) => {
             out.text("stepped ")?;
-            out.answer(alloc, answer)?;
+            out.answer(alloc, answer)
         }
+        Outcome::Fault(error) => out.fault_words(*error),
     }
-    out.text("\n")
 }
 
 // Adds the line of a call, by its actor's number and its own.
@@ -43,7 +43,8 @@ fn reply(
     numbered(out, "reply ", actor)?;
     numbered(out, " ", call)?;
     out.text(" ")?;
-    end(alloc, out, outcome)
+    reply_words(alloc, out, outcome)?;
+    out.text("\n")
 }
 
 // Adds the line of each call of an actor.

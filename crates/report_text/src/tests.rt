@@ -23,6 +23,7 @@ const TREE: [(&str, &str); 10] = [
     ("/secret", "dir"),
     ("/secret/key", "file"),
 ];
+
 const RUN: &str = "event 0 actor 1 open 1 c = opened 2 1 dir
 event 1 actor 1 open 2 a = opened 3 2 dir
 event 2 actor 1 close 2 = done
@@ -165,34 +166,69 @@ fn outcome_at(alloc: Global, at: u8) -> Result<Outcome, Errno> {
     })
 }
 
-/// Whether that outcome of the second call of the third actor has that line.
-fn is_written(alloc: Global, at: u8, line: &str) -> Result<bool, Fail> {
+/// Whether that outcome has these words, alone and as the second call of the third actor.
+fn is_written(alloc: Global, at: u8, words: &str) -> Result<bool, Fail> {
+    let outcome = outcome_at(alloc, at)?;
+    let mut line = Output::new(alloc);
+    line.text("reply 2 0 done\nreply 2 1 ")?;
+    reply_words(alloc, &mut line, &outcome)?;
+    line.text("\n")?;
     let mut calls = Outcomes::new(alloc);
     calls.push(Outcome::Done)?;
-    calls.push(outcome_at(alloc, at)?)?;
+    calls.push(outcome)?;
     let mut all = Vec::new(alloc);
     all.push(Outcomes::new(alloc))?;
     all.push(Outcomes::new(alloc))?;
     all.push(calls)?;
     let mut out = Output::new(alloc);
     replies(alloc, &mut out, &all)?;
-    Ok(out.as_slice().strip_prefix(b"reply 2 0 done\n".as_slice()) == Some(line.as_bytes()))
+    let written = out
+        .as_slice()
+        .strip_prefix(b"reply 2 0 done\nreply 2 1 ".as_slice());
+    let written = written.and_then(|rest| rest.strip_suffix(b"\n".as_slice()));
+    Ok(written == Some(words.as_bytes()) && out.as_slice() == line.as_slice())
 }
 
 #[test]
 fn writes_each_reply(rt: HostRuntime) -> Result<(), Fail> {
-    for (at, line) in [
-        (0, "reply 2 1 opened file 4 /\\xc3\\xa9/b\\x20c\n"),
-        (1, "reply 2 1 opened dir 0 /\n"),
-        (2, "reply 2 1 text \\x5c/\\x0a\n"),
-        (3, "reply 2 1 done\n"),
-        (4, "reply 2 1 count 18446744073709551615\n"),
-        (5, "reply 2 1 stepped listed 2 a b\n"),
-        (6, "reply 2 1 stepped refused ENOTEMPTY\n"),
-        (7, "reply 2 1 fault ENOSPC\n"),
+    for (at, words) in [
+        (0, "opened file 4 /\\xc3\\xa9/b\\x20c"),
+        (1, "opened dir 0 /"),
+        (2, "text \\x5c/\\x0a"),
+        (3, "done"),
+        (4, "count 18446744073709551615"),
+        (5, "stepped listed 2 a b"),
+        (6, "stepped refused ENOTEMPTY"),
+        (7, "fault ENOSPC"),
     ] {
-        assert!(rt; is_written(rt.alloc(), at, line)?, "{line}");
+        assert!(rt; is_written(rt.alloc(), at, words)?, "{words}");
     }
+    Ok(())
+}
+
+/// Whether an event has its words, and its line with them.
+fn writes_event(alloc: Global) -> Result<bool, Fail> {
+    let mut tree = tree_of(alloc, &[("/c", "dir")])?;
+    let mut log = EventLog::new(alloc);
+    make(
+        alloc,
+        &mut tree,
+        &mut log,
+        "event 0 actor 1 open 1 c = opened 2 1 dir",
+    )?;
+    let mut words = Output::new(alloc);
+    let mut lines = Output::new(alloc);
+    events(alloc, &mut lines, &log)?;
+    if !log.is_empty() {
+        event_words(alloc, &mut words, &log.event(alloc, 0)?)?;
+    }
+    let line = lines.as_slice() == b"event 0 actor 1 open 1 c = opened 2 1 dir\n".as_slice();
+    Ok(line && words.as_slice() == b"open 1 c = opened 2 1 dir".as_slice())
+}
+
+#[test]
+fn writes_an_event(rt: HostRuntime) -> Result<(), Fail> {
+    assert!(rt; writes_event(rt.alloc())?);
     Ok(())
 }
 
@@ -225,6 +261,7 @@ fn orders_entries(alloc: Global) -> Result<bool, Fail> {
 
 #[test]
 fn writes_entries_in_order(rt: HostRuntime) -> Result<(), Fail> {
+    rows_have_lines();
     assert!(rt; orders_entries(rt.alloc())?);
     Ok(())
 }
