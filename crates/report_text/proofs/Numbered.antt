@@ -16,7 +16,7 @@ none_past (x ∷ xs) zero h e = absurd (cc)
 none_past (x ∷ xs) (suc at) h e = none_past xs at (omega (arith, h)) e
 
 -- one more line is added
-pub numbered_more : {A : Type 0} (line : ℕ → A → List ℕ) (xs : List A) (at : ℕ) (x : A) (before after whole : List ℕ) → slice_get xs at ≡ Some x → after ≡ before ++ line at x
+pub numbered_more : {A B : Type 0} (line : ℕ → A → List B) (xs : List A) (at : ℕ) (x : A) (before after whole : List B) → slice_get xs at ≡ Some x → after ≡ before ++ line at x
     → before ++ numbered line at (drop at xs) ≡ whole → after ++ numbered line (at + 1) (drop (at + 1) xs) ≡ whole
 numbered_more line xs at x before after whole found is_after h =
     let rest = numbered line (suc at) (drop (suc at) xs) in
@@ -25,7 +25,7 @@ numbered_more line xs at x before after whole found is_after h =
     ∙ ap (λ left. before ++ numbered line at left) (sym (next_left xs at x found)) ∙ h
 
 -- the same, where the element is told by its place
-pub numbered_next : {A : Type 0} (line : ℕ → A → List ℕ) (xs : List A) (at : ℕ) (before after whole : List ℕ) → at < length xs
+pub numbered_next : {A B : Type 0} (line : ℕ → A → List B) (xs : List A) (at : ℕ) (before after whole : List B) → at < length xs
     → IfSome (slice_get xs at) (λ x. after ≡ before ++ line at x)
     → before ++ numbered line at (drop at xs) ≡ whole → after ++ numbered line (at + 1) (drop (at + 1) xs) ≡ whole
 numbered_next {A = A} line xs at before after whole within is_after h = by (slice_get xs at) refl is_after

@@ -14,8 +14,8 @@ use Rattle.tree_model.specs.Steps.{held_count, kind_of}
 use Rattle.transcript.specs.Output.{escaped, kind_word, opened_words, fault_words}
 use Rattle.transcript.specs.Words.{line_of, step_words, answer_words}
 
--- the lines of elements that are counted from k on
-abbrev pub numbered : {A : Type 0} → (ℕ → A → List ℕ) → ℕ → List A → List ℕ
+-- what each element comes to by its number, counted from k on, one after another
+abbrev pub numbered : {A B : Type 0} → (ℕ → A → List B) → ℕ → List A → List B
 numbered line k [] = []
 numbered line k (x ∷ xs) = line k x ++ numbered line (suc k) xs
 

@@ -69,6 +69,14 @@ impl Output {
         Ok(())
     }
 
+    /// Adds bytes as they are.
+    pub fn bytes(&mut self, bytes: &[u8]) -> Result<(), NoMemory>
+        ensures { Gains self.old self.new bytes.now result }
+    {
+        self.bytes.extend_from_slice(bytes)?;
+        Ok(())
+    }
+
     /// Adds a number in decimal digits.
     pub fn number(&mut self, number: u64) -> Result<(), NoMemory>
         ensures { Gains self.old self.new (decimal number) result }
