@@ -23,10 +23,13 @@ xml_byte b =
 abbrev pub xml_text : List ℕ → List ℕ
 xml_text bs = flat_map xml_byte bs
 
+-- two numbers, with a text before each, and a last text
+abbrev pub tag : List ℕ → ℕ → List ℕ → ℕ → List ℕ → List ℕ
+tag first x second y last = first ++ (decimal x ++ (second ++ (decimal y ++ last)))
+
 -- a text that begins at a place
-abbrev pub text_at : ℕ → ℕ → List ℕ → List ℕ
-text_at x y text =
-    codes "<text x='" ++ (decimal x ++ (codes "' y='" ++ (decimal y ++ (codes "'>" ++ (xml_text text ++ codes "</text>\n")))))
+unfoldable pub text_at : ℕ → ℕ → List ℕ → List ℕ
+text_at x y text = tag (codes "<text x='") x (codes "' y='") y (codes "'>") ++ (xml_text text ++ codes "</text>\n")
 
 -- where the column of an actor begins, and where the text of a line stands
 abbrev pub column_x : ℕ → ℕ
@@ -35,19 +38,22 @@ column_x actor = 56 + 494 * actor
 abbrev pub line_y : ℕ → ℕ
 line_y at = 66 + 22 * at
 
+-- a line down from the headings
+unfoldable pub life_line : ℕ → ℕ → List ℕ
+life_line x end = tag (codes "<path stroke='#8a93a5' d='M") x (codes " 44V") end (codes "'/>\n")
+
 -- an actor's heading, and its life line down to the end
 abbrev pub svg_column : ℕ → ℕ → List ℕ
-svg_column end actor =
-    text_at (column_x actor) 33 (actor_name actor)
-    ++ (codes "<path stroke='#8a93a5' d='M" ++ (decimal (column_x actor + 8) ++ (codes " 44V" ++ (decimal end ++ codes "'/>\n"))))
+svg_column end actor = text_at (column_x actor) 33 (actor_name actor) ++ life_line (column_x actor + 8) end
 
 -- those of the actors below that number
 abbrev pub svg_columns : ℕ → ℕ → List ℕ
 svg_columns end zero = []
 svg_columns end (suc actor) = svg_columns end actor ++ svg_column end actor
 
-abbrev pub svg_dot : ℕ → ℕ → List ℕ
-svg_dot x y = codes "<circle r='4' cx='" ++ (decimal x ++ (codes "' cy='" ++ (decimal y ++ codes "'/>\n")))
+-- a dot on a life line
+unfoldable pub svg_dot : ℕ → ℕ → List ℕ
+svg_dot x y = tag (codes "<circle r='4' cx='") x (codes "' cy='") y (codes "'/>\n")
 
 -- a dot and the text in the column of a line's actor, where it has one
 abbrev pub svg_place : ℕ → ℕ → Line → List ℕ
@@ -62,10 +68,10 @@ svg_line actors at line = text_at 8 (line_y at) (mark_of line.moment) ++ svg_pla
 abbrev pub svg_lines : ℕ → List Line → List ℕ
 svg_lines actors lines = numbered (svg_line actors) 0 lines
 
-abbrev pub svg_head : ℕ → ℕ → List ℕ
+-- the opening tag
+unfoldable pub svg_head : ℕ → ℕ → List ℕ
 svg_head width height =
-    codes "<svg xmlns='http://www.w3.org/2000/svg' font-family='monospace' font-size='13' width='"
-    ++ (decimal width ++ (codes "' height='" ++ (decimal height ++ codes "'>\n")))
+    tag (codes "<svg xmlns='http://www.w3.org/2000/svg' font-family='monospace' font-size='13' width='") width (codes "' height='") height (codes "'>\n")
 
 abbrev pub svg_of : Drawn → List ℕ
 svg_of picture =

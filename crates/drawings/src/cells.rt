@@ -12,7 +12,7 @@ use transcript::Output;
 pub(crate) fn blanks(out: &mut Output, count: usize) -> Result<(), NoMemory>
     ensures { Gains out.old out.new (replicate count BLANK) result }
 {
-    for _blank in 0..count {
+    for blank in 0..count {
         out.text(" ")?;
     }
     Ok(())

@@ -1,12 +1,13 @@
 //! A picture as its lines.
 ghost use Rattle.std.specs.Prelude.{◌≡◌, ◌<◌, ◌++◌, length, IfOk, IfErr, OnOk};
 ghost use Rattle.drawings.specs.Picture.{moment_line, moment_lines, end_line, ends_of, end_lines, lines_of, CanBeDrawn, IsPictureFault};
+ghost use Rattle.drawings.specs.declared.picture.PictureFault.TheVariants as picture_fault;
 
 use event_log::EventLog;
 use path_text::NoMemory;
 use race_core::{Outcome, Outcomes};
 use report_text::{event_words, reply_words};
-use std::alloc::{AllocError, Global};
+use std::alloc::Global;
 use std::marker::Model;
 use thiserror::Error;
 use transcript::Output;
@@ -59,7 +60,7 @@ pub enum PictureFault {
 }
 
 impl From<NoMemory> for PictureFault {
-    ghost from_gives = { λ _ fault. fault ≡ PictureFault.NoMemory };
+    ghost from_gives = { λ _ fault. fault ≡ picture_fault.NoMemory };
 
     fn from(_error: NoMemory) -> PictureFault {
         PictureFault::NoMemory

@@ -1,7 +1,7 @@
 //! A picture as SVG (Scalable Vector Graphics 1.1, W3C).
 ghost use Rattle.std.specs.Prelude.{◌≡◌, ◌<◌, ◌≤◌, ◌+◌, ◌++◌, length};
 ghost use Rattle.transcript.specs.Output.{Gains};
-ghost use Rattle.drawings.specs.Svg.{xml_byte, xml_text, text_at, column_x, line_y, svg_column, svg_columns, svg_dot, svg_place, svg_line, svg_lines, svg_head, svg_of};
+ghost use Rattle.drawings.specs.Svg.{tag, xml_byte, xml_text, text_at, life_line, column_x, line_y, svg_column, svg_columns, svg_dot, svg_place, svg_line, svg_lines, svg_head, svg_of};
 
 use crate::cells::{actor_name, cut, mark_of};
 use crate::picture::{ACTORS_MAX, LINES_MAX, Line, Picture};
@@ -39,15 +39,30 @@ fn xml_text(out: &mut Output, text: &[u8]) -> Result<(), NoMemory>
     Ok(())
 }
 
+// Adds two numbers, with a text before each, and a last text.
+fn tag(
+    out: &mut Output,
+    first: &str,
+    x: u64,
+    second: &str,
+    y: u64,
+    last: &str,
+) -> Result<(), NoMemory>
+    ensures { Gains out.old out.new (tag first.now x second.now y last.now) result }
+{
+    out.text(first)?;
+    out.number(x)?;
+    out.text(second)?;
+    out.number(y)?;
+    out.text(last)
+}
+
 // Adds a text that begins at a place.
+#[tactic(auto, unfolding(crate::specs::Svg::text_at))]
 fn text_at(out: &mut Output, x: u64, y: u64, text: &[u8]) -> Result<(), NoMemory>
     ensures { Gains out.old out.new (text_at x y text.now) result }
 {
-    out.text("<text x='")?;
-    out.number(x)?;
-    out.text("' y='")?;
-    out.number(y)?;
-    out.text("'>")?;
+    tag(out, "<text x='", x, "' y='", y, "'>")?;
     xml_text(out, text)?;
     out.text("</text>\n")
 }
@@ -70,6 +85,14 @@ fn line_y(at: usize) -> u64
     66 + 22 * at as u64
 }
 
+// Adds a line down from the headings.
+#[tactic(auto, unfolding(crate::specs::Svg::life_line))]
+fn life_line(out: &mut Output, x: u64, end: u64) -> Result<(), NoMemory>
+    ensures { Gains out.old out.new (life_line x end) result }
+{
+    tag(out, "<path stroke='#8a93a5' d='M", x, " 44V", end, "'/>\n")
+}
+
 // Adds an actor's heading and its life line.
 fn column(alloc: Global, out: &mut Output, actor: u64, end: u64) -> Result<(), NoMemory>
     requires { actor < ACTORS_MAX }
@@ -78,11 +101,7 @@ fn column(alloc: Global, out: &mut Output, actor: u64, end: u64) -> Result<(), N
     let x = column_x(actor);
     let name = actor_name(alloc, actor)?;
     text_at(out, x, 33, name.as_slice())?;
-    out.text("<path stroke='#8a93a5' d='M")?;
-    out.number(x + 8)?;
-    out.text(" 44V")?;
-    out.number(end)?;
-    out.text("'/>\n")
+    life_line(out, x + 8, end)
 }
 
 // Adds the column of each actor.
@@ -97,14 +116,11 @@ fn columns(alloc: Global, out: &mut Output, actors: u64, end: u64) -> Result<(),
 }
 
 // Adds the dot on a life line.
+#[tactic(auto, unfolding(crate::specs::Svg::svg_dot))]
 fn dot(out: &mut Output, x: u64, y: u64) -> Result<(), NoMemory>
     ensures { Gains out.old out.new (svg_dot x y) result }
 {
-    out.text("<circle r='4' cx='")?;
-    out.number(x)?;
-    out.text("' cy='")?;
-    out.number(y)?;
-    out.text("'/>\n")
+    tag(out, "<circle r='4' cx='", x, "' cy='", y, "'/>\n")
 }
 
 // Adds what stands in the column of a line's actor, where it has one.
@@ -148,14 +164,12 @@ fn lines(alloc: Global, out: &mut Output, actors: u64, lines: &[Line]) -> Result
 }
 
 // Adds the opening tag.
+#[tactic(auto, unfolding(crate::specs::Svg::svg_head))]
 fn head(out: &mut Output, width: u64, height: u64) -> Result<(), NoMemory>
     ensures { Gains out.old out.new (svg_head width height) result }
 {
-    out.text("<svg xmlns='http://www.w3.org/2000/svg' font-family='monospace' font-size='13' width='")?;
-    out.number(width)?;
-    out.text("' height='")?;
-    out.number(height)?;
-    out.text("'>\n")
+    let opening = "<svg xmlns='http://www.w3.org/2000/svg' font-family='monospace' font-size='13' width='";
+    tag(out, opening, width, "' height='", height, "'>\n")
 }
 
 impl Picture {

@@ -3,5 +3,5 @@ use Rattle.transcript.specs.Words.{BLANK}
 use Rattle.drawings.proofs.cells.blanks.Given as goal
 
 -- so many blanks are written
-abbrev pub invariant-loop-_blank : goal.invariant-loop-_blank
-invariant-loop-_blank l = l.out ≡ l.fn.out ++ replicate l._blank BLANK
+abbrev pub invariant-loop-blank : goal.invariant-loop-blank
+invariant-loop-blank l = l.out ≡ l.fn.out ++ replicate l.blank BLANK
