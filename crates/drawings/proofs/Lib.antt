@@ -1,0 +1,2 @@
+pub mod XmlTexts
+pub mod Widths

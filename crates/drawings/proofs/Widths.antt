@@ -1,0 +1,53 @@
+-- How wide the lines of the text form are.
+use Rattle.std.proofs.Common.{◌≡◌, Bool, true, false, ℕ, zero, suc, ◌+◌, ◌-◌, ◌*◌, ◌/◌, ◌<◌, ◌≤◌, List, [], ◌∷◌, ◌++◌, length, take, replicate, refl, sym, ap, ◌∙◌, arith}
+use Rattle.std.specs.Prelude.{nat_le, if◌then◌else◌, codes}
+use Rattle.std.proofs.lemmas.Bool.Decides.{nat_tests}
+use Rattle.std.proofs.lemmas.List.{length-append, length-replicate, length-take-le}
+use Rattle.transcript.specs.Words.{BLANK}
+use Rattle.drawings.specs.declared.picture.TheConstants.{ACTORS_MAX}
+use Rattle.drawings.specs.declared.text.TheConstants.{LINE_COLUMNS, MARK_COLUMNS}
+use Rattle.drawings.specs.Cells.{cut, fitted, to_right}
+use Rattle.drawings.specs.DrawingLaws.{RowsFit}
+use Rattle.drawings.specs.Text.{cell_width, cells, row}
+
+-- a fitted text takes its width
+length_fitted : (width : ℕ) (text : List ℕ) → 0 < width → length (fitted width text) ≡ width
+length_fitted width text h = by (nat_le (length text) width) refl
+  where
+    by : (t : Bool) → nat_le (length text) width ≡ t
+        → length ((if t then text else take (width - 1) text ++ codes "~") ++ replicate (width - length text) BLANK) ≡ width
+    by true e =
+        let fits : length text ≤ width = grind (arith, nat_tests) in
+        omega (arith, length-append text (replicate (width - length text) BLANK), length-replicate (width - length text) BLANK)
+    by false e =
+        let wide : width < length text = grind (arith, nat_tests) in
+        let taken : length (take (width - 1) text) ≡ width - 1 = length-take-le (width - 1) text (omega arith) in
+        omega (arith, length-append (take (width - 1) text ++ codes "~") (replicate (width - length text) BLANK), length-append (take (width - 1) text) (codes "~"),
+        length-replicate (width - length text) BLANK)
+
+-- each cell takes its width, and 3 columns before it
+length_cells : (actors width : ℕ) (shown : ℕ → List ℕ) → 0 < width → length (cells actors width shown) ≡ actors * (width + 3)
+length_cells zero width shown h = omega arith
+length_cells (suc actor) width shown h =
+    omega (arith, length_cells actor width shown h, length_fitted width (shown actor) h,
+    length-append (cells actor width shown) (codes " | " ++ fitted width (shown actor)), length-append (codes " | ") (fitted width (shown actor)))
+
+length_mark : (mark : List ℕ) → length mark ≤ MARK_COLUMNS → length (to_right MARK_COLUMNS mark) ≡ MARK_COLUMNS
+length_mark mark h =
+    omega (arith, length-append (replicate (MARK_COLUMNS - length mark) BLANK) mark, length-replicate (MARK_COLUMNS - length mark) BLANK)
+
+-- a line takes the mark, the cells, the last bar and the newline
+length_row : (actors : ℕ) (mark : List ℕ) (shown : ℕ → List ℕ) → 0 < cell_width actors → length mark ≤ MARK_COLUMNS
+    → length (row actors mark shown) ≡ 9 + actors * (cell_width actors + 3)
+length_row actors mark shown some h =
+    let all = cells actors (cell_width actors) shown in
+    omega (arith, length_mark mark h, length_cells actors (cell_width actors) shown some,
+    length-append (to_right MARK_COLUMNS mark) (all ++ codes " |\n"), length-append all (codes " |\n"))
+
+pub rows_fit : RowsFit
+rows_fit zero some few mark h shown = absurd (omega (arith, some))
+rows_fit (suc zero) some few mark h shown = omega (arith, length_row 1 mark shown (omega arith) h)
+rows_fit (suc (suc zero)) some few mark h shown = omega (arith, length_row 2 mark shown (omega arith) h)
+rows_fit (suc (suc (suc zero))) some few mark h shown = omega (arith, length_row 3 mark shown (omega arith) h)
+rows_fit (suc (suc (suc (suc zero)))) some few mark h shown = omega (arith, length_row 4 mark shown (omega arith) h)
+rows_fit (suc (suc (suc (suc (suc more))))) some few mark h shown = absurd (omega (arith, few))

@@ -1,0 +1,13 @@
+//! What holds of drawings.
+ghost use Rattle.drawings.specs.DrawingLaws.{XmlTextIsPlain, RowsFit};
+
+/// In SVG no byte of a name, a path or a link's text stands as markup, whatever it is: what is shown of any text has
+/// printed bytes and blanks alone, and `&`, `<`, `>` and the quotation marks only as entities.
+pub fn xml_text_is_plain()
+    ensures { XmlTextIsPlain }
+{}
+
+/// As text no line is wider than 100 columns.
+pub fn rows_fit()
+    ensures { RowsFit }
+{}
