@@ -5,9 +5,14 @@ pub use Rattle.path_text.specs.Print
 pub use Rattle.path_text.specs.Reading
 pub use Rattle.path_text.specs.Text
 pub mod Actors
+pub mod Calls
 pub mod Fault
+pub mod Fields
 pub mod Input
+pub mod Labels
 pub mod Run
 pub mod Script
+pub mod Steps
 pub mod Tree
 pub mod TreeLaws
+pub mod Words

@@ -5,15 +5,21 @@
 #![tactic(auto)]
 
 mod actors;
+mod calls;
 mod detail;
 mod fault;
+mod fields;
 mod input;
+mod labels;
 mod laws;
+mod plan;
 mod run;
 mod script;
+mod steps;
 #[cfg(test)]
 mod tests;
 mod tree;
+mod words;
 
 pub use detail::Detail;
 pub use fault::{Cause, JsonFault, RunFault, ScriptFault};
