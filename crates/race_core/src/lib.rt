@@ -8,8 +8,12 @@
 
 mod book;
 mod laws;
+mod plan;
+mod report;
 #[cfg(test)]
 mod tests;
 
 pub use book::{Book, LINES_MAX, OpenRefusal};
 pub use laws::free_lines_never_rise;
+pub use plan::{ActorPlan, Planned, Plans, Ref};
+pub use report::{Outcome, Outcomes, Report, WorldFault};
