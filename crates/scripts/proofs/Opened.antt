@@ -7,7 +7,8 @@ use Rattle.tree_model.specs.declared.inode.Inode.{Inode}
 use Rattle.tree_model.specs.State.{TOP}
 use Rattle.tree_model.specs.Steps.{directory_at}
 use Rattle.scripts.specs.Actors.{first_actor_of, root_of, rooted}
-use Rattle.scripts.specs.Script.{version_of, is_version, rooted_tree_of}
+use Rattle.scripts.specs.Script.{rooted_tree_of}
+use Rattle.scripts.specs.Version.{version_of, is_version}
 use Rattle.scripts.specs.Tree.{tree_of}
 
 -- each check has passed

@@ -1,7 +1,6 @@
 -- The calls of a script's actors, over the data that it is.
-use Rattle.std.specs.Prelude.{ℕ, ◌==◌, ◌&&◌, List, Bool, false, not, if◌then◌else◌, Option, Some, None, option_and_then, option_map, Result, Ok, Err, codes}
+use Rattle.std.specs.Prelude.{ℕ, ◌&&◌, List, Bool, false, not, if◌then◌else◌, Option, Some, None, option_and_then, option_map, Result, Ok, Err, codes}
 use Rattle.serde_json.specs.Data.{Data, Items}
-use Rattle.serde_json.specs.Find.{get, as_number, as_u64}
 use Rattle.path_text.specs.Name.{same_bytes}
 use Rattle.path_text.specs.declared.flags.Flags.{Flags}
 use Rattle.root_ops.specs.declared.op.Op.{Op}
@@ -12,20 +11,18 @@ use Rattle.scripts.specs.declared.calls.Version.{Version}
 use Rattle.scripts.specs.declared.calls.Version.TheVariants.{One, Two}
 use Rattle.scripts.specs.declared.fault.ScriptFault.{ScriptFault}
 use Rattle.scripts.specs.declared.labels.Label.{Label}
-use Rattle.scripts.specs.declared.plan.Planned.{Planned}
-use Rattle.scripts.specs.declared.plan.Planned.TheVariants as planned
-use Rattle.scripts.specs.declared.plan.Ref.{Ref}
-use Rattle.scripts.specs.declared.plan.Ref.TheVariants as ref
+use Rattle.race_core.specs.declared.plan.Planned.{Planned}
+use Rattle.race_core.specs.declared.plan.Planned.TheVariants as planned
+use Rattle.race_core.specs.declared.plan.Ref.{Ref}
+use Rattle.race_core.specs.declared.plan.Ref.TheVariants as ref
 use Rattle.scripts.specs.declared.words.OpName.{OpName}
 use Rattle.scripts.specs.declared.words.OpName.TheVariants.{Resolve, ResolveNoFollow, ReadLink, CreateFile, CreateDir, CreateLink, RemoveFile, RemoveDir, Rename}
+use Rattle.scripts.specs.declared.fault.ScriptFault.TheVariants.{Call}
+use Rattle.scripts.specs.Checks.{each}
 use Rattle.scripts.specs.Fields.{text_in, mode_in, flag_in}
-use Rattle.scripts.specs.Labels.{takes_label, has_good_label}
-use Rattle.scripts.specs.Script.{version_of}
+use Rattle.scripts.specs.Labels.{takes_label, labels_from, has_good_label}
 use Rattle.scripts.specs.Steps.{ref_in, step_of}
 use Rattle.scripts.specs.Words.{op_name_of}
-
-abbrev pub version_in : Data → Option Version
-version_in d = with_some (version_of d) None (λ n. if n == 1 then Some One else (if n == 2 then Some Two else None))
 
 -- the restrictions of a call: none in version 1
 abbrev pub flags_in : Version → Data → Option Flags
@@ -79,3 +76,10 @@ call_of version labels k d =
     if same_bytes word (codes "step") then option_map planned.Single (step_of labels k d)
     else (if same_bytes word (codes "release") then option_map planned.Release (released_in labels k d)
     else with_some (op_name_of word) None (λ name. option_map planned.Call (request_of version labels k name d))))
+
+abbrev pub call_at : Version → ℕ → List Label → ℕ → Data → Result Planned ScriptFault
+call_at version actor labels k d = with_some (call_of version labels k d) (Err (Call actor k)) (λ call. Ok call)
+
+-- the calls of an actor, or the first that is refused
+abbrev pub calls_of : Version → ℕ → Items → Result (List Planned) ScriptFault
+calls_of version actor items = each (call_at version actor (labels_from 0 items)) 0 items

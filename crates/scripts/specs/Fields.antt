@@ -1,7 +1,7 @@
 -- What a key of an object has, over the data that a script is.
 use Rattle.std.specs.Prelude.{⊤, ◌≡◌, ℕ, List, Bool, false, if◌then◌else◌, Option, Some, None, option_and_then, Result, Ok, Err, codes}
-use Rattle.serde_json.specs.Data.{Data}
-use Rattle.serde_json.specs.Find.{get, as_str, as_bool}
+use Rattle.serde_json.specs.Data.{Data, Items}
+use Rattle.serde_json.specs.Find.{get, as_str, as_bool, as_array}
 use Rattle.path_text.specs.Name.{is_name}
 use Rattle.tree_model.specs.Entries.{with_some}
 use Rattle.tree_model.specs.declared.step.Mode.{Mode}
@@ -12,6 +12,9 @@ use Rattle.scripts.specs.Words.{mode_of}
 
 abbrev pub text_in : List ℕ → Data → Option (List ℕ)
 text_in key d = option_and_then as_str (get key d)
+
+abbrev pub list_in : List ℕ → Data → Option Items
+list_in key d = option_and_then as_array (get key d)
 
 -- the text under a key, if it is a valid name
 abbrev pub name_in : List ℕ → Data → Option (List ℕ)

@@ -5,8 +5,8 @@ use Rattle.serde_json.specs.Find.{get, as_str}
 use Rattle.path_text.specs.Name.{same_bytes}
 use Rattle.tree_model.specs.Entries.{with_some}
 use Rattle.scripts.specs.declared.labels.Label.{Label}
-use Rattle.scripts.specs.declared.plan.Ref.{Ref}
-use Rattle.scripts.specs.declared.plan.Ref.TheVariants.{Root, Call}
+use Rattle.race_core.specs.declared.plan.Ref.{Ref}
+use Rattle.race_core.specs.declared.plan.Ref.TheVariants.{Root, Call}
 use Rattle.scripts.specs.declared.words.OpName.{OpName}
 use Rattle.scripts.specs.declared.words.OpName.TheVariants as op_name
 use Rattle.scripts.specs.Fields.{text_in}
@@ -32,7 +32,7 @@ label_then k (Some text) labels = record { text = text; call = k } ∷ labels
 -- the labels that the calls from number k on give
 abbrev pub labels_from : ℕ → Items → List Label
 labels_from k no_items = []
-labels_from k (item d ds) = label_then k (label_of d) (labels_from (1 + k) ds)
+labels_from k (item d ds) = label_then k (label_of d) (labels_from (k + 1) ds)
 
 -- the first call that gives a label
 abbrev pub giver_of : List Label → List ℕ → Option ℕ

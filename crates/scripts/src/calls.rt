@@ -1,20 +1,24 @@
 //! The calls of an actor.
-ghost use Rattle.std.specs.Prelude.{◌≡◌, Some, IfOk, IfErr};
+ghost use Rattle.std.specs.Prelude.{◌≡◌, Ok, IfOk, IfErr};
 ghost use Rattle.serde_json.specs.View.{view, items_view};
-ghost use Rattle.scripts.specs.Calls.{version_in, flags_in, op_of, request_of, released_in, call_of};
+ghost use Rattle.scripts.specs.Version.{version_in};
+ghost use Rattle.scripts.specs.Calls.{flags_in, op_of, request_of, released_in, call_of, call_at, calls_of};
 ghost use Rattle.scripts.specs.Fault.{IsFaultOf};
 ghost use Rattle.scripts.specs.Fields.{IsReadAs};
 
 use crate::fault::{RunFault, ScriptFault};
 use crate::fields::{FieldFault, bytes_in, flag_in, mode_in, text_in};
 use crate::labels::{Label, has_good_label, labels_of, takes_label};
-use crate::plan::{Planned, Plans, Ref};
+use race_core::{Planned, Plans, Ref};
 use crate::steps::{ref_in, step_of};
 use crate::words::{OpName, op_name_of};
 use path_text::Flags;
 use root_ops::{Op, Request};
 use serde_json::Value;
 use std::alloc::Global;
+
+/// The most calls of an actor.
+pub const CALLS_MAX: usize = 512;
 
 /// The version of a script.
 #[derive(Clone, Copy, Debug, PartialEq, Eq)]
@@ -123,4 +127,43 @@ fn call_of(
             Ok(Planned::Call(request))
         }
     }
+}
+
+/// The call of that number, or its refusal by its actor and its number.
+fn call_at(
+    alloc: Global,
+    version: Version,
+    actor: usize,
+    labels: &[Label],
+    at: usize,
+    call: &Value,
+) -> Result<Planned, RunFault>
+    ensures ok { IfOk result (λ planned. call_at version actor labels.now at (view call.now) ≡ Ok planned) }
+    ensures err { IfErr result (IsFaultOf (call_at version actor labels.now at (view call.now))) }
+{
+    match call_of(alloc, version, labels, at, call) {
+        Ok(planned) => Ok(planned),
+        Err(FieldFault::Shape) => Err(RunFault::Script(ScriptFault::Call(actor, at))),
+        Err(FieldFault::NoMemory) => Err(RunFault::NoMemory),
+    }
+}
+
+/// The calls of the actor of that number. Errors: `TooManyCalls` past `CALLS_MAX` of them; `Call` of the first that is
+/// refused; `NoMemory`.
+pub fn calls_of(
+    alloc: Global,
+    version: Version,
+    actor: usize,
+    calls: &[Value],
+) -> Result<Plans, RunFault>
+    ensures ok { IfOk result (λ plans. calls_of version actor (items_view calls.now) ≡ Ok plans) }
+    ensures err { IfErr result (IsFaultOf (calls_of version actor (items_view calls.now))) }
+{
+    let labels = labels_of(alloc, calls)?;
+    let mut plans = Plans::new(alloc);
+    for (at, call) in calls.iter().enumerate() {
+        let planned = call_at(alloc, version, actor, &labels, at, call)?;
+        plans.push(planned)?;
+    }
+    Ok(plans)
 }

@@ -1,8 +1,9 @@
 //! The fields of a call or a step: what a key of an object has, if it has that shape.
 ghost use Rattle.std.specs.Prelude.{◌≡◌, option_map};
-ghost use Rattle.serde_json.specs.View.{view};
+ghost use Rattle.serde_json.specs.View.{view, items_view};
 ghost use Rattle.scripts.specs.declared.fields.FieldFault.TheVariants.{NoMemory as OutOfMemory};
-ghost use Rattle.scripts.specs.Fields.{text_in, name_in, mode_in, flag_in, IsReadAs};
+ghost use Rattle.scripts.specs.Checks.{has_none, are_over};
+ghost use Rattle.scripts.specs.Fields.{text_in, list_in, name_in, mode_in, flag_in, IsReadAs};
 
 use crate::words::mode_of;
 use path_text::{Bytes, Errno, Name, NoMemory};
@@ -43,6 +44,27 @@ pub fn text_in<'a>(value: &'a Value, key: &str) -> Option<&'a str>
     ensures { option_map (λ text. text.now) result ≡ text_in key.now (view value.now) }
 {
     value.get(key).and_then(Value::as_str)
+}
+
+/// The elements of the list under a key.
+pub fn list_in<'a>(value: &'a Value, key: &str) -> Option<&'a [Value]>
+    ensures { option_map (λ items. items_view items.now) result ≡ list_in key.now (view value.now) }
+{
+    Some(value.get(key)?.as_array()?.as_slice())
+}
+
+/// Whether a list has no element.
+pub fn has_none(values: &[Value]) -> bool
+    ensures { result ≡ has_none (items_view values.now) }
+{
+    values.is_empty()
+}
+
+/// Whether a list has more than so many elements.
+pub fn are_over(values: &[Value], most: usize) -> bool
+    ensures { result ≡ are_over most (items_view values.now) }
+{
+    values.len() > most
 }
 
 /// The bytes of the text under a key, whatever they are.

@@ -4,7 +4,7 @@ ghost use Rattle.serde_json.specs.View.{view, items_view};
 ghost use Rattle.scripts.specs.Labels.{takes_label, label_of, labels_from, giver_of, has_good_label, ref_of};
 
 use crate::fields::text_in;
-use crate::plan::Ref;
+use race_core::Ref;
 use crate::words::{OpName, op_name_of};
 use path_text::{Bytes, NoMemory};
 use serde_json::Value;

@@ -12,8 +12,9 @@ mod fields;
 mod input;
 mod labels;
 mod laws;
-mod plan;
 mod run;
+mod scenario;
+mod schedule;
 mod script;
 mod steps;
 #[cfg(test)]
