@@ -1,6 +1,6 @@
 -- What a script says, once its checks have passed.
-use Rattle.std.proofs.Common.{◌≡◌, ℕ, Bool, true, false, List, refl, ap, ◌∙◌}
-use Rattle.std.specs.Prelude.{not, codes, Option, Some, None, is_none, option_and_then, Result, Ok, Err}
+use Rattle.std.proofs.Common.{◌≡◌, ℕ, true, false, List, refl}
+use Rattle.std.specs.Prelude.{codes, Some, is_none, option_and_then, Ok}
 use Rattle.serde_json.specs.Data.{Data, Items}
 use Rattle.serde_json.specs.Find.{get, as_array, as_object}
 use Rattle.tree_model.specs.declared.inode.Inode.{Inode}

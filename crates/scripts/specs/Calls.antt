@@ -1,5 +1,5 @@
 -- The calls of a script's actors, over the data that it is.
-use Rattle.std.specs.Prelude.{ℕ, ◌&&◌, List, Bool, false, not, if◌then◌else◌, Option, Some, None, option_and_then, option_map, Result, Ok, Err, codes}
+use Rattle.std.specs.Prelude.{ℕ, ◌&&◌, List, false, not, if◌then◌else◌, Option, Some, None, option_and_then, option_map, Result, Ok, Err, codes}
 use Rattle.serde_json.specs.Data.{Data, Items}
 use Rattle.path_text.specs.Name.{same_bytes}
 use Rattle.path_text.specs.declared.flags.Flags.{Flags}

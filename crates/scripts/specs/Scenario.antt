@@ -1,18 +1,23 @@
 -- What a whole script says, over the data that its JSON text is (RFC 8259, as serde_json reads it). The checks are made in this
 -- order, and the first that fails is told.
-use Rattle.std.specs.Prelude.{ℕ, ◌&&◌, List, length, if◌then◌else◌, nat_le, Option, Some, None, is_none, option_and_then, Result, Ok, Err, codes}
+use Rattle.std.specs.Prelude.{⊤, ◌≡◌, ℕ, ◌&&◌, List, length, if◌then◌else◌, nat_le, nat_lt, Option, Some, None, is_none, option_and_then, Result, Ok, Err, codes}
 use Rattle.serde_json.specs.Data.{Data}
 use Rattle.serde_json.specs.Find.{get, as_number, as_u64, as_object}
 use Rattle.race_core.specs.declared.plan.ActorPlan.{ActorPlan}
 use Rattle.tree_model.specs.declared.inode.Inode.{Inode}
 use Rattle.tree_model.specs.Entries.{with_some, refuse_if}
+use Rattle.scripts.specs.declared.fault.RunFault.{RunFault}
+use Rattle.scripts.specs.declared.fault.RunFault.TheVariants.{Script, ReadFailed, WriteFailed, NoMemory}
 use Rattle.scripts.specs.declared.fault.ScriptFault.{ScriptFault}
-use Rattle.scripts.specs.declared.fault.ScriptFault.TheVariants.{NotObject, Version, Lines, Tree}
+use Rattle.scripts.specs.declared.fault.ScriptFault.TheVariants.{TooLong, NotObject, Version, Lines, Tree}
 use Rattle.scripts.specs.declared.scenario.Header.{Header}
 use Rattle.scripts.specs.declared.scenario.Scenario.{Scenario}
 use Rattle.scripts.specs.declared.scenario.TheConstants.{LINES_MAX}
+use Rattle.scripts.specs.declared.input.TheConstants.{SCRIPT_MAX}
 use Rattle.scripts.specs.Checks.{then_with}
+use Rattle.scripts.specs.Fault.{check_of}
 use Rattle.scripts.specs.Fields.{list_in, perhaps}
+use Rattle.scripts.specs.Input.{data_of}
 use Rattle.scripts.specs.Plans.{actors_of}
 use Rattle.scripts.specs.Schedule.{schedule_of}
 use Rattle.scripts.specs.Tree.{tree_of}
@@ -50,3 +55,14 @@ scenario_of d =
     then_with (actors_of nodes header.version d) (λ plans.
     then_with (schedule_of (length plans) d) (λ schedule.
     Ok (record { nodes = nodes; plans = plans; schedule = schedule; lines = header.lines })))))
+
+-- what the script says that these bytes are
+abbrev pub said_for : List ℕ → Result Said ScriptFault
+said_for input = refuse_if (nat_lt SCRIPT_MAX (length input)) (Err TooLong) (then_with (data_of input) scenario_of)
+
+-- the fault of reading is the script's; or a read or a growth was refused
+abbrev pub IsReadingFaultOf : Result Said ScriptFault → RunFault → Type 0
+IsReadingFaultOf said (Script fault) = said ≡ Err (check_of fault)
+IsReadingFaultOf said ReadFailed = ⊤
+IsReadingFaultOf said WriteFailed = ⊥
+IsReadingFaultOf said NoMemory = ⊤

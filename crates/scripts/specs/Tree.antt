@@ -1,5 +1,5 @@
 -- What a script's tree says, over the data that its JSON text is.
-use Rattle.std.specs.Prelude.{ℕ, ◌+◌, ◌==◌, ◌&&◌, List, [], ◌∷◌, Bool, if◌then◌else◌, nat_lt, length, codes, Option, Some, None, is_none, option_map, option_and_then, Result, Ok, Err}
+use Rattle.std.specs.Prelude.{ℕ, ◌==◌, ◌&&◌, List, [], ◌∷◌, Bool, if◌then◌else◌, nat_lt, length, codes, Option, Some, None, is_none, option_map, option_and_then, Result, Ok, Err}
 use Rattle.serde_json.specs.Data.{Data, Items, no_items, item}
 use Rattle.serde_json.specs.Find.{at, as_str}
 use Rattle.path_text.specs.declared.errno.Errno.{Errno}

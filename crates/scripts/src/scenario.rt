@@ -1,20 +1,22 @@
 //! A whole script: a tree, what each actor does in it, and in what order.
-ghost use Rattle.std.specs.Prelude.{◌≡◌, [], Ok, IfOk, IfErr};
+ghost use Rattle.std.specs.Prelude.{◌≡◌, [], Ok, IfOk, IfErr, IfSome};
 ghost use Rattle.serde_json.specs.View.{view};
 ghost use Rattle.tree_model.specs.Trees.{IsState};
 ghost use Rattle.scripts.specs.Fault.{IsFaultOf};
-ghost use Rattle.scripts.specs.Scenario.{lines_in, header_of, nodes_in, scenario_of, said_by};
+ghost use Rattle.scripts.specs.Scenario.{lines_in, header_of, nodes_in, scenario_of, said_by, said_for, IsReadingFaultOf};
 
 use crate::actors::actors_of;
 use crate::calls::{Version, version_in};
 use crate::fault::{RunFault, ScriptFault};
 use crate::fields::list_in;
+use crate::input::{read_script, value_of};
 use crate::schedule::schedule_of;
 use crate::script::is_no_object;
 use crate::tree::{indexed, list_of};
 use race_core::ActorPlan;
 use serde_json::Value;
 use std::alloc::Global;
+use std::io::Read;
 use tree_list::ListTree;
 use tree_slab::SlabTree;
 
@@ -82,7 +84,7 @@ fn plain_tree_of(alloc: Global, script: &Value) -> Result<ListTree, RunFault>
 
 /// What a script says. Errors: the first check that fails, in this order: those of its version and its lines, of its
 /// tree, of its actors, each with its calls, and of its schedule; `NoMemory`.
-pub fn scenario_of(alloc: Global, script: &Value) -> Result<Scenario, RunFault>
+fn scenario_of(alloc: Global, script: &Value) -> Result<Scenario, RunFault>
     ensures said { IfOk result (λ scenario. scenario_of (view script.now) ≡ Ok (said_by scenario)) }
     ensures none { IfOk result (λ scenario. scenario.tree.handles ≡ []) }
     ensures tree { IfOk result (λ scenario. IsState scenario.tree) }
@@ -101,4 +103,17 @@ pub fn scenario_of(alloc: Global, script: &Value) -> Result<Scenario, RunFault>
         schedule,
         lines,
     })
+}
+
+/// Reads a script to its end, and what it says. Errors, in this order: those of `read_script`; `Script(NotJson)`; those
+/// of `scenario_of`.
+pub fn read_scenario<R: Read>(alloc: Global, reader: &mut R) -> Result<Scenario, RunFault>
+    ensures said { IfOk result (λ scenario. IfSome (R.remaining reader.old) (λ input. said_for input ≡ Ok (said_by scenario))) }
+    ensures none { IfOk result (λ scenario. scenario.tree.handles ≡ []) }
+    ensures tree { IfOk result (λ scenario. IsState scenario.tree) }
+    ensures err { IfErr result (λ fault. IfSome (R.remaining reader.old) (λ input. IsReadingFaultOf (said_for input) fault)) }
+{
+    let bytes = read_script(alloc, reader)?;
+    let script = value_of(alloc, &bytes)?;
+    scenario_of(alloc, &script)
 }

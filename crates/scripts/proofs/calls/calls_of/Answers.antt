@@ -1,9 +1,8 @@
-use Rattle.std.proofs.Common.{◌≡◌, ℕ, List, subst, rules}
-use Rattle.std.specs.Prelude.{Ok, Err, IfErr}
+use Rattle.std.proofs.Common.{◌≡◌, List, subst, rules}
+use Rattle.std.specs.Prelude.{Ok, IfErr}
 use Rattle.serde_json.specs.View.{view, items_view}
-use Rattle.race_core.specs.declared.plan.Planned.{Planned}
 use Rattle.scripts.specs.declared.labels.Label.{Label}
-use Rattle.scripts.specs.Calls.{call_at, calls_of}
+use Rattle.scripts.specs.Calls.{call_at}
 use Rattle.scripts.specs.Checks.{each}
 use Rattle.scripts.specs.Fault.{IsFaultOf}
 use Rattle.scripts.proofs.Each.{begins, goes_on, stops, ends}

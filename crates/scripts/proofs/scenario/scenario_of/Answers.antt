@@ -1,7 +1,6 @@
 use Rattle.std.proofs.Common.{◌≡◌, ◌≤◌, ℕ, List, length, sym, ap, ◌∙◌, subst, arith, rules}
-use Rattle.std.specs.Prelude.{Ok, IfErr}
+use Rattle.std.specs.Prelude.{Ok}
 use Rattle.serde_json.specs.View.{view}
-use Rattle.race_core.specs.declared.plan.ActorPlan.{ActorPlan}
 use Rattle.tree_model.specs.declared.inode.Inode.{Inode}
 use Rattle.tree_model.specs.State.{State}
 use Rattle.scripts.specs.declared.actors.TheConstants.{ACTORS_MAX}

@@ -1,4 +1,4 @@
-use Rattle.std.proofs.Common.{◌≡◌, ℕ, rules}
+use Rattle.std.proofs.Common.{rules}
 use Rattle.serde_json.specs.View.{items_view}
 use Rattle.scripts.specs.Checks.{each}
 use Rattle.scripts.specs.Fault.{IsFaultOf}
