@@ -26,13 +26,18 @@ abbrev pub escaped : List ℕ → List ℕ
 escaped bs = flat_map escaped_byte bs
 
 -- an object that was opened
+abbrev pub opened_words : Kind → ℕ → List (List ℕ) → List ℕ
+opened_words kind node names = codes "opened " ++ (kind_word kind ++ (codes " " ++ (decimal node ++ (codes " " ++ escaped (printed names)))))
+
 abbrev pub opened_line : Kind → ℕ → List (List ℕ) → List ℕ
-opened_line kind node names =
-    codes "opened " ++ (kind_word kind ++ (codes " " ++ (decimal node ++ (codes " " ++ (escaped (printed names) ++ codes "\n")))))
+opened_line kind node names = opened_words kind node names ++ codes "\n"
 
 -- a call that was refused
+abbrev pub fault_words : Errno → List ℕ
+fault_words error = codes "fault " ++ name_of error
+
 abbrev pub fault_line : Errno → List ℕ
-fault_line error = codes "fault " ++ (name_of error ++ codes "\n")
+fault_line error = fault_words error ++ codes "\n"
 
 -- a text grew by that, or there was no memory for it
 abbrev pub Gains : {T E : Type 0} → List ℕ → List ℕ → List ℕ → Result T E → Type 0

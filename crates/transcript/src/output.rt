@@ -1,6 +1,6 @@
 //! The text that the program writes.
 ghost use Rattle.std.specs.Prelude.{◌≡◌, ◌<◌, ◌++◌, ℕ, List, [], ◌∷◌, IfOk, OnOk, OnErr, codes, decimal};
-ghost use Rattle.transcript.specs.Output.{escaped_byte, escaped, kind_word, hex_digit, opened_line, fault_line, Gains};
+ghost use Rattle.transcript.specs.Output.{escaped_byte, escaped, kind_word, hex_digit, opened_words, opened_line, fault_words, fault_line, Gains};
 ghost use Rattle.path_text.specs.Print.{printed};
 
 use itoa::Buffer;
@@ -22,7 +22,7 @@ impl Model for Output {
 }
 
 /// The word for what a node is.
-pub(crate) fn kind_word(kind: Kind) -> &'static str
+fn kind_word(kind: Kind) -> &'static str
     ensures { result.now ≡ kind_word kind }
 {
     match kind {
@@ -77,6 +77,13 @@ impl Output {
         self.text(buffer.format(number))
     }
 
+    /// Adds the word for what a node is: `dir`, `file` or `link`.
+    pub fn kind(&mut self, kind: Kind) -> Result<(), NoMemory>
+        ensures { Gains self.old self.new (kind_word kind) result }
+    {
+        self.text(kind_word(kind))
+    }
+
     /// Adds one byte of a name, a path or a link's text: a printed one as it is, but for the backslash, and
     /// any other as `\x` and two hexadecimal digits.
     fn byte(&mut self, byte: u8) -> Result<(), NoMemory>
@@ -101,7 +108,26 @@ impl Output {
         Ok(())
     }
 
-    /// Adds the line of an object that was opened: what it is, its node, and the names at which it stood.
+    /// Adds an object that was opened, with no newline: what it is, its node, and the names at which it stood.
+    pub fn opened_words(
+        &mut self,
+        alloc: Global,
+        kind: Kind,
+        node: Node,
+        names: &Names,
+    ) -> Result<(), NoMemory>
+        ensures { Gains self.old self.new (opened_words kind node names.now) result }
+    {
+        let path = names.print(alloc)?;
+        self.text("opened ")?;
+        self.kind(kind)?;
+        self.text(" ")?;
+        self.number(node.number())?;
+        self.text(" ")?;
+        self.escaped(&path)
+    }
+
+    /// Adds the line of an object that was opened.
     pub fn opened(
         &mut self,
         alloc: Global,
@@ -111,22 +137,23 @@ impl Output {
     ) -> Result<(), NoMemory>
         ensures { Gains self.old self.new (opened_line kind node names.now) result }
     {
-        let path = names.print(alloc)?;
-        self.text("opened ")?;
-        self.text(kind_word(kind))?;
-        self.text(" ")?;
-        self.number(node.number())?;
-        self.text(" ")?;
-        self.escaped(&path)?;
+        self.opened_words(alloc, kind, node, names)?;
         self.text("\n")
+    }
+
+    /// Adds that a call was refused, with no newline, and why.
+    pub fn fault_words(&mut self, error: Errno) -> Result<(), NoMemory>
+        ensures { Gains self.old self.new (fault_words error) result }
+    {
+        self.text("fault ")?;
+        self.text(error.name())
     }
 
     /// Adds the line of a call that was refused.
     pub fn fault(&mut self, error: Errno) -> Result<(), NoMemory>
         ensures { Gains self.old self.new (fault_line error) result }
     {
-        self.text("fault ")?;
-        self.text(error.name())?;
+        self.fault_words(error)?;
         self.text("\n")
     }
 }

@@ -3,7 +3,7 @@ ghost use Rattle.std.specs.Prelude.{◌≡◌, ◌∷◌, [], map, decimal};
 ghost use Rattle.transcript.specs.Output.{Gains, escaped, kind_word};
 ghost use Rattle.transcript.specs.Words.{line_of, after_blanks, mode_word, step_words, answer_words};
 
-use crate::output::{Output, kind_word};
+use crate::output::Output;
 use path_text::{Name, Names, NoMemory};
 use std::alloc::Global;
 use tree_model::{Answer, HandleNo, Mode, Step, StepOf};
@@ -103,7 +103,7 @@ impl Output {
                 self.text(" ")?;
                 self.number(node.number())?;
                 self.text(" ")?;
-                self.text(kind_word(*kind))
+                self.kind(*kind)
             }
             Answer::Text(text) => {
                 self.text("text ")?;
