@@ -6,3 +6,4 @@ pub mod Roots
 pub mod Lines
 pub mod Opened
 pub mod Scenarios
+pub mod Playable

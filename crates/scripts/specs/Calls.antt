@@ -16,7 +16,7 @@ use Rattle.race_core.specs.declared.plan.Planned.TheVariants as planned
 use Rattle.race_core.specs.declared.plan.Ref.{Ref}
 use Rattle.race_core.specs.declared.plan.Ref.TheVariants as ref
 use Rattle.scripts.specs.declared.words.OpName.{OpName}
-use Rattle.scripts.specs.declared.words.OpName.TheVariants.{Resolve, ResolveNoFollow, ReadLink, CreateFile, CreateDir, CreateLink, RemoveFile, RemoveDir, Rename}
+use Rattle.scripts.specs.declared.words.OpName.TheVariants.{Resolve, ResolveNoFollow, MkdirAll, ReadLink, CreateFile, CreateDir, CreateLink, RemoveFile, RemoveDir, RemoveAll, Rename}
 use Rattle.scripts.specs.declared.fault.ScriptFault.TheVariants.{Call}
 use Rattle.scripts.specs.Checks.{each}
 use Rattle.scripts.specs.Fields.{text_in, mode_in, flag_in}
@@ -39,6 +39,7 @@ on_path make d = option_map make (text_in (codes "path") d)
 abbrev pub op_of : OpName → Data → Option Op
 op_of Resolve d = on_path op.Resolve d
 op_of ResolveNoFollow d = on_path op.ResolveNoFollow d
+op_of MkdirAll d = on_path op.MkdirAll d
 op_of ReadLink d = on_path op.ReadLink d
 op_of CreateFile d = on_path op.CreateFile d
 op_of CreateDir d = on_path op.CreateDir d
@@ -48,6 +49,7 @@ op_of CreateLink d =
     Some (op.CreateLink path text)))
 op_of RemoveFile d = on_path op.RemoveFile d
 op_of RemoveDir d = on_path op.RemoveDir d
+op_of RemoveAll d = on_path op.RemoveAll d
 op_of Rename d =
     with_some (text_in (codes "from") d) None (λ from.
     with_some (text_in (codes "to") d) None (λ to.

@@ -16,6 +16,7 @@ use Rattle.scripts.specs.Words.{op_name_of}
 abbrev pub takes_label : OpName → Bool
 takes_label op_name.Resolve = true
 takes_label op_name.ResolveNoFollow = true
+takes_label op_name.MkdirAll = true
 takes_label _ = false
 
 abbrev pub op_in : Data → Option OpName

@@ -1,11 +1,14 @@
 -- What a whole script says, over the data that its JSON text is (RFC 8259, as serde_json reads it). The checks are made in this
 -- order, and the first that fails is told.
-use Rattle.std.specs.Prelude.{⊤, ◌≡◌, ℕ, ◌&&◌, List, length, if◌then◌else◌, nat_le, nat_lt, Option, Some, None, is_none, option_and_then, Result, Ok, Err, codes}
+use Rattle.std.specs.Prelude.{⊤, ◌≡◌, ℕ, ◌<◌, ◌≤◌, ◌&&◌, List, length, if◌then◌else◌, nat_le, nat_lt, Option, Some, None, is_none, option_and_then, Result, Ok, Err, All, IsOk, codes}
 use Rattle.serde_json.specs.Data.{Data}
 use Rattle.serde_json.specs.Find.{get, as_number, as_u64, as_object}
 use Rattle.race_core.specs.declared.plan.ActorPlan.{ActorPlan}
 use Rattle.tree_model.specs.declared.inode.Inode.{Inode}
 use Rattle.tree_model.specs.Entries.{with_some, refuse_if}
+use Rattle.tree_model.specs.State.{TOP}
+use Rattle.tree_model.specs.Steps.{directory_at}
+use Rattle.scripts.specs.declared.actors.TheConstants.{ACTORS_MAX}
 use Rattle.scripts.specs.declared.fault.RunFault.{RunFault}
 use Rattle.scripts.specs.declared.fault.RunFault.TheVariants.{Script, ReadFailed, WriteFailed, NoMemory}
 use Rattle.scripts.specs.declared.fault.ScriptFault.{ScriptFault}
@@ -66,3 +69,10 @@ IsReadingFaultOf said (Script fault) = said ≡ Err (check_of fault)
 IsReadingFaultOf said ReadFailed = ⊤
 IsReadingFaultOf said WriteFailed = ⊥
 IsReadingFaultOf said NoMemory = ⊤
+
+-- What is said can be played: each actor's root is a directory, each turn an actor's, and a book may have the lines.
+pub record IsPlayable (said : Said) : Type 0 where
+  pub few : length said.plans ≤ ACTORS_MAX
+  pub roots : All (λ plan. IsOk (directory_at said.nodes TOP plan.root)) said.plans
+  pub turns : All (λ actor. actor < length said.plans) said.schedule
+  pub bounded : said.lines ≤ LINES_MAX

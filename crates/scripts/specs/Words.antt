@@ -13,14 +13,16 @@ abbrev pub op_name_of : List ℕ → Option OpName
 op_name_of word =
     if same_bytes word (codes "resolve") then Some op_name.Resolve
     else (if same_bytes word (codes "resolve_nofollow") then Some op_name.ResolveNoFollow
+    else (if same_bytes word (codes "mkdir_all") then Some op_name.MkdirAll
     else (if same_bytes word (codes "read_link") then Some op_name.ReadLink
     else (if same_bytes word (codes "create_file") then Some op_name.CreateFile
     else (if same_bytes word (codes "create_dir") then Some op_name.CreateDir
     else (if same_bytes word (codes "create_link") then Some op_name.CreateLink
     else (if same_bytes word (codes "remove_file") then Some op_name.RemoveFile
     else (if same_bytes word (codes "remove_dir") then Some op_name.RemoveDir
+    else (if same_bytes word (codes "remove_all") then Some op_name.RemoveAll
     else (if same_bytes word (codes "rename") then Some op_name.Rename
-    else None))))))))
+    else None))))))))))
 
 -- what the `step` of a single step asks for
 abbrev pub step_name_of : List ℕ → Option StepName

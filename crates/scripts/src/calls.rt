@@ -59,6 +59,7 @@ fn op_of(alloc: Global, name: OpName, call: &Value) -> Result<Op, FieldFault>
     Ok(match name {
         OpName::Resolve => Op::Resolve(bytes_in(alloc, call, "path")?),
         OpName::ResolveNoFollow => Op::ResolveNoFollow(bytes_in(alloc, call, "path")?),
+        OpName::MkdirAll => Op::MkdirAll(bytes_in(alloc, call, "path")?),
         OpName::ReadLink => Op::ReadLink(bytes_in(alloc, call, "path")?),
         OpName::CreateFile => Op::CreateFile(bytes_in(alloc, call, "path")?),
         OpName::CreateDir => Op::CreateDir(bytes_in(alloc, call, "path")?),
@@ -68,6 +69,7 @@ fn op_of(alloc: Global, name: OpName, call: &Value) -> Result<Op, FieldFault>
         ),
         OpName::RemoveFile => Op::RemoveFile(bytes_in(alloc, call, "path")?),
         OpName::RemoveDir => Op::RemoveDir(bytes_in(alloc, call, "path")?),
+        OpName::RemoveAll => Op::RemoveAll(bytes_in(alloc, call, "path")?),
         OpName::Rename => Op::Rename(
             bytes_in(alloc, call, "from")?,
             bytes_in(alloc, call, "to")?,

@@ -24,7 +24,10 @@ pub struct Label {
 pub fn takes_label(op: OpName) -> bool
     ensures { result ≡ takes_label op }
 {
-    matches!(op, OpName::Resolve | OpName::ResolveNoFollow)
+    matches!(
+        op,
+        OpName::Resolve | OpName::ResolveNoFollow | OpName::MkdirAll
+    )
 }
 
 /// The label that a call gives to what it opens, if it gives one.

@@ -9,12 +9,14 @@ use tree_model::Mode;
 pub enum OpName {
     Resolve,
     ResolveNoFollow,
+    MkdirAll,
     ReadLink,
     CreateFile,
     CreateDir,
     CreateLink,
     RemoveFile,
     RemoveDir,
+    RemoveAll,
     Rename,
 }
 
@@ -39,12 +41,14 @@ pub fn op_name_of(word: &str) -> Option<OpName>
     match word {
         "resolve" => Some(OpName::Resolve),
         "resolve_nofollow" => Some(OpName::ResolveNoFollow),
+        "mkdir_all" => Some(OpName::MkdirAll),
         "read_link" => Some(OpName::ReadLink),
         "create_file" => Some(OpName::CreateFile),
         "create_dir" => Some(OpName::CreateDir),
         "create_link" => Some(OpName::CreateLink),
         "remove_file" => Some(OpName::RemoveFile),
         "remove_dir" => Some(OpName::RemoveDir),
+        "remove_all" => Some(OpName::RemoveAll),
         "rename" => Some(OpName::Rename),
         _ => None,
     }
