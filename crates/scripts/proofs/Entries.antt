@@ -16,7 +16,8 @@ use Rattle.scripts.specs.declared.fault.ScriptFault.{ScriptFault}
 use Rattle.scripts.specs.declared.fault.ScriptFault.TheVariants.{TooManyEntries, TreeEntry}
 use Rattle.scripts.specs.declared.tree.TheConstants.{ENTRIES_MAX}
 use Rattle.scripts.specs.Fault.{IsFaultOf}
-use Rattle.scripts.specs.Tree.{count_of, entries_of, tree_built, tree_of, told_by}
+use Rattle.scripts.specs.Checks.{count_of}
+use Rattle.scripts.specs.Tree.{entries_of, tree_built, tree_of, told_by}
 
 pub count_of-items_view : (vs : List Value) → count_of (items_view vs) ≡ length vs
 count_of-items_view [] = refl

@@ -14,7 +14,8 @@ use Rattle.scripts.specs.declared.fault.Cause.TheVariants.{Shape, Refused}
 use Rattle.scripts.specs.declared.fault.ScriptFault.{ScriptFault}
 use Rattle.scripts.specs.declared.fault.ScriptFault.TheVariants.{TooManyEntries, TreeEntry}
 use Rattle.scripts.specs.declared.tree.TheConstants.{ENTRIES_MAX}
-use Rattle.scripts.specs.Tree.{count_of, entry_of, entry_then, entries_of, tree_built, tree_of}
+use Rattle.scripts.specs.Checks.{count_of}
+use Rattle.scripts.specs.Tree.{entry_of, entry_then, entries_of, tree_built, tree_of}
 use Rattle.scripts.specs.TreeLaws.{AreFirst, IsRefused, IsFirstRefused, FirstRefusedIsTold}
 use Rattle.scripts.proofs.Entries.{unequal, is_within}
 

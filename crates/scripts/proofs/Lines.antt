@@ -27,7 +27,8 @@ use Rattle.step_resolver.specs.declared.driver.Resolved.{Resolved}
 use Rattle.step_resolver.specs.declared.driver.Resolved.TheVariants.{Found}
 use Rattle.transcript.specs.Output.{opened_line, fault_line}
 use Rattle.scripts.specs.Actors.{RootedTree, IsAtHand}
-use Rattle.scripts.specs.Script.{rooted_tree_of, then_with}
+use Rattle.scripts.specs.Script.{rooted_tree_of}
+use Rattle.scripts.specs.Checks.{then_with}
 use Rattle.scripts.specs.Run.{line_of, line_for, IsRunFaultOf, IsRun, WritesNothingIfRefused}
 
 -- ---- the text

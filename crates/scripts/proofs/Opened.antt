@@ -1,13 +1,14 @@
 -- What a script says, once its checks have passed.
-use Rattle.std.proofs.Common.{◌≡◌, ℕ, Bool, true, false, List, refl, ap, ◌∙◌}
-use Rattle.std.specs.Prelude.{not, codes, Option, Some, None, is_none, option_and_then, Result, Ok, Err}
+use Rattle.std.proofs.Common.{◌≡◌, ℕ, true, false, List, refl}
+use Rattle.std.specs.Prelude.{codes, Some, is_none, option_and_then, Ok}
 use Rattle.serde_json.specs.Data.{Data, Items}
 use Rattle.serde_json.specs.Find.{get, as_array, as_object}
 use Rattle.tree_model.specs.declared.inode.Inode.{Inode}
 use Rattle.tree_model.specs.State.{TOP}
 use Rattle.tree_model.specs.Steps.{directory_at}
 use Rattle.scripts.specs.Actors.{first_actor_of, root_of, rooted}
-use Rattle.scripts.specs.Script.{version_of, is_version, rooted_tree_of}
+use Rattle.scripts.specs.Script.{rooted_tree_of}
+use Rattle.scripts.specs.Version.{version_of, is_version}
 use Rattle.scripts.specs.Tree.{tree_of}
 
 -- each check has passed

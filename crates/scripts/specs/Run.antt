@@ -16,7 +16,8 @@ use Rattle.scripts.specs.declared.input.TheConstants.{SCRIPT_MAX}
 use Rattle.scripts.specs.Fault.{check_of}
 use Rattle.transcript.specs.Output.{opened_line, fault_line}
 use Rattle.scripts.specs.Input.{data_of}
-use Rattle.scripts.specs.Script.{rooted_tree_of, then_with}
+use Rattle.scripts.specs.Script.{rooted_tree_of}
+use Rattle.scripts.specs.Checks.{then_with}
 
 -- the line of the object x: what it is, its node, and the names at which it stands below the root
 abbrev pub object_line : List Inode → ℕ → ℕ → List ℕ

@@ -1,8 +1,8 @@
 -- What a script says, over the data that its JSON text is (RFC 8259, as serde_json reads it). The checks are made in this order,
 -- and the first that fails is told.
-use Rattle.std.specs.Prelude.{ℕ, ◌==◌, ◌||◌, Bool, false, not, codes, Option, Some, None, is_none, option_and_then, Result, Ok, Err}
+use Rattle.std.specs.Prelude.{not, codes, is_none, option_and_then, Result, Err}
 use Rattle.serde_json.specs.Data.{Data}
-use Rattle.serde_json.specs.Find.{get, as_number, as_u64, as_array, as_object}
+use Rattle.serde_json.specs.Find.{get, as_array, as_object}
 use Rattle.tree_model.specs.Entries.{with_some, refuse_if}
 use Rattle.tree_model.specs.State.{TOP}
 use Rattle.tree_model.specs.Steps.{directory_at}
@@ -10,19 +10,9 @@ use Rattle.scripts.specs.declared.fault.Cause.TheVariants.{Shape}
 use Rattle.scripts.specs.declared.fault.ScriptFault.{ScriptFault}
 use Rattle.scripts.specs.declared.fault.ScriptFault.TheVariants.{NotObject, Version, Tree, Actors, Actor}
 use Rattle.scripts.specs.Actors.{RootedTree, first_actor_of, root_of, rooted}
+use Rattle.scripts.specs.Checks.{then_with}
 use Rattle.scripts.specs.Tree.{tree_of}
-
--- the value, or what goes on with it
-abbrev pub then_with : {A B : Type 0} → Result A ScriptFault → (A → Result B ScriptFault) → Result B ScriptFault
-then_with (Ok x) onward = onward x
-then_with (Err fault) onward = Err fault
-
-abbrev pub version_of : Data → Option ℕ
-version_of d = option_and_then as_u64 (option_and_then as_number (get (codes "version") d))
-
-abbrev pub is_version : Option ℕ → Bool
-is_version None = false
-is_version (Some n) = (n == 1) || (n == 2)
+use Rattle.scripts.specs.Version.{version_of, is_version}
 
 -- what `walk` looks at: the version, the tree, and the first actor's root
 abbrev pub rooted_tree_of : Data → Result RootedTree ScriptFault

@@ -1,5 +1,5 @@
 -- What a script's tree says, over the data that its JSON text is.
-use Rattle.std.specs.Prelude.{ℕ, ◌+◌, ◌==◌, ◌&&◌, List, [], ◌∷◌, Bool, if◌then◌else◌, nat_lt, length, codes, Option, Some, None, is_none, option_map, option_and_then, Result, Ok, Err}
+use Rattle.std.specs.Prelude.{ℕ, ◌==◌, ◌&&◌, List, [], ◌∷◌, Bool, if◌then◌else◌, nat_lt, length, codes, Option, Some, None, is_none, option_map, option_and_then, Result, Ok, Err}
 use Rattle.serde_json.specs.Data.{Data, Items, no_items, item}
 use Rattle.serde_json.specs.Find.{at, as_str}
 use Rattle.path_text.specs.declared.errno.Errno.{Errno}
@@ -19,6 +19,7 @@ use Rattle.scripts.specs.declared.fault.RunFault.TheVariants.{Script, NoMemory}
 use Rattle.scripts.specs.declared.fault.ScriptFault.{ScriptFault}
 use Rattle.scripts.specs.declared.fault.ScriptFault.TheVariants.{TooManyEntries, TreeEntry}
 use Rattle.scripts.specs.declared.tree.TheConstants.{ENTRIES_MAX}
+use Rattle.scripts.specs.Checks.{count_of}
 
 -- ---- names
 
@@ -57,10 +58,6 @@ entry_then (Some entry) entries = entry ∷ entries
 abbrev pub entries_of : Items → List Entry
 entries_of no_items = []
 entries_of (item d ds) = entry_then (entry_of d) (entries_of ds)
-
-abbrev pub count_of : Items → ℕ
-count_of no_items = 0
-count_of (item d ds) = 1 + count_of ds
 
 -- the entries of good shape that come first can be built, and are all that there are
 abbrev pub tree_built : Result (List Inode) BuildFault → ℕ → ℕ → Result (List Inode) ScriptFault

@@ -9,7 +9,8 @@ use Rattle.scripts.specs.declared.fault.Cause.{Cause}
 use Rattle.scripts.specs.declared.fault.Cause.TheVariants.{Shape, Refused}
 use Rattle.scripts.specs.declared.fault.ScriptFault.TheVariants.{TreeEntry}
 use Rattle.scripts.specs.declared.tree.TheConstants.{ENTRIES_MAX}
-use Rattle.scripts.specs.Tree.{count_of, entry_of, tree_of}
+use Rattle.scripts.specs.Checks.{count_of}
+use Rattle.scripts.specs.Tree.{entry_of, tree_of}
 
 -- these entries are what the first k values say
 pub record AreFirst (items : Items) (k : ℕ) (entries : List Entry) : Type 0 where

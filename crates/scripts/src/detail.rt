@@ -1,6 +1,10 @@
 //! What is told of a refused script beside the check that failed.
+use crate::actors::ACTORS_MAX;
+use crate::calls::CALLS_MAX;
 use crate::fault::{Cause, JsonFault, RunFault, ScriptFault};
 use crate::input::SCRIPT_MAX;
+use crate::scenario::LINES_MAX;
+use crate::schedule::TURNS_MAX;
 use crate::tree::ENTRIES_MAX;
 use path_text::Errno;
 use std::fmt::{self, Display, Formatter};
@@ -68,6 +72,7 @@ impl Display for Detail {
             ScriptFault::NotJson(fault) => write!(f, "{fault}"),
             ScriptFault::NotObject => f.write_str("a script is a JSON object"),
             ScriptFault::Version => f.write_str("\"version\" is 1 or 2"),
+            ScriptFault::Lines => write!(f, "\"lines\" is 1 to {LINES_MAX}"),
             ScriptFault::Tree => f.write_str("\"tree\" is a list of entries"),
             ScriptFault::TooManyEntries => write!(f, "a tree has at most {ENTRIES_MAX} entries"),
             ScriptFault::TreeEntry(_, Cause::Shape) => f.write_str(
@@ -78,6 +83,7 @@ impl Display for Detail {
                 write!(f, "{name}: {words}")
             }
             ScriptFault::Actors => f.write_str("\"actors\" is a list with at least one actor"),
+            ScriptFault::TooManyActors => write!(f, "a script has at most {ACTORS_MAX} actors"),
             ScriptFault::Actor(_, Cause::Shape) => f.write_str(
                 "an actor is an object with a \"root\", which is / or has a slash before each name",
             ),
@@ -85,6 +91,13 @@ impl Display for Detail {
                 let (name, words) = (error.name(), root_words(error));
                 write!(f, "{name}: {words}")
             }
+            ScriptFault::TooManyCalls(_) => write!(f, "an actor has at most {CALLS_MAX} calls"),
+            ScriptFault::Call(_, _) => f.write_str(
+                "a call has an \"op\" with its fields, gives a label of its own, and uses labels that calls before it give",
+            ),
+            ScriptFault::Schedule => f.write_str("\"schedule\" is a list of actors' numbers"),
+            ScriptFault::TooManyTurns => write!(f, "a schedule has at most {TURNS_MAX} turns"),
+            ScriptFault::Turn(_) => f.write_str("a turn is an actor's number, counted from 0"),
         }
     }
 }

@@ -1,9 +1,9 @@
 //! Why a run ends without its answer.
 ghost use Rattle.std.specs.Prelude.{◌≡◌};
-ghost use Rattle.scripts.specs.declared.fault.RunFault.TheVariants.{NoMemory as OutOfMemory};
+ghost use Rattle.scripts.specs.declared.fault.RunFault.TheVariants.{Script, NoMemory as OutOfMemory};
 
 use path_text::{Errno, NoMemory};
-use std::alloc::AllocError;
+use std::alloc::{AllocError, AllocFailed};
 use thiserror::Error;
 
 /// Where a text stops being JSON, as serde_json tells it: the line and the column, from 1.
@@ -37,6 +37,9 @@ pub enum ScriptFault {
     NotObject,
     #[error("version")]
     Version,
+    /// No number of lines that a book may have.
+    #[error("lines")]
+    Lines,
     /// No list of entries.
     #[error("tree")]
     Tree,
@@ -49,9 +52,27 @@ pub enum ScriptFault {
     /// No list of actors, or none in it.
     #[error("actors")]
     Actors,
+    /// More actors than a script may have.
+    #[error("actors")]
+    TooManyActors,
     /// The first actor that is refused, and why.
     #[error("actor {0}")]
     Actor(usize, Cause),
+    /// The first actor that is refused, for more calls than an actor may have.
+    #[error("actor {0}")]
+    TooManyCalls(usize),
+    /// The first call that is refused, by its actor and its number.
+    #[error("call {0} {1}")]
+    Call(usize, usize),
+    /// No list of turns.
+    #[error("schedule")]
+    Schedule,
+    /// More turns than a schedule may have.
+    #[error("schedule")]
+    TooManyTurns,
+    /// The first turn that is no actor's number.
+    #[error("schedule {0}")]
+    Turn(usize),
 }
 
 /// Why a run failed. Nothing was written before it, but by a writer that failed.
@@ -80,5 +101,21 @@ impl From<AllocError> for RunFault {
 
     fn from(_error: AllocError) -> RunFault {
         RunFault::NoMemory
+    }
+}
+
+impl<T: Drop> From<AllocFailed<T>> for RunFault {
+    ghost from_gives = { λ _ fault. fault ≡ OutOfMemory };
+
+    fn from(_error: AllocFailed<T>) -> RunFault {
+        RunFault::NoMemory
+    }
+}
+
+impl From<ScriptFault> for RunFault {
+    ghost from_gives = { λ fault told. told ≡ Script fault };
+
+    fn from(fault: ScriptFault) -> RunFault {
+        RunFault::Script(fault)
     }
 }

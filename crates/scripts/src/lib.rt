@@ -5,19 +5,30 @@
 #![tactic(auto)]
 
 mod actors;
+mod calls;
 mod detail;
 mod fault;
+mod fields;
 mod input;
+mod labels;
 mod laws;
 mod run;
+mod scenario;
+mod schedule;
 mod script;
+mod steps;
 #[cfg(test)]
 mod tests;
 mod tree;
+mod words;
 
+pub use actors::ACTORS_MAX;
+pub use calls::CALLS_MAX;
 pub use detail::Detail;
 pub use fault::{Cause, JsonFault, RunFault, ScriptFault};
 pub use input::SCRIPT_MAX;
 pub use laws::first_refused_entry_is_told;
 pub use run::walk;
+pub use scenario::{LINES_MAX, Scenario, read_scenario};
+pub use schedule::TURNS_MAX;
 pub use tree::ENTRIES_MAX;

@@ -1,13 +1,15 @@
 //! A script that is opened: its version is read, its tree is built, and the first actor's root is open.
-ghost use Rattle.std.specs.Prelude.{◌≡◌, Some, None, is_none, codes, option_map, option_and_then, IfOk, IfErr};
-ghost use Rattle.serde_json.specs.View.{view, items_view};
-ghost use Rattle.serde_json.specs.Find.{as_object, as_array, get};
+ghost use Rattle.std.specs.Prelude.{◌≡◌, is_none, IfOk, IfErr};
+ghost use Rattle.serde_json.specs.View.{view};
+ghost use Rattle.serde_json.specs.Find.{as_object};
 ghost use Rattle.scripts.specs.Actors.{IsAtHand};
 ghost use Rattle.scripts.specs.Fault.{IsFaultOf};
-ghost use Rattle.scripts.specs.Script.{version_of, is_version, rooted_tree_of};
+ghost use Rattle.scripts.specs.Script.{rooted_tree_of};
+ghost use Rattle.scripts.specs.Version.{version_of, is_version};
 
 use crate::actors::{ACTOR, first_actor_of, open_root, root_of};
 use crate::fault::{Cause, RunFault, ScriptFault};
+use crate::fields::list_in;
 use crate::tree::tree_of;
 use serde_json::Value;
 use std::alloc::Global;
@@ -28,8 +30,8 @@ fn is_version(version: Option<u64>) -> bool
     matches!(version, Some(1 | 2))
 }
 
-// Whether the script is something else than an object.
-fn is_no_object(script: &Value) -> bool
+/// Whether the script is something else than an object.
+pub fn is_no_object(script: &Value) -> bool
     ensures { result ≡ is_none (as_object (view script.now)) }
 {
     script.as_object().is_none()
@@ -40,13 +42,6 @@ fn has_version(script: &Value) -> bool
     ensures { result ≡ is_version (version_of (view script.now)) }
 {
     is_version(script.get("version").and_then(Value::as_u64))
-}
-
-/// What the script says of its tree's entries, if that is a list.
-pub fn entries_in(script: &Value) -> Option<&[Value]>
-    ensures { option_map (λ entries. items_view entries.now) result ≡ option_and_then as_array (get (codes "tree") (view script.now)) }
-{
-    Some(script.get("tree")?.as_array()?.as_slice())
 }
 
 /// Opens a script: builds its tree, and opens the first actor's root. Errors: the first check that
@@ -61,7 +56,7 @@ pub fn open_script(alloc: Global, script: &Value) -> Result<OpenedScript, RunFau
     if !has_version(script) {
         return Err(RunFault::Script(ScriptFault::Version));
     }
-    let Some(entries) = entries_in(script) else {
+    let Some(entries) = list_in(script, "tree") else {
         return Err(RunFault::Script(ScriptFault::Tree));
     };
     let mut tree = tree_of(alloc, entries)?;

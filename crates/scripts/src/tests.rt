@@ -1,5 +1,6 @@
 //! The library's calls, on scripts; the walk's rows among another actor's steps in `races`.
 mod races;
+mod readings;
 
 use crate::fault::{Cause, RunFault, ScriptFault};
 use crate::input::{READS_MAX, SCRIPT_MAX};

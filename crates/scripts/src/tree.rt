@@ -126,8 +126,8 @@ pub fn list_of(alloc: Global, values: &[Value]) -> Result<ListTree, RunFault>
     }
 }
 
-// The same tree, with a map of entries for each directory.
-fn indexed(alloc: Global, list: &ListTree) -> Result<SlabTree, RunFault>
+/// The same tree, with a map of entries for each directory. `NoMemory`.
+pub fn indexed(alloc: Global, list: &ListTree) -> Result<SlabTree, RunFault>
     requires { IsTree list.now.nodes }
     ensures ok { IfOk result (λ tree. tree ≡ list.now) }
     ensures err { IfErr result (λ fault. fault ≡ run_fault.NoMemory) }

@@ -1,7 +1,8 @@
 //! Walks driven over the plain tree and over the indexed one, step by step, while another actor acts in between.
 use super::{BASE, PLAIN};
 use crate::input::value_of;
-use crate::script::{entries_in, open_script};
+use crate::fields::list_in;
+use crate::script::open_script;
 use crate::tree::list_of;
 use handles::{Owner, Standing};
 use path_text::{Errno, Flags, Name, Names, Path};
@@ -77,7 +78,7 @@ fn open_others<T: Tree>(alloc: Global, tree: &mut T) -> Result<(), Fail> {
 /// The base tree with the handles of both, as the plain tree and as the indexed one.
 fn trees(alloc: Global) -> Result<(ListTree, SlabTree), Fail> {
     let script = value_of(alloc, BASE.as_bytes())?;
-    let mut list = list_of(alloc, entries_in(&script).unwrap_or(&[]))?;
+    let mut list = list_of(alloc, list_in(&script, "tree").unwrap_or(&[]))?;
     list.grant(alloc, Actor::new(WALKER), &names_of(alloc, "/c")?)?;
     open_others(alloc, &mut list)?;
     let mut slab = open_script(alloc, &script)?.tree;

@@ -1,0 +1,152 @@
+-- What a script says can be played, since the checks have passed.
+use Rattle.std.proofs.Common.{◌≡◌, ℕ, ◌+◌, ◌<◌, ◌≤◌, Bool, true, false, List, [], ◌∷◌, length, refl, sym, ap, ◌∙◌, subst, arith, rules, tests}
+use Rattle.std.specs.Prelude.{Option, Some, None, Result, Ok, Err, All, IsOk, nat_lt, nat_le, ◌&&◌, if◌then◌else◌, is_none, option_and_then, codes}
+use Rattle.serde_json.specs.Data.{Data, Items, no_items, item}
+use Rattle.serde_json.specs.Find.{get, as_number, as_u64, as_array, as_object}
+use Rattle.path_text.specs.declared.errno.Errno.{Errno}
+use Rattle.race_core.specs.declared.plan.ActorPlan.{ActorPlan}
+use Rattle.race_core.specs.declared.plan.Planned.{Planned}
+use Rattle.tree_model.specs.declared.inode.Inode.{Inode}
+use Rattle.tree_model.specs.Entries.{with_some, refuse_if}
+use Rattle.tree_model.specs.State.{TOP}
+use Rattle.tree_model.specs.Steps.{directory_at}
+use Rattle.scripts.specs.declared.actors.TheConstants.{ACTORS_MAX}
+use Rattle.scripts.specs.declared.calls.TheConstants.{CALLS_MAX}
+use Rattle.scripts.specs.declared.calls.Version.{Version}
+use Rattle.scripts.specs.declared.fault.Cause.TheVariants.{Shape}
+use Rattle.scripts.specs.declared.fault.ScriptFault.{ScriptFault}
+use Rattle.scripts.specs.declared.fault.ScriptFault.TheVariants as fault
+use Rattle.scripts.specs.declared.scenario.Header.{Header}
+use Rattle.scripts.specs.declared.scenario.TheConstants.{LINES_MAX}
+use Rattle.scripts.specs.declared.schedule.TheConstants.{TURNS_MAX}
+use Rattle.scripts.specs.Actors.{root_of}
+use Rattle.scripts.specs.Calls.{calls_of}
+use Rattle.scripts.specs.Checks.{are_over, then_with, each}
+use Rattle.scripts.specs.Fields.{list_in, perhaps}
+use Rattle.scripts.specs.Plans.{root_at, actor_at, actors_in, actors_of}
+use Rattle.scripts.specs.Scenario.{Said, IsPlayable, lines_in, header_of, nodes_in, scenario_of}
+use Rattle.scripts.specs.Schedule.{turn_at, schedule_by, schedule_of}
+use Rattle.scripts.specs.Version.{version_in}
+use Rattle.scripts.proofs.Scenarios.{few_actors}
+
+-- ---- checks that have passed
+
+pub record HasPassed {A B : Type 0} (said : Result A ScriptFault) (onward : A → Result B ScriptFault) (y : B) : Type 0 where
+  pub x : A
+  pub was : said ≡ Ok x
+  pub went : onward x ≡ Ok y
+
+pub passed_then : {A B : Type 0} (said : Result A ScriptFault) (onward : A → Result B ScriptFault) (y : B) → then_with said onward ≡ Ok y → HasPassed said onward y
+passed_then (Ok x) onward y e = record { x = x; was = refl; went = e }
+passed_then (Err f) onward y e = cc (e)
+
+pub record WasThere {A B : Type 0} (said : Option A) (onward : A → Result B ScriptFault) (y : B) : Type 0 where
+  pub x : A
+  pub was : said ≡ Some x
+  pub went : onward x ≡ Ok y
+
+was_there : {A B : Type 0} (said : Option A) (f : ScriptFault) (onward : A → Result B ScriptFault) (y : B) → with_some said (Err f) onward ≡ Ok y → WasThere said onward y
+was_there (Some x) f onward y e = record { x = x; was = refl; went = e }
+was_there None f onward y e = cc (e)
+
+not_refused : {B : Type 0} (test : Bool) (f : ScriptFault) (onward : Result B ScriptFault) (y : B) → refuse_if test (Err f) onward ≡ Ok y → onward ≡ Ok y
+not_refused true f onward y e = cc (e)
+not_refused false f onward y e = e
+
+all_of_each : {A : Type 0} (P : A → Type 0) (says : ℕ → Data → Result A ScriptFault) → ((k : ℕ) (d : Data) (x : A) → says k d ≡ Ok x → P x)
+    → (k : ℕ) (items : Items) (xs : List A) → each says k items ≡ Ok xs → All P xs
+all_of_each {A = A} P says holds k no_items xs e = let same : ◌≡◌ {A = List A} [] xs = cc (e) in subst (λ (ys : List A). All P ys) same tt
+all_of_each {A = A} P says holds k (item d ds) xs e = by (passed_then (says k d) _ xs e)
+  where
+    by : HasPassed (says k d) (λ y. then_with (each says (k + 1) ds) (λ ys. Ok (y ∷ ys))) xs → All P xs
+    by first = next (passed_then (each says (k + 1) ds) _ xs first.went)
+      where
+        next : HasPassed (each says (k + 1) ds) (λ ys. Ok (first.x ∷ ys)) xs → All P xs
+        next rest =
+            let went = rest.went in
+            let same : first.x ∷ rest.x ≡ xs = cc (went) in
+            subst (λ (ys : List A). All P ys) same (holds k d first.x first.was, all_of_each P says holds (k + 1) ds rest.x rest.was)
+
+-- ---- roots
+
+root_is_there : (k : ℕ) (found : Result ℕ Errno) (r : ℕ) → root_at k found ≡ Ok r → IsOk found
+root_is_there k (Ok x) r e = tt
+root_is_there k (Err f) r e = cc (e)
+
+has_root : (nodes : List Inode) (version : Version) (k : ℕ) (d : Data) (plan : ActorPlan) → actor_at nodes version k d ≡ Ok plan → IsOk (directory_at nodes TOP plan.root)
+has_root nodes version k d plan e =
+    let named = was_there (root_of d) (fault.Actor k Shape) _ plan e in
+    let listed = was_there (list_in (codes "calls") d) (fault.Actor k Shape) _ plan named.went in
+    let rooted = passed_then (root_at k (directory_at nodes TOP named.x)) _ plan listed.went in
+    let few = not_refused (are_over CALLS_MAX listed.x) (fault.TooManyCalls k) _ plan rooted.went in
+    let called = passed_then (calls_of version k listed.x) _ plan few in
+    let went = called.went in
+    let same : ◌≡◌ {A = ActorPlan} (record { root = named.x; calls = called.x }) plan = cc (went) in
+    subst (λ (p : ActorPlan). IsOk (directory_at nodes TOP p.root)) same (root_is_there k (directory_at nodes TOP named.x) rooted.x rooted.was)
+
+roots_are : (nodes : List Inode) (version : Version) (d : Data) (plans : List ActorPlan) → actors_of nodes version d ≡ Ok plans
+    → All (λ plan. IsOk (directory_at nodes TOP plan.root)) plans
+roots_are nodes version d plans e =
+    let listed = passed_then (actors_in d) (each (actor_at nodes version) 0) plans e in
+    all_of_each (λ plan. IsOk (directory_at nodes TOP plan.root)) (actor_at nodes version) (has_root nodes version) 0 listed.x plans listed.went
+
+-- ---- turns
+
+below : (actors k n actor : ℕ) (test : Bool) → nat_lt n actors ≡ test → (if test then Ok n else Err (fault.Turn k)) ≡ Ok actor → actor < actors
+below actors k n actor true is e = let same : n ≡ actor = cc (e) in subst (λ (i : ℕ). i < actors) same (search (rules, tests))
+below actors k n actor false is e = cc (e)
+
+is_turn : (actors k : ℕ) (d : Data) (actor : ℕ) → turn_at actors k d ≡ Ok actor → actor < actors
+is_turn actors k d actor e =
+    let there = was_there (option_and_then as_u64 (as_number d)) (fault.Turn k) _ actor e in
+    below actors k there.x actor (nat_lt there.x actors) refl there.went
+
+turns_by : (actors : ℕ) (said : Option Data) (schedule : List ℕ) → schedule_by actors said ≡ Ok schedule → All (λ actor. actor < actors) schedule
+turns_by actors None schedule e = let same : ◌≡◌ {A = List ℕ} [] schedule = cc (e) in subst (λ (is : List ℕ). All (λ actor. actor < actors) is) same tt
+turns_by actors (Some d) schedule e =
+    let listed = was_there (as_array d) fault.Schedule _ schedule e in
+    let few = not_refused (are_over TURNS_MAX listed.x) fault.TooManyTurns _ schedule listed.went in
+    all_of_each (λ actor. actor < actors) (turn_at actors) (is_turn actors) 0 listed.x schedule few
+
+-- ---- lines
+
+within : (n lines : ℕ) (test : Bool) → nat_le n LINES_MAX ≡ test → (first : Bool) → (if first && test then Some n else None) ≡ Some lines → lines ≤ LINES_MAX
+within n lines true is true e = let same : n ≡ lines = cc (e) in subst (λ (i : ℕ). i ≤ LINES_MAX) same (search (rules, tests))
+within n lines false is true e = cc (e)
+within n lines test is false e = cc (e)
+
+some_lines : (o : Option ℕ) (lines : ℕ) → with_some o None (λ n. if nat_le 1 n && nat_le n LINES_MAX then Some n else None) ≡ Some lines → lines ≤ LINES_MAX
+some_lines None lines e = cc (e)
+some_lines (Some n) lines e = within n lines (nat_le n LINES_MAX) refl (nat_le 1 n) e
+
+bounded_lines : (o : Option Data) (lines : ℕ)
+    → perhaps o LINES_MAX (λ d. with_some (option_and_then as_u64 (as_number d)) None (λ n. if nat_le 1 n && nat_le n LINES_MAX then Some n else None)) ≡ Some lines
+    → lines ≤ LINES_MAX
+bounded_lines None lines e = let same : LINES_MAX ≡ lines = cc (e) in omega (arith, same)
+bounded_lines (Some d) lines e = some_lines (option_and_then as_u64 (as_number d)) lines e
+
+bounded : (d : Data) (header : Header) → header_of d ≡ Ok header → header.lines ≤ LINES_MAX
+bounded d header e =
+    let object = not_refused (is_none (as_object d)) fault.NotObject _ header e in
+    let version = was_there (version_in d) fault.Version _ header object in
+    let lines = was_there (lines_in d) fault.Lines _ header version.went in
+    let went = lines.went in
+    let same : ◌≡◌ {A = Header} (record { version = version.x; lines = lines.x }) header = cc (went) in
+    subst (λ (h : Header). h.lines ≤ LINES_MAX) same (bounded_lines (get (codes "lines") d) lines.x lines.was)
+
+-- ---- the whole
+
+pub playable : (d : Data) (said : Said) → scenario_of d ≡ Ok said → IsPlayable said
+playable d said e =
+    let header = passed_then (header_of d) _ said e in
+    let nodes = passed_then (nodes_in d) _ said header.went in
+    let plans = passed_then (actors_of nodes.x header.x.version d) _ said nodes.went in
+    let schedule = passed_then (schedule_of (length plans.x) d) _ said plans.went in
+    let went = schedule.went in
+    let same : ◌≡◌ {A = Said} (record { nodes = nodes.x; plans = plans.x; schedule = schedule.x; lines = header.x.lines }) said = cc (went) in
+    subst IsPlayable same (record {
+      few = few_actors nodes.x header.x.version d plans.x plans.was;
+      roots = roots_are nodes.x header.x.version d plans.x plans.was;
+      turns = turns_by (length plans.x) (get (codes "schedule") d) schedule.x schedule.was;
+      bounded = bounded d header.x header.was;
+    })

@@ -1,0 +1,78 @@
+-- What a whole script says, over the data that its JSON text is (RFC 8259, as serde_json reads it). The checks are made in this
+-- order, and the first that fails is told.
+use Rattle.std.specs.Prelude.{⊤, ◌≡◌, ℕ, ◌<◌, ◌≤◌, ◌&&◌, List, length, if◌then◌else◌, nat_le, nat_lt, Option, Some, None, is_none, option_and_then, Result, Ok, Err, All, IsOk, codes}
+use Rattle.serde_json.specs.Data.{Data}
+use Rattle.serde_json.specs.Find.{get, as_number, as_u64, as_object}
+use Rattle.race_core.specs.declared.plan.ActorPlan.{ActorPlan}
+use Rattle.tree_model.specs.declared.inode.Inode.{Inode}
+use Rattle.tree_model.specs.Entries.{with_some, refuse_if}
+use Rattle.tree_model.specs.State.{TOP}
+use Rattle.tree_model.specs.Steps.{directory_at}
+use Rattle.scripts.specs.declared.actors.TheConstants.{ACTORS_MAX}
+use Rattle.scripts.specs.declared.fault.RunFault.{RunFault}
+use Rattle.scripts.specs.declared.fault.RunFault.TheVariants.{Script, ReadFailed, WriteFailed, NoMemory}
+use Rattle.scripts.specs.declared.fault.ScriptFault.{ScriptFault}
+use Rattle.scripts.specs.declared.fault.ScriptFault.TheVariants.{TooLong, NotObject, Version, Lines, Tree}
+use Rattle.scripts.specs.declared.scenario.Header.{Header}
+use Rattle.scripts.specs.declared.scenario.Scenario.{Scenario}
+use Rattle.scripts.specs.declared.scenario.TheConstants.{LINES_MAX}
+use Rattle.scripts.specs.declared.input.TheConstants.{SCRIPT_MAX}
+use Rattle.scripts.specs.Checks.{then_with}
+use Rattle.scripts.specs.Fault.{check_of}
+use Rattle.scripts.specs.Fields.{list_in, perhaps}
+use Rattle.scripts.specs.Input.{data_of}
+use Rattle.scripts.specs.Plans.{actors_of}
+use Rattle.scripts.specs.Schedule.{schedule_of}
+use Rattle.scripts.specs.Tree.{tree_of}
+use Rattle.scripts.specs.Version.{version_in}
+
+-- the tree's nodes, what each actor does, who takes each turn, and how many lines the book has
+pub record Said : Type 0 where
+  pub nodes : List Inode
+  pub plans : List ActorPlan
+  pub schedule : List ℕ
+  pub lines : ℕ
+
+abbrev pub said_by : Scenario → Said
+said_by s = record { nodes = s.tree.nodes; plans = s.plans.items; schedule = s.schedule.items; lines = s.lines }
+
+abbrev pub lines_in : Data → Option ℕ
+lines_in d = perhaps (get (codes "lines") d) LINES_MAX (λ lines.
+    with_some (option_and_then as_u64 (as_number lines)) None (λ n. if nat_le 1 n && nat_le n LINES_MAX then Some n else None))
+
+abbrev pub header_of : Data → Result Header ScriptFault
+header_of d =
+    refuse_if (is_none (as_object d)) (Err NotObject)
+    (with_some (version_in d) (Err Version) (λ version.
+    with_some (lines_in d) (Err Lines) (λ lines.
+    Ok (record { version = version; lines = lines }))))
+
+abbrev pub nodes_in : Data → Result (List Inode) ScriptFault
+nodes_in d = with_some (list_in (codes "tree") d) (Err Tree) tree_of
+
+-- what a script says, or the first check that fails
+abbrev pub scenario_of : Data → Result Said ScriptFault
+scenario_of d =
+    then_with (header_of d) (λ header.
+    then_with (nodes_in d) (λ nodes.
+    then_with (actors_of nodes header.version d) (λ plans.
+    then_with (schedule_of (length plans) d) (λ schedule.
+    Ok (record { nodes = nodes; plans = plans; schedule = schedule; lines = header.lines })))))
+
+-- what the script says that these bytes are
+abbrev pub said_for : List ℕ → Result Said ScriptFault
+said_for input = refuse_if (nat_lt SCRIPT_MAX (length input)) (Err TooLong) (then_with (data_of input) scenario_of)
+
+-- the fault of reading is the script's; or a read or a growth was refused
+abbrev pub IsReadingFaultOf : Result Said ScriptFault → RunFault → Type 0
+IsReadingFaultOf said (Script fault) = said ≡ Err (check_of fault)
+IsReadingFaultOf said ReadFailed = ⊤
+IsReadingFaultOf said WriteFailed = ⊥
+IsReadingFaultOf said NoMemory = ⊤
+
+-- What is said can be played: each actor's root is a directory, each turn an actor's, and a book may have the lines.
+pub record IsPlayable (said : Said) : Type 0 where
+  pub few : length said.plans ≤ ACTORS_MAX
+  pub roots : All (λ plan. IsOk (directory_at said.nodes TOP plan.root)) said.plans
+  pub turns : All (λ actor. actor < length said.plans) said.schedule
+  pub bounded : said.lines ≤ LINES_MAX

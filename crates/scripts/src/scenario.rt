@@ -1,0 +1,119 @@
+//! A whole script: a tree, what each actor does in it, and in what order.
+ghost use Rattle.std.specs.Prelude.{◌≡◌, [], Ok, IfOk, IfErr, IfSome};
+ghost use Rattle.serde_json.specs.View.{view};
+ghost use Rattle.tree_model.specs.Trees.{IsState};
+ghost use Rattle.scripts.specs.Fault.{IsFaultOf};
+ghost use Rattle.scripts.specs.Scenario.{lines_in, header_of, nodes_in, scenario_of, said_by, said_for, IsReadingFaultOf};
+
+use crate::actors::actors_of;
+use crate::calls::{Version, version_in};
+use crate::fault::{RunFault, ScriptFault};
+use crate::fields::list_in;
+use crate::input::{read_script, value_of};
+use crate::schedule::schedule_of;
+use crate::script::is_no_object;
+use crate::tree::{indexed, list_of};
+use race_core::ActorPlan;
+use serde_json::Value;
+use std::alloc::Global;
+use std::io::Read;
+use tree_list::ListTree;
+use tree_slab::SlabTree;
+
+/// The most lines of a script's book, and as many as it has where the script doesn't say.
+pub const LINES_MAX: u32 = 1_000_000;
+
+/// What a script says: a tree, what each actor does in it by its number, who takes each turn, and how many lines the
+/// book has.
+#[derive(Debug, Drop)]
+pub struct Scenario {
+    pub tree: SlabTree,
+    pub plans: Vec<ActorPlan>,
+    pub schedule: Vec<u32>,
+    pub lines: u32,
+}
+
+/// What a script says before its tree.
+#[derive(Clone, Copy, Debug)]
+pub struct Header {
+    pub version: Version,
+    pub lines: u32,
+}
+
+/// How many lines the book of a script has.
+fn lines_in(script: &Value) -> Option<u32>
+    ensures { result ≡ lines_in (view script.now) }
+{
+    let Some(lines) = script.get("lines") else {
+        return Some(LINES_MAX);
+    };
+    match lines.as_u64() {
+        Some(lines) if 1 <= lines && lines <= LINES_MAX as u64 => Some(lines as u32),
+        _ => None,
+    }
+}
+
+/// The version and the lines of a script. Errors, in this order: `NotObject`, `Version`, `Lines`.
+fn header_of(script: &Value) -> Result<Header, RunFault>
+    ensures ok { IfOk result (λ header. header_of (view script.now) ≡ Ok header) }
+    ensures err { IfErr result (IsFaultOf (header_of (view script.now))) }
+{
+    if is_no_object(script) {
+        return Err(RunFault::Script(ScriptFault::NotObject));
+    }
+    let Some(version) = version_in(script) else {
+        return Err(RunFault::Script(ScriptFault::Version));
+    };
+    let Some(lines) = lines_in(script) else {
+        return Err(RunFault::Script(ScriptFault::Lines));
+    };
+    Ok(Header { version, lines })
+}
+
+/// The plain tree of a script. Errors: `Tree` where there is no list of entries, then those of `list_of`.
+fn plain_tree_of(alloc: Global, script: &Value) -> Result<ListTree, RunFault>
+    ensures ok { IfOk result (λ tree. (nodes_in (view script.now) ≡ Ok tree.nodes) × (tree.handles ≡ [])) }
+    ensures tree { IfOk result IsState }
+    ensures err { IfErr result (IsFaultOf (nodes_in (view script.now))) }
+{
+    let Some(entries) = list_in(script, "tree") else {
+        return Err(RunFault::Script(ScriptFault::Tree));
+    };
+    list_of(alloc, entries)
+}
+
+/// What a script says. Errors: the first check that fails, in this order: those of its version and its lines, of its
+/// tree, of its actors, each with its calls, and of its schedule; `NoMemory`.
+fn scenario_of(alloc: Global, script: &Value) -> Result<Scenario, RunFault>
+    ensures said { IfOk result (λ scenario. scenario_of (view script.now) ≡ Ok (said_by scenario)) }
+    ensures none { IfOk result (λ scenario. scenario.tree.handles ≡ []) }
+    ensures tree { IfOk result (λ scenario. IsState scenario.tree) }
+    ensures err { IfErr result (IsFaultOf (scenario_of (view script.now))) }
+{
+    let header = header_of(script)?;
+    let list = plain_tree_of(alloc, script)?;
+    let tree = indexed(alloc, &list)?;
+    let (nodes, _no_handles) = list.into_parts();
+    let plans = actors_of(alloc, &nodes, header.version, script)?;
+    let schedule = schedule_of(alloc, plans.len(), script)?;
+    let lines = header.lines;
+    Ok(Scenario {
+        tree,
+        plans,
+        schedule,
+        lines,
+    })
+}
+
+/// Reads a script to its end, and what it says. Errors, in this order: those of `read_script`; `Script(NotJson)`; those
+/// of `scenario_of`.
+pub fn read_scenario<R: Read>(alloc: Global, reader: &mut R) -> Result<Scenario, RunFault>
+    ensures said { IfOk result (λ scenario. IfSome (R.remaining reader.old) (λ input. said_for input ≡ Ok (said_by scenario))) }
+    ensures none { IfOk result (λ scenario. scenario.tree.handles ≡ []) }
+    ensures tree { IfOk result (λ scenario. IsState scenario.tree) }
+    ensures err { IfErr result (λ fault. IfSome (R.remaining reader.old) (λ input. IsReadingFaultOf (said_for input) fault)) }
+{
+    let bytes = read_script(alloc, reader)?;
+    let script = value_of(alloc, &bytes)?;
+    scenario_of(alloc, &script)
+}
