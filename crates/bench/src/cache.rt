@@ -1,6 +1,6 @@
 //! Look-ups and removals on the indexed tree, with one entry remembered and with many.
 use crate::clock::nanoseconds;
-use crate::steps::{TURNS, actor, make_all};
+use crate::steps::{TURNS, WARM_UP, actor, make_all};
 use crate::tree::{CACHED_ENTRIES, name};
 use path_text::{Name, Names};
 use std::alloc::Global;
@@ -61,6 +61,14 @@ impl Call {
         }
     }
 
+    // How many calls are made before the clock is read.
+    fn warm_up(self) -> u32 {
+        match self {
+            Call::Open => WARM_UP,
+            _ => 0,
+        }
+    }
+
     /// How many calls are timed, where there are so many names.
     pub fn turns(self, names: u32) -> u32 {
         match self {
@@ -118,6 +126,7 @@ pub fn time_cached(
     let (mut tree, root) = tree_of(alloc, cap, call.making(), entries)?;
     let within = if letter == "e" { entries } else { count };
     let steps = calls(alloc, root, call, (letter, count), within)?;
+    make_all(alloc, &mut tree, &steps, call.warm_up());
     let start = Instant::now(rt)?;
     let done = make_all(alloc, &mut tree, &steps, turns);
     Ok((nanoseconds(rt, start)?, done))

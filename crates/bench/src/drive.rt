@@ -3,7 +3,7 @@ use handles::Standing;
 use path_text::{Errno, Flags, Path};
 use race_core::Book;
 use std::alloc::Global;
-use step_resolver::{Goal, Root, Turn, Walk};
+use step_resolver::{Goal, Root, Turn, Walk, advance};
 use tree_model::{Actor, Answer, Step, Tree};
 use tree_slab::SlabTree;
 
@@ -80,5 +80,28 @@ pub fn resolve<A: Answering>(alloc: Global, on: &mut A, root: &Root, text: &[u8]
             true
         }
         Err(_) => false,
+    }
+}
+
+/// The same on a tree, driven by the call that `step_resolver` has for it.
+pub fn resolve_on_tree(alloc: Global, tree: &mut SlabTree, root: &Root, text: &[u8]) -> bool {
+    let Ok(path) = Path::parse(alloc, text) else {
+        return false;
+    };
+    let actor = root.owner.actor;
+    let mut turn = Walk::start(alloc, *root, path, Goal::Follow, PLAIN);
+    loop {
+        match turn {
+            Turn::More(walk) => turn = advance(alloc, tree, actor, walk),
+            Turn::Found(standing) => {
+                release(alloc, tree, standing);
+                return true;
+            }
+            Turn::Partial(standing, _rest) => {
+                release(alloc, tree, standing);
+                return true;
+            }
+            Turn::Failed(_error) => return false,
+        }
     }
 }

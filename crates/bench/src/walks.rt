@@ -1,6 +1,6 @@
 //! Walks along paths, on a tree and on a book over one.
 use crate::clock::nanoseconds;
-use crate::drive::{Answering, resolve};
+use crate::drive::{Answering, resolve, resolve_on_tree};
 use crate::tree::{Ground, set_up};
 use crate::workload::{WORKLOADS, Workload, paths_of};
 use anyhow::bail;
@@ -8,6 +8,7 @@ use race_core::{Book, LINES_MAX};
 use std::alloc::Global;
 use std::time::Instant;
 use step_resolver::Root;
+use tree_slab::SlabTree;
 
 /// Resolutions of the round by which the length of the others is chosen.
 const TRIAL: u64 = 2_000;
@@ -21,8 +22,30 @@ const ROUNDS: usize = 15;
 /// About how long a round takes.
 const ROUND_NANOSECONDS: u64 = 20_000_000;
 
+// The path of that turn.
+fn path_of(paths: &[Vec<u8>], turn: u64) -> Option<&Vec<u8>> {
+    paths.get((turn % 1024) as usize % paths.len().max(1))
+}
+
 // Resolves the paths in turn, that many in all, and tells how many led to an object.
-fn resolve_all<A: Answering>(
+fn resolve_all(
+    alloc: Global,
+    tree: &mut SlabTree,
+    root: &Root,
+    paths: &[Vec<u8>],
+    count: u64,
+) -> u64 {
+    let mut found = 0u64;
+    for turn in 0..count {
+        if let Some(path) = path_of(paths, turn) {
+            found = found.saturating_add(u64::from(resolve_on_tree(alloc, tree, root, path)));
+        }
+    }
+    found
+}
+
+// The same on a book.
+fn log_all<A: Answering>(
     alloc: Global,
     on: &mut A,
     root: &Root,
@@ -30,9 +53,8 @@ fn resolve_all<A: Answering>(
     count: u64,
 ) -> u64 {
     let mut found = 0u64;
-    for at in 0..count {
-        let path = (at % 1024) as usize % paths.len().max(1);
-        if let Some(path) = paths.get(path) {
+    for turn in 0..count {
+        if let Some(path) = path_of(paths, turn) {
             found = found.saturating_add(u64::from(resolve(alloc, on, root, path)));
         }
     }
@@ -73,7 +95,7 @@ pub fn time_walks(
         bail!("no book could be opened");
     };
     let start = Instant::now(rt)?;
-    let found = resolve_all(alloc, &mut book, &root, &paths, count);
+    let found = log_all(alloc, &mut book, &root, &paths, count);
     let took = nanoseconds(rt, start)?;
     let events = book.events().len() as u64;
     if book.free() < 2 {
