@@ -1,6 +1,6 @@
 //! Look-ups and removals on the indexed tree, with one entry remembered and with many.
-use crate::clock::{median, nanoseconds};
-use crate::steps::{actor, make_all};
+use crate::clock::nanoseconds;
+use crate::steps::{TURNS, WARM_UP, actor, make_all};
 use crate::tree::{CACHED_ENTRIES, name};
 use path_text::{Name, Names};
 use std::alloc::Global;
@@ -39,11 +39,8 @@ pub const CACHE_WORKLOADS: [CacheWorkload; 12] = [
     ("remove_dir_10000", Call::RemoveDir, "e", 10_000, 10_000),
 ];
 
-/// Rounds of a workload, each on a new tree.
-const ROUNDS: usize = 5;
-
-/// Look-ups of one timing.
-const TURNS: u32 = 16_384;
+/// Rounds of a workload, each on a new tree. The shortest is told.
+const ROUNDS: usize = 7;
 
 impl Call {
     fn on(self, dir: HandleNo, name: Name) -> Step {
@@ -64,8 +61,16 @@ impl Call {
         }
     }
 
-    // How many calls are timed, where there are so many names.
-    fn turns(self, names: u32) -> u32 {
+    // How many calls are made before the clock is read.
+    fn warm_up(self) -> u32 {
+        match self {
+            Call::Open => WARM_UP,
+            _ => 0,
+        }
+    }
+
+    /// How many calls are timed, where there are so many names.
+    pub fn turns(self, names: u32) -> u32 {
         match self {
             Call::Open => TURNS,
             _ => names,
@@ -108,34 +113,37 @@ fn tree_of(
     Ok((tree, root))
 }
 
-/// Times a workload on a new tree that remembers so many entries: the nanoseconds of each call, and how many were done.
+/// Times so many calls of a workload on a new tree that remembers so many entries: their nanoseconds, and how many were
+/// done.
 pub fn time_cached(
     rt: &HostRuntime,
     workload: CacheWorkload,
     cap: usize,
+    turns: u32,
 ) -> anyhow::Result<(u64, u32)> {
     let (_, call, letter, count, entries) = workload;
     let alloc = rt.alloc();
     let (mut tree, root) = tree_of(alloc, cap, call.making(), entries)?;
     let within = if letter == "e" { entries } else { count };
     let steps = calls(alloc, root, call, (letter, count), within)?;
-    let turns = call.turns(count);
+    make_all(alloc, &mut tree, &steps, call.warm_up());
     let start = Instant::now(rt)?;
     let done = make_all(alloc, &mut tree, &steps, turns);
-    Ok((nanoseconds(rt, start)? / u64::from(turns.max(1)), done))
+    Ok((nanoseconds(rt, start)?, done))
 }
 
-/// Times them all, with one entry remembered and with 1,024.
+/// Times them all, with one entry remembered and with 1,024: the shortest round of each.
 pub fn time_cache(rt: &HostRuntime) -> anyhow::Result<()> {
     for workload in CACHE_WORKLOADS {
         let name = workload.0;
-        let mut few = Vec::new(rt.alloc());
-        let mut many = Vec::new(rt.alloc());
+        let turns = workload.1.turns(workload.3);
+        let (mut few, mut many) = (u64::MAX, u64::MAX);
         for _ in 0..ROUNDS {
-            few.push(time_cached(rt, workload, 1)?.0)?;
-            many.push(time_cached(rt, workload, CACHED_ENTRIES)?.0)?;
+            few = few.min(time_cached(rt, workload, 1, turns)?.0);
+            many = many.min(time_cached(rt, workload, CACHED_ENTRIES, turns)?.0);
         }
-        let (few, many) = (median(few), median(many));
+        let turns = u64::from(turns.max(1));
+        let (few, many) = (few / turns, many / turns);
         println!(rt; "{name}\t{few}\t{many}")?;
     }
     Ok(())

@@ -16,8 +16,10 @@ use tree_slab::SlabTree;
 pub enum Work {
     /// Open of a file and Close, on 64 files in turn.
     Open,
-    /// Dup of the root and Close, while 64 actors hold a thousand handles each.
-    Dup,
+    /// The same on all files in an order that jumps, with one entry remembered.
+    Jump,
+    /// Dup of the root and Close, while so many actors hold a thousand handles each.
+    Dup(u32),
     /// The files made, each by a step.
     Make,
     /// The tree built of a list of the files; for the indexed tree the plain one first.
@@ -27,26 +29,40 @@ pub enum Work {
 /// A name, what is timed, the files, and whether the plain tree comes to an end of it within reason.
 pub type StepWorkload = (&'static str, Work, u32, bool);
 
-pub const STEP_WORKLOADS: [StepWorkload; 10] = [
+pub const STEP_WORKLOADS: [StepWorkload; 16] = [
     ("open_10", Work::Open, 10, true),
     ("open_100", Work::Open, 100, true),
     ("open_1000", Work::Open, 1_000, true),
     ("open_10000", Work::Open, 10_000, true),
     ("open_100000", Work::Open, 100_000, true),
-    ("dup_64000", Work::Dup, 10, true),
+    ("jump_10", Work::Jump, 10, false),
+    ("jump_1000", Work::Jump, 1_000, false),
+    ("jump_10000", Work::Jump, 10_000, false),
+    ("jump_100000", Work::Jump, 100_000, false),
+    ("dup_1", Work::Dup(0), 10, true),
+    ("dup_64000", Work::Dup(64), 10, true),
     ("make_1000", Work::Make, 1_000, true),
     ("make_10000", Work::Make, 10_000, true),
     ("make_100000", Work::Make, 100_000, false),
     ("build_10000", Work::Build, 10_000, true),
+    ("build_100000", Work::Build, 100_000, true),
 ];
 
-/// Who holds handles, and how many each, where they are held.
-const HOLDERS: u32 = 64;
+/// Steps that are made before the clock is read, of those that leave the tree as it is: the allocator puts off some work on
+/// what was freed while the tree was built.
+pub const WARM_UP: u32 = 128;
 
+/// Handles that each holder has.
 const HELD: u32 = 1_000;
 
 /// Opens or Dups, and as many Closes, of one timing.
-const TURNS: u32 = 2_000;
+pub const TURNS: u32 = 16_384;
+
+/// The same on the plain tree, which slows down with each.
+const PLAIN_TURNS: u32 = 500;
+
+/// Rounds of a workload, each on a new tree. The shortest is told.
+const ROUNDS: usize = 7;
 
 /// Who makes the steps that are timed.
 pub fn actor() -> Actor {
@@ -78,8 +94,8 @@ fn grant<T: Tree>(alloc: Global, tree: &mut T, actor: Actor) -> Result<HandleNo,
 
 // A handle on the root; and where they are wanted, those that others hold.
 fn open_root<T: Tree>(alloc: Global, tree: &mut T, work: Work) -> Result<HandleNo, Errno> {
-    if work == Work::Dup {
-        for holder in 1..=HOLDERS {
+    if let Work::Dup(holders) = work {
+        for holder in 1..=holders {
             for _ in 0..HELD {
                 grant(alloc, tree, Actor::new(holder))?;
             }
@@ -98,7 +114,13 @@ fn steps_of(alloc: Global, root: HandleNo, work: Work, files: u32) -> anyhow::Re
                 steps.push(StepOf::Open(root, file_name(alloc, file)?))?;
             }
         }
-        Work::Dup => steps.push(StepOf::Dup(root))?,
+        Work::Jump => {
+            for at in 0..files {
+                let file = at.wrapping_mul(7919) % files.max(1);
+                steps.push(StepOf::Open(root, file_name(alloc, file)?))?;
+            }
+        }
+        Work::Dup(_) => steps.push(StepOf::Dup(root))?,
         Work::Make => {
             for file in 0..files {
                 steps.push(StepOf::MakeFile(root, file_name(alloc, file)?))?;
@@ -144,29 +166,31 @@ pub fn make_all<T: Tree>(alloc: Global, tree: &mut T, steps: &[Step], count: u32
     done
 }
 
-// How many steps of a workload are timed.
-fn turns(work: Work, files: u32) -> u32 {
+/// How many steps of a workload are timed, where so many are timed of those that leave the tree as it is; or how many
+/// entries are built.
+pub fn turns_of(work: Work, files: u32, turns: u32) -> u32 {
     match work {
-        Work::Open | Work::Dup => TURNS,
+        Work::Open | Work::Jump | Work::Dup(_) => turns,
         Work::Make | Work::Build => files,
     }
 }
 
-// Times a workload's steps on a tree that has its files, but where they are to be made: the nanoseconds of each, and how
-// many were done.
+// Times so many of a workload's steps on a tree that has its files, but where they are to be made: their nanoseconds, and
+// how many were done.
 fn time_steps<T: Tree>(
     rt: &HostRuntime,
     tree: &mut T,
     work: Work,
     files: u32,
+    turns: u32,
 ) -> anyhow::Result<(u64, u32)> {
     let alloc = rt.alloc();
     let root = open_root(alloc, tree, work)?;
     let steps = steps_of(alloc, root, work, files)?;
-    let count = turns(work, files);
+    make_all(alloc, tree, &steps, turns_of(work, 0, WARM_UP));
     let start = Instant::now(rt)?;
-    let done = make_all(alloc, tree, &steps, count);
-    Ok((nanoseconds(rt, start)? / u64::from(count.max(1)), done))
+    let done = make_all(alloc, tree, &steps, turns);
+    Ok((nanoseconds(rt, start)?, done))
 }
 
 // The plain tree that a workload's steps are made on.
@@ -174,12 +198,14 @@ fn list_for(alloc: Global, work: Work, files: u32) -> anyhow::Result<ListTree>
     ensures { IfOk result IsState }
 {
     match work {
-        Work::Open | Work::Dup => Ok(ListTree::from_entries(alloc, &entries(alloc, files)?)?),
+        Work::Open | Work::Jump | Work::Dup(_) => {
+            Ok(ListTree::from_entries(alloc, &entries(alloc, files)?)?)
+        }
         Work::Make | Work::Build => Ok(ListTree::new(alloc)?),
     }
 }
 
-// Times the building of both trees of a list of entries, for each entry; that of the indexed one as well, or not.
+// Times the building of the plain tree of a list of entries; that of the indexed one as well, or not.
 fn time_build(rt: &HostRuntime, files: u32, indexed: bool) -> anyhow::Result<(u64, u32)> {
     let alloc = rt.alloc();
     let entries = entries(alloc, files)?;
@@ -188,24 +214,60 @@ fn time_build(rt: &HostRuntime, files: u32, indexed: bool) -> anyhow::Result<(u6
     if indexed {
         SlabTree::from_list(alloc, &list, CACHED_ENTRIES)?;
     }
-    Ok((nanoseconds(rt, start)? / u64::from(files.max(1)), files))
+    Ok((nanoseconds(rt, start)?, files))
 }
 
-/// Times a workload on the indexed tree: the nanoseconds of each step or entry, and how many were done.
-pub fn time_indexed(rt: &HostRuntime, work: Work, files: u32) -> anyhow::Result<(u64, u32)> {
+/// Times so many of a workload's steps on the indexed tree, or its building: the nanoseconds, and how many were done.
+pub fn time_indexed(
+    rt: &HostRuntime,
+    work: Work,
+    files: u32,
+    turns: u32,
+) -> anyhow::Result<(u64, u32)> {
     if work == Work::Build {
         return time_build(rt, files, true);
     }
+    let cap = if work == Work::Jump { 1 } else { CACHED_ENTRIES };
     let list = list_for(rt.alloc(), work, files)?;
-    let mut tree = SlabTree::from_list(rt.alloc(), &list, CACHED_ENTRIES)?;
-    time_steps(rt, &mut tree, work, files)
+    let mut tree = SlabTree::from_list(rt.alloc(), &list, cap)?;
+    time_steps(rt, &mut tree, work, files, turns)
 }
 
-/// The same on the plain tree.
-pub fn time_plain(rt: &HostRuntime, work: Work, files: u32) -> anyhow::Result<(u64, u32)> {
+// The same on the plain tree.
+fn time_plain(rt: &HostRuntime, work: Work, files: u32, turns: u32) -> anyhow::Result<(u64, u32)> {
     if work == Work::Build {
         return time_build(rt, files, false);
     }
     let mut tree = list_for(rt.alloc(), work, files)?;
-    time_steps(rt, &mut tree, work, files)
+    time_steps(rt, &mut tree, work, files, turns)
+}
+
+// The shortest rounds on the indexed tree, and on the plain one where it is timed: nanoseconds for each step or entry.
+fn time_step(rt: &HostRuntime, workload: StepWorkload) -> anyhow::Result<(u64, Option<u64>)> {
+    let (_, work, files, on_plain) = workload;
+    let turns = turns_of(work, files, TURNS);
+    let plain_turns = turns_of(work, files, PLAIN_TURNS);
+    let (mut indexed, mut plain) = (u64::MAX, u64::MAX);
+    for _ in 0..ROUNDS {
+        let (took, _) = time_indexed(rt, work, files, turns)?;
+        indexed = indexed.min(took / u64::from(turns.max(1)));
+        if on_plain {
+            let (took, _) = time_plain(rt, work, files, plain_turns)?;
+            plain = plain.min(took / u64::from(plain_turns.max(1)));
+        }
+    }
+    Ok((indexed, on_plain.then_some(plain)))
+}
+
+/// Times them all.
+pub fn time_all_steps(rt: &HostRuntime) -> anyhow::Result<()> {
+    for workload in STEP_WORKLOADS {
+        let name = workload.0;
+        let (indexed, plain) = time_step(rt, workload)?;
+        match plain {
+            Some(plain) => println!(rt; "{name}\t{indexed}\t{plain}")?,
+            None => println!(rt; "{name}\t{indexed}\t-")?,
+        }
+    }
+    Ok(())
 }

@@ -17,8 +17,8 @@ pub struct Ground {
     pub root: Root,
 }
 
-// Makes a step that must be done or open something, and tells the handle that it opened.
-fn must(alloc: Global, ground: &mut Ground, step: Step) -> anyhow::Result<HandleNo> {
+/// Makes a step that must be done or open something, and tells the handle that it opened, or else the root's.
+pub fn must(alloc: Global, ground: &mut Ground, step: Step) -> anyhow::Result<HandleNo> {
     match ground.tree.step(alloc, ground.root.owner.actor, &step)? {
         Answer::Opened { handle, .. } => Ok(handle),
         Answer::Refused(error) => Err(error.into()),
@@ -31,8 +31,8 @@ pub fn name(alloc: Global, text: &str) -> Result<Name, Errno> {
     Name::new(alloc, text.as_bytes())
 }
 
-// Makes a directory, and opens it.
-fn enter(
+/// Makes a directory, and opens it.
+pub fn enter(
     alloc: Global,
     ground: &mut Ground,
     dir: HandleNo,
@@ -76,18 +76,22 @@ fn build(alloc: Global, ground: &mut Ground) -> anyhow::Result<()> {
     Ok(())
 }
 
-// So many files in the root.
-fn fill(alloc: Global, ground: &mut Ground, files: u32) -> anyhow::Result<()> {
-    let root = ground.root.handle;
+/// So many files in a directory.
+pub fn fill(alloc: Global, ground: &mut Ground, dir: HandleNo, files: u32) -> anyhow::Result<()> {
     for at in 0..files {
         let text = format!(in alloc; "e{at:06}")?;
-        must(alloc, ground, StepOf::MakeFile(root, name(alloc, &text)?))?;
+        must(alloc, ground, StepOf::MakeFile(dir, name(alloc, &text)?))?;
     }
     Ok(())
 }
 
-/// A new tree for a workload.
-pub fn set_up(alloc: Global, workload: &Workload) -> anyhow::Result<Ground> {
+fn fill_root(alloc: Global, ground: &mut Ground, files: u32) -> anyhow::Result<()> {
+    let root = ground.root.handle;
+    fill(alloc, ground, root, files)
+}
+
+/// A tree with its top alone.
+pub fn bare_ground(alloc: Global) -> anyhow::Result<Ground> {
     let mut tree = SlabTree::new(alloc, CACHED_ENTRIES)?;
     let owner = Owner {
         tag: 0,
@@ -95,11 +99,22 @@ pub fn set_up(alloc: Global, workload: &Workload) -> anyhow::Result<Ground> {
     };
     let handle = tree.grant(alloc, owner.actor, &Names::new(alloc))?;
     let root = Root { owner, handle };
-    let mut ground = Ground { tree, root };
+    Ok(Ground { tree, root })
+}
+
+/// The mixed tree.
+pub fn mixed_ground(alloc: Global) -> anyhow::Result<Ground> {
+    let mut ground = bare_ground(alloc)?;
+    build(alloc, &mut ground)?;
+    Ok(ground)
+}
+
+/// A new tree for a workload.
+pub fn set_up(alloc: Global, workload: &Workload) -> anyhow::Result<Ground> {
     if workload.files == 0 {
-        build(alloc, &mut ground)?;
-    } else {
-        fill(alloc, &mut ground, workload.files)?;
+        return mixed_ground(alloc);
     }
+    let mut ground = bare_ground(alloc)?;
+    fill_root(alloc, &mut ground, workload.files)?;
     Ok(ground)
 }

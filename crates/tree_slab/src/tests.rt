@@ -6,26 +6,12 @@ use super::*;
 use path_text::{Bytes, Errno, Name, Names};
 use std::alloc::Global;
 use std::test::*;
+use transcript::{Output, read_step};
 use tree_list::{Entry, ListTree, New};
-use tree_model::{Actor, Answer, HandleNo, Kind, Mode, Step, StepOf, Tree};
-
-/// An answer that is wanted; names as a path.
-#[derive(Clone, Copy)]
-enum Wanted {
-    Opened(u64, u64, Kind),
-    Text(&'static str),
-    Names(&'static str),
-    NotBelow,
-    Listed(&'static str),
-    Done,
-    Refused(Errno),
-}
-
-/// A step by its word, its handle and name, its other handle and name or text, and the answer.
-type Row = (&'static str, u64, &'static str, u64, &'static str, Wanted);
+use tree_model::{Actor, HandleNo, StepOf, Tree};
 
 /// The tree of most tests: `/c` with a directory, a file two levels down and four links, and `/secret`
-/// beside it.
+/// beside it. A kind, a path, and a link's text.
 const BASE: [(&str, &str, &str); 10] = [
     ("dir", "/c", ""),
     ("dir", "/c/a", ""),
@@ -39,230 +25,160 @@ const BASE: [(&str, &str, &str); 10] = [
     ("file", "/secret/key", ""),
 ];
 
+// Below, a line has a step and the answer that is wanted.
+
 /// What is looked up, on the base tree with handle 0 on `/c`.
-const LOOK_UPS: [Row; 26] = [
-    ("open", 0, "a", 0, "", Wanted::Opened(1, 2, Kind::Dir)),
-    ("open", 1, "b", 0, "", Wanted::Opened(2, 3, Kind::Dir)),
-    ("open", 2, "f", 0, "", Wanted::Opened(3, 4, Kind::File)),
-    ("open", 0, "abs", 0, "", Wanted::Opened(4, 5, Kind::Link)),
-    ("open", 3, "f", 0, "", Wanted::Refused(Errno::NotDir)),
-    ("open", 4, "f", 0, "", Wanted::Refused(Errno::NotDir)),
-    ("open", 0, "none", 0, "", Wanted::Refused(Errno::NotFound)),
-    ("open", 9, "a", 0, "", Wanted::Refused(Errno::BadHandle)),
-    ("read_link", 4, "", 0, "", Wanted::Text("/a/b")),
-    ("read_link", 1, "", 0, "", Wanted::Refused(Errno::Invalid)),
-    ("read_link", 3, "", 0, "", Wanted::Refused(Errno::Invalid)),
-    ("parent", 2, "", 0, "", Wanted::Opened(5, 2, Kind::Dir)),
-    ("parent", 0, "", 0, "", Wanted::Opened(6, 0, Kind::Dir)),
-    ("parent", 6, "", 0, "", Wanted::Opened(7, 0, Kind::Dir)),
-    ("parent", 4, "", 0, "", Wanted::Refused(Errno::NotDir)),
-    ("below", 0, "", 3, "", Wanted::Names("/a/b/f")),
-    ("below", 6, "", 3, "", Wanted::Names("/c/a/b/f")),
-    ("below", 2, "", 2, "", Wanted::Names("/")),
-    ("below", 2, "", 0, "", Wanted::NotBelow),
-    ("below", 2, "", 9, "", Wanted::Refused(Errno::BadHandle)),
-    ("list", 0, "", 0, "", Wanted::Listed("/a/abs/dang/loop/up")),
-    ("list", 3, "", 0, "", Wanted::Refused(Errno::NotDir)),
-    ("dup", 2, "", 0, "", Wanted::Opened(8, 3, Kind::Dir)),
-    ("dup", 9, "", 0, "", Wanted::Refused(Errno::BadHandle)),
-    ("close", 2, "", 0, "", Wanted::Done),
-    ("close", 2, "", 0, "", Wanted::Refused(Errno::BadHandle)),
-];
+const LOOK_UPS: &str = "open 0 a = opened 1 2 dir
+open 1 b = opened 2 3 dir
+open 2 f = opened 3 4 file
+open 0 abs = opened 4 5 link
+open 3 f = refused ENOTDIR
+open 4 f = refused ENOTDIR
+open 0 none = refused ENOENT
+open 9 a = refused EBADF
+read_link 4 = text /a/b
+read_link 1 = refused EINVAL
+read_link 3 = refused EINVAL
+parent 2 = opened 5 2 dir
+parent 0 = opened 6 0 dir
+parent 6 = opened 7 0 dir
+parent 4 = refused ENOTDIR
+below 0 3 = names /a/b/f
+below 6 3 = names /c/a/b/f
+below 2 2 = names /
+below 2 0 = not_below
+below 2 9 = refused EBADF
+list 0 = listed 5 a abs dang loop up
+list 3 = refused ENOTDIR
+dup 2 = opened 8 3 dir
+dup 9 = refused EBADF
+close 2 = done
+close 2 = refused EBADF";
 
 /// What is listed, on the top alone with handle 0 on it.
-const ORDER: [Row; 9] = [
-    ("list", 0, "", 0, "", Wanted::Listed("/")),
-    ("parent", 0, "", 0, "", Wanted::Opened(1, 0, Kind::Dir)),
-    ("make_file", 0, "b", 0, "", Wanted::Done),
-    ("make_file", 0, "ab", 0, "", Wanted::Done),
-    ("make_file", 0, "é", 0, "", Wanted::Done),
-    ("make_dir", 0, "a", 0, "", Wanted::Done),
-    ("make_link", 0, "Z", 0, "q", Wanted::Done),
-    ("make_file", 0, "a0", 0, "", Wanted::Done),
-    ("list", 0, "", 0, "", Wanted::Listed("/Z/a/a0/ab/b/é")),
-];
+const ORDER: &str = "list 0 = listed 0
+parent 0 = opened 1 0 dir
+make_file 0 b = done
+make_file 0 ab = done
+make_file 0 \\xc3\\xa9 = done
+make_dir 0 a = done
+make_link 0 Z q = done
+make_file 0 a0 = done
+list 0 = listed 6 Z a a0 ab b \\xc3\\xa9";
 
 /// What is made and removed, on the base tree.
-const CHANGES: [Row; 25] = [
-    ("open", 0, "a", 0, "", Wanted::Opened(1, 2, Kind::Dir)),
-    ("open", 1, "b", 0, "", Wanted::Opened(2, 3, Kind::Dir)),
-    ("open", 2, "f", 0, "", Wanted::Opened(3, 4, Kind::File)),
-    ("make_file", 1, "n", 0, "", Wanted::Done),
-    ("open", 1, "n", 0, "", Wanted::Opened(4, 11, Kind::File)),
-    ("make_file", 1, "n", 0, "", Wanted::Refused(Errno::Exists)),
-    ("make_file", 0, "abs", 0, "", Wanted::Refused(Errno::Exists)),
-    ("make_file", 3, "x", 0, "", Wanted::Refused(Errno::NotDir)),
-    ("make_dir", 0, "d", 0, "", Wanted::Done),
-    ("open", 0, "d", 0, "", Wanted::Opened(5, 12, Kind::Dir)),
-    ("make_link", 0, "l", 0, "", Wanted::Refused(Errno::NotFound)),
-    ("make_link", 3, "l", 0, "", Wanted::Refused(Errno::NotFound)),
-    ("make_link", 0, "l", 0, "q", Wanted::Done),
-    ("open", 0, "l", 0, "", Wanted::Opened(6, 13, Kind::Link)),
-    ("read_link", 6, "", 0, "", Wanted::Text("q")),
-    ("remove_file", 0, "a", 0, "", Wanted::Refused(Errno::IsDir)),
-    (
-        "remove_file",
-        0,
-        "none",
-        0,
-        "",
-        Wanted::Refused(Errno::NotFound),
-    ),
-    ("remove_file", 3, "x", 0, "", Wanted::Refused(Errno::NotDir)),
-    (
-        "remove_dir",
-        0,
-        "abs",
-        0,
-        "",
-        Wanted::Refused(Errno::NotDir),
-    ),
-    (
-        "remove_dir",
-        0,
-        "a",
-        0,
-        "",
-        Wanted::Refused(Errno::NotEmpty),
-    ),
-    (
-        "remove_dir",
-        0,
-        "none",
-        0,
-        "",
-        Wanted::Refused(Errno::NotFound),
-    ),
-    ("remove_file", 0, "abs", 0, "", Wanted::Done),
-    ("open", 0, "abs", 0, "", Wanted::Refused(Errno::NotFound)),
-    ("remove_dir", 0, "d", 0, "", Wanted::Done),
-    ("list", 0, "", 0, "", Wanted::Listed("/a/dang/l/loop/up")),
-];
+const CHANGES: &str = "open 0 a = opened 1 2 dir
+open 1 b = opened 2 3 dir
+open 2 f = opened 3 4 file
+make_file 1 n = done
+open 1 n = opened 4 11 file
+make_file 1 n = refused EEXIST
+make_file 0 abs = refused EEXIST
+make_file 3 x = refused ENOTDIR
+make_dir 0 d = done
+open 0 d = opened 5 12 dir
+make_link 0 l  = refused ENOENT
+make_link 3 l  = refused ENOENT
+make_link 0 l q = done
+open 0 l = opened 6 13 link
+read_link 6 = text q
+remove_file 0 a = refused EISDIR
+remove_file 0 none = refused ENOENT
+remove_file 3 x = refused ENOTDIR
+remove_dir 0 abs = refused ENOTDIR
+remove_dir 0 a = refused ENOTEMPTY
+remove_dir 0 none = refused ENOENT
+remove_file 0 abs = done
+open 0 abs = refused ENOENT
+remove_dir 0 d = done
+list 0 = listed 5 a dang l loop up";
 
 /// What is gone, on the top alone.
-const GONE: [Row; 13] = [
-    ("make_dir", 0, "d", 0, "", Wanted::Done),
-    ("open", 0, "d", 0, "", Wanted::Opened(1, 1, Kind::Dir)),
-    ("remove_dir", 0, "d", 0, "", Wanted::Done),
-    ("make_dir", 0, "e", 0, "", Wanted::Done),
-    ("open", 0, "e", 0, "", Wanted::Opened(2, 2, Kind::Dir)),
-    ("make_file", 2, "y", 0, "", Wanted::Done),
-    ("list", 1, "", 0, "", Wanted::Listed("/")),
-    ("list", 2, "", 0, "", Wanted::Listed("/y")),
-    ("make_file", 1, "x", 0, "", Wanted::Refused(Errno::NotFound)),
-    ("parent", 1, "", 0, "", Wanted::Refused(Errno::NotFound)),
-    ("below", 0, "", 1, "", Wanted::NotBelow),
-    ("below", 1, "", 1, "", Wanted::Names("/")),
-    ("rename", 2, "y", 1, "y", Wanted::Refused(Errno::NotFound)),
-];
-
-/// What is found after a rename, on the base tree.
-const RENAMED: [Row; 8] = [
-    ("open", 0, "q", 0, "", Wanted::Refused(Errno::NotFound)),
-    ("make_file", 0, "q", 0, "", Wanted::Done),
-    ("open", 0, "q", 0, "", Wanted::Opened(1, 11, Kind::File)),
-    ("rename", 0, "q", 0, "r", Wanted::Done),
-    ("open", 0, "q", 0, "", Wanted::Refused(Errno::NotFound)),
-    ("open", 0, "r", 0, "", Wanted::Opened(2, 11, Kind::File)),
-    ("remove_file", 0, "r", 0, "", Wanted::Done),
-    ("open", 0, "r", 0, "", Wanted::Refused(Errno::NotFound)),
-];
+const GONE: &str = "make_dir 0 d = done
+open 0 d = opened 1 1 dir
+remove_dir 0 d = done
+make_dir 0 e = done
+open 0 e = opened 2 2 dir
+make_file 2 y = done
+list 1 = listed 0
+list 2 = listed 1 y
+make_file 1 x = refused ENOENT
+parent 1 = refused ENOENT
+below 0 1 = not_below
+below 1 1 = names /
+rename 2 y 1 y plain = refused ENOENT";
 
 /// Renames, on the base tree.
-const RENAMES: [Row; 39] = [
-    ("open", 0, "a", 0, "", Wanted::Opened(1, 2, Kind::Dir)),
-    ("open", 1, "b", 0, "", Wanted::Opened(2, 3, Kind::Dir)),
-    ("rename", 0, "a", 2, "x", Wanted::Refused(Errno::Invalid)),
-    ("rename", 0, "a", 0, "a", Wanted::Done),
-    ("exchange", 0, "a", 1, "b", Wanted::Refused(Errno::Invalid)),
-    ("exchange", 1, "b", 0, "a", Wanted::Refused(Errno::Invalid)),
-    ("rename", 0, "a", 0, "abs", Wanted::Refused(Errno::NotDir)),
-    ("rename", 2, "f", 2, "f", Wanted::Done),
-    ("exchange", 2, "f", 2, "f", Wanted::Done),
-    (
-        "rename_no_replace",
-        2,
-        "f",
-        2,
-        "f",
-        Wanted::Refused(Errno::Exists),
-    ),
-    (
-        "exchange",
-        2,
-        "f",
-        0,
-        "none",
-        Wanted::Refused(Errno::NotFound),
-    ),
-    (
-        "rename",
-        0,
-        "none",
-        2,
-        "f",
-        Wanted::Refused(Errno::NotFound),
-    ),
-    ("rename", 0, "abs", 1, "b", Wanted::Refused(Errno::IsDir)),
-    ("rename", 1, "b", 0, "a", Wanted::Refused(Errno::NotEmpty)),
-    ("rename", 9, "f", 2, "f", Wanted::Refused(Errno::BadHandle)),
-    ("rename", 2, "f", 9, "f", Wanted::Refused(Errno::BadHandle)),
-    ("exchange", 0, "abs", 2, "f", Wanted::Done),
-    ("open", 2, "f", 0, "", Wanted::Opened(3, 5, Kind::Link)),
-    ("open", 0, "abs", 0, "", Wanted::Opened(4, 4, Kind::File)),
-    ("rename", 0, "abs", 0, "up", Wanted::Done),
-    ("open", 0, "up", 0, "", Wanted::Opened(5, 4, Kind::File)),
-    ("open", 0, "abs", 0, "", Wanted::Refused(Errno::NotFound)),
-    ("list", 0, "", 0, "", Wanted::Listed("/a/dang/loop/up")),
-    ("make_dir", 0, "e", 0, "", Wanted::Done),
-    ("rename", 1, "b", 0, "e", Wanted::Done),
-    ("below", 0, "", 3, "", Wanted::Names("/e/f")),
-    (
-        "rename_no_replace",
-        0,
-        "e",
-        0,
-        "a",
-        Wanted::Refused(Errno::Exists),
-    ),
-    ("rename_no_replace", 0, "e", 1, "e", Wanted::Done),
-    ("below", 0, "", 3, "", Wanted::Names("/a/e/f")),
-    ("list", 1, "", 0, "", Wanted::Listed("/e")),
-    ("remove_file", 2, "f", 0, "", Wanted::Done),
-    ("below", 0, "", 3, "", Wanted::NotBelow),
-    ("read_link", 3, "", 0, "", Wanted::Text("/a/b")),
-    ("make_dir", 2, "g", 0, "", Wanted::Done),
-    ("exchange", 1, "e", 0, "up", Wanted::Done),
-    ("list", 0, "", 0, "", Wanted::Listed("/a/dang/loop/up")),
-    ("list", 1, "", 0, "", Wanted::Listed("/e")),
-    ("open", 0, "up", 0, "", Wanted::Opened(6, 3, Kind::Dir)),
-    ("list", 6, "", 0, "", Wanted::Listed("/g")),
-];
+const RENAMES: &str = "open 0 a = opened 1 2 dir
+open 1 b = opened 2 3 dir
+rename 0 a 2 x plain = refused EINVAL
+rename 0 a 0 a plain = done
+rename 0 a 1 b exchange = refused EINVAL
+rename 1 b 0 a exchange = refused EINVAL
+rename 0 a 0 abs plain = refused ENOTDIR
+rename 2 f 2 f plain = done
+rename 2 f 2 f exchange = done
+rename 2 f 2 f noreplace = refused EEXIST
+rename 2 f 0 none exchange = refused ENOENT
+rename 0 none 2 f plain = refused ENOENT
+rename 0 abs 1 b plain = refused EISDIR
+rename 1 b 0 a plain = refused ENOTEMPTY
+rename 9 f 2 f plain = refused EBADF
+rename 2 f 9 f plain = refused EBADF
+rename 0 abs 2 f exchange = done
+open 2 f = opened 3 5 link
+open 0 abs = opened 4 4 file
+rename 0 abs 0 up plain = done
+open 0 up = opened 5 4 file
+open 0 abs = refused ENOENT
+list 0 = listed 4 a dang loop up
+make_dir 0 e = done
+rename 1 b 0 e plain = done
+below 0 3 = names /e/f
+rename 0 e 0 a noreplace = refused EEXIST
+rename 0 e 1 e noreplace = done
+below 0 3 = names /a/e/f
+list 1 = listed 1 e
+remove_file 2 f = done
+below 0 3 = not_below
+read_link 3 = text /a/b
+make_dir 2 g = done
+rename 1 e 0 up exchange = done
+list 0 = listed 4 a dang loop up
+list 1 = listed 1 e
+open 0 up = opened 6 3 dir
+list 6 = listed 1 g";
 
 /// Entries that are looked up before they are made, moved and removed, and after it, on the base tree with handle 0 on
 /// `/c`.
-const REMEMBERED: [Row; 20] = [
-    ("open", 0, "q", 0, "", Wanted::Refused(Errno::NotFound)),
-    ("make_file", 0, "q", 0, "", Wanted::Done),
-    ("open", 0, "q", 0, "", Wanted::Opened(1, 11, Kind::File)),
-    ("rename", 0, "q", 0, "r", Wanted::Done),
-    ("open", 0, "q", 0, "", Wanted::Refused(Errno::NotFound)),
-    ("open", 0, "r", 0, "", Wanted::Opened(2, 11, Kind::File)),
-    ("remove_file", 0, "r", 0, "", Wanted::Done),
-    ("open", 0, "r", 0, "", Wanted::Refused(Errno::NotFound)),
-    ("make_dir", 0, "r", 0, "", Wanted::Done),
-    ("make_dir", 0, "r", 0, "", Wanted::Refused(Errno::Exists)),
-    ("open", 0, "r", 0, "", Wanted::Opened(3, 12, Kind::Dir)),
-    ("open", 3, "s", 0, "", Wanted::Refused(Errno::NotFound)),
-    ("exchange", 0, "r", 0, "abs", Wanted::Done),
-    ("open", 0, "r", 0, "", Wanted::Opened(4, 5, Kind::Link)),
-    ("open", 0, "abs", 0, "", Wanted::Opened(5, 12, Kind::Dir)),
-    ("remove_dir", 0, "abs", 0, "", Wanted::Done),
-    ("open", 3, "s", 0, "", Wanted::Refused(Errno::NotFound)),
-    ("make_file", 3, "s", 0, "", Wanted::Refused(Errno::NotFound)),
-    ("rename", 0, "r", 0, "up", Wanted::Done),
-    ("open", 0, "up", 0, "", Wanted::Opened(6, 5, Kind::Link)),
-];
+const REMEMBERED: &str = "open 0 q = refused ENOENT
+make_file 0 q = done
+open 0 q = opened 1 11 file
+rename 0 q 0 r plain = done
+open 0 q = refused ENOENT
+open 0 r = opened 2 11 file
+remove_file 0 r = done
+open 0 r = refused ENOENT
+make_dir 0 r = done
+make_dir 0 r = refused EEXIST
+open 0 r = opened 3 12 dir
+open 3 s = refused ENOENT
+rename 0 r 0 abs exchange = done
+open 0 r = opened 4 5 link
+open 0 abs = opened 5 12 dir
+remove_dir 0 abs = done
+open 3 s = refused ENOENT
+make_file 3 s = refused ENOENT
+rename 0 r 0 up plain = done
+open 0 up = opened 6 5 link";
+
+/// The steps where handle 0 and 1,023 more are open.
+const FULL: &str = "dup 0 = refused EMFILE
+open 0 a = refused EMFILE
+open 0 none = refused ENOENT
+close 5 = done
+dup 0 = opened 1024 1 dir
+close 5 = refused EBADF";
 
 fn names_of(alloc: Global, path: &str) -> Result<Names, Fail> {
     let mut names = Names::new(alloc);
@@ -309,177 +225,69 @@ fn both(alloc: Global, top_alone: bool, cap: usize) -> Result<(ListTree, SlabTre
     Ok((list, slab))
 }
 
-fn mode_of(word: &str) -> Mode {
-    match word {
-        "rename" => Mode::Plain,
-        "rename_no_replace" => Mode::NoReplace,
-        _ => Mode::Exchange,
-    }
-}
-
-/// A step with two names, or with a name and a text.
-fn step_with_both(alloc: Global, row: &Row, name: Name) -> Result<Step, Fail> {
-    let dir = HandleNo::new(row.1);
-    if row.0 == "make_link" {
-        let text = Bytes::from_slice(alloc, row.4.as_bytes())?;
-        return Ok(StepOf::MakeLink(dir, name, text));
-    }
-    let other = Name::new(alloc, row.4.as_bytes())?;
-    Ok(StepOf::Rename(dir, name, HandleNo::new(row.3), other, mode_of(row.0)))
-}
-
-/// A step with a name.
-fn step_with_name(alloc: Global, row: &Row) -> Result<Step, Fail> {
-    let dir = HandleNo::new(row.1);
-    let name = Name::new(alloc, row.2.as_bytes())?;
-    match row.0 {
-        "open" => Ok(StepOf::Open(dir, name)),
-        "make_dir" => Ok(StepOf::MakeDir(dir, name)),
-        "make_file" => Ok(StepOf::MakeFile(dir, name)),
-        "remove_file" => Ok(StepOf::RemoveFile(dir, name)),
-        "remove_dir" => Ok(StepOf::RemoveDir(dir, name)),
-        _ => step_with_both(alloc, row, name),
-    }
-}
-
-fn step_of(alloc: Global, row: &Row) -> Result<Step, Fail> {
-    let handle = HandleNo::new(row.1);
-    match row.0 {
-        "dup" => Ok(StepOf::Dup(handle)),
-        "parent" => Ok(StepOf::Parent(handle)),
-        "read_link" => Ok(StepOf::ReadLink(handle)),
-        "below" => Ok(StepOf::NameBelow(handle, HandleNo::new(row.3))),
-        "list" => Ok(StepOf::List(handle)),
-        "close" => Ok(StepOf::Close(handle)),
-        _ => step_with_name(alloc, row),
-    }
-}
-
-fn is_path(alloc: Global, names: &Names, path: &str) -> Result<bool, Fail> {
-    let printed = names.print(alloc)?;
-    Ok(printed.as_slice() == path.as_bytes())
-}
-
-fn is_wanted(alloc: Global, answer: &Answer, wanted: Wanted) -> Result<bool, Fail> {
-    match (answer, wanted) {
-        (Answer::Opened { handle, node, kind }, Wanted::Opened(h, n, k)) => {
-            Ok(handle.number() == h && node.number() == n && *kind == k)
-        }
-        (Answer::Text(text), Wanted::Text(t)) => Ok(text.as_slice() == t.as_bytes()),
-        (Answer::Names(names), Wanted::Names(path)) => is_path(alloc, names, path),
-        (Answer::NotBelow, Wanted::NotBelow) | (Answer::Done, Wanted::Done) => Ok(true),
-        (Answer::Listed(names), Wanted::Listed(path)) => is_path(alloc, names, path),
-        (Answer::Refused(error), Wanted::Refused(e)) => Ok(*error == e),
-        _ => Ok(false),
-    }
-}
-
-/// Whether both trees answer a step as is wanted.
+/// Whether both trees answer a line's step as is wanted: `STEP = ANSWER`.
 fn is_answered(
     alloc: Global,
     list: &mut ListTree,
     slab: &mut SlabTree,
-    row: &Row,
+    line: &str,
 ) -> Result<bool, Fail> {
-    let step = step_of(alloc, row)?;
+    let Some((step, wanted)) = line.split_once(" = ") else {
+        return Ok(false);
+    };
+    let Some(step) = read_step(alloc, step.as_bytes())? else {
+        return Ok(false);
+    };
     let answer = list.step(alloc, Actor::new(0), &step)?;
     let other = slab.step(alloc, Actor::new(0), &step)?;
-    let right = is_wanted(alloc, &answer, row.5)?;
-    Ok(right && answer.same(&other))
+    let mut written = Output::new(alloc);
+    written.answer(alloc, &answer)?;
+    Ok(written.as_slice() == wanted.as_bytes() && answer.same(&other))
 }
 
-/// Whether the trees are the same as values.
-fn same(alloc: Global, list: &ListTree, slab: &SlabTree) -> Result<bool, Fail> {
-    let snapshot = list.snapshot(alloc)?;
-    let other = slab.snapshot(alloc)?;
-    Ok(snapshot.same(&other))
-}
-
-/// The first row that one of the trees answers wrongly, or the number of rows where they differ at last, with so many
+/// The first line that one of the trees answers otherwise, or the number of lines where they differ at last, with so many
 /// entries remembered.
-fn first_wrong_at(
+fn first_wrong(
     alloc: Global,
     top_alone: bool,
     cap: usize,
-    rows: &[Row],
+    lines: &str,
 ) -> Result<Option<usize>, Fail> {
     let (mut list, mut slab) = both(alloc, top_alone, cap)?;
-    for (at, row) in rows.iter().enumerate() {
-        if !is_answered(alloc, &mut list, &mut slab, row)? {
+    for (at, line) in lines.lines().enumerate() {
+        if !is_answered(alloc, &mut list, &mut slab, line)? {
             return Ok(Some(at));
         }
     }
-    let is_same = same(alloc, &list, &slab)?;
-    Ok((!is_same).then_some(rows.len()))
-}
-
-/// The same with one entry remembered and with many.
-fn first_wrong(alloc: Global, top_alone: bool, rows: &[Row]) -> Result<Option<usize>, Fail> {
-    let wrong = first_wrong_at(alloc, top_alone, 1, rows)?;
-    let other = first_wrong_at(alloc, top_alone, 1024, rows)?;
-    Ok(wrong.or(other))
+    let is_same = list.snapshot(alloc)?.same(&slab.snapshot(alloc)?);
+    Ok((!is_same).then_some(lines.lines().count()))
 }
 
 #[test]
-fn looks_up_without_following(rt: HostRuntime) -> Result<(), Fail> {
-    let wrong = first_wrong(rt.alloc(), false, LOOK_UPS.as_slice())?;
-    assert_eq!(rt; wrong, None);
-    Ok(())
-}
-
-#[test]
-fn lists_by_bytes(rt: HostRuntime) -> Result<(), Fail> {
-    let wrong = first_wrong(rt.alloc(), true, ORDER.as_slice())?;
-    assert_eq!(rt; wrong, None);
-    Ok(())
-}
-
-#[test]
-fn makes_and_removes(rt: HostRuntime) -> Result<(), Fail> {
-    let wrong = first_wrong(rt.alloc(), false, CHANGES.as_slice())?;
-    assert_eq!(rt; wrong, None);
-    Ok(())
-}
-
-#[test]
-fn keeps_what_is_gone_by_its_handles(rt: HostRuntime) -> Result<(), Fail> {
-    let wrong = first_wrong(rt.alloc(), true, GONE.as_slice())?;
-    assert_eq!(rt; wrong, None);
-    Ok(())
-}
-
-#[test]
-fn finds_what_was_renamed(rt: HostRuntime) -> Result<(), Fail> {
-    let wrong = first_wrong(rt.alloc(), false, RENAMED.as_slice())?;
-    assert_eq!(rt; wrong, None);
-    Ok(())
-}
-
-#[test]
-fn renames_and_exchanges(rt: HostRuntime) -> Result<(), Fail> {
-    let wrong = first_wrong(rt.alloc(), false, RENAMES.as_slice())?;
-    assert_eq!(rt; wrong, None);
+fn answers_as_the_plain_tree(rt: HostRuntime) -> Result<(), Fail> {
+    for (name, top_alone, lines) in [
+        ("look-ups", false, LOOK_UPS),
+        ("order", true, ORDER),
+        ("changes", false, CHANGES),
+        ("gone", true, GONE),
+        ("renames", false, RENAMES),
+    ] {
+        for cap in [1, 1024] {
+            let wrong = first_wrong(rt.alloc(), top_alone, cap, lines)?;
+            assert_eq!(rt; wrong, None, "{name}, cap {cap}");
+        }
+    }
     Ok(())
 }
 
 #[test]
 fn forgets_what_changes(rt: HostRuntime) -> Result<(), Fail> {
-    for cap in [1, 2, 256] {
-        let wrong = first_wrong_at(rt.alloc(), false, cap, REMEMBERED.as_slice())?;
+    for cap in [1, 2, 256, 1024] {
+        let wrong = first_wrong(rt.alloc(), false, cap, REMEMBERED)?;
         assert_eq!(rt; wrong, None, "cap {cap}");
     }
     Ok(())
 }
-
-/// The steps where handle 0 and 1,023 more are open.
-const FULL: [Row; 6] = [
-    ("dup", 0, "", 0, "", Wanted::Refused(Errno::TooMany)),
-    ("open", 0, "a", 0, "", Wanted::Refused(Errno::TooMany)),
-    ("open", 0, "none", 0, "", Wanted::Refused(Errno::NotFound)),
-    ("close", 5, "", 0, "", Wanted::Done),
-    ("dup", 0, "", 0, "", Wanted::Opened(1024, 1, Kind::Dir)),
-    ("close", 5, "", 0, "", Wanted::Refused(Errno::BadHandle)),
-];
 
 /// How many handles are open after 1,023 more, whether the answers are right then, and how many are open at last.
 fn full_share(alloc: Global) -> Result<(usize, bool, usize), Fail> {
@@ -491,8 +299,8 @@ fn full_share(alloc: Global) -> Result<(usize, bool, usize), Fail> {
     }
     let held = slab.held(Actor::new(0));
     let mut right = true;
-    for row in &FULL {
-        right = is_answered(alloc, &mut list, &mut slab, row)? && right;
+    for line in FULL.lines() {
+        right = is_answered(alloc, &mut list, &mut slab, line)? && right;
     }
     Ok((held, right, slab.held(Actor::new(0))))
 }
