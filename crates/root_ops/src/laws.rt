@@ -1,10 +1,13 @@
 //! What holds of every call, in every history: laws, each the contract of a function without a body.
 ghost use Rattle.root_ops.specs.CallHistory.{CallsTell};
-ghost use Rattle.root_ops.specs.StepCount.{FiveAfterWalks};
+ghost use Rattle.root_ops.specs.StepCount.{FiveAfterWalks, BulkAfterWalks};
 
-/// Once its walks are over a call makes at most five steps, if it is no bulk call.
+/// Once its walks are over a call makes at most five steps, if it is no bulk call. After its walk a MkdirAll makes at most
+/// three steps for each part of the rest of its path and two more, and a RemoveAll two for each of the `CLEARING_STEPS_MAX`
+/// steps of clearing and one more.
 pub fn five_steps_after_walks()
-    ensures { FiveAfterWalks }
+    ensures own { FiveAfterWalks }
+    ensures bulk { BulkAfterWalks }
 {}
 
 /// After a fault the actor's open handles are those from before the call; after Opened these and one more, which is open
