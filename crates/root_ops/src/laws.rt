@@ -1,4 +1,5 @@
 //! What holds of every call, in every history: laws, each the contract of a function without a body.
+ghost use Rattle.root_ops.specs.BulkTells.{BulkCallsTell};
 ghost use Rattle.root_ops.specs.CallHistory.{CallsTell};
 ghost use Rattle.root_ops.specs.StepCount.{FiveAfterWalks, BulkAfterWalks};
 
@@ -16,4 +17,11 @@ pub fn five_steps_after_walks()
 /// on a directory.
 pub fn calls_tell()
     ensures { CallsTell }
+{}
+
+/// The reply to a MkdirAll or a RemoveAll is the end of such a call of `bulk_ops` with the same lines, which tells of the
+/// history what the laws `makes_tell` and `remove_all_tells` say: which entries it made or took away, and why it failed,
+/// for every interleaving of actors' single steps (mkdir(2), unlink(2), rmdir(2)).
+pub fn bulk_calls_tell()
+    ensures { BulkCallsTell }
 {}

@@ -23,7 +23,7 @@ mod reply;
 pub use aim::{Aim, Change, Renaming, Wanted};
 pub use below::Below;
 pub use call::{Call, CallTurn};
-pub use laws::{calls_tell, five_steps_after_walks};
+pub use laws::{bulk_calls_tell, calls_tell, five_steps_after_walks};
 pub use op::{Op, Request};
 pub use quiet_laws::{operations_keep_trees, quiet_calls_mean, worked_operations, worked_rename};
 pub use reply::Reply;
