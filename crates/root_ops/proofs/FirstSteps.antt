@@ -1,5 +1,5 @@
 -- A call begins with few steps to come; and once its walks are over it makes at most five.
-use Rattle.std.specs.Prelude.{◌≡◌, ℕ, zero, suc, ◌+◌, ◌-◌, ◌<◌, ◌≤◌, ◌&&◌, List, [], ◌∷◌, Bool, true, false, length, take, nat_lt, Option, Some, None, Result, Ok, Err, if◌then◌else◌, refl}
+use Rattle.std.specs.Prelude.{◌≡◌, ℕ, zero, suc, ◌+◌, ◌*◌, ◌-◌, ◌<◌, ◌≤◌, ◌&&◌, List, [], ◌∷◌, Bool, true, false, length, take, nat_lt, Option, Some, None, Result, Ok, Err, if◌then◌else◌, refl}
 use Rattle.std.proofs.Common.{sym, subst, arith}
 use Rattle.path_text.specs.declared.errno.Errno.{Errno}
 use Rattle.path_text.specs.declared.name.TheConstants.{NAME_MAX}
@@ -14,11 +14,13 @@ use Rattle.path_text.specs.Split.{split_of, split_at, before_last, last_part, pa
 use Rattle.path_text.specs.Text.{text_fault, reading_of}
 use Rattle.path_text.proofs.TextLemmas.{reading_few}
 use Rattle.tree_model.specs.declared.answer.Answer.{Answer}
+use Rattle.tree_model.specs.declared.answer.Answer.TheVariants.{Refused}
 use Rattle.tree_model.specs.declared.step.Mode.{Mode}
 use Rattle.handles.specs.declared.owner.Owner.{Owner}
 use Rattle.handles.specs.Objects.{StandingObject}
 use Rattle.walk_plan.specs.declared.goal.Goal.TheVariants.{Follow, NoFollow}
-use Rattle.step_resolver.specs.Order.{Way, Turn, found, partial, failed}
+use Rattle.step_resolver.specs.Asked.{AskedPart}
+use Rattle.step_resolver.specs.Order.{Way, Handle, Line, answered, no_room, not_made, Turn, found, partial, failed}
 use Rattle.step_resolver.specs.Order as walk
 use Rattle.step_resolver.specs.TurnView as walk_view
 use Rattle.step_resolver.specs.View.{way_from}
@@ -26,7 +28,8 @@ use Rattle.step_resolver.proofs.WalkSteps as walk_steps
 use Rattle.bulk_ops.specs.MakeAllOrder as make
 use Rattle.bulk_ops.specs.MakeAllView.{MAKE_STEPS_MAX}
 use Rattle.bulk_ops.specs.RemoveAllOrder as remove
-use Rattle.bulk_ops.proofs.MakeAllSteps.{starts_few}
+use Rattle.bulk_ops.specs.declared.remove_all.clearing.TheConstants.{CLEARING_STEPS_MAX}
+use Rattle.bulk_ops.proofs.MakeAllSteps.{starts_few, steps_after_the_walk}
 use Rattle.bulk_ops.proofs.RemovingAll.StepCount as remove_steps
 use Rattle.root_ops.specs.declared.aim.Aim.{Aim}
 use Rattle.root_ops.specs.declared.aim.Aim.TheVariants.{Opens, Reads, Changes, WalksOn}
@@ -35,11 +38,12 @@ use Rattle.root_ops.specs.declared.below.Below.{Below}
 use Rattle.root_ops.specs.declared.op.Op.{Op}
 use Rattle.root_ops.specs.declared.op.Op.TheVariants.{Resolve, ResolveNoFollow, ReadLink, CreateFile, CreateDir, CreateLink, RemoveFile, RemoveDir, Rename, MkdirAll, RemoveAll, Single, Release}
 use Rattle.root_ops.specs.Order as call
-use Rattle.root_ops.specs.Order.{Doing, walking, acting, checking, closing, making, removing, releasing, CallTurn, more, ends, make_way, makes, clears, clear_in, walks, unless_fault, in_directory, between, from_entry, is_single, single, same_owner, releases, lacks, starts, begins, way_of, renaming_of, steps_then}
+use Rattle.root_ops.specs.Order.{Doing, walking, acting, checking, closing, making, removing, releasing, CallTurn, more, ends, make_way, makes, clears, clear_in, walks, unless_fault, in_directory, between, from_entry, is_single, single, same_owner, releases, lacks, starts, begins, way_of, renaming_of, steps_then, steps_left, Reply, LeadsTo}
 use Rattle.root_ops.specs.declared.call.CallTurn.{CallTurn as Outcome}
 use Rattle.root_ops.specs.TurnView.{turn_view, Keeps, StartsTo, steps_to_come, STEPS_MAX}
-use Rattle.root_ops.specs.StepCount.{is_walking, is_bulk, WalksOrFew, FiveAfterWalks}
-use Rattle.root_ops.proofs.Steps.{IsLower, IsFewer, either_lower, walked_lower, walking_lower, fewer_after, lower_fewer, makes_fewer, clears_fewer, fewer_to_come}
+use Rattle.root_ops.specs.StepCount.{is_walking, is_bulk, WalksOrFew, FiveAfterWalks, BulkAfterWalks}
+use Rattle.root_ops.proofs.Bulk.{makes_led}
+use Rattle.root_ops.proofs.Steps.{IsLower, IsFewer, either_lower, walked_lower, walking_lower, fewer_after, lower_fewer, makes_fewer, clears_fewer, fewer_to_come, take_fewer, a_step_left}
 
 -- ---- the parts of a directory's path are few
 
@@ -232,3 +236,38 @@ five_after_walks = record {
   walked = walked_few;
   after = fewer_after;
 }
+
+-- ---- after the walk of a bulk call
+
+call_fewer : (below : Below) (room : Bool) (doing : Doing) (answer : Answer) (k : ℕ) → steps_left below doing < suc (suc k) → IsFewer below (suc k) (call.take below room doing answer)
+call_fewer below room doing answer k few = fewer_still below (steps_left below doing) (suc k) (call.take below room doing answer) (omega (arith, few)) (take_fewer below room doing answer)
+
+lines_few : (below : Below) (k : ℕ) (lines : List Line) (turn end : CallTurn) → IsFewer below (suc k) turn → LeadsTo below turn lines end → length lines ≤ k
+lines_few below k [] turn end few leads = omega arith
+lines_few below zero (line ∷ lines) (more doing) end few leads = absurd (omega (arith, few, a_step_left below doing))
+lines_few below (suc k) (answered step answer ∷ lines) (more doing) end few leads =
+    omega (arith, lines_few below k lines (call.take below true doing answer) end (call_fewer below true doing answer k few) leads.1)
+lines_few below (suc k) (no_room step answer ∷ lines) (more doing) end few leads =
+    omega (arith, lines_few below k lines (call.take below false doing answer) end (call_fewer below false doing answer k few) leads.1)
+lines_few below (suc k) (not_made error ∷ lines) (more doing) end few leads =
+    omega (arith, lines_few below k lines (call.take below true doing (Refused error)) end (call_fewer below true doing (Refused error) k few) leads.1)
+lines_few below k (line ∷ lines) (ends reply) end few leads = absurd leads
+
+removing_few : (below : Below) (way : Way) (target : List ℕ) (handle : Handle) (names : List (List ℕ)) (lines : List Line) (reply : Reply)
+    → LeadsTo below (clears (remove.walked way target (found handle names))) lines (ends reply) → length lines ≤ 2 * CLEARING_STEPS_MAX + 1
+removing_few below way target handle names lines reply leads =
+    lines_few below (2 * CLEARING_STEPS_MAX + 1) lines _ (ends reply)
+    (clears_fewer below (suc (2 * CLEARING_STEPS_MAX + 1)) (remove.walked way target (found handle names)) (remove_steps.walked_few way target 1 (found handle names) (omega arith) tt)) leads
+
+making_few : (below : Below) (room : Bool) (handle : Handle) (names : List (List ℕ)) (lines : List Line) (reply : Reply)
+    → (LeadsTo below (makes (make.after_walk room (found handle names))) lines (ends reply) → length lines ≤ 1)
+    × ((rest : List AskedPart) → LeadsTo below (makes (make.after_walk room (partial handle names rest))) lines (ends reply) → length lines ≤ 3 * length rest + 2)
+making_few below room handle names lines reply = (
+  λ leads. let by = makes_led below (make.after_walk room (found handle names)) lines reply leads in
+      (steps_after_the_walk (make_way below) room handle names lines by.end).0 by.led,
+  λ rest leads. let by = makes_led below (make.after_walk room (partial handle names rest)) lines reply leads in
+      (steps_after_the_walk (make_way below) room handle names lines by.end).1 rest by.led,
+)
+
+pub bulk_after_walks : BulkAfterWalks
+bulk_after_walks = record { making = making_few; removing = removing_few }

@@ -3,3 +3,4 @@ pub mod OwnEvents
 pub mod AfterWalks
 pub mod WalkParts
 pub mod CallsTell
+pub mod BulkHistory

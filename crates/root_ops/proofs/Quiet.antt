@@ -1,4 +1,5 @@
 -- Lemmas of what a call comes to where nobody else acts.
+pub mod BulkTrees
 pub mod WhatIsMeant
 pub mod WorkedOperations
 pub mod WalksAlone

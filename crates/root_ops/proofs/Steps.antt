@@ -140,7 +140,7 @@ fewer_to_come k below (outcomes.More call) some fewer kept = subst (λ (b : Belo
 fewer_to_come k below (outcomes.Done reply) some fewer kept = some
 
 -- each answer leaves fewer steps to come
-take_fewer : (below : Below) (room : Bool) (doing : Doing) (answer : Answer) → IsFewer below (steps_left below doing) (take below room doing answer)
+pub take_fewer : (below : Below) (room : Bool) (doing : Doing) (answer : Answer) → IsFewer below (steps_left below doing) (take below room doing answer)
 take_fewer below room (walking w aim) answer = lower_fewer below _ _ (walking_lower below room w aim answer)
 take_fewer below room (making call) answer = makes_fewer below _ (make.take (make_way below) room call answer) (take_few (make_way below) room call answer)
 take_fewer below room (removing call) answer = clears_fewer below _ (remove.take room call answer) (remove_steps.take_lowers room call answer)
@@ -149,7 +149,7 @@ take_fewer below room (checking old new renaming) answer = few_fewer below (step
 take_fewer below room (closing h hs after) answer = few_fewer below (steps_left below (closing h hs after)) (take below room (closing h hs after) answer) (fewer_after below room (closing h hs after) answer refl refl)
 take_fewer below room (releasing h) answer = few_fewer below (steps_left below (releasing h)) (take below room (releasing h) answer) (fewer_after below room (releasing h) answer refl refl)
 
-a_step_left : (below : Below) (doing : Doing) → 0 < steps_left below doing
+pub a_step_left : (below : Below) (doing : Doing) → 0 < steps_left below doing
 a_step_left below (walking w aim) = omega (arith, walk_steps.a_step_left w)
 a_step_left below (making call) = left_some call
 a_step_left below (removing call) = remove_steps.a_call_left call

@@ -14,6 +14,7 @@ pub mod View
 pub mod TurnView
 pub mod StepCount
 pub mod CallHistory
+pub mod BulkTells
 pub mod Meaning
 pub mod MeaningLaws
 pub mod MeaningWorked

@@ -10,13 +10,13 @@ use Rattle.root_ops.specs.Meaning.{Caller, fails, op_means}
 
 -- it leads from a tree to a tree: no entry is in what is no directory, no two nodes have one entry, and none is its own ancestor
 abbrev pub OperationsKeepTrees : Type 0
-OperationsKeepTrees = (c : Caller) (op : Op) → is_bulk op ≡ false → IsTree c.tree.nodes → IsTree (op_means c op).nodes
+OperationsKeepTrees = (c : Caller) (op : Op) → IsTree c.tree.nodes → IsTree (op_means c op).nodes
 
--- no node is lost, each stays what it is, and there is one more at most
+-- no node is lost, each stays what it is, and there is one more at most, if it is no bulk call
 abbrev pub OperationsKeepNodes : Type 0
-OperationsKeepNodes = (c : Caller) (op : Op) → is_bulk op ≡ false
+OperationsKeepNodes = (c : Caller) (op : Op)
     → ((x : ℕ) (object : Object) → object_at c.tree.nodes x ≡ Some object → object_at (op_means c op).nodes x ≡ Some object)
-    × (length (op_means c op).nodes ≤ suc (length c.tree.nodes))
+    × (is_bulk op ≡ false → length (op_means c op).nodes ≤ suc (length c.tree.nodes))
 
 -- an error changes no node
 abbrev pub ErrorsChangeNothing : Type 0

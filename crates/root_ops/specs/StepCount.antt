@@ -2,15 +2,14 @@
 use Rattle.std.specs.Prelude.{◌≡◌, ℕ, ◌+◌, ◌*◌, ◌<◌, ◌≤◌, List, length, Bool, true, false}
 use Rattle.tree_model.specs.declared.answer.Answer.{Answer}
 use Rattle.step_resolver.specs.Asked.{AskedPart}
-use Rattle.step_resolver.specs.Order.{Handle, Line, found, partial}
+use Rattle.step_resolver.specs.Order.{Way, Handle, Line, found, partial}
 use Rattle.bulk_ops.specs.declared.remove_all.clearing.TheConstants.{CLEARING_STEPS_MAX}
 use Rattle.bulk_ops.specs.MakeAllOrder.{after_walk}
-use Rattle.bulk_ops.specs.RemoveAllOrder.{Removing}
 use Rattle.bulk_ops.specs.RemoveAllOrder as remove
 use Rattle.root_ops.specs.declared.below.Below.{Below}
 use Rattle.root_ops.specs.declared.op.Op.{Op}
 use Rattle.root_ops.specs.declared.op.Op.TheVariants.{Resolve, ResolveNoFollow, ReadLink, CreateFile, CreateDir, CreateLink, RemoveFile, RemoveDir, Rename, MkdirAll, RemoveAll, Single, Release}
-use Rattle.root_ops.specs.Order.{Doing, walking, acting, checking, closing, making, removing, releasing, CallTurn, more, ends, Reply, makes, starts, take, steps_left, LeadsTo}
+use Rattle.root_ops.specs.Order.{Doing, walking, acting, checking, closing, making, removing, releasing, CallTurn, more, ends, Reply, makes, clears, starts, take, steps_left, LeadsTo}
 
 abbrev pub is_walking : Doing → Bool
 is_walking (walking walk aim) = true
@@ -64,3 +63,12 @@ pub record FiveAfterWalks : Type 0 where
   pub walked : (below : Below) (room : Bool) (doing : Doing) (answer : Answer) → is_walking doing ≡ true → WalksOrFew 5 below (take below room doing answer)
   pub after : (below : Below) (room : Bool) (doing : Doing) (answer : Answer) → is_walking doing ≡ false → is_of_bulk doing ≡ false
       → FewerThan (steps_left below doing) below (take below room doing answer)
+
+-- After its walk a MkdirAll makes at most one step, where that found what the whole path means, and else three for each part of
+-- the rest and two more; a RemoveAll two for each step of clearing, which may open a handle that is to be closed, and one more.
+pub record BulkAfterWalks : Type 0 where
+  pub making : (below : Below) (room : Bool) (handle : Handle) (names : List (List ℕ)) (lines : List Line) (reply : Reply)
+      → (LeadsTo below (makes (after_walk room (found handle names))) lines (ends reply) → length lines ≤ 1)
+      × ((rest : List AskedPart) → LeadsTo below (makes (after_walk room (partial handle names rest))) lines (ends reply) → length lines ≤ 3 * length rest + 2)
+  pub removing : (below : Below) (way : Way) (target : List ℕ) (handle : Handle) (names : List (List ℕ)) (lines : List Line) (reply : Reply)
+      → LeadsTo below (clears (remove.walked way target (found handle names))) lines (ends reply) → length lines ≤ 2 * CLEARING_STEPS_MAX + 1

@@ -120,7 +120,8 @@ impl Call {
     ///
     /// Faults: those of `Walk::take` for each walk; then the refusal of the one step on the last name; and for a Rename
     /// of a path with a slash at its end the refusal of Open of the entry, and NotDir where that is no directory
-    /// (rename(2)).
+    /// (rename(2)). A MkdirAll and a RemoveAll fail with what those of `bulk_ops` fail with, and what they did by then
+    /// stays done.
     pub fn take(self, alloc: Global, answer: Answer) -> CallTurn
         ensures turn { TakesTo self.below self.doing answer (turn_view result) }
         ensures kept { Keeps self.below result }

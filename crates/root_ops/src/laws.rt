@@ -1,10 +1,14 @@
 //! What holds of every call, in every history: laws, each the contract of a function without a body.
+ghost use Rattle.root_ops.specs.BulkTells.{BulkCallsTell};
 ghost use Rattle.root_ops.specs.CallHistory.{CallsTell};
-ghost use Rattle.root_ops.specs.StepCount.{FiveAfterWalks};
+ghost use Rattle.root_ops.specs.StepCount.{FiveAfterWalks, BulkAfterWalks};
 
-/// Once its walks are over a call makes at most five steps, if it is no bulk call.
+/// Once its walks are over a call makes at most five steps, if it is no bulk call. After its walk a MkdirAll makes at most
+/// three steps for each part of the rest of its path and two more, and a RemoveAll two for each of the `CLEARING_STEPS_MAX`
+/// steps of clearing and one more.
 pub fn five_steps_after_walks()
-    ensures { FiveAfterWalks }
+    ensures own { FiveAfterWalks }
+    ensures bulk { BulkAfterWalks }
 {}
 
 /// After a fault the actor's open handles are those from before the call; after Opened these and one more, which is open
@@ -13,4 +17,11 @@ pub fn five_steps_after_walks()
 /// on a directory.
 pub fn calls_tell()
     ensures { CallsTell }
+{}
+
+/// The reply to a MkdirAll or a RemoveAll is the end of such a call of `bulk_ops` with the same lines, which tells of the
+/// history what the laws `makes_tell` and `remove_all_tells` say: which entries it made or took away, and why it failed,
+/// for every interleaving of actors' single steps (mkdir(2), unlink(2), rmdir(2)).
+pub fn bulk_calls_tell()
+    ensures { BulkCallsTell }
 {}

@@ -3,10 +3,10 @@
 //! A `Call` is begun with a `Request`, asks for its `due` step and is told the answer, until it ends with a `Reply`; others may
 //! change the tree in between. It walks to what the path means, or to the directory of its last name, makes its one step
 //! by the handle that the walk found, and closes what it opened (mkdirat(2), unlinkat(2), renameat2(2), readlinkat(2)); or it
-//! is a bulk call of `bulk_ops`. Its
-//! `start`, `due` and `take` are exactly the order of steps of `specs/Order.antt`, which is over that of a walk, and each
-//! `take` leaves fewer steps to come. The layers above use these contracts, and the laws `five_steps_after_walks` and
-//! `calls_tell`, which says what handles a call's end leaves open.
+//! is a bulk call of `bulk_ops`. Its `start`, `due` and `take` are exactly the order of steps of `specs/Order.antt`, which is
+//! over that of a walk and those of the bulk calls, and each `take` leaves fewer steps to come. The layers above use these
+//! contracts, and the laws `five_steps_after_walks`, `calls_tell`, which says what handles a call's end leaves open, and
+//! `quiet_calls_mean`, which says what it comes to where nobody else acts.
 #![tactic(auto)]
 
 mod aim;
@@ -23,7 +23,7 @@ mod reply;
 pub use aim::{Aim, Change, Renaming, Wanted};
 pub use below::Below;
 pub use call::{Call, CallTurn};
-pub use laws::{calls_tell, five_steps_after_walks};
+pub use laws::{bulk_calls_tell, calls_tell, five_steps_after_walks};
 pub use op::{Op, Request};
 pub use quiet_laws::{operations_keep_trees, quiet_calls_mean, worked_operations, worked_rename};
 pub use reply::Reply;

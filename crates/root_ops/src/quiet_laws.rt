@@ -4,7 +4,7 @@ ghost use Rattle.root_ops.specs.QuietWorked.{RenameIsWorked};
 ghost use Rattle.root_ops.specs.MeaningLaws.{OperationsKeepTrees, OperationsKeepNodes, ErrorsChangeNothing};
 ghost use Rattle.root_ops.specs.MeaningWorked.{RenamesAreWorked, MovesAreWorked, MadeAreWorked, ToldAreWorked, RemovedAreWorked};
 
-/// What an operation means, if it is no bulk call, leads from a tree to a tree, in which each node is what it was and at
+/// What an operation means leads from a tree to a tree, in which each node is what it was and, if it is no bulk call, at
 /// most one is new; and an error changes no node.
 pub fn operations_keep_trees()
     ensures trees { OperationsKeepTrees }

@@ -289,8 +289,11 @@ module _ (c : Caller) (has : HasRoot c.tree c.actor c.below.root.handle c.root) 
       given_up_for NoMemory enough tells = inl (refl, inl (within NoMemory (want_met parts.lines NoMemory tells)))
       given_up_for BookFull enough tells = inl (refl, inl (within BookFull (want_met parts.lines BookFull tells)))
       given_up_for TooMany enough tells =
-          inl (refl, inl (within TooMany (refused_met c.actor parts.lines tells.when tells.step
-          (ap (λ es. slice_get es tells.when) (sym (window_is v split.name (is_here Follow split.dir) quiet refl parts)) ∙ tells.event))))
+          inl (
+            refl,
+            inl (within TooMany (refused_met c.actor parts.lines tells.when tells.step
+                (ap (λ es. slice_get es tells.when) (sym (window_is v split.name (is_here Follow split.dir) quiet refl parts)) ∙ tells.event))),
+          )
       given_up_for Busy enough tells = inr (refl, longer tells.enough)
       given_up_for error enough tells = absurd (false≢true enough)
 

@@ -1,5 +1,5 @@
 -- What an operation means changes the entries of a tree in one of the ways that the step table knows, or nothing.
-use Rattle.std.proofs.Common.{◌≡◌, ℕ, List, Bool, true, false, ◌||◌, if◌then◌else◌, None, Result, Ok, Err, refl, ap}
+use Rattle.std.proofs.Common.{◌≡◌, ℕ, List, Bool, true, false, ◌||◌, if◌then◌else◌, None, Result, Ok, Err, refl, sym, ap, subst}
 use Rattle.path_text.specs.declared.errno.Errno.{Errno}
 use Rattle.path_text.specs.declared.errno.Errno.TheVariants.{NotDir, Invalid}
 use Rattle.path_text.specs.declared.path.Rule.{Rule}
@@ -8,6 +8,7 @@ use Rattle.tree_model.specs.declared.answer.Answer.{Answer}
 use Rattle.tree_model.specs.declared.answer.Answer.TheVariants as answer
 use Rattle.tree_model.specs.declared.inode.Inode.{Inode}
 use Rattle.tree_model.specs.declared.step.StepOf.{StepOf}
+use Rattle.path_text.specs.Reading.{Reading}
 use Rattle.path_text.specs.Text.{text_fault, reading_of}
 use Rattle.tree_model.specs.State.{State, is_dir}
 use Rattle.tree_model.specs.Entries.{refuse_by}
@@ -17,7 +18,7 @@ use Rattle.tree_model.proofs.Changed.{Changed, kept, IfDone, MakeDir-changed, Ma
 use Rattle.tree_model.proofs.Outcomes.{Does, refuses as refuses_it, tells as only_tells_it, opens_on, closes as closes_it, changes_to, does}
 use Rattle.tree_model.proofs.Refusals.{refuse_by-both}
 use Rattle.tree_model.proofs.StepLaws.{telling_changes_nothing}
-use Rattle.step_resolver.specs.Meaning.{reading_deepest}
+use Rattle.step_resolver.specs.Meaning.{Ground, reading_deepest}
 use Rattle.bulk_ops.specs.MakeAllQuiet.{MakeMeant, refuses, gives, make_means}
 use Rattle.bulk_ops.specs.RemoveAllQuiet.{cleared, cleared_rows}
 use Rattle.root_ops.specs.declared.op.Op.{Op}
@@ -26,6 +27,7 @@ use Rattle.root_ops.specs.Meaning.{Caller, Told, counts, fails, Whole, and_then,
 use Rattle.root_ops.specs.MeaningLaws.{OperationsKeepTrees, OperationsKeepNodes, ErrorsChangeNothing}
 use Rattle.root_ops.specs.Order.{is_single}
 use Rattle.root_ops.specs.StepCount.{is_bulk}
+use Rattle.root_ops.proofs.Quiet.BulkTrees.{IsGrown, grown_same, nodes_of, makes_grown, clears_grown}
 
 onward_done : {A : Type 0} (P : List Inode → Type 0) (first : Result A Errno) (onward : A → Result (List Inode) Errno) → ((x : A) → IfDone P (onward x))
     → IfDone P (and_then first onward)
@@ -125,11 +127,41 @@ module _ (c : Caller) where
       on true is = cc (is)
       on false is = refl
 
+-- ---- all of them
+
+whole_grown : {A : Type 0} (c : Caller) (result : Result A Errno) (onward : A → Whole) → ((x : A) → IsGrown c.tree.nodes (onward x).nodes)
+    → IsGrown c.tree.nodes (unless_error c result onward).nodes
+whole_grown c (Ok x) onward each = each x
+whole_grown c (Err error) onward each = grown_same c.tree.nodes
+
+made_nodes : (c : Caller) (meant : MakeMeant) → (made c meant).nodes ≡ nodes_of c.tree.nodes meant
+made_nodes c (refuses error) = refl
+made_nodes c (gives x nodes) = refl
+
+along_grown : (c : Caller) (path : Reading) → IsGrown c.tree.nodes (makes_along c path).nodes
+along_grown c path =
+    let g : Ground = record { nodes = c.tree.nodes; root = c.root; flags = c.below.flags } in
+    subst (IsGrown c.tree.nodes) (sym (made_nodes c (make_means c.tree.nodes (reading_deepest g path)))) (makes_grown g path)
+
+in_directory_grown : (c : Caller) (target : List ℕ) (d : ℕ) (b : Bool) → IsGrown c.tree.nodes (clears_if c target d b).nodes
+in_directory_grown c target d true = clears_grown c.tree.nodes d target
+in_directory_grown c target d false = grown_same c.tree.nodes
+
+bulk_grown : (c : Caller) (op : Op) → is_bulk op ≡ true → IsGrown c.tree.nodes (op_means c op).nodes
+bulk_grown c (MkdirAll text) bulk = whole_grown c (refuse_by (text_fault text) (Ok (reading_of text))) _ (λ path. along_grown c path)
+bulk_grown c (RemoveAll text) bulk =
+    whole_grown c (entry_of text Drop) _ (λ split. whole_grown c (directory_of c split.dir) _ (λ d. in_directory_grown c split.name d (is_dir c.tree.nodes d)))
+bulk_grown c op bulk = cc (bulk)
+
+op_grown : (c : Caller) (op : Op) (b : Bool) → is_bulk op ≡ b → IsGrown c.tree.nodes (op_means c op).nodes
+op_grown c op true bulk = bulk_grown c op bulk
+op_grown c op false single = record { tree = λ is. Changed-tree is (op_changes c op single); objects = (Changed-grows (op_changes c op single)).objects }
+
 pub operations_keep_trees : OperationsKeepTrees
-operations_keep_trees c op single is = Changed-tree is (op_changes c op single)
+operations_keep_trees c op is = (op_grown c op (is_bulk op) refl).tree is
 
 pub operations_keep_nodes : OperationsKeepNodes
-operations_keep_nodes c op single = ((Changed-grows (op_changes c op single)).objects, Changed-by_one (op_changes c op single))
+operations_keep_nodes c op = ((op_grown c op (is_bulk op) refl).objects, λ single. Changed-by_one (op_changes c op single))
 
 pub errors_change_nothing : ErrorsChangeNothing
 errors_change_nothing c (Resolve text) error is = tells_same c _ _
