@@ -225,7 +225,11 @@ pub fn time_indexed(
     if work == Work::Build {
         return time_build(rt, files, true);
     }
-    let cap = if work == Work::Jump { 1 } else { CACHED_ENTRIES };
+    let cap = if work == Work::Jump {
+        1
+    } else {
+        CACHED_ENTRIES
+    };
     let list = list_for(rt.alloc(), work, files)?;
     let mut tree = SlabTree::from_list(rt.alloc(), &list, cap)?;
     time_steps(rt, &mut tree, work, files, turns_of(work, 0, TURNS), turns)
@@ -237,7 +241,14 @@ fn time_plain(rt: &HostRuntime, work: Work, files: u32, turns: u32) -> anyhow::R
         return time_build(rt, files, false);
     }
     let mut tree = list_for(rt.alloc(), work, files)?;
-    time_steps(rt, &mut tree, work, files, turns_of(work, 0, FEW_TURNS), turns)
+    time_steps(
+        rt,
+        &mut tree,
+        work,
+        files,
+        turns_of(work, 0, FEW_TURNS),
+        turns,
+    )
 }
 
 // The shortest rounds on the indexed tree, and on the plain one where it is timed: nanoseconds for each step or entry.
