@@ -28,7 +28,9 @@ impl Shape {
     pub fn entries(self) -> u32 {
         match self {
             Shape::Flat(files) => files.saturating_add(1),
-            Shape::Spread(dirs) => dirs.saturating_mul(SPREAD_FILES.saturating_add(1)).saturating_add(1),
+            Shape::Spread(dirs) => dirs
+                .saturating_mul(SPREAD_FILES.saturating_add(1))
+                .saturating_add(1),
             Shape::Deep(depth) | Shape::Missing(depth) => depth,
         }
     }

@@ -1,6 +1,6 @@
 //! Look-ups and removals on the indexed tree, with one entry remembered and with many.
 use crate::clock::nanoseconds;
-use crate::steps::{TURNS, WARM_UP, actor, make_all};
+use crate::steps::{TURNS, actor, make_all};
 use crate::tree::{CACHED_ENTRIES, name};
 use path_text::{Name, Names};
 use std::alloc::Global;
@@ -61,12 +61,9 @@ impl Call {
         }
     }
 
-    // How many calls are made before the clock is read.
+    // How many calls are made before the clock is read: those of a timing, where they leave the tree as it is.
     fn warm_up(self) -> u32 {
-        match self {
-            Call::Open => WARM_UP,
-            _ => 0,
-        }
+        self.turns(0)
     }
 
     /// How many calls are timed, where there are so many names.

@@ -101,7 +101,9 @@ fn main(rt: HostRuntime) -> anyhow::Result<()> {
             Ok(())
         }
         _ => {
-            bail!("usage: bench [walks | calls | bulk | steps | cache | repeat KIND WORKLOAD COUNT]")
+            bail!(
+                "usage: bench [walks | calls | bulk | steps | cache | repeat KIND WORKLOAD COUNT]"
+            )
         }
     }
 }

@@ -48,18 +48,15 @@ pub const STEP_WORKLOADS: [StepWorkload; 16] = [
     ("build_100000", Work::Build, 100_000, true),
 ];
 
-/// Steps that are made before the clock is read, of those that leave the tree as it is: the allocator puts off some work on
-/// what was freed while the tree was built.
-pub const WARM_UP: u32 = 128;
-
 /// Handles that each holder has.
 const HELD: u32 = 1_000;
 
-/// Opens or Dups, and as many Closes, of one timing.
+/// Opens or Dups, and as many Closes, of one timing; and before it, since the allocator puts off work on what was freed
+/// while the tree was built until a table grows.
 pub const TURNS: u32 = 16_384;
 
 /// The same on the plain tree, which slows down with each.
-const PLAIN_TURNS: u32 = 500;
+const FEW_TURNS: u32 = 500;
 
 /// Rounds of a workload, each on a new tree. The shortest is told.
 const ROUNDS: usize = 7;
@@ -175,19 +172,20 @@ pub fn turns_of(work: Work, files: u32, turns: u32) -> u32 {
     }
 }
 
-// Times so many of a workload's steps on a tree that has its files, but where they are to be made: their nanoseconds, and
-// how many were done.
+// Times so many of a workload's steps on a tree that has its files, but where they are to be made, after so many others:
+// their nanoseconds, and how many were done.
 fn time_steps<T: Tree>(
     rt: &HostRuntime,
     tree: &mut T,
     work: Work,
     files: u32,
+    warm_up: u32,
     turns: u32,
 ) -> anyhow::Result<(u64, u32)> {
     let alloc = rt.alloc();
     let root = open_root(alloc, tree, work)?;
     let steps = steps_of(alloc, root, work, files)?;
-    make_all(alloc, tree, &steps, turns_of(work, 0, WARM_UP));
+    make_all(alloc, tree, &steps, warm_up);
     let start = Instant::now(rt)?;
     let done = make_all(alloc, tree, &steps, turns);
     Ok((nanoseconds(rt, start)?, done))
@@ -227,10 +225,14 @@ pub fn time_indexed(
     if work == Work::Build {
         return time_build(rt, files, true);
     }
-    let cap = if work == Work::Jump { 1 } else { CACHED_ENTRIES };
+    let cap = if work == Work::Jump {
+        1
+    } else {
+        CACHED_ENTRIES
+    };
     let list = list_for(rt.alloc(), work, files)?;
     let mut tree = SlabTree::from_list(rt.alloc(), &list, cap)?;
-    time_steps(rt, &mut tree, work, files, turns)
+    time_steps(rt, &mut tree, work, files, turns_of(work, 0, TURNS), turns)
 }
 
 // The same on the plain tree.
@@ -239,14 +241,21 @@ fn time_plain(rt: &HostRuntime, work: Work, files: u32, turns: u32) -> anyhow::R
         return time_build(rt, files, false);
     }
     let mut tree = list_for(rt.alloc(), work, files)?;
-    time_steps(rt, &mut tree, work, files, turns)
+    time_steps(
+        rt,
+        &mut tree,
+        work,
+        files,
+        turns_of(work, 0, FEW_TURNS),
+        turns,
+    )
 }
 
 // The shortest rounds on the indexed tree, and on the plain one where it is timed: nanoseconds for each step or entry.
 fn time_step(rt: &HostRuntime, workload: StepWorkload) -> anyhow::Result<(u64, Option<u64>)> {
     let (_, work, files, on_plain) = workload;
     let turns = turns_of(work, files, TURNS);
-    let plain_turns = turns_of(work, files, PLAIN_TURNS);
+    let plain_turns = turns_of(work, files, FEW_TURNS);
     let (mut indexed, mut plain) = (u64::MAX, u64::MAX);
     for _ in 0..ROUNDS {
         let (took, _) = time_indexed(rt, work, files, turns)?;

@@ -109,7 +109,7 @@ fn names_of(alloc: Global, map: &BTreeMap<Name, Node>) -> Result<Names, NoMemory
 {
     let mut names = Names::new(alloc);
     for name in map.keys() {
-        names.push(name.copy(alloc)?)?;
+        names.push_bytes(name.bytes())?;
     }
     Ok(names)
 }
