@@ -6,7 +6,7 @@ use crate::ground::{Interference, caller, other};
 use path_text::{Bytes, Errno, Name, Names};
 use std::alloc::Global;
 use tree_list::{Entry, ListTree, New};
-use tree_model::{HandleNo, Mode, StepOf, Tree};
+use tree_model::{Mode, StepOf, Tree};
 
 /// The entries that the indexed tree may keep at hand.
 pub const CACHED_ENTRIES: usize = 1_024;
@@ -58,19 +58,20 @@ pub fn plain_tree(alloc: Global) -> Result<ListTree, Errno>
     }
 }
 
-/// Opens handle 0, the caller's root `/c`, and the other actor's handles 1 on `/c/a` and 2 on `/secret`.
-pub fn grant_all<T: Tree>(alloc: Global, tree: &mut T) -> Result<(), Errno> {
+/// Opens handle 0, the caller's root `/c`.
+pub fn grant_root<T: Tree>(alloc: Global, tree: &mut T) -> Result<(), Errno> {
     tree.grant(alloc, caller(), &names_of(alloc, "/c")?)?;
-    tree.grant(alloc, other(), &names_of(alloc, "/c/a")?)?;
-    tree.grant(alloc, other(), &names_of(alloc, "/secret")?)?;
     Ok(())
 }
 
-/// The other actor's move of `/c/a/b` to `/secret/b`, after that many steps of the caller.
-pub fn moved_away(alloc: Global, after: u32) -> Result<Interference, Errno> {
-    let name = Name::new(alloc, b"b")?;
-    let to = Name::new(alloc, b"b")?;
-    let step = StepOf::Rename(HandleNo::new(1), name, HandleNo::new(2), to, Mode::Plain);
+/// The other actor's move of `/c/a/b` to `/secret/b`, after that many steps of the caller. The directories are opened for
+/// it, as the handles 1 and 2.
+pub fn moved_away<T: Tree>(alloc: Global, tree: &mut T, after: u32) -> Result<Interference, Errno> {
+    let from = tree.grant(alloc, other(), &names_of(alloc, "/c/a")?)?;
+    let to = tree.grant(alloc, other(), &names_of(alloc, "/secret")?)?;
+    let old = Name::new(alloc, b"b")?;
+    let new = Name::new(alloc, b"b")?;
+    let step = StepOf::Rename(from, old, to, new, Mode::Plain);
     Ok(Interference {
         step: Some((step, after)),
         refused: 0,

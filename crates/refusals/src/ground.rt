@@ -14,6 +14,9 @@ pub trait Ground {
 
     /// The entries.
     fn rows(&self, alloc: Global) -> Result<Vec<Row>, NoMemory>;
+
+    /// How many events are booked, where they are.
+    fn events(&self) -> Option<usize>;
 }
 
 /// A tree by itself.
@@ -34,6 +37,10 @@ impl<T: Tree> Ground for Bare<T> {
     fn rows(&self, alloc: Global) -> Result<Vec<Row>, NoMemory> {
         self.tree.snapshot(alloc)?.rows(alloc)
     }
+
+    fn events(&self) -> Option<usize> {
+        None
+    }
 }
 
 impl<T: Tree> Ground for Book<T> {
@@ -47,6 +54,10 @@ impl<T: Tree> Ground for Book<T> {
 
     fn rows(&self, alloc: Global) -> Result<Vec<Row>, NoMemory> {
         self.tree().snapshot(alloc)?.rows(alloc)
+    }
+
+    fn events(&self) -> Option<usize> {
+        Some(Book::events(self).len())
     }
 }
 

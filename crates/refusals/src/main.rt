@@ -2,8 +2,8 @@
 //!
 //! `refusals TREE SCENARIO` carries out one scenario, on the plain tree (`plain`) or on the indexed one (`indexed`), and
 //! prints `ready` once the tree stands; then how the other actor's step went; what the call replied; how many handles
-//! the caller then has open, and the same after it has released what it opened; and the entries that went (`-`) and
-//! came (`+`), each with its directory's node, its name and its own node. Without arguments all scenarios are carried
+//! the caller then has open, and the same after it has released what it opened; how many events a book then has; and the
+//! entries that went (`-`) and came (`+`), each with its directory's node, its name and its own node. Without arguments all scenarios are carried
 //! out, on both trees. Printing takes no memory, but for the lists of entries that are compared: the call's own requests
 //! for memory are those between `ready` and its reply. Status 0; 2 for a wrong command line; 4 for want of memory
 //! outside the call, and for output that can't be written.
@@ -15,7 +15,7 @@ mod ground;
 mod scenario;
 mod told;
 
-use base::{CACHED_ENTRIES, grant_all, moved_away, plain_tree};
+use base::{CACHED_ENTRIES, grant_root, moved_away, plain_tree};
 use drive::{carry_out, release};
 use ground::{Bare, Field, Ground, Interference, caller};
 use path_text::{Errno, NoMemory};
@@ -29,9 +29,6 @@ use thiserror::Error;
 use told::{ToldAnswer, ToldReply, ToldRow};
 use tree_model::{Answer, Row, Tree};
 use tree_slab::SlabTree;
-
-/// The lines of a book, more than any call here takes.
-const LINES: u32 = 100;
 
 /// Why the program ends without an answer.
 #[derive(Clone, Copy, Debug, PartialEq, Eq, Error)]
@@ -128,6 +125,9 @@ fn tell_call<G: Ground + Drop>(
     let before = field.ground.rows(rt.alloc())?;
     println!(rt; "ready")?;
     tell_replies(rt, work, &mut field)?;
+    if let Some(events) = field.ground.events() {
+        println!(rt; "events {events}")?;
+    }
     let after = field.ground.rows(rt.alloc())?;
     tell_rows(rt, "-", &before, &after)?;
     tell_rows(rt, "+", &after, &before)
@@ -141,14 +141,14 @@ fn tell_on<T: Tree + Drop>(
     mut tree: T,
 ) -> Result<(), Fault> {
     let alloc = rt.alloc();
-    grant_all(alloc, &mut tree)?;
+    grant_root(alloc, &mut tree)?;
     match setting {
         Setting::Alone => tell_call(rt, work, Bare { tree }, Interference::none()),
         Setting::Raced(after) => {
-            let other = moved_away(alloc, after)?;
+            let other = moved_away(alloc, &mut tree, after)?;
             tell_call(rt, work, Bare { tree }, other)
         }
-        Setting::Booked => match Book::open(alloc, tree, LINES) {
+        Setting::Booked(lines) => match Book::open(alloc, tree, lines) {
             Ok(book) => tell_call(rt, work, book, Interference::none()),
             Err(refusal) => Err(Fault::Refused(refusal.cause)),
         },

@@ -32,8 +32,8 @@ pub enum Work {
 #[derive(Clone, Copy, Debug)]
 pub enum Setting {
     Alone,
-    /// Its steps are taken in a book.
-    Booked,
+    /// Its steps are taken in a book of that many lines.
+    Booked(u32),
     /// Another actor moves `/c/a/b` to `/secret/b` before the step of this number, counted from 0.
     Raced(u32),
 }
@@ -42,19 +42,22 @@ pub enum Setting {
 pub type Scenario = (&'static str, Work, Setting);
 
 /// All of them. A release follows each call that opens something.
-pub const SCENARIOS: [Scenario; 19] = [
+pub const SCENARIOS: [Scenario; 22] = [
     ("walk_names", Work::Walk("a/b/f"), Setting::Alone),
     ("walk_link", Work::Walk("abs/f"), Setting::Alone),
     ("walk_parent", Work::Walk("a/b/.."), Setting::Alone),
     ("walk_parent_raced", Work::Walk("a/b/.."), Setting::Raced(3)),
-    ("walk_booked", Work::Walk("abs/f"), Setting::Booked),
+    ("walk_booked", Work::Walk("abs/f"), Setting::Booked(100)),
+    ("walk_book_of_8", Work::Walk("a/b/f"), Setting::Booked(8)),
+    ("walk_book_of_7", Work::Walk("a/b/f"), Setting::Booked(7)),
+    ("walk_book_of_4", Work::Walk("a/b/f"), Setting::Booked(4)),
     ("remove_all", Work::RemoveAll("a"), Setting::Alone),
     ("remove_all_raced", Work::RemoveAll("a"), Setting::Raced(5)),
     ("mkdir_all", Work::MkdirAll("abs/n/m"), Setting::Alone),
     (
         "mkdir_all_booked",
         Work::MkdirAll("abs/n/m"),
-        Setting::Booked,
+        Setting::Booked(100),
     ),
     ("resolve", Work::Resolve("a/b/f"), Setting::Alone),
     (
