@@ -22,15 +22,24 @@ length_fitted width text h = by (nat_le (length text) width) refl
     by false e =
         let wide : width < length text = grind (arith, nat_tests) in
         let taken : length (take (width - 1) text) ≡ width - 1 = length-take-le (width - 1) text (omega arith) in
-        omega (arith, length-append (take (width - 1) text ++ codes "~") (replicate (width - length text) BLANK), length-append (take (width - 1) text) (codes "~"),
-        length-replicate (width - length text) BLANK)
+        omega (
+          arith,
+          length-append (take (width - 1) text ++ codes "~") (replicate (width - length text) BLANK),
+          length-append (take (width - 1) text) (codes "~"),
+          length-replicate (width - length text) BLANK,
+        )
 
 -- each cell takes its width, and 3 columns before it
 length_cells : (actors width : ℕ) (shown : ℕ → List ℕ) → 0 < width → length (cells actors width shown) ≡ actors * (width + 3)
 length_cells zero width shown h = omega arith
 length_cells (suc actor) width shown h =
-    omega (arith, length_cells actor width shown h, length_fitted width (shown actor) h,
-    length-append (cells actor width shown) (codes " | " ++ fitted width (shown actor)), length-append (codes " | ") (fitted width (shown actor)))
+    omega (
+      arith,
+      length_cells actor width shown h,
+      length_fitted width (shown actor) h,
+      length-append (cells actor width shown) (codes " | " ++ fitted width (shown actor)),
+      length-append (codes " | ") (fitted width (shown actor)),
+    )
 
 length_mark : (mark : List ℕ) → length mark ≤ MARK_COLUMNS → length (to_right MARK_COLUMNS mark) ≡ MARK_COLUMNS
 length_mark mark h =
@@ -41,8 +50,13 @@ length_row : (actors : ℕ) (mark : List ℕ) (shown : ℕ → List ℕ) → 0 <
     → length (row actors mark shown) ≡ 9 + actors * (cell_width actors + 3)
 length_row actors mark shown some h =
     let all = cells actors (cell_width actors) shown in
-    omega (arith, length_mark mark h, length_cells actors (cell_width actors) shown some,
-    length-append (to_right MARK_COLUMNS mark) (all ++ codes " |\n"), length-append all (codes " |\n"))
+    omega (
+      arith,
+      length_mark mark h,
+      length_cells actors (cell_width actors) shown some,
+      length-append (to_right MARK_COLUMNS mark) (all ++ codes " |\n"),
+      length-append all (codes " |\n"),
+    )
 
 pub rows_fit : RowsFit
 rows_fit zero some few mark h shown = absurd (omega (arith, some))

@@ -140,7 +140,13 @@ fn place(alloc: Global, out: &mut Output, actors: u64, y: u64, line: &Line) -> R
 }
 
 // Adds a line by its place in the picture.
-fn line(alloc: Global, out: &mut Output, actors: u64, at: usize, line: &Line) -> Result<(), NoMemory>
+fn line(
+    alloc: Global,
+    out: &mut Output,
+    actors: u64,
+    at: usize,
+    line: &Line,
+) -> Result<(), NoMemory>
     requires actors { actors ≤ ACTORS_MAX }
     requires short { at < LINES_MAX }
     ensures { Gains out.old out.new (svg_line actors at line.now) result }
@@ -168,7 +174,8 @@ fn lines(alloc: Global, out: &mut Output, actors: u64, lines: &[Line]) -> Result
 fn head(out: &mut Output, width: u64, height: u64) -> Result<(), NoMemory>
     ensures { Gains out.old out.new (svg_head width height) result }
 {
-    let opening = "<svg xmlns='http://www.w3.org/2000/svg' font-family='monospace' font-size='13' width='";
+    let opening =
+        "<svg xmlns='http://www.w3.org/2000/svg' font-family='monospace' font-size='13' width='";
     tag(out, opening, width, "' height='", height, "'>\n")
 }
 
