@@ -46,6 +46,11 @@ pub record Leads (below : Below) (old : SessionView) (from : CallTurn) (new : Se
   pub leads : LeadsTo below from lines to
   pub logged : new ≡ logs old (events_of (actor_of old) lines)
 
+-- from the first turn of an operation, with memory or without
+pub record LeadsFirst (below : Below) (op : Op) (old new : SessionView) (to : CallTurn) : Type 0 where
+  pub room : Bool
+  pub led : Leads below old (starts below room op) new to
+
 abbrev pub is_book_full : Told → Bool
 is_book_full (Fault BookFull) = true
 is_book_full reply = false

@@ -1,3 +1,4 @@
 pub mod Session
 pub mod Service
 pub mod Call
+pub mod Open

@@ -9,7 +9,7 @@ ghost use Rattle.path_text.specs.declared.errno.Errno.TheVariants.{BadHandle as 
 ghost use Rattle.root_ops.specs.Order.{more, ends, releasing, steps_left};
 ghost use Rattle.root_ops.specs.TurnView.{turn_view, below_of, Keeps, steps_to_come};
 ghost use Rattle.root_ops.specs.View.{reply_view, IsOwned};
-ghost use Rattle.sessions.specs.Call.{logs_step, root_of, IsAnswer, Leads, Made, Called, is_of, is_book_full, released_by, turned_away};
+ghost use Rattle.sessions.specs.Call.{logs_step, root_of, IsAnswer, Leads, LeadsFirst, Made, Called, is_of, is_book_full, released_by, turned_away};
 
 use crate::gate::{Gate, Pause};
 use crate::service::Service;
@@ -268,6 +268,34 @@ impl Session {
         reply
     }
 
+    // The call's first turn, after its only step where it is a Release.
+    fn first_turn<T: Tree, R: Wait, G: Gate>(
+        &mut self,
+        rt: &R,
+        alloc: Global,
+        service: &Service<T>,
+        gate: &G,
+        number: u64,
+        request: Request,
+    ) -> CallTurn
+        ensures led { LeadsFirst (below_of (root_of self.old) request.flags) request.op self.old self.new (turn_view result) }
+        ensures kept { Keeps (below_of (root_of self.old) request.flags) result }
+    {
+        let released = released_by(&request.op);
+        match (Call::start(alloc, request, self.root()), released) {
+            (CallTurn::More(call), Some(handle)) => {
+                let actor = self.owner.actor;
+                gate.between(Pause {
+                    actor,
+                    call: number,
+                    step: 0,
+                });
+                self.give_back(rt, alloc, service, call, handle)
+            }
+            (turn, _) => turn,
+        }
+    }
+
     // Makes all the call's steps.
     fn carry_out<T: Tree, R: Wait, G: Gate>(
         &mut self,
@@ -280,20 +308,7 @@ impl Session {
     ) -> Reply
         ensures { Made self.old request self.new result }
     {
-        let released = released_by(&request.op);
-        let turn = match (Call::start(alloc, request, self.root()), released) {
-            (CallTurn::More(call), Some(handle)) => {
-                let actor = self.owner.actor;
-                gate.between(Pause {
-                    actor,
-                    call: number,
-                    step: 0,
-                });
-                self.give_back(rt, alloc, service, call, handle)
-            }
-            (turn, _) => turn,
-        };
-        match turn {
+        match self.first_turn(rt, alloc, service, gate, number, request) {
             CallTurn::More(call) => self.drive(rt, alloc, service, gate, number, call),
             CallTurn::Done(reply) => reply,
         }

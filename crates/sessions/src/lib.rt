@@ -9,9 +9,11 @@
 
 mod call;
 mod gate;
+mod open;
 mod service;
 mod session;
 
 pub use gate::{Gate, NoGate, Pause};
+pub use open::{OpenCause, OpenRefusal, SESSIONS_MAX};
 pub use service::Service;
 pub use session::Session;
