@@ -1,3 +1,4 @@
 pub mod Logs
 pub mod Calls
 pub mod Opens
+pub mod Closes

@@ -1,7 +1,7 @@
 -- What a granted handle changes, and what its Close takes back.
-use Rattle.std.proofs.Common.{◌≡◌, ◌≢◌, ℕ, zero, suc, ◌+◌, ◌==◌, ◌<◌, ◌≤◌, Bool, true, false, List, [], ◌∷◌, ◌++◌, length, slice_get, Option, Some, None, Ok, Err, ◌⊎◌, inl, inr, refl, sym, ap, ◌∙◌, subst, le_refl, arith}
-use Rattle.std.specs.Prelude.{Result}
-use Rattle.std.proofs.lemmas.Bool.{eqb-true, eqb-false}
+use Rattle.std.proofs.Common.{◌≡◌, ◌≢◌, ℕ, zero, suc, ◌+◌, ◌==◌, ◌<◌, ◌≤◌, Bool, true, false, List, [], ◌∷◌, ◌++◌, length, slice_get, Option, Some, None, Ok, Err, ◌⊎◌, inl, inr, refl, sym, ap, ◌∙◌, subst, le_refl, append_assoc, nat_lt, if◌then◌else◌, arith}
+use Rattle.std.specs.Prelude.{Result, is_err, OnOk}
+use Rattle.std.proofs.lemmas.Bool.{eqb-true, eqb-false, ltb-true}
 use Rattle.std.proofs.lemmas.Option.{slice_get_past}
 use Rattle.std.proofs.lemmas.List.{length_push}
 use Rattle.path_text.specs.declared.errno.Errno.{Errno}
@@ -14,8 +14,9 @@ use Rattle.tree_model.proofs.Places.{slice_get-last}
 use Rattle.tree_model.proofs.StepLaws.{nodes_are_left, others_handles_stay}
 use Rattle.step_resolver.proofs.Underway.StepOutcomes.{IsMore, with_handle-is_more, Close-is_less}
 use Rattle.sessions.specs.declared.open.OpenCause.{OpenCause}
-use Rattle.sessions.specs.declared.open.OpenCause.TheVariants.{NoMemory}
-use Rattle.sessions.specs.Open.{granted, after_grant, cause_after, root_cause, first_sessions, IsAsItWas, IsOpened, HasRoot}
+use Rattle.sessions.specs.declared.open.OpenCause.TheVariants.{TooManySessions, NoMemory}
+use Rattle.sessions.specs.declared.open.TheConstants.{SESSIONS_MAX}
+use Rattle.sessions.specs.Open.{granted, after_grant, book_cause, cause_after, opening_cause, root_cause, first_sessions, IsAsItWas, IsOpened, HasRoot}
 use Rattle.sessions.specs.Service.{ServiceView}
 use Rattle.sessions.specs.Session.{SessionView, begun}
 
@@ -204,3 +205,53 @@ granted_here s t i h names is = on (grants s i names) refl is
 -- what comes of the roots after it comes of all
 pub with_first : (s t : State) (i : ℕ) (names : List (List ℕ)) (roots : List (List (List ℕ))) → grants s i names ≡ Ok t → granted s i (names ∷ roots) ≡ granted t (suc i) roots
 with_first s t i names roots e = ap (after_grant (λ v. granted v (suc i) roots) i) e
+
+pub as_it_is : (s : State) → IsAsItWas s s
+as_it_is s = (refl, λ a h. refl)
+
+module _ (s t : State) (i a h : ℕ) (names : List (List ℕ)) (others roots : List (List (List ℕ))) (same : a ≡ i) (all : roots ≡ names ∷ others)
+    (is : IsGrant s t (grants s a names) (Ok h)) where
+  here : (grants s i names ≡ Ok t) × (h ≡ length s.handles)
+  here = granted_here s t i h names (subst (λ z. IsGrant s t (grants s z names) (Ok h)) same is)
+
+  longer : length t.handles ≡ suc (length s.handles)
+  longer =
+      let g = grants_so s t i names here.0 in
+      omega (arith, ap (λ (u : State). length u.handles) g.is_more, length_push s.handles (Some (record { actor = i; node = g.node })))
+
+  pub sessions_on : (tag : ℕ) (old mid new : List SessionView) → mid ≡ old ++ begun (record { tag = tag; actor = a }) h ∷ []
+      → new ≡ mid ++ first_sessions tag (i + 1) (length t.handles) others → new ≡ old ++ first_sessions tag i (length s.handles) roots
+  sessions_on tag old mid new one rest =
+      let next : i + 1 ≡ suc i = omega arith in
+      rest ∙ ap (λ ss. ss ++ first_sessions tag (i + 1) (length t.handles) others) one
+      ∙ append_assoc old (begun (record { tag = tag; actor = a }) h ∷ []) (first_sessions tag (i + 1) (length t.handles) others)
+      ∙ ap (λ z. old ++ begun (record { tag = tag; actor = z }) h ∷ first_sessions tag (i + 1) (length t.handles) others) same
+      ∙ ap (λ z. old ++ begun (record { tag = tag; actor = i }) z ∷ first_sessions tag (i + 1) (length t.handles) others) here.1
+      ∙ ap (λ z. old ++ begun (record { tag = tag; actor = i }) (length s.handles) ∷ first_sessions tag z (length t.handles) others) next
+      ∙ ap (λ z. old ++ begun (record { tag = tag; actor = i }) (length s.handles) ∷ first_sessions tag (suc i) z others) longer
+      ∙ ap (λ rs. old ++ first_sessions tag i (length s.handles) rs) (sym all)
+
+  pub cause_on : (lines : ℕ) (cause : OpenCause) → (cause_after (granted t (i + 1) others) lines ≡ Some cause) ⊎ (cause ≡ NoMemory)
+      → (cause_after (granted s i roots) lines ≡ Some cause) ⊎ (cause ≡ NoMemory)
+  cause_on lines cause (inr e) = inr e
+  cause_on lines cause (inl e) =
+      let next : suc i ≡ i + 1 = omega arith in
+      inl (ap (λ rs. cause_after (granted s i rs) lines) all ∙ ap (λ r. cause_after r lines) (with_first s t i names others here.0)
+      ∙ ap (λ z. cause_after (granted t z others) lines) next ∙ e)
+
+  pub back_on : (u after : State) → IsAsItWas t u → after ≡ (outcome u a (Close h)).after → IsAsItWas s after
+  back_on u after back after_is = grant_taken_back s t u after i h names here.0 here.1 back (subst (λ z. after ≡ (outcome u z (Close h)).after) same after_is)
+
+not_less : (a b : ℕ) (q : Bool) → nat_lt a b ≡ q → b ≤ a → q ≡ false
+not_less a b true e le = let less = ltb-true a b e in absurd (omega (arith, less, le))
+not_less a b false e le = refl
+
+pub opening_none : (s opening : State) (roots : List (List (List ℕ))) (lines : ℕ) → length roots ≤ SESSIONS_MAX → granted s 0 roots ≡ Ok opening
+    → book_cause opening lines ≡ None → opening_cause s roots lines ≡ None
+opening_none s opening roots lines few g none =
+    ap (λ (b : Bool). if b then Some TooManySessions else cause_after (granted s 0 roots) lines) (not_less SESSIONS_MAX (length roots) (nat_lt SESSIONS_MAX (length roots)) refl few) ∙ ap (λ r. cause_after r lines) g ∙ none
+
+-- what holds of an Ok, where it is none
+pub when_ok : {X E : Type 0} (r : Result X E) (P : Type 0) → is_err r ≡ false → OnOk r P → P
+when_ok (Ok x) P e p = p
+when_ok (Err x) P e p = cc (e)

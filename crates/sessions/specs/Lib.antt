@@ -2,3 +2,4 @@ pub mod Session
 pub mod Service
 pub mod Call
 pub mod Open
+pub mod Close

@@ -8,11 +8,13 @@
 #![tactic(auto)]
 
 mod call;
+mod close;
 mod gate;
 mod open;
 mod service;
 mod session;
 
+pub use close::{CloseCause, CloseRefusal, Closed, Stopped};
 pub use gate::{Gate, NoGate, Pause};
 pub use open::{OpenCause, OpenRefusal, SESSIONS_MAX};
 pub use service::Service;

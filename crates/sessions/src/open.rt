@@ -1,5 +1,5 @@
 //! Opening a service: a handle for each root, and a book.
-ghost use Rattle.std.specs.Prelude.{◌≡◌, ◌≤◌, ◌+◌, ◌++◌, ◌⊎◌, [], ◌∷◌, None, Some, Ok, OnOk, IfOk, IfErr, length};
+ghost use Rattle.std.specs.Prelude.{◌≡◌, ◌≤◌, ◌+◌, ◌++◌, ◌⊎◌, [], ◌∷◌, None, Some, Ok, OnOk, IfOk, IfErr, IfSome, IfNone, length};
 ghost use Rattle.tree_model.specs.Steps.{outcome};
 ghost use Rattle.tree_model.specs.declared.step.StepOf.TheVariants.{Close as CloseStep};
 ghost use Rattle.sessions.specs.Session.{begun};
@@ -113,6 +113,14 @@ fn take_back<T: Tree>(alloc: Global, refusal: OpenRefusal<T>, actor: Actor, hand
     OpenRefusal { cause, tree }
 }
 
+// The first root, and the others.
+fn first_root(roots: &[Names]) -> Option<(&Names, &[Names])>
+    ensures some { IfSome result (λ found. roots.now ≡ found.0.now ∷ found.1.now) }
+    ensures none { IfNone result (roots.now ≡ []) }
+{
+    roots.split_first()
+}
+
 // Grants the roots from that place on, each to the actor of its place, and opens the book. Where it fails, what was granted
 // here is taken back.
 fn open_from<T: Tree>(
@@ -130,7 +138,7 @@ fn open_from<T: Tree>(
     ensures cause { IfErr result (λ refused. (cause_after (granted (T.state tree) place roots.now) lines ≡ Some refused.cause) ⊎ (refused.cause ≡ OpenCause.NoMemory)) }
     ensures tree { IfErr result (λ refused. IsAsItWas (T.state tree) (T.state refused.tree)) }
 {
-    let Some((names, others)) = roots.split_first() else {
+    let Some((names, others)) = first_root(roots) else {
         return open_book(alloc, tree, lines);
     };
     let mut tree = tree;
@@ -142,14 +150,12 @@ fn open_from<T: Tree>(
             return Err(OpenRefusal { cause, tree });
         }
     };
-    let opened = match add_session(alloc, sessions, Owner { tag, actor }, handle) {
-        Ok(()) => open_from(alloc, tree, others, tag, place + 1, lines, sessions),
-        Err(_) => {
-            let cause = OpenCause::NoMemory;
-            Err(OpenRefusal { cause, tree })
-        }
-    };
-    match opened {
+    if add_session(alloc, sessions, Owner { tag, actor }, handle).is_err() {
+        let cause = OpenCause::NoMemory;
+        let refusal = OpenRefusal { cause, tree };
+        return Err(take_back(alloc, refusal, actor, handle));
+    }
+    match open_from(alloc, tree, others, tag, place + 1, lines, sessions) {
         Ok(opened) => Ok(opened),
         Err(refusal) => Err(take_back(alloc, refusal, actor, handle)),
     }
