@@ -2,3 +2,4 @@ pub mod Logs
 pub mod Calls
 pub mod Opens
 pub mod Closes
+pub mod Threads

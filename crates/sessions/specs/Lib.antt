@@ -3,3 +3,4 @@ pub mod Service
 pub mod Call
 pub mod Open
 pub mod Close
+pub mod Threads

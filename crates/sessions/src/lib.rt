@@ -10,12 +10,18 @@
 mod call;
 mod close;
 mod gate;
+mod laws;
 mod open;
 mod service;
 mod session;
+#[cfg(test)]
+mod tests;
 
 pub use close::{CloseCause, CloseRefusal, Closed, Stopped};
 pub use gate::{Gate, NoGate, Pause};
+pub use laws::{
+    calls_stand_in_order, calls_tell_in_threads, resolve_tells_in_threads, walks_tell_in_threads,
+};
 pub use open::{OpenCause, OpenRefusal, SESSIONS_MAX};
 pub use service::Service;
 pub use session::Session;
