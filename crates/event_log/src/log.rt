@@ -168,6 +168,14 @@ impl EventLog {
         })
     }
 
+    /// Whose event stands at a place, counted from 0. Takes no memory.
+    pub fn actor(&self, at: usize) -> Actor
+        requires { at < length self.now.events }
+        ensures { IfSome (slice_get self.now.events at) (λ event. result ≡ event.actor) }
+    {
+        self.records[at].actor
+    }
+
     /// Whether the event at a place, counted from 0, is that one. Takes no memory.
     pub fn is(&self, at: usize, actor: Actor, step: &Step, answer: &Answer) -> bool
         requires { at < length self.now.events }

@@ -81,7 +81,7 @@ book_more opening s after events more lines count counted room left a step answe
 
 -- ---- the lines that a step needs are enough for its event, and for the Close of what it opens
 
-opened_few : (answer : Answer) → opened_count answer ≤ 1
+pub opened_few : (answer : Answer) → opened_count answer ≤ 1
 opened_few (Opened h x kind) = omega arith
 opened_few (Text text) = omega arith
 opened_few (Names names) = omega arith
@@ -146,7 +146,7 @@ lines_are_enough s a (RemoveFile h n) e = on_entries s a (RemoveFile h n) refl
 lines_are_enough s a (RemoveDir h n) e = on_entries s a (RemoveDir h n) refl
 lines_are_enough s a (Rename h n k m mode) e = on_entries s a (Rename h n k m mode) refl
 
-not_closed : (answer : Answer) (step : StepOf ℕ) → is_close step ≡ false → closed_count answer step ≡ 0
+pub not_closed : (answer : Answer) (step : StepOf ℕ) → is_close step ≡ false → closed_count answer step ≡ 0
 not_closed Done (Close h) e = absurd (false≢true (sym e))
 not_closed Done (Open h n) e = refl
 not_closed Done (Dup h) e = refl

@@ -7,7 +7,7 @@ use Rattle.path_text.specs.declared.errno.Errno.TheVariants.{NotFound, NoMemory,
 use Rattle.path_text.specs.Reading.{Reading}
 use Rattle.path_text.specs.Text.{text_fault, parts_of, begins_with_slash}
 use Rattle.tree_model.specs.declared.answer.Answer.{Answer}
-use Rattle.tree_model.specs.declared.answer.Answer.TheVariants.{Opened, Text}
+use Rattle.tree_model.specs.declared.answer.Answer.TheVariants.{Opened, Text, Refused}
 use Rattle.step_resolver.specs.Asked.{AskedPart, Cur, Up, Named, asked, followed, follows}
 use Rattle.step_resolver.specs.Meaning.{LINKS_MAX, is_too_long}
 use Rattle.walk_plan.specs.Plan.{leads_out}
@@ -186,3 +186,37 @@ nameless_opens_none way (judging handle names rest) e = refl
 nameless_opens_none way (duping rest) e = refl
 nameless_opens_none way (ending handle names rest) e = refl
 nameless_opens_none way (closing h hs after) e = refl
+
+-- ---- refusals
+
+-- a refusal finds no object
+refusal_finds_none : (way : Way) (room : Bool) (walking : Walking) (error : Errno) → FindsNone (take way room walking (Refused error))
+refusal_finds_none way room (opening position own follow n rest) error = not_opened way position own follow n rest error
+refusal_finds_none way room (reading position link rest) error = tt
+refusal_finds_none way room (rising old names rest) error = not_risen way old error
+refusal_finds_none way room (judging new names rest) error = tt
+refusal_finds_none way room (duping rest) error = tt
+refusal_finds_none way room (ending handle names rest) error = tt
+refusal_finds_none way room (closing h hs after) error = closed way hs after
+
+-- so the room for what it brings plays no part
+pub refusal_needs_no_room : (below : Below) (room : Bool) (doing : call.Doing) (error : Errno)
+    → call.take below room doing (Refused error) ≡ call.take below true doing (Refused error)
+refusal_needs_no_room below room (call.walking (opening position own follow n rest) aim) error =
+    same_room below room true aim (take (way_of below aim) room (opening position own follow n rest) (Refused error)) (refusal_finds_none (way_of below aim) room (opening position own follow n rest) error)
+refusal_needs_no_room below room (call.walking (reading position link rest) aim) error =
+    same_room below room true aim (take (way_of below aim) room (reading position link rest) (Refused error)) (refusal_finds_none (way_of below aim) room (reading position link rest) error)
+refusal_needs_no_room below room (call.walking (rising old names rest) aim) error =
+    same_room below room true aim (take (way_of below aim) room (rising old names rest) (Refused error)) (refusal_finds_none (way_of below aim) room (rising old names rest) error)
+refusal_needs_no_room below room (call.walking (judging new names rest) aim) error =
+    same_room below room true aim (take (way_of below aim) room (judging new names rest) (Refused error)) (refusal_finds_none (way_of below aim) room (judging new names rest) error)
+refusal_needs_no_room below room (call.walking (duping rest) aim) error =
+    same_room below room true aim (take (way_of below aim) room (duping rest) (Refused error)) (refusal_finds_none (way_of below aim) room (duping rest) error)
+refusal_needs_no_room below room (call.walking (ending handle names rest) aim) error =
+    same_room below room true aim (take (way_of below aim) room (ending handle names rest) (Refused error)) (refusal_finds_none (way_of below aim) room (ending handle names rest) error)
+refusal_needs_no_room below room (call.walking (closing h hs after) aim) error =
+    same_room below room true aim (take (way_of below aim) room (closing h hs after) (Refused error)) (refusal_finds_none (way_of below aim) room (closing h hs after) error)
+refusal_needs_no_room below room (call.acting wanted step hs) error = refl
+refusal_needs_no_room below room (call.checking old new renaming) error = refl
+refusal_needs_no_room below room (call.closing h hs after) error = refl
+refusal_needs_no_room below room (call.releasing h) error = refl

@@ -1,0 +1,159 @@
+-- A call that is driven is led on by its lines.
+use Rattle.std.proofs.Common.{◌≡◌, ◌⊎◌, ℕ, Bool, true, false, if◌then◌else◌, Some, List, [], ◌∷◌, ◌++◌, refl, sym, ap, ◌∙◌, subst, inl, inr, append-nil, append_assoc}
+use Rattle.path_text.specs.declared.errno.Errno.{Errno}
+use Rattle.path_text.specs.declared.errno.Errno.TheVariants.{BadHandle}
+use Rattle.tree_model.specs.declared.answer.Answer.{Answer}
+use Rattle.tree_model.specs.declared.answer.Answer.TheVariants.{Done, Refused}
+use Rattle.tree_model.specs.declared.answer.Event.{Event}
+use Rattle.tree_model.specs.declared.step.StepOf.TheVariants.{Close}
+use Rattle.step_resolver.specs.Order.{Way, Walking, opening, reading, rising, judging, duping, ending, Line, answered, no_room, not_made, events_of, IsWant}
+use Rattle.step_resolver.specs.Order as walk
+use Rattle.root_ops.specs.declared.below.Below.{Below}
+use Rattle.handles.specs.Objects.{StandingObject}
+use Rattle.root_ops.specs.declared.op.Op.{Op}
+use Rattle.root_ops.specs.declared.op.Op.TheVariants.{Release, Resolve}
+use Rattle.root_ops.specs.Order.{kept, same_owner, starts, Doing, walking, acting, checking, closing, releasing, CallTurn, more, ends, due, take, way_of, IsUnmade, LeadsTo}
+use Rattle.root_ops.specs.declared.op.Request.{Request as RequestTo}
+use Rattle.root_ops.specs.declared.reply.Reply.{Reply as Told}
+use Rattle.root_ops.specs.TurnView.{below_of, StartsTo, TakesTo}
+use Rattle.root_ops.specs.View.{reply_view, IsOwned}
+use Rattle.root_ops.proofs.Handles.OwnEvents.{events_append}
+use Rattle.root_ops.proofs.Rooms.{refusal_needs_no_room}
+use Rattle.sessions.specs.Session.{SessionView}
+use Rattle.sessions.specs.Call.{logs, logs_step, actor_of, root_of, released_by, IsAnswer, Leads, LeadsFirst, Made}
+
+-- ---- steps that weren't made
+
+no_closing : (way : Way) (w : Walking) → ((h : ℕ) → walk.due way w ≡ Close h → ⊥) → walk.is_closing w ≡ false
+no_closing way (opening position own follow n rest) not_close = refl
+no_closing way (reading position link rest) not_close = refl
+no_closing way (rising handle names rest) not_close = refl
+no_closing way (judging handle names rest) not_close = refl
+no_closing way (duping rest) not_close = refl
+no_closing way (ending handle names rest) not_close = refl
+no_closing way (walk.closing h hs after) not_close = absurd (not_close h refl)
+
+-- any step but a Close may be left out for a want
+pub unmade : (below : Below) (doing : Doing) (error : Errno) → IsWant error → ((h : ℕ) → due below doing ≡ Close h → ⊥) → IsUnmade doing error
+unmade below (walking w aim) error want not_close = (want, no_closing (way_of below aim) w not_close)
+unmade below (acting wanted step hs) error want not_close = want
+unmade below (checking old new renaming) error want not_close = want
+unmade below (closing h hs after) error want not_close = absurd (not_close h refl)
+unmade below (releasing h) error want not_close = absurd (not_close h refl)
+
+-- ---- step by step
+
+module _ (below : Below) (old new : SessionView) (doing : Doing) (answer : Answer) (to : CallTurn) where
+  made : (room : Bool) → to ≡ take below room doing answer → new ≡ logs old (record { actor = actor_of old; step = due below doing; answer = answer } ∷ [])
+      → Leads below old (more doing) new to
+  made true taken logged = record { lines = answered (due below doing) answer ∷ []; leads = (refl, sym taken); logged = logged }
+  made false taken logged = record { lines = no_room (due below doing) answer ∷ []; leads = (refl, sym taken); logged = logged }
+
+  left_out : (room : Bool) (error : Errno) → to ≡ take below room doing answer → IsUnmade doing error → answer ≡ Refused error → new ≡ logs old []
+      → Leads below old (more doing) new to
+  left_out room error taken why is_refused logged = record {
+    lines = not_made error ∷ [];
+    leads = (why, sym (taken ∙ ap (take below room doing) is_refused ∙ refusal_needs_no_room below room doing error));
+    logged = logged;
+  }
+
+  pub advanced : IsAnswer below doing old new answer → TakesTo below doing answer to → Leads below old (more doing) new to
+  advanced (inl is) taken = made taken.0 taken.1 is
+  advanced (inr is) taken = left_out taken.0 is.0 taken.1 is.1.0 is.1.1.0 (is.1.1.1 ∙ ap (λ (log : List Event). record { owner = old.owner; root = old.root; log = log; marked = old.marked }) (sym (append-nil old.log)))
+
+leads_on : (below : Below) (lines : List Line) (turn mid : CallTurn) (others : List Line) (end : CallTurn)
+    → LeadsTo below turn lines mid → LeadsTo below mid others end → LeadsTo below turn (lines ++ others) end
+leads_on below [] turn mid others end first onward = subst (λ t. LeadsTo below t others end) (sym first) onward
+leads_on below (answered step answer ∷ lines) (more doing) mid others end first onward =
+    (first.0, leads_on below lines (take below true doing answer) mid others end first.1 onward)
+leads_on below (no_room step answer ∷ lines) (more doing) mid others end first onward =
+    (first.0, leads_on below lines (take below false doing answer) mid others end first.1 onward)
+leads_on below (not_made error ∷ lines) (more doing) mid others end first onward =
+    (first.0, leads_on below lines (take below true doing (Refused error)) mid others end first.1 onward)
+leads_on below (line ∷ lines) (ends reply) mid others end first onward = absurd first
+
+pub led_nowhere : (below : Below) (session : SessionView) (turn : CallTurn) → Leads below session turn session turn
+led_nowhere below session turn = record {
+  lines = [];
+  leads = refl;
+  logged = ap (λ (log : List Event). record { owner = session.owner; root = session.root; log = log; marked = session.marked }) (sym (append-nil session.log));
+}
+
+-- what was logged first, and then what was logged after it
+logged_on : (first second third : SessionView) (es fs : List Event) → second ≡ logs first es → third ≡ logs second fs → third ≡ logs first (es ++ fs)
+logged_on first second third es fs one two =
+    two ∙ ap (λ (s : SessionView). logs s fs) one
+    ∙ ap (λ (log : List Event). record { owner = first.owner; root = first.root; log = log; marked = first.marked }) (append_assoc first.log es fs)
+
+pub led_on : (below : Below) (first second third : SessionView) (from mid to : CallTurn)
+    → Leads below first from second mid → Leads below second mid third to → Leads below first from third to
+led_on below first second third from mid to one two =
+    let same_actor : actor_of second ≡ actor_of first = ap actor_of one.logged in
+    let later = subst (λ (a : ℕ). third ≡ logs second (events_of a two.lines)) same_actor two.logged in
+    record {
+      lines = one.lines ++ two.lines;
+      leads = leads_on below one.lines from mid two.lines to one.leads two.leads;
+      logged = logged_on first second third (events_of (actor_of first) one.lines) (events_of (actor_of first) two.lines) one.logged later
+          ∙ ap (logs first) (sym (events_append (actor_of first) one.lines two.lines));
+    }
+
+-- what was to be released was closed, or wasn't open
+pub gives_back : (below : Below) (old new : SessionView) (doing : Doing) (h : ℕ) (answer : Answer) (to : CallTurn) → doing ≡ releasing h
+    → ((new ≡ logs_step old (Close h) Done) × (answer ≡ Done)) ⊎ ((new ≡ old) × (answer ≡ Refused BadHandle)) → TakesTo below doing answer to
+    → Leads below old (more doing) new to
+gives_back below old new doing h answer to is_release told taken =
+    advanced below old new doing answer to (subst (λ (d : Doing). IsAnswer below d old new answer) (sym is_release) (on told)) taken
+  where
+    on : ((new ≡ logs_step old (Close h) Done) × (answer ≡ Done)) ⊎ ((new ≡ old) × (answer ≡ Refused BadHandle)) → IsAnswer below (releasing h) old new answer
+    on (inl is) = inl (is.0 ∙ ap (logs_step old (Close h)) (sym is.1))
+    on (inr is) = inr (BadHandle, (refl, (is.1, is.0)))
+
+-- ---- the whole call
+
+releases_by : (same : Bool) (standing : StandingObject) (doing : Doing)
+    → more doing ≡ (if same then more (releasing standing.handle) else ends (kept standing)) → doing ≡ releasing standing.handle
+releases_by true standing doing e = cc (e)
+releases_by false standing doing e = cc (e)
+
+begins_releasing : (below : Below) (room : Bool) (standing : StandingObject) (doing : Doing) → more doing ≡ starts below room (Release standing) → doing ≡ releasing standing.handle
+begins_releasing below true standing doing e = releases_by (same_owner standing.owner below.root.owner) standing doing e
+begins_releasing below false standing doing e = releases_by (same_owner standing.owner below.root.owner) standing doing e
+
+-- the call of a Release begins with its Close
+pub is_releasing : (below : Below) (op : Op) (h : ℕ) (doing : Doing) → released_by op ≡ Some h → StartsTo below op (more doing) → doing ≡ releasing h
+is_releasing below (Release standing) h doing is begun = begins_releasing below begun.0 standing doing begun.1 ∙ cc (is)
+is_releasing below (Resolve path) h doing is begun = cc (is)
+is_releasing below op h doing is begun = cc (is)
+
+pub first_nowhere : (below : Below) (op : Op) (session : SessionView) (turn : CallTurn) → StartsTo below op turn → LeadsFirst below op session session turn
+first_nowhere below op session turn begun = record {
+  room = begun.0;
+  led = subst (λ t. Leads below session t session turn) begun.1 (led_nowhere below session turn);
+}
+
+pub first_released : (below v : Below) (op : Op) (old new : SessionView) (doing : Doing) (to : CallTurn) → v ≡ below → StartsTo below op (more doing)
+    → Leads v old (more doing) new to → LeadsFirst below op old new to
+first_released below v op old new doing to same begun led = record {
+  room = begun.0;
+  led = subst (λ t. Leads below old t new to) begun.1 (subst (λ (b : Below). Leads b old (more doing) new to) same led);
+}
+
+-- the first turn was the last
+pub made_at_once : (request : RequestTo) (old new : SessionView) (reply : Told) → LeadsFirst (below_of (root_of old) request.flags) request.op old new (ends (reply_view reply))
+    → IsOwned old.owner reply → Made old request new reply
+made_at_once request old new reply first owned = record { room = first.room; lines = first.led.lines; leads = first.led.leads; logged = first.led.logged; owned = owned }
+
+pub made_on : (request : RequestTo) (v : Below) (old mid new : SessionView) (doing : Doing) (reply : Told) → v ≡ below_of (root_of old) request.flags
+    → LeadsFirst (below_of (root_of old) request.flags) request.op old mid (more doing) → Leads v mid (more doing) new (ends (reply_view reply))
+    → IsOwned v.root.owner reply → Made old request new reply
+made_on request v old mid new doing reply same first led owned =
+    let below = below_of (root_of old) request.flags in
+    let onward : Leads below mid (more doing) new (ends (reply_view reply)) = subst (λ (b : Below). Leads b mid (more doing) new (ends (reply_view reply))) same led in
+    let whole = led_on below old mid new (starts below first.room request.op) (more doing) (ends (reply_view reply)) first.led onward in
+    record {
+      room = first.room;
+      lines = whole.lines;
+      leads = whole.leads;
+      logged = whole.logged;
+      owned = subst (λ (b : Below). IsOwned b.root.owner reply) same owned;
+    }

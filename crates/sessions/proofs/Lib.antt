@@ -1,0 +1,5 @@
+pub mod Logs
+pub mod Calls
+pub mod Opens
+pub mod Closes
+pub mod Threads

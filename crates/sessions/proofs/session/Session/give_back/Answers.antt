@@ -1,0 +1,8 @@
+use Rattle.root_ops.specs.TurnView.{turn_view}
+use Rattle.sessions.proofs.Calls.{gives_back}
+use Rattle.sessions.proofs.session.Session.give_back.Goals as goal
+
+pub returns-clause-led : goal.returns-clause-led
+returns-clause-led g c =
+    gives_back c.args.call.below c.args.self.now c.release-answer.new.self c.args.call.doing c.args.handle c.release-answer.result (turn_view c.take.result)
+    c.requires c.release-answer.ensures c.take.ensures.turn

@@ -1,0 +1,6 @@
+pub mod Session
+pub mod Service
+pub mod Call
+pub mod Open
+pub mod Close
+pub mod Threads

@@ -1,0 +1,41 @@
+//! What the calls of sessions tell in a closed history: laws, each the contract of a function without a body.
+ghost use Rattle.sessions.specs.Threads.{CallsStandInOrder, WalksInThreads, CallsInThreads, ResolvesInThreads};
+
+use root_ops::{calls_tell, quiet_calls_mean};
+use step_resolver::headline;
+
+/// What a session logged by a call stands in the history after all that it had logged before, and before all that it logs
+/// later: a session's calls have one order in the history.
+pub fn calls_stand_in_order()
+    ensures { CallsStandInOrder }
+{}
+
+/// The headline for threads: each walk inside each call of each session tells, in the history that a closed service gives,
+/// what a walk among others tells: what was found was reached part by part at rising own moments, and stood under the
+/// root at its names at the last check; each failure was true; and where no entry that the walk reads is changed by
+/// others meanwhile, the end is what the path means. The root's handle isn't released before.
+pub fn walks_tell_in_threads()
+    ensures { WalksInThreads }
+{
+    headline();
+}
+
+/// In each window of a closed history that has just one call's own events: after a fault the actor's open handles are
+/// those from before, after Opened these and one more, and so on by the law `calls_tell`; and where no other session's
+/// event falls in the window, the reply and the nodes after it are those of the operation done whole.
+pub fn calls_tell_in_threads()
+    ensures { CallsInThreads }
+{
+    calls_tell();
+    quiet_calls_mean();
+}
+
+/// One session's Resolve, outright: what was opened was reached by its path's parts at rising moments of the call and
+/// stood under the root at the names passed at its last check; a fault is the text's, or want of memory, or was true at
+/// moments of the call; and where no entry that the path reads is changed by another session meanwhile, the object or
+/// the error is what the path means (openat2(2), RESOLVE_IN_ROOT).
+pub fn resolve_tells_in_threads()
+    ensures { ResolvesInThreads }
+{
+    headline();
+}

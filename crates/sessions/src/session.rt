@@ -1,0 +1,70 @@
+//! One actor's own side of a service: its root, and the log of its steps.
+ghost use Rattle.std.specs.Prelude.{◌≡◌, ◌≤◌, IfOk, suc};
+ghost use Rattle.sessions.specs.Session.{SessionView, left_open, begun};
+
+use event_log::EventLog;
+use handles::Owner;
+use path_text::NoMemory;
+use std::alloc::Global;
+use std::marker::Model;
+use step_resolver::Root;
+use tree_model::{Actor, HandleNo};
+
+/// One actor of a service, with the root below which its calls walk and the log of its steps. Contracts see these, and
+/// whether a call of it ever found the book full.
+#[derive(Debug, Drop)]
+pub struct Session {
+    pub(crate) owner: Owner,
+    pub(crate) root: HandleNo,
+    pub(crate) log: EventLog,
+    // How many handles the log leaves open, the root's among them; each has room in the log for its Close.
+    pub(crate) open_handles: usize,
+    // How many calls were made, up to the largest number there is.
+    pub(crate) calls: u64,
+    pub(crate) marked: bool,
+}
+
+impl Model for Session {
+    ghost use Rattle.sessions.specs.Session.{SessionView, IsSession};
+
+    ghost Value = { SessionView };
+
+    ghost view = { λ s. record { owner = s.owner; root = s.root; log = s.log.events; marked = s.marked } };
+
+    ghost invariant = { λ s. IsSession s.log.events s.open_handles s.log.room };
+}
+
+impl Session {
+    /// A session without a call yet. NoMemory where the room for the Close of its root was refused.
+    pub(crate) fn begin(alloc: Global, owner: Owner, root: HandleNo) -> Result<Session, NoMemory>
+        ensures { IfOk result (λ session. session ≡ begun owner root) }
+    {
+        let mut log = EventLog::new(alloc);
+        log.reserve(1)?;
+        Ok(Session {
+            owner,
+            root,
+            log,
+            open_handles: 1,
+            calls: 0,
+            marked: false,
+        })
+    }
+
+    /// Whose calls these are: the service's tag, and the session's number.
+    pub fn owner(&self) -> Owner
+        ensures { result ≡ self.now.owner }
+    {
+        self.owner
+    }
+
+    /// The directory below which the calls walk.
+    pub fn root(&self) -> Root
+        ensures { result ≡ record { owner = self.now.owner; handle = self.now.root } }
+    {
+        Root {
+            owner: self.owner,
+            handle: self.root,
+        }
+    }
+}
