@@ -35,10 +35,10 @@ pub goes_on : {A : Type 0} (says : ℕ → Data → Result A ScriptFault) (value
     → k < length values → v ≡ get_or values k v → says k (view v) ≡ Ok x → ys ≡ xs ++ x ∷ [] → IsReadSoFar says values k xs → IsReadSoFar says values (k + 1) ys
 goes_on {A = A} says values k xs v x ys within is said more so_far = subst (λ (zs : List A). IsReadSoFar says values (k + 1) zs) (sym more) (record {
   all =
-    so_far.all
-    ∙ ap (λ (vs : List Value). then_with (each says k (items_view vs)) (λ zs. Ok (xs ++ zs))) (left_at values k v within is)
-    ∙ ap (λ (r : Result A ScriptFault). then_with (then_with r (λ z. then_with (each says (k + 1) (items_view (drop (k + 1) values))) (λ zs. Ok (z ∷ zs)))) (λ zs. Ok (xs ++ zs))) said
-    ∙ regrouped xs x (each says (k + 1) (items_view (drop (k + 1) values)));
+      so_far.all
+      ∙ ap (λ (vs : List Value). then_with (each says k (items_view vs)) (λ zs. Ok (xs ++ zs))) (left_at values k v within is)
+      ∙ ap (λ (r : Result A ScriptFault). then_with (then_with r (λ z. then_with (each says (k + 1) (items_view (drop (k + 1) values))) (λ zs. Ok (z ∷ zs)))) (λ zs. Ok (xs ++ zs))) said
+      ∙ regrouped xs x (each says (k + 1) (items_view (drop (k + 1) values)));
 })
 
 pub stops : {A : Type 0} (says : ℕ → Data → Result A ScriptFault) (values : List Value) (k : ℕ) (xs : List A) (v : Value) (fault : RunFault)

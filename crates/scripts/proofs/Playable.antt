@@ -1,5 +1,7 @@
 -- What a script says can be played, since the checks have passed.
-use Rattle.std.proofs.Common.{◌≡◌, ℕ, ◌+◌, ◌<◌, ◌≤◌, Bool, true, false, List, [], ◌∷◌, length, refl, sym, ap, ◌∙◌, subst, arith, rules, tests}
+use Rattle.std.proofs.Common.{◌≡◌, ℕ, ◌+◌, ◌<◌, ◌≤◌, Bool, true, false, List, [], ◌∷◌, length, refl, sym, ap, ◌∙◌, subst, arith, rules}
+use Rattle.std.proofs.lemmas.Bool.{leb-true, ltb-true}
+use Rattle.std.proofs.lemmas.List.Elements.{All-nil, All-cons}
 use Rattle.std.specs.Prelude.{Option, Some, None, Result, Ok, Err, All, IsOk, nat_lt, nat_le, ◌&&◌, if◌then◌else◌, is_none, option_and_then, codes}
 use Rattle.serde_json.specs.Data.{Data, Items, no_items, item}
 use Rattle.serde_json.specs.Find.{get, as_number, as_u64, as_array, as_object}
@@ -55,22 +57,21 @@ not_refused false f onward y e = e
 
 all_of_each : {A : Type 0} (P : A → Type 0) (says : ℕ → Data → Result A ScriptFault) → ((k : ℕ) (d : Data) (x : A) → says k d ≡ Ok x → P x)
     → (k : ℕ) (items : Items) (xs : List A) → each says k items ≡ Ok xs → All P xs
-all_of_each {A = A} P says holds k no_items xs e = let same : ◌≡◌ {A = List A} [] xs = cc (e) in subst (λ (ys : List A). All P ys) same tt
-all_of_each {A = A} P says holds k (item d ds) xs e = by (passed_then (says k d) _ xs e)
+all_of_each {A = A} P says holds k no_items xs e = let same : ◌≡◌ {A = List A} [] xs = cc (e) in subst (λ (ys : List A). All P ys) same (All-nil P)
+all_of_each {A = A} P says holds k (item d ds) xs e =
+    by (passed_then (says k d) (λ y. then_with (each says (k + 1) ds) (λ ys. Ok (y ∷ ys))) xs e) (all_of_each P says holds (k + 1) ds)
   where
-    by : HasPassed (says k d) (λ y. then_with (each says (k + 1) ds) (λ ys. Ok (y ∷ ys))) xs → All P xs
-    by first = next (passed_then (each says (k + 1) ds) _ xs first.went)
-      where
-        next : HasPassed (each says (k + 1) ds) (λ ys. Ok (first.x ∷ ys)) xs → All P xs
-        next rest =
-            let went = rest.went in
-            let same : first.x ∷ rest.x ≡ xs = cc (went) in
-            subst (λ (ys : List A). All P ys) same (holds k d first.x first.was, all_of_each P says holds (k + 1) ds rest.x rest.was)
+    by : HasPassed (says k d) (λ y. then_with (each says (k + 1) ds) (λ ys. Ok (y ∷ ys))) xs → ((ys : List A) → each says (k + 1) ds ≡ Ok ys → All P ys) → All P xs
+    by first rest_holds =
+        let rest = passed_then (each says (k + 1) ds) (λ ys. Ok (first.x ∷ ys)) xs first.went in
+        let went = rest.went in
+        let same : first.x ∷ rest.x ≡ xs = cc (went) in
+        subst (λ (ys : List A). All P ys) same (All-cons P first.x rest.x (holds k d first.x first.was) (rest_holds rest.x rest.was))
 
 -- ---- roots
 
 root_is_there : (k : ℕ) (found : Result ℕ Errno) (r : ℕ) → root_at k found ≡ Ok r → IsOk found
-root_is_there k (Ok x) r e = tt
+root_is_there k (Ok x) r e = refl
 root_is_there k (Err f) r e = cc (e)
 
 has_root : (nodes : List Inode) (version : Version) (k : ℕ) (d : Data) (plan : ActorPlan) → actor_at nodes version k d ≡ Ok plan → IsOk (directory_at nodes TOP plan.root)
@@ -93,7 +94,7 @@ roots_are nodes version d plans e =
 -- ---- turns
 
 below : (actors k n actor : ℕ) (test : Bool) → nat_lt n actors ≡ test → (if test then Ok n else Err (fault.Turn k)) ≡ Ok actor → actor < actors
-below actors k n actor true is e = let same : n ≡ actor = cc (e) in subst (λ (i : ℕ). i < actors) same (search (rules, tests))
+below actors k n actor true is e = let same : n ≡ actor = cc (e) in subst (λ (i : ℕ). i < actors) same (ltb-true n actors is)
 below actors k n actor false is e = cc (e)
 
 is_turn : (actors k : ℕ) (d : Data) (actor : ℕ) → turn_at actors k d ≡ Ok actor → actor < actors
@@ -102,7 +103,7 @@ is_turn actors k d actor e =
     below actors k there.x actor (nat_lt there.x actors) refl there.went
 
 turns_by : (actors : ℕ) (said : Option Data) (schedule : List ℕ) → schedule_by actors said ≡ Ok schedule → All (λ actor. actor < actors) schedule
-turns_by actors None schedule e = let same : ◌≡◌ {A = List ℕ} [] schedule = cc (e) in subst (λ (is : List ℕ). All (λ actor. actor < actors) is) same tt
+turns_by actors None schedule e = let same : ◌≡◌ {A = List ℕ} [] schedule = cc (e) in subst (λ (is : List ℕ). All (λ actor. actor < actors) is) same (All-nil (λ actor. actor < actors))
 turns_by actors (Some d) schedule e =
     let listed = was_there (as_array d) fault.Schedule _ schedule e in
     let few = not_refused (are_over TURNS_MAX listed.x) fault.TooManyTurns _ schedule listed.went in
@@ -111,7 +112,7 @@ turns_by actors (Some d) schedule e =
 -- ---- lines
 
 within : (n lines : ℕ) (test : Bool) → nat_le n LINES_MAX ≡ test → (first : Bool) → (if first && test then Some n else None) ≡ Some lines → lines ≤ LINES_MAX
-within n lines true is true e = let same : n ≡ lines = cc (e) in subst (λ (i : ℕ). i ≤ LINES_MAX) same (search (rules, tests))
+within n lines true is true e = let same : n ≡ lines = cc (e) in subst (λ (i : ℕ). i ≤ LINES_MAX) same (leb-true n LINES_MAX is)
 within n lines false is true e = cc (e)
 within n lines test is false e = cc (e)
 

@@ -8,8 +8,7 @@ ghost use Rattle.scripts.specs.Fields.{text_in, list_in, name_in, mode_in, flag_
 use crate::words::mode_of;
 use path_text::{Bytes, Errno, Name, NoMemory};
 use serde_json::Value;
-use std::alloc::Global;
-use std::alloc::AllocError;
+use std::alloc::{AllocError, Global};
 use thiserror::Error;
 use tree_model::Mode;
 

@@ -4,9 +4,9 @@ ghost use Rattle.serde_json.specs.View.{view, items_view};
 ghost use Rattle.scripts.specs.Labels.{takes_label, label_of, labels_from, giver_of, has_good_label, ref_of};
 
 use crate::fields::text_in;
-use race_core::Ref;
 use crate::words::{OpName, op_name_of};
 use path_text::{Bytes, NoMemory};
+use race_core::Ref;
 use serde_json::Value;
 use std::alloc::Global;
 

@@ -3,7 +3,7 @@ ghost use Rattle.std.specs.Prelude.{◌≡◌, [], Ok, IfOk, IfErr, IfSome};
 ghost use Rattle.serde_json.specs.View.{view};
 ghost use Rattle.tree_model.specs.Trees.{IsState};
 ghost use Rattle.scripts.specs.Fault.{IsFaultOf};
-ghost use Rattle.scripts.specs.Scenario.{lines_in, header_of, nodes_in, scenario_of, said_by, said_for, IsReadingFaultOf};
+ghost use Rattle.scripts.specs.Scenario.{lines_in, header_of, nodes_in, scenario_of, said_by, said_for, IsReadingFaultOf, IsPlayable};
 
 use crate::actors::actors_of;
 use crate::calls::{Version, version_in};
@@ -86,6 +86,7 @@ fn plain_tree_of(alloc: Global, script: &Value) -> Result<ListTree, RunFault>
 /// tree, of its actors, each with its calls, and of its schedule; `NoMemory`.
 fn scenario_of(alloc: Global, script: &Value) -> Result<Scenario, RunFault>
     ensures said { IfOk result (λ scenario. scenario_of (view script.now) ≡ Ok (said_by scenario)) }
+    ensures playable { IfOk result (λ scenario. IsPlayable (said_by scenario)) }
     ensures none { IfOk result (λ scenario. scenario.tree.handles ≡ []) }
     ensures tree { IfOk result (λ scenario. IsState scenario.tree) }
     ensures err { IfErr result (IsFaultOf (scenario_of (view script.now))) }
@@ -109,6 +110,7 @@ fn scenario_of(alloc: Global, script: &Value) -> Result<Scenario, RunFault>
 /// of `scenario_of`.
 pub fn read_scenario<R: Read>(alloc: Global, reader: &mut R) -> Result<Scenario, RunFault>
     ensures said { IfOk result (λ scenario. IfSome (R.remaining reader.old) (λ input. said_for input ≡ Ok (said_by scenario))) }
+    ensures playable { IfOk result (λ scenario. IsPlayable (said_by scenario)) }
     ensures none { IfOk result (λ scenario. scenario.tree.handles ≡ []) }
     ensures tree { IfOk result (λ scenario. IsState scenario.tree) }
     ensures err { IfErr result (λ fault. IfSome (R.remaining reader.old) (λ input. IsReadingFaultOf (said_for input) fault)) }

@@ -1,7 +1,7 @@
 //! Walks driven over the plain tree and over the indexed one, step by step, while another actor acts in between.
 use super::{BASE, PLAIN};
-use crate::input::value_of;
 use crate::fields::list_in;
+use crate::input::value_of;
 use crate::script::open_script;
 use crate::tree::list_of;
 use handles::{Owner, Standing};

@@ -104,7 +104,9 @@ fn checks_come_in_their_order(rt: HostRuntime) {
 
 /// A script with these calls of its first actor, after whom another gives the label `B`.
 fn script_of(alloc: Global, version: u8, calls: &str) -> Result<String, AllocError> {
-    format!(in alloc; "{{\"version\":{version},\"tree\":[],\"actors\":[{{\"root\":\"/\",\"calls\":[{calls}]}},{{\"root\":\"/\",\"calls\":[{{\"op\":\"resolve\",\"path\":\"a\",\"as\":\"B\"}}]}}]}}")
+    format!(in alloc;
+        "{{\"version\":{version},\"tree\":[],\"actors\":[{{\"root\":\"/\",\"calls\":[{calls}]}},{{\"root\":\"/\",\"calls\":[{{\"op\":\"resolve\",\"path\":\"a\",\"as\":\"B\"}}]}}]}}"
+    )
 }
 
 /// Which of the first actor's calls is refused, where one is.
@@ -244,7 +246,9 @@ fn is(bytes: &[u8], text: &str) -> bool {
 fn is_as_written(planned: &Planned, at: usize) -> bool {
     match (at, planned) {
         (0, Planned::Call(Request { op, flags })) => {
-            matches!(op, Op::Resolve(path) if is(path.as_slice(), "a")) && flags.beneath && !flags.no_links
+            matches!(op, Op::Resolve(path) if is(path.as_slice(), "a"))
+                && flags.beneath
+                && !flags.no_links
         }
         (1, Planned::Call(Request { op, flags })) => {
             matches!(op, Op::CreateLink(path, text) if is(path.as_slice(), "l") && is(text.as_slice(), "t"))
@@ -255,9 +259,8 @@ fn is_as_written(planned: &Planned, at: usize) -> bool {
             matches!(op, Op::Rename(from, to, Mode::Exchange) if is(from.as_slice(), "l") && is(to.as_slice(), "m"))
         }
         (3, Planned::Single(StepOf::NameBelow(Ref::Root, Ref::Call(0)))) => true,
-        (4, Planned::Single(StepOf::Rename(Ref::Call(0), name, Ref::Root, new, Mode::NoReplace))) => {
-            is(name.bytes(), "n") && is(new.bytes(), "o")
-        }
+        (4, Planned::Single(StepOf::Rename(Ref::Call(0), name, Ref::Root, new, Mode::NoReplace))) =>
+            { is(name.bytes(), "n") && is(new.bytes(), "o") }
         (5, Planned::Release(0)) => true,
         _ => false,
     }
@@ -285,8 +288,9 @@ fn calls_are_as_written(rt: HostRuntime) {
 {"op":"step","step":"below","on":"A"},
 {"op":"step","step":"rename","on":"A","name":"n","to":"root","new":"o","mode":"noreplace"},
 {"op":"release","on":"A"}]}]}"#;
-    let holds = read_scenario(rt.alloc(), &mut script.as_bytes())
-        .is_ok_and(|scenario| are_as_written(&scenario));
+    let holds = read_scenario(rt.alloc(), &mut script.as_bytes()).is_ok_and(
+        |scenario| are_as_written(&scenario),
+    );
     assert!(rt; holds);
 }
 
@@ -316,7 +320,8 @@ fn fault_of_long(
 fn lists_keep_to_their_limits(rt: HostRuntime) {
     let actors = r#"{"version":1,"tree":[],"actors":[{"root":"/","calls":[]}"#;
     let actor = r#",{"root":"/","calls":[]}"#;
-    let calls = r#"{"version":1,"tree":[],"actors":[{"root":"/","calls":[{"op":"remove_file","path":"a"}"#;
+    let calls =
+        r#"{"version":1,"tree":[],"actors":[{"root":"/","calls":[{"op":"remove_file","path":"a"}"#;
     let call = r#",{"op":"remove_file","path":"a"}"#;
     let bad_call = ",7";
     let turns = r#"{"version":1,"tree":[],"actors":[{"root":"/","calls":[]}],"schedule":[0"#;
@@ -332,7 +337,10 @@ fn lists_keep_to_their_limits(rt: HostRuntime) {
         (turns, ",7", TURNS_MAX, "]}", too_many_turns),
     ] {
         let told = fault_of_long(rt.alloc(), front, element, more, end);
-        assert!(rt; told == want.map(RunFault::Script), "{front:?} {more:?} {told:?}");
+        assert!(rt;
+            told == want.map(RunFault::Script),
+            "{front:?} {more:?} {told:?}"
+        );
     }
 }
 

@@ -8,6 +8,7 @@ use Rattle.scripts.specs.Fault.{IsFaultOf}
 use Rattle.scripts.specs.Plans.{actors_of}
 use Rattle.scripts.specs.Scenario.{scenario_of}
 use Rattle.scripts.specs.Schedule.{schedule_of}
+use Rattle.scripts.proofs.Playable.{playable}
 use Rattle.scripts.proofs.Scenarios.{plans_refused, schedule_refused, all_said, few_actors}
 use Rattle.scripts.proofs.scenario.scenario_of.Goals as goal
 
@@ -49,3 +50,9 @@ returns-clause-said c =
     (record { head = c.in_ok-header.ensures.ok; tree = c.in_ok-list.ensures.ok.0 ∙ ap (λ (nodes : List Inode). Ok nodes) tree })
     (subst (λ (nodes : List Inode). actors_of nodes c.in_ok-header.header.version d ≡ Ok c.in_ok-plans.plans.items) (same ∙ tree) c.in_ok-plans.ensures.ok)
     (subst (λ (n : ℕ). schedule_of n d ≡ Ok c.in_ok-schedule.schedule.items) counted c.in_ok-schedule.ensures.ok)
+
+pub returns-clause-playable : goal.returns-clause-playable
+returns-clause-playable c =
+    playable (view c.args.script.now)
+    (record { nodes = c.in_ok-tree.tree.nodes; plans = c.in_ok-plans.plans.items; schedule = c.in_ok-schedule.schedule.items; lines = c.in_ok-header.header.lines })
+    (returns-clause-said c)
