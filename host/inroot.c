@@ -318,17 +318,24 @@ int inroot_rename(int root, const char *old, const char *new, int mode, int flag
 
 /* ---- the jail */
 
+void inroot_jail_done(void)
+{
+    if (jail < 0)
+        return;
+    close(jail);
+    close(jail_links);
+    jail = jail_links = -1;
+}
+
 int inroot_jail(int root)
 {
+    if (jail >= 0)
+        return -EBUSY;
     int links = open("/proc/self/fd", O_PATH | O_DIRECTORY | O_CLOEXEC);
     if (links < 0)
         return -errno;
     int own = fcntl(root, F_DUPFD_CLOEXEC, 0);
     if (own >= 0 && unshare(CLONE_FS) == 0 && fchdir(own) == 0 && chroot(".") == 0) {
-        if (jail >= 0) {
-            close(jail);
-            close(jail_links);
-        }
         jail = own;
         jail_links = links;
         return 0;

@@ -54,9 +54,13 @@ enum { INROOT_PLAIN = 0, INROOT_NOREPLACE = 1, INROOT_EXCHANGE = 2 };
  * that its calls may be given INROOT_JAIL. Other threads keep theirs; a thread that was moved can't be moved back, so that a
  * program keeps a thread for it. Needs CAP_SYS_CHROOT, which unshare(CLONE_NEWUSER) gives, and /proc.
  *
- * Gives 0, or -EBADF or -ENOTDIR where ROOT is no directory's, -EPERM without the capability, -ENOENT without /proc, -EMFILE.
+ * Gives 0; -EBUSY in a thread that was moved already, -ENOENT without /proc, -EMFILE, -EBADF or -ENOTDIR where ROOT is no
+ * directory's, -EPERM without the capability.
  */
 int inroot_jail(int root);
+
+/* Closes the two descriptors that inroot_jail() keeps for the calling thread, before it ends. It stays below the root. */
+void inroot_jail_done(void);
 
 /* Opens what PATH means, as openat2(2) does with O_PATH. Gives a descriptor (O_PATH and O_CLOEXEC). */
 int inroot_open(int root, const char *path, int flags);

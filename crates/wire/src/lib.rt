@@ -17,3 +17,6 @@ mod turns;
 pub use kept::Kept;
 pub use numbers::{Answered, Asked, Told};
 pub use turns::{begin, next};
+
+#[cfg(test)]
+mod tests;
