@@ -52,9 +52,7 @@ fn step_told(step: &Step) -> Told
         StepOf::Dup(handle) => due_told(2, handle.number(), 0, 0, 0, 0),
         StepOf::Parent(handle) => due_told(3, handle.number(), 0, 0, 0, 0),
         StepOf::ReadLink(handle) => due_told(4, handle.number(), 0, 0, 0, 0),
-        StepOf::NameBelow(root, handle) => {
-            due_told(5, handle.number(), root.number(), 0, 0, 0)
-        }
+        StepOf::NameBelow(root, handle) => due_told(5, handle.number(), root.number(), 0, 0, 0),
         StepOf::List(handle) => due_told(6, handle.number(), 0, 0, 0, 0),
         StepOf::Close(handle) => due_told(7, handle.number(), 0, 0, 0, 0),
         StepOf::MakeDir(dir, name) => due_told(8, dir.number(), 0, name.bytes().len(), 0, 0),
@@ -67,9 +65,7 @@ fn step_told(step: &Step) -> Told
             text.as_slice().len(),
             0,
         ),
-        StepOf::RemoveFile(dir, name) => {
-            due_told(11, dir.number(), 0, name.bytes().len(), 0, 0)
-        }
+        StepOf::RemoveFile(dir, name) => due_told(11, dir.number(), 0, name.bytes().len(), 0, 0),
         StepOf::RemoveDir(dir, name) => due_told(12, dir.number(), 0, name.bytes().len(), 0, 0),
         StepOf::Rename(from, old, to, new, mode) => due_told(
             13,
