@@ -2,7 +2,8 @@
  * race: one thread moves directories out of the root and back while others resolve paths with `..` below it. An escape
  * is an object that was never inside. A walk that doesn't ask where it stands is the control, and must be fooled.
  *
- * usage: race DIR SECONDS. Exits 0 with no escape of inroot_open() and at least one of the control.
+ * usage: race DIR SECONDS [swap]. Exits 0 with no escape of inroot_open() and at least one of the control. With `swap` the
+ * root's own directory is exchanged with the one outside and back, too; then the form by /proc claims nothing.
  */
 #define _GNU_SOURCE
 #include "../inroot.h"
@@ -20,8 +21,12 @@
 #include <time.h>
 #include <unistd.h>
 
-static int base, root;
+static int base, root, out;
+static bool swaps;
 static atomic_bool stop;
+
+/* What is outside, whatever its name is by now. */
+static struct stat outside[3];
 static atomic_ulong renames;
 
 /* Who resolves, and what came of it. */
@@ -38,12 +43,11 @@ enum { PATHS = sizeof paths / sizeof *paths };
 
 static bool is_outside(int fd)
 {
-    static const char *const outside[] = {".", "out", "out/secret"};
-    struct stat about, other;
+    struct stat about;
     if (fstat(fd, &about) != 0)
         return false;
     for (size_t at = 0; at < sizeof outside / sizeof *outside; at++)
-        if (fstatat(base, outside[at], &other, 0) == 0 && about.st_ino == other.st_ino && about.st_dev == other.st_dev)
+        if (about.st_ino == outside[at].st_ino && about.st_dev == outside[at].st_dev)
             return true;
     return false;
 }
@@ -106,11 +110,15 @@ static void *move(void *self)
 {
     (void)self;
     while (!stop) {
-        renameat(base, "root/a/b", base, "out/b");
-        renameat(base, "out/b", base, "root/a/b");
-        renameat(base, "root/a/b/c", base, "out/c");
-        renameat(base, "out/c", base, "root/a/b/c");
-        renames += 4;
+        renameat(root, "a/b", out, "b");
+        if (swaps)
+            syscall(SYS_renameat2, base, "root", base, "out", RENAME_EXCHANGE);
+        renameat(out, "b", root, "a/b");
+        renameat(root, "a/b/c", out, "c");
+        if (swaps)
+            syscall(SYS_renameat2, base, "root", base, "out", RENAME_EXCHANGE);
+        renameat(out, "c", root, "a/b/c");
+        renames += swaps ? 6 : 4;
     }
     return NULL;
 }
@@ -123,6 +131,10 @@ static void make_tree(void)
     sure(mknodat(base, "out/secret", S_IFREG | 0600, 0), "out/secret");
     sure(mknodat(base, "root/a/b/f", S_IFREG | 0600, 0), "root/a/b/f");
     root = sure(openat(base, "root", O_PATH | O_DIRECTORY | O_CLOEXEC), "root");
+    out = sure(openat(base, "out", O_PATH | O_DIRECTORY | O_CLOEXEC), "out");
+    sure(fstat(base, &outside[0]), "fstat");
+    sure(fstat(out, &outside[1]), "fstat");
+    sure(fstatat(out, "secret", &outside[2], 0), "out/secret");
 }
 
 int main(int count, char **words)
@@ -135,8 +147,9 @@ int main(int count, char **words)
     };
     enum { THREADS = sizeof resolvers / sizeof *resolvers };
     pthread_t mover, threads[THREADS];
-    if (count != 3)
+    if (count < 3 || count > 4)
         return 2;
+    swaps = count == 4;
     base = sure(open(words[1], O_PATH | O_DIRECTORY | O_CLOEXEC), words[1]);
     make_tree();
     int before = open_descriptors();
@@ -153,6 +166,6 @@ int main(int count, char **words)
     }
     int left = open_descriptors() - before;
     printf("race: %lu renames, %d descriptors left open\n", (unsigned long)renames, left);
-    bool fooled = resolvers[0].escaped || resolvers[1].escaped;
+    bool fooled = resolvers[0].escaped || (resolvers[1].escaped && !swaps);
     return fooled || resolvers[0].opened == 0 || resolvers[1].opened == 0 || resolvers[3].escaped == 0 || left != 0;
 }
