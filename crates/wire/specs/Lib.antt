@@ -1,0 +1,6 @@
+pub use Rattle.root_ops.specs.Order
+pub use Rattle.root_ops.specs.TurnView
+pub use Rattle.root_ops.specs.View
+pub mod Kept
+pub mod Numbers
+pub mod Turns

@@ -1,0 +1,161 @@
+/*
+ * agree: inroot_open() beside openat2(2) on random trees that stand still, half of the cases by /proc and half in a jail.
+ *
+ * usage: agree DIR CASES. Exits 0 where each case agrees: the same object, or the same error. 77: no openat2(2) here.
+ */
+#define _GNU_SOURCE
+#include "../inroot.h"
+#include "support.h"
+
+#include <errno.h>
+#include <fcntl.h>
+#include <linux/openat2.h>
+#include <pthread.h>
+#include <string.h>
+#include <sys/stat.h>
+#include <sys/syscall.h>
+#include <unistd.h>
+
+enum { TREES = 40, NODES = 24, PARTS = 7, NO_OPENAT2 = 77 };
+
+static const char *const names[] = {"a", "b", "c", "d", "e.x"};
+
+static uint64_t state = 0x9e3779b97f4a7c15;
+
+/* A random path, as a text of names, `.`, `..` and slashes. */
+static void random_path(char *text, unsigned most)
+{
+    unsigned parts = 1 + pick(&state, most);
+    *text = 0;
+    if (pick(&state, 6) == 0)
+        strcat(text, "/");
+    for (unsigned at = 0; at < parts; at++) {
+        unsigned kind = pick(&state, 12);
+        strcat(text, kind == 0 ? "." : kind < 4 ? ".." : names[pick(&state, 5)]);
+        if (at + 1 < parts || pick(&state, 8) == 0)
+            strcat(text, pick(&state, 10) == 0 ? "//" : "/");
+    }
+}
+
+/* One more entry in a random directory: mostly directories and links, and now and then what counts as a file. */
+static void add_entry(int root, int *dirs, int *count)
+{
+    char text[256];
+    int dir = dirs[pick(&state, (unsigned)*count)];
+    const char *name = names[pick(&state, 5)];
+    switch (pick(&state, 10)) {
+    case 0: case 1: case 2: case 3:
+        if (mkdirat(dir, name, 0755) == 0)
+            dirs[(*count)++] = sure(openat(dir, name, O_PATH | O_DIRECTORY), "openat");
+        break;
+    case 4: case 5: case 6:
+        random_path(text, 4);
+        symlinkat(text, dir, name);
+        break;
+    case 7:
+        mknodat(dir, name, pick(&state, 2) ? S_IFIFO | 0600 : S_IFSOCK | 0600, 0);
+        break;
+    case 8:
+        linkat(root, "hard", dir, name, 0);
+        break;
+    default:
+        mknodat(dir, name, S_IFREG | 0600, 0);
+    }
+}
+
+static int make_tree(int base, int number)
+{
+    char name[16];
+    int dirs[NODES + 1], count = 1;
+    snprintf(name, sizeof name, "tree%d", number);
+    sure(mkdirat(base, name, 0755), "mkdirat");
+    int root = dirs[0] = sure(openat(base, name, O_PATH | O_DIRECTORY | O_CLOEXEC), "openat");
+    sure(mknodat(root, "hard", S_IFREG | 0600, 0), "mknodat");
+    for (int at = 0; at < NODES; at++)
+        add_entry(root, dirs, &count);
+    while (count > 1)
+        close(dirs[--count]);
+    return root;
+}
+
+/* What openat2(2) gives: it may ask to be called again. */
+static int by_kernel(int root, const char *path, int flags)
+{
+    struct open_how how = {
+        .flags = O_PATH | O_CLOEXEC | (flags & INROOT_NOFOLLOW ? O_NOFOLLOW : 0),
+        .resolve = (flags & INROOT_BENEATH ? RESOLVE_BENEATH : RESOLVE_IN_ROOT) | (flags & INROOT_NO_LINKS ? RESOLVE_NO_SYMLINKS : 0),
+    };
+    long fd;
+    do
+        fd = syscall(SYS_openat2, root, path, &how, sizeof how);
+    while (fd < 0 && errno == EAGAIN);
+    return fd < 0 ? -errno : (int)fd;
+}
+
+static int same_object(int a, int b)
+{
+    struct stat one, other;
+    return fstat(a, &one) == 0 && fstat(b, &other) == 0 && one.st_ino == other.st_ino && one.st_dev == other.st_dev;
+}
+
+/* Whether one case agrees. */
+static int agrees(int root, int asked)
+{
+    char path[256];
+    int flags = (int)pick(&state, 8);
+    random_path(path, PARTS);
+    int wanted = by_kernel(root, path, flags), got = inroot_open(asked, path, flags);
+    int same = wanted < 0 || got < 0 ? wanted == got : same_object(wanted, got);
+    if (!same)
+        printf("%s, flags %d: openat2 %d, inroot_open %d\n", path, flags, wanted, got);
+    if (wanted >= 0)
+        close(wanted);
+    if (got >= 0)
+        close(got);
+    return same;
+}
+
+/* The cases on one tree, and how many differ. */
+struct batch {
+    int root, cases, differ;
+};
+
+static void *by_proc(void *self)
+{
+    struct batch *batch = self;
+    for (int at = 0; at < batch->cases; at++)
+        batch->differ += !agrees(batch->root, batch->root);
+    return NULL;
+}
+
+static void *in_jail(void *self)
+{
+    struct batch *batch = self;
+    errno = -inroot_jail(batch->root);
+    sure(-errno, "inroot_jail");
+    for (int at = 0; at < batch->cases; at++)
+        batch->differ += !agrees(batch->root, INROOT_JAIL);
+    inroot_jail_done();
+    return NULL;
+}
+
+int main(int count, char **words)
+{
+    if (count != 3)
+        return 2;
+    int base = sure(open(words[1], O_PATH | O_DIRECTORY | O_CLOEXEC), words[1]), cases = atoi(words[2]), differ = 0;
+    if (by_kernel(base, ".", 0) == -ENOSYS)
+        return NO_OPENAT2;
+    int before = open_descriptors();
+    for (int tree = 0; tree < TREES; tree++) {
+        struct batch batch = {.root = make_tree(base, tree), .cases = cases / TREES};
+        pthread_t thread;
+        pthread_create(&thread, NULL, tree % 2 ? in_jail : by_proc, &batch);
+        pthread_join(thread, NULL);
+        differ += batch.differ;
+        close(batch.root);
+    }
+    int left = open_descriptors() - before;
+    printf("agreement with openat2: %d cases on %d trees, %d differ, %d descriptors left open\n", cases / TREES * TREES, TREES, differ, left);
+    return differ != 0 || left != 0;
+}

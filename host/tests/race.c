@@ -1,0 +1,171 @@
+/*
+ * race: one thread moves directories out of the root and back while others resolve paths with `..` below it. An escape
+ * is an object that was never inside. A walk that doesn't ask where it stands is the control, and must be fooled.
+ *
+ * usage: race DIR SECONDS [swap]. Exits 0 with no escape of inroot_open() and at least one of the control. With `swap` the
+ * root's own directory is exchanged with the one outside and back, too; then the form by /proc claims nothing.
+ */
+#define _GNU_SOURCE
+#include "../inroot.h"
+#include "support.h"
+
+#include <errno.h>
+#include <fcntl.h>
+#include <linux/openat2.h>
+#include <pthread.h>
+#include <stdatomic.h>
+#include <stdbool.h>
+#include <string.h>
+#include <sys/stat.h>
+#include <sys/syscall.h>
+#include <time.h>
+#include <unistd.h>
+
+static int base, root, out;
+static bool swaps;
+static atomic_bool stop;
+
+/* What is outside, whatever its name is by now. */
+static struct stat outside[3];
+static atomic_ulong renames;
+
+/* Who resolves, and what came of it. */
+struct resolver {
+    const char *name;
+    int (*resolve)(const char *path);
+    bool jailed;
+    unsigned long opened, escaped, raced, failed;
+};
+
+/* Paths that lead to `secret` or above the root only where `..` leads out of it. */
+static const char *const paths[] = {"a/b/c/../../secret", "a/b/../secret", "a/b/c/../../../secret", "a/b/c/d/../../..", "a/b/c/../f"};
+enum { PATHS = sizeof paths / sizeof *paths };
+
+static bool is_outside(int fd)
+{
+    struct stat about;
+    if (fstat(fd, &about) != 0)
+        return false;
+    for (size_t at = 0; at < sizeof outside / sizeof *outside; at++)
+        if (about.st_ino == outside[at].st_ino && about.st_dev == outside[at].st_dev)
+            return true;
+    return false;
+}
+
+static int by_proc(const char *path)
+{
+    return inroot_open(root, path, 0);
+}
+
+static int by_jail(const char *path)
+{
+    return inroot_open(INROOT_JAIL, path, 0);
+}
+
+static int by_kernel(const char *path)
+{
+    struct open_how how = {.flags = O_PATH | O_CLOEXEC, .resolve = RESOLVE_IN_ROOT};
+    long fd = syscall(SYS_openat2, root, path, &how, sizeof how);
+    return fd < 0 ? -errno : (int)fd;
+}
+
+/* The control: each part opened in the one before, without a question. */
+static int unchecked(const char *path)
+{
+    char text[64], *rest = text, *part;
+    int at = fcntl(root, F_DUPFD_CLOEXEC, 0);
+    strcpy(text, path);
+    while (at >= 0 && (part = strsep(&rest, "/")) != NULL) {
+        int next = openat(at, part, O_PATH | O_NOFOLLOW | O_CLOEXEC), error = errno;
+        close(at);
+        at = next;
+        errno = error;
+    }
+    return at < 0 ? -errno : at;
+}
+
+static void *resolve(void *self)
+{
+    struct resolver *me = self;
+    uint64_t state = 88172645463325252u + (uintptr_t)self;
+    if (me->jailed)
+        errno = -inroot_jail(root), sure(-errno, "inroot_jail");
+    while (!stop) {
+        int fd = me->resolve(paths[pick(&state, PATHS)]);
+        if (fd < 0) {
+            me->raced += fd == -EAGAIN;
+            me->failed++;
+            continue;
+        }
+        me->opened++;
+        me->escaped += is_outside(fd);
+        close(fd);
+    }
+    inroot_jail_done();
+    return NULL;
+}
+
+/* Moves a/b and a/b/c out of the root, and back. */
+static void *move(void *self)
+{
+    (void)self;
+    while (!stop) {
+        renameat(root, "a/b", out, "b");
+        if (swaps)
+            syscall(SYS_renameat2, base, "root", base, "out", RENAME_EXCHANGE);
+        renameat(out, "b", root, "a/b");
+        renameat(root, "a/b/c", out, "c");
+        if (swaps)
+            syscall(SYS_renameat2, base, "root", base, "out", RENAME_EXCHANGE);
+        renameat(out, "c", root, "a/b/c");
+        renames += swaps ? 6 : 4;
+    }
+    return NULL;
+}
+
+static void make_tree(void)
+{
+    static const char *const dirs[] = {"root", "out", "root/a", "root/a/b", "root/a/b/c", "root/a/b/c/d"};
+    for (size_t at = 0; at < sizeof dirs / sizeof *dirs; at++)
+        sure(mkdirat(base, dirs[at], 0755), dirs[at]);
+    sure(mknodat(base, "out/secret", S_IFREG | 0600, 0), "out/secret");
+    sure(mknodat(base, "root/a/b/f", S_IFREG | 0600, 0), "root/a/b/f");
+    root = sure(openat(base, "root", O_PATH | O_DIRECTORY | O_CLOEXEC), "root");
+    out = sure(openat(base, "out", O_PATH | O_DIRECTORY | O_CLOEXEC), "out");
+    sure(fstat(base, &outside[0]), "fstat");
+    sure(fstat(out, &outside[1]), "fstat");
+    sure(fstatat(out, "secret", &outside[2], 0), "out/secret");
+}
+
+int main(int count, char **words)
+{
+    struct resolver resolvers[] = {
+        {.name = "inroot_open in a jail", .resolve = by_jail, .jailed = true},
+        {.name = "inroot_open by /proc", .resolve = by_proc},
+        {.name = "openat2", .resolve = by_kernel},
+        {.name = "a walk without a check", .resolve = unchecked},
+    };
+    enum { THREADS = sizeof resolvers / sizeof *resolvers };
+    pthread_t mover, threads[THREADS];
+    if (count < 3 || count > 4)
+        return 2;
+    swaps = count == 4;
+    base = sure(open(words[1], O_PATH | O_DIRECTORY | O_CLOEXEC), words[1]);
+    make_tree();
+    int before = open_descriptors();
+    pthread_create(&mover, NULL, move, NULL);
+    for (int at = 0; at < THREADS; at++)
+        pthread_create(&threads[at], NULL, resolve, &resolvers[at]);
+    sleep((unsigned)atoi(words[2]));
+    stop = true;
+    pthread_join(mover, NULL);
+    for (int at = 0; at < THREADS; at++) {
+        pthread_join(threads[at], NULL);
+        struct resolver *r = &resolvers[at];
+        printf("race: %s: %lu opened, %lu escaped, %lu EAGAIN, %lu failed\n", r->name, r->opened, r->escaped, r->raced, r->failed);
+    }
+    int left = open_descriptors() - before;
+    printf("race: %lu renames, %d descriptors left open\n", (unsigned long)renames, left);
+    bool fooled = resolvers[0].escaped || (resolvers[1].escaped && !swaps);
+    return fooled || resolvers[0].opened == 0 || resolvers[1].opened == 0 || resolvers[3].escaped == 0 || left != 0;
+}
