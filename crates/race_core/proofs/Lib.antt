@@ -1,1 +1,3 @@
 pub mod Booked
+mod Stepping
+mod Starting

@@ -6,10 +6,13 @@
 //! `Book::step`, which tells exactly which refusal comes first, and else makes the step and books it.
 #![tactic(auto)]
 
+mod advance;
 mod book;
 mod laws;
+mod ledger;
 mod plan;
 mod report;
+mod seat;
 #[cfg(test)]
 mod tests;
 
