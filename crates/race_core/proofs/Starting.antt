@@ -1,5 +1,5 @@
 -- The first turn of a call, from what its contract tells of it.
-use Rattle.std.proofs.Common.{◌≡◌, ℕ, suc, ◌+◌, ◌≤◌, ◌<◌, List, [], ◌∷◌, ◌++◌, Bool, true, length, Option, Some, None, refl, sym, ap, subst, ◌∙◌, zero-add, arith}
+use Rattle.std.proofs.Common.{◌≡◌, ℕ, suc, ◌+◌, ◌≤◌, ◌<◌, List, [], ◌∷◌, ◌++◌, Bool, true, length, Option, Some, None, Result, Ok, Err, OnOk, is_some, ◌||◌, ◌⊎◌, inl, inr, refl, sym, ap, subst, ◌∙◌, zero-add, arith}
 use Rattle.path_text.specs.declared.errno.Errno.TheVariants.{BadHandle}
 use Rattle.handles.specs.Objects.{StandingObject}
 use Rattle.step_resolver.specs.declared.walk.Root.{Root}
@@ -12,13 +12,16 @@ use Rattle.root_ops.specs.declared.reply.Reply.TheVariants as reply
 use Rattle.root_ops.specs.View.{CallView, IsOwned, reply_view}
 use Rattle.handles.specs.declared.owner.Owner.{Owner}
 use Rattle.std.proofs.lemmas.List.{reverse-reverse}
+use Rattle.std.proofs.lemmas.Bool.{false≢true}
 use Rattle.root_ops.specs.Order.{starts, steps_left, CallTurn}
 use Rattle.root_ops.specs.TurnView.{below_of, turn_view, Keeps, StartsTo, steps_to_come, STEPS_MAX}
 use Rattle.race_core.specs.declared.plan.Planned.{Planned}
 use Rattle.race_core.specs.Advance.{Advances}
 use Rattle.race_core.specs.Book.{BookedHistory}
-use Rattle.race_core.specs.Turns.{LedgerView, SeatView, outcome_of, ended, Turned, comes, begins, begins_next, turned, request_of, left_by}
-use Rattle.race_core.specs.TurnView.{taken_down, seat_at, IsStarted, IsBegun, Begins, IsComing, Comes, IsTurned, steps_then, turns_of}
+use Rattle.race_core.specs.Ledgers.{LedgerView}
+use Rattle.race_core.specs.declared.seat.Seat.{Seat}
+use Rattle.race_core.specs.Turns.{outcome_of, ended, comes, begins, begins_next, begun, goes_on, request_of, left_by}
+use Rattle.race_core.specs.TurnView.{taken_down, seat_at, IsStarted, IsBegun, Starts, GoesOn, IsTurned, Lowers, is_busy, are_some, steps_of, steps_then, turns_of, turns_left}
 
 -- what was opened is the owner's, and so it is taken down as the order of steps has it
 taken_down_as : (owner : Owner) (ledger : LedgerView) (reply : Reply) → IsOwned owner reply → taken_down ledger reply ≡ ended owner ledger (reply_view reply)
@@ -82,42 +85,88 @@ begun_by old planned others standings request turn next is_request left started 
 pub turn_few : (turn : Outcome) (left : ℕ) → steps_to_come turn < left → steps_then turn < suc left
 turn_few turn left few = omega (arith, few_steps (steps_to_come turn) turn (omega arith), few)
 
--- the call under way went on
-pub went_on : (book : BookedHistory) (ledger : LedgerView) (call : CallView) (old : Option CallView) (book_after : BookedHistory) (turn : Outcome)
-    → Some call ≡ old → Advances book ledger.root.owner.actor call (turn_view turn) book_after → Keeps call.below turn
-    → steps_to_come turn < steps_left call.below call.doing
-    → IsComing book (record { ledger = ledger; doing = old }) book_after (record { ledger = ledger; doing = None }) turn
-went_on book ledger call old book_after turn is made keeps few =
-    subst (λ (o : Option CallView). IsComing book (record { ledger = ledger; doing = o }) book_after (record { ledger = ledger; doing = None }) turn) is
-    (record {
-      luck = made.luck;
-      booked = made.left;
-      seated = seat_comes ledger call.below turn keeps ∙ ap (comes ledger call.below) made.is_turn;
-      none = refl;
-      fewer = omega (arith, turn_few turn (steps_left call.below call.doing) few);
-    })
+-- the seat after a turn was settled
+pub settled_to : (seat new : Seat) (turn : Outcome) → new ≡ seat_at seat.ledger turn → turns_left new ≡ steps_then turn + turns_of seat.ledger.to_come
+settled_to seat new (outcome.More call) is = ap turns_left is
+settled_to seat new (outcome.Done reply) is = ap turns_left is
 
--- the next call was begun, if there is one
-pub went_next : (book : BookedHistory) (old new : LedgerView) (turn : Option Outcome) → Begins old new turn
-    → Comes book (record { ledger = old; doing = None }) book (record { ledger = new; doing = None }) turn
-went_next book old new None begun = (refl, begun.0, refl, ap (λ (l : LedgerView). record { ledger = l; doing = None }) begun.1)
-went_next book old new (Some turn) begun = record {
-  luck = record { step = true; room = begun.room };
-  booked = refl;
-  seated = begun.is;
-  none = refl;
-  fewer = simp zero-add begun.fewer;
+-- the next call was begun
+pub starts_next : (old new : Seat) (ledger : LedgerView) (turn : Outcome) → old.doing ≡ None → IsBegun old.ledger ledger turn → new ≡ seat_at ledger turn → Starts old new
+starts_next old new ledger turn none by settled = record {
+  room = by.room;
+  is = settled ∙ by.is ∙ ap (λ (d : Option CallView). begun by.room old.ledger d) (sym none);
+  fewer = inl (
+      let left = settled_to (record { ledger = ledger; doing = None }) new turn settled in
+      let had : turns_left old ≡ 0 + turns_of old.ledger.to_come = ap (λ (d : Option CallView). steps_of d + turns_of old.ledger.to_come) none in
+      omega (arith, left, had, by.fewer));
 }
 
--- nothing was left to do
-pub idle : (book book_after : BookedHistory) (old new : SeatView) → old.doing ≡ None → old.ledger.to_come ≡ [] → book_after ≡ book → new ≡ old
+-- none is to come
+pub starts_none : (old new : Seat) → old.doing ≡ None → old.ledger.to_come ≡ [] → new ≡ old → Starts old new
+starts_none old new none over same = record {
+  room = true;
+  is = same ∙ ap (λ (d : Option CallView). record { ledger = old.ledger; doing = d }) none
+      ∙ ap (λ (ps : List Planned). begins_next true old.ledger ps) (sym over) ∙ ap (λ (d : Option CallView). begun true old.ledger d) (sym none);
+  fewer = inr (same, ap (λ (d : Option CallView). is_some d || are_some old.ledger.to_come) none ∙ ap (λ (ps : List Planned). are_some ps) over ∙ sym (ap (λ (d : Option CallView). is_some d) none));
+}
+
+-- one is under way
+pub starts_not : (old : Seat) (doing : Option CallView) → old.doing ≡ doing → is_some doing ≡ true → Starts old old
+starts_not old (Some call) under some = record {
+  room = true;
+  is = ap (λ (d : Option CallView). record { ledger = old.ledger; doing = d }) under ∙ ap (λ (d : Option CallView). begun true old.ledger d) (sym under);
+  fewer = inr (refl, ap (λ (d : Option CallView). is_some d || are_some old.ledger.to_come) under ∙ sym (ap (λ (d : Option CallView). is_some d) under));
+}
+starts_not old None under some = absurd (false≢true some)
+
+-- the call under way went on
+pub went_on : (book : BookedHistory) (old new : Seat) (call : CallView) (book_after : BookedHistory) (turn : Outcome)
+    → Some call ≡ old.doing → Advances book old.ledger.root.owner.actor call (turn_view turn) book_after → Keeps call.below turn
+    → steps_to_come turn < steps_left call.below call.doing → new ≡ seat_at old.ledger turn → GoesOn book old book_after new
+went_on book old new call book_after turn is made keeps few settled = record {
+  luck = made.luck;
+  room = made.room;
+  booked = made.left ∙ ap (λ (d : Option CallView). (goes_on made.luck made.room book old.ledger d).book) is;
+  seated = settled ∙ seat_comes old.ledger call.below turn keeps ∙ ap (comes old.ledger call.below) made.is_turn
+      ∙ ap (λ (d : Option CallView). (goes_on made.luck made.room book old.ledger d).seat) is;
+  fewer = inl (
+      let left = settled_to old new turn settled in
+      let had : suc (steps_left call.below call.doing) + turns_of old.ledger.to_come ≡ turns_left old = ap (λ (d : Option CallView). steps_of d + turns_of old.ledger.to_come) is in
+      omega (arith, left, had, turn_few turn (steps_left call.below call.doing) few));
+}
+
+-- none was under way
+pub went_nowhere : (book book_after : BookedHistory) (old new : Seat) → old.doing ≡ None → book_after ≡ book → new ≡ old → GoesOn book old book_after new
+went_nowhere book book_after old new none left same = record {
+  luck = true;
+  room = true;
+  booked = left ∙ ap (λ (d : Option CallView). (goes_on true true book old.ledger d).book) (sym none);
+  seated = same ∙ ap (λ (d : Option CallView). record { ledger = old.ledger; doing = d }) none
+      ∙ ap (λ (d : Option CallView). (goes_on true true book old.ledger d).seat) (sym none);
+  fewer = inr (none, same);
+}
+
+-- one after the other they are a turn
+pub turned_by : (book : BookedHistory) (old middle : Seat) (book_after : BookedHistory) (new : Seat) → Starts old middle → GoesOn book middle book_after new
     → IsTurned book old book_after new
-idle book book_after old new none over same stays = record {
-  luck = record { step = true; room = true };
-  booked = same ∙ sym (ap (λ (t : Turned). t.book) (still old.ledger old.doing none over));
-  seated = stays ∙ sym (ap (λ (t : Turned). t.seat) (still old.ledger old.doing none over) ∙ ap (λ (d : Option CallView). record { ledger = old.ledger; doing = d }) (sym none));
-} where
-  still : (ledger : LedgerView) (doing : Option CallView) → doing ≡ None → ledger.to_come ≡ []
-      → turned (record { step = true; room = true }) book ledger doing ≡ record { book = book; seat = record { ledger = ledger; doing = None } }
-  still ledger None is over = ap (λ (ps : List Planned). record { book = book; seat = begins_next true ledger ps }) over
-  still ledger (Some call) is over = cc
+turned_by book old middle book_after new starts goes = record {
+  luck = record { start = starts.room; step = goes.luck; room = goes.room };
+  booked = goes.booked ∙ ap (λ (s : Seat). (goes_on goes.luck goes.room book s.ledger s.doing).book) starts.is;
+  seated = goes.seated ∙ ap (λ (s : Seat). (goes_on goes.luck goes.room book s.ledger s.doing).seat) starts.is;
+}
+
+pub lowered : (book : BookedHistory) (old middle : Seat) (book_after : BookedHistory) (new : Seat) → Starts old middle → GoesOn book middle book_after new
+    → Lowers old new
+lowered book old middle book_after new starts goes busy = by_cases starts.fewer goes.fewer where
+  by_cases : (turns_left middle < turns_left old) ⊎ ((middle ≡ old) × (is_busy old ≡ is_some old.doing))
+      → (turns_left new < turns_left middle) ⊎ ((middle.doing ≡ None) × (new ≡ middle)) → turns_left new < turns_left old
+  by_cases (inl less) (inl more) = omega (arith, less, more)
+  by_cases (inl less) (inr same) = omega (arith, less, ap turns_left same.1)
+  by_cases (inr same) (inl more) = omega (arith, more, ap turns_left same.0)
+  by_cases (inr same) (inr still) =
+      absurd (false≢true (sym (ap (λ (d : Option CallView). is_some d) still.0) ∙ ap (λ (s : Seat). is_some s.doing) same.0 ∙ sym same.1 ∙ busy))
+
+-- where it is Ok, what follows from that
+pub on_ok : {T E : Type 0} (r : Result T E) (A B : Type 0) → (A → B) → OnOk r A → OnOk r B
+on_ok (Ok value) A B onward h = onward h
+on_ok (Err error) A B onward h = tt

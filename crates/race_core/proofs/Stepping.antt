@@ -60,7 +60,8 @@ module _ (book : BookedHistory) (a : ℕ) (step : StepOf ℕ) where
 pub advanced : (book : BookedHistory) (a : ℕ) (call : CallView) (answer : Answer) (new : BookedHistory) (turn : CallTurn)
     → IsStepped book a (due call.below call.doing) answer new → TakesTo call.below call.doing answer turn → Advances book a call turn new
 advanced book a call answer new turn made taken = record {
-  luck = record { step = made.luck; room = taken.0 };
+  luck = made.luck;
+  room = taken.0;
   is_turn = taken.1 ∙ ap (λ v. take call.below taken.0 call.doing v) made.is_answer;
   left = made.left;
 }

@@ -6,7 +6,7 @@ use Rattle.root_ops.specs.declared.call.CallTurn.{CallTurn as Outcome}
 use Rattle.root_ops.specs.Order.{CallTurn, take, due}
 use Rattle.root_ops.specs.View.{CallView}
 use Rattle.race_core.specs.Book.{BookedHistory}
-use Rattle.race_core.specs.Turns.{Luck, stepped_by}
+use Rattle.race_core.specs.Turns.{stepped_by}
 
 -- the step was made through the book, or there was no memory for it
 pub record IsStepped (old : BookedHistory) (a : ℕ) (step : StepOf ℕ) (answer : Answer) (new : BookedHistory) : Type 0 where
@@ -16,6 +16,7 @@ pub record IsStepped (old : BookedHistory) (a : ℕ) (step : StepOf ℕ) (answer
 
 -- the due step of the call was made so, and its answer taken
 pub record Advances (old : BookedHistory) (a : ℕ) (call : CallView) (turn : CallTurn) (new : BookedHistory) : Type 0 where
-  pub luck : Luck
-  pub is_turn : turn ≡ take call.below luck.room call.doing (stepped_by luck.step old a (due call.below call.doing)).answer
-  pub left : new ≡ (stepped_by luck.step old a (due call.below call.doing)).book
+  pub luck : Bool
+  pub room : Bool
+  pub is_turn : turn ≡ take call.below room call.doing (stepped_by luck old a (due call.below call.doing)).answer
+  pub left : new ≡ (stepped_by luck old a (due call.below call.doing)).book

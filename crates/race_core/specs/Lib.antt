@@ -1,7 +1,8 @@
+pub mod Advance
 pub mod Book
 pub mod BookLaws
-pub mod Advance
-pub mod Turns
+pub mod Ledgers
+pub mod Opening
 pub mod TurnView
-pub mod Seats
+pub mod Turns
 pub mod Worlds

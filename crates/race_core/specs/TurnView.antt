@@ -1,5 +1,5 @@
 -- What the code's values come to, in the words of `Turns`.
-use Rattle.std.specs.Prelude.{◌≡◌, ℕ, ◌+◌, ◌<◌, ◌≤◌, suc, ◌||◌, is_some, List, [], ◌∷◌, ◌++◌, Bool, true, false, Option, Some, None}
+use Rattle.std.specs.Prelude.{◌≡◌, ℕ, ◌+◌, ◌<◌, ◌≤◌, suc, ◌||◌, ◌⊎◌, is_some, List, [], ◌∷◌, ◌++◌, Bool, true, false, Option, Some, None}
 use Rattle.root_ops.specs.declared.call.CallTurn.{CallTurn as Outcome}
 use Rattle.root_ops.specs.declared.call.CallTurn.TheVariants as outcome
 use Rattle.handles.specs.Objects.{StandingObject}
@@ -12,7 +12,9 @@ use Rattle.root_ops.specs.View.{CallView, reply_view}
 use Rattle.step_resolver.specs.declared.walk.Root.{Root}
 use Rattle.race_core.specs.declared.plan.Planned.{Planned}
 use Rattle.race_core.specs.Book.{BookedHistory}
-use Rattle.race_core.specs.Turns.{Luck, LedgerView, SeatView, outcome_of, kept_by, begins, begins_next, turned}
+use Rattle.race_core.specs.Ledgers.{LedgerView}
+use Rattle.race_core.specs.declared.seat.Seat.{Seat}
+use Rattle.race_core.specs.Turns.{Luck, outcome_of, kept_by, begins, begins_next, begun, goes_on, turned}
 
 -- ---- how many turns are to come at most
 
@@ -29,7 +31,7 @@ abbrev pub turns_of : List Planned → ℕ
 turns_of [] = 0
 turns_of (next ∷ others) = suc (suc STEPS_MAX) + turns_of others
 
-abbrev pub turns_left : SeatView → ℕ
+abbrev pub turns_left : Seat → ℕ
 turns_left seat = steps_of seat.doing + turns_of seat.ledger.to_come
 
 abbrev pub are_some : List Planned → Bool
@@ -57,7 +59,7 @@ taken_down ledger reply = record ledger {
 }
 
 -- the seat once its call came to this turn
-abbrev pub seat_at : LedgerView → Outcome → SeatView
+abbrev pub seat_at : LedgerView → Outcome → Seat
 seat_at ledger (outcome.More call) = record { ledger = ledger; doing = Some call }
 seat_at ledger (outcome.Done reply) = record { ledger = taken_down ledger reply; doing = None }
 
@@ -81,29 +83,30 @@ Begins old new (Some turn) = IsBegun old new turn
 
 -- ---- an actor's turn
 
--- a call was begun or went on, and came to this turn
-pub record IsComing (book : BookedHistory) (old : SeatView) (book_after : BookedHistory) (new : SeatView) (turn : Outcome) : Type 0 where
-  pub luck : Luck
-  pub booked : book_after ≡ (turned luck book old.ledger old.doing).book
-  pub seated : seat_at new.ledger turn ≡ (turned luck book old.ledger old.doing).seat
-  pub none : new.doing ≡ None
-  pub fewer : steps_then turn + turns_of new.ledger.to_come < turns_left old
+-- a call is under way or to come
+abbrev pub is_busy : Seat → Bool
+is_busy seat = is_some seat.doing || are_some seat.ledger.to_come
 
--- so it was, or nothing was left to do
-abbrev pub Comes : BookedHistory → SeatView → BookedHistory → SeatView → Option Outcome → Type 0
-Comes book old book_after new None = (old.doing ≡ None) × (old.ledger.to_come ≡ []) × (book_after ≡ book) × (new ≡ old)
-Comes book old book_after new (Some turn) = IsComing book old book_after new turn
+-- the next call was begun where none was under way, with memory or without; then fewer turns are left
+pub record Starts (old new : Seat) : Type 0 where
+  pub room : Bool
+  pub is : new ≡ begun room old.ledger old.doing
+  pub fewer : (turns_left new < turns_left old) ⊎ ((new ≡ old) × (is_busy old ≡ is_some old.doing))
+
+-- the due step of the call under way was made, as luck has it; then fewer turns are left
+pub record GoesOn (book : BookedHistory) (old : Seat) (book_after : BookedHistory) (new : Seat) : Type 0 where
+  pub luck : Bool
+  pub room : Bool
+  pub booked : book_after ≡ (goes_on luck room book old.ledger old.doing).book
+  pub seated : new ≡ (goes_on luck room book old.ledger old.doing).seat
+  pub fewer : (turns_left new < turns_left old) ⊎ ((old.doing ≡ None) × (new ≡ old))
 
 -- the book and the seat are those after a turn, as luck has it
-pub record IsTurned (book : BookedHistory) (old : SeatView) (book_after : BookedHistory) (new : SeatView) : Type 0 where
+pub record IsTurned (book : BookedHistory) (old : Seat) (book_after : BookedHistory) (new : Seat) : Type 0 where
   pub luck : Luck
   pub booked : book_after ≡ (turned luck book old.ledger old.doing).book
   pub seated : new ≡ (turned luck book old.ledger old.doing).seat
 
--- a call is under way or to come
-abbrev pub is_busy : SeatView → Bool
-is_busy seat = is_some seat.doing || are_some seat.ledger.to_come
-
 -- where something was left to do, less is
-abbrev pub Lowers : SeatView → SeatView → Type 0
+abbrev pub Lowers : Seat → Seat → Type 0
 Lowers old new = is_busy old ≡ true → turns_left new < turns_left old

@@ -1,4 +1,4 @@
--- One turn of a world, computed: the next call's start, or one due step of the call under way.
+-- One turn of a world, computed: one due step of the call under way, which is started first where none is.
 use Rattle.std.specs.Prelude.{◌≡◌, ◌||◌, ℕ, List, [], ◌∷◌, ◌++◌, Bool, true, false, if◌then◌else◌, reverse, slice_get, slice_set, slice_index_or, Option, Some, None}
 use Rattle.std.specs.Option.{option_map}
 use Rattle.path_text.specs.declared.errno.Errno.{Errno}
@@ -23,10 +23,13 @@ use Rattle.race_core.specs.declared.plan.Ref.{Ref}
 use Rattle.race_core.specs.declared.plan.Ref.TheVariants as ref
 use Rattle.race_core.specs.declared.report.Outcome.{Outcome}
 use Rattle.race_core.specs.declared.report.Outcome.TheVariants as outcome
+use Rattle.race_core.specs.declared.seat.Seat.{Seat}
+use Rattle.race_core.specs.Ledgers.{LedgerView}
 use Rattle.race_core.specs.Book.{BookedHistory, is_close, refusal, answer_now, booked}
 
--- Whether there was memory for what a turn does: for the step, and for what its answer or a call's beginning brings.
+-- Whether there was memory for what a turn does: for a call's start, for the step, and for what its answer brings.
 pub record Luck : Type 0 where
+  pub start : Bool
   pub step : Bool
   pub room : Bool
 
@@ -49,15 +52,6 @@ stepped_by luck book a step =
     else record { answer = Refused NoMemory; book = book }
 
 -- ---- what an actor has to do, and what came of it
-
--- The root; the calls to come; the outcomes of those that ended, and of each what it opened and still keeps; and what was
--- another owner's to release.
-pub record LedgerView : Type 0 where
-  pub root : Root
-  pub to_come : List Planned
-  pub outcomes : List Outcome
-  pub standings : List (Option StandingObject)
-  pub kept : List StandingObject
 
 -- of an actor that has done nothing yet
 abbrev pub opened_ledger : Root → List Planned → LedgerView
@@ -148,39 +142,42 @@ ended owner ledger reply = record ledger {
 
 -- ---- a turn
 
--- what an actor has to do, and its call under way
-pub record SeatView : Type 0 where
-  pub ledger : LedgerView
-  pub doing : Option CallView
-
 -- a call below that root has come to this
-abbrev pub comes : LedgerView → Below → CallTurn → SeatView
+abbrev pub comes : LedgerView → Below → CallTurn → Seat
 comes ledger below (more doing) = record { ledger = ledger; doing = Some (record { below = below; doing = doing }) }
 comes ledger below (ends reply) = record { ledger = ended below.root.owner ledger reply; doing = None }
 
 -- what a call names isn't held; or it is begun
-abbrev pub begins : Bool → LedgerView → Option Request → SeatView
+abbrev pub begins : Bool → LedgerView → Option Request → Seat
 begins room ledger None = record { ledger = ended ledger.root.owner ledger (fault BadHandle); doing = None }
 begins room ledger (Some request) =
     comes ledger (below_of ledger.root request.flags) (starts (below_of ledger.root request.flags) room request.op)
 
 -- the next call is begun, if one is to come
-abbrev pub begins_next : Bool → LedgerView → List Planned → SeatView
+abbrev pub begins_next : Bool → LedgerView → List Planned → Seat
 begins_next room ledger [] = record { ledger = ledger; doing = None }
 begins_next room ledger (next ∷ others) =
     begins room (record ledger { to_come = others; standings = left_by next ledger.standings }) (request_of ledger.root ledger.standings next)
 
+-- where no call is under way the next one is begun
+abbrev pub begun : Bool → LedgerView → Option CallView → Seat
+begun room ledger None = begins_next room ledger ledger.to_come
+begun room ledger (Some call) = record { ledger = ledger; doing = Some call }
+
 -- the book and the seat after a turn
 pub record Turned : Type 0 where
   pub book : BookedHistory
-  pub seat : SeatView
+  pub seat : Seat
 
--- the due step of a call under way is made, and its answer taken
-abbrev pub goes_on : Luck → BookedHistory → LedgerView → CallView → Turned
-goes_on luck book ledger call =
-    let step = stepped_by luck.step book ledger.root.owner.actor (due call.below call.doing) in
-    record { book = step.book; seat = comes ledger call.below (take call.below luck.room call.doing step.answer) }
+-- the due step of the call under way, if there is one, is made, and its answer taken
+abbrev pub goes_on : Bool → Bool → BookedHistory → LedgerView → Option CallView → Turned
+goes_on luck room book ledger None = record { book = book; seat = record { ledger = ledger; doing = None } }
+goes_on luck room book ledger (Some call) =
+    let step = stepped_by luck book ledger.root.owner.actor (due call.below call.doing) in
+    record { book = step.book; seat = comes ledger call.below (take call.below room call.doing step.answer) }
 
+-- A call that is done at its start is the whole turn.
 abbrev pub turned : Luck → BookedHistory → LedgerView → Option CallView → Turned
-turned luck book ledger None = record { book = book; seat = begins_next luck.room ledger ledger.to_come }
-turned luck book ledger (Some call) = goes_on luck book ledger call
+turned luck book ledger doing =
+    let seat = begun luck.start ledger doing in
+    goes_on luck.step luck.room book seat.ledger seat.doing

@@ -29,7 +29,7 @@ pub(crate) struct Ledger {
 
 impl Model for Ledger {
     ghost use Rattle.std.specs.Vec.Iter.{into_iter_items};
-    ghost use Rattle.race_core.specs.Turns.{LedgerView};
+    ghost use Rattle.race_core.specs.Ledgers.{LedgerView};
 
     ghost Value = { LedgerView };
 
@@ -139,6 +139,14 @@ impl Ledger {
         ensures { result ≡ self.now.root.owner.actor }
     {
         self.root.owner.actor
+    }
+
+    /// The outcomes, and what was another owner's to release.
+    pub(crate) fn into_parts(self) -> (Outcomes, Vec<Standing>)
+        ensures outcomes { result.0 ≡ self.outcomes }
+        ensures kept { result.1.items ≡ self.kept }
+    {
+        (self.outcomes, self.kept)
     }
 
     /// Whether no call is to come.

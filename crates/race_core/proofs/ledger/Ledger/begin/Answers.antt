@@ -4,7 +4,8 @@ use Rattle.std.proofs.lemmas.List.{with_items_is}
 use Rattle.std.specs.Vec.{with_items}
 use Rattle.std.specs.Vec.Iter.{into_iter_items}
 use Rattle.handles.specs.Objects.{StandingObject}
-use Rattle.race_core.specs.Turns.{LedgerView, request_of, left_by}
+use Rattle.race_core.specs.Ledgers.{LedgerView}
+use Rattle.race_core.specs.Turns.{request_of, left_by}
 use Rattle.race_core.specs.TurnView.{IsBegun}
 use Rattle.race_core.proofs.Starting.{begun_by}
 use Rattle.race_core.proofs.ledger.Ledger.begin.Goals as goal
