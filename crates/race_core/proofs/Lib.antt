@@ -1,1 +1,5 @@
 pub mod Booked
+mod Stepping
+mod Starting
+mod Running
+mod Granting

@@ -1,19 +1,33 @@
-//! A tree that several actors take steps on, and the history of all their steps.
+//! A tree that several actors take steps on, and the history of all their steps; and worlds, in which actors make planned
+//! calls by a schedule.
 //!
 //! A `Book` takes one step at a time and keeps it, with its actor and its answer, as the next line of a history that is
 //! legal at every moment: its tree is always the one that the events lead to from the opening tree. Each open handle
 //! has a line kept for its Close, which takes no memory, so that whoever opened it can close it. The layers above use
 //! `Book::step`, which tells exactly which refusal comes first, and else makes the step and books it.
+//!
+//! A `World` has actors with planned calls below their roots, and takes one due step of an actor's call a turn, through its
+//! book. What a turn is, with memory as luck has it, is computed in `specs/Turns.antt`; `World::run` gives the report on a
+//! run of such turns (`specs/Worlds.antt`): those of the schedule, and then each actor's to its end.
 #![tactic(auto)]
 
+mod advance;
 mod book;
 mod laws;
+mod ledger;
+mod opening;
 mod plan;
 mod report;
+mod seat;
+mod world;
 #[cfg(test)]
 mod tests;
+#[cfg(test)]
+mod world_tests;
 
 pub use book::{Book, LINES_MAX, OpenRefusal};
 pub use laws::free_lines_never_rise;
+pub use opening::ACTORS_MAX;
 pub use plan::{ActorPlan, Planned, Plans, Ref};
 pub use report::{Outcome, Outcomes, Report, WorldFault};
+pub use world::World;

@@ -1,10 +1,12 @@
 //! What each actor of a world is to do.
 ghost use Rattle.std.specs.Prelude.{◌≡◌, [], ◌∷◌, ◌++◌, length, IsTrue, ◌↔◌, OnOk, OnErr};
+ghost use Rattle.std.specs.Vec.Iter.{into_iter_items};
 
 use path_text::{Names, NoMemory};
 use root_ops::Request;
 use std::alloc::Global;
 use std::marker::Model;
+use std::vec::IntoIter;
 use tree_model::StepOf;
 
 /// What a planned step names in place of a handle's number.
@@ -81,6 +83,15 @@ impl Plans {
     {
         self.calls.push(call)?;
         Ok(())
+    }
+}
+
+impl Plans {
+    /// The calls, one after another.
+    pub(crate) fn into_calls(self) -> IntoIter<Planned>
+        ensures { into_iter_items result ≡ self }
+    {
+        self.calls.into_iter()
     }
 }
 

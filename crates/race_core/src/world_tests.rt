@@ -1,0 +1,394 @@
+//! Worlds: plans as lines of text, and what is told of the report as lines too.
+use crate::*;
+use path_text::{Bytes, Errno, Flags, Name, Names, NoMemory};
+use root_ops::{Op, Request};
+use std::alloc::Global;
+use std::test::Fail;
+use transcript::{Output, read_step};
+use tree_list::{Entry, ListTree, New};
+use tree_model::{Actor, HandleNo, Step, StepOf, Tree};
+use tree_slab::SlabTree;
+
+// Entry k is node k + 1: a directory, a file, or a link with that text.
+const ENTRIES: [(&str, &str); 10] = [
+    ("/c", "dir"),
+    ("/c/a", "dir"),
+    ("/c/a/b", "dir"),
+    ("/c/a/b/f", "file"),
+    ("/c/abs", "/a/b"),
+    ("/c/up", "../../a"),
+    ("/c/loop", "loop"),
+    ("/c/dang", "none/x"),
+    ("/secret", "dir"),
+    ("/secret/key", "file"),
+];
+
+fn names_of(alloc: Global, path: &str) -> Result<Names, Errno> {
+    let mut names = Names::new(alloc);
+    for name in path.split('/').filter(|name| !name.is_empty()) {
+        names.push(Name::new(alloc, name.as_bytes())?)?;
+    }
+    Ok(names)
+}
+
+fn entry(alloc: Global, path: &str, what: &str) -> Result<Entry, Errno> {
+    let what = match what {
+        "dir" => New::Dir,
+        "file" => New::File,
+        text => New::Link(Bytes::from_slice(alloc, text.as_bytes())?),
+    };
+    let at = names_of(alloc, path)?;
+    Ok(Entry { at, what })
+}
+
+// The base tree, and an empty directory `/c/e`, node 11.
+fn tree(alloc: Global) -> Result<ListTree, Fail> {
+    let mut entries = Vec::new(alloc);
+    for (path, what) in ENTRIES.as_slice() {
+        entries.push(entry(alloc, path, what)?)?;
+    }
+    entries.push(entry(alloc, "/c/e", "dir")?)?;
+    Ok(ListTree::from_entries(alloc, &entries)?)
+}
+
+// In a planned step handle 0 stands for the root, and handle k for what call k - 1 keeps.
+fn at(handle: HandleNo) -> Ref {
+    match handle.number() {
+        0 => Ref::Root,
+        number => Ref::Call(number as usize - 1),
+    }
+}
+
+fn planned_step(step: Step) -> StepOf<Ref> {
+    match step {
+        StepOf::MakeDir(dir, name) => StepOf::MakeDir(at(dir), name),
+        StepOf::MakeFile(dir, name) => StepOf::MakeFile(at(dir), name),
+        StepOf::MakeLink(dir, name, text) => StepOf::MakeLink(at(dir), name, text),
+        StepOf::RemoveFile(dir, name) => StepOf::RemoveFile(at(dir), name),
+        StepOf::RemoveDir(dir, name) => StepOf::RemoveDir(at(dir), name),
+        StepOf::Rename(from, old, to, new, mode) => {
+            StepOf::Rename(at(from), old, at(to), new, mode)
+        }
+        StepOf::List(dir) => StepOf::List(at(dir)),
+        _ => StepOf::Dup(Ref::Root),
+    }
+}
+
+// `resolve PATH`, `release K`, or a step.
+fn planned(alloc: Global, call: &str) -> Result<Planned, NoMemory> {
+    let (word, rest) = call.split_once(' ').unwrap_or((call, ""));
+    Ok(match word {
+        "resolve" => {
+            let flags = Flags::default();
+            let op = Op::Resolve(Bytes::from_slice(alloc, rest.as_bytes())?);
+            Planned::Call(Request { op, flags })
+        }
+        "release" => Planned::Release(if rest == "0" { 0 } else { 1 }),
+        _ => match read_step(alloc, call.as_bytes())? {
+            Some(step) => Planned::Single(planned_step(step)),
+            None => Planned::Release(999),
+        },
+    })
+}
+
+// An actor a line: its root, and its calls after colons.
+fn plans(alloc: Global, lines: &str) -> Result<Vec<ActorPlan>, Fail> {
+    let mut plans = Vec::new(alloc);
+    for line in lines.lines() {
+        let mut parts = line.split(": ");
+        let root = names_of(alloc, parts.next().unwrap_or(""))?;
+        let mut calls = Plans::new(alloc);
+        for call in parts {
+            calls.push(planned(alloc, call)?)?;
+        }
+        plans.push(ActorPlan { root, calls })?;
+    }
+    Ok(plans)
+}
+
+fn outcome_line(alloc: Global, told: &mut Output, outcome: &Outcome) -> Result<(), NoMemory> {
+    match outcome {
+        Outcome::Opened { node, kind, names } => told.opened(alloc, *kind, *node, names),
+        Outcome::Fault(error) => told.fault(*error),
+        Outcome::Text(text) => told.escaped(text.as_slice()),
+        Outcome::Done => told.text("done\n"),
+        Outcome::Count(count) => told.number(*count),
+        Outcome::Stepped(answer) => {
+            told.text("stepped ")?;
+            told.answer(alloc, answer)?;
+            told.text("\n")
+        }
+    }
+}
+
+// How many of the events are the actor's.
+fn own_events(alloc: Global, events: &event_log::EventLog, actor: u32) -> Result<u64, NoMemory> {
+    let mut own = 0u64;
+    for at in 0..events.len() {
+        if events.event(alloc, at)?.actor == Actor::new(actor) {
+            own = own.saturating_add(1);
+        }
+    }
+    Ok(own)
+}
+
+// Of each actor: how many events are its own, how many handles it holds, and its replies, each on a line.
+fn told_of<T: Tree + Drop>(alloc: Global, report: &Report<T>) -> Result<Output, NoMemory> {
+    let mut told = Output::new(alloc);
+    let mut actor = 0u32;
+    for replies in &report.replies {
+        told.number(own_events(alloc, &report.events, actor)?)?;
+        told.text(" held ")?;
+        told.number(report.tree.held(Actor::new(actor)) as u64)?;
+        told.text("\n")?;
+        for outcome in replies.as_slice() {
+            outcome_line(alloc, &mut told, outcome)?;
+        }
+        actor = actor.saturating_add(1);
+    }
+    Ok(told)
+}
+
+// What is told of a world's report, or the fault of its making or its run.
+fn tells<T: Tree + Drop>(
+    alloc: Global,
+    tree: T,
+    lines: &str,
+    schedule: &[u32],
+    room: u32,
+) -> Result<Result<Output, WorldFault>, Fail> {
+    let world = match World::new(alloc, tree, plans(alloc, lines)?, room) {
+        Ok(world) => world,
+        Err(fault) => return Ok(Err(fault)),
+    };
+    match world.run(alloc, schedule) {
+        Ok(report) => Ok(Ok(told_of(alloc, &report)?)),
+        Err(fault) => Ok(Err(fault)),
+    }
+}
+
+// Whether what is told begins so.
+fn is_told(told: &Result<Output, WorldFault>, wanted: &str) -> bool {
+    match told {
+        Ok(told) => told.as_slice().starts_with(wanted.as_bytes()),
+        Err(_) => false,
+    }
+}
+
+// Whether that is told on the plain tree and on the indexed one.
+fn both_tell(
+    alloc: Global,
+    lines: &str,
+    schedule: &[u32],
+    room: u32,
+    wanted: &str,
+) -> Result<bool, Fail> {
+    let list = tree(alloc)?;
+    let slab = SlabTree::from_list(alloc, &list, 4)?;
+    Ok(is_told(&tells(alloc, slab, lines, schedule, room)?, wanted)
+        && is_told(&tells(alloc, list, lines, schedule, room)?, wanted))
+}
+
+const MOVED_OUT: &str = "/c: resolve a/b/..
+: resolve c/a: resolve secret: rename 1 b 2 b plain";
+
+const AND_BACK: &str = "/c: resolve a/b/..
+: resolve c/a: resolve secret: rename 1 b 2 b plain: rename 2 b 1 b plain";
+
+const ELSEWHERE: &str = "/c: resolve a/b/f
+: resolve c: rename 0 secret 0 s2 plain: make_dir 1 z: remove_dir 1 z";
+
+const ROOT_MOVED: &str = "/c: resolve a/b/..
+: resolve secret: rename 0 c 1 c2 plain";
+
+const REMOVED: &str = "/c: resolve e/..
+/c: remove_dir 0 e";
+
+const FILE_INSTEAD: &str = "/c: resolve a/b/f
+/c: resolve a: rename 1 b 0 b2 plain: make_file 1 b";
+
+const LINK_INSTEAD: &str = "/c: resolve a/b/f
+/c: resolve a: rename 1 b 0 b2 plain: make_link 1 b /secret";
+
+const LINK_GONE: &str = "/c: resolve abs/f
+/c: remove_file 0 abs";
+
+// Of each row: the plans, the schedule, and what is told of actor 0.
+const RACES: [(&str, &[u32], &str); 8] = [
+    (MOVED_OUT, &[1, 1, 1, 1, 1, 1, 0, 0, 0, 1], "7 held 1\nfault EAGAIN\n"),
+    (
+        AND_BACK,
+        &[1, 1, 1, 1, 1, 1, 0, 0, 0, 1, 1],
+        "7 held 2\nopened dir 2 /a\n",
+    ),
+    (
+        ELSEWHERE,
+        &[1, 1, 0, 0, 0, 1, 1, 1],
+        "6 held 2\nopened file 4 /a/b/f\n",
+    ),
+    (
+        ROOT_MOVED,
+        &[1, 1, 0, 0, 0, 1],
+        "7 held 2\nopened dir 2 /a\n",
+    ),
+    (REMOVED, &[0, 1], "3 held 1\nfault EAGAIN\n"),
+    (FILE_INSTEAD, &[1, 1, 0, 1, 1], "4 held 1\nfault ENOTDIR\n"),
+    (LINK_INSTEAD, &[1, 1, 0, 1, 1], "6 held 1\nfault ENOENT\n"),
+    (
+        LINK_GONE,
+        &[0, 0, 0, 1],
+        "9 held 2\nopened file 4 /a/b/f\n",
+    ),
+];
+
+#[test]
+fn schedules_are_run(rt: HostRuntime) -> Result<(), Fail> {
+    for (lines, schedule, wanted) in RACES.as_slice() {
+        assert!(rt; both_tell(rt.alloc(), lines, schedule, 1000, wanted)?, "{lines}");
+    }
+    Ok(())
+}
+
+const ALONE: &str = "/c: resolve a/b/f";
+
+#[test]
+fn books_run_full(rt: HostRuntime) -> Result<(), Fail> {
+    for (lines, wanted) in [
+        (8, "6 held 2\nopened file 4 /a/b/f\n"),
+        (7, "6 held 1\nfault ENOSPC\n"),
+        (4, "2 held 1\nfault ENOSPC\n"),
+    ] {
+        assert!(rt; both_tell(rt.alloc(), ALONE, &[], lines, wanted)?, "{lines} lines");
+    }
+    Ok(())
+}
+
+// What is released is kept no more, and a call that names what isn't held makes no step.
+const RELEASES: &str =
+    "/c: resolve a: release 0: release 0: make_dir 1 x: resolve none: list 0: release 999";
+
+#[test]
+fn what_is_kept_is_released(rt: HostRuntime) -> Result<(), Fail> {
+    let wanted = "5 held 1\nopened dir 2 /a\ndone\nfault EBADF\nfault EBADF\nfault ENOENT\nstepped listed 6 a abs dang e loop up\nfault EBADF\n";
+    assert!(rt; both_tell(rt.alloc(), RELEASES, &[], 100, wanted)?);
+    Ok(())
+}
+
+// The fault of a world's making or of its run.
+fn fault(
+    alloc: Global,
+    lines: &str,
+    schedule: &[u32],
+    room: u32,
+) -> Result<Option<WorldFault>, Fail> {
+    Ok(match tells(alloc, tree(alloc)?, lines, schedule, room)? {
+        Ok(_told) => None,
+        Err(fault) => Some(fault),
+    })
+}
+
+#[test]
+fn faults_come_in_order(rt: HostRuntime) -> Result<(), Fail> {
+    let alloc = rt.alloc();
+    for (lines, schedule, room, wanted) in [
+        ("/c\n/c", [5].as_slice(), 9, WorldFault::NoSuchActor(5)),
+        ("/c\n/none", &[], 9, WorldFault::RootNotFound(1)),
+        ("/c/abs\n/none", &[], 9, WorldFault::RootNotDir(0)),
+        ("/c\n/none", &[], 1_000_001, WorldFault::RootNotFound(1)),
+        ("/c", &[], 1_000_001, WorldFault::Invalid),
+        ("/c\n/c", &[], 1, WorldFault::BookFull),
+    ] {
+        assert!(rt; fault(alloc, lines, schedule, room)? == Some(wanted), "{lines}");
+    }
+    Ok(())
+}
+
+// The fault of a world of that many actors, all at `/c`.
+fn fault_of_many(alloc: Global, actors: usize) -> Result<Option<WorldFault>, Fail> {
+    let mut plans = Vec::new(alloc);
+    for _ in 0..actors {
+        let root = names_of(alloc, "/c")?;
+        let calls = Plans::new(alloc);
+        plans.push(ActorPlan { root, calls })?;
+    }
+    let mut world = match World::new(alloc, tree(alloc)?, plans, 100) {
+        Ok(world) => world,
+        Err(fault) => return Ok(Some(fault)),
+    };
+    let turned = world.turn(alloc, 64);
+    let idle = world.turn(alloc, 63);
+    match world.run(alloc, &[]) {
+        Ok(report) if report.replies.len() == actors && idle.is_ok() => Ok(turned.err()),
+        Ok(_) => Ok(None),
+        Err(fault) => Ok(Some(fault)),
+    }
+}
+
+#[test]
+fn too_many_actors_are_refused(rt: HostRuntime) -> Result<(), Fail> {
+    let alloc = rt.alloc();
+    assert!(rt; fault_of_many(alloc, 65)? == Some(WorldFault::TooManyActors));
+    assert!(rt; fault_of_many(alloc, 64)? == Some(WorldFault::NoSuchActor(64)));
+    Ok(())
+}
+
+// One digit of an interleaving for each turn.
+fn schedule_of(alloc: Global, mut bits: u32, turns: u32) -> Result<Vec<u32>, Fail> {
+    let mut schedule = Vec::new(alloc);
+    for _ in 0..turns {
+        schedule.push(bits % 2)?;
+        bits /= 2;
+    }
+    Ok(schedule)
+}
+
+// Whether that is the outcome of actor 0's first call.
+fn is_outcome(told: &Result<Output, WorldFault>, line: &str) -> bool {
+    match told {
+        Ok(told) => {
+            let mut lines = told.as_slice().split(|byte| *byte == b'\n');
+            let _counts = lines.next();
+            lines.next() == Some(line.as_bytes())
+        }
+        Err(_) => false,
+    }
+}
+
+// Whether actor 0 is told one of these, however the turns are interleaved, and each of them once.
+fn all_tell(alloc: Global, lines: &str, turns: u32, own: u32, wanted: &[&str]) -> Result<bool, Fail> {
+    let list = tree(alloc)?;
+    let mut seen = 0u32;
+    for bits in 0..1u32 << turns {
+        if bits.count_ones() != own {
+            continue;
+        }
+        let schedule = schedule_of(alloc, bits, turns)?;
+        let told = tells(alloc, list.copy(alloc)?, lines, &schedule, 1000)?;
+        match wanted.iter().position(|line| is_outcome(&told, line)) {
+            Some(at) => seen |= 1 << at,
+            None => return Ok(false),
+        }
+    }
+    Ok(seen + 1 == 1 << wanted.len())
+}
+
+#[test]
+fn every_schedule_of_a_move(rt: HostRuntime) -> Result<(), Fail> {
+    let wanted = ["opened dir 2 /a", "fault EAGAIN", "fault ENOENT"];
+    assert!(rt; all_tell(rt.alloc(), MOVED_OUT, 14, 7, &wanted)?);
+    Ok(())
+}
+
+#[test]
+fn every_schedule_of_a_file_instead(rt: HostRuntime) -> Result<(), Fail> {
+    let wanted = ["opened file 4 /a/b/f", "fault ENOTDIR", "fault ENOENT", "fault EAGAIN"];
+    assert!(rt; all_tell(rt.alloc(), FILE_INSTEAD, 10, 6, &wanted)?);
+    Ok(())
+}
+
+#[test]
+fn every_schedule_of_a_link_instead(rt: HostRuntime) -> Result<(), Fail> {
+    let wanted = ["opened file 4 /a/b/f", "fault ENOENT", "fault EAGAIN"];
+    assert!(rt; all_tell(rt.alloc(), LINK_INSTEAD, 10, 6, &wanted)?);
+    Ok(())
+}
