@@ -102,6 +102,73 @@ fn checks_come_in_their_order(rt: HostRuntime) {
     }
 }
 
+/// A directory is moved out of the root while it is walked through.
+const MOVED_OUT: &str = r#"{"version":1,
+"tree":[["dir","/c"],["dir","/c/a"],["dir","/c/a/b"],["file","/c/a/b/f"],
+["link","/c/abs","/a/b"],["link","/c/up","../../a"],["link","/c/loop","loop"],
+["link","/c/dang","none/x"],["dir","/secret"],["file","/secret/key"]],
+"actors":[{"root":"/c","calls":[{"op":"resolve","path":"a/b/.."}]},
+{"root":"/","calls":[{"op":"resolve","path":"c/a","as":"A"},
+{"op":"resolve","path":"secret","as":"S"},
+{"op":"step","step":"rename","on":"A","name":"b","to":"S","new":"b"}]}],
+"schedule":[1,1,1,1,1,1,0,0,0,1]}"#;
+
+/// Whether a script is no JSON text.
+fn is_no_json(alloc: Global, script: &[u8]) -> bool {
+    matches!(
+        read_scenario(alloc, &mut &*script),
+        Err(RunFault::Script(ScriptFault::NotJson(_)))
+    )
+}
+
+/// Whether the script is no JSON text where it is cut off anywhere, and is read whole.
+fn is_cut_nowhere(alloc: Global, script: &str) -> bool {
+    let bytes = script.as_bytes();
+    (0..bytes.len()).all(|end| is_no_json(alloc, &bytes[..end]))
+        && counts(alloc, bytes) == Some((LINES_MAX, 2, 10))
+}
+
+#[test]
+fn a_part_of_a_script_is_no_script(rt: HostRuntime) {
+    assert!(rt; is_cut_nowhere(rt.alloc(), MOVED_OUT));
+}
+
+/// How the script is refused with one change, where it is.
+fn fault_of_changed(alloc: Global, old: &str, new: &str) -> Option<RunFault> {
+    let (before, after) = MOVED_OUT.split_once(old)?;
+    let script = format!(in alloc; "{before}{new}{after}").ok()?;
+    read_scenario(alloc, &mut script.as_bytes()).err()
+}
+
+#[test]
+fn one_change_is_told_at_its_place(rt: HostRuntime) {
+    let no_dir = ScriptFault::Actor(0, Cause::Refused(Errno::NotDir));
+    for (old, new, want) in [
+        ("\"version\":1", "\"version\":true", ScriptFault::Version),
+        (
+            "\"version\":1,",
+            "\"version\":1,\"lines\":0,",
+            ScriptFault::Lines,
+        ),
+        ("\"root\":\"/c\"", "\"root\":\"/c/abs\"", no_dir),
+        ("\"path\":\"a/b/..\"", "\"way\":7", ScriptFault::Call(0, 0)),
+        (
+            "\"path\":\"a/b/..\"",
+            "\"path\":\"a\",\"as\":\"root\"",
+            ScriptFault::Call(0, 0),
+        ),
+        ("[1,1,1,1,1,1,0,0,0,1]", "[2]", ScriptFault::Turn(0)),
+        (
+            "\"new\":\"b\"",
+            "\"new\":\"..\"",
+            ScriptFault::Call(1, 2),
+        ),
+    ] {
+        let told = fault_of_changed(rt.alloc(), old, new);
+        assert!(rt; told == Some(RunFault::Script(want)), "{new:?} {told:?}");
+    }
+}
+
 /// A script with these calls of its first actor, after whom another gives the label `B`.
 fn script_of(alloc: Global, version: u8, calls: &str) -> Result<String, AllocError> {
     format!(in alloc;
