@@ -3,3 +3,4 @@ pub use Rattle.path_text.specs.Name
 pub use Rattle.path_text.specs.Print
 pub mod Output
 pub mod Words
+pub mod EscapeLaws

@@ -5,11 +5,13 @@
 //! a step only in the line that it is written as.
 #![tactic(auto)]
 
+mod laws;
 mod output;
 mod reader;
 #[cfg(test)]
 mod tests;
 mod words;
 
+pub use laws::names_are_told_apart;
 pub use output::Output;
 pub use reader::read_step;
