@@ -10,7 +10,7 @@ use std::test::Fail;
 use std::thread;
 use transcript::Output;
 use tree_list::{Entry, ListTree, New};
-use tree_model::{Actor, Mode, Tree};
+use tree_model::{Actor, Answer, Mode, StepOf, Tree};
 
 const PLAIN: Flags = Flags {
     beneath: false,
@@ -336,5 +336,98 @@ fn two_threads_take_turns(rt: HostRuntime) -> Result<(), Fail> {
     let own = (0..closed.events.len()).filter(|at| closed.events.actor(*at) == Actor::new(0));
     assert!(rt; closed.events.len() == 28 && own.count() == 5);
     assert!(rt; (0..3).all(|at| closed.events.actor(at) == Actor::new(0)));
+    Ok(())
+}
+
+/// How many calls each of four sessions makes.
+const ROUNDS: u32 = 700;
+
+// Renames a directory there and back under the others' walks, and opens below it. How many renames were done, and how
+// many replies were none that can come.
+fn mixes<R: Wait>(
+    rt: &R,
+    alloc: Global,
+    service: &Service<ListTree>,
+    session: &mut Session,
+) -> Result<(usize, usize), NoMemory> {
+    let (mut moved, mut odd) = (0usize, 0usize);
+    for round in 0..ROUNDS {
+        let asked = match round % 4 {
+            0 => "rename a z",
+            1 => "resolve a/b/f",
+            2 => "rename z a",
+            _ => "resolve z/b/../b/f",
+        };
+        match session.call(rt, alloc, service, &NoGate, request_of(alloc, asked)?) {
+            Reply::Done => moved = moved.saturating_add(1),
+            Reply::Opened(standing) => {
+                if !is_released(rt, alloc, service, session, standing) {
+                    odd = odd.saturating_add(1);
+                }
+            }
+            Reply::Fault(Errno::NotFound) | Reply::Fault(Errno::Raced) => {}
+            _ => odd = odd.saturating_add(1),
+        }
+    }
+    Ok((moved, odd))
+}
+
+// The same in a thread, whose result is plain.
+fn mixes_there<R: Wait>(
+    rt: &R,
+    alloc: Global,
+    service: &Service<ListTree>,
+    sessions: &mut [Session],
+) -> (usize, usize) {
+    let mut moved = (0, 1);
+    for session in sessions {
+        moved = mixes(rt, alloc, service, session).unwrap_or((0, 1));
+    }
+    moved
+}
+
+// How many of the events were answered otherwise when they are made again on a new tree, and how many renames each actor
+// below 4 did.
+fn made_again(alloc: Global, closed: &Closed<ListTree>) -> Result<(usize, [usize; 4]), Fail> {
+    let mut again = tree(alloc)?;
+    for number in 0..4 {
+        again.grant(alloc, Actor::new(number), &names_of(alloc, "/c")?)?;
+    }
+    let (mut wrong, mut renamed) = (0usize, [0usize; 4]);
+    for at in 0..closed.events.len() {
+        let event = closed.events.event(alloc, at)?;
+        let answer = again.step(alloc, event.actor, &event.step)?;
+        if !answer.same(&event.answer) {
+            wrong = wrong.saturating_add(1);
+        }
+        let actor = event.actor.number() as usize;
+        let is_done = matches!(answer, Answer::Done);
+        if actor < 4 && is_done && matches!(event.step, StepOf::Rename(_, _, _, _, _)) {
+            renamed[actor] = renamed[actor].saturating_add(1);
+        }
+    }
+    Ok((wrong, renamed))
+}
+
+/// Four sessions on four threads: the service closes, the events are those of the step table when they are made again, and
+/// as many renames stand in the history of each as its replies told.
+#[test]
+fn four_threads_close(rt: HostRuntime) -> Result<(), Fail> {
+    let alloc = rt.alloc();
+    let (service, mut sessions) = opened(alloc, &["/c", "/c", "/c", "/c"], 1, 90_000)?;
+    let shared = &service;
+    let (front, back) = sessions.as_mut_slice().split_at_mut(2);
+    let (s0, s1) = front.split_at_mut(1);
+    let (s2, s3) = back.split_at_mut(1);
+    let ((m0, m1), (m2, m3)) = thread::join(
+        &rt,
+        || thread::join(&rt, || mixes_there(&rt, alloc, shared, s0), || mixes_there(&rt, alloc, shared, s1)),
+        || thread::join(&rt, || mixes_there(&rt, alloc, shared, s2), || mixes_there(&rt, alloc, shared, s3)),
+    );
+    assert!(rt; m0.1 == 0 && m1.1 == 0 && m2.1 == 0 && m3.1 == 0);
+    let closed = service.stop().close(sessions)?;
+    let (wrong, renamed) = made_again(alloc, &closed)?;
+    assert!(rt; wrong == 0 && renamed == [m0.0, m1.0, m2.0, m3.0]);
+    assert!(rt; closed.events.len() > 10_000);
     Ok(())
 }
