@@ -54,7 +54,10 @@ void inroot_begin(const struct inroot_asked *asked, const unsigned char *first, 
                   const unsigned char *second, size_t second_length, struct inroot_kept *kept, struct inroot_told *told,
                   unsigned char *room, size_t size);
 
-/* Takes the answer to the step that was told. `kept` holds a call: the one that the last turn left there. */
+/*
+ * Takes the answer to the step that was told. `kept` holds a call: the one that the last turn left there. The bytes, the
+ * room and what is pointed to otherwise are apart from one another, here and above.
+ */
 void inroot_next(struct inroot_kept *kept, const struct inroot_answered *answered, const unsigned char *bytes,
                  size_t length, struct inroot_told *told, unsigned char *room, size_t size);
 

@@ -167,8 +167,8 @@ static struct inroot_answered below_in_jail(struct driver *d, int fd, char *text
     return (struct inroot_answered){.what = ANSWER_NAMES};
 }
 
-/* Makes the step that was told. Its names lie in the room, and what it reads is written there. */
-static struct inroot_answered make(struct driver *d, const struct inroot_told *step, char *room, size_t *length)
+/* Makes the step that was told, whose names lie in the room. What it reads is written to `text`. */
+static struct inroot_answered make(struct driver *d, const struct inroot_told *step, const char *room, char *text, size_t *length)
 {
     static const unsigned int modes[] = {0, RENAME_NOREPLACE, RENAME_EXCHANGE};
     int fd = descriptor(step->handle);
@@ -185,9 +185,9 @@ static struct inroot_answered make(struct driver *d, const struct inroot_told *s
     case STEP_PARENT:
         return parent(d, fd);
     case STEP_READLINK:
-        return read_link(d, fd, room, length);
+        return read_link(d, fd, text, length);
     case STEP_NAME_BELOW:
-        return d->links < 0 ? below_by_links(d, descriptor(step->other), fd, room, length) : below_in_jail(d, fd, room, length);
+        return d->links < 0 ? below_by_links(d, descriptor(step->other), fd, text, length) : below_in_jail(d, fd, text, length);
     case STEP_CLOSE:
         return done_or(d, close(fd));
     case STEP_MAKE_DIR:
@@ -238,14 +238,15 @@ static ssize_t run(int root, const struct request *asked, char *room)
         .no_links = asked->flags & INROOT_NO_LINKS,
     };
     struct inroot_told told;
-    unsigned char *bytes = (unsigned char *)room;
     struct inroot_kept kept = {0};
+    /* Apart from the room, which the library writes to while it reads this. */
+    char text[TEXT_MAX + 1];
     inroot_begin(&numbers, (const unsigned char *)asked->first, strlen(asked->first),
-                 (const unsigned char *)asked->second, strlen(asked->second), &kept, &told, bytes, ROOM);
+                 (const unsigned char *)asked->second, strlen(asked->second), &kept, &told, (unsigned char *)room, ROOM);
     while (told.what < REPLY_OPENED) {
         size_t length;
-        struct inroot_answered answered = make(&d, &told, room, &length);
-        inroot_next(&kept, &answered, bytes, length, &told, bytes, ROOM);
+        struct inroot_answered answered = make(&d, &told, room, text, &length);
+        inroot_next(&kept, &answered, (const unsigned char *)text, length, &told, (unsigned char *)room, ROOM);
     }
     switch (told.what) {
     case REPLY_OPENED:

@@ -15,11 +15,14 @@
  *
  * Every call gives -errno where it fails, and then leaves no descriptor open. In this order:
  *
- *   EINVAL        a flag that is none; PATH has no last name where one is changed, as `a/..`
+ *   EINVAL        a flag that is none; of a rename a mode that is none
+ *   EBADF         ROOT is no descriptor; INROOT_JAIL in a thread that wasn't moved
+ *   ENOMEM        no memory for the call, here or at any step
  *   ENOENT        PATH is empty
- *   ENAMETOOLONG  PATH is longer than 4,095 bytes; a last name is longer than 255
+ *   ENAMETOOLONG  PATH is longer than 4,095 bytes
+ *   EINVAL        the last part of PATH is no name where an entry is changed, as `.`, `..` or none
  *   ENOTDIR       a slash at the end of PATH, where what is no directory is made or removed
- *   ENOMEM        no memory for the call (from here on at any step)
+ *   ENAMETOOLONG  the last name is longer than 255 bytes, where an entry is changed
  *   EXDEV         the path leads out of the root, under INROOT_BENEATH
  *   ENAMETOOLONG  a name on the way is longer than 255 bytes, or a link's text than 4,095
  *   ENOTDIR       what a part stands in is no directory
@@ -51,8 +54,9 @@ enum { INROOT_PLAIN = 0, INROOT_NOREPLACE = 1, INROOT_EXCHANGE = 2 };
 
 /*
  * Gives the calling thread a root directory of its own (unshare(2), CLONE_FS) and changes it to ROOT (chroot(2)), so
- * that its calls may be given INROOT_JAIL. Other threads keep theirs; a thread that was moved can't be moved back, so that a
- * program keeps a thread for it. Needs CAP_SYS_CHROOT, which unshare(CLONE_NEWUSER) gives, and /proc.
+ * that its calls may be given INROOT_JAIL. Other threads keep theirs. A thread that was moved can't be moved back, and its
+ * current directory changes with each call, so that a program keeps a thread for it. Needs /proc, and CAP_SYS_CHROOT,
+ * which unshare(2) with CLONE_NEWUSER gives.
  *
  * Gives 0; -EBUSY in a thread that was moved already, -ENOENT without /proc, -EMFILE, -EBADF or -ENOTDIR where ROOT is no
  * directory's, -EPERM without the capability.
