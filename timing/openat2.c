@@ -2,7 +2,7 @@
  *
  *     openat2 FOLDER        FOLDER is empty, and best on a tmpfs
  *
- * A line for each workload: its name and the nanoseconds of one openat2(2) and close(2), the median of nine rounds. */
+ * A line for each workload: its name and the nanoseconds of one openat2(2) and close(2), the least of fifteen rounds. */
 #define _GNU_SOURCE
 #include <errno.h>
 #include <fcntl.h>
@@ -15,7 +15,7 @@
 #include <time.h>
 #include <unistd.h>
 
-#define ROUNDS 9
+#define ROUNDS 15
 #define ROUND_NANOSECONDS 20e6
 #define NAMES 64
 
@@ -49,7 +49,10 @@ static double time_round(int root, char paths[][128], int count, long resolution
     struct open_how how = {.flags = O_PATH | O_CLOEXEC, .resolve = RESOLVE_IN_ROOT};
     double start = now();
     for (long at = 0; at < resolutions; at++) {
-        int fd = syscall(SYS_openat2, root, paths[at % count], &how, sizeof how);
+        int fd;
+        /* A rename anywhere in the system is enough for EAGAIN where a path has `..`. */
+        do fd = syscall(SYS_openat2, root, paths[at % count], &how, sizeof how);
+        while (fd < 0 && errno == EAGAIN);
         if (fd >= 0)
             close(fd);
         else if (errno != ENOENT)
@@ -58,17 +61,14 @@ static double time_round(int root, char paths[][128], int count, long resolution
     return (now() - start) / resolutions;
 }
 
-static int is_less(const void *a, const void *b) {
-    double x = *(const double *)a, y = *(const double *)b;
-    return (x > y) - (x < y);
-}
-
 static void tell(const char *name, int root, char paths[][128], int count) {
-    double rounds[ROUNDS];
-    long resolutions = ROUND_NANOSECONDS / time_round(root, paths, count, 2000);
-    for (int at = 0; at < ROUNDS; at++) rounds[at] = time_round(root, paths, count, resolutions);
-    qsort(rounds, ROUNDS, sizeof *rounds, is_less);
-    printf("%s\t%.0f\n", name, rounds[ROUNDS / 2]);
+    double least = time_round(root, paths, count, 2000);
+    long resolutions = ROUND_NANOSECONDS / least;
+    for (int at = 0; at < ROUNDS; at++) {
+        double each = time_round(root, paths, count, resolutions);
+        if (each < least) least = each;
+    }
+    printf("%s\t%.0f\n", name, least);
     fflush(stdout);
 }
 
