@@ -3,11 +3,12 @@ use Rattle.std.proofs.Common.{◌≡◌, Bool, true, false, ℕ, zero, suc, ◌+
 use Rattle.std.specs.Prelude.{nat_le, if◌then◌else◌, codes}
 use Rattle.std.proofs.lemmas.Bool.Decides.{nat_tests}
 use Rattle.std.proofs.lemmas.List.{length-append, length-replicate, length-take-le}
+use Rattle.std.proofs.lemmas.Fmt.{length-decimal-le}
 use Rattle.transcript.specs.Words.{BLANK}
 use Rattle.drawings.specs.declared.picture.TheConstants.{ACTORS_MAX}
 use Rattle.drawings.specs.declared.text.TheConstants.{LINE_COLUMNS, MARK_COLUMNS}
 use Rattle.drawings.specs.Cells.{cut, fitted, to_right}
-use Rattle.drawings.specs.DrawingLaws.{RowsFit}
+use Rattle.drawings.specs.DrawingLaws.{RowsFit, MarksFit}
 use Rattle.drawings.specs.Text.{cell_width, cells, row}
 
 -- a fitted text takes its width
@@ -65,3 +66,6 @@ rows_fit (suc (suc zero)) some few mark h shown = omega (arith, length_row 2 mar
 rows_fit (suc (suc (suc zero))) some few mark h shown = omega (arith, length_row 3 mark shown (omega arith) h)
 rows_fit (suc (suc (suc (suc zero)))) some few mark h shown = omega (arith, length_row 4 mark shown (omega arith) h)
 rows_fit (suc (suc (suc (suc (suc more))))) some few mark h shown = absurd (omega (arith, few))
+
+pub marks_fit : MarksFit
+marks_fit moment small = length-decimal-le 6 moment (omega arith) small (omega arith)

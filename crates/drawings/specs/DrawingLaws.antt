@@ -1,7 +1,8 @@
 -- What holds of drawings: statements of laws.
-use Rattle.std.specs.Prelude.{◌≢◌, ◌<◌, ◌≤◌, ◌+◌, ℕ, List, [], ◌∷◌, ◌++◌, length, All, codes}
+use Rattle.std.specs.Prelude.{◌≢◌, ◌<◌, ◌≤◌, ◌+◌, ◌^◌, ℕ, Some, List, [], ◌∷◌, ◌++◌, length, All, codes}
 use Rattle.drawings.specs.declared.picture.TheConstants.{ACTORS_MAX}
 use Rattle.drawings.specs.declared.text.TheConstants.{LINE_COLUMNS, MARK_COLUMNS}
+use Rattle.drawings.specs.Cells.{mark_of}
 use Rattle.drawings.specs.Svg.{xml_text}
 use Rattle.drawings.specs.Text.{row}
 
@@ -28,6 +29,10 @@ pub data IsXmlText : List ℕ → Type 0 where
 -- whatever bytes are to be shown, what stands for them is plain text
 abbrev pub XmlTextIsPlain : Type 0
 XmlTextIsPlain = (bs : List ℕ) → All (λ b. b < 256) bs → IsXmlText (xml_text bs)
+
+-- a moment below a million has room at the beginning of a line
+abbrev pub MarksFit : Type 0
+MarksFit = (moment : ℕ) → moment < 10 ^ 6 → length (mark_of (Some moment)) ≤ MARK_COLUMNS
 
 -- no line of the text form is wider than 100 columns, whatever is shown; one byte more is the newline
 abbrev pub RowsFit : Type 0

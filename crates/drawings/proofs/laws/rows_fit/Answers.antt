@@ -1,5 +1,8 @@
-use Rattle.drawings.proofs.Widths.{rows_fit}
+use Rattle.drawings.proofs.Widths.{rows_fit, marks_fit}
 use Rattle.drawings.proofs.laws.rows_fit.Goals as goal
 
-pub returns : goal.returns
-returns c = rows_fit
+pub returns-clause-rows : goal.returns-clause-rows
+returns-clause-rows c = rows_fit
+
+pub returns-clause-marks : goal.returns-clause-marks
+returns-clause-marks c = marks_fit
