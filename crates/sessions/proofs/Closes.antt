@@ -133,7 +133,7 @@ module _ (a at next : ℕ) (es log : List Event) (within : at < length es) (shor
       let in_log : next < length log = slice_get_within log next e (found ∙ at_e) in (
         omega (arith, in_log),
         ap (λ n. take n log) (sym next_next) ∙ (split_at log next e (found ∙ at_e)).1.1 ∙ ap (λ fs. fs ++ e ∷ []) same ∙ ap (λ fs. own_events a (take at es) ++ fs) (sym one)
-        ∙ sym (filter-append (λ event. event.actor == a) (take at es) (e ∷ [])) ∙ ap (own_events a) (sym (split_at es at e at_e).1.1) ∙ ap (λ n. own_events a (take n es)) next_at,
+            ∙ sym (filter-append (λ event. event.actor == a) (take at es) (e ∷ [])) ∙ ap (own_events a) (sym (split_at es at e at_e).1.1) ∙ ap (λ n. own_events a (take n es)) next_at,
       )
 
   -- its own, which the log lacks
@@ -145,8 +145,8 @@ module _ (a at next : ℕ) (es log : List Event) (within : at < length es) (shor
       let is_b : IsTrue b ↔ (e.actor ≡ a) = subst (λ o. IfSome o (λ event. IsTrue b ↔ (event.actor ≡ a))) at_e who in
       let cut = split_at es at e at_e in
       let whole : own_events a es ≡ take next log ++ e ∷ own_events a cut.0 =
-          ap (own_events a) cut.1.0 ∙ filter-append (λ event. event.actor == a) (take at es) (e ∷ cut.0)
-          ∙ ap (λ fs. own_events a (take at es) ++ fs) (own_one a e cut.0 (is_b.0 own)) ∙ ap (λ fs. fs ++ e ∷ own_events a cut.0) (sym same) in
+      ap (own_events a) cut.1.0 ∙ filter-append (λ event. event.actor == a) (take at es) (e ∷ cut.0)
+      ∙ ap (λ fs. own_events a (take at es) ++ fs) (own_one a e cut.0 (is_b.0 own)) ∙ ap (λ fs. fs ++ e ∷ own_events a cut.0) (sym same) in
       let size : length (take next log) ≡ next = length-take-le next log short in
       lost (ap (λ l. slice_get l next) (all ∙ whole) ∙ ap (slice_get (take next log ++ e ∷ own_events a cut.0)) (sym size) ∙ get-mid (take next log) e (own_events a cut.0) ∙ sym at_e)
 

@@ -188,9 +188,9 @@ module _ (every : EveryWalk) (opening : State) (events : List Event) (session : 
   walk_so first rest end whole leads =
       let a = session.owner.actor in
       let in_two : events_of a lines ++ later ≡ events_of a first ++ (events_of a rest ++ later) =
-          ap (λ ls. events_of a ls ++ later) whole ∙ ap (λ es. es ++ later) (events_append a first rest) ∙ append_assoc (events_of a first) (events_of a rest) later in
+      ap (λ ls. events_of a ls ++ later) whole ∙ ap (λ es. es ++ later) (events_append a first rest) ∙ append_assoc (events_of a first) (events_of a rest) later in
       let told = walk_in_threads every opening events (root_of session) node (way_of_resolve session request) (reading_of path) first end session.log (events_of a rest ++ later)
-          is refl none (own ∙ ap (λ es. session.log ++ es) in_two) leads in
+      is refl none (own ∙ ap (λ es. session.log ++ es) in_two) leads in
       record { walked = told.0; placed = told.1.0; way = told.1.1.0; path_is = told.1.1.1.0; headline = told.1.1.1.1.1 }
 
   by_end : (room : Bool) (first rest : List Line) (end : Turn) → lines ≡ first ++ rest
@@ -227,7 +227,7 @@ pub resolves_in_threads : EveryWalk → ResolvesInThreads
 resolves_in_threads every opening events session after request reply node path later is none is_op called own =
     let made = called.made in
     let log : after.log ≡ session.log ++ events_of session.owner.actor made.lines =
-        ap (λ (s : SessionView). s.log) called.marked ∙ ap (λ (s : SessionView). s.log) made.logged in
+    ap (λ (s : SessionView). s.log) called.marked ∙ ap (λ (s : SessionView). s.log) made.logged in
     let all : own_events session.owner.actor events ≡ session.log ++ (events_of session.owner.actor made.lines ++ later) =
-        own ∙ ap (λ es. es ++ later) log ∙ append_assoc session.log (events_of session.owner.actor made.lines) later in
+    own ∙ ap (λ es. es ++ later) log ∙ append_assoc session.log (events_of session.owner.actor made.lines) later in
     resolve_says every opening events session request reply node path made.lines later is none all request.op made.room is_op made.leads

@@ -104,7 +104,12 @@ fn open_book<T: Tree>(
 }
 
 // Takes a handle back that was granted, from a tree that comes back.
-fn take_back<T: Tree>(alloc: Global, refusal: OpenRefusal<T>, actor: Actor, handle: HandleNo) -> OpenRefusal<T>
+fn take_back<T: Tree>(
+    alloc: Global,
+    refusal: OpenRefusal<T>,
+    actor: Actor,
+    handle: HandleNo,
+) -> OpenRefusal<T>
     ensures cause { result.cause ≡ refusal.cause }
     ensures tree { T.state result.tree ≡ (outcome (T.state refusal.tree) actor (CloseStep handle)).after }
 {

@@ -10,6 +10,7 @@ use tree_model::{Snapshot, Tree};
 
 /// A tree's book under one lock, for so many sessions. Contracts see the tag, the number of sessions and the tree as it
 /// was opened; of the book they know what its type keeps.
+#[derive(Drop)]
 pub struct Service<T: Tree> {
     pub(crate) book: Mutex<Book<T>>,
     pub(crate) tag: u64,

@@ -1,5 +1,6 @@
 //! Services and their sessions, on one thread and on several. What a path means is openat2(2)'s RESOLVE_IN_ROOT.
 use crate::*;
+use event_log::EventLog;
 use handles::Standing;
 use path_text::{Bytes, Errno, Flags, Name, Names, NoMemory};
 use root_ops::{Op, Reply, Request};
@@ -126,18 +127,12 @@ fn is_told<R: Wait, G: Gate>(
 }
 
 // Why a service isn't opened, and how many handles actor 0 has in the tree that comes back.
-fn refused(
-    alloc: Global,
-    paths: &[&str],
-    lines: u32,
-) -> Result<Option<(OpenCause, usize)>, Fail> {
+fn refused(alloc: Global, paths: &[&str], lines: u32) -> Result<Option<(OpenCause, usize)>, Fail> {
     let roots = roots_of(alloc, paths)?;
-    Ok(
-        match Service::open(alloc, tree(alloc)?, &roots, 1, lines) {
-            Ok(_opened) => None,
-            Err(refusal) => Some((refusal.cause, refusal.tree.held(Actor::new(0)))),
-        },
-    )
+    Ok(match Service::open(alloc, tree(alloc)?, &roots, 1, lines) {
+        Ok(_opened) => None,
+        Err(refusal) => Some((refusal.cause, refusal.tree.held(Actor::new(0)))),
+    })
 }
 
 #[test]
@@ -166,7 +161,15 @@ fn full_book<R: Wait>(rt: &R, alloc: Global) -> Result<(bool, Option<usize>), Fa
     let (service, mut sessions) = opened(alloc, &["/c"], 1, 7)?;
     let mut told = false;
     for session in sessions.as_mut_slice() {
-        told = is_told(rt, alloc, &service, session, &NoGate, "resolve a/b/f", "fault ENOSPC")?;
+        told = is_told(
+            rt,
+            alloc,
+            &service,
+            session,
+            &NoGate,
+            "resolve a/b/f",
+            "fault ENOSPC",
+        )?;
     }
     Ok((told, events_closed(service, sessions)))
 }
@@ -225,7 +228,15 @@ fn is_turned_away<R: Wait>(rt: &R, alloc: Global) -> Result<bool, Fail> {
     for session in others.as_mut_slice() {
         told = session.owner().tag == 2
             && session.root().owner == session.owner()
-            && is_told(rt, alloc, &service, session, &NoGate, "resolve a", "fault EINVAL")?;
+            && is_told(
+                rt,
+                alloc,
+                &service,
+                session,
+                &NoGate,
+                "resolve a",
+                "fault EINVAL",
+            )?;
     }
     Ok(told && events_closed(other, others) == Some(0))
 }
@@ -256,6 +267,7 @@ fn is_released<R: Wait>(
 
 /// Holds session 1 before its first step until session 0 is before its fourth, and session 0 there until all that session 1
 /// was asked is done.
+#[derive(Drop)]
 struct Turns {
     zero_waits: AtomicU64,
     one_is_done: AtomicU64,
@@ -304,10 +316,37 @@ fn moves_the_file<R: Wait, G: Gate>(
     session: &mut Session,
     gate: &G,
 ) -> Result<bool, NoMemory> {
-    let moved = is_told(rt, alloc, service, session, gate, "rename c/a/b/f c/a/b/g", "done")?;
+    let moved = is_told(
+        rt,
+        alloc,
+        service,
+        session,
+        gate,
+        "rename c/a/b/f c/a/b/g",
+        "done",
+    )?;
     let asked = "resolve c/a/b/g";
-    let found = is_told(rt, alloc, service, session, gate, asked, "opened file 4 /c/a/b/g")?;
+    let found = is_told(
+        rt,
+        alloc,
+        service,
+        session,
+        gate,
+        asked,
+        "opened file 4 /c/a/b/g",
+    )?;
     Ok(moved && found)
+}
+
+// How many of the first events, or of all, are an actor's.
+fn events_by(events: &EventLog, most: usize, actor: Actor) -> usize {
+    let mut count = 0usize;
+    for at in 0..events.len() {
+        if at < most && events.actor(at) == actor {
+            count = count.saturating_add(1);
+        }
+    }
+    count
 }
 
 /// Two sessions on two threads: the one's walk has made three steps as the other's calls begin, and goes on once they are
@@ -316,31 +355,45 @@ fn moves_the_file<R: Wait, G: Gate>(
 fn two_threads_take_turns(rt: HostRuntime) -> Result<(), Fail> {
     let alloc = rt.alloc();
     let (service, mut sessions) = opened(alloc, &["/c", "/"], 1, 99)?;
+    let (Some(mut one), Some(mut zero)) = (sessions.pop(), sessions.pop()) else {
+        assert!(rt; false, "a session is missing");
+        return Ok(());
+    };
     let turns = Turns::new();
-    let (zeroth, others) = sessions.as_mut_slice().split_at_mut(1);
     let (shared, gate) = (&service, &turns);
     let (missed, moved) = thread::join(
         &rt,
         || {
             let asked = "resolve a/b/f";
-            matches!(is_told(&rt, alloc, shared, &mut zeroth[0], gate, asked, "fault ENOENT"), Ok(true))
+            let told = is_told(&rt, alloc, shared, &mut zero, gate, asked, "fault ENOENT");
+            matches!(told, Ok(true))
         },
         || {
-            let moved = matches!(moves_the_file(&rt, alloc, shared, &mut others[0], gate), Ok(true));
+            let moved = moves_the_file(&rt, alloc, shared, &mut one, gate);
             gate.one_is_done.store(1, Ordering::SeqCst);
-            moved
+            matches!(moved, Ok(true))
         },
     );
     assert!(rt; missed && moved && turns.ran_out.load(Ordering::SeqCst) == 0);
+    sessions.push(zero)?;
+    sessions.push(one)?;
     let closed = service.stop().close(sessions)?;
-    let own = (0..closed.events.len()).filter(|at| closed.events.actor(*at) == Actor::new(0));
-    assert!(rt; closed.events.len() == 28 && own.count() == 5);
-    assert!(rt; (0..3).all(|at| closed.events.actor(at) == Actor::new(0)));
+    let first = Actor::new(0);
+    assert!(rt; closed.events.len() == 28 && events_by(&closed.events, 28, first) == 5);
+    assert!(rt; events_by(&closed.events, 3, first) == 3);
     Ok(())
 }
 
 /// How many calls each of four sessions makes.
 const ROUNDS: u32 = 700;
+
+// Whether a fault tells of others' renames.
+fn is_race(reply: &Reply) -> bool {
+    match reply {
+        Reply::Fault(error) => *error == Errno::NotFound || *error == Errno::Raced,
+        _ => false,
+    }
+}
 
 // Renames a directory there and back under the others' walks, and opens below it. How many renames were done, and how
 // many replies were none that can come.
@@ -359,14 +412,18 @@ fn mixes<R: Wait>(
             _ => "resolve z/b/../b/f",
         };
         match session.call(rt, alloc, service, &NoGate, request_of(alloc, asked)?) {
-            Reply::Done => moved = moved.saturating_add(1),
             Reply::Opened(standing) => {
                 if !is_released(rt, alloc, service, session, standing) {
                     odd = odd.saturating_add(1);
                 }
             }
-            Reply::Fault(Errno::NotFound) | Reply::Fault(Errno::Raced) => {}
-            _ => odd = odd.saturating_add(1),
+            other => {
+                if matches!(&other, Reply::Done) {
+                    moved = moved.saturating_add(1);
+                } else if !is_race(&other) {
+                    odd = odd.saturating_add(1);
+                }
+            }
         }
     }
     Ok((moved, odd))
@@ -377,13 +434,12 @@ fn mixes_there<R: Wait>(
     rt: &R,
     alloc: Global,
     service: &Service<ListTree>,
-    sessions: &mut [Session],
+    session: &mut Session,
 ) -> (usize, usize) {
-    let mut moved = (0, 1);
-    for session in sessions {
-        moved = mixes(rt, alloc, service, session).unwrap_or((0, 1));
+    match mixes(rt, alloc, service, session) {
+        Ok(told) => told,
+        Err(_) => (0, 1),
     }
-    moved
 }
 
 // How many of the events were answered otherwise when they are made again on a new tree, and how many renames each actor
@@ -416,14 +472,35 @@ fn four_threads_close(rt: HostRuntime) -> Result<(), Fail> {
     let alloc = rt.alloc();
     let (service, mut sessions) = opened(alloc, &["/c", "/c", "/c", "/c"], 1, 90_000)?;
     let shared = &service;
-    let (front, back) = sessions.as_mut_slice().split_at_mut(2);
-    let (s0, s1) = front.split_at_mut(1);
-    let (s2, s3) = back.split_at_mut(1);
+    let (Some(mut s3), Some(mut s2)) = (sessions.pop(), sessions.pop()) else {
+        assert!(rt; false, "a session is missing");
+        return Ok(());
+    };
+    let (Some(mut s1), Some(mut s0)) = (sessions.pop(), sessions.pop()) else {
+        assert!(rt; false, "a session is missing");
+        return Ok(());
+    };
     let ((m0, m1), (m2, m3)) = thread::join(
         &rt,
-        || thread::join(&rt, || mixes_there(&rt, alloc, shared, s0), || mixes_there(&rt, alloc, shared, s1)),
-        || thread::join(&rt, || mixes_there(&rt, alloc, shared, s2), || mixes_there(&rt, alloc, shared, s3)),
+        || {
+            thread::join(
+                &rt,
+                || mixes_there(&rt, alloc, shared, &mut s0),
+                || mixes_there(&rt, alloc, shared, &mut s1),
+            )
+        },
+        || {
+            thread::join(
+                &rt,
+                || mixes_there(&rt, alloc, shared, &mut s2),
+                || mixes_there(&rt, alloc, shared, &mut s3),
+            )
+        },
     );
+    sessions.push(s0)?;
+    sessions.push(s1)?;
+    sessions.push(s2)?;
+    sessions.push(s3)?;
     assert!(rt; m0.1 == 0 && m1.1 == 0 && m2.1 == 0 && m3.1 == 0);
     let closed = service.stop().close(sessions)?;
     let (wrong, renamed) = made_again(alloc, &closed)?;
