@@ -31,8 +31,8 @@ pub granted_next : (whole : Grants) (s t : State) (i : ℕ) (plan : ActorPlan) (
     → whole ≡ after_these more (granted t (length more) rest)
 granted_next whole s t i plan plans rest ledgers more ledger is number next ok made pushed =
     granted_more whole s t i plan rest ledgers ledger
-      (is ∙ ap (λ (n : ℕ). after_these ledgers (granted s n plans)) (sym number) ∙ ap (λ (ps : List ActorPlan). after_these ledgers (granted s i ps)) next) ok made
+    (is ∙ ap (λ (n : ℕ). after_these ledgers (granted s n plans)) (sym number) ∙ ap (λ (ps : List ActorPlan). after_these ledgers (granted s i ps)) next) ok made
     ∙ ap (λ (n : ℕ). after_these (ledgers ++ ledger ∷ []) (granted t n rest)) counted
     ∙ ap (λ (ls : List LedgerView). after_these ls (granted t (length ls) rest)) (sym pushed) where
-  counted : suc i ≡ length (ledgers ++ ledger ∷ [])
-  counted = omega (arith, number, length_push ledgers ledger)
+      counted : suc i ≡ length (ledgers ++ ledger ∷ [])
+      counted = omega (arith, number, length_push ledgers ledger)

@@ -27,14 +27,14 @@ use Rattle.race_core.specs.TurnView.{taken_down, seat_at, IsStarted, IsBegun, St
 taken_down_as : (owner : Owner) (ledger : LedgerView) (reply : Reply) → IsOwned owner reply → taken_down ledger reply ≡ ended owner ledger (reply_view reply)
 taken_down_as owner ledger (reply.Opened standing) is =
     ap (λ (s : StandingObject). record {
-        root = ledger.root;
-        to_come = ledger.to_come;
-        outcomes = ledger.outcomes ++ outcome_of (reply_view (reply.Opened standing)) ∷ [];
-        standings = ledger.standings ++ Some s ∷ [];
-        kept = ledger.kept ++ [];
-      })
+      root = ledger.root;
+      to_come = ledger.to_come;
+      outcomes = ledger.outcomes ++ outcome_of (reply_view (reply.Opened standing)) ∷ [];
+      standings = ledger.standings ++ Some s ∷ [];
+      kept = ledger.kept ++ [];
+    })
     (ap (λ (o : Owner). record { owner = o; handle = standing.handle; node = standing.node; kind = standing.kind; names = standing.names }) is
-      ∙ ap (λ (ns : List (List ℕ)). record { owner = owner; handle = standing.handle; node = standing.node; kind = standing.kind; names = ns }) (sym (reverse-reverse standing.names)))
+    ∙ ap (λ (ns : List (List ℕ)). record { owner = owner; handle = standing.handle; node = standing.node; kind = standing.kind; names = ns }) (sym (reverse-reverse standing.names)))
 taken_down_as owner ledger (reply.Text text) is = refl
 taken_down_as owner ledger reply.Done is = refl
 taken_down_as owner ledger (reply.Count n) is = refl

@@ -25,7 +25,12 @@ fn answer_due<T: Tree>(alloc: Global, book: &mut Book<T>, actor: Actor, call: &C
 
 /// Makes the step that is due through the book, as this actor, and takes its answer. A step that the book refuses, or for
 /// which there is no memory, isn't made, and is taken as refused so.
-pub(crate) fn advance<T: Tree>(alloc: Global, book: &mut Book<T>, actor: Actor, call: Call) -> CallTurn
+pub(crate) fn advance<T: Tree>(
+    alloc: Global,
+    book: &mut Book<T>,
+    actor: Actor,
+    call: Call,
+) -> CallTurn
     ensures advances { Advances book.old actor call (turn_view result) book.new }
     ensures kept { Keeps call.below result }
     ensures fewer { steps_to_come result < steps_left call.below call.doing }
@@ -45,7 +50,7 @@ pub(crate) fn give_up<T: Tree>(alloc: Global, book: &mut Book<T>, actor: Actor, 
                     Ok(StepOf::Close(handle)) => {
                         match book.step(alloc, actor, &StepOf::Close(handle)) {
                             Ok(answer) => answer,
-                            Err(error) => Answer::Refused(error),
+                            Err(fault) => Answer::Refused(fault),
                         }
                     }
                     _ => Answer::Refused(Errno::NoMemory),

@@ -90,11 +90,7 @@ fn take_standing(standings: &mut [Option<Standing>], call: usize) -> Option<Stan
 }
 
 // What is asked by a planned call, where what it names is held. What is to be released is kept no more.
-fn request_of(
-    root: Root,
-    standings: &mut [Option<Standing>],
-    planned: Planned,
-) -> Option<Request>
+fn request_of(root: Root, standings: &mut [Option<Standing>], planned: Planned) -> Option<Request>
     ensures request { result ≡ request_of root standings.old planned }
     ensures left { standings.new ≡ left_by planned standings.old }
 {

@@ -37,11 +37,7 @@ fn grant_root<T: Tree>(
     let actor = Actor::new(at as u32);
     let handle = tree.grant(alloc, actor, &plan.root)?;
     let owner = Owner { tag: 0, actor };
-    Ok(Ledger::new(
-        alloc,
-        Root { owner, handle },
-        plan.calls.into_calls(),
-    ))
+    Ok(Ledger::new(alloc, Root { owner, handle }, plan.calls.into_calls()))
 }
 
 // Grants each actor its root, in the order of their numbers. The first refusal ends it.

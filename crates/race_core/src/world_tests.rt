@@ -55,7 +55,7 @@ fn tree(alloc: Global) -> Result<ListTree, Fail> {
 fn at(handle: HandleNo) -> Ref {
     match handle.number() {
         0 => Ref::Root,
-        number => Ref::Call(number as usize - 1),
+        number => Ref::Call((number as usize).saturating_sub(1)),
     }
 }
 
@@ -185,8 +185,10 @@ fn both_tell(
 ) -> Result<bool, Fail> {
     let list = tree(alloc)?;
     let slab = SlabTree::from_list(alloc, &list, 4)?;
-    Ok(is_told(&tells(alloc, slab, lines, schedule, room)?, wanted)
-        && is_told(&tells(alloc, list, lines, schedule, room)?, wanted))
+    Ok(
+        is_told(&tells(alloc, slab, lines, schedule, room)?, wanted)
+            && is_told(&tells(alloc, list, lines, schedule, room)?, wanted),
+    )
 }
 
 const MOVED_OUT: &str = "/c: resolve a/b/..
@@ -215,7 +217,11 @@ const LINK_GONE: &str = "/c: resolve abs/f
 
 // Of each row: the plans, the schedule, and what is told of actor 0.
 const RACES: [(&str, &[u32], &str); 8] = [
-    (MOVED_OUT, &[1, 1, 1, 1, 1, 1, 0, 0, 0, 1], "7 held 1\nfault EAGAIN\n"),
+    (
+        MOVED_OUT,
+        &[1, 1, 1, 1, 1, 1, 0, 0, 0, 1],
+        "7 held 1\nfault EAGAIN\n",
+    ),
     (
         AND_BACK,
         &[1, 1, 1, 1, 1, 1, 0, 0, 0, 1, 1],
@@ -234,17 +240,16 @@ const RACES: [(&str, &[u32], &str); 8] = [
     (REMOVED, &[0, 1], "3 held 1\nfault EAGAIN\n"),
     (FILE_INSTEAD, &[1, 1, 0, 1, 1], "4 held 1\nfault ENOTDIR\n"),
     (LINK_INSTEAD, &[1, 1, 0, 1, 1], "6 held 1\nfault ENOENT\n"),
-    (
-        LINK_GONE,
-        &[0, 0, 0, 1],
-        "9 held 2\nopened file 4 /a/b/f\n",
-    ),
+    (LINK_GONE, &[0, 0, 0, 1], "9 held 2\nopened file 4 /a/b/f\n"),
 ];
 
 #[test]
 fn schedules_are_run(rt: HostRuntime) -> Result<(), Fail> {
     for (lines, schedule, wanted) in RACES.as_slice() {
-        assert!(rt; both_tell(rt.alloc(), lines, schedule, 1000, wanted)?, "{lines}");
+        assert!(rt;
+            both_tell(rt.alloc(), lines, schedule, 1000, wanted)?,
+            "{lines}"
+        );
     }
     Ok(())
 }
@@ -258,7 +263,10 @@ fn books_run_full(rt: HostRuntime) -> Result<(), Fail> {
         (7, "6 held 1\nfault ENOSPC\n"),
         (4, "2 held 1\nfault ENOSPC\n"),
     ] {
-        assert!(rt; both_tell(rt.alloc(), ALONE, &[], lines, wanted)?, "{lines} lines");
+        assert!(rt;
+            both_tell(rt.alloc(), ALONE, &[], lines, wanted)?,
+            "{lines} lines"
+        );
     }
     Ok(())
 }
@@ -269,7 +277,8 @@ const RELEASES: &str =
 
 #[test]
 fn what_is_kept_is_released(rt: HostRuntime) -> Result<(), Fail> {
-    let wanted = "5 held 1\nopened dir 2 /a\ndone\nfault EBADF\nfault EBADF\nfault ENOENT\nstepped listed 6 a abs dang e loop up\nfault EBADF\n";
+    let wanted =
+        "5 held 1\nopened dir 2 /a\ndone\nfault EBADF\nfault EBADF\nfault ENOENT\nstepped listed 6 a abs dang e loop up\nfault EBADF\n";
     assert!(rt; both_tell(rt.alloc(), RELEASES, &[], 100, wanted)?);
     Ok(())
 }
@@ -298,7 +307,10 @@ fn faults_come_in_order(rt: HostRuntime) -> Result<(), Fail> {
         ("/c", &[], 1_000_001, WorldFault::Invalid),
         ("/c\n/c", &[], 1, WorldFault::BookFull),
     ] {
-        assert!(rt; fault(alloc, lines, schedule, room)? == Some(wanted), "{lines}");
+        assert!(rt;
+            fault(alloc, lines, schedule, room)? == Some(wanted),
+            "{lines}"
+        );
     }
     Ok(())
 }
@@ -354,41 +366,84 @@ fn is_outcome(told: &Result<Output, WorldFault>, line: &str) -> bool {
     }
 }
 
-// Whether actor 0 is told one of these, however the turns are interleaved, and each of them once.
-fn all_tell(alloc: Global, lines: &str, turns: u32, own: u32, wanted: &[&str]) -> Result<bool, Fail> {
+// A bit for each of at most four outcomes.
+fn bit(at: usize) -> u32 {
+    match at {
+        0 => 1,
+        1 => 2,
+        2 => 4,
+        _ => 8,
+    }
+}
+
+// A plan of two actors, how many turns they take together and actor 1 alone, and the outcomes that actor 0 may get.
+#[derive(Clone, Copy)]
+struct Interleaved<'a> {
+    lines: &'a str,
+    turns: u32,
+    others: u32,
+    schedules: u32,
+    wanted: &'a [&'a str],
+}
+
+// Whether actor 0 gets one of these outcomes, however the turns are interleaved; and which of them it got.
+fn outcomes_of(alloc: Global, all: &Interleaved) -> Result<Option<u32>, Fail> {
     let list = tree(alloc)?;
     let mut seen = 0u32;
-    for bits in 0..1u32 << turns {
-        if bits.count_ones() != own {
-            continue;
-        }
-        let schedule = schedule_of(alloc, bits, turns)?;
-        let told = tells(alloc, list.copy(alloc)?, lines, &schedule, 1000)?;
-        match wanted.iter().position(|line| is_outcome(&told, line)) {
-            Some(at) => seen |= 1 << at,
-            None => return Ok(false),
+    for bits in 0..all.schedules {
+        if bits.count_ones() == all.others {
+            let schedule = schedule_of(alloc, bits, all.turns)?;
+            let told = tells(alloc, list.copy(alloc)?, all.lines, &schedule, 1000)?;
+            match all.wanted.iter().position(|line| is_outcome(&told, line)) {
+                Some(at) => seen |= bit(at),
+                None => return Ok(None),
+            }
         }
     }
-    Ok(seen + 1 == 1 << wanted.len())
+    Ok(Some(seen))
 }
 
 #[test]
 fn every_schedule_of_a_move(rt: HostRuntime) -> Result<(), Fail> {
-    let wanted = ["opened dir 2 /a", "fault EAGAIN", "fault ENOENT"];
-    assert!(rt; all_tell(rt.alloc(), MOVED_OUT, 14, 7, &wanted)?);
+    let all = Interleaved {
+        lines: MOVED_OUT,
+        turns: 14,
+        others: 7,
+        schedules: 16384,
+        wanted: ["opened dir 2 /a", "fault EAGAIN", "fault ENOENT"].as_slice(),
+    };
+    assert!(rt; outcomes_of(rt.alloc(), &all)? == Some(7));
     Ok(())
 }
 
 #[test]
 fn every_schedule_of_a_file_instead(rt: HostRuntime) -> Result<(), Fail> {
-    let wanted = ["opened file 4 /a/b/f", "fault ENOTDIR", "fault ENOENT", "fault EAGAIN"];
-    assert!(rt; all_tell(rt.alloc(), FILE_INSTEAD, 10, 6, &wanted)?);
+    let all = Interleaved {
+        lines: FILE_INSTEAD,
+        turns: 10,
+        others: 4,
+        schedules: 1024,
+        wanted: [
+            "opened file 4 /a/b/f",
+            "fault ENOTDIR",
+            "fault ENOENT",
+            "fault EAGAIN",
+        ]
+        .as_slice(),
+    };
+    assert!(rt; outcomes_of(rt.alloc(), &all)? == Some(15));
     Ok(())
 }
 
 #[test]
 fn every_schedule_of_a_link_instead(rt: HostRuntime) -> Result<(), Fail> {
-    let wanted = ["opened file 4 /a/b/f", "fault ENOENT", "fault EAGAIN"];
-    assert!(rt; all_tell(rt.alloc(), LINK_INSTEAD, 10, 6, &wanted)?);
+    let all = Interleaved {
+        lines: LINK_INSTEAD,
+        turns: 10,
+        others: 4,
+        schedules: 1024,
+        wanted: ["opened file 4 /a/b/f", "fault ENOENT", "fault EAGAIN"].as_slice(),
+    };
+    assert!(rt; outcomes_of(rt.alloc(), &all)? == Some(7));
     Ok(())
 }

@@ -8,8 +8,8 @@ use Rattle.race_core.proofs.opening.grant_roots.Goals as goal
 pub loop-plan-preserved : goal.loop-plan-preserved
 loop-plan-preserved g c =
     let pushed : c.push.new.self.items ≡ c.loop-plan.ledgers.items ++ c.in-Ok.ledger ∷ [] =
-        c.push.ensures.items
-        ∙ ap (λ (b : Bool). if b then c.loop-plan.ledgers.items ++ c.in-Ok.ledger ∷ [] else c.loop-plan.ledgers.items) (c.is_err.ensures.negation ∙ ap not c.if-is_err.false) in
+    c.push.ensures.items
+    ∙ ap (λ (b : Bool). if b then c.loop-plan.ledgers.items ++ c.in-Ok.ledger ∷ [] else c.loop-plan.ledgers.items) (c.is_err.ensures.negation ∙ ap not c.if-is_err.false) in
     let next : into_iter_items c.loop-plan.plans ≡ c.in-Some.plan ∷ into_iter_items c.next.new.self = c.in-Some.ensures.items in
     record {
       same = granted_next _ _ _ c.len-at.result c.in-Some.plan (into_iter_items c.loop-plan.plans) (into_iter_items c.next.new.self) c.loop-plan.ledgers.items c.push.new.self.items c.in-Ok.ledger

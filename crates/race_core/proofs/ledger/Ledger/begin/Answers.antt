@@ -20,18 +20,18 @@ returns c =
       kept = c.self.inside.kept.items;
     } in
     let begun = begun_by was c.in_ok-planned.planned (into_iter_items c.next.new.self) c.request_of-request.new.standings c.request_of-request.result c.first_turn.result
-      c.in_ok-planned.ensures.items
-      (c.request_of-request.ensures.request ∙ ap (λ (ss : List (Option StandingObject)). request_of c.self.inside.root ss c.in_ok-planned.planned) c.as_mut_slice.ensures.value)
-      (c.request_of-request.ensures.left ∙ ap (λ (ss : List (Option StandingObject)). left_by c.in_ok-planned.planned ss) c.as_mut_slice.ensures.value)
-      c.first_turn.ensures in
+    c.in_ok-planned.ensures.items
+    (c.request_of-request.ensures.request ∙ ap (λ (ss : List (Option StandingObject)). request_of c.self.inside.root ss c.in_ok-planned.planned) c.as_mut_slice.ensures.value)
+    (c.request_of-request.ensures.left ∙ ap (λ (ss : List (Option StandingObject)). left_by c.in_ok-planned.planned ss) c.as_mut_slice.ensures.value)
+    c.first_turn.ensures in
     let same = with_items_is c.self.inside.standings c.request_of-request.new.standings (c.request_of-request.auto.standings ∙ c.as_mut_slice.ensures.len) in
     let P : LedgerView → List (Option StandingObject) → Type 0 = λ old ss.
-      IsBegun old (record {
-          root = c.self.inside.root;
-          to_come = into_iter_items c.next.new.self;
-          outcomes = c.self.inside.outcomes;
-          standings = ss;
-          kept = c.self.inside.kept.items;
-        }) c.first_turn.result in
+    IsBegun old (record {
+      root = c.self.inside.root;
+      to_come = into_iter_items c.next.new.self;
+      outcomes = c.self.inside.outcomes;
+      standings = ss;
+      kept = c.self.inside.kept.items;
+    }) c.first_turn.result in
     subst (λ old. P old (with_items c.self.inside.standings c.request_of-request.new.standings).items) c.self.view_is
     (subst (λ ss. P was ss) (sym same) begun)
