@@ -104,9 +104,9 @@ fn reply_line(alloc: Global, reply: &Reply) -> Result<Output, NoMemory> {
         Reply::Opened(standing) => {
             line.opened(alloc, standing.kind(), standing.node(), standing.names())?
         }
-        Reply::Done => line.text("done")?,
+        Reply::Done => line.text("done\n")?,
         Reply::Fault(error) => line.fault(*error)?,
-        _ => line.text("another reply")?,
+        _ => line.text("another reply\n")?,
     }
     Ok(line)
 }
@@ -123,7 +123,8 @@ fn is_told<R: Wait, G: Gate>(
 ) -> Result<bool, NoMemory> {
     let request = request_of(alloc, asked)?;
     let reply = session.call(rt, alloc, service, gate, request);
-    Ok(reply_line(alloc, &reply)?.as_slice() == wanted.as_bytes())
+    let line = reply_line(alloc, &reply)?;
+    Ok(line.as_slice().strip_suffix(b"\n") == Some(wanted.as_bytes()))
 }
 
 // Why a service isn't opened, and how many handles actor 0 has in the tree that comes back.
