@@ -331,7 +331,7 @@ take_few way room (make.ending held names) NotBelow = omega arith
 take_few way room (make.ending held names) answer = omega arith
 take_few way room (make.closing h hs error) answer = gives_up_few (suc (length hs)) hs error (omega arith)
 
-left_some : (call : Making) → 0 < steps_left call
+pub left_some : (call : Making) → 0 < steps_left call
 left_some (walking w) = omega (arith, a_step_left w)
 left_some (make.making held names n left) = omega arith
 left_some (make.opening held names n left) = omega arith
@@ -363,23 +363,28 @@ for_walk_few k false (walk.found handle names) few = tt
 for_walk_few k false (walk.partial handle names rest) few = tt
 for_walk_few k false (walk.failed error) few = tt
 
-pub begun_few : (way : Way) (path : Reading) (result : BulkTurn MakingView) → length path.parts ≤ PARTS_MAX → StartsTo way path result → steps_to_come result ≤ MAKE_STEPS_MAX
-begun_few way path result few begun =
-    let turn = walk.starts way begun.0 path in
-    let within : EndsWithin (length (asked (follows way.goal) path.parts)) turn =
-    ends_within _ _ (for_walk_within _ begun.0 (walk.begins way path) (begun_within way path)) in
-    let shown : steps_to_come result < suc STEPS_MAX + (3 * length (asked (follows way.goal) path.parts) + 2) =
-    few_shown _ result (after_walk begun.0 turn) (omega arith) begun.1
-    (after_walk_few (suc STEPS_MAX) (length (asked (follows way.goal) path.parts)) begun.0 turn (omega arith)
-    (for_walk_few (suc STEPS_MAX) begun.0 (walk.begins way path) (begins_few way path few)) within) in
-    omega (arith, shown, few, asked_few (follows way.goal) path.parts)
-
--- ---- lines
-
 stays_fewer : (j k : ℕ) (turn : MakeTurn) → j ≤ k → MakesFewerThan j turn → MakesFewerThan k turn
 stays_fewer j k (make.more call) le few = omega (arith, le, few)
 stays_fewer j k (make.made handle names) le few = tt
 stays_fewer j k (make.failed error) le few = tt
+
+pub starts_few : (way : Way) (room : Bool) (path : Reading) → length path.parts ≤ PARTS_MAX → MakesFewerThan (suc MAKE_STEPS_MAX) (make.starts way room path)
+starts_few way room path few =
+    let turn = walk.starts way room path in
+    let within : EndsWithin (length (asked (follows way.goal) path.parts)) turn =
+    ends_within _ _ (for_walk_within _ room (walk.begins way path) (begun_within way path)) in
+    stays_fewer (suc STEPS_MAX + (3 * length (asked (follows way.goal) path.parts) + 2)) (suc MAKE_STEPS_MAX) (after_walk room turn)
+    (omega (arith, few, asked_few (follows way.goal) path.parts))
+    (after_walk_few (suc STEPS_MAX) (length (asked (follows way.goal) path.parts)) room turn (omega arith)
+    (for_walk_few (suc STEPS_MAX) room (walk.begins way path) (begins_few way path few)) within)
+
+pub begun_few : (way : Way) (path : Reading) (result : BulkTurn MakingView) → length path.parts ≤ PARTS_MAX → StartsTo way path result → steps_to_come result ≤ MAKE_STEPS_MAX
+begun_few way path result few begun =
+    let shown : steps_to_come result < suc MAKE_STEPS_MAX =
+    few_shown (suc MAKE_STEPS_MAX) result (make.starts way begun.0 path) (omega arith) begun.1 (starts_few way begun.0 path few) in
+    omega (arith, shown)
+
+-- ---- lines
 
 fewer_than : (way : Way) (room : Bool) (call : Making) (answer : Answer) (k : ℕ) → steps_left call < suc (suc k) → MakesFewerThan (suc k) (take way room call answer)
 fewer_than way room call answer k few = stays_fewer (steps_left call) (suc k) (take way room call answer) (omega (arith, few)) (take_few way room call answer)

@@ -21,19 +21,25 @@ use Rattle.walk_plan.specs.declared.goal.Goal.TheVariants.{Follow, NoFollow}
 use Rattle.step_resolver.specs.Order.{Way, Turn, found, partial, failed}
 use Rattle.step_resolver.specs.Order as walk
 use Rattle.step_resolver.specs.TurnView as walk_view
+use Rattle.step_resolver.specs.View.{way_from}
 use Rattle.step_resolver.proofs.WalkSteps as walk_steps
+use Rattle.bulk_ops.specs.MakeAllOrder as make
+use Rattle.bulk_ops.specs.MakeAllView.{MAKE_STEPS_MAX}
+use Rattle.bulk_ops.specs.RemoveAllOrder as remove
+use Rattle.bulk_ops.proofs.MakeAllSteps.{starts_few}
+use Rattle.bulk_ops.proofs.RemovingAll.StepCount as remove_steps
 use Rattle.root_ops.specs.declared.aim.Aim.{Aim}
 use Rattle.root_ops.specs.declared.aim.Aim.TheVariants.{Opens, Reads, Changes, WalksOn}
 use Rattle.root_ops.specs.declared.aim.Change.{Change}
 use Rattle.root_ops.specs.declared.below.Below.{Below}
 use Rattle.root_ops.specs.declared.op.Op.{Op}
-use Rattle.root_ops.specs.declared.op.Op.TheVariants.{Resolve, ResolveNoFollow, ReadLink, CreateFile, CreateDir, CreateLink, RemoveFile, RemoveDir, Rename, Single, Release}
+use Rattle.root_ops.specs.declared.op.Op.TheVariants.{Resolve, ResolveNoFollow, ReadLink, CreateFile, CreateDir, CreateLink, RemoveFile, RemoveDir, Rename, MkdirAll, RemoveAll, Single, Release}
 use Rattle.root_ops.specs.Order as call
-use Rattle.root_ops.specs.Order.{Doing, walking, acting, checking, closing, releasing, CallTurn, more, ends, walks, unless_fault, in_directory, between, from_entry, is_single, single, same_owner, releases, lacks, starts, begins, way_of, renaming_of, steps_then}
+use Rattle.root_ops.specs.Order.{Doing, walking, acting, checking, closing, making, removing, releasing, CallTurn, more, ends, make_way, makes, clears, clear_in, walks, unless_fault, in_directory, between, from_entry, is_single, single, same_owner, releases, lacks, starts, begins, way_of, renaming_of, steps_then}
 use Rattle.root_ops.specs.declared.call.CallTurn.{CallTurn as Outcome}
 use Rattle.root_ops.specs.TurnView.{turn_view, Keeps, StartsTo, steps_to_come, STEPS_MAX}
-use Rattle.root_ops.specs.StepCount.{is_walking, WalksOrFew, FiveAfterWalks}
-use Rattle.root_ops.proofs.Steps.{IsLower, either_lower, walked_lower, walking_lower, fewer_after, lower_to_come}
+use Rattle.root_ops.specs.StepCount.{is_walking, is_bulk, WalksOrFew, FiveAfterWalks}
+use Rattle.root_ops.proofs.Steps.{IsLower, IsFewer, either_lower, walked_lower, walking_lower, fewer_after, lower_fewer, makes_fewer, clears_fewer, fewer_to_come}
 
 -- ---- the parts of a directory's path are few
 
@@ -127,40 +133,82 @@ module _ (below : Below) where
   lacks_lower text = past_fault (suc STEPS_MAX) (text_fault text) _ (λ fine. tt)
 
   releases_lower : (owner : Owner) (standing : StandingObject) → IsLower below (suc STEPS_MAX) (releases owner standing)
-  releases_lower owner standing = either_lower below (suc STEPS_MAX) (same_owner standing.owner owner) _ _ (omega arith, λ e. omega arith) tt
+  releases_lower owner standing = either_lower below (suc STEPS_MAX) (same_owner standing.owner owner) _ _ (omega arith, (refl, λ e. omega arith)) tt
 
-  begins_lower : (op : Op) → IsLower below (suc STEPS_MAX) (begins below op)
-  begins_lower (Resolve path) = on_path_lower (Opens Follow) path (omega arith)
-  begins_lower (ResolveNoFollow path) = on_path_lower (Opens NoFollow) path (omega arith)
-  begins_lower (ReadLink path) = on_path_lower Reads path (omega arith)
-  begins_lower (CreateFile path) = on_entry_lower Refuse _ path
-  begins_lower (CreateDir path) = on_entry_lower Drop _ path
-  begins_lower (CreateLink path text) = on_entry_lower Refuse _ path
-  begins_lower (RemoveFile path) = on_entry_lower Refuse _ path
-  begins_lower (RemoveDir path) = on_entry_lower Drop _ path
-  begins_lower (Rename old new mode) =
+  begins_lower : (op : Op) → is_bulk op ≡ false → IsLower below (suc STEPS_MAX) (begins below op)
+  begins_lower (Resolve path) single = on_path_lower (Opens Follow) path (omega arith)
+  begins_lower (ResolveNoFollow path) single = on_path_lower (Opens NoFollow) path (omega arith)
+  begins_lower (ReadLink path) single = on_path_lower Reads path (omega arith)
+  begins_lower (CreateFile path) single = on_entry_lower Refuse _ path
+  begins_lower (CreateDir path) single = on_entry_lower Drop _ path
+  begins_lower (CreateLink path text) single = on_entry_lower Refuse _ path
+  begins_lower (RemoveFile path) single = on_entry_lower Refuse _ path
+  begins_lower (RemoveDir path) single = on_entry_lower Drop _ path
+  begins_lower (Rename old new mode) single =
       past_fault (suc STEPS_MAX) (text_fault old) _ (λ fine.
       from_entry_lower mode new (reading_of old) (split_of (reading_of old) Drop) (reading_few old fine) (short_split (reading_of old) Drop))
-  begins_lower (Single step) = either_lower below (suc STEPS_MAX) (is_single step) _ _ (omega arith, λ e. omega arith) tt
-  begins_lower (Release standing) = releases_lower below.root.owner standing
+  begins_lower (MkdirAll path) single = cc (single)
+  begins_lower (RemoveAll path) single = cc (single)
+  begins_lower (Single step) single = either_lower below (suc STEPS_MAX) (is_single step) _ _ (omega arith, (refl, λ e. omega arith)) tt
+  begins_lower (Release standing) single = releases_lower below.root.owner standing
 
-  starts_lower : (room : Bool) (op : Op) → IsLower below (suc STEPS_MAX) (starts below room op)
-  starts_lower true op = begins_lower op
-  starts_lower false (Resolve path) = lacks_lower path
-  starts_lower false (ResolveNoFollow path) = lacks_lower path
-  starts_lower false (ReadLink path) = lacks_lower path
-  starts_lower false (CreateFile path) = lacks_lower path
-  starts_lower false (CreateDir path) = lacks_lower path
-  starts_lower false (CreateLink path text) = lacks_lower path
-  starts_lower false (RemoveFile path) = lacks_lower path
-  starts_lower false (RemoveDir path) = lacks_lower path
-  starts_lower false (Rename old new mode) = lacks_lower old
-  starts_lower false (Single step) = either_lower below (suc STEPS_MAX) (is_single step) _ _ tt tt
-  starts_lower false (Release standing) = releases_lower below.root.owner standing
+  starts_lower : (room : Bool) (op : Op) → is_bulk op ≡ false → IsLower below (suc STEPS_MAX) (starts below room op)
+  starts_lower true op single = begins_lower op single
+  starts_lower false (Resolve path) single = lacks_lower path
+  starts_lower false (ResolveNoFollow path) single = lacks_lower path
+  starts_lower false (ReadLink path) single = lacks_lower path
+  starts_lower false (CreateFile path) single = lacks_lower path
+  starts_lower false (CreateDir path) single = lacks_lower path
+  starts_lower false (CreateLink path text) single = lacks_lower path
+  starts_lower false (RemoveFile path) single = lacks_lower path
+  starts_lower false (RemoveDir path) single = lacks_lower path
+  starts_lower false (Rename old new mode) single = lacks_lower old
+  starts_lower false (MkdirAll path) single = cc (single)
+  starts_lower false (RemoveAll path) single = cc (single)
+  starts_lower false (Single step) single = either_lower below (suc STEPS_MAX) (is_single step) _ _ tt tt
+  starts_lower false (Release standing) single = releases_lower below.root.owner standing
+
+  -- ---- bulk calls
+
+  fewer_past_fault : (k : ℕ) (why : Option Errno) (turn : CallTurn) → (why ≡ None → IsFewer below k turn) → IsFewer below k (unless_fault why turn)
+  fewer_past_fault k (Some error) turn fewer = tt
+  fewer_past_fault k None turn fewer = fewer refl
+
+  fewer_still : (j k : ℕ) (turn : CallTurn) → j ≤ k → IsFewer below j turn → IsFewer below k turn
+  fewer_still j k (more doing) le fewer = omega (arith, fewer, le)
+  fewer_still j k (ends reply) le fewer = tt
+
+  makes_few : (path : Reading) → length path.parts ≤ PARTS_MAX → IsFewer below (suc STEPS_MAX) (makes (make.begins (make_way below) path))
+  makes_few path few =
+      fewer_still (suc MAKE_STEPS_MAX) (suc STEPS_MAX) _ (omega arith) (makes_fewer below (suc MAKE_STEPS_MAX) _ (starts_few (make_way below) true path few))
+
+  clears_few : (path : Reading) (split : Result Split Errno) → length path.parts ≤ PARTS_MAX → IsShort path split → IsFewer below (suc STEPS_MAX) (clear_in below split)
+  clears_few path (Err error) few short = tt
+  clears_few path (Ok split) few short =
+      let way = way_from below.root Follow below.flags in
+      clears_fewer below (suc STEPS_MAX) (remove.begins way split.name split.dir)
+      (remove_steps.walked_few way split.name (suc walk_view.STEPS_MAX) (walk.begins way split.dir) (omega arith)
+      (walk_steps.begins_few way split.dir (omega (arith, few, short))))
+
+  bulk_few : (room : Bool) (op : Op) → is_bulk op ≡ true → IsFewer below (suc STEPS_MAX) (starts below room op)
+  bulk_few true (MkdirAll path) bulk = fewer_past_fault (suc STEPS_MAX) (text_fault path) _ (λ fine. makes_few (reading_of path) (reading_few path fine))
+  bulk_few false (MkdirAll path) bulk = fewer_past_fault (suc STEPS_MAX) (text_fault path) _ (λ fine. tt)
+  bulk_few true (RemoveAll path) bulk =
+      fewer_past_fault (suc STEPS_MAX) (text_fault path) _ (λ fine.
+      clears_few (reading_of path) (split_of (reading_of path) Drop) (reading_few path fine) (short_split (reading_of path) Drop))
+  bulk_few false (RemoveAll path) bulk = fewer_past_fault (suc STEPS_MAX) (text_fault path) _ (λ fine. tt)
+  bulk_few room op bulk = cc (bulk)
+
+  starts_fewer : (room : Bool) (op : Op) → IsFewer below (suc STEPS_MAX) (starts below room op)
+  starts_fewer room op = on (is_bulk op) refl
+    where
+      on : (b : Bool) → is_bulk op ≡ b → IsFewer below (suc STEPS_MAX) (starts below room op)
+      on true bulk = bulk_few room op bulk
+      on false single = lower_fewer below (suc STEPS_MAX) (starts below room op) (starts_lower room op single)
 
 pub started_few : (below : Below) (op : Op) (outcome : Outcome) → StartsTo below op (turn_view outcome) → Keeps below outcome → steps_to_come outcome ≤ STEPS_MAX
 started_few below op outcome started kept =
-    let fewer = lower_to_come (suc STEPS_MAX) below outcome (omega arith) (subst (IsLower below (suc STEPS_MAX)) (sym started.1) (starts_lower below started.0 op)) kept in
+    let fewer = fewer_to_come (suc STEPS_MAX) below outcome (omega arith) (subst (IsFewer below (suc STEPS_MAX)) (sym started.1) (starts_fewer below started.0 op)) kept in
     omega (arith, fewer)
 
 -- ---- after the walks
@@ -174,11 +222,13 @@ walked_few below room (walking w aim) answer e = or_few _ below _ (walking_lower
 walked_few below room (acting wanted step hs) answer e = cc (e)
 walked_few below room (checking old new renaming) answer e = cc (e)
 walked_few below room (closing h hs after) answer e = cc (e)
+walked_few below room (making call) answer e = cc (e)
+walked_few below room (removing call) answer e = cc (e)
 walked_few below room (releasing h) answer e = cc (e)
 
 pub five_after_walks : FiveAfterWalks
 five_after_walks = record {
-  begun = λ below room op. or_few (suc STEPS_MAX) below (starts below room op) (starts_lower below room op);
+  begun = λ below room op single. or_few (suc STEPS_MAX) below (starts below room op) (starts_lower below room op single);
   walked = walked_few;
   after = fewer_after;
 }

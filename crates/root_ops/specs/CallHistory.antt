@@ -9,7 +9,7 @@ use Rattle.step_resolver.specs.Order.{Handle, Line, events_of}
 use Rattle.step_resolver.specs.WalkHistory.{own_events}
 use Rattle.root_ops.specs.declared.below.Below.{Below}
 use Rattle.root_ops.specs.declared.op.Op.{Op}
-use Rattle.root_ops.specs.declared.op.Op.TheVariants.{Resolve, ResolveNoFollow, ReadLink, CreateFile, CreateDir, CreateLink, RemoveFile, RemoveDir, Rename, Single, Release}
+use Rattle.root_ops.specs.declared.op.Op.TheVariants.{Resolve, ResolveNoFollow, ReadLink, CreateFile, CreateDir, CreateLink, RemoveFile, RemoveDir, Rename, MkdirAll, RemoveAll, Single, Release}
 use Rattle.root_ops.specs.Order.{Reply, opened, link_text, done, count, stepped, kept, fault, ends, starts, LeadsTo}
 
 -- A call in a history: the tree at the history's opening, the events before the call, those of its window, where it walks and
@@ -76,6 +76,8 @@ AfterDone c (CreateLink path text) = HandlesStay c
 AfterDone c (RemoveFile path) = HandlesStay c
 AfterDone c (RemoveDir path) = HandlesStay c
 AfterDone c (Rename old new mode) = HandlesStay c
+AfterDone c (MkdirAll path) = HandlesStay c
+AfterDone c (RemoveAll path) = HandlesStay c
 AfterDone c (Single step) = HandlesStay c
 AfterDone c (Release standing) = OneLess c standing.handle
 

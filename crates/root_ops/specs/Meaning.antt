@@ -1,7 +1,7 @@
 -- What an operation done whole means: its reply, and the nodes after it, in a tree that nobody else changes meanwhile.
 -- Its paths mean what step_resolver's `Meaning` says (path_resolution(7); openat2(2)). In the directory that is found so one
--- entry is changed, by the functions of tree_model's `Entries`. It knows no steps, and of handles only those that the caller
--- gives.
+-- entry is changed, by the functions of tree_model's `Entries`; what the bulk calls change is bulk_ops's `MakeAllQuiet` and
+-- `RemoveAllQuiet`. It knows no steps, and of handles only those that the caller gives.
 use Rattle.std.specs.Prelude.{ℕ, ◌||◌, List, Bool, true, false, not, if◌then◌else◌, Option, Some, None, Result, Ok, Err}
 use Rattle.path_text.specs.declared.errno.Errno.{Errno}
 use Rattle.path_text.specs.declared.errno.Errno.TheVariants.{NotFound, BadHandle, NotDir, Invalid}
@@ -21,10 +21,12 @@ use Rattle.tree_model.specs.State.{State, object_at, child, is_dir}
 use Rattle.tree_model.specs.Entries.{refuse_if, with_some, refuse_by, makes, makes_link, removes_file, removes_dir, renames}
 use Rattle.tree_model.specs.Steps.{Outcome, outcome, held}
 use Rattle.handles.specs.Objects.{StandingObject}
-use Rattle.step_resolver.specs.Meaning.{Resolution, is_object, is_error, resolution, reading_means, resolved}
+use Rattle.step_resolver.specs.Meaning.{Resolution, is_object, is_error, resolution, reading_means, resolved, reading_deepest}
+use Rattle.bulk_ops.specs.MakeAllQuiet.{MakeMeant, refuses, gives, make_means}
+use Rattle.bulk_ops.specs.RemoveAllQuiet.{cleared, cleared_rows}
 use Rattle.root_ops.specs.declared.below.Below.{Below}
 use Rattle.root_ops.specs.declared.op.Op.{Op}
-use Rattle.root_ops.specs.declared.op.Op.TheVariants.{Resolve, ResolveNoFollow, ReadLink, CreateFile, CreateDir, CreateLink, RemoveFile, RemoveDir, Rename, Single, Release}
+use Rattle.root_ops.specs.declared.op.Op.TheVariants.{Resolve, ResolveNoFollow, ReadLink, CreateFile, CreateDir, CreateLink, RemoveFile, RemoveDir, Rename, MkdirAll, RemoveAll, Single, Release}
 use Rattle.root_ops.specs.Order.{is_single, same_owner}
 
 -- a call's caller: the tree as it stands, who calls, the node of the root, and whose that root is with the walks' restrictions
@@ -34,12 +36,13 @@ pub record Caller : Type 0 where
   pub root : ℕ
   pub below : Below
 
--- the reply: the object that is opened, a link's text, that it is done, a single step's answer, what isn't the caller's to
--- release, or the error
+-- the reply: the object that is opened, a link's text, that it is done, how many entries were removed, a single step's answer,
+-- what isn't the caller's to release, or the error
 pub data Told : Type 0 where
   is_open : ℕ → Told
   has_text : List ℕ → Told
   is_done : Told
+  counts : ℕ → Told
   answers : Answer → Told
   keeps : StandingObject → Told
   fails : Errno → Told
@@ -112,6 +115,25 @@ abbrev pub changes : Caller → Result (List Inode) Errno → Whole
 changes c (Ok nodes) = record { reply = is_done; nodes = nodes }
 changes c (Err error) = record { reply = fails error; nodes = c.tree.nodes }
 
+-- the same of what was told with its nodes
+abbrev pub unless_error : {A : Type 0} → Caller → Result A Errno → (A → Whole) → Whole
+unless_error c (Ok value) onward = onward value
+unless_error c (Err error) onward = record { reply = fails error; nodes = c.tree.nodes }
+
+-- the last of the directories that are made is opened
+abbrev pub made : Caller → MakeMeant → Whole
+made c (refuses error) = record { reply = fails error; nodes = c.tree.nodes }
+made c (gives x nodes) = record { reply = is_open x; nodes = nodes }
+
+abbrev pub makes_along : Caller → Reading → Whole
+makes_along c path = made c (make_means c.tree.nodes (reading_deepest (record { nodes = c.tree.nodes; root = c.root; flags = c.below.flags }) path))
+
+-- the target in directory d with all that is below it goes, and is counted
+abbrev pub clears : Caller → List ℕ → ℕ → Whole
+clears c target d =
+    if is_dir c.tree.nodes d then record { reply = counts (cleared_rows c.tree.nodes d target); nodes = cleared c.tree.nodes d target }
+    else record { reply = fails NotDir; nodes = c.tree.nodes }
+
 abbrev pub told_by : Answer → Told
 told_by (Refused error) = fails error
 told_by answer = answers answer
@@ -143,6 +165,10 @@ op_means c (RemoveDir text) = changes c (changed_at c text Drop (λ d n. removes
 -- rename(2), renameat2(2); the faults of the old path come before those of the new one
 op_means c (Rename old new mode) =
     changes c (and_then (entry_of old Drop) (λ from. and_then (entry_of new Drop) (λ to. renamed c from to mode)))
+-- mkdir(2), as `mkdir -p` makes them
+op_means c (MkdirAll text) = unless_error c (refuse_by (text_fault text) (Ok (reading_of text))) (λ path. makes_along c path)
+-- unlink(2) and rmdir(2), as `rm -r` removes
+op_means c (RemoveAll text) = unless_error c (entry_of text Drop) (λ split. unless_error c (directory_of c split.dir) (λ d. clears c split.name d))
 -- one step on handles of the caller's, but none that opens or closes one
 op_means c (Single step) =
     if is_single step then steps (outcome c.tree c.actor step) else record { reply = fails Invalid; nodes = c.tree.nodes }

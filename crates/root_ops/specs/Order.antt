@@ -1,7 +1,8 @@
 -- The order of a call's steps: which step is due, and what its answer makes of the call.
 -- A call on an entry walks to its directory, the last link followed, and makes one step on the last name there; what it
 -- opened it closes again, just opened first. So a change is made by a handle on the directory that was found, as
--- mkdirat(2), unlinkat(2) and renameat2(2) take one, and no path is looked up twice.
+-- mkdirat(2), unlinkat(2) and renameat2(2) take one, and no path is looked up twice. The steps of a bulk call are those of
+-- bulk_ops's own orders, `MakeAllOrder` and `RemoveAllOrder`.
 use Rattle.std.specs.Prelude.{◌≡◌, ℕ, suc, ◌+◌, ◌==◌, ◌&&◌, ◌||◌, List, [], ◌∷◌, Bool, true, false, if◌then◌else◌, length, Option, Some, None, Result, Ok, Err}
 use Rattle.path_text.specs.declared.errno.Errno.{Errno}
 use Rattle.path_text.specs.declared.errno.Errno.TheVariants.{NotFound, NotDir, Invalid, NoMemory, BadHandle}
@@ -20,10 +21,12 @@ use Rattle.tree_model.specs.declared.step.StepOf.TheVariants as steps
 use Rattle.handles.specs.declared.owner.Owner.{Owner}
 use Rattle.handles.specs.Objects.{StandingObject}
 use Rattle.walk_plan.specs.declared.goal.Goal.{Goal}
-use Rattle.walk_plan.specs.declared.goal.Goal.TheVariants.{Follow, NoFollow}
+use Rattle.walk_plan.specs.declared.goal.Goal.TheVariants.{Follow, NoFollow, Deepest}
 use Rattle.step_resolver.specs.Order.{Way, Handle, Walking, Turn, found, partial, failed, is_dir_kind, refusal_of, Line, answered, no_room, not_made, IsWant}
 use Rattle.step_resolver.specs.Order as walk
 use Rattle.step_resolver.specs.View.{way_from}
+use Rattle.bulk_ops.specs.MakeAllOrder as make
+use Rattle.bulk_ops.specs.RemoveAllOrder as remove
 use Rattle.root_ops.specs.declared.aim.Aim.{Aim}
 use Rattle.root_ops.specs.declared.aim.Aim.TheVariants.{Opens, Reads, Changes, WalksOn, Renames}
 use Rattle.root_ops.specs.declared.aim.Change.{Change}
@@ -33,7 +36,7 @@ use Rattle.root_ops.specs.declared.aim.Wanted.{Wanted}
 use Rattle.root_ops.specs.declared.aim.Wanted.TheVariants as wants
 use Rattle.root_ops.specs.declared.below.Below.{Below}
 use Rattle.root_ops.specs.declared.op.Op.{Op}
-use Rattle.root_ops.specs.declared.op.Op.TheVariants.{Resolve, ResolveNoFollow, ReadLink, CreateFile, CreateDir, CreateLink, RemoveFile, RemoveDir, Rename, Single, Release}
+use Rattle.root_ops.specs.declared.op.Op.TheVariants.{Resolve, ResolveNoFollow, ReadLink, CreateFile, CreateDir, CreateLink, RemoveFile, RemoveDir, Rename, MkdirAll, RemoveAll, Single, Release}
 
 -- A reply. Of what was opened: the handle, and the names at which it stood, the innermost first.
 pub data Reply : Type 0 where
@@ -60,6 +63,10 @@ pub data Doing : Type 0 where
   checking : ℕ → ℕ → Renaming → Doing
   -- Close of this handle and then of these
   closing : ℕ → List ℕ → After → Doing
+  -- that of a MkdirAll
+  making : make.Making → Doing
+  -- that of a RemoveAll
+  removing : remove.Removing → Doing
   -- Close of what was to be released
   releasing : ℕ → Doing
 
@@ -152,6 +159,24 @@ walked below room aim (found handle names) = reached below room handle names aim
 walked below room aim (partial handle names rest) = gives_up (handle.number ∷ held_by aim) NotFound
 walked below room aim (failed error) = gives_up (held_by aim) error
 
+-- ---- bulk calls
+
+-- the way of a MkdirAll's walk, to the deepest directory that is there
+abbrev pub make_way : Below → Way
+make_way below = way_from below.root Deepest below.flags
+
+-- where a MkdirAll has come to: the last directory is opened
+abbrev pub makes : make.MakeTurn → CallTurn
+makes (make.more call) = more (making call)
+makes (make.made handle names) = ends (opened handle names)
+makes (make.failed error) = ends (fault error)
+
+-- where a RemoveAll has come to: what was removed is counted
+abbrev pub clears : remove.Turn → CallTurn
+clears (remove.more call) = more (removing call)
+clears (remove.removed n) = ends (count n)
+clears (remove.failed error) = ends (fault error)
+
 -- ---- the beginning
 
 abbrev pub walks : Below → Aim → Reading → CallTurn
@@ -172,6 +197,16 @@ in_directory below change (Ok split) = walks below (Changes change split.name) s
 
 abbrev pub on_entry : Below → Rule → Change → List ℕ → CallTurn
 on_entry below rule change text = unless_fault (text_fault text) (in_directory below change (split_of (reading_of text) rule))
+
+abbrev pub make_missing : Below → List ℕ → CallTurn
+make_missing below text = unless_fault (text_fault text) (makes (make.begins (make_way below) (reading_of text)))
+
+abbrev pub clear_in : Below → Result Split Errno → CallTurn
+clear_in below (Err error) = ends (fault error)
+clear_in below (Ok split) = clears (remove.begins (way_from below.root Follow below.flags) split.name split.dir)
+
+abbrev pub clear_entry : Below → List ℕ → CallTurn
+clear_entry below text = unless_fault (text_fault text) (clear_in below (split_of (reading_of text) Drop))
 
 abbrev pub renaming_of : Split → Split → Mode → Renaming
 renaming_of old new mode = record { old = old.name; new = new.name; mode = mode; slash = old.slash || new.slash }
@@ -221,6 +256,8 @@ begins below (CreateLink path text) = on_entry below Refuse (changes.MakeLink te
 begins below (RemoveFile path) = on_entry below Refuse changes.RemoveFile path
 begins below (RemoveDir path) = on_entry below Drop changes.RemoveDir path
 begins below (Rename old new mode) = unless_fault (text_fault old) (from_entry below mode new (split_of (reading_of old) Drop))
+begins below (MkdirAll path) = make_missing below path
+begins below (RemoveAll path) = clear_entry below path
 begins below (Single step) = single step
 begins below (Release standing) = releases below.root.owner standing
 
@@ -238,6 +275,8 @@ begins_without below (CreateLink path text) = lacks path
 begins_without below (RemoveFile path) = lacks path
 begins_without below (RemoveDir path) = lacks path
 begins_without below (Rename old new mode) = lacks old
+begins_without below (MkdirAll path) = lacks path
+begins_without below (RemoveAll path) = lacks path
 begins_without below (Single step) = if is_single step then ends (fault NoMemory) else ends (fault Invalid)
 begins_without below (Release standing) = releases below.root.owner standing
 
@@ -260,6 +299,8 @@ take below room (acting wanted step hs) answer = closes hs (gives (reply_to want
 take below room (checking old new renaming) (Opened h x kind) = checked old new renaming h (is_dir_kind kind)
 take below room (checking old new renaming) answer = gives_up (new ∷ old ∷ []) (refusal_of answer)
 take below room (closing h hs after) answer = closes hs after
+take below room (making call) answer = makes (make.take (make_way below) room call answer)
+take below room (removing call) answer = clears (remove.take room call answer)
 take below room (releasing h) answer = ends (reply_to wants.Done answer)
 
 abbrev pub due : Below → Doing → StepOf ℕ
@@ -267,6 +308,8 @@ due below (walking walking' aim) = walk.due (way_of below aim) walking'
 due below (acting wanted step hs) = step
 due below (checking old new renaming) = steps.Open old renaming.old
 due below (closing h hs after) = steps.Close h
+due below (making call) = make.due (make_way below) call
+due below (removing call) = remove.due call
 due below (releasing h) = steps.Close h
 
 abbrev pub is_closing : Doing → Bool
@@ -274,6 +317,8 @@ is_closing (walking walking' aim) = walk.is_closing walking'
 is_closing (acting wanted step hs) = false
 is_closing (checking old new renaming) = false
 is_closing (closing h hs after) = true
+is_closing (making call) = make.is_closing call
+is_closing (removing call) = remove.is_closing call
 is_closing (releasing h) = true
 
 -- ---- a call's lines
@@ -285,6 +330,8 @@ IsUnmade (walking walking' aim) error = (IsWant error) × (walk.is_closing walki
 IsUnmade (acting wanted step hs) error = IsWant error
 IsUnmade (checking old new renaming) error = IsWant error
 IsUnmade (closing h hs after) error = ⊥
+IsUnmade (making call) error = (IsWant error) × (make.is_closing call ≡ false)
+IsUnmade (removing call) error = (IsWant error) × (remove.is_closing call ≡ false)
 IsUnmade (releasing h) error = error ≡ BadHandle
 
 -- These lines, one by one, lead from one turn to another.
@@ -317,4 +364,6 @@ steps_left below (walking walking' aim) = walk.steps_left walking' + steps_then 
 steps_left below (acting wanted step hs) = suc (length hs)
 steps_left below (checking old new renaming) = 5
 steps_left below (closing h hs after) = suc (length hs) + steps_after after
+steps_left below (making call) = make.steps_left call
+steps_left below (removing call) = remove.steps_left call
 steps_left below (releasing h) = 1

@@ -12,24 +12,26 @@ use Rattle.step_resolver.specs.Footprint.{is_want}
 use Rattle.step_resolver.specs.Order.{Handle, Line, answered, no_room, not_made}
 use Rattle.root_ops.specs.declared.op.Op.TheVariants.{Release}
 use Rattle.root_ops.specs.CallHistory.{CallInHistory, actor_of, begin_of, end_of, IsCallInHistory, RepliesWith}
-use Rattle.root_ops.specs.Meaning.{Caller, Told, is_open, has_text, is_done, answers, keeps, fails, Whole, op_means}
-use Rattle.root_ops.specs.Order.{Reply, opened, link_text, done, stepped, kept, fault}
+use Rattle.root_ops.specs.Meaning.{Caller, Told, is_open, has_text, is_done, counts, answers, keeps, fails, Whole, op_means}
+use Rattle.root_ops.specs.StepCount.{is_bulk}
+use Rattle.root_ops.specs.Order.{Reply, opened, link_text, done, count, stepped, kept, fault}
 
 -- ---- what comes of a call
 
--- The object x is open by a handle that wasn't open before, and stood under the root at these names, the innermost first.
+-- The object x is open by a handle that wasn't open before, and stands under the root at these names, the innermost first.
 pub record IsOpened (c : Caller) (end : State) (x : ℕ) (handle : Handle) (names : List (List ℕ)) : Type 0 where
   pub node : handle.node ≡ x
   pub is_open : held end c.actor handle.number ≡ Some x
   pub fresh : held c.tree c.actor handle.number ≡ None
-  pub kind : option_map kind_of (object_at c.tree.nodes x) ≡ Some handle.kind
-  pub stands : Stands c.tree.nodes c.root x names
+  pub kind : option_map kind_of (object_at end.nodes x) ≡ Some handle.kind
+  pub stands : Stands end.nodes c.root x names
 
 -- the reply is the one that is meant
 abbrev pub IsReply : Caller → State → Told → Reply → Type 0
 IsReply c end (is_open x) (opened handle names) = IsOpened c end x handle names
 IsReply c end (has_text text) (link_text told) = told ≡ text
 IsReply c end is_done done = Unit {0}
+IsReply c end (counts n) (count told) = told ≡ n
 IsReply c end (answers answer) (stepped told) = told ≡ answer
 IsReply c end (keeps standing) (kept told) = told ≡ standing
 IsReply c end (fails error) (fault told) = told ≡ error
@@ -82,5 +84,5 @@ caller_of c = record { tree = begin_of c; actor = actor_of c; root = c.root; bel
 -- Where nobody else acts in the window, the reply and the nodes at its end are those that the operation means in the tree as
 -- the window begins, unless memory, room in the book or handles ran short.
 abbrev pub QuietCallsMean : Type 0
-QuietCallsMean = (c : CallInHistory) (reply : Reply) → IsCallInHistory c → RepliesWith c reply → IsQuiet c → ClosesWhatIsOpen c
+QuietCallsMean = (c : CallInHistory) (reply : Reply) → is_bulk c.op ≡ false → IsCallInHistory c → RepliesWith c reply → IsQuiet c → ClosesWhatIsOpen c
     → ComesTo (caller_of c) (end_of c) c.room c.lines (op_means (caller_of c) c.op) reply

@@ -1,9 +1,9 @@
 -- What a call has come to, as the order of steps sees it.
-use Rattle.std.specs.Prelude.{◌≡◌, ℕ, ◌+◌, ◌*◌, Bool, if◌then◌else◌}
+use Rattle.std.specs.Prelude.{◌≡◌, ℕ, Bool, if◌then◌else◌}
 use Rattle.path_text.specs.declared.flags.Flags.{Flags}
 use Rattle.tree_model.specs.declared.answer.Answer.{Answer}
 use Rattle.step_resolver.specs.declared.walk.Root.{Root}
-use Rattle.step_resolver.specs.TurnView as walk
+use Rattle.bulk_ops.specs.RemoveAllTurnView.{REMOVE_STEPS_MAX}
 use Rattle.root_ops.specs.declared.below.Below.{Below}
 use Rattle.root_ops.specs.declared.call.CallTurn.{CallTurn as Outcome}
 use Rattle.root_ops.specs.declared.call.CallTurn.TheVariants as outcome
@@ -40,6 +40,6 @@ abbrev pub steps_to_come : Outcome → ℕ
 steps_to_come (outcome.More call) = steps_left call.below call.doing
 steps_to_come (outcome.Done reply) = 0
 
--- two walks, and the steps of a rename
+-- those of a RemoveAll, which are more than the two walks of a rename and its steps
 abbrev pub STEPS_MAX : ℕ
-STEPS_MAX = 2 * walk.STEPS_MAX + 6
+STEPS_MAX = REMOVE_STEPS_MAX

@@ -8,7 +8,7 @@ use Rattle.root_ops.specs.declared.below.Below.{Below}
 use Rattle.root_ops.specs.declared.doing.After.{After as ToCome}
 use Rattle.root_ops.specs.declared.doing.After.TheVariants.{Gives, Acts}
 use Rattle.root_ops.specs.declared.doing.Doing.{Doing as Pending}
-use Rattle.root_ops.specs.declared.doing.Doing.TheVariants.{Walking, Acting, Checking, Closing}
+use Rattle.root_ops.specs.declared.doing.Doing.TheVariants.{Walking, Acting, Checking, Closing, Making, Removing}
 use Rattle.root_ops.specs.declared.doing.Handles.{Handles}
 use Rattle.root_ops.specs.declared.doing.Handles.TheVariants.{Empty, One, Two, Three}
 use Rattle.root_ops.specs.declared.doing.Next.{Next}
@@ -17,7 +17,7 @@ use Rattle.root_ops.specs.declared.doing.Stage.{Stage}
 use Rattle.root_ops.specs.declared.doing.Stage.TheVariants.{Boxed, Releasing}
 use Rattle.root_ops.specs.declared.reply.Reply.{Reply as Told}
 use Rattle.root_ops.specs.declared.reply.Reply.TheVariants.{Opened, Text, Done, Count, Stepped, Kept, Fault}
-use Rattle.root_ops.specs.Order.{Reply, opened, link_text, done, count, stepped, kept, fault, After, gives, acts, Doing, walking, acting, checking, closing, releasing, CallTurn, more, ends, way_of}
+use Rattle.root_ops.specs.Order.{Reply, opened, link_text, done, count, stepped, kept, fault, After, gives, acts, Doing, walking, acting, checking, closing, making, removing, releasing, CallTurn, more, ends, way_of, make_way}
 
 -- where it walks, and what is due
 pub record CallView : Type 0 where
@@ -51,6 +51,8 @@ doing_view (Walking walk aim) = walking walk.walking aim
 doing_view (Acting wanted step held) = acting wanted step (list_of held)
 doing_view (Checking old new renaming) = checking old new renaming
 doing_view (Closing first others after) = closing first (list_of others) (after_view after)
+doing_view (Making call) = making call.making
+doing_view (Removing call) = removing call
 
 -- what was opened is this owner's
 abbrev pub IsOwned : Owner → Told → Type 0
@@ -67,19 +69,23 @@ abbrev pub IsAfter : Below → ToCome → Type 0
 IsAfter below (Gives reply) = IsOwned below.root.owner reply
 IsAfter below (Acts wanted step held) = Unit {0}
 
--- a walk under way is the root's owner's, and as the restrictions and the aim say
+-- a walk under way is the root's owner's, and as the restrictions and the aim say; so is what makes directories
 abbrev pub IsOurs : Below → Pending → Type 0
 IsOurs below (Walking walk aim) = (walk.owner ≡ below.root.owner) × (walk.way ≡ way_of below aim)
 IsOurs below (Acting wanted step held) = Unit {0}
 IsOurs below (Checking old new renaming) = Unit {0}
 IsOurs below (Closing first others after) = IsAfter below after
+IsOurs below (Making call) = (call.owner ≡ below.root.owner) × (call.way ≡ make_way below)
+IsOurs below (Removing call) = Unit {0}
 
--- no walk is under way
+-- no walk is under way, and no bulk call
 abbrev pub HoldsNoWalk : Pending → Type 0
 HoldsNoWalk (Walking walk aim) = ⊥
 HoldsNoWalk (Acting wanted step held) = Unit {0}
 HoldsNoWalk (Checking old new renaming) = Unit {0}
 HoldsNoWalk (Closing first others after) = Unit {0}
+HoldsNoWalk (Making call) = ⊥
+HoldsNoWalk (Removing call) = ⊥
 
 -- ---- what comes next
 

@@ -1,8 +1,13 @@
 //! The first turn of a call, by the kind of its operation.
-ghost use Rattle.std.specs.Prelude.{◌≡◌, ◌||◌, [], Ok};
+ghost use Rattle.std.specs.Prelude.{◌≡◌, ◌||◌, [], Ok, IfOk};
 ghost use Rattle.path_text.specs.Split.{split_of};
 ghost use Rattle.path_text.specs.Text.{text_fault, reading_of};
-ghost use Rattle.root_ops.specs.Order.{held_by, walks, on_path, on_entry, from_entry, unless_fault, lacks, single, begins_without, releases, is_single, same_owner, ends, fault};
+ghost use Rattle.root_ops.specs.Order.{held_by, walks, on_path, on_entry, from_entry, unless_fault, lacks, single, begins_without, releases, is_single, same_owner, ends, fault, make_way, makes, make_missing, clears, clear_entry};
+ghost use Rattle.root_ops.specs.View.{HoldsNoWalk};
+ghost use Rattle.step_resolver.specs.View.{way_from};
+ghost use Rattle.bulk_ops.specs.MakeAllOrder as make;
+ghost use Rattle.bulk_ops.specs.RemoveAllOrder as remove;
+ghost use Rattle.walk_plan.specs.declared.goal.Goal.TheVariants.{Follow};
 ghost use Rattle.root_ops.specs.TurnView.{turn_view, Keeps, Either};
 ghost use Rattle.root_ops.specs.declared.op.Op.TheVariants.{Single};
 
@@ -11,8 +16,9 @@ use crate::below::Below;
 use crate::call::{Call, CallTurn};
 use crate::doing::{Doing, Handles, Stage};
 use crate::reply::Reply;
+use bulk_ops::{MkdirAll, RemoveAll};
 use handles::{Owner, Standing};
-use path_text::{Bytes, Errno, Path, Rule, Split};
+use path_text::{Bytes, Errno, Name, NoMemory, Path, Rule, Split};
 use std::alloc::{AllocFailed, Global};
 use tree_model::{Mode, Step, StepOf};
 
@@ -45,23 +51,63 @@ fn one_has_slash(old: &Split, new: &Split) -> bool
     old.slash || new.slash
 }
 
+// The box for what will be due. It is asked for first, since a walk under way can't be let go.
+fn room(alloc: Global, below: Below) -> Result<Box<Doing>, NoMemory>
+    ensures { IfOk result (λ state. HoldsNoWalk state.value) }
+{
+    match Box::new(alloc, Doing::stand_in(below.handle())) {
+        Ok(state) => Ok(state),
+        Err(AllocFailed { value }) => {
+            value.let_go();
+            Err(NoMemory)
+        }
+    }
+}
+
 impl Call {
-    // A call that begins with a walk. The box is asked for first, since a walk under way can't be let go.
+    // A call that begins with a walk.
     fn walk(alloc: Global, below: Below, aim: Aim, path: Path) -> CallTurn
         requires { held_by aim ≡ [] }
         ensures turn { Either (walks below aim path) (ends (fault Errno.NoMemory)) (turn_view result) }
         ensures kept { Keeps below result }
     {
-        match Box::new(alloc, Doing::stand_in(below.handle())) {
+        match room(alloc, below) {
             Ok(state) => {
                 let turn = below.start(alloc, path, aim.goal());
                 let next = below.walked(alloc, aim, turn);
                 Call::turned(below, state, next)
             }
-            Err(AllocFailed { value }) => {
-                value.let_go();
-                failed(Errno::NoMemory)
+            Err(_) => failed(Errno::NoMemory),
+        }
+    }
+
+    // All that is missing of the path is made.
+    fn make(alloc: Global, below: Below, path: Path) -> CallTurn
+        ensures turn { Either (makes (make.begins (make_way below) path)) (ends (fault Errno.NoMemory)) (turn_view result) }
+        ensures kept { Keeps below result }
+    {
+        match room(alloc, below) {
+            Ok(state) => {
+                let turn = MkdirAll::start(alloc, below.root, path, below.flags);
+                let next = below.made(turn);
+                Call::turned(below, state, next)
             }
+            Err(_) => failed(Errno::NoMemory),
+        }
+    }
+
+    // The entry of the name is removed with all below it.
+    fn clear(alloc: Global, below: Below, directory: Path, name: Name) -> CallTurn
+        ensures turn { Either (clears (remove.begins (way_from below.root Follow below.flags) name directory)) (ends (fault Errno.NoMemory)) (turn_view result) }
+        ensures kept { Keeps below result }
+    {
+        match room(alloc, below) {
+            Ok(state) => {
+                let turn = RemoveAll::start(alloc, below.root, directory, name, below.flags);
+                let next = below.cleared(turn);
+                Call::turned(below, state, next)
+            }
+            Err(_) => failed(Errno::NoMemory),
         }
     }
 
@@ -94,6 +140,31 @@ impl Call {
                     let aim = Aim::Changes(change, split.name);
                     Call::walk(alloc, below, aim, split.dir)
                 }
+                Err(error) => failed(error),
+            },
+            Err(error) => failed(error),
+        }
+    }
+
+    /// A call that makes all that is missing of a path.
+    pub(crate) fn on_missing(alloc: Global, below: Below, text: &Bytes) -> CallTurn
+        ensures turn { Either (make_missing below text.now) (lacks text.now) (turn_view result) }
+        ensures kept { Keeps below result }
+    {
+        match Path::parse(alloc, text.as_slice()) {
+            Ok(path) => Call::make(alloc, below, path),
+            Err(error) => failed(error),
+        }
+    }
+
+    /// A call that removes the entry of a path's last name with all below it. A slash at the end is taken away.
+    pub(crate) fn on_all_below(alloc: Global, below: Below, text: &Bytes) -> CallTurn
+        ensures turn { Either (clear_entry below text.now) (lacks text.now) (turn_view result) }
+        ensures kept { Keeps below result }
+    {
+        match Path::parse(alloc, text.as_slice()) {
+            Ok(path) => match path.split_last(Rule::Drop) {
+                Ok(split) => Call::clear(alloc, below, split.dir, split.name),
                 Err(error) => failed(error),
             },
             Err(error) => failed(error),

@@ -3,7 +3,11 @@ ghost use Rattle.std.specs.Prelude.{◌≡◌, ◌≤◌, ◌∷◌, [], Bool, r
 ghost use Rattle.step_resolver.specs.View.{way_from};
 ghost use Rattle.step_resolver.specs.TurnView.{standing_handle};
 ghost use Rattle.step_resolver.specs.TurnView as walk;
-ghost use Rattle.root_ops.specs.Order.{comes, closes, gives_up, renames, walked_on, reached, walked, take, checking, goal_of, way_of};
+ghost use Rattle.root_ops.specs.Order.{comes, closes, gives_up, renames, walked_on, reached, walked, take, checking, goal_of, way_of, make_way, makes, clears};
+ghost use Rattle.bulk_ops.specs.MakeAllOrder.{MakeTurn};
+ghost use Rattle.bulk_ops.specs.MakeAllView as making;
+ghost use Rattle.bulk_ops.specs.RemoveAllOrder.{Turn as ClearTurn};
+ghost use Rattle.bulk_ops.specs.RemoveAllTurnView as removing;
 ghost use Rattle.root_ops.specs.View.{doing_view, after_view, list_of, next_view, IsNext, IsOurs, IsAfter};
 ghost use Rattle.root_ops.specs.TurnView.{TakesTo};
 
@@ -11,6 +15,7 @@ use crate::aim::{Aim, Renaming, Wanted};
 use crate::answers::{refusal_of, reply_to};
 use crate::doing::{After, Doing, Handles, Next};
 use crate::reply::Reply;
+use bulk_ops::{BulkTurn, MkdirAll, RemoveAll};
 use handles::{Owner, Standing};
 use path_text::{Errno, Flags, Path};
 use std::alloc::Global;
@@ -177,6 +182,33 @@ impl Below {
         }
     }
 
+    /// Where a call that makes all that is missing has come to.
+    pub(crate) fn made(&self, turn: BulkTurn<MkdirAll>) -> Next
+        requires { making.Keeps self.now.root.owner (make_way self.now) turn }
+        ensures turn { (to : MakeTurn) → making.IsTurn turn to → next_view result ≡ makes to }
+        ensures kept { IsNext self.now result }
+    {
+        match turn {
+            BulkTurn::More(call) => Next::Due(Doing::Making(call)),
+            BulkTurn::Made(standing) => Next::Over(Reply::Opened(standing)),
+            BulkTurn::Removed(count) => Next::Over(Reply::Count(count)),
+            BulkTurn::Failed(error) => Next::Over(Reply::Fault(error)),
+        }
+    }
+
+    /// Where a call that removes an entry with all below it has come to.
+    pub(crate) fn cleared(&self, turn: BulkTurn<RemoveAll>) -> Next
+        ensures turn { (to : ClearTurn) → removing.IsTurn turn to → next_view result ≡ clears to }
+        ensures kept { (to : ClearTurn) → removing.IsTurn turn to → IsNext self.now result }
+    {
+        match turn {
+            BulkTurn::More(call) => Next::Due(Doing::Removing(call)),
+            BulkTurn::Made(standing) => Next::Over(Reply::Opened(standing)),
+            BulkTurn::Removed(count) => Next::Over(Reply::Count(count)),
+            BulkTurn::Failed(error) => Next::Over(Reply::Fault(error)),
+        }
+    }
+
     // What is to be renamed was opened to see that it is a directory, and is closed again.
     fn checked(&self, old: HandleNo, new: HandleNo, renaming: Renaming, answer: Answer) -> Next
         ensures turn { TakesTo self.now (checking old new renaming) answer (next_view result) }
@@ -225,6 +257,8 @@ impl Below {
                 others,
                 after,
             } => self.close(others, after),
+            Doing::Making(call) => self.made(call.take(alloc, answer)),
+            Doing::Removing(call) => self.cleared(call.take(alloc, answer)),
         }
     }
 }

@@ -95,6 +95,8 @@ impl Call {
                 Call::on_entry(alloc, below, Rule::Drop, Change::RemoveDir, &path)
             }
             Op::Rename(old, new, mode) => Call::between(alloc, below, &old, &new, mode),
+            Op::MkdirAll(path) => Call::on_missing(alloc, below, &path),
+            Op::RemoveAll(path) => Call::on_all_below(alloc, below, &path),
             Op::Single(step) => Call::single(alloc, below, step),
             Op::Release(standing) => Call::release(below, standing),
         }

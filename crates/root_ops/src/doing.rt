@@ -5,6 +5,7 @@ ghost use Rattle.root_ops.specs.View.{HoldsNoWalk, IsOurs, is_nameless};
 
 use crate::aim::{Aim, Renaming, Wanted};
 use crate::reply::Reply;
+use bulk_ops::{MkdirAll, RemoveAll};
 use path_text::NoMemory;
 use std::alloc::Global;
 use step_resolver::Walk;
@@ -45,6 +46,10 @@ pub(crate) enum Doing {
         others: Handles,
         after: After,
     },
+    /// That of a call that makes all that is missing of a path.
+    Making(MkdirAll),
+    /// That of a call that removes an entry with all that is below it.
+    Removing(RemoveAll),
 }
 
 /// What comes once all that is due to be closed is closed.
@@ -106,7 +111,7 @@ impl Doing {
     }
 
     /// The step that is due. NoMemory where the room of a name was refused; a step without a name takes no memory.
-    #[tactic(auto, using(crate::proofs::Rooms::nameless_opens_none))]
+    #[tactic(auto, using(crate::proofs::Rooms::nameless_opens_none, crate::proofs::Bulk::nameless_makes_none, crate::proofs::Bulk::nameless_removes_none))]
     pub(crate) fn due(&self, alloc: Global) -> Result<Step, NoMemory>
         ensures exact { (below : Below) → IsOurs below self.now → IfOk result (λ step. step ≡ due below (doing_view self.now)) }
         ensures no_memory { (below : Below) → IsOurs below self.now → is_nameless (due below (doing_view self.now)) ≡ true → IsOk result }
@@ -128,6 +133,8 @@ impl Doing {
                 others: _,
                 after: _,
             } => Ok(StepOf::Close(*first)),
+            Doing::Making(call) => call.due(alloc),
+            Doing::Removing(call) => call.due(alloc),
         }
     }
 
@@ -151,7 +158,7 @@ impl Doing {
                 others: _,
                 after: _,
             } => {}
-            // A walk can't be let go.
+            // A walk can't be let go, and no bulk call.
             _ => unreachable!(),
         }
     }

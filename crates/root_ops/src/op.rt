@@ -30,6 +30,11 @@ pub enum Op {
     /// Renames the entry of the first path to the second: renameat2(2). A slash at the end of either is taken away, and
     /// demands that what is renamed is a directory.
     Rename(Bytes, Bytes, Mode),
+    /// Makes all that is missing of the path, each a directory, and opens the last: mkdir(2), as `mkdir -p` makes them.
+    MkdirAll(Bytes),
+    /// Removes the entry with all that is below it: unlink(2) and rmdir(2), as `rm -r` does. A slash at the path's end is
+    /// taken away.
+    RemoveAll(Bytes),
     /// One single step, but none that opens or closes a handle.
     Single(Step),
     /// Closes what was opened: close(2).
@@ -60,6 +65,8 @@ impl Op {
             Op::RemoveFile(path) => Op::RemoveFile(path.copy(alloc)?),
             Op::RemoveDir(path) => Op::RemoveDir(path.copy(alloc)?),
             Op::Rename(old, new, mode) => Op::Rename(old.copy(alloc)?, new.copy(alloc)?, *mode),
+            Op::MkdirAll(path) => Op::MkdirAll(path.copy(alloc)?),
+            Op::RemoveAll(path) => Op::RemoveAll(path.copy(alloc)?),
             Op::Single(step) => Op::Single(step.copy(alloc)?),
             Op::Release(_) => return Err(Errno::Invalid),
         })

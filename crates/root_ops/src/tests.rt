@@ -1,5 +1,9 @@
-//! Calls over the plain tree on which nobody else acts, each operation and each of its refusals, as openat2(2), mkdir(2),
-//! symlink(2), unlink(2), rmdir(2), rename(2) and readlink(2) tell of them.
+//! Calls over the plain tree and over the indexed one: each operation and each of its refusals where nobody else acts, and
+//! the bulk calls among others' steps, as openat2(2), mkdir(2), symlink(2), unlink(2), rmdir(2), rename(2) and readlink(2)
+//! tell of them.
+ghost use Rattle.std.specs.Prelude.{IfOk};
+ghost use Rattle.tree_model.specs.Trees.{IsTree};
+
 use crate::{Call, CallTurn, Op, Reply, Request};
 use handles::Owner;
 use path_text::{Bytes, Errno, Flags, Name, Names, NoMemory};
@@ -9,6 +13,7 @@ use step_resolver::Root;
 use transcript::{Output, read_step};
 use tree_list::{Entry, ListTree, New};
 use tree_model::{Actor, Answer, HandleNo, Mode, StepOf, Tree};
+use tree_slab::SlabTree;
 
 const PLAIN: Flags = Flags {
     beneath: false,
@@ -72,13 +77,20 @@ rename a/b/x/y none/z plain -> 5 fault ENOENT
 rename a none/z plain -> * fault ENOENT";
 
 const CHANGES: &str =
-    "create_file a/n -> 4 done, create_file a/n -> * fault EEXIST, resolve a/n -> * opened file 11 /a/n, create_file abs -> * fault EEXIST, create_file x/ -> 0 fault ENOTDIR, create_file a/b/f/x -> * fault ENOTDIR, create_dir d/ -> * done, resolve d -> * opened dir 12 /d, create_link l  -> * fault ENOENT, create_link l q -> * done, no_follow l -> * opened link 13 /l, read_link abs -> * text /a/b, read_link a -> * fault EINVAL, read_link abs/ -> * fault EINVAL, remove_file a -> * fault EISDIR, remove_dir abs -> * fault ENOTDIR, remove_dir a -> * fault ENOTEMPTY, remove_dir a/. -> 0 fault EINVAL, remove_dir / -> 0 fault EINVAL, remove_file abs -> * done, no_follow abs -> * fault ENOENT, dup 0 -> 0 fault EINVAL
+    "create_file a/n -> 4 done, create_file a/n -> * fault EEXIST, resolve a/n -> * opened file 11 /a/n, create_file abs -> * fault EEXIST, create_file x/ -> 0 fault ENOTDIR, create_file a/b/f/x -> * fault ENOTDIR, create_dir d/ -> * done, resolve d -> * opened dir 12 /d, create_link l  -> * fault ENOENT, create_link l q -> * done, no_follow l -> * opened link 13 /l, read_link abs -> * text /a/b, read_link a -> * fault EINVAL, read_link abs/ -> * fault EINVAL, remove_file a -> * fault EISDIR, remove_dir abs -> * fault ENOTDIR, remove_dir a -> * fault ENOTEMPTY, remove_dir a/. -> 0 fault EINVAL, remove_dir / -> 0 fault EINVAL, remove_file abs -> * done, no_follow abs -> * fault ENOENT, remove_all d -> 8 count 1, dup 0 -> 0 fault EINVAL
 create_dir none/d -> * fault ENOENT, create_dir a -> * fault EEXIST, create_dir .. -> 0 fault EINVAL
 create_link a q -> * fault EEXIST, create_link l/ q -> 0 fault ENOTDIR, create_link abs/l q -> * done, read_link a/b/l -> * text q
 remove_file none -> * fault ENOENT, remove_file a/b/f/ -> 0 fault ENOTDIR, remove_file loop/x -> * fault ELOOP
 remove_dir none -> * fault ENOENT, create_dir d -> * done, remove_dir d/ -> * done, resolve d -> * fault ENOENT
 read_link none -> * fault ENOENT, read_link up -> * text ../../a
 no_follow up/ -> * opened dir 2 /a, resolve up -> * opened dir 2 /a, resolve  -> 0 fault ENOENT, no_follow / -> 2 opened dir 1 /";
+
+const BULK: &str =
+    "mkdir_all abs/n/m -> 15 opened dir 12 /a/b/n/m, mkdir_all abs/n/m -> * opened dir 12 /a/b/n/m, mkdir_all a/b/f -> * fault ENOTDIR, mkdir_all a/b/f/q -> * fault ENOTDIR
+mkdir_all dang/q -> * fault ENOENT, mkdir_all x/../m -> * fault ENOENT, resolve x -> * fault ENOENT, mkdir_all / -> * opened dir 1 /, mkdir_all  -> 0 fault ENOENT
+create_link a/b/s /secret -> * done, remove_all a -> 15 count 4, remove_all a -> 4 count 0, resolve a -> * fault ENOENT
+remove_all a/b/ -> * count 2, resolve a -> * opened dir 2 /a, remove_all abs -> * count 1, remove_all abs/ -> * count 0
+remove_all a/.. -> 0 fault EINVAL, remove_all / -> 0 fault EINVAL, remove_all a/b/f/x -> * fault ENOTDIR, remove_all none/x -> * fault ENOENT";
 
 const SINGLES: &str = "list 0 -> 1 stepped listed 5 a abs dang loop up
 make_dir 0 d -> 1 stepped done, make_dir 0 d -> 1 fault EEXIST, below 0 0 -> 1 stepped names /
@@ -90,17 +102,37 @@ resolve abs/f -> 3 fault EXDEV
 resolve up -> 3 fault EXDEV
 resolve a/../.. -> 5 fault EXDEV
 resolve a/b/f -> 6 opened file 4 /a/b/f
-rename a/b/f /x plain -> 5 fault EXDEV";
+rename a/b/f /x plain -> 5 fault EXDEV
+mkdir_all /n -> 0 fault EXDEV, mkdir_all a/n -> * opened dir 11 /a/n, remove_all /a -> 0 fault EXDEV";
 
 const WITH_NO_LINKS: &str = "resolve abs/f -> 2 fault ELOOP
 resolve up -> * fault ELOOP
 no_follow up -> * opened link 6 /up
 no_follow up/ -> * fault ELOOP
 resolve /../a/b -> * opened dir 3 /a/b
-read_link abs -> * text /a/b";
+read_link abs -> * text /a/b
+remove_all abs/f -> * fault ELOOP, remove_all abs -> 4 count 1, mkdir_all up/n -> * fault ELOOP";
 
 const WITH_BOTH: &str = "resolve abs -> * fault ELOOP
 resolve /a -> 0 fault EXDEV";
+
+// A call, the others' steps, the number of own steps before these, and how the call ends after so many steps. The others'
+// handles are 1 on `/c`, 2 on `/c/a` and 3 on `/secret`.
+const RACES: [(&str, &str, u32, &str); 3] = [
+    (
+        "remove_all a",
+        "rename 2 b 1 b2 plain, make_link 2 b /secret",
+        6,
+        "12 count 2",
+    ),
+    (
+        "mkdir_all a/n/m",
+        "remove_dir 2 n, make_link 2 n /secret",
+        4,
+        "7 fault ENOTDIR",
+    ),
+    ("mkdir_all a/n", "rename 1 a 3 a plain", 6, "8 fault EAGAIN"),
+];
 
 // A word, and what comes after it.
 fn cut(line: &str) -> (&str, &str) {
@@ -125,18 +157,34 @@ fn entry(alloc: Global, path: &str, what: &str) -> Result<Entry, Errno> {
     Ok(Entry { at, what })
 }
 
-// The base tree, and a handle on the root `/c`.
-fn tree(alloc: Global) -> Result<(ListTree, HandleNo), Errno> {
+// The base tree.
+fn entries(alloc: Global) -> Result<ListTree, Errno>
+    ensures { IfOk result (λ tree. IsTree tree.nodes) }
+{
     let mut entries = Vec::new(alloc);
     for (path, what) in ENTRIES.as_slice() {
         entries.push(entry(alloc, path, what)?)?;
     }
-    let mut tree = match ListTree::from_entries(alloc, &entries) {
-        Ok(tree) => tree,
-        Err(fault) => return Err(fault.cause),
-    };
-    let handle = tree.grant(alloc, Actor::new(0), &names_of(alloc, "/c")?)?;
+    match ListTree::from_entries(alloc, &entries) {
+        Ok(tree) => Ok(tree),
+        Err(fault) => Err(fault.cause),
+    }
+}
+
+// The base tree, and a handle on the root `/c`.
+fn tree(alloc: Global) -> Result<(ListTree, HandleNo), Errno> {
+    let mut tree = entries(alloc)?;
+    let handle = open(alloc, &mut tree)?;
     Ok((tree, handle))
+}
+
+// Opens the root; the others' directories come after it.
+fn open<T: Tree>(alloc: Global, tree: &mut T) -> Result<HandleNo, Errno> {
+    let handle = tree.grant(alloc, Actor::new(0), &names_of(alloc, "/c")?)?;
+    for path in ["/c", "/c/a", "/secret"] {
+        tree.grant(alloc, Actor::new(1), &names_of(alloc, path)?)?;
+    }
+    Ok(handle)
 }
 
 // The root by that handle, of the owner with this tag.
@@ -182,6 +230,8 @@ fn op_of(alloc: Global, line: &str) -> Result<Op, NoMemory> {
         "create_link" => Op::CreateLink(bytes(alloc, first)?, bytes(alloc, others)?),
         "remove_file" => Op::RemoveFile(bytes(alloc, first)?),
         "remove_dir" => Op::RemoveDir(bytes(alloc, first)?),
+        "mkdir_all" => Op::MkdirAll(bytes(alloc, first)?),
+        "remove_all" => Op::RemoveAll(bytes(alloc, first)?),
         "rename" => {
             let (new, mode) = cut(others);
             Op::Rename(bytes(alloc, first)?, bytes(alloc, new)?, mode_of(mode))
@@ -191,7 +241,7 @@ fn op_of(alloc: Global, line: &str) -> Result<Op, NoMemory> {
 }
 
 // The answer to the step that is due.
-fn answer_due(alloc: Global, tree: &mut ListTree, call: &Call) -> Answer {
+fn answer_due<T: Tree>(alloc: Global, tree: &mut T, call: &Call) -> Answer {
     let Ok(step) = call.due(alloc) else {
         return Answer::Refused(Errno::NoMemory);
     };
@@ -202,16 +252,40 @@ fn answer_due(alloc: Global, tree: &mut ListTree, call: &Call) -> Answer {
 }
 
 // The reply to the root's owner, and the number of steps.
-fn run(
+fn run<T: Tree>(
     alloc: Global,
-    tree: &mut ListTree,
+    tree: &mut T,
     handle: HandleNo,
     tag: u64,
     request: Request,
 ) -> (Reply, u32) {
+    run_among(alloc, tree, handle, tag, request, (0, ""))
+}
+
+// Makes the others' steps.
+fn others_act<T: Tree>(alloc: Global, tree: &mut T, others: &str) {
+    for line in others.split(", ") {
+        if let Ok(Some(step)) = read_step(alloc, line.as_bytes()) {
+            let _ = tree.step(alloc, Actor::new(1), &step);
+        }
+    }
+}
+
+// The same, where others make these steps after so many of the call's.
+fn run_among<T: Tree>(
+    alloc: Global,
+    tree: &mut T,
+    handle: HandleNo,
+    tag: u64,
+    request: Request,
+    (after, others): (u32, &str),
+) -> (Reply, u32) {
     let mut steps: u32 = 0;
     let mut turn = Call::start(alloc, request, root(handle, tag));
     loop {
+        if steps == after {
+            others_act(alloc, tree, others);
+        }
         match turn {
             CallTurn::More(call) => {
                 steps = steps.saturating_add(1);
@@ -235,7 +309,11 @@ fn reply_line(alloc: Global, reply: &Reply) -> Result<Output, NoMemory> {
             line.text("\n")?
         }
         Reply::Done => line.text("done\n")?,
-        Reply::Count(_) => line.text("count\n")?,
+        Reply::Count(count) => {
+            line.text("count ")?;
+            line.number(*count)?;
+            line.text("\n")?
+        }
         Reply::Stepped(answer) => {
             line.text("stepped ")?;
             line.answer(alloc, answer)?;
@@ -256,7 +334,7 @@ fn is_reply(alloc: Global, reply: &Reply, wanted: &str) -> bool {
 }
 
 // What was opened is closed again, as the owner's.
-fn release(alloc: Global, tree: &mut ListTree, handle: HandleNo, reply: Reply) -> bool {
+fn release<T: Tree>(alloc: Global, tree: &mut T, handle: HandleNo, reply: Reply) -> bool {
     match reply {
         Reply::Opened(standing) => {
             let request = Request {
@@ -270,9 +348,9 @@ fn release(alloc: Global, tree: &mut ListTree, handle: HandleNo, reply: Reply) -
 }
 
 // Whether a call ends as it is said, and leaves the root's handle alone open.
-fn ends(
+fn ends<T: Tree>(
     alloc: Global,
-    tree: &mut ListTree,
+    tree: &mut T,
     handle: HandleNo,
     line: &str,
     flags: Flags,
@@ -288,8 +366,13 @@ fn ends(
 }
 
 // Whether each call of a line ends so, on a base tree of their own.
-fn all_end(alloc: Global, line: &str, flags: Flags) -> Result<bool, Errno> {
-    let (mut tree, handle) = tree(alloc)?;
+fn all_end<T: Tree + Drop>(
+    alloc: Global,
+    mut tree: T,
+    line: &str,
+    flags: Flags,
+) -> Result<bool, Errno> {
+    let handle = open(alloc, &mut tree)?;
     let mut all = true;
     for call in line.split(", ") {
         all = ends(alloc, &mut tree, handle, call, flags)? && all;
@@ -297,19 +380,54 @@ fn all_end(alloc: Global, line: &str, flags: Flags) -> Result<bool, Errno> {
     Ok(all)
 }
 
+// The same on the plain tree and on the indexed one.
+fn all_end_on_both(alloc: Global, line: &str, flags: Flags) -> Result<bool, Errno> {
+    let list = entries(alloc)?;
+    let slab = SlabTree::from_list(alloc, &list, 16)?;
+    Ok(all_end(alloc, list, line, flags)? && all_end(alloc, slab, line, flags)?)
+}
+
 #[test]
 fn operations_end_as_they_do_on_linux(rt: HostRuntime) -> Result<(), Fail> {
     for (lines, flags) in [
         (RENAMES, PLAIN),
         (CHANGES, PLAIN),
+        (BULK, PLAIN),
         (SINGLES, PLAIN),
         (WITH_BENEATH, BENEATH),
         (WITH_NO_LINKS, NO_LINKS),
         (WITH_BOTH, BOTH),
     ] {
         for line in lines.split('\n') {
-            assert!(rt; all_end(rt.alloc(), line, flags)?, "{line}");
+            assert!(rt; all_end_on_both(rt.alloc(), line, flags)?, "{line}");
         }
+    }
+    Ok(())
+}
+
+// Whether the call ends so among others' steps, and leaves the root's handle alone open.
+fn ends_among<T: Tree + Drop>(
+    alloc: Global,
+    mut tree: T,
+    (call, others, after, end): (&str, &str, u32, &str),
+) -> Result<bool, Errno> {
+    let handle = open(alloc, &mut tree)?;
+    let op = op_of(alloc, call)?;
+    let flags = PLAIN;
+    let request = Request { op, flags };
+    let (reply, steps) = run_among(alloc, &mut tree, handle, OWN, request, (after, others));
+    let (count, wanted) = cut(end);
+    let counted = matches!(count.parse::<u32>(), Ok(number) if number == steps);
+    Ok(counted && is_reply(alloc, &reply, wanted) && tree.held(Actor::new(0)) == 1)
+}
+
+#[test]
+fn bulk_calls_end_among_others(rt: HostRuntime) -> Result<(), Fail> {
+    for race in RACES {
+        let list = entries(rt.alloc())?;
+        let slab = SlabTree::from_list(rt.alloc(), &list, 16)?;
+        assert!(rt; ends_among(rt.alloc(), list, race)?, "{}", race.0);
+        assert!(rt; ends_among(rt.alloc(), slab, race)?, "{}", race.0);
     }
     Ok(())
 }
@@ -364,6 +482,8 @@ fn copies_of_requests_end_as_they_do(rt: HostRuntime) -> Result<(), Fail> {
         ("resolve abs", "fault EXDEV"),
         ("create_link l q", "done"),
         ("rename a/b x plain", "done"),
+        ("mkdir_all /n", "fault EXDEV"),
+        ("remove_all a", "count 3"),
         ("list 0", "stepped listed 5 a abs dang loop up"),
     ] {
         let reply = copied(rt.alloc(), line, BENEATH)?;

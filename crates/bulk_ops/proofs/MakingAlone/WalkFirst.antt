@@ -101,14 +101,14 @@ kind_is_of File = refl
 kind_is_of (Link text) = refl
 
 -- a first name that is missing, in front of the rest
-record IsFirst (g : Ground) (d : ℕ) (rest : List AskedPart) : Type 0 where
+pub record IsFirst (g : Ground) (d : ℕ) (rest : List AskedPart) : Type 0 where
   pub follow : Bool
   pub name : List ℕ
   pub others : List AskedPart
   pub begins_with : rest ≡ Named follow name ∷ others
   pub missing : is_missing g d (Named follow name) ≡ true
 
-first_of : (g : Ground) (path : Reading) (x b : ℕ) (rest : List AskedPart) (reads : List Place) → reading_deepest g path ≡ up_to x b rest reads → IsFirst g x rest
+pub first_of : (g : Ground) (path : Reading) (x b : ℕ) (rest : List AskedPart) (reads : List Place) → reading_deepest g path ≡ up_to x b rest reads → IsFirst g x rest
 first_of g path x b rest reads e = on (leads_out path.absolute g.flags) refl
   where
     chosen : Bool → Deep

@@ -59,7 +59,7 @@ enters_few : (k h : ℕ) (names : List (List ℕ)) (level : Level) (above : List
 enters_few k h [] level above count left few = due_few k (leaves h) level above count left few
 enters_few k h (n ∷ others) level above count left few = due_few k removes_file (record { dir = h; name = n; others = others }) (level ∷ above) count left few
 
-walked_few : (way : Way) (target : List ℕ) (k : ℕ) (turn : walk.Turn) → 0 < k → FewerOnWalk k turn → FewerThan (k + (2 * CLEARING_STEPS_MAX + 1)) (walked way target turn)
+pub walked_few : (way : Way) (target : List ℕ) (k : ℕ) (turn : walk.Turn) → 0 < k → FewerOnWalk k turn → FewerThan (k + (2 * CLEARING_STEPS_MAX + 1)) (walked way target turn)
 walked_few way target k (walk.more w) some few = omega (arith, few)
 walked_few way target k (walk.found handle names) some few =
     due_few (k + (2 * CLEARING_STEPS_MAX + 1)) removes_file (record { dir = handle.number; name = target; others = [] }) [] 0 CLEARING_STEPS_MAX (omega arith)
@@ -109,7 +109,7 @@ take_lowers room (clearing (leaves h) level above count left) answer = due_few _
 take_lowers room (clearing removes_dir level above count left) answer = dir_few level above count left answer
 take_lowers room (closing h hs end) answer = closed (suc (length hs)) hs end (omega arith)
 
-a_call_left : (removing : Removing) → 0 < steps_left removing
+pub a_call_left : (removing : Removing) → 0 < steps_left removing
 a_call_left (walking way target w) = omega arith
 a_call_left (clearing stage level above count left) = omega arith
 a_call_left (closing h hs end) = omega arith

@@ -16,7 +16,7 @@ use Rattle.root_ops.specs.declared.aim.Renaming.{Renaming}
 use Rattle.root_ops.specs.declared.aim.Wanted.{Wanted}
 use Rattle.root_ops.specs.declared.aim.Wanted.TheVariants as wants
 use Rattle.root_ops.specs.declared.below.Below.{Below}
-use Rattle.root_ops.specs.Order.{Reply, opened, link_text, done, count, stepped, kept, fault, After, gives, acts, Doing, walking, acting, checking, closing, releasing, CallTurn, more, ends, closes, checked, reply_to, take, due, IsUnmade, LeadsTo}
+use Rattle.root_ops.specs.Order.{Reply, opened, link_text, done, count, stepped, kept, fault, After, gives, acts, Doing, walking, acting, checking, closing, making, removing, releasing, CallTurn, more, ends, closes, checked, reply_to, take, due, IsUnmade, LeadsTo}
 use Rattle.root_ops.proofs.Handles.HandlesHeld.{HandlesAre, LeavesHandles, rename_leaves, open_effect, OpenEffect, is_refused, is_more, one_more, one_less}
 use Rattle.root_ops.proofs.Handles.HandlesHeld as handles
 use Rattle.root_ops.proofs.Handles.OwnEvents.{nothing_more, NextOwn, next_own}
@@ -77,6 +77,8 @@ module _ (below : Below) (a : ℕ) (old : State) where
   IsTail now (acting wanted step hs) = LeavesHandles step × HandlesAre a old now hs
   IsTail now (checking d e renaming) = HandlesAre a old now (e ∷ d ∷ [])
   IsTail now (closing h hs after) = IsFine after × HandlesAre a old now (h ∷ all_of hs after)
+  IsTail now (making call) = ⊥
+  IsTail now (removing call) = ⊥
   IsTail now (releasing h) = ⊥
 
   abbrev pub IsTailTurn : State → CallTurn → Type 0
@@ -94,6 +96,8 @@ module _ (below : Below) (a : ℕ) (old : State) where
   tail_kept now new (checking d e renaming) same is = handles.kept a old now new (e ∷ d ∷ []) same is
   tail_kept now new (closing h hs after) same is = (is.0, handles.kept a old now new (h ∷ all_of hs after) same is.1)
   tail_kept now new (walking walk aim) same is = absurd is
+  tail_kept now new (making call) same is = absurd is
+  tail_kept now new (removing call) same is = absurd is
   tail_kept now new (releasing h) same is = absurd is
 
   checked_tail : (now : State) (d e : ℕ) (renaming : Renaming) (child : ℕ) (is_dir : Bool) → HandlesAre a old now (child ∷ e ∷ d ∷ []) → IsTailTurn now (checked d e renaming child is_dir)
@@ -118,6 +122,8 @@ module _ (below : Below) (a : ℕ) (old : State) where
   step_tail room now (closing h hs after) answer is told =
       closes_tail (outcome now a (due below (closing h hs after))).after hs after is.0 (one_less a old now (outcome now a (due below (closing h hs after))).after h (all_of hs after) is.1 (Close-is_less now a h))
   step_tail room now (walking walk aim) answer is told = absurd is
+  step_tail room now (making call) answer is told = absurd is
+  step_tail room now (removing call) answer is told = absurd is
   step_tail room now (releasing h) answer is told = absurd is
 
   unmade_tail : (now : State) (doing : Doing) (error : Errno) → IsTail now doing → IsUnmade doing error → IsTailTurn now (take below true doing (Refused error))
@@ -125,6 +131,8 @@ module _ (below : Below) (a : ℕ) (old : State) where
   unmade_tail now (checking d e renaming) error is why = (tt, is)
   unmade_tail now (closing h hs after) error is why = absurd why
   unmade_tail now (walking walk aim) error is why = absurd is
+  unmade_tail now (making call) error is why = absurd is
+  unmade_tail now (removing call) error is why = absurd is
   unmade_tail now (releasing h) error is why = absurd is
 
   -- the reply comes with no handle, and the actor's open handles are those from before

@@ -21,14 +21,22 @@ use Rattle.tree_model.specs.Entries.{with_some}
 use Rattle.tree_model.specs.History.{IsLegal, after_events}
 use Rattle.tree_model.proofs.HistoryLaws.{histories_keep_trees}
 use Rattle.handles.specs.Objects.{StandingObject}
-use Rattle.walk_plan.specs.declared.goal.Goal.TheVariants.{Follow, NoFollow}
+use Rattle.walk_plan.specs.declared.goal.Goal.{Goal}
+use Rattle.walk_plan.specs.declared.goal.Goal.TheVariants.{Follow, NoFollow, Deepest}
 use Rattle.step_resolver.specs.Asked.{is_deepest}
 use Rattle.step_resolver.specs.Order.{Way, Handle, Turn, found, partial, failed, Line, answered, no_room, not_made, events_of}
 use Rattle.step_resolver.specs.Order as walk
 use Rattle.step_resolver.specs.View.{way_from}
-use Rattle.step_resolver.specs.WalkHistory.{own_events}
+use Rattle.step_resolver.specs.WalkHistory.{WalkInHistory, IsWalkInHistory, own_events}
 use Rattle.step_resolver.specs.Headline.{Tells}
 use Rattle.step_resolver.proofs.Underway.StepOutcomes.{IsMore, Close-is_less}
+use Rattle.step_resolver.proofs.Ends.EveryWalk.{walks_tell}
+use Rattle.bulk_ops.specs.MakeAllOrder as make
+use Rattle.bulk_ops.specs.MakeAllTells.{Reach, not_begun, begun, MadeEnd, MakeTells}
+use Rattle.bulk_ops.specs.RemoveAllOrder as remove
+use Rattle.bulk_ops.specs.RemoveAllTells.{Tells as ClearTells}
+use Rattle.bulk_ops.proofs.MakeAllEnds.{makes_tell}
+use Rattle.bulk_ops.proofs.RemovingAll.EachEnd.{every_call_tells}
 use Rattle.root_ops.specs.declared.aim.Aim.{Aim}
 use Rattle.root_ops.specs.declared.aim.Aim.TheVariants.{Opens, Reads, Changes, WalksOn, Renames}
 use Rattle.root_ops.specs.declared.aim.Change.{Change}
@@ -36,12 +44,13 @@ use Rattle.root_ops.specs.declared.aim.Renaming.{Renaming}
 use Rattle.root_ops.specs.declared.aim.Wanted.TheVariants as wants
 use Rattle.root_ops.specs.declared.below.Below.{Below}
 use Rattle.root_ops.specs.declared.op.Op.{Op}
-use Rattle.root_ops.specs.declared.op.Op.TheVariants.{Resolve, ResolveNoFollow, ReadLink, CreateFile, CreateDir, CreateLink, RemoveFile, RemoveDir, Rename, Single, Release}
+use Rattle.root_ops.specs.declared.op.Op.TheVariants.{Resolve, ResolveNoFollow, ReadLink, CreateFile, CreateDir, CreateLink, RemoveFile, RemoveDir, Rename, MkdirAll, RemoveAll, Single, Release}
 use Rattle.root_ops.specs.Copies.{is_release}
-use Rattle.root_ops.specs.Order.{Reply, opened, link_text, done, count, stepped, kept, fault, gives, CallTurn, more, ends, releasing, walked, walked_on, walks, renames, way_of, goal_of, held_by, unless_fault, in_directory, between, from_entry, renaming_of, single, is_single, releases, same_owner, starts, LeadsTo}
+use Rattle.root_ops.specs.Order.{Reply, opened, link_text, done, count, stepped, kept, fault, gives, CallTurn, more, ends, releasing, walked, walked_on, walks, renames, way_of, goal_of, held_by, unless_fault, make_way, makes, clears, clear_in, in_directory, between, from_entry, renaming_of, single, is_single, releases, same_owner, starts, LeadsTo}
 use Rattle.root_ops.specs.Order as call
 use Rattle.root_ops.specs.CallHistory.{CallInHistory, IsCallInHistory, actor_of, begin_of, end_of, HandlesStay, AfterDone, HandlesAfter, CallsTell}
 use Rattle.root_ops.proofs.Rooms.{FindsNone, first_turn}
+use Rattle.root_ops.proofs.Bulk.{makes_led, clears_led}
 use Rattle.root_ops.proofs.Handles.HandlesHeld.{HandlesAre, change_leaves, read_leaves, rename_leaves, single_leaves, one_more}
 use Rattle.root_ops.proofs.Handles.HandlesHeld as handles
 use Rattle.root_ops.proofs.Handles.OwnEvents.{event_of, nothing_more, NextOwn, next_own}
@@ -197,14 +206,72 @@ module _ (below : Below) (r : ℕ) (old : State) where
       subst (λ (last : State). Told below.root.owner.actor old last reply) (sym p.last)
       (walk_end aim path p.before w.first w.room w.end w.ended empty goal has tells w.rest p.after reply p.legal_after p.own_after w.onward)
 
-  -- ---- each operation
-
   fault_ends : (error : Errno) → EndsFrom old (ends (fault error))
   fault_ends error = tail_from old (ends (fault error)) (tt, none_held)
 
   unless_ends : (why : Option Errno) (turn : CallTurn) → EndsFrom old turn → EndsFrom old (unless_fault why turn)
   unless_ends (Some error) turn over = fault_ends error
   unless_ends None turn over = over
+
+  -- ---- a bulk call
+
+  -- the actor's own events are those of these lines, which a bulk call was told on this way
+  abbrev bulk_in : Way → Reading → List Event → List Line → WalkInHistory
+  bulk_in way path window lines = record {
+    opening = old;
+    before = [];
+    window = window;
+    actor = below.root.owner.actor;
+    way = way;
+    root = r;
+    path = path;
+    lines = lines;
+  }
+
+  is_bulk_in : (goal : Goal) (path : Reading) (window : List Event) (lines : List Line) → HasRoot below r old → IsLegal old window
+      → own_events below.root.owner.actor window ≡ events_of below.root.owner.actor lines → IsWalkInHistory (bulk_in (way_from below.root goal below.flags) path window lines)
+  is_bulk_in goal path window lines has legal own =
+      record { tree = has.tree; legal_before = tt; legal = legal; own = own; root = has.root; root_is_dir = has.root_is_dir }
+
+  made_told : (path : Reading) (window : List Event) (lines : List Line) (end : make.MakeTurn) (reply : Reply) → makes end ≡ ends reply
+      → MakeTells (bulk_in (make_way below) path window lines) end → Told below.root.owner.actor old (after_events old window) reply
+  made_told path window lines (make.more call) reply is tells = cc (is)
+  made_told path window lines (make.made handle names) reply is tells =
+      subst (Told below.root.owner.actor old (after_events old window)) (same_reply (opened handle names) reply is) (by tells.reach tells.ends)
+    where
+      by : (reach : Reach (bulk_in (make_way below) path window lines)) → MadeEnd (bulk_in (make_way below) path window lines) reach handle names
+          → IsMore old below.root.owner.actor (after_events old window) handle.number handle.node
+      by not_begun made = record { is_open = made.0.new.is_open; fresh = made.0.new.fresh; others = made.0.new.others }
+      by (begun p) made = record { is_open = made.new.is_open; fresh = made.new.fresh; others = made.new.others }
+  made_told path window lines (make.failed error) reply is tells =
+      subst (Told below.root.owner.actor old (after_events old window)) (same_reply (fault error) reply is) tells.handles
+
+  makes_end : (path : Reading) → HasRoot below r old → EndsFrom old (makes (make.begins (make_way below) path))
+  makes_end path has lines window reply legal own leads =
+      let by = makes_led below (make.begins (make_way below) path) lines reply leads in
+      made_told path window lines by.end reply by.is_reply
+      (makes_tell (bulk_in (make_way below) path window lines) by.end (is_bulk_in Deepest path window lines has legal own) by.led)
+
+  cleared_told : (path : Reading) (window : List Event) (lines : List Line) (target : List ℕ) (end : remove.Turn) (reply : Reply) → clears end ≡ ends reply
+      → ClearTells (bulk_in (way_from below.root Follow below.flags) path window lines) target end → Told below.root.owner.actor old (after_events old window) reply
+  cleared_told path window lines target (remove.more call) reply is tells = cc (is)
+  cleared_told path window lines target (remove.removed n) reply is tells =
+      subst (Told below.root.owner.actor old (after_events old window)) (same_reply (count n) reply is) tells.handles
+  cleared_told path window lines target (remove.failed error) reply is tells =
+      subst (Told below.root.owner.actor old (after_events old window)) (same_reply (fault error) reply is) tells.handles
+
+  clears_at : (split : Split) → HasRoot below r old → EndsFrom old (clears (remove.begins (way_from below.root Follow below.flags) split.name split.dir))
+  clears_at split has lines window reply legal own leads =
+      let way = way_from below.root Follow below.flags in
+      let by = clears_led below (remove.begins way split.name split.dir) lines reply leads in
+      cleared_told split.dir window lines split.name by.end reply by.is_reply
+      (every_call_tells walks_tell (bulk_in way split.dir window lines) split.name by.end (is_bulk_in Follow split.dir window lines has legal own) refl by.led)
+
+  clears_end : (split : Result Split Errno) → HasRoot below r old → EndsFrom old (clear_in below split)
+  clears_end (Err error) has = fault_ends error
+  clears_end (Ok split) has = clears_at split has
+
+  -- ---- each operation
 
   in_directory_ends : (change : Change) (split : Result Split Errno) → HasRoot below r old → EndsFrom old (in_directory below change split)
   in_directory_ends change (Err error) has = fault_ends error
@@ -239,6 +306,8 @@ module _ (below : Below) (r : ℕ) (old : State) where
   op_ends true (RemoveFile path) e has = unless_ends (text_fault path) _ (in_directory_ends _ (split_of (reading_of path) Refuse) has)
   op_ends true (RemoveDir path) e has = unless_ends (text_fault path) _ (in_directory_ends _ (split_of (reading_of path) Drop) has)
   op_ends true (Rename d n mode) e has = unless_ends (text_fault d) _ (from_entry_ends mode n (split_of (reading_of d) Drop) has)
+  op_ends true (MkdirAll path) e has = unless_ends (text_fault path) _ (makes_end (reading_of path) has)
+  op_ends true (RemoveAll path) e has = unless_ends (text_fault path) _ (clears_end (split_of (reading_of path) Drop) has)
   op_ends true (Single step) e has = single_ends step
   op_ends true (Release standing) e has = cc (e)
   op_ends false (Resolve path) e has = unless_ends (text_fault path) _ (fault_ends NoMemory)
@@ -250,6 +319,8 @@ module _ (below : Below) (r : ℕ) (old : State) where
   op_ends false (RemoveFile path) e has = unless_ends (text_fault path) _ (fault_ends NoMemory)
   op_ends false (RemoveDir path) e has = unless_ends (text_fault path) _ (fault_ends NoMemory)
   op_ends false (Rename d n mode) e has = unless_ends (text_fault d) _ (fault_ends NoMemory)
+  op_ends false (MkdirAll path) e has = unless_ends (text_fault path) _ (fault_ends NoMemory)
+  op_ends false (RemoveAll path) e has = unless_ends (text_fault path) _ (fault_ends NoMemory)
   op_ends false (Single step) e has = not_single_ends (is_single step)
   op_ends false (Release standing) e has = cc (e)
 
@@ -265,6 +336,8 @@ after_done c (CreateLink path text) e stay = stay
 after_done c (RemoveFile path) e stay = stay
 after_done c (RemoveDir path) e stay = stay
 after_done c (Rename d n mode) e stay = stay
+after_done c (MkdirAll path) e stay = stay
+after_done c (RemoveAll path) e stay = stay
 after_done c (Single step) e stay = stay
 after_done c (Release standing) e stay = cc (e)
 
@@ -359,6 +432,8 @@ release_of (CreateLink path text) e = cc (e)
 release_of (RemoveFile path) e = cc (e)
 release_of (RemoveDir path) e = cc (e)
 release_of (Rename d n mode) e = cc (e)
+release_of (MkdirAll path) e = cc (e)
+release_of (RemoveAll path) e = cc (e)
 release_of (Single step) e = cc (e)
 release_of (Release standing) e = (standing, refl)
 

@@ -27,12 +27,13 @@ use Rattle.root_ops.specs.declared.aim.Change.{Change}
 use Rattle.root_ops.specs.declared.aim.Change.TheVariants as change
 use Rattle.root_ops.specs.declared.aim.Wanted.TheVariants as wants
 use Rattle.root_ops.specs.declared.op.Op.{Op}
-use Rattle.root_ops.specs.declared.op.Op.TheVariants.{Resolve, ResolveNoFollow, ReadLink, CreateFile, CreateDir, CreateLink, RemoveFile, RemoveDir, Rename, Single, Release}
+use Rattle.root_ops.specs.declared.op.Op.TheVariants.{Resolve, ResolveNoFollow, ReadLink, CreateFile, CreateDir, CreateLink, RemoveFile, RemoveDir, Rename, MkdirAll, RemoveAll, Single, Release}
 use Rattle.root_ops.specs.Meaning.{Caller, Whole, is_open, is_done, keeps, fails, told_by, and_then, directory_of, entry_of, renamed, tells, changes, op_means}
 use Rattle.root_ops.specs.Meaning as meaning
 use Rattle.root_ops.specs.Order.{Reply, kept, fault, more, ends, acting, releasing, unless_fault, reply_to, is_single, same_owner, begins, begins_without, starts, LeadsTo}
 use Rattle.root_ops.specs.CallHistory.{begin_of, actor_of}
 use Rattle.root_ops.specs.Quiet.{IsReply, ComesTo, caller_of, QuietCallsMean}
+use Rattle.root_ops.specs.StepCount.{is_bulk}
 use Rattle.root_ops.proofs.Quiet.WalksAlone.{HasRoot}
 use Rattle.root_ops.proofs.Quiet.StepsAlone.{fails_alone, runs_short, Acts, acts_alone, change_of}
 use Rattle.root_ops.proofs.Quiet.EntriesAlone.{ground_here, text_here, acts_short, faults_alone, opens_alone, reads_alone, changes_alone}
@@ -159,55 +160,59 @@ module _ (c : Caller) (has : HasRoot c.tree c.actor c.below.root.handle c.root) 
   OpenOnly op lines = (standing : StandingObject) (others : List Line) → op ≡ Release standing → lines ≡ not_made BadHandle ∷ others
       → held c.tree c.actor standing.handle ≡ None
 
-  with_memory : (op : Op) (lines : List Line) → OpenOnly op lines → LeadsTo c.below (begins c.below op) lines (ends reply) → IsLegal c.tree (events_of c.actor lines)
+  with_memory : (op : Op) (lines : List Line) → is_bulk op ≡ false → OpenOnly op lines → LeadsTo c.below (begins c.below op) lines (ends reply) → IsLegal c.tree (events_of c.actor lines)
       → ComesTo c (after_events c.tree (events_of c.actor lines)) true lines (op_means c op) reply
-  with_memory (Resolve text) lines open_only leads legal = opens_alone c has Follow refl text (text_fault text) lines reply leads legal
-  with_memory (ResolveNoFollow text) lines open_only leads legal = opens_alone c has NoFollow refl text (text_fault text) lines reply leads legal
-  with_memory (ReadLink text) lines open_only leads legal = reads_alone c has text (text_fault text) lines reply leads legal
-  with_memory (CreateFile text) lines open_only leads legal =
+  with_memory (Resolve text) lines single open_only leads legal = opens_alone c has Follow refl text (text_fault text) lines reply leads legal
+  with_memory (ResolveNoFollow text) lines single open_only leads legal = opens_alone c has NoFollow refl text (text_fault text) lines reply leads legal
+  with_memory (ReadLink text) lines single open_only leads legal = reads_alone c has text (text_fault text) lines reply leads legal
+  with_memory (CreateFile text) lines single open_only leads legal =
       changes_alone c has change.MakeFile (text_fault text) (split_of (reading_of text) Refuse) lines reply leads legal
-  with_memory (CreateDir text) lines open_only leads legal =
+  with_memory (CreateDir text) lines single open_only leads legal =
       changes_alone c has change.MakeDir (text_fault text) (split_of (reading_of text) Drop) lines reply leads legal
-  with_memory (CreateLink text target) lines open_only leads legal =
+  with_memory (CreateLink text target) lines single open_only leads legal =
       changes_alone c has (change.MakeLink target) (text_fault text) (split_of (reading_of text) Refuse) lines reply leads legal
-  with_memory (RemoveFile text) lines open_only leads legal =
+  with_memory (RemoveFile text) lines single open_only leads legal =
       changes_alone c has change.RemoveFile (text_fault text) (split_of (reading_of text) Refuse) lines reply leads legal
-  with_memory (RemoveDir text) lines open_only leads legal =
+  with_memory (RemoveDir text) lines single open_only leads legal =
       changes_alone c has change.RemoveDir (text_fault text) (split_of (reading_of text) Drop) lines reply leads legal
-  with_memory (Rename old new mode) lines open_only leads legal =
+  with_memory (Rename old new mode) lines single open_only leads legal =
       rename_alone c has mode new (text_fault old) (split_of (reading_of old) Drop) lines reply leads legal
-  with_memory (Single step) lines open_only leads legal = single_alone step (is_single step) lines leads legal
-  with_memory (Release standing) lines open_only leads legal =
+  with_memory (MkdirAll text) lines single open_only leads legal = cc (single)
+  with_memory (RemoveAll text) lines single open_only leads legal = cc (single)
+  with_memory (Single step) lines single open_only leads legal = single_alone step (is_single step) lines leads legal
+  with_memory (Release standing) lines single open_only leads legal =
       release_alone standing true (same_owner standing.owner c.below.root.owner) lines (λ others own is. open_only standing others refl is) leads legal
 
-  without_memory : (op : Op) (lines : List Line) → OpenOnly op lines → LeadsTo c.below (begins_without c.below op) lines (ends reply)
+  without_memory : (op : Op) (lines : List Line) → is_bulk op ≡ false → OpenOnly op lines → LeadsTo c.below (begins_without c.below op) lines (ends reply)
       → IsLegal c.tree (events_of c.actor lines)
       → ComesTo c (after_events c.tree (events_of c.actor lines)) false lines (op_means c op) reply
-  without_memory (Resolve text) lines open_only leads legal =
+  without_memory (Resolve text) lines single open_only leads legal =
       lacks_alone (text_fault text) (λ f. tells c is_open (meaning.found (resolution (resolves (ground_here c has) text true f)))) lines (λ error. refl) leads
-  without_memory (ResolveNoFollow text) lines open_only leads legal =
+  without_memory (ResolveNoFollow text) lines single open_only leads legal =
       lacks_alone (text_fault text) (λ f. tells c is_open (meaning.found (resolution (resolves (ground_here c has) text false f)))) lines (λ error. refl) leads
-  without_memory (ReadLink text) lines open_only leads legal =
+  without_memory (ReadLink text) lines single open_only leads legal =
       lacks_alone (text_fault text) (λ f. text_here c has (meaning.found (resolution (resolves (ground_here c has) text false f)))) lines (λ error. refl) leads
-  without_memory (CreateFile text) lines open_only leads legal = lacks_alone (text_fault text) (entry_whole change.MakeFile text Refuse) lines (λ error. refl) leads
-  without_memory (CreateDir text) lines open_only leads legal = lacks_alone (text_fault text) (entry_whole change.MakeDir text Drop) lines (λ error. refl) leads
-  without_memory (CreateLink text target) lines open_only leads legal =
+  without_memory (CreateFile text) lines single open_only leads legal = lacks_alone (text_fault text) (entry_whole change.MakeFile text Refuse) lines (λ error. refl) leads
+  without_memory (CreateDir text) lines single open_only leads legal = lacks_alone (text_fault text) (entry_whole change.MakeDir text Drop) lines (λ error. refl) leads
+  without_memory (CreateLink text target) lines single open_only leads legal =
       lacks_alone (text_fault text) (entry_whole (change.MakeLink target) text Refuse) lines (λ error. refl) leads
-  without_memory (RemoveFile text) lines open_only leads legal = lacks_alone (text_fault text) (entry_whole change.RemoveFile text Refuse) lines (λ error. refl) leads
-  without_memory (RemoveDir text) lines open_only leads legal = lacks_alone (text_fault text) (entry_whole change.RemoveDir text Drop) lines (λ error. refl) leads
-  without_memory (Rename old new mode) lines open_only leads legal =
+  without_memory (RemoveFile text) lines single open_only leads legal = lacks_alone (text_fault text) (entry_whole change.RemoveFile text Refuse) lines (λ error. refl) leads
+  without_memory (RemoveDir text) lines single open_only leads legal = lacks_alone (text_fault text) (entry_whole change.RemoveDir text Drop) lines (λ error. refl) leads
+  without_memory (Rename old new mode) lines single open_only leads legal =
       lacks_alone (text_fault old)
       (λ f. changes c (and_then (refuse_by f (split_of (reading_of old) Drop)) (λ from. and_then (entry_of new Drop) (λ to. renamed c from to mode))))
       lines (λ error. refl) leads
-  without_memory (Single step) lines open_only leads legal = single_lacks step (is_single step) lines leads
-  without_memory (Release standing) lines open_only leads legal =
+  without_memory (MkdirAll text) lines single open_only leads legal = cc (single)
+  without_memory (RemoveAll text) lines single open_only leads legal = cc (single)
+  without_memory (Single step) lines single open_only leads legal = single_lacks step (is_single step) lines leads
+  without_memory (Release standing) lines single open_only leads legal =
       release_alone standing false (same_owner standing.owner c.below.root.owner) lines (λ others own is. open_only standing others refl is) leads legal
 
-  pub alone : (room : Bool) (op : Op) (lines : List Line) → OpenOnly op lines → LeadsTo c.below (starts c.below room op) lines (ends reply)
+  pub alone : (room : Bool) (op : Op) (lines : List Line) → is_bulk op ≡ false → OpenOnly op lines → LeadsTo c.below (starts c.below room op) lines (ends reply)
       → IsLegal c.tree (events_of c.actor lines)
       → ComesTo c (after_events c.tree (events_of c.actor lines)) room lines (op_means c op) reply
-  alone true op lines open_only leads legal = with_memory op lines open_only leads legal
-  alone false op lines open_only leads legal = without_memory op lines open_only leads legal
+  alone true op lines single open_only leads legal = with_memory op lines single open_only leads legal
+  alone false op lines single open_only leads legal = without_memory op lines single open_only leads legal
 
 -- ---- in any window
 
@@ -219,9 +224,9 @@ all_own a (event ∷ events) own =
     ∙ ap (λ es. event ∷ es) (all_own a events (λ t e is. own (suc t) e is))
 
 pub quiet_calls_mean : QuietCallsMean
-quiet_calls_mean c reply is leads quiet open_only =
+quiet_calls_mean c reply single is leads quiet open_only =
     let same = sym (all_own (actor_of c) c.window quiet) ∙ is.own in
     subst (λ events. ComesTo (caller_of c) (after_events (begin_of c) events) c.room c.lines (op_means (caller_of c) c.op) reply) (sym same)
     (alone (caller_of c)
     (record { tree = (histories_keep_trees c.opening c.before is.tree).0; root = is.root; is_dir = is.root_is_dir })
-    reply c.room c.op c.lines open_only leads (subst (IsLegal (begin_of c)) same is.legal))
+    reply c.room c.op c.lines single open_only leads (subst (IsLegal (begin_of c)) same is.legal))

@@ -8,10 +8,11 @@ use Rattle.path_text.specs.Reading.{Reading}
 use Rattle.path_text.specs.Text.{reading_of}
 use Rattle.tree_model.specs.declared.inode.Object.{Object}
 use Rattle.tree_model.specs.declared.inode.Object.TheVariants as object
-use Rattle.tree_model.specs.State.{State, object_at}
+use Rattle.tree_model.specs.State.{State, Stands, object_at}
 use Rattle.tree_model.specs.Entries.{refuse_by}
 use Rattle.tree_model.specs.declared.step.StepOf.TheVariants.{ReadLink}
-use Rattle.tree_model.specs.Steps.{outcome, reads}
+use Rattle.tree_model.specs.Steps.{outcome, reads, kind_of}
+use Rattle.std.specs.Option.{option_map}
 use Rattle.tree_model.specs.Steps.{changes as made}
 use Rattle.tree_model.specs.Trees.{IsState}
 use Rattle.tree_model.specs.History.{IsLegal, after_events}
@@ -133,7 +134,13 @@ module _ (c : Caller) (has : HasRoot c.tree c.actor c.below.root.handle c.root) 
       let told : opened handle names ≡ reply = cc (leads) in
       inl (record {
         is_reply = subst (IsReply c t (is_open handle.node)) told
-            (record { node = refl; is_open = finds.is_open; fresh = finds.fresh; kind = finds.kind; stands = finds.stands });
+            (record {
+              node = refl;
+              is_open = finds.is_open;
+              fresh = finds.fresh;
+              kind = ap (λ ns. option_map kind_of (object_at ns handle.node)) nodes ∙ finds.kind;
+              stands = subst (λ ns. Stands ns c.root handle.node names) (sym nodes) finds.stands;
+            });
         nodes = nodes;
       })
   opens_onward goal reply t handle names room (line ∷ rest) tree nodes finds leads legal = absurd leads

@@ -35,7 +35,7 @@ rename_is_worked = record {
   replies = replies;
   is_quiet = is_quiet;
   closes = closes;
-  comes = quiet_calls_mean rename_call done called replies is_quiet closes;
+  comes = quiet_calls_mean rename_call done refl called replies is_quiet closes;
   means = refl;
   nodes = refl;
 }

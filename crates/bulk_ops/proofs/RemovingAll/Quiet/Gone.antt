@@ -1,5 +1,6 @@
 -- Nodes of which some stand nowhere any more.
-use Rattle.std.specs.Prelude.{◌≡◌, ℕ, zero, suc, ◌+◌, List, [], ◌∷◌, Bool, true, false, if◌then◌else◌, length, Option, Some, None, is_some, refl}
+use Rattle.std.specs.Prelude.{◌≡◌, ℕ, zero, suc, ◌+◌, List, [], ◌∷◌, Bool, true, false, if◌then◌else◌, length, slice_get, Option, Some, None, is_some, refl}
+use Rattle.std.specs.Option.{option_map, option_and_then}
 use Rattle.std.proofs.Common.{sym, ap, subst, ◌∙◌, arith}
 use Rattle.std.proofs.lemmas.Option.{none-some, same_Some}
 use Rattle.tree_model.specs.declared.inode.Inode.{Inode}
@@ -7,6 +8,20 @@ use Rattle.tree_model.specs.declared.inode.Place.{Place}
 use Rattle.tree_model.specs.State.{object_at, place_at, at_place, put_at}
 use Rattle.bulk_ops.specs.RemoveAllTells.{one_more_if}
 use Rattle.bulk_ops.specs.RemoveAllQuiet.{without_from, how_many_from}
+
+-- nodes that are the same and stand at one place are one
+pub same_node : (xs ys : List Inode) (x : ℕ) → object_at xs x ≡ object_at ys x → place_at xs x ≡ place_at ys x → slice_get xs x ≡ slice_get ys x
+same_node xs ys x object place = on (slice_get xs x) (slice_get ys x) object place
+  where
+    on : (o p : Option Inode) → option_map (λ inode. inode.object) o ≡ option_map (λ inode. inode.object) p
+        → option_and_then (λ inode. inode.place) o ≡ option_and_then (λ inode. inode.place) p → o ≡ p
+    on None None e q = refl
+    on None (Some y) e q = cc (e)
+    on (Some x) None e q = cc (e)
+    on (Some x) (Some y) e q =
+        let object : x.object ≡ y.object = same_Some x.object y.object e in
+        let place : x.place ≡ y.place = q in
+        λ i. Some (record { object = object i; place = place i })
 
 -- lists of nodes that are the same at each number are one
 pub same_nodes : (xs ys : List Inode) → length xs ≡ length ys → ((x : ℕ) → object_at xs x ≡ object_at ys x) → ((x : ℕ) → place_at xs x ≡ place_at ys x) → xs ≡ ys

@@ -25,7 +25,7 @@ use Rattle.step_resolver.specs.WalkHistory.{WalkInHistory, begin_of, state_at, t
 use Rattle.step_resolver.proofs.Ends.EntriesLeftAlone.{next_moment, past_the_end}
 use Rattle.bulk_ops.specs.RemoveAllTells.{Down, here, under, outermost, is_removal, one_more_if, TakesAway, LeavesEntries, OnlyTakesAway, IsLastOnTarget}
 use Rattle.bulk_ops.specs.RemoveAllQuiet.{is_at_or_below, without_from, cleared}
-use Rattle.bulk_ops.proofs.RemovingAll.Quiet.Gone.{same_nodes, length-without, object_at-without, place_at-without, placed, placed-put_none}
+use Rattle.bulk_ops.proofs.RemovingAll.Quiet.Gone.{same_node, same_nodes, length-without, object_at-without, place_at-without, placed, placed-put_none}
 use Rattle.bulk_ops.proofs.RemovingAll.Quiet.Falls.{Takes, removal_takes}
 
 -- a moment that is no later than the next is no later than this one, or is the next
@@ -222,6 +222,26 @@ module _ (c : WalkInHistory) (state : IsState (begin_of c)) (legal : IsLegal (be
           ∙ ap (λ v. if is_at_or_below (nodes_at 0) v x then None else place_at (nodes_at 0) x) (sym q)
       on (Some r) q x = places r (place_at-child (nodes_at 0) dir target r q) last end late x
           ∙ ap (λ v. if is_at_or_below (nodes_at 0) v x then None else place_at (nodes_at 0) x) (sym q)
+
+  -- each node stands where it stood, or it goes and stands nowhere
+  pub partly_cleared : (t x : ℕ) → (slice_get (nodes_at t) x ≡ slice_get (nodes_at 0) x) ⊎ (slice_get (nodes_at t) x ≡ slice_get (cleared (nodes_at 0) dir target) x)
+  partly_cleared t x = on (child (nodes_at 0) dir target) refl
+    where
+      as_meant : goes x ≡ true → place_at (nodes_at t) x ≡ None → slice_get (nodes_at t) x ≡ slice_get (cleared (nodes_at 0) dir target) x
+      as_meant q none = same_node (nodes_at t) (cleared (nodes_at 0) dir target) x
+          (objects t x ∙ sym (object_at-without goes 0 (nodes_at 0) x))
+          (none ∙ sym (place_at-without goes 0 (nodes_at 0) x x (omega arith) ∙ ap (λ v. if v then None else place_at (nodes_at 0) x) q))
+
+      by : (r : ℕ) (stands : place_at (nodes_at 0) r ≡ Some (entry dir target)) → child (nodes_at 0) dir target ≡ Some r → (b : Bool) → is_within (nodes_at 0) r x ≡ b → Kept r stands t x
+          → (slice_get (nodes_at t) x ≡ slice_get (nodes_at 0) x) ⊎ (slice_get (nodes_at t) x ≡ slice_get (cleared (nodes_at 0) dir target) x)
+      by r stands q b w (inl same) = inl (same_node (nodes_at t) (nodes_at 0) x (objects t x) same)
+      by r stands q true w (inr gone) = inr (as_meant (ap (λ v. is_at_or_below (nodes_at 0) v x) q ∙ w) gone.0)
+      by r stands q false w (inr gone) = absurd (not_under (nodes_at 0) (tree 0) r x w gone.1)
+
+      on : (o : Option ℕ) → child (nodes_at 0) dir target ≡ o
+          → (slice_get (nodes_at t) x ≡ slice_get (nodes_at 0) x) ⊎ (slice_get (nodes_at t) x ≡ slice_get (cleared (nodes_at 0) dir target) x)
+      on None q = inl (ap (λ ns. slice_get ns x) (none_taken (place_at-no_child (nodes_at 0) dir target q) t))
+      on (Some r) q = by r (place_at-child (nodes_at 0) dir target r q) q (is_within (nodes_at 0) r x) refl (kept r (place_at-child (nodes_at 0) dir target r q) t x)
 
   -- what goes stood somewhere
   pub goes_stood : (x : ℕ) → is_at_or_below (nodes_at 0) (child (nodes_at 0) dir target) x ≡ true → is_some (place_at (nodes_at 0) x) ≡ true

@@ -31,7 +31,7 @@ use Rattle.bulk_ops.proofs.RemovingAll.Parts.{events_of-append, walk_removes_non
 use Rattle.bulk_ops.proofs.RemovingAll.Quiet.Gone.{placed, placed-without}
 use Rattle.bulk_ops.proofs.RemovingAll.Quiet.Falls.{removal_events, removals-events, removal_events-append, falls, all_own}
 use Rattle.bulk_ops.proofs.RemovingAll.Quiet.FirstStep.{after_walk, removes_none, same_rest}
-use Rattle.bulk_ops.proofs.RemovingAll.Quiet.Shrinks.{objects, none_taken, cleared_at, goes_stood, one_fewer}
+use Rattle.bulk_ops.proofs.RemovingAll.Quiet.Shrinks.{objects, partly_cleared, none_taken, cleared_at, goes_stood, one_fewer}
 
 -- ---- what is in a part of a window is in the window
 
@@ -125,6 +125,22 @@ module _ (w : WalkInHistory) (target : List ℕ) (is : IsWalkInHistory w) (quiet
   removes_all only last =
       cleared_at second state legal second_quiet dir target only last (length parts.window) (slice_get_within parts.window last.when _ last.event)
 
+  -- each node at the end is as it was, or as it is where all is cleared
+  pub partly : OnlyTakesAway second dir target → (x : ℕ)
+      → (slice_get (end_of w).nodes x ≡ slice_get (begin_of w).nodes x) ⊎ (slice_get (end_of w).nodes x ≡ slice_get (cleared (begin_of w).nodes dir target) x)
+  partly only x =
+      subst (λ ns. (slice_get (end_of w).nodes x ≡ slice_get ns x) ⊎ (slice_get (end_of w).nodes x ≡ slice_get (cleared ns dir target) x)) same_nodes_there
+      (subst (λ ns. (slice_get ns x ≡ slice_get (begin_of second).nodes x) ⊎ (slice_get ns x ≡ slice_get (cleared (begin_of second).nodes dir target) x)) last_nodes
+      (partly_cleared second state legal second_quiet dir target only (length parts.window) x))
+
+  -- what is no directory has nothing to be cleared
+  pub nothing_cleared : OnlyTakesAway second dir target → is_dir (begin_of w).nodes dir ≡ false → (end_of w).nodes ≡ (begin_of w).nodes
+  nothing_cleared only no_dir =
+      sym last_nodes ∙ none_taken second state legal second_quiet dir target only no_entry (length parts.window) ∙ same_nodes_there
+    where
+      no_entry : (x : ℕ) → place_at (begin_of second).nodes x ≢ Some (entry dir target)
+      no_entry x p = false≢true (sym (ap (λ ns. is_dir ns dir) same_nodes_there ∙ no_dir) ∙ state.tree.parents_are_dirs x (entry dir target) p)
+
   rows_fall : OnlyTakesAway second dir target
       → placed (begin_of second).nodes ≡ removal_events parts.window + placed (state_at second (length parts.window)).nodes
   rows_fall only = falls (λ t. placed (state_at second t).nodes) parts.window (one_fewer second state legal second_quiet dir target only)
@@ -138,7 +154,7 @@ module _ (w : WalkInHistory) (target : List ℕ) (is : IsWalkInHistory w) (quiet
       placed-without goes 0 (begin_of second).nodes
       (λ x j e g. goes_stood second state legal second_quiet dir target only x (ap goes (omega arith) ∙ g))
 
-  window_is : parts.window ≡ events_of w.actor parts.lines
+  pub window_is : parts.window ≡ events_of w.actor parts.lines
   window_is = same_rest parts.walk_window parts.window (events_of w.actor parts.lines)
       (sym parts.windows ∙ sym (all_own w.actor w.window quiet) ∙ is.own ∙ ap (events_of w.actor) parts.all_lines
       ∙ events_of-append w.actor parts.walk_lines parts.lines

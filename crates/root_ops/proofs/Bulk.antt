@@ -1,0 +1,134 @@
+-- The bulk calls of a call: what their turns are in its own order of steps.
+use Rattle.std.proofs.Common.{◌≡◌, ℕ, List, [], ◌∷◌, Bool, true, false, refl, sym, ◌∙◌, ap, subst}
+use Rattle.path_text.specs.declared.errno.Errno.TheVariants.{NoMemory}
+use Rattle.path_text.specs.Reading.{Reading}
+use Rattle.tree_model.specs.declared.answer.Answer.{Answer}
+use Rattle.tree_model.specs.declared.answer.Answer.TheVariants.{Refused}
+use Rattle.tree_model.specs.declared.step.StepOf.{StepOf}
+use Rattle.walk_plan.specs.declared.goal.Goal.TheVariants.{Follow}
+use Rattle.step_resolver.specs.Order.{Way, Line, answered, no_room, not_made}
+use Rattle.step_resolver.specs.Order as walk
+use Rattle.step_resolver.specs.View.{way_from}
+use Rattle.bulk_ops.specs.declared.turn.BulkTurn.{BulkTurn}
+use Rattle.bulk_ops.specs.MakeAllOrder as make
+use Rattle.bulk_ops.specs.MakeAllView as making_view
+use Rattle.bulk_ops.specs.MakeAllView.{MakingView, has_a_name}
+use Rattle.bulk_ops.specs.RemoveAllOrder as remove
+use Rattle.bulk_ops.specs.RemoveAllTurnView as removing_view
+use Rattle.bulk_ops.specs.RemoveAllView.{looks_up, is_named}
+use Rattle.root_ops.specs.declared.below.Below.{Below}
+use Rattle.root_ops.specs.Order.{Reply, CallTurn, ends, fault, making, removing, make_way, makes, clears, LeadsTo}
+use Rattle.root_ops.specs.TurnView.{Either, TakesTo}
+use Rattle.root_ops.specs.View.{is_nameless}
+use Rattle.root_ops.proofs.Rooms.{FindsNone, first_turn, nameless_opens_none}
+
+-- ---- a step without a name
+
+-- what is due of a MkdirAll then is no name's
+pub nameless_makes_none : (way : Way) (call : make.Making) → is_nameless (make.due way call) ≡ true → has_a_name call ≡ false
+nameless_makes_none way (make.walking w) e = nameless_opens_none way w e
+nameless_makes_none way (make.making held names n left) e = cc (e)
+nameless_makes_none way (make.opening held names n left) e = cc (e)
+nameless_makes_none way (make.leaving old new names left) e = refl
+nameless_makes_none way (make.ending held names) e = refl
+nameless_makes_none way (make.closing h hs error) e = refl
+
+nameless_clears_none : (stage : remove.Stage) (level : remove.Level) → is_nameless (remove.due_at stage level) ≡ true → looks_up stage ≡ false
+nameless_clears_none remove.removes_file level e = cc (e)
+nameless_clears_none remove.opens level e = cc (e)
+nameless_clears_none (remove.lists h) level e = refl
+nameless_clears_none (remove.shuts h) level e = refl
+nameless_clears_none (remove.leaves h) level e = refl
+nameless_clears_none remove.removes_dir level e = cc (e)
+
+pub nameless_removes_none : (call : remove.Removing) → is_nameless (remove.due call) ≡ true → is_named call ≡ false
+nameless_removes_none (remove.walking way target w) e = nameless_opens_none way w e
+nameless_removes_none (remove.clearing stage level above count left) e = nameless_clears_none stage level e
+nameless_removes_none (remove.closing h hs end) e = refl
+
+-- ---- the first turn
+
+begun_making : (way : Way) (path : Reading) (room : Bool) (begun : walk.Turn) (turn : CallTurn) → walk.begins way path ≡ begun → FindsNone begun
+    → turn ≡ makes (make.after_walk room (walk.for_walk room begun)) → Either (makes (make.begins way path)) (ends (fault NoMemory)) turn
+begun_making way path true begun turn e none is = (true, is ∙ ap (λ t. makes (make.after_walk true t)) (sym e))
+begun_making way path false (walk.more w) turn e none is = (false, is)
+begun_making way path false (walk.found handle names) turn e none is = absurd none
+begun_making way path false (walk.partial handle names rest) turn e none is = absurd none
+begun_making way path false (walk.failed error) turn e none is = (true, is ∙ ap (λ t. makes (make.after_walk true t)) (sym e))
+
+-- of a MkdirAll, as it was begun
+pub makes_by : (below : Below) (path : Reading) (outcome : BulkTurn MakingView) (turn : CallTurn) → making_view.StartsTo (make_way below) path outcome
+    → ((to : make.MakeTurn) → making_view.IsTurn outcome to → turn ≡ makes to) → Either (makes (make.begins (make_way below) path)) (ends (fault NoMemory)) turn
+makes_by below path outcome turn started by =
+    begun_making (make_way below) path started.0 (walk.begins (make_way below) path) turn refl (first_turn (make_way below) path) (by (make.starts (make_way below) started.0 path) started.1)
+
+begun_clearing : (room : Bool) (begun : remove.Turn) (turn : CallTurn) → turn ≡ clears (remove.for_call room begun) → Either (clears begun) (ends (fault NoMemory)) turn
+begun_clearing true begun turn is = (true, is)
+begun_clearing false (remove.more call) turn is = (false, is)
+begun_clearing false (remove.removed n) turn is = (true, is)
+begun_clearing false (remove.failed error) turn is = (true, is)
+
+-- of a RemoveAll, as it was begun
+pub clears_by : (below : Below) (name : List ℕ) (path : Reading) (outcome : BulkTurn remove.Removing) (turn : CallTurn)
+    → removing_view.StartsTo (way_from below.root Follow below.flags) name path outcome
+    → ((to : remove.Turn) → removing_view.IsTurn outcome to → turn ≡ clears to)
+    → Either (clears (remove.begins (way_from below.root Follow below.flags) name path)) (ends (fault NoMemory)) turn
+clears_by below name path outcome turn started by =
+    begun_clearing started.0 (remove.begins (way_from below.root Follow below.flags) name path) turn
+    (by (remove.starts (way_from below.root Follow below.flags) started.0 name path) started.1)
+
+-- ---- each answer
+
+-- to a step of a MkdirAll on this way
+pub made_by : (below : Below) (call : MakingView) (answer : Answer) (outcome : BulkTurn MakingView) (turn : CallTurn) → call.way ≡ make_way below
+    → making_view.TakesTo call.way call.making answer outcome → ((to : make.MakeTurn) → making_view.IsTurn outcome to → turn ≡ makes to)
+    → TakesTo below (making call.making) answer turn
+made_by below call answer outcome turn same taken by =
+    (taken.0, by (make.take call.way taken.0 call.making answer) taken.1 ∙ ap (λ way. makes (make.take way taken.0 call.making answer)) same)
+
+pub cleared_by : (below : Below) (call : remove.Removing) (answer : Answer) (outcome : BulkTurn remove.Removing) (turn : CallTurn)
+    → removing_view.TakesTo call answer outcome → ((to : remove.Turn) → removing_view.IsTurn outcome to → turn ≡ clears to)
+    → TakesTo below (removing call) answer turn
+cleared_by below call answer outcome turn taken by = (taken.0, by (remove.take taken.0 call answer) taken.1)
+
+-- ---- the lines of a bulk call
+
+-- lines that lead a call from a turn of a MkdirAll to a reply, lead the MkdirAll to the end that is this reply
+pub record MakeLed (below : Below) (turn : make.MakeTurn) (lines : List Line) (reply : Reply) : Type 0 where
+  pub end : make.MakeTurn
+  pub led : make.LeadsTo (make_way below) turn lines end
+  pub is_reply : makes end ≡ ends reply
+
+pub makes_led : (below : Below) (turn : make.MakeTurn) (lines : List Line) (reply : Reply) → LeadsTo below (makes turn) lines (ends reply) → MakeLed below turn lines reply
+makes_led below turn [] reply leads = record { end = turn; led = refl; is_reply = leads }
+makes_led below (make.more call) (answered step answer ∷ lines) reply leads =
+    let later = makes_led below (make.take (make_way below) true call answer) lines reply leads.1 in
+    record { end = later.end; led = (leads.0, later.led); is_reply = later.is_reply }
+makes_led below (make.more call) (no_room step answer ∷ lines) reply leads =
+    let later = makes_led below (make.take (make_way below) false call answer) lines reply leads.1 in
+    record { end = later.end; led = (leads.0, later.led); is_reply = later.is_reply }
+makes_led below (make.more call) (not_made error ∷ lines) reply leads =
+    let later = makes_led below (make.take (make_way below) true call (Refused error)) lines reply leads.1 in
+    record { end = later.end; led = (leads.0.0, (leads.0.1, later.led)); is_reply = later.is_reply }
+makes_led below (make.made handle names) (line ∷ lines) reply leads = absurd leads
+makes_led below (make.failed error) (line ∷ lines) reply leads = absurd leads
+
+-- the same of a RemoveAll
+pub record ClearLed (turn : remove.Turn) (lines : List Line) (reply : Reply) : Type 0 where
+  pub end : remove.Turn
+  pub led : remove.LeadsTo turn lines end
+  pub is_reply : clears end ≡ ends reply
+
+pub clears_led : (below : Below) (turn : remove.Turn) (lines : List Line) (reply : Reply) → LeadsTo below (clears turn) lines (ends reply) → ClearLed turn lines reply
+clears_led below turn [] reply leads = record { end = turn; led = refl; is_reply = leads }
+clears_led below (remove.more call) (answered step answer ∷ lines) reply leads =
+    let later = clears_led below (remove.take true call answer) lines reply leads.1 in
+    record { end = later.end; led = (leads.0, later.led); is_reply = later.is_reply }
+clears_led below (remove.more call) (no_room step answer ∷ lines) reply leads =
+    let later = clears_led below (remove.take false call answer) lines reply leads.1 in
+    record { end = later.end; led = (leads.0, later.led); is_reply = later.is_reply }
+clears_led below (remove.more call) (not_made error ∷ lines) reply leads =
+    let later = clears_led below (remove.take true call (Refused error)) lines reply leads.1 in
+    record { end = later.end; led = (leads.0.0, (leads.0.1, later.led)); is_reply = later.is_reply }
+clears_led below (remove.removed n) (line ∷ lines) reply leads = absurd leads
+clears_led below (remove.failed error) (line ∷ lines) reply leads = absurd leads
