@@ -16,6 +16,7 @@ struct inroot_kept {
 
 enum inroot_op {
     ASK_RESOLVE = 1, ASK_RESOLVE_NOFOLLOW, ASK_READLINK, ASK_MKFILE, ASK_MKDIR, ASK_SYMLINK, ASK_UNLINK, ASK_RMDIR, ASK_RENAME,
+    ASK_MKDIR_ALL, ASK_REMOVE_ALL,
 };
 
 struct inroot_asked {

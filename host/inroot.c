@@ -3,11 +3,13 @@
 #include "inroot.h"
 #include "calls.h"
 
+#include <dirent.h>
 #include <errno.h>
 #include <fcntl.h>
 #include <limits.h>
 #include <sched.h>
 #include <stdio.h>
+#include <stdlib.h>
 #include <string.h>
 #include <sys/stat.h>
 #include <sys/syscall.h>
@@ -18,11 +20,21 @@ enum { TEXT_MAX = PATH_MAX, ROOM = 2 * PATH_MAX + 2 * (NAME_MAX + 1) };
 /* Of a thread that was moved below a root: that root, and the directory of its descriptors in /proc. */
 static _Thread_local int jail = -1, jail_links = -1;
 
-/* A call under way: its root, and in a jail the links of /proc; an error that no step of the model is refused by; how many it opened. */
+/* The names of a directory's entries in the order of their bytes, a slash before each, as one text. */
+struct listing {
+    char *text;
+    size_t length;
+};
+
+/*
+ * A call under way: its root, and in a jail the links of /proc; an error that no step of the model is refused by; how
+ * many it opened; and what a directory's entries are listed in.
+ */
 struct driver {
     int root, links;
     int unknown;
     uint64_t opened;
+    struct listing listing;
 };
 
 /* ---- handles: a descriptor, and above it a number that never comes twice in a call */
@@ -167,6 +179,50 @@ static struct inroot_answered below_in_jail(struct driver *d, int fd, char *text
     return (struct inroot_answered){.what = ANSWER_NAMES};
 }
 
+static int by_bytes(const struct dirent **a, const struct dirent **b)
+{
+    return strcmp((*a)->d_name, (*b)->d_name);
+}
+
+static int is_entry(const struct dirent *entry)
+{
+    return strcmp(entry->d_name, ".") != 0 && strcmp(entry->d_name, "..") != 0;
+}
+
+/* Writes the names as one text; a directory without entries is a slash alone. */
+static int join_names(struct listing *listing, struct dirent **entries, int count)
+{
+    size_t length = 2;
+    for (int at = 0; at < count; at++)
+        length += 1 + strlen(entries[at]->d_name);
+    char *end = listing->text = malloc(length);
+    if (end == NULL)
+        return -1;
+    for (int at = 0; at < count; at++) {
+        *end++ = '/';
+        end = stpcpy(end, entries[at]->d_name);
+    }
+    if (count == 0)
+        *end++ = '/';
+    listing->length = (size_t)(end - listing->text);
+    return 0;
+}
+
+/* The kernel tells the entries in several calls. */
+static struct inroot_answered list(struct driver *d, int fd)
+{
+    struct dirent **entries;
+    int count = scandirat(fd, ".", &entries, is_entry, by_bytes);
+    if (count < 0)
+        return refused(d, errno);
+    free(d->listing.text);
+    int failed = join_names(&d->listing, entries, count);
+    while (count > 0)
+        free(entries[--count]);
+    free(entries);
+    return failed ? refused(d, ENOMEM) : (struct inroot_answered){.what = ANSWER_LISTED};
+}
+
 /* Makes the step that was told, whose names lie in the room. What it reads is written to `text`. */
 static struct inroot_answered make(struct driver *d, const struct inroot_told *step, const char *room, char *text, size_t *length)
 {
@@ -203,8 +259,7 @@ static struct inroot_answered make(struct driver *d, const struct inroot_told *s
     case STEP_RENAME:
         return done_or(d, (int)syscall(SYS_renameat2, fd, first, descriptor(step->other), second, modes[step->detail]));
     default:
-        /* No operation here lists a directory. */
-        return refused(d, ENOSYS);
+        return list(d, fd);
     }
 }
 
@@ -246,8 +301,11 @@ static ssize_t run(int root, const struct request *asked, char *room)
     while (told.what < REPLY_OPENED) {
         size_t length;
         struct inroot_answered answered = make(&d, &told, room, text, &length);
-        inroot_next(&kept, &answered, (const unsigned char *)text, length, &told, (unsigned char *)room, ROOM);
+        const char *given = answered.what == ANSWER_LISTED ? d.listing.text : text;
+        length = answered.what == ANSWER_LISTED ? d.listing.length : length;
+        inroot_next(&kept, &answered, (const unsigned char *)given, length, &told, (unsigned char *)room, ROOM);
     }
+    free(d.listing.text);
     switch (told.what) {
     case REPLY_OPENED:
         return descriptor(told.handle);
@@ -255,6 +313,8 @@ static ssize_t run(int root, const struct request *asked, char *room)
         return told.whole ? (ssize_t)told.first : -ENOMEM;
     case REPLY_DONE:
         return 0;
+    case REPLY_COUNT:
+        return (ssize_t)told.handle;
     default:
         return told.detail == EBADF && d.unknown ? -d.unknown : -told.detail;
     }
@@ -315,6 +375,18 @@ int inroot_rename(int root, const char *old, const char *new, int mode, int flag
     if (mode < INROOT_PLAIN || mode > INROOT_EXCHANGE)
         return -EINVAL;
     return (int)run(root, &asked, room);
+}
+
+int inroot_mkdir_all(int root, const char *path, int flags)
+{
+    return on_path(root, ASK_MKDIR_ALL, path, "", flags);
+}
+
+ssize_t inroot_remove_all(int root, const char *path, int flags)
+{
+    char room[ROOM];
+    struct request asked = {.op = ASK_REMOVE_ALL, .flags = flags, .first = path, .second = ""};
+    return run(root, &asked, room);
 }
 
 /* ---- the jail */

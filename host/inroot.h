@@ -96,4 +96,18 @@ int inroot_rmdir(int root, const char *path, int flags);
  */
 int inroot_rename(int root, const char *old, const char *new, int mode, int flags);
 
+/*
+ * Makes all directories of PATH that are missing (mkdirat(2)), none of them through a link, and opens the last. Gives a
+ * descriptor (O_PATH and O_CLOEXEC). ENOTDIR where what stands there is no directory, ENOENT for `..` after a missing
+ * name, and what mkdirat(2) has beside it. What was made before an error stays.
+ */
+int inroot_mkdir_all(int root, const char *path, int flags);
+
+/*
+ * Removes the entry of PATH with all that is below it (unlinkat(2)); of a link the link alone. Gives how many entries it
+ * removed, 0 where there was none. EBUSY after 600,000 steps of it, and what unlinkat(2) has beside it. What was removed
+ * before an error stays removed.
+ */
+ssize_t inroot_remove_all(int root, const char *path, int flags);
+
 #endif

@@ -49,16 +49,22 @@ static int call(int root, int number)
     case 5: return inroot_symlink(root, "some/text", "a/newlink", 0);
     case 6: return inroot_rename(root, "a/b/f", "/a/g", INROOT_NOREPLACE, 0);
     case 7: return inroot_unlink(root, "a/b/g", 0);
-    default: return inroot_rmdir(root, "a/b/e", 0);
+    case 8: return inroot_rmdir(root, "a/b/e", 0);
+    case 9: return inroot_mkdir_all(root, "a/link/new/er", 0);
+    default: return (int)inroot_remove_all(root, "a/b", 0);
     }
 }
 
-enum { CALLS = 9 };
+enum { CALLS = 11 };
 
 static void restore(int root, int result, int number)
 {
-    if (number < 2 && result >= 0)
+    if ((number < 2 || number == 9) && result >= 0)
         close(result);
+    mkdirat(root, "a/b", 0755);
+    mknodat(root, "a/b/f", S_IFREG | 0600, 0);
+    unlinkat(root, "a/b/new/er", AT_REMOVEDIR);
+    unlinkat(root, "a/b/new", AT_REMOVEDIR);
     unlinkat(root, "a/b/new", 0);
     unlinkat(root, "a/b/newdir", AT_REMOVEDIR);
     unlinkat(root, "a/newlink", 0);

@@ -63,7 +63,8 @@ op_of asked first second =
     else if asked.op == 3 then Some (ops.ReadLink first) else if asked.op == 4 then Some (ops.CreateFile first)
     else if asked.op == 5 then Some (ops.CreateDir first) else if asked.op == 6 then Some (ops.CreateLink first second)
     else if asked.op == 7 then Some (ops.RemoveFile first) else if asked.op == 8 then Some (ops.RemoveDir first)
-    else if asked.op == 9 then renames_as (mode_of asked.mode) first second else None
+    else if asked.op == 9 then renames_as (mode_of asked.mode) first second
+    else if asked.op == 10 then Some (ops.MkdirAll first) else if asked.op == 11 then Some (ops.RemoveAll first) else None
 
 -- the root and the restrictions
 abbrev pub owner_asked : Owner

@@ -71,6 +71,8 @@ impl Asked {
                 )),
                 None => None,
             },
+            10 => Some(Op::MkdirAll(Bytes::from_slice(alloc, first)?)),
+            11 => Some(Op::RemoveAll(Bytes::from_slice(alloc, first)?)),
             _ => None,
         })
     }

@@ -7,7 +7,7 @@ pub struct Asked {
     /// The number of the root's handle.
     pub root: u64,
     /// 1 resolve, 2 resolve without following the last link, 3 read a link, 4 create a file, 5 a directory, 6 a link,
-    /// 7 remove a file, 8 a directory, 9 rename.
+    /// 7 remove a file, 8 a directory, 9 rename, 10 make all missing directories, 11 remove with all that is below.
     pub op: u8,
     /// Of a rename: 0 plain, 1 RENAME_NOREPLACE, 2 RENAME_EXCHANGE.
     pub mode: u8,

@@ -1,0 +1,125 @@
+/*
+ * bulk: directories are made and removed with all below them, while another thread exchanges them for links that lead out
+ * of the root. Nothing outside may be made or removed.
+ *
+ * usage: bulk DIR SECONDS. Exits 0 where that holds.
+ */
+#define _GNU_SOURCE
+#include "../inroot.h"
+#include "support.h"
+
+#include <errno.h>
+#include <fcntl.h>
+#include <limits.h>
+#include <pthread.h>
+#include <stdatomic.h>
+#include <stdbool.h>
+#include <string.h>
+#include <sys/stat.h>
+#include <sys/syscall.h>
+#include <time.h>
+#include <unistd.h>
+
+static int base, root;
+static char outside[PATH_MAX + 8];
+static atomic_bool stop;
+static atomic_ulong swaps;
+
+/* What one thread did. */
+struct worker {
+    const char *name;
+    bool jailed;
+    unsigned long made, removed, failed;
+};
+
+static void *work(void *self)
+{
+    struct worker *me = self;
+    int at = root;
+    if (me->jailed) {
+        errno = -inroot_jail(root);
+        sure(-errno, "inroot_jail");
+        at = INROOT_JAIL;
+    }
+    while (!stop) {
+        int fd = inroot_mkdir_all(at, "x/d/e/f", 0);
+        me->made += fd >= 0;
+        if (fd >= 0)
+            close(fd);
+        ssize_t count = inroot_remove_all(at, "x/d", 0);
+        me->removed += count > 0 ? (unsigned long)count : 0;
+        me->failed += (fd < 0) + (count < 0);
+    }
+    inroot_jail_done();
+    return NULL;
+}
+
+/* Puts a link that leads out in the place of a directory, and back. */
+static void *swap(void *self)
+{
+    static const char *const places[] = {"x/d", "x/d/e", "x/d/e/f"};
+    uint64_t state = 0x2545f4914f6cdd1d;
+    while (!stop) {
+        const char *place = places[pick(&state, 3)];
+        syscall(SYS_renameat2, root, place, root, "link", RENAME_EXCHANGE);
+        syscall(SYS_renameat2, root, place, root, "link", RENAME_EXCHANGE);
+        /* What the others removed meanwhile. */
+        symlinkat(outside, root, "link");
+        swaps++;
+    }
+    return self;
+}
+
+/* How many entries a directory has, `.` and `..` among them. */
+static int entries(const char *dir)
+{
+    int count = 0;
+    DIR *all = fdopendir(sure(openat(base, dir, O_RDONLY | O_DIRECTORY | O_CLOEXEC), dir));
+    while (readdir(all) != NULL)
+        count++;
+    closedir(all);
+    return count;
+}
+
+/* Everything outside is as it was: a directory in a directory, with another one and a file. */
+static bool is_untouched(void)
+{
+    static const char *const kept[] = {"out/e/f", "out/e/keep"};
+    struct stat about;
+    for (size_t at = 0; at < sizeof kept / sizeof *kept; at++)
+        if (fstatat(base, kept[at], &about, AT_SYMLINK_NOFOLLOW) != 0)
+            return false;
+    return entries("out") == 3 && entries("out/e") == 4 && entries("out/e/f") == 2;
+}
+
+int main(int count, char **words)
+{
+    struct worker workers[] = {{.name = "in a jail", .jailed = true}, {.name = "by /proc"}};
+    static const char *const dirs[] = {"root", "root/x", "out", "out/e", "out/e/f"};
+    pthread_t swapper, threads[2];
+    if (count != 3)
+        return 2;
+    base = sure(open(words[1], O_PATH | O_DIRECTORY | O_CLOEXEC), words[1]);
+    if (realpath(words[1], outside) == NULL)
+        return 1;
+    strcat(outside, "/out");
+    for (size_t at = 0; at < sizeof dirs / sizeof *dirs; at++)
+        sure(mkdirat(base, dirs[at], 0755), dirs[at]);
+    sure(mknodat(base, "out/e/keep", S_IFREG | 0600, 0), "keep");
+    root = sure(openat(base, "root", O_PATH | O_DIRECTORY | O_CLOEXEC), "root");
+    int before = open_descriptors();
+    pthread_create(&swapper, NULL, swap, NULL);
+    for (int at = 0; at < 2; at++)
+        pthread_create(&threads[at], NULL, work, &workers[at]);
+    sleep((unsigned)atoi(words[2]));
+    stop = true;
+    pthread_join(swapper, NULL);
+    for (int at = 0; at < 2; at++) {
+        pthread_join(threads[at], NULL);
+        printf("bulk: %s: %lu made, %lu entries removed, %lu failed\n", workers[at].name, workers[at].made, workers[at].removed, workers[at].failed);
+    }
+    int left = open_descriptors() - before;
+    bool untouched = is_untouched();
+    printf("bulk: %lu swaps, what is outside is %s, %d descriptors left open\n", (unsigned long)swaps, untouched ? "untouched" : "CHANGED", left);
+    return !untouched || left != 0 || workers[0].made == 0 || workers[0].removed == 0;
+}
