@@ -124,8 +124,12 @@ fn is_no_json(alloc: Global, script: &[u8]) -> bool {
 /// Whether the script is no JSON text where it is cut off anywhere, and is read whole.
 fn is_cut_nowhere(alloc: Global, script: &str) -> bool {
     let bytes = script.as_bytes();
-    (0..bytes.len()).all(|end| is_no_json(alloc, &bytes[..end]))
-        && counts(alloc, bytes) == Some((LINES_MAX, 2, 10))
+    for end in 0..bytes.len() {
+        if !is_no_json(alloc, &bytes[..end]) {
+            return false;
+        }
+    }
+    counts(alloc, bytes) == Some((LINES_MAX, 2, 10))
 }
 
 #[test]
@@ -158,11 +162,7 @@ fn one_change_is_told_at_its_place(rt: HostRuntime) {
             ScriptFault::Call(0, 0),
         ),
         ("[1,1,1,1,1,1,0,0,0,1]", "[2]", ScriptFault::Turn(0)),
-        (
-            "\"new\":\"b\"",
-            "\"new\":\"..\"",
-            ScriptFault::Call(1, 2),
-        ),
+        ("\"new\":\"b\"", "\"new\":\"..\"", ScriptFault::Call(1, 2)),
     ] {
         let told = fault_of_changed(rt.alloc(), old, new);
         assert!(rt; told == Some(RunFault::Script(want)), "{new:?} {told:?}");
