@@ -7,7 +7,7 @@ use Rattle.path_text.specs.declared.errno.Errno.TheVariants.{NotFound, NoMemory,
 use Rattle.path_text.specs.Reading.{Reading}
 use Rattle.path_text.specs.Text.{text_fault, parts_of, begins_with_slash}
 use Rattle.tree_model.specs.declared.answer.Answer.{Answer}
-use Rattle.tree_model.specs.declared.answer.Answer.TheVariants.{Opened, Text, Refused}
+use Rattle.tree_model.specs.declared.answer.Answer.TheVariants.{Opened, Text}
 use Rattle.step_resolver.specs.Asked.{AskedPart, Cur, Up, Named, asked, followed, follows}
 use Rattle.step_resolver.specs.Meaning.{LINKS_MAX, is_too_long}
 use Rattle.walk_plan.specs.Plan.{leads_out}
@@ -73,7 +73,7 @@ module _ (way : Way) where
   coming (onward position rest) = onwards position rest
   coming (judges handle names rest) = tt
 
-  closed : (hs : List ℕ) (after : After) → FindsNone (closes way hs after)
+  pub closed : (hs : List ℕ) (after : After) → FindsNone (closes way hs after)
   closed [] after = coming after
   closed (h ∷ hs) after = tt
 
@@ -88,7 +88,7 @@ module _ (way : Way) where
   entered : (room : Bool) (position : Position) (n : List ℕ) (new : Handle) (rest : Todo) → FindsNone (enters way room position n new rest)
   entered room position n new rest = for_room room (new.number ∷ handles_of position) _ (closed (handles_of position) (onward (holds new (n ∷ names_of position)) rest))
 
-  not_opened : (position : Position) (own follow : Bool) (n : List ℕ) (rest : Todo) (error : Errno) → FindsNone (refused_open way position own follow n rest error)
+  pub not_opened : (position : Position) (own follow : Bool) (n : List ℕ) (rest : Todo) (error : Errno) → FindsNone (refused_open way position own follow n rest error)
   not_opened position own follow n (todo inner rest b) NotFound = either _ _ _ (at_the_end position (Named follow n ∷ rest)) (leaves position NotFound)
   not_opened position own follow n (todo inner rest b) error = leaves position error
 
@@ -104,7 +104,7 @@ module _ (way : Way) where
   reading_finds_none room position link rest (Text text) = read room position link rest text (text_fault text)
   reading_finds_none room position link rest answer = tt
 
-  not_risen : (handle : Handle) (error : Errno) → FindsNone (refused_rise handle error)
+  pub not_risen : (handle : Handle) (error : Errno) → FindsNone (refused_rise handle error)
   not_risen handle NotFound = tt
   not_risen handle error = tt
 
@@ -125,7 +125,7 @@ module _ (way : Way) where
 -- ---- a call's walks
 
 -- where no object was found the room for the next walk plays no part
-same_room : (below : Below) (room other : Bool) (aim : Aim) (turn : Turn) → FindsNone turn → walked below room aim turn ≡ walked below other aim turn
+pub same_room : (below : Below) (room other : Bool) (aim : Aim) (turn : Turn) → FindsNone turn → walked below room aim turn ≡ walked below other aim turn
 same_room below room other aim (more walk) none = refl
 same_room below room other aim (found handle names) none = absurd none
 same_room below room other aim (partial handle names rest) none = absurd none
@@ -186,37 +186,3 @@ nameless_opens_none way (judging handle names rest) e = refl
 nameless_opens_none way (duping rest) e = refl
 nameless_opens_none way (ending handle names rest) e = refl
 nameless_opens_none way (closing h hs after) e = refl
-
--- ---- refusals
-
--- a refusal finds no object
-refusal_finds_none : (way : Way) (room : Bool) (walking : Walking) (error : Errno) → FindsNone (take way room walking (Refused error))
-refusal_finds_none way room (opening position own follow n rest) error = not_opened way position own follow n rest error
-refusal_finds_none way room (reading position link rest) error = tt
-refusal_finds_none way room (rising old names rest) error = not_risen way old error
-refusal_finds_none way room (judging new names rest) error = tt
-refusal_finds_none way room (duping rest) error = tt
-refusal_finds_none way room (ending handle names rest) error = tt
-refusal_finds_none way room (closing h hs after) error = closed way hs after
-
--- so the room for what it brings plays no part
-pub refusal_needs_no_room : (below : Below) (room : Bool) (doing : call.Doing) (error : Errno)
-    → call.take below room doing (Refused error) ≡ call.take below true doing (Refused error)
-refusal_needs_no_room below room (call.walking (opening position own follow n rest) aim) error =
-    same_room below room true aim (take (way_of below aim) room (opening position own follow n rest) (Refused error)) (refusal_finds_none (way_of below aim) room (opening position own follow n rest) error)
-refusal_needs_no_room below room (call.walking (reading position link rest) aim) error =
-    same_room below room true aim (take (way_of below aim) room (reading position link rest) (Refused error)) (refusal_finds_none (way_of below aim) room (reading position link rest) error)
-refusal_needs_no_room below room (call.walking (rising old names rest) aim) error =
-    same_room below room true aim (take (way_of below aim) room (rising old names rest) (Refused error)) (refusal_finds_none (way_of below aim) room (rising old names rest) error)
-refusal_needs_no_room below room (call.walking (judging new names rest) aim) error =
-    same_room below room true aim (take (way_of below aim) room (judging new names rest) (Refused error)) (refusal_finds_none (way_of below aim) room (judging new names rest) error)
-refusal_needs_no_room below room (call.walking (duping rest) aim) error =
-    same_room below room true aim (take (way_of below aim) room (duping rest) (Refused error)) (refusal_finds_none (way_of below aim) room (duping rest) error)
-refusal_needs_no_room below room (call.walking (ending handle names rest) aim) error =
-    same_room below room true aim (take (way_of below aim) room (ending handle names rest) (Refused error)) (refusal_finds_none (way_of below aim) room (ending handle names rest) error)
-refusal_needs_no_room below room (call.walking (closing h hs after) aim) error =
-    same_room below room true aim (take (way_of below aim) room (closing h hs after) (Refused error)) (refusal_finds_none (way_of below aim) room (closing h hs after) error)
-refusal_needs_no_room below room (call.acting wanted step hs) error = refl
-refusal_needs_no_room below room (call.checking old new renaming) error = refl
-refusal_needs_no_room below room (call.closing h hs after) error = refl
-refusal_needs_no_room below room (call.releasing h) error = refl
