@@ -1,4 +1,5 @@
 pub mod Rooms
+pub mod Refusals
 pub mod Bulk
 pub mod Texts
 pub mod Steps

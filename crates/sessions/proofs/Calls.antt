@@ -18,28 +18,9 @@ use Rattle.root_ops.specs.declared.reply.Reply.{Reply as Told}
 use Rattle.root_ops.specs.TurnView.{below_of, StartsTo, TakesTo}
 use Rattle.root_ops.specs.View.{reply_view, IsOwned}
 use Rattle.root_ops.proofs.Handles.OwnEvents.{events_append}
-use Rattle.root_ops.proofs.Rooms.{refusal_needs_no_room}
+use Rattle.root_ops.proofs.Refusals.{refusal_needs_no_room}
 use Rattle.sessions.specs.Session.{SessionView}
 use Rattle.sessions.specs.Call.{logs, logs_step, actor_of, root_of, released_by, IsAnswer, Leads, LeadsFirst, Made}
-
--- ---- steps that weren't made
-
-no_closing : (way : Way) (w : Walking) → ((h : ℕ) → walk.due way w ≡ Close h → ⊥) → walk.is_closing w ≡ false
-no_closing way (opening position own follow n rest) not_close = refl
-no_closing way (reading position link rest) not_close = refl
-no_closing way (rising handle names rest) not_close = refl
-no_closing way (judging handle names rest) not_close = refl
-no_closing way (duping rest) not_close = refl
-no_closing way (ending handle names rest) not_close = refl
-no_closing way (walk.closing h hs after) not_close = absurd (not_close h refl)
-
--- any step but a Close may be left out for a want
-pub unmade : (below : Below) (doing : Doing) (error : Errno) → IsWant error → ((h : ℕ) → due below doing ≡ Close h → ⊥) → IsUnmade doing error
-unmade below (walking w aim) error want not_close = (want, no_closing (way_of below aim) w not_close)
-unmade below (acting wanted step hs) error want not_close = want
-unmade below (checking old new renaming) error want not_close = want
-unmade below (closing h hs after) error want not_close = absurd (not_close h refl)
-unmade below (releasing h) error want not_close = absurd (not_close h refl)
 
 -- ---- step by step
 

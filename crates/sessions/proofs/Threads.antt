@@ -29,7 +29,6 @@ use Rattle.root_ops.specs.declared.op.Request.{Request}
 use Rattle.root_ops.specs.declared.reply.Reply.{Reply as Told}
 use Rattle.root_ops.specs.declared.reply.Reply.TheVariants.{Opened, Text, Done, Count, Stepped, Kept, Fault}
 use Rattle.root_ops.specs.CallHistory.{CallInHistory, actor_of, begin_of, end_of, IsCallInHistory, RepliesWith, HandlesAfter, CallsTell}
-use Rattle.root_ops.specs.Meaning.{op_means}
 use Rattle.root_ops.specs.Order.{Reply, opened, link_text, done, count, stepped, kept, fault, ends, starts, walked, way_of, unless_fault, walks, LeadsTo}
 use Rattle.root_ops.specs.Quiet.{IsQuiet, ClosesWhatIsOpen, ComesTo, caller_of, QuietCallsMean}
 use Rattle.root_ops.specs.TurnView.{below_of}

@@ -24,9 +24,8 @@ use Rattle.root_ops.specs.declared.op.Op.TheVariants.{Resolve}
 use Rattle.root_ops.specs.declared.op.Request.{Request}
 use Rattle.root_ops.specs.declared.reply.Reply.{Reply as Told}
 use Rattle.root_ops.specs.declared.reply.Reply.TheVariants.{Opened, Fault}
-use Rattle.root_ops.specs.Meaning.{op_means}
 use Rattle.root_ops.specs.Order.{Reply}
-use Rattle.root_ops.specs.Quiet.{IsQuiet, ClosesWhatIsOpen, ComesTo, caller_of}
+use Rattle.root_ops.specs.Quiet.{IsQuiet, ClosesWhatIsOpen, OpComesTo, caller_of}
 use Rattle.sessions.specs.Call.{root_of, Called}
 use Rattle.sessions.specs.Session.{SessionView}
 
@@ -89,7 +88,7 @@ pub record IsCallPlaced (c : CallInHistory) (after : List Event) : Type 0 where
 -- else acts there, its reply and the nodes after it are those of the operation done whole.
 abbrev pub CallsInThreads : Type 0
 CallsInThreads = (c : CallInHistory) (after : List Event) (reply : Reply) → IsCallPlaced c after → RepliesWith c reply
-    → HandlesAfter c reply × (IsQuiet c → ClosesWhatIsOpen c → ComesTo (caller_of c) (end_of c) c.room c.lines (op_means (caller_of c) c.op) reply)
+    → HandlesAfter c reply × (IsQuiet c → ClosesWhatIsOpen c → OpComesTo (caller_of c) (end_of c) c.room c.lines c.op reply)
 
 -- ---- one session's Resolve
 

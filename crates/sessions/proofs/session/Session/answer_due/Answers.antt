@@ -1,7 +1,7 @@
 use Rattle.std.proofs.Common.{◌≡◌, ◌∙◌, sym, refl, inr, ℕ}
 use Rattle.root_ops.specs.Order.{due}
 use Rattle.tree_model.specs.declared.step.StepOf.TheVariants.{Close}
-use Rattle.sessions.proofs.Calls.{unmade}
+use Rattle.root_ops.proofs.Refusals.{unmade}
 use Rattle.sessions.proofs.session.Session.answer_due.Goals as goal
 
 pub returns : goal.returns
