@@ -19,9 +19,9 @@ mod opening;
 mod plan;
 mod report;
 mod seat;
-mod world;
 #[cfg(test)]
 mod tests;
+mod world;
 #[cfg(test)]
 mod world_tests;
 
