@@ -1,7 +1,7 @@
 -- The statuses that the program ends with: these four, and no other.
 use Rattle.std.specs.Prelude.{ℕ, Result, Ok, Err}
 use Rattle.scripts.specs.declared.fault.RunFault.{RunFault}
-use Rattle.scripts.specs.declared.fault.RunFault.TheVariants.{Script, ReadFailed, WriteFailed, NoMemory}
+use Rattle.scripts.specs.declared.fault.RunFault.TheVariants.{Script, ReadFailed, WriteFailed, NoMemory, BookFull}
 use Rattle.inroot.specs.declared.ending.Fault.{Fault}
 use Rattle.inroot.specs.declared.ending.Fault.TheVariants.{Usage, NotUtf8, NoRequest, Run}
 
@@ -26,3 +26,4 @@ status_of (Err (Run (Script fault))) = SCRIPT_REFUSED
 status_of (Err (Run ReadFailed)) = FAILED
 status_of (Err (Run WriteFailed)) = FAILED
 status_of (Err (Run NoMemory)) = FAILED
+status_of (Err (Run BookFull)) = FAILED

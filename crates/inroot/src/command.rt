@@ -1,13 +1,15 @@
 //! The command line.
 ghost use Rattle.std.specs.Prelude.{◌≡◌, codes, IfSome};
-ghost use Rattle.inroot.specs.Command.{IsAsked, IsOption};
+ghost use Rattle.inroot.specs.Command.{IsAsked, IsOption, IsRequest};
 
 use clap::{Arg, ArgAction, ArgMatches, Command};
 use path_text::Flags;
 use std::alloc::{AllocError, Global};
 
-// The name of the command, the id of the path that it takes, and the options by their ids, which are their names.
+// The names of the commands, the id of the path that `walk` takes, and its options by their ids, which are their names.
 const WALK: &str = "walk";
+
+const REPLAY: &str = "replay";
 
 const PATH: &str = "PATH";
 
@@ -61,26 +63,54 @@ fn walk<'a>(alloc: Global) -> Result<Command<'a>, AllocError> {
         .arg(path)
 }
 
+/// What help says of `replay` beside its arguments.
+const REPLAYING: &str =
+    "SCRIPT is a JSON text on standard input, with the actors' calls and a schedule of their turns.
+
+Prints a line for each event, for how each call ended, for each entry of the tree
+then, and for each actor with how many handles it has open.
+
+Example:
+  inroot replay < examples/attacks/moved-out.json";
+
+// The command `replay`.
+fn replay<'a>(alloc: Global) -> Command<'a> {
+    Command::new(alloc, REPLAY)
+        .about("Run the actors' calls by the schedule, and print what came of them")
+        .override_usage("inroot replay < SCRIPT")
+        .after_help(REPLAYING)
+}
+
 /// The commands of the program.
 pub fn command<'a>(alloc: Global) -> Result<Command<'a>, AllocError> {
     Command::new(alloc, "inroot")
         .version("0.1.0")
-        .about("Resolve paths below a root, over the tree of a script on standard input")
+        .about(
+            "Resolve paths below a root, and replay races, over the tree of a script on standard input",
+        )
         .override_usage("inroot <COMMAND> < SCRIPT")
         .after_help(STATUSES)
         .subcommand_required(true)
-        .subcommand(walk(alloc)?)
+        .subcommand(walk(alloc)?)?
+        .subcommand(replay(alloc))
 }
 
-/// What a command line asks for: to walk a path, with these restrictions (openat2(2)).
+/// A path to walk, with these restrictions (openat2(2)).
 #[derive(Clone, Copy, Debug)]
-pub struct Request<'a> {
+pub struct Walking<'a> {
     pub path: &'a str,
     pub flags: Flags,
 }
 
-/// The request of `walk` and its arguments, if they have a path.
-fn walk_asked<'a>(matches: &ArgMatches<'a>) -> Option<Request<'a>>
+/// What a command line asks for.
+#[derive(Clone, Copy, Debug)]
+pub enum Request<'a> {
+    Walk(Walking<'a>),
+    Replay,
+}
+
+/// The walk that the arguments of `walk` ask for, if they have a path.
+fn walk_asked<'a>(matches: &ArgMatches<'a>) -> Option<Walking<'a>>
     ensures { IsAsked matches.now result }
 {
     let path = matches.get_str(PATH)?;
@@ -88,10 +118,16 @@ fn walk_asked<'a>(matches: &ArgMatches<'a>) -> Option<Request<'a>>
         beneath: matches.get_flag(BENEATH),
         no_links: matches.get_flag(NO_LINKS),
     };
-    Some(Request { path, flags })
+    Some(Walking { path, flags })
 }
 
 /// The request of a command line, if it has one.
-pub fn asked<'a>(matches: &ArgMatches<'a>) -> Option<Request<'a>> {
-    walk_asked(matches.subcommand_matches(WALK)?)
+pub fn asked<'a>(matches: &ArgMatches<'a>) -> Option<Request<'a>>
+    ensures { IsRequest matches.now result }
+{
+    if matches.subcommand_matches(REPLAY).is_some() {
+        return Some(Request::Replay);
+    }
+    let walk = walk_asked(matches.subcommand_matches(WALK)?)?;
+    Some(Request::Walk(walk))
 }

@@ -1,4 +1,5 @@
-//! The program: resolves paths below a root, over the tree that a script on standard input gives.
+//! The program: resolves paths below a root, over the tree that a script on standard input gives, and replays scripts of
+//! calls that race.
 //!
 //! It reads its command line, hands standard input and output to the library `scripts`, where it is stated what a
 //! run writes, and ends with the status that `ending` says of what happened.
@@ -9,9 +10,9 @@ mod ending;
 #[cfg(test)]
 mod tests;
 
-use command::{asked, command};
+use command::{Request, asked, command};
 use ending::{Fault, status};
-use scripts::{RunFault, walk};
+use scripts::{RunFault, replay, walk};
 use std::process::ExitCode;
 use std::{env, io};
 
@@ -48,14 +49,17 @@ fn run(rt: &HostRuntime) -> Result<(), Fault> {
         Ok(matches) => matches,
         Err(error) => return told(rt, &error),
     };
-    let asked = asked(&matches).ok_or(Fault::NoRequest)?;
-    walk(
-        alloc,
-        &mut rt.stdin(),
-        &mut rt.stdout(),
-        asked.path.as_bytes(),
-        asked.flags,
-    )?;
+    let (mut input, mut output) = (rt.stdin(), rt.stdout());
+    match asked(&matches).ok_or(Fault::NoRequest)? {
+        Request::Walk(asked) => walk(
+            alloc,
+            &mut input,
+            &mut output,
+            asked.path.as_bytes(),
+            asked.flags,
+        )?,
+        Request::Replay => replay(alloc, &mut input, &mut output)?,
+    }
     Ok(())
 }
 

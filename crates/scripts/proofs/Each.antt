@@ -6,7 +6,7 @@ use Rattle.serde_json.specs.Data.{Data}
 use Rattle.serde_json.specs.View.{view, items_view}
 use Rattle.serde_json.specs.declared.value.Value.{Value}
 use Rattle.scripts.specs.declared.fault.RunFault.{RunFault}
-use Rattle.scripts.specs.declared.fault.RunFault.TheVariants.{Script, ReadFailed, WriteFailed, NoMemory}
+use Rattle.scripts.specs.declared.fault.RunFault.TheVariants.{Script, ReadFailed, WriteFailed, NoMemory, BookFull}
 use Rattle.scripts.specs.declared.fault.ScriptFault.{ScriptFault}
 use Rattle.scripts.specs.Checks.{each}
 use Rattle.scripts.specs.Fault.{IsFaultOf}
@@ -50,6 +50,7 @@ stops {A = A} says values k xs v (Script fault) within is said so_far =
 stops says values k xs v ReadFailed within is said so_far = absurd said
 stops says values k xs v WriteFailed within is said so_far = absurd said
 stops says values k xs v NoMemory within is said so_far = tt
+stops says values k xs v BookFull within is said so_far = absurd said
 
 pub ends : {A : Type 0} (says : ℕ → Data → Result A ScriptFault) (values : List Value) (k : ℕ) (xs : List A)
     → length values ≤ k → IsReadSoFar says values k xs → each says 0 (items_view values) ≡ Ok xs

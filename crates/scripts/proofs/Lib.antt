@@ -7,3 +7,4 @@ pub mod Lines
 pub mod Opened
 pub mod Scenarios
 pub mod Playable
+pub mod Replays

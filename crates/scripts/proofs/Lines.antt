@@ -20,7 +20,7 @@ use Rattle.tree_model.specs.Trees.{IsTree}
 use Rattle.handles.specs.Objects.{StandingObject}
 use Rattle.step_resolver.specs.Meaning.{Ground, Meant, object, fails, reading_means, resolves, resolved}
 use Rattle.scripts.specs.declared.fault.RunFault.{RunFault}
-use Rattle.scripts.specs.declared.fault.RunFault.TheVariants.{Script, ReadFailed, WriteFailed, NoMemory}
+use Rattle.scripts.specs.declared.fault.RunFault.TheVariants.{Script, ReadFailed, WriteFailed, NoMemory, BookFull}
 use Rattle.scripts.specs.declared.fault.ScriptFault.{ScriptFault}
 use Rattle.step_resolver.specs.Driver.{node_of, IsReady, Resolves}
 use Rattle.step_resolver.specs.declared.driver.Resolved.{Resolved}
@@ -132,6 +132,7 @@ refused_run (Err fault) old new (Err told) run = by told run.0 run.1
     by ReadFailed is keeps = keeps (λ e. cc (e))
     by NoMemory is keeps = keeps (λ e. cc (e))
     by WriteFailed is keeps = absurd is
+    by BookFull is keeps = absurd is
 
 pub nothing_if_refused : {T : Type 0} (written : List ℕ → Result (List ℕ) ScriptFault) (known old new : Option (List ℕ)) (result : Result T RunFault)
     → IsRun written known old new result → WritesNothingIfRefused written known old new

@@ -8,7 +8,7 @@ use Rattle.tree_model.specs.Entries.{with_some, refuse_if}
 use Rattle.scripts.specs.declared.actors.TheConstants.{ACTORS_MAX}
 use Rattle.scripts.specs.declared.calls.Version.{Version}
 use Rattle.scripts.specs.declared.fault.RunFault.{RunFault}
-use Rattle.scripts.specs.declared.fault.RunFault.TheVariants.{Script, ReadFailed, WriteFailed, NoMemory}
+use Rattle.scripts.specs.declared.fault.RunFault.TheVariants.{Script, ReadFailed, WriteFailed, NoMemory, BookFull}
 use Rattle.scripts.specs.declared.fault.ScriptFault.{ScriptFault}
 use Rattle.scripts.specs.declared.fault.ScriptFault.TheVariants.{Actors, TooManyActors}
 use Rattle.scripts.specs.declared.scenario.Header.{Header}
@@ -31,6 +31,7 @@ fails {A = A} said onward (Script f) is = ap (λ (r : Result A ScriptFault). the
 fails said onward ReadFailed is = absurd is
 fails said onward WriteFailed is = absurd is
 fails said onward NoMemory is = tt
+fails said onward BookFull is = absurd is
 
 -- ---- the parts of a script
 

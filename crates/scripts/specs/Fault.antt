@@ -3,7 +3,7 @@ use Rattle.std.specs.Prelude.{⊤, ◌≡◌, false, Option, Some, None, Result,
 use Rattle.scripts.specs.declared.detail.Detail.{Detail}
 use Rattle.scripts.specs.declared.fault.JsonFault.{JsonFault}
 use Rattle.scripts.specs.declared.fault.RunFault.{RunFault}
-use Rattle.scripts.specs.declared.fault.RunFault.TheVariants.{Script, ReadFailed, WriteFailed, NoMemory}
+use Rattle.scripts.specs.declared.fault.RunFault.TheVariants.{Script, ReadFailed, WriteFailed, NoMemory, BookFull}
 use Rattle.scripts.specs.declared.fault.ScriptFault.{ScriptFault}
 use Rattle.scripts.specs.declared.fault.ScriptFault.TheVariants.{NotJson}
 
@@ -22,6 +22,7 @@ IsFaultOf said (Script fault) = said ≡ Err (check_of fault)
 IsFaultOf said ReadFailed = ⊥
 IsFaultOf said WriteFailed = ⊥
 IsFaultOf said NoMemory = ⊤
+IsFaultOf said BookFull = ⊥
 
 -- what is told beside the check that failed
 abbrev pub detail_of : RunFault → Option Detail
@@ -29,3 +30,4 @@ detail_of (Script fault) = Some (record { fault = fault })
 detail_of ReadFailed = None
 detail_of WriteFailed = None
 detail_of NoMemory = None
+detail_of BookFull = None

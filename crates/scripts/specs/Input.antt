@@ -6,7 +6,7 @@ use Rattle.serde_json.specs.Read.{read}
 use Rattle.tree_model.specs.Entries.{with_some}
 use Rattle.scripts.specs.declared.fault.RunFault.{RunFault}
 use Rattle.scripts.specs.declared.fault.ScriptFault.{ScriptFault}
-use Rattle.scripts.specs.declared.fault.RunFault.TheVariants.{Script, ReadFailed, WriteFailed, NoMemory}
+use Rattle.scripts.specs.declared.fault.RunFault.TheVariants.{Script, ReadFailed, WriteFailed, NoMemory, BookFull}
 use Rattle.scripts.specs.declared.fault.ScriptFault.TheVariants.{TooLong, NotJson}
 use Rattle.scripts.specs.Fault.{SOMEWHERE}
 use Rattle.scripts.specs.declared.input.TheConstants.{SCRIPT_MAX}
@@ -17,6 +17,7 @@ IsReadFault known (Script fault) = (fault ≡ TooLong) × IfSome known (λ input
 IsReadFault known ReadFailed = ⊤
 IsReadFault known WriteFailed = ⊥
 IsReadFault known NoMemory = ⊤
+IsReadFault known BookFull = ⊥
 
 -- the data of a JSON text, if the bytes are one
 abbrev pub json_of : List ℕ → Option Data

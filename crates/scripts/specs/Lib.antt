@@ -12,6 +12,7 @@ pub mod Fields
 pub mod Input
 pub mod Labels
 pub mod Plans
+pub mod Replay
 pub mod Run
 pub mod Scenario
 pub mod Schedule

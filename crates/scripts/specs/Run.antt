@@ -9,7 +9,7 @@ use Rattle.tree_model.specs.Steps.{kind_of}
 use Rattle.step_resolver.specs.Meaning.{Meant, object, fails, resolved}
 use Rattle.tree_model.specs.Entries.{refuse_if, with_some}
 use Rattle.scripts.specs.declared.fault.RunFault.{RunFault}
-use Rattle.scripts.specs.declared.fault.RunFault.TheVariants.{Script, ReadFailed, WriteFailed, NoMemory}
+use Rattle.scripts.specs.declared.fault.RunFault.TheVariants.{Script, ReadFailed, WriteFailed, NoMemory, BookFull}
 use Rattle.scripts.specs.declared.fault.ScriptFault.{ScriptFault}
 use Rattle.scripts.specs.declared.fault.ScriptFault.TheVariants.{TooLong}
 use Rattle.scripts.specs.declared.input.TheConstants.{SCRIPT_MAX}
@@ -47,6 +47,7 @@ IsRunFaultOf said (Script fault) = said ≡ Err (check_of fault)
 IsRunFaultOf said ReadFailed = ⊤
 IsRunFaultOf said WriteFailed = IsOkAnd said (λ text. text ≢ [])
 IsRunFaultOf said NoMemory = ⊤
+IsRunFaultOf said BookFull = ⊥
 
 -- The run wrote what there is to write for its input, and nothing else; or it failed as it should, and but for a writer that
 -- failed nothing was written. `known` is what the reader had left.

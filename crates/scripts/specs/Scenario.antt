@@ -10,7 +10,7 @@ use Rattle.tree_model.specs.State.{TOP}
 use Rattle.tree_model.specs.Steps.{directory_at}
 use Rattle.scripts.specs.declared.actors.TheConstants.{ACTORS_MAX}
 use Rattle.scripts.specs.declared.fault.RunFault.{RunFault}
-use Rattle.scripts.specs.declared.fault.RunFault.TheVariants.{Script, ReadFailed, WriteFailed, NoMemory}
+use Rattle.scripts.specs.declared.fault.RunFault.TheVariants.{Script, ReadFailed, WriteFailed, NoMemory, BookFull}
 use Rattle.scripts.specs.declared.fault.ScriptFault.{ScriptFault}
 use Rattle.scripts.specs.declared.fault.ScriptFault.TheVariants.{TooLong, NotObject, Version, Lines, Tree}
 use Rattle.scripts.specs.declared.scenario.Header.{Header}
@@ -69,6 +69,7 @@ IsReadingFaultOf said (Script fault) = said ≡ Err (check_of fault)
 IsReadingFaultOf said ReadFailed = ⊤
 IsReadingFaultOf said WriteFailed = ⊥
 IsReadingFaultOf said NoMemory = ⊤
+IsReadingFaultOf said BookFull = ⊥
 
 -- What is said can be played: each actor's root is a directory, each turn an actor's, and a book may have the lines.
 pub record IsPlayable (said : Said) : Type 0 where

@@ -25,7 +25,10 @@ impl RunFault {
     {
         match self {
             RunFault::Script(fault) => Some(Detail { fault: *fault }),
-            RunFault::ReadFailed | RunFault::WriteFailed | RunFault::NoMemory => None,
+            RunFault::ReadFailed
+            | RunFault::WriteFailed
+            | RunFault::NoMemory
+            | RunFault::BookFull => None,
         }
     }
 }

@@ -86,6 +86,9 @@ pub enum RunFault {
     WriteFailed,
     #[error("no memory")]
     NoMemory,
+    /// The script's book has fewer lines than there are actors, each of which has its root open.
+    #[error("book full")]
+    BookFull,
 }
 
 impl From<NoMemory> for RunFault {
