@@ -54,15 +54,31 @@ static void *work(void *self)
     return NULL;
 }
 
+/* Exchanges an entry at a depth below the root for the link. It follows no link: by one of its own it would leave the root. */
+static void exchange(size_t depth)
+{
+    static const char *const names[] = {"x", "d", "e", "f"};
+    int dir = root;
+    for (size_t at = 0; at < depth && dir >= 0; at++) {
+        int next = openat(dir, names[at], O_PATH | O_DIRECTORY | O_NOFOLLOW | O_CLOEXEC);
+        if (dir != root)
+            close(dir);
+        dir = next;
+    }
+    if (dir < 0)
+        return;
+    syscall(SYS_renameat2, dir, names[depth], root, "link", RENAME_EXCHANGE);
+    close(dir);
+}
+
 /* Puts a link that leads out in the place of a directory, and back. */
 static void *swap(void *self)
 {
-    static const char *const places[] = {"x/d", "x/d/e", "x/d/e/f"};
     uint64_t state = 0x2545f4914f6cdd1d;
     while (!stop) {
-        const char *place = places[pick(&state, 3)];
-        syscall(SYS_renameat2, root, place, root, "link", RENAME_EXCHANGE);
-        syscall(SYS_renameat2, root, place, root, "link", RENAME_EXCHANGE);
+        size_t depth = 1 + pick(&state, 3);
+        exchange(depth);
+        exchange(depth);
         /* What the others removed meanwhile. */
         symlinkat(outside, root, "link");
         swaps++;
