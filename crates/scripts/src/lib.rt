@@ -1,8 +1,9 @@
-//! Scripts: reading one whole, opening its tree and its first actor's root, and running a walk over it.
+//! Scripts: reading one whole, running a walk over its tree below its first actor's root, and replaying it.
 //!
 //! A script is a JSON text with a tree's entries, actors with their roots and calls, and a schedule of their turns. What
 //! `read_scenario` reads is what the script says, or the first check that fails. What a run writes is a stated
-//! function of what the reader has left and of the call (`walk`), whatever reader and writer it is given.
+//! function of what the reader has left and of the call (`walk`), or the text of the report on a run of the script's world
+//! (`replay`), whatever reader and writer it is given.
 #![tactic(auto)]
 
 mod actors;

@@ -1,6 +1,7 @@
-//! The library's calls, on scripts; the walk's rows among another actor's steps in `races`.
+//! The library's calls, on scripts; the walk's rows among another actor's steps in `races`, replays in `replays`.
 mod races;
 mod readings;
+mod replays;
 
 use crate::fault::{Cause, RunFault, ScriptFault};
 use crate::input::{READS_MAX, SCRIPT_MAX};
@@ -330,6 +331,7 @@ fn tells_faults(rt: HostRuntime) {
         (RunFault::ReadFailed, "read failed"),
         (RunFault::WriteFailed, "write failed"),
         (RunFault::NoMemory, "no memory"),
+        (RunFault::BookFull, "book full"),
     ] {
         assert!(rt; tells(rt.alloc(), fault, want), "{want:?}");
     }
