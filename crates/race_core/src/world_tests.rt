@@ -1,4 +1,7 @@
 //! Worlds: plans as lines of text, and what is told of the report as lines too.
+ghost use Rattle.std.specs.Prelude.{IfOk};
+ghost use Rattle.tree_model.specs.Trees.{IsTree};
+
 use crate::*;
 use path_text::{Bytes, Errno, Flags, Name, Names, NoMemory};
 use root_ops::{Op, Request};
@@ -42,7 +45,9 @@ fn entry(alloc: Global, path: &str, what: &str) -> Result<Entry, Errno> {
 }
 
 // The base tree, and an empty directory `/c/e`, node 11.
-fn tree(alloc: Global) -> Result<ListTree, Fail> {
+fn tree(alloc: Global) -> Result<ListTree, Fail>
+    ensures { IfOk result (λ tree. IsTree tree.nodes) }
+{
     let mut entries = Vec::new(alloc);
     for (path, what) in ENTRIES.as_slice() {
         entries.push(entry(alloc, path, what)?)?;
