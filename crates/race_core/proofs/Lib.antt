@@ -3,3 +3,8 @@ mod Stepping
 mod Starting
 mod Running
 mod Granting
+mod HeldOpen
+mod HeldByCalls
+mod CallsSoFar
+mod WorldSoFar
+mod ReportsTell

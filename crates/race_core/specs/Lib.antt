@@ -5,4 +5,6 @@ pub mod Ledgers
 pub mod Opening
 pub mod TurnView
 pub mod Turns
+pub mod WorldCalls
+pub mod WorldLaws
 pub mod Worlds

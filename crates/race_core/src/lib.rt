@@ -22,6 +22,7 @@ mod seat;
 #[cfg(test)]
 mod tests;
 mod world;
+mod world_laws;
 #[cfg(test)]
 mod world_tests;
 
@@ -31,3 +32,7 @@ pub use opening::ACTORS_MAX;
 pub use plan::{ActorPlan, Planned, Plans, Ref};
 pub use report::{Outcome, Outcomes, Report, WorldFault};
 pub use world::World;
+pub use world_laws::{
+    actors_calls_stand_in_order, calls_tell_in_reports, resolve_tells_in_reports,
+    single_resolve_tells, walks_tell_in_reports,
+};

@@ -44,14 +44,26 @@ fn entry(alloc: Global, path: &str, what: &str) -> Result<Entry, Errno> {
     Ok(Entry { at, what })
 }
 
-// The base tree, and an empty directory `/c/e`, node 11.
-fn tree(alloc: Global) -> Result<ListTree, Fail>
-    ensures { IfOk result (λ tree. IsTree tree.nodes) }
-{
+// The base tree.
+fn entries(alloc: Global) -> Result<Vec<Entry>, Fail> {
     let mut entries = Vec::new(alloc);
     for (path, what) in ENTRIES.as_slice() {
         entries.push(entry(alloc, path, what)?)?;
     }
+    Ok(entries)
+}
+
+fn base_tree(alloc: Global) -> Result<ListTree, Fail>
+    ensures { IfOk result (λ tree. IsTree tree.nodes) }
+{
+    Ok(ListTree::from_entries(alloc, &entries(alloc)?)?)
+}
+
+// The base tree, and an empty directory `/c/e`, node 11.
+fn tree(alloc: Global) -> Result<ListTree, Fail>
+    ensures { IfOk result (λ tree. IsTree tree.nodes) }
+{
+    let mut entries = entries(alloc)?;
     entries.push(entry(alloc, "/c/e", "dir")?)?;
     Ok(ListTree::from_entries(alloc, &entries)?)
 }
@@ -79,13 +91,21 @@ fn planned_step(step: Step) -> StepOf<Ref> {
     }
 }
 
-// `resolve PATH`, `release K`, or a step.
-fn planned(alloc: Global, call: &str) -> Result<Planned, NoMemory> {
+// `resolve PATH`, `remove_all PATH`, `mkdir_all PATH`, `release K`, or a step; the first three with these restrictions.
+fn planned(alloc: Global, call: &str, flags: Flags) -> Result<Planned, NoMemory> {
     let (word, rest) = call.split_once(' ').unwrap_or((call, ""));
+    let path = Bytes::from_slice(alloc, rest.as_bytes())?;
     Ok(match word {
         "resolve" => {
-            let flags = Flags::default();
-            let op = Op::Resolve(Bytes::from_slice(alloc, rest.as_bytes())?);
+            let op = Op::Resolve(path);
+            Planned::Call(Request { op, flags })
+        }
+        "remove_all" => {
+            let op = Op::RemoveAll(path);
+            Planned::Call(Request { op, flags })
+        }
+        "mkdir_all" => {
+            let op = Op::MkdirAll(path);
             Planned::Call(Request { op, flags })
         }
         "release" => Planned::Release(if rest == "0" { 0 } else { 1 }),
@@ -96,19 +116,23 @@ fn planned(alloc: Global, call: &str) -> Result<Planned, NoMemory> {
     })
 }
 
-// An actor a line: its root, and its calls after colons.
-fn plans(alloc: Global, lines: &str) -> Result<Vec<ActorPlan>, Fail> {
+// An actor a line: its root, and its calls after colons, all with these restrictions.
+fn plans_with(alloc: Global, lines: &str, flags: Flags) -> Result<Vec<ActorPlan>, Fail> {
     let mut plans = Vec::new(alloc);
     for line in lines.lines() {
         let mut parts = line.split(": ");
         let root = names_of(alloc, parts.next().unwrap_or(""))?;
         let mut calls = Plans::new(alloc);
         for call in parts {
-            calls.push(planned(alloc, call)?)?;
+            calls.push(planned(alloc, call, flags)?)?;
         }
         plans.push(ActorPlan { root, calls })?;
     }
     Ok(plans)
+}
+
+fn plans(alloc: Global, lines: &str) -> Result<Vec<ActorPlan>, Fail> {
+    plans_with(alloc, lines, Flags::default())
 }
 
 fn outcome_line(alloc: Global, told: &mut Output, outcome: &Outcome) -> Result<(), NoMemory> {
@@ -117,7 +141,11 @@ fn outcome_line(alloc: Global, told: &mut Output, outcome: &Outcome) -> Result<(
         Outcome::Fault(error) => told.fault(*error),
         Outcome::Text(text) => told.escaped(text.as_slice()),
         Outcome::Done => told.text("done\n"),
-        Outcome::Count(count) => told.number(*count),
+        Outcome::Count(count) => {
+            told.text("count ")?;
+            told.number(*count)?;
+            told.text("\n")
+        }
         Outcome::Stepped(answer) => {
             told.text("stepped ")?;
             told.answer(alloc, answer)?;
@@ -346,6 +374,115 @@ fn too_many_actors_are_refused(rt: HostRuntime) -> Result<(), Fail> {
     let alloc = rt.alloc();
     assert!(rt; fault_of_many(alloc, 65)? == Some(WorldFault::TooManyActors));
     assert!(rt; fault_of_many(alloc, 64)? == Some(WorldFault::NoSuchActor(64)));
+    Ok(())
+}
+
+// The entries of a tree, each as the directory's number, the name and the node's number on a line.
+fn rows_of<T: Tree>(alloc: Global, tree: &T, told: &mut Output) -> Result<(), NoMemory> {
+    let snapshot = tree.snapshot(alloc)?;
+    for row in snapshot.rows(alloc)? {
+        told.number(row.parent.number())?;
+        told.text(" ")?;
+        told.bytes(row.name.bytes())?;
+        told.text(" ")?;
+        told.number(row.child.number())?;
+        told.text("\n")?;
+    }
+    Ok(())
+}
+
+// Of a bulk call among others: the plans, the schedule, what is told of actor 0 and then of the other, and the rows.
+#[derive(Clone, Copy)]
+struct Bulk<'a> {
+    lines: &'a str,
+    schedule: &'a [u32],
+    wanted: &'a str,
+    rows: &'a str,
+}
+
+// Whether these are told, and these rows left.
+fn bulk_tells(alloc: Global, bulk: &Bulk, flags: Flags) -> Result<bool, Fail> {
+    let plans = plans_with(alloc, bulk.lines, flags)?;
+    let world = match World::new(alloc, base_tree(alloc)?, plans, 1000) {
+        Ok(world) => world,
+        Err(_) => return Ok(false),
+    };
+    match world.run(alloc, bulk.schedule) {
+        Ok(report) => {
+            let mut rows = Output::new(alloc);
+            rows_of(alloc, &report.tree, &mut rows)?;
+            let told = told_of(alloc, &report)?;
+            Ok(
+                told.as_slice().starts_with(bulk.wanted.as_bytes())
+                    && rows.as_slice() == bulk.rows.as_bytes(),
+            )
+        }
+        Err(_) => Ok(false),
+    }
+}
+
+// The plan of a mkdir makes node 11, and the link instead of it is node 12.
+const BULK: [Bulk<'static>; 3] = [
+    Bulk {
+        lines: "/c: remove_all a
+/c: resolve a: rename 1 b 0 b2 plain: make_link 1 b /secret",
+        schedule: &[1, 1, 0, 0, 0, 0, 0, 0, 1, 1],
+        wanted: "12 held 1\ncount 2\n",
+        rows: "0 c 1\n0 secret 9\n1 abs 5\n1 b2 3\n1 dang 8\n1 loop 7\n1 up 6\n3 f 4\n9 key 10\n",
+    },
+    Bulk {
+        lines: "/c: mkdir_all a/n/m
+/c: resolve a: remove_dir 1 n: make_link 1 n /secret",
+        schedule: &[1, 1, 0, 0, 0, 0, 1, 1],
+        wanted: "7 held 1\nfault ENOTDIR\n",
+        rows: "0 c 1\n0 secret 9\n1 a 2\n1 abs 5\n1 dang 8\n1 loop 7\n1 up 6\n2 b 3\n2 n 12\n3 f 4\n9 key 10\n",
+    },
+    Bulk {
+        lines: "/c: mkdir_all a/n
+/: resolve c: resolve secret: rename 1 a 2 a plain",
+        schedule: &[1, 1, 1, 1, 0, 0, 0, 0, 0, 0, 1],
+        wanted: "8 held 1\nfault EAGAIN\n",
+        rows: "0 c 1\n0 secret 9\n1 abs 5\n1 dang 8\n1 loop 7\n1 up 6\n2 b 3\n2 n 11\n3 f 4\n9 a 2\n9 key 10\n",
+    },
+];
+
+#[test]
+fn bulk_calls_among_others(rt: HostRuntime) -> Result<(), Fail> {
+    for (beneath, no_links) in [(false, false), (true, false), (false, true)] {
+        let flags = Flags { beneath, no_links };
+        for bulk in BULK.as_slice() {
+            assert!(rt; bulk_tells(rt.alloc(), bulk, flags)?, "{}", bulk.wanted);
+        }
+    }
+    Ok(())
+}
+
+// How many events there are after each of five turns of actor 0, and once the world then ran to its end.
+fn events_by_turns(alloc: Global, lines: &str) -> Result<Option<[usize; 6]>, Fail> {
+    let mut seen = [0usize; 6];
+    let mut world = match World::new(alloc, tree(alloc)?, plans(alloc, lines)?, 100) {
+        Ok(world) => world,
+        Err(_) => return Ok(None),
+    };
+    for at in 0..5usize {
+        if world.turn(alloc, 0).is_ok() {
+            seen[at] = world.book.events().len();
+        }
+    }
+    match world.run(alloc, &[]) {
+        Ok(report) => {
+            seen[5] = report.events.len();
+            Ok(Some(seen))
+        }
+        Err(_) => Ok(None),
+    }
+}
+
+// A busy actor's turn is one step; a call that is done at its start takes its turn without one.
+#[test]
+fn a_turn_is_one_step(rt: HostRuntime) -> Result<(), Fail> {
+    let lines = "/c: resolve a: release 5: list 0";
+    assert!(rt; events_by_turns(rt.alloc(), lines)? == Some([1, 2, 2, 3, 3, 3]));
     Ok(())
 }
 

@@ -1,0 +1,463 @@
+-- An actor's calls so far, and what a turn makes of them.
+use Rattle.std.proofs.Common.{◌≡◌, ◌≢◌, ◌⊎◌, ℕ, suc, ◌+◌, ◌==◌, List, [], ◌∷◌, ◌++◌, Bool, true, false, cond, if◌then◌else◌, ◌||◌, map, length, Option, Some, None, is_some, not, refl, sym, ap, subst, ◌∙◌, inl, inr, eq-eqb, append-nil, append_assoc, le_refl, ltb-true, arith}
+use Rattle.std.specs.Prelude.{nat_lt}
+use Rattle.std.specs.List.{filter}
+use Rattle.std.proofs.lemmas.Bool.{false≢true, eqb-true, ne_eqb}
+use Rattle.std.proofs.lemmas.List.{map-append}
+use Rattle.std.proofs.lemmas.List.Elements.{filter-append}
+use Rattle.std.proofs.lemmas.Option.{none-some, same_Some, slice_get_past}
+use Rattle.path_text.specs.declared.errno.Errno.{Errno}
+use Rattle.path_text.specs.declared.errno.Errno.TheVariants.{NoMemory, BookFull, BadHandle}
+use Rattle.tree_model.specs.declared.answer.Answer.{Answer}
+use Rattle.tree_model.specs.declared.answer.Answer.TheVariants.{Opened, Refused}
+use Rattle.tree_model.specs.declared.answer.Event.{Event}
+use Rattle.tree_model.specs.declared.step.Kind.{Kind}
+use Rattle.tree_model.specs.declared.step.StepOf.{StepOf}
+use Rattle.tree_model.specs.declared.step.StepOf.TheVariants as steps
+use Rattle.tree_model.specs.State.{State}
+use Rattle.tree_model.specs.StepLaws.{is_close_of}
+use Rattle.tree_model.specs.Steps.{outcome, held, node_held}
+use Rattle.tree_model.specs.History.{after_events}
+use Rattle.tree_model.proofs.HistoryLaws.{after_events-append}
+use Rattle.tree_model.proofs.StepLaws.{own_handles_stay, others_handles_stay, opened_is_open}
+use Rattle.handles.specs.declared.owner.Owner.{Owner}
+use Rattle.handles.specs.Objects.{StandingObject}
+use Rattle.step_resolver.specs.declared.walk.Root.{Root}
+use Rattle.step_resolver.specs.Order.{Line, answered, no_room, not_made, events_of, IsWant}
+use Rattle.step_resolver.specs.WalkHistory.{own_events}
+use Rattle.root_ops.specs.declared.below.Below.{Below}
+use Rattle.root_ops.specs.declared.op.Op.{Op}
+use Rattle.root_ops.specs.declared.op.Request.{Request}
+use Rattle.root_ops.specs.Order.{Reply, fault, Doing, CallTurn, more, ends, starts, take, due, IsUnmade, LeadsTo}
+use Rattle.root_ops.specs.TurnView.{below_of}
+use Rattle.root_ops.specs.View.{CallView}
+use Rattle.root_ops.proofs.Handles.OwnEvents.{events_append}
+use Rattle.root_ops.proofs.Refusals.{refusal_needs_no_room, unmade}
+use Rattle.race_core.specs.declared.plan.Planned.{Planned}
+use Rattle.race_core.specs.declared.report.Outcome.{Outcome}
+use Rattle.race_core.specs.declared.seat.Seat.{Seat}
+use Rattle.race_core.specs.Book.{BookedHistory, tree_now, free_lines, lines_needed, is_close, closes_nothing, refusal, answer_now, booked}
+use Rattle.race_core.specs.Ledgers.{LedgerView}
+use Rattle.race_core.specs.Turns.{Luck, Stepped, unless_refused, stepped_by, request_of, left_by, opened_by, outcome_of, comes, begins, begins_next, begun, goes_on, turned}
+use Rattle.race_core.specs.WorldCalls.{CallMade, IsMadeAs, kept_after, kept_after_all, AreMade, planned_of, outcomes_of, events_of_calls}
+use Rattle.race_core.proofs.HeldOpen.{AllOpen}
+use Rattle.race_core.proofs.HeldByCalls.{CallHolds, TurnHolds, started, Moves, unmoved, holds_on, closes_open, turn_holds_more}
+
+-- ---- a step through the book
+
+-- made and booked; or not made for want of memory or lines, as no Close is; or the Close of nothing
+pub data StepEffect (book : BookedHistory) (a : ℕ) (step : StepOf ℕ) (s : Stepped) : Type 0 where
+  was_made : s ≡ record { answer = answer_now book a step; book = booked book a step } → StepEffect book a step s
+  was_not : (error : Errno) → IsWant error → is_close step ≡ false → s ≡ record { answer = Refused error; book = book } → StepEffect book a step s
+  was_shut : closes_nothing (tree_now book) a step ≡ true → s ≡ record { answer = Refused BadHandle; book = book } → StepEffect book a step s
+
+close_needs_none : (free : ℕ) (step : StepOf ℕ) → nat_lt free (lines_needed step) ≡ true → is_close step ≡ false
+close_needs_none free (steps.Open h n) e = refl
+close_needs_none free (steps.Dup h) e = refl
+close_needs_none free (steps.Parent h) e = refl
+close_needs_none free (steps.ReadLink h) e = refl
+close_needs_none free (steps.NameBelow r h) e = refl
+close_needs_none free (steps.List h) e = refl
+close_needs_none free (steps.Close h) e = absurd (omega (arith, ltb-true free 0 e))
+close_needs_none free (steps.MakeDir h n) e = refl
+close_needs_none free (steps.MakeFile h n) e = refl
+close_needs_none free (steps.MakeLink h n text) e = refl
+close_needs_none free (steps.RemoveFile h n) e = refl
+close_needs_none free (steps.RemoveDir h n) e = refl
+close_needs_none free (steps.Rename h n k m mode) e = refl
+
+either_false : (a b : Bool) → (a || b) ≡ false → b ≡ false
+either_false true b e = absurd (false≢true (sym e))
+either_false false b e = e
+
+module _ (book : BookedHistory) (a : ℕ) (step : StepOf ℕ) where
+  by_refusal : (full shut : Bool) → nat_lt (free_lines book) (lines_needed step) ≡ full → closes_nothing (tree_now book) a step ≡ shut
+      → StepEffect book a step (unless_refused book a step (if full then Some BookFull else (if shut then Some BadHandle else None)))
+  by_refusal true shut f s = was_not BookFull (inr refl) (close_needs_none (free_lines book) step f) refl
+  by_refusal false true f s = was_shut s refl
+  by_refusal false false f s = was_made refl
+
+  by_luck : (tried luck : Bool) → (luck || is_close step) ≡ tried
+      → StepEffect book a step (if tried then unless_refused book a step (refusal book a step) else record { answer = Refused NoMemory; book = book })
+  by_luck true luck e = by_refusal (nat_lt (free_lines book) (lines_needed step)) (closes_nothing (tree_now book) a step) refl refl
+  by_luck false luck e = was_not NoMemory (inl refl) (either_false luck (is_close step) e) refl
+
+  pub effect_of : (luck : Bool) → StepEffect book a step (stepped_by luck book a step)
+  effect_of luck = by_luck (luck || is_close step) luck refl
+
+-- ---- handles
+
+abbrev pub IsOpen : State → ℕ → ℕ → Type 0
+IsOpen s a h = is_some (held s a h) ≡ true
+
+open_on : (o : Option ℕ) → is_some o ≡ true → (x : ℕ) × (o ≡ Some x)
+open_on None e = absurd (false≢true e)
+open_on (Some x) e = (x, refl)
+
+pub open_among_others : (s : State) (b a : ℕ) (step : StepOf ℕ) → a ≢ b → (h : ℕ) → IsOpen s a h → IsOpen (outcome s b step).after a h
+open_among_others s b a step ne h is = ap is_some (others_handles_stay s b step a h ne) ∙ is
+
+step_moves : (s : State) (a : ℕ) (step : StepOf ℕ) → Moves (IsOpen s a) step (outcome s a step).answer (IsOpen (outcome s a step).after a)
+step_moves s a step = record {
+  stays = λ k is e. ap is_some (own_handles_stay s a step k (open_on (held s a k) is).0 (open_on (held s a k) is).1 e);
+  is_new = λ h x kind e.
+      let opened = opened_is_open s a step h x kind e in
+      (ap is_some opened.1, λ was. false≢true (sym (ap is_some (ap (held s a) opened.0 ∙ ap (node_held a) (slice_get_past s.handles (length s.handles) (le_refl (length s.handles))))) ∙ was));
+}
+
+pub tree_booked : (book : BookedHistory) (a : ℕ) (step : StepOf ℕ) → tree_now (booked book a step) ≡ (outcome (tree_now book) a step).after
+tree_booked book a step = after_events-append book.opening book.events (record { actor = a; step = step; answer = answer_now book a step } ∷ [])
+
+pub booked_moves : (book : BookedHistory) (a : ℕ) (step : StepOf ℕ) → Moves (IsOpen (tree_now book) a) step (answer_now book a step) (IsOpen (tree_now (booked book a step)) a)
+booked_moves book a step = subst (λ (t : State). Moves (IsOpen (tree_now book) a) step (answer_now book a step) (IsOpen t a)) (sym (tree_booked book a step)) (step_moves (tree_now book) a step)
+
+-- ---- own events
+
+own_of_one : (a : ℕ) (event : Event) → event.actor ≡ a → own_events a (event ∷ []) ≡ event ∷ []
+own_of_one a event e = ap (λ b. cond b (event ∷ []) []) (eq-eqb event.actor a e)
+
+none_of_one : (a : ℕ) (event : Event) → event.actor ≢ a → own_events a (event ∷ []) ≡ []
+none_of_one a event ne = ap (λ b. cond b (event ∷ []) []) (ne_eqb event.actor a ne)
+
+pub own_more : (a : ℕ) (events : List Event) (event : Event) → event.actor ≡ a → own_events a (events ++ event ∷ []) ≡ own_events a events ++ event ∷ []
+own_more a events event e = filter-append (λ (v : Event). v.actor == a) events (event ∷ []) ∙ ap (λ es. own_events a events ++ es) (own_of_one a event e)
+
+pub own_stays : (a : ℕ) (events : List Event) (event : Event) → event.actor ≢ a → own_events a (events ++ event ∷ []) ≡ own_events a events
+own_stays a events event ne = filter-append (λ (v : Event). v.actor == a) events (event ∷ []) ∙ ap (λ es. own_events a events ++ es) (none_of_one a event ne) ∙ append-nil (own_events a events)
+
+-- ---- one call more
+
+pub leads_more : (below : Below) (lines : List Line) (turn mid : CallTurn) (others : List Line) (end : CallTurn)
+    → LeadsTo below turn lines mid → LeadsTo below mid others end → LeadsTo below turn (lines ++ others) end
+leads_more below [] turn mid others end first onward = subst (λ t. LeadsTo below t others end) (sym first) onward
+leads_more below (answered step answer ∷ lines) (more doing) mid others end first onward =
+    (first.0, leads_more below lines (take below true doing answer) mid others end first.1 onward)
+leads_more below (no_room step answer ∷ lines) (more doing) mid others end first onward =
+    (first.0, leads_more below lines (take below false doing answer) mid others end first.1 onward)
+leads_more below (not_made error ∷ lines) (more doing) mid others end first onward =
+    (first.0, leads_more below lines (take below true doing (Refused error)) mid others end first.1 onward)
+leads_more below (line ∷ lines) (ends reply) mid others end first onward = absurd first
+
+made_more : (root : Root) (standings : List (Option StandingObject)) (calls : List CallMade) (c : CallMade) → AreMade root standings calls
+    → IsMadeAs root (request_of root (kept_after_all root.owner standings calls) c.planned) c → AreMade root standings (calls ++ c ∷ [])
+made_more root standings [] c made is = (is, tt)
+made_more root standings (b ∷ calls) c made is = (made.0, made_more root (kept_after root.owner standings b) calls c made.1 is)
+
+kept_more : (owner : Owner) (standings : List (Option StandingObject)) (calls : List CallMade) (c : CallMade)
+    → kept_after_all owner standings (calls ++ c ∷ []) ≡ kept_after owner (kept_after_all owner standings calls) c
+kept_more owner standings [] c = refl
+kept_more owner standings (b ∷ calls) c = kept_more owner (kept_after owner standings b) calls c
+
+events_more : (a : ℕ) (calls : List CallMade) (c : CallMade) → events_of_calls a (calls ++ c ∷ []) ≡ events_of_calls a calls ++ events_of a c.lines
+events_more a [] c = append-nil (events_of a c.lines)
+events_more a (b ∷ calls) c =
+    ap (λ es. events_of a b.lines ++ es) (events_more a calls c) ∙ sym (append_assoc (events_of a b.lines) (events_of_calls a calls) (events_of a c.lines))
+
+planned_more : (calls : List CallMade) (c : CallMade) (others : List Planned) → planned_of calls ++ c.planned ∷ others ≡ planned_of (calls ++ c ∷ []) ++ others
+planned_more calls c others =
+    sym (ap (λ ps. ps ++ others) (map-append (λ (b : CallMade). b.planned) calls (c ∷ [])) ∙ append_assoc (planned_of calls) (c.planned ∷ []) others)
+
+outcomes_more : (calls : List CallMade) (c : CallMade) → outcomes_of calls ++ outcome_of c.reply ∷ [] ≡ outcomes_of (calls ++ c ∷ [])
+outcomes_more calls c = sym (map-append (λ (b : CallMade). outcome_of b.reply) calls (c ∷ []))
+
+-- ---- the calls so far
+
+module _ (plan : List Planned) (book : BookedHistory) (ledger : LedgerView) (calls : List CallMade) where
+  abbrev actor : ℕ
+  actor = ledger.root.owner.actor
+
+  abbrev kept_so_far : List (Option StandingObject)
+  kept_so_far = kept_after_all ledger.root.owner [] calls
+
+  -- no call is under way
+  pub record IsIdle : Type 0 where
+    pub planned : plan ≡ planned_of calls ++ ledger.to_come
+    pub standings : ledger.standings ≡ kept_so_far
+    pub own : own_events actor book.events ≡ events_of_calls actor calls
+
+  -- the next call has come to this turn
+  pub record IsComing (below : Below) (turn : CallTurn) : Type 0 where
+    pub next : Planned
+    pub request : Request
+    pub room : Bool
+    pub lines : List Line
+    pub planned : plan ≡ planned_of calls ++ next ∷ ledger.to_come
+    pub asked : request_of ledger.root kept_so_far next ≡ Some request
+    pub standings : ledger.standings ≡ left_by next kept_so_far
+    pub is_below : below ≡ below_of ledger.root request.flags
+    pub leads : LeadsTo below (starts below room request.op) lines turn
+    pub own : own_events actor book.events ≡ events_of_calls actor calls ++ events_of actor lines
+    pub holds : TurnHolds (IsOpen (tree_now book) actor) turn
+
+  abbrev pub IsAt : Option CallView → Type 0
+  IsAt None = IsIdle
+  IsAt (Some call) = IsComing call.below (more call.doing)
+
+-- The calls that have ended, and the one under way with its lines so far.
+pub record SoFar (plan : List Planned) (book : BookedHistory) (ledger : LedgerView) (doing : Option CallView) : Type 0 where
+  pub calls : List CallMade
+  pub made : AreMade ledger.root [] calls
+  pub outcomes : ledger.outcomes ≡ outcomes_of calls
+  pub at : IsAt plan book ledger calls doing
+
+abbrev pub SeatSoFar : List Planned → BookedHistory → Seat → Type 0
+SeatSoFar plan book seat = SoFar plan book seat.ledger seat.doing
+
+-- ---- a call's end
+
+module _ (plan : List Planned) (book : BookedHistory) (ledger : LedgerView) (calls : List CallMade) (made : AreMade ledger.root [] calls) (outcomes : ledger.outcomes ≡ outcomes_of calls) where
+  settle_below : (flags_below : Below) (turn : CallTurn) (c : IsComing plan book ledger calls flags_below turn) → flags_below ≡ below_of ledger.root c.request.flags
+      → (reply : Reply) → turn ≡ ends reply → SeatSoFar plan book (comes ledger (below_of ledger.root c.request.flags) (ends reply))
+  settle_below below turn c same reply e =
+      let call : CallMade = record { planned = c.next; room = c.room; lines = c.lines; reply = reply } in
+      let led : LeadsTo (below_of ledger.root c.request.flags) (starts (below_of ledger.root c.request.flags) c.room c.request.op) c.lines (ends reply) =
+      subst (λ (b : Below). LeadsTo b (starts b c.room c.request.op) c.lines (ends reply)) same (subst (λ (t : CallTurn). LeadsTo below (starts below c.room c.request.op) c.lines t) e c.leads) in
+      record {
+        calls = calls ++ call ∷ [];
+        made = made_more ledger.root [] calls call made (subst (λ (r : Option Request). IsMadeAs ledger.root r call) (sym c.asked) led);
+        outcomes = ap (λ os. os ++ outcome_of reply ∷ []) outcomes ∙ outcomes_more calls call;
+        at = record {
+          planned = c.planned ∙ planned_more calls call ledger.to_come;
+          standings = ap (λ ss. ss ++ opened_by ledger.root.owner reply ∷ []) c.standings ∙ sym (kept_more ledger.root.owner [] calls call);
+          own = c.own ∙ sym (events_more ledger.root.owner.actor calls call);
+        };
+      }
+
+  pub settle : (below : Below) (turn : CallTurn) → IsComing plan book ledger calls below turn → SeatSoFar plan book (comes ledger below turn)
+  settle below (more doing) c = record { calls = calls; made = made; outcomes = outcomes; at = c }
+  settle below (ends reply) c =
+      subst (λ (b : Below). SeatSoFar plan book (comes ledger b (ends reply))) (sym c.is_below) (settle_below below (ends reply) c c.is_below reply refl)
+
+-- ---- a call's start
+
+module _ (plan : List Planned) (book : BookedHistory) (ledger : LedgerView) (room : Bool) (calls : List CallMade) (made : AreMade ledger.root [] calls) (outcomes : ledger.outcomes ≡ outcomes_of calls)
+    (idle : IsIdle plan book ledger calls) where
+  abbrev going_on : Planned → List Planned → LedgerView
+  going_on next others = record ledger { to_come = others; standings = left_by next ledger.standings }
+
+  begun_as : (next : Planned) (others : List Planned) → ledger.to_come ≡ next ∷ others → (request : Option Request) → request_of ledger.root ledger.standings next ≡ request
+      → SeatSoFar plan book (begins room (going_on next others) request)
+  begun_as next others e None asked =
+      let call : CallMade = record { planned = next; room = room; lines = []; reply = fault BadHandle } in
+      let names_none : request_of ledger.root (kept_after_all ledger.root.owner [] calls) next ≡ None = ap (λ ss. request_of ledger.root ss next) (sym idle.standings) ∙ asked in
+      record {
+        calls = calls ++ call ∷ [];
+        made = made_more ledger.root [] calls call made (subst (λ (r : Option Request). IsMadeAs ledger.root r call) (sym names_none) (refl, refl));
+        outcomes = ap (λ os. os ++ outcome_of (fault BadHandle) ∷ []) outcomes ∙ outcomes_more calls call;
+        at = record {
+          planned = idle.planned ∙ ap (λ ps. planned_of calls ++ ps) e ∙ planned_more calls call others;
+          standings = ap (λ ss. left_by next ss ++ None ∷ []) idle.standings ∙ sym (kept_more ledger.root.owner [] calls call);
+          own = idle.own ∙ sym (append-nil (events_of_calls ledger.root.owner.actor calls)) ∙ sym (events_more ledger.root.owner.actor calls call);
+        };
+      }
+  begun_as next others e (Some request) asked =
+      let below = below_of ledger.root request.flags in
+      settle plan book (going_on next others) calls made outcomes below (starts below room request.op) (record {
+        next = next;
+        request = request;
+        room = room;
+        lines = [];
+        planned = idle.planned ∙ ap (λ ps. planned_of calls ++ ps) e;
+        asked = ap (λ ss. request_of ledger.root ss next) (sym idle.standings) ∙ asked;
+        standings = ap (left_by next) idle.standings;
+        is_below = refl;
+        leads = refl;
+        own = idle.own ∙ sym (append-nil (events_of_calls ledger.root.owner.actor calls));
+        holds = started (IsOpen (tree_now book) ledger.root.owner.actor) below room request.op;
+      })
+
+  begun_next : (to_come : List Planned) → ledger.to_come ≡ to_come → SeatSoFar plan book (begins_next room ledger to_come)
+  begun_next [] e = record { calls = calls; made = made; outcomes = outcomes; at = idle }
+  begun_next (next ∷ others) e = begun_as next others e (request_of ledger.root ledger.standings next) refl
+
+  pub idle_begins : SeatSoFar plan book (begins_next room ledger ledger.to_come)
+  idle_begins = begun_next ledger.to_come refl
+
+begins_so_far : (plan : List Planned) (book : BookedHistory) (room : Bool) (ledger : LedgerView) (doing : Option CallView) → SoFar plan book ledger doing
+    → SeatSoFar plan book (begun room ledger doing)
+begins_so_far plan book room ledger None far = idle_begins plan book ledger room far.calls far.made far.outcomes far.at
+begins_so_far plan book room ledger (Some call) far = far
+
+-- ---- a call's step
+
+module _ (plan : List Planned) (book : BookedHistory) (ledger : LedgerView) (calls : List CallMade) (room : Bool) (below : Below) (doing : Doing) (c : IsComing plan book ledger calls below (more doing)) where
+  abbrev a : ℕ
+  a = ledger.root.owner.actor
+
+  abbrev step : StepOf ℕ
+  step = due below doing
+
+  abbrev Comes : Stepped → Type 0
+  Comes s = IsComing plan s.book ledger calls below (take below room doing s.answer)
+
+  one_line : (b : Bool) → Line
+  one_line true = answered step (answer_now book a step)
+  one_line false = no_room step (answer_now book a step)
+
+  abbrev event : Event
+  event = record { actor = a; step = step; answer = answer_now book a step }
+
+  made_line : (b : Bool) (line : Line) → events_of a (line ∷ []) ≡ event ∷ [] → LeadsTo below (more doing) (line ∷ []) (take below b doing (answer_now book a step))
+      → IsComing plan (booked book a step) ledger calls below (take below b doing (answer_now book a step))
+  made_line b line is_event leads = record {
+    next = c.next;
+    request = c.request;
+    room = c.room;
+    lines = c.lines ++ line ∷ [];
+    planned = c.planned;
+    asked = c.asked;
+    standings = c.standings;
+    is_below = c.is_below;
+    leads = leads_more below c.lines (starts below c.room c.request.op) (more doing) (line ∷ []) _ c.leads leads;
+    own = own_more a book.events event refl ∙ ap (λ es. es ++ event ∷ []) c.own ∙ append_assoc (events_of_calls a calls) (events_of a c.lines) (event ∷ [])
+        ∙ ap (λ es. events_of_calls a calls ++ (events_of a c.lines ++ es)) (sym is_event) ∙ ap (λ es. events_of_calls a calls ++ es) (sym (events_append a c.lines (line ∷ [])));
+    holds = holds_on (IsOpen (tree_now book) a) (IsOpen (tree_now (booked book a step)) a) (answer_now book a step) below b doing (booked_moves book a step) c.holds;
+  }
+
+  made_by : (b : Bool) → IsComing plan (booked book a step) ledger calls below (take below b doing (answer_now book a step))
+  made_by true = made_line true (answered step (answer_now book a step)) refl (refl, refl)
+  made_by false = made_line false (no_room step (answer_now book a step)) refl (refl, refl)
+
+  left_out : (error : Errno) → IsUnmade doing error → IsComing plan book ledger calls below (take below room doing (Refused error))
+  left_out error why = record {
+    next = c.next;
+    request = c.request;
+    room = c.room;
+    lines = c.lines ++ not_made error ∷ [];
+    planned = c.planned;
+    asked = c.asked;
+    standings = c.standings;
+    is_below = c.is_below;
+    leads = leads_more below c.lines (starts below c.room c.request.op) (more doing) (not_made error ∷ []) _ c.leads (why, sym (refusal_needs_no_room below room doing error));
+    own = c.own ∙ ap (λ es. events_of_calls a calls ++ es) (sym (append-nil (events_of a c.lines)) ∙ sym (events_append a c.lines (not_made error ∷ [])));
+    holds = holds_on (IsOpen (tree_now book) a) (IsOpen (tree_now book) a) (Refused error) below room doing (unmoved (IsOpen (tree_now book) a) step error) c.holds;
+  }
+
+  is_no_close : (s : StepOf ℕ) → is_close s ≡ false → (h : ℕ) → s ≡ steps.Close h → ⊥
+  is_no_close s e h same = false≢true (sym e ∙ ap is_close same)
+
+  closes_some : (s : StepOf ℕ) → closes_nothing (tree_now book) a s ≡ true → is_close s ≡ true
+  closes_some (steps.Open h n) e = absurd (false≢true e)
+  closes_some (steps.Dup h) e = absurd (false≢true e)
+  closes_some (steps.Parent h) e = absurd (false≢true e)
+  closes_some (steps.ReadLink h) e = absurd (false≢true e)
+  closes_some (steps.NameBelow r h) e = absurd (false≢true e)
+  closes_some (steps.List h) e = absurd (false≢true e)
+  closes_some (steps.Close h) e = refl
+  closes_some (steps.MakeDir h n) e = absurd (false≢true e)
+  closes_some (steps.MakeFile h n) e = absurd (false≢true e)
+  closes_some (steps.MakeLink h n text) e = absurd (false≢true e)
+  closes_some (steps.RemoveFile h n) e = absurd (false≢true e)
+  closes_some (steps.RemoveDir h n) e = absurd (false≢true e)
+  closes_some (steps.Rename h n k m mode) e = absurd (false≢true e)
+
+  shut_why : closes_nothing (tree_now book) a step ≡ true → IsUnmade doing BadHandle ⊎ ((h : ℕ) × ((step ≡ steps.Close h) × IsOpen (tree_now book) a h)) → IsUnmade doing BadHandle
+  shut_why nothing (inl why) = why
+  shut_why nothing (inr open') =
+      absurd (false≢true (sym (ap not open'.1.1) ∙ sym (ap (closes_nothing (tree_now book) a) open'.1.0) ∙ nothing))
+
+  by_effect : (s : Stepped) → StepEffect book a step s → Comes s
+  by_effect s (was_made is) = subst Comes (sym is) (made_by room)
+  by_effect s (was_not error want no_close is) = subst Comes (sym is) (left_out error (unmade below doing error want (is_no_close step no_close)))
+  by_effect s (was_shut nothing is) =
+      subst Comes (sym is) (left_out BadHandle (shut_why nothing (closes_open (IsOpen (tree_now book) a) below doing (closes_some step nothing) c.holds)))
+
+  pub steps_on : (luck : Bool) → IsComing plan (stepped_by luck book a step).book ledger calls below (take below room doing (stepped_by luck book a step).answer)
+  steps_on luck = by_effect (stepped_by luck book a step) (effect_of book a step luck)
+
+goes_on_so_far : (plan : List Planned) (luck room : Bool) (book : BookedHistory) (ledger : LedgerView) (doing : Option CallView) → SoFar plan book ledger doing
+    → SeatSoFar plan (goes_on luck room book ledger doing).book (goes_on luck room book ledger doing).seat
+goes_on_so_far plan luck room book ledger None far = far
+goes_on_so_far plan luck room book ledger (Some call) far =
+    settle plan (stepped_by luck book ledger.root.owner.actor (due call.below call.doing)).book ledger far.calls far.made far.outcomes call.below
+    (take call.below room call.doing (stepped_by luck book ledger.root.owner.actor (due call.below call.doing)).answer)
+    (steps_on plan book ledger far.calls room call.below call.doing far.at luck)
+
+-- a turn of the actor's own
+pub turns_so_far : (plan : List Planned) (luck : Luck) (book : BookedHistory) (ledger : LedgerView) (doing : Option CallView) → SoFar plan book ledger doing
+    → SeatSoFar plan (turned luck book ledger doing).book (turned luck book ledger doing).seat
+turns_so_far plan luck book ledger doing far =
+    let seat = begun luck.start ledger doing in
+    goes_on_so_far plan luck.step luck.room book seat.ledger seat.doing (begins_so_far plan book luck.start ledger doing far)
+
+-- ---- another's turn
+
+-- the book is as it was, or has one event more, which is this actor's
+pub data BookMoves (book : BookedHistory) (a : ℕ) (new : BookedHistory) : Type 0 where
+  same : new ≡ book → BookMoves book a new
+  one_more : (step : StepOf ℕ) → new ≡ booked book a step → BookMoves book a new
+
+effect_moves : (book : BookedHistory) (a : ℕ) (step : StepOf ℕ) (s : Stepped) → StepEffect book a step s → BookMoves book a s.book
+effect_moves book a due_step s (was_made is) = one_more due_step (ap (λ (t : Stepped). t.book) is)
+effect_moves book a due_step s (was_not error want none is) = same (ap (λ (t : Stepped). t.book) is)
+effect_moves book a due_step s (was_shut nothing is) = same (ap (λ (t : Stepped). t.book) is)
+
+goes_on_moves : (luck room : Bool) (book : BookedHistory) (ledger : LedgerView) (doing : Option CallView) → BookMoves book ledger.root.owner.actor (goes_on luck room book ledger doing).book
+goes_on_moves luck room book ledger None = same refl
+goes_on_moves luck room book ledger (Some call) =
+    effect_moves book ledger.root.owner.actor (due call.below call.doing) _ (effect_of book ledger.root.owner.actor (due call.below call.doing) luck)
+
+comes_root : (ledger : LedgerView) (below : Below) (turn : CallTurn) → (comes ledger below turn).ledger.root ≡ ledger.root
+comes_root ledger below (more doing) = refl
+comes_root ledger below (ends reply) = refl
+
+begins_root : (room : Bool) (ledger : LedgerView) (request : Option Request) → (begins room ledger request).ledger.root ≡ ledger.root
+begins_root room ledger None = refl
+begins_root room ledger (Some request) = comes_root ledger _ (starts (below_of ledger.root request.flags) room request.op)
+
+begins_next_root : (room : Bool) (ledger : LedgerView) (to_come : List Planned) → (begins_next room ledger to_come).ledger.root ≡ ledger.root
+begins_next_root room ledger [] = refl
+begins_next_root room ledger (next ∷ others) = begins_root room _ (request_of ledger.root ledger.standings next)
+
+begun_root : (room : Bool) (ledger : LedgerView) (doing : Option CallView) → (begun room ledger doing).ledger.root ≡ ledger.root
+begun_root room ledger None = begins_next_root room ledger ledger.to_come
+begun_root room ledger (Some call) = refl
+
+goes_on_root : (luck room : Bool) (book : BookedHistory) (ledger : LedgerView) (doing : Option CallView) → (goes_on luck room book ledger doing).seat.ledger.root ≡ ledger.root
+goes_on_root luck room book ledger None = refl
+goes_on_root luck room book ledger (Some call) =
+    comes_root ledger call.below (take call.below room call.doing (stepped_by luck book ledger.root.owner.actor (due call.below call.doing)).answer)
+
+-- a turn keeps the root, and books at most one event, which is the actor's
+pub turn_keeps_root : (luck : Luck) (book : BookedHistory) (ledger : LedgerView) (doing : Option CallView) → (turned luck book ledger doing).seat.ledger.root ≡ ledger.root
+turn_keeps_root luck book ledger doing =
+    let seat = begun luck.start ledger doing in
+    goes_on_root luck.step luck.room book seat.ledger seat.doing ∙ begun_root luck.start ledger doing
+
+pub turn_moves : (luck : Luck) (book : BookedHistory) (ledger : LedgerView) (doing : Option CallView) → BookMoves book ledger.root.owner.actor (turned luck book ledger doing).book
+turn_moves luck book ledger doing =
+    let seat = begun luck.start ledger doing in
+    subst (λ (r : Root). BookMoves book r.owner.actor (turned luck book ledger doing).book) (begun_root luck.start ledger doing)
+    (goes_on_moves luck.step luck.room book seat.ledger seat.doing)
+
+module _ (plan : List Planned) (book : BookedHistory) (b : ℕ) (step : StepOf ℕ) (ledger : LedgerView) (calls : List CallMade) (other : b ≢ ledger.root.owner.actor) where
+  still_own : own_events ledger.root.owner.actor (booked book b step).events ≡ own_events ledger.root.owner.actor book.events
+  still_own = own_stays ledger.root.owner.actor book.events _ other
+
+  still_open : (h : ℕ) → IsOpen (tree_now book) ledger.root.owner.actor h → IsOpen (tree_now (booked book b step)) ledger.root.owner.actor h
+  still_open h is =
+      subst (λ (t : State). IsOpen t ledger.root.owner.actor h) (sym (tree_booked book b step)) (open_among_others (tree_now book) b ledger.root.owner.actor step (λ e. other (sym e)) h is)
+
+  at_among_others : (doing : Option CallView) → IsAt plan book ledger calls doing → IsAt plan (booked book b step) ledger calls doing
+  at_among_others None is = record { planned = is.planned; standings = is.standings; own = still_own ∙ is.own }
+  at_among_others (Some call) is = record {
+    next = is.next;
+    request = is.request;
+    room = is.room;
+    lines = is.lines;
+    planned = is.planned;
+    asked = is.asked;
+    standings = is.standings;
+    is_below = is.is_below;
+    leads = is.leads;
+    own = still_own ∙ is.own;
+    holds = turn_holds_more (IsOpen (tree_now book) ledger.root.owner.actor) (IsOpen (tree_now (booked book b step)) ledger.root.owner.actor) still_open (more call.doing) is.holds;
+  }
+
+-- another's turn leaves them as they are
+pub so_far_among_others : (plan : List Planned) (book : BookedHistory) (b : ℕ) (new : BookedHistory) (ledger : LedgerView) (doing : Option CallView) → b ≢ ledger.root.owner.actor
+    → BookMoves book b new → SoFar plan book ledger doing → SoFar plan new ledger doing
+so_far_among_others plan book b new ledger doing other (same is) far = subst (λ (k : BookedHistory). SoFar plan k ledger doing) (sym is) far
+so_far_among_others plan book b new ledger doing other (one_more made_step is) far =
+    subst (λ (k : BookedHistory). SoFar plan k ledger doing) (sym is)
+    (record { calls = far.calls; made = far.made; outcomes = far.outcomes; at = at_among_others plan book b made_step ledger far.calls other doing far.at })

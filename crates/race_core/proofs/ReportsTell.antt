@@ -1,0 +1,283 @@
+-- The calls of an actor, and the walks in them, in a report.
+use Rattle.std.proofs.Common.{◌≡◌, ◌⊎◌, ℕ, ◌==◌, Bool, true, false, cond, if◌then◌else◌, List, [], ◌∷◌, ◌++◌, map, reverse, Option, Some, None, Ok, slice_get, refl, sym, ap, ◌∙◌, subst, inl, inr, append-nil, append_assoc}
+use Rattle.std.proofs.lemmas.Bool.{false≢true, eqb-true, eqb-false}
+use Rattle.std.proofs.lemmas.List.{reverse-reverse}
+use Rattle.path_text.specs.declared.errno.Errno.{Errno}
+use Rattle.path_text.specs.declared.errno.Errno.TheVariants.{NoMemory}
+use Rattle.path_text.specs.Reading.{Reading}
+use Rattle.path_text.specs.Text.{text_fault, reading_of}
+use Rattle.tree_model.specs.declared.answer.Event.{Event}
+use Rattle.tree_model.specs.History.{IsLegal, after_event, after_events}
+use Rattle.tree_model.specs.State.{State}
+use Rattle.tree_model.specs.Steps.{held}
+use Rattle.tree_model.proofs.HistoryLaws.{IsLegal-front, IsLegal-back}
+use Rattle.tree_model.proofs.StepLaws.{own_handles_stay, others_handles_stay}
+use Rattle.handles.specs.Objects.{StandingObject}
+use Rattle.walk_plan.specs.declared.goal.Goal.TheVariants.{Follow}
+use Rattle.step_resolver.specs.declared.walk.Root.{Root}
+use Rattle.step_resolver.specs.Asked.{is_deepest}
+use Rattle.step_resolver.specs.Order.{Way, Handle, Line, Turn, found, partial, failed, begins, events_of}
+use Rattle.step_resolver.specs.Order as walk
+use Rattle.step_resolver.specs.Headline.{Headline, EveryWalk}
+use Rattle.step_resolver.specs.WalkHistory.{WalkInHistory, IsWalkInHistory, own_events}
+use Rattle.root_ops.specs.BulkTells.{BulkCallsTell}
+use Rattle.root_ops.specs.CallHistory.{CallInHistory, begin_of, IsCallInHistory, CallsTell}
+use Rattle.root_ops.specs.declared.aim.Aim.TheVariants.{Opens}
+use Rattle.root_ops.specs.declared.below.Below.{Below}
+use Rattle.root_ops.specs.declared.op.Op.{Op}
+use Rattle.root_ops.specs.declared.op.Op.TheVariants.{Resolve}
+use Rattle.root_ops.specs.declared.op.Request.{Request}
+use Rattle.root_ops.specs.Order.{Reply, opened, fault, ends, starts, walked, unless_fault, walks, LeadsTo}
+use Rattle.root_ops.specs.Quiet.{QuietCallsMean}
+use Rattle.root_ops.specs.TurnView.{below_of}
+use Rattle.root_ops.proofs.Handles.OwnEvents.{events_append, cut}
+use Rattle.root_ops.proofs.Handles.WalkParts.{IsEnded, walk_ends, HasRoot, root_later}
+use Rattle.race_core.specs.declared.plan.ActorPlan.{ActorPlan}
+use Rattle.race_core.specs.declared.plan.Planned.{Planned}
+use Rattle.race_core.specs.declared.plan.Planned.TheVariants as planned
+use Rattle.race_core.specs.declared.report.Outcome.{Outcome}
+use Rattle.race_core.specs.Turns.{request_of, outcome_of}
+use Rattle.race_core.specs.WorldCalls.{WholeRun, IsRun, opening_of, root_of, CallMade, IsMadeAs, kept_after, kept_after_all, AreMade, planned_of, outcomes_of, events_of_calls, NoneCloses, IsHistory, ActorsCalls}
+use Rattle.race_core.specs.WorldLaws.{IsPlaced, WalksInReports, call_in, CallTells, CallsInReports, way_of_resolve, WalkTells, ResolveTells, ResolvesInReports, ResolvesAlone}
+use Rattle.race_core.proofs.WorldSoFar.{calls_in_order}
+
+-- ---- own events in three parts
+
+pub record InThree (a : ℕ) (events earlier own later : List Event) : Type 0 where
+  pub before : List Event
+  pub window : List Event
+  pub after : List Event
+  pub whole : events ≡ before ++ (window ++ after)
+  pub own_before : own_events a before ≡ earlier
+  pub own_window : own_events a window ≡ own
+
+in_three : (a : ℕ) (events earlier own later : List Event) → own_events a events ≡ earlier ++ (own ++ later) → InThree a events earlier own later
+in_three a events earlier own later e =
+    let first = cut a events earlier (own ++ later) e in
+    let second = cut a first.after own later first.own_after in
+    record {
+      before = first.before;
+      window = second.before;
+      after = second.after;
+      whole = first.whole ∙ ap (λ es. first.before ++ es) second.whole;
+      own_before = first.own_before;
+      own_window = second.own_before;
+    }
+
+-- ---- the root's handle stays open
+
+module _ (a h x : ℕ) where
+  own_here : (event : Event) (rest : List Event) → (event.actor == a) ≡ true → own_events a (event ∷ rest) ≡ event ∷ own_events a rest
+  own_here event rest e = ap (λ b. cond b (event ∷ own_events a rest) (own_events a rest)) e
+
+  own_later : (event : Event) (rest : List Event) → (event.actor == a) ≡ false → own_events a (event ∷ rest) ≡ own_events a rest
+  own_later event rest e = ap (λ b. cond b (event ∷ own_events a rest) (own_events a rest)) e
+
+  root_stays : (events : List Event) (s : State) → held s a h ≡ Some x → NoneCloses h (own_events a events) → held (after_events s events) a h ≡ Some x
+  root_stays [] s e none = e
+  root_stays (event ∷ rest) s e none = on (event.actor == a) refl (λ f n. root_stays rest (after_event s event) f n)
+    where
+      on : (b : Bool) → (event.actor == a) ≡ b
+          → (held (after_event s event) a h ≡ Some x → NoneCloses h (own_events a rest) → held (after_events (after_event s event) rest) a h ≡ Some x)
+          → held (after_events (after_event s event) rest) a h ≡ Some x
+      on true q go =
+          let now : NoneCloses h (event ∷ own_events a rest) = subst (NoneCloses h) (own_here event rest q) none in
+          let same = eqb-true event.actor a q in
+          let mine : held s event.actor h ≡ Some x = ap (λ b. held s b h) same ∙ e in
+          go (ap (λ b. held (after_event s event) b h) (sym same) ∙ own_handles_stay s event.actor event.step h x mine now.0) now.1
+      on false q go = go (others_handles_stay s event.actor event.step a h (λ same. eqb-false event.actor a q (sym same)) ∙ e) (subst (NoneCloses h) (own_later event rest q) none)
+
+-- the root as a window begins
+root_at : (root : Root) (below : Below) (opening : State) (events before : List Event) (node : ℕ) → below.root ≡ root → IsHistory opening events root node
+    → NoneCloses root.handle (own_events root.owner.actor before) → HasRoot below node (after_events opening before)
+root_at root below opening events before node same is none =
+    let here : IsHistory opening events below.root node = subst (λ (t : Root). IsHistory opening events t node) (sym same) is in
+    let closed : NoneCloses below.root.handle (own_events below.root.owner.actor before) = subst (λ (t : Root). NoneCloses t.handle (own_events t.owner.actor before)) (sym same) none in
+    root_later below node opening before (record { tree = here.tree; root = here.opened; root_is_dir = here.directory })
+    (root_stays below.root.owner.actor below.root.handle node before opening here.opened closed)
+
+-- ---- walks
+
+module _ (every : EveryWalk) (r : WholeRun) (i : ℕ) (plan : ActorPlan) (of : ActorsCalls r i plan) (way : Way) (path : Reading) (lines : List Line) (end : Turn) (earlier later : List Event)
+    (same_root : way.root ≡ (root_of r i).handle) (none : NoneCloses (root_of r i).handle earlier)
+    (own : own_events i r.events ≡ earlier ++ (events_of i lines ++ later)) (leads : walk.LeadsTo way (begins way path) lines end) where
+  parts : InThree i r.events earlier (events_of i lines) later
+  parts = in_three i r.events earlier (events_of i lines) later own
+
+  abbrev the_walk : WalkInHistory
+  the_walk = record {
+    opening = opening_of r;
+    before = parts.before;
+    window = parts.window;
+    actor = i;
+    way = way;
+    root = of.node;
+    path = path;
+    lines = lines;
+  }
+
+  is_there : IsWalkInHistory the_walk
+  is_there =
+      let opening = opening_of r in
+      let whole : IsLegal opening (parts.before ++ (parts.window ++ parts.after)) = subst (IsLegal opening) parts.whole of.history.legal in
+      let has = root_at (root_of r i) (below_of (root_of r i) way.flags) opening r.events parts.before of.node refl of.history (subst (NoneCloses (root_of r i).handle) (sym parts.own_before) none) in
+      record {
+        tree = of.history.tree;
+        legal_before = IsLegal-front opening parts.before (parts.window ++ parts.after) whole;
+        legal = IsLegal-front (after_events opening parts.before) parts.window parts.after (IsLegal-back opening parts.before (parts.window ++ parts.after) whole);
+        own = parts.own_window;
+        root = ap (held (after_events opening parts.before) i) same_root ∙ has.root;
+        root_is_dir = has.root_is_dir;
+      }
+
+  placed : IsPlaced r i of.node earlier the_walk
+  placed = record { same_opening = refl; after = parts.after; whole = parts.whole; same_actor = refl; same_root = refl; own_before = parts.own_before }
+
+  walk_tells : (w : WalkInHistory) × (IsPlaced r i of.node earlier w × ((w.way ≡ way) × ((w.path ≡ path) × ((w.lines ≡ lines) × Headline w end))))
+  walk_tells = (the_walk, (placed, (refl, (refl, (refl, every the_walk end is_there leads)))))
+
+pub walks_in_reports : EveryWalk → WalksInReports
+walks_in_reports every r i plan of way path lines end earlier later same_root none own leads =
+    walk_tells every r i plan of way path lines end earlier later same_root none own leads
+
+-- ---- calls
+
+events_of_both : (a : ℕ) (calls others : List CallMade) → events_of_calls a (calls ++ others) ≡ events_of_calls a calls ++ events_of_calls a others
+events_of_both a [] others = refl
+events_of_both a (c ∷ calls) others =
+    ap (λ es. events_of a c.lines ++ es) (events_of_both a calls others) ∙ sym (append_assoc (events_of a c.lines) (events_of_calls a calls) (events_of_calls a others))
+
+-- a call among others was made as it asked
+made_in : (root : Root) (standings : List (Option StandingObject)) (earlier : List CallMade) (c : CallMade) (later : List CallMade) → AreMade root standings (earlier ++ c ∷ later)
+    → IsMadeAs root (request_of root (kept_after_all root.owner standings earlier) c.planned) c
+made_in root standings [] c later made = made.0
+made_in root standings (b ∷ earlier) c later made = made_in root (kept_after root.owner standings b) earlier c later made.1
+
+module _ (r : WholeRun) (i : ℕ) (plan : ActorPlan) (of : ActorsCalls r i plan) (earlier : List CallMade) (c : CallMade) (later : List CallMade) (request : Request)
+    (split : of.calls ≡ earlier ++ c ∷ later) where
+  its_own : own_events i r.events ≡ events_of_calls i earlier ++ (events_of i c.lines ++ events_of_calls i later)
+  its_own = of.own ∙ ap (events_of_calls i) split ∙ events_of_both i earlier (c ∷ later)
+
+  it_leads : request_of (root_of r i) (kept_after_all (root_of r i).owner [] earlier) c.planned ≡ Some request
+      → LeadsTo (below_of (root_of r i) request.flags) (starts (below_of (root_of r i) request.flags) c.room request.op) c.lines (ends c.reply)
+  it_leads asked =
+      subst (λ (q : Option Request). IsMadeAs (root_of r i) q c) asked (made_in (root_of r i) [] earlier c later (subst (AreMade (root_of r i) []) split of.made))
+
+  call_tells : CallsTell → QuietCallsMean → BulkCallsTell → NoneCloses (root_of r i).handle (events_of_calls i earlier)
+      → request_of (root_of r i) (kept_after_all (root_of r i).owner [] earlier) c.planned ≡ Some request → CallTells r i of.node earlier c request
+  call_tells tell mean bulk none asked =
+      let opening = opening_of r in
+      let parts = in_three i r.events (events_of_calls i earlier) (events_of i c.lines) (events_of_calls i later) its_own in
+      let the_call = call_in r i of.node c request parts.before parts.window in
+      let leads = it_leads asked in
+      let whole : IsLegal opening (parts.before ++ (parts.window ++ parts.after)) = subst (IsLegal opening) parts.whole of.history.legal in
+      let has = root_at (root_of r i) (below_of (root_of r i) request.flags) opening r.events parts.before of.node refl of.history (subst (NoneCloses (root_of r i).handle) (sym parts.own_before) none) in
+      let placed : IsCallInHistory the_call = record {
+        tree = of.history.tree;
+        legal_before = IsLegal-front opening parts.before (parts.window ++ parts.after) whole;
+        legal = IsLegal-front (after_events opening parts.before) parts.window parts.after (IsLegal-back opening parts.before (parts.window ++ parts.after) whole);
+        own = parts.own_window;
+        root = has.root;
+        root_is_dir = has.root_is_dir;
+      } in
+      record {
+        before = parts.before;
+        window = parts.window;
+        after = parts.after;
+        whole = parts.whole;
+        own_before = parts.own_before;
+        own = parts.own_window;
+        handles = tell the_call c.reply placed leads;
+        quiet = λ quiet closes. mean the_call c.reply placed leads quiet closes;
+        makes = λ text is room fine. bulk.made the_call c.reply text placed leads is room fine;
+        clears = λ text two is room fine cuts. bulk.cleared the_call c.reply text two placed leads is room fine cuts;
+      }
+
+pub calls_in_reports : CallsTell → QuietCallsMean → BulkCallsTell → CallsInReports
+calls_in_reports tell mean bulk r i plan of earlier c later request split none asked =
+    call_tells r i plan of earlier c later request split tell mean bulk none asked
+
+-- ---- one Resolve
+
+at_its_end : (below : Below) (t told : Reply) (lines : List Line) → LeadsTo below (ends t) lines (ends told) → t ≡ told
+at_its_end below t told [] e = cc (e)
+at_its_end below t told (line ∷ lines) e = absurd e
+
+module _ (every : EveryWalk) (r : WholeRun) (i : ℕ) (plan : ActorPlan) (of : ActorsCalls r i plan) (earlier : List CallMade) (request : Request) (path : List ℕ) (reply : Reply) (lines : List Line) (later : List Event)
+    (none : NoneCloses (root_of r i).handle (events_of_calls i earlier)) (own : own_events i r.events ≡ events_of_calls i earlier ++ (events_of i lines ++ later)) where
+  abbrev below : Below
+  below = below_of (root_of r i) request.flags
+
+  abbrev way : Way
+  way = way_of_resolve r i request
+
+  abbrev Says : Reply → Type 0
+  Says told = ResolveTells r i of.node (events_of_calls i earlier) request path (outcome_of told)
+
+  -- the walk's own lines are the first of the call's
+  walk_so : (first rest : List Line) (end : Turn) → lines ≡ first ++ rest → walk.LeadsTo way (begins way (reading_of path)) first end
+      → WalkTells r i of.node (events_of_calls i earlier) request path end
+  walk_so first rest end whole leads =
+      let in_two : events_of i lines ++ later ≡ events_of i first ++ (events_of i rest ++ later) =
+      ap (λ ls. events_of i ls ++ later) whole ∙ ap (λ es. es ++ later) (events_append i first rest) ∙ append_assoc (events_of i first) (events_of i rest) later in
+      let told = walk_tells every r i plan of way (reading_of path) first end (events_of_calls i earlier) (events_of i rest ++ later)
+      refl none (own ∙ ap (λ es. events_of_calls i earlier ++ es) in_two) leads in
+      record { walked = told.0; placed = told.1.0; way = told.1.1.0; path_is = told.1.1.1.0; headline = told.1.1.1.1.1 }
+
+  by_end : (room : Bool) (first rest : List Line) (end : Turn) → lines ≡ first ++ rest → walk.LeadsTo way (begins way (reading_of path)) first end → IsEnded end
+      → LeadsTo below (walked below room (Opens Follow) end) rest (ends reply) → Says reply
+  by_end room first rest (walk.more w) whole leads ended onward = absurd ended
+  by_end room first rest (found handle names) whole leads ended onward =
+      let tells = walk_so first rest (found handle names) whole leads in
+      subst Says (at_its_end below (opened handle names) reply rest onward)
+      (handle.number, subst (λ (ns : List (List ℕ)). WalkTells r i of.node (events_of_calls i earlier) request path (found handle ns)) (sym (reverse-reverse names)) tells)
+  by_end room first rest (partial handle names others) whole leads ended onward =
+      let tells = walk_so first rest (partial handle names others) whole leads in
+      absurd (false≢true (sym (ap (λ (w : Way). is_deepest w.goal) tells.way) ∙ tells.headline.tells.goal))
+  by_end room first rest (failed error) whole leads ended onward =
+      let tells = walk_so first rest (failed error) whole leads in
+      subst Says (at_its_end below (fault error) reply rest onward) (inr (inr tells))
+
+  by_text : (why : Option Errno) → text_fault path ≡ why
+      → LeadsTo below (unless_fault why (walks below (Opens Follow) (reading_of path))) lines (ends reply) → Says reply
+  by_text (Some error) e leads = subst Says (at_its_end below (fault error) reply lines leads) (inl e)
+  by_text None e leads =
+      let walked_on = walk_ends below (Opens Follow) reply lines true (begins way (reading_of path)) leads in
+      by_end walked_on.room walked_on.first walked_on.rest walked_on.end walked_on.whole walked_on.leads walked_on.ended walked_on.onward
+
+  by_want : (why : Option Errno) → text_fault path ≡ why → LeadsTo below (unless_fault why (ends (fault NoMemory))) lines (ends reply) → Says reply
+  by_want (Some error) e leads = subst Says (at_its_end below (fault error) reply lines leads) (inl e)
+  by_want None e leads = subst Says (at_its_end below (fault NoMemory) reply lines leads) (inr (inl refl))
+
+  by_room : (room : Bool) → LeadsTo below (starts below room (Resolve path)) lines (ends reply) → Says reply
+  by_room true leads = by_text (text_fault path) refl leads
+  by_room false leads = by_want (text_fault path) refl leads
+
+  resolve_says : (op : Op) (room : Bool) → op ≡ Resolve path → LeadsTo below (starts below room op) lines (ends reply) → Says reply
+  resolve_says op room is_op leads = by_room room (subst (λ (o : Op). LeadsTo below (starts below room o) lines (ends reply)) is_op leads)
+
+pub resolves_in_reports : EveryWalk → ResolvesInReports
+resolves_in_reports every r i plan of earlier c later request path split none asks is_op =
+    let asked = ap (request_of (root_of r i) (kept_after_all (root_of r i).owner [] earlier)) asks in
+    resolve_says every r i plan of earlier request path c.reply c.lines (events_of_calls i later) none (its_own r i plan of earlier c later request split)
+    request.op c.room is_op (it_leads r i plan of earlier c later request split asked)
+
+-- an actor's only call
+only_call : (calls : List CallMade) (p : Planned) → planned_of calls ≡ p ∷ [] → (c : CallMade) × ((calls ≡ c ∷ []) × (c.planned ≡ p))
+only_call [] p e = cc (e)
+only_call (c ∷ []) p e = let same : c.planned ≡ p = cc (e) in (c, (refl, same))
+only_call (b ∷ c ∷ calls) p e = cc (e)
+
+pub resolves_alone : EveryWalk → ResolvesAlone
+resolves_alone every r i plan request path run there calls is_op =
+    let of = calls_in_order r i plan run there in
+    let one = only_call of.calls (planned.Call request) (of.planned ∙ calls) in (
+      of.node,
+      (
+        outcome_of one.0.reply,
+        (
+          of.replies ∙ ap (λ cs. Some (outcomes_of cs)) one.1.0,
+          resolves_in_reports every r i plan of [] one.0 [] request path one.1.0 tt one.1.1 is_op,
+        ),
+      ),
+    )
