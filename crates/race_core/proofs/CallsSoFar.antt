@@ -1,23 +1,18 @@
 -- An actor's calls so far, and what a turn makes of them.
-use Rattle.std.proofs.Common.{◌≡◌, ◌≢◌, ◌⊎◌, ℕ, suc, ◌+◌, ◌==◌, List, [], ◌∷◌, ◌++◌, Bool, true, false, cond, if◌then◌else◌, ◌||◌, map, length, Option, Some, None, is_some, not, refl, sym, ap, subst, ◌∙◌, inl, inr, eq-eqb, append-nil, append_assoc, le_refl, ltb-true, arith}
+use Rattle.std.proofs.Common.{◌≡◌, ◌≢◌, ◌⊎◌, ℕ, ◌==◌, List, [], ◌∷◌, ◌++◌, Bool, true, false, cond, if◌then◌else◌, ◌||◌, length, Option, Some, None, is_some, not, refl, sym, ap, subst, ◌∙◌, inl, inr, eq-eqb, append-nil, append_assoc, le_refl, ltb-true, arith}
 use Rattle.std.specs.Prelude.{nat_lt}
-use Rattle.std.specs.List.{filter}
-use Rattle.std.proofs.lemmas.Bool.{false≢true, eqb-true, ne_eqb}
+use Rattle.std.proofs.lemmas.Bool.{false≢true, ne_eqb}
 use Rattle.std.proofs.lemmas.List.{map-append}
 use Rattle.std.proofs.lemmas.List.Elements.{filter-append}
-use Rattle.std.proofs.lemmas.Option.{none-some, same_Some, slice_get_past}
+use Rattle.std.proofs.lemmas.Option.{slice_get_past}
 use Rattle.path_text.specs.declared.errno.Errno.{Errno}
 use Rattle.path_text.specs.declared.errno.Errno.TheVariants.{NoMemory, BookFull, BadHandle}
-use Rattle.tree_model.specs.declared.answer.Answer.{Answer}
-use Rattle.tree_model.specs.declared.answer.Answer.TheVariants.{Opened, Refused}
+use Rattle.tree_model.specs.declared.answer.Answer.TheVariants.{Refused}
 use Rattle.tree_model.specs.declared.answer.Event.{Event}
-use Rattle.tree_model.specs.declared.step.Kind.{Kind}
 use Rattle.tree_model.specs.declared.step.StepOf.{StepOf}
 use Rattle.tree_model.specs.declared.step.StepOf.TheVariants as steps
 use Rattle.tree_model.specs.State.{State}
-use Rattle.tree_model.specs.StepLaws.{is_close_of}
 use Rattle.tree_model.specs.Steps.{outcome, held, node_held}
-use Rattle.tree_model.specs.History.{after_events}
 use Rattle.tree_model.proofs.HistoryLaws.{after_events-append}
 use Rattle.tree_model.proofs.StepLaws.{own_handles_stay, others_handles_stay, opened_is_open}
 use Rattle.handles.specs.declared.owner.Owner.{Owner}
@@ -26,7 +21,6 @@ use Rattle.step_resolver.specs.declared.walk.Root.{Root}
 use Rattle.step_resolver.specs.Order.{Line, answered, no_room, not_made, events_of, IsWant}
 use Rattle.step_resolver.specs.WalkHistory.{own_events}
 use Rattle.root_ops.specs.declared.below.Below.{Below}
-use Rattle.root_ops.specs.declared.op.Op.{Op}
 use Rattle.root_ops.specs.declared.op.Request.{Request}
 use Rattle.root_ops.specs.Order.{Reply, fault, Doing, CallTurn, more, ends, starts, take, due, IsUnmade, LeadsTo}
 use Rattle.root_ops.specs.TurnView.{below_of}
@@ -34,14 +28,12 @@ use Rattle.root_ops.specs.View.{CallView}
 use Rattle.root_ops.proofs.Handles.OwnEvents.{events_append}
 use Rattle.root_ops.proofs.Refusals.{refusal_needs_no_room, unmade}
 use Rattle.race_core.specs.declared.plan.Planned.{Planned}
-use Rattle.race_core.specs.declared.report.Outcome.{Outcome}
 use Rattle.race_core.specs.declared.seat.Seat.{Seat}
 use Rattle.race_core.specs.Book.{BookedHistory, tree_now, free_lines, lines_needed, is_close, closes_nothing, refusal, answer_now, booked}
 use Rattle.race_core.specs.Ledgers.{LedgerView}
 use Rattle.race_core.specs.Turns.{Luck, Stepped, unless_refused, stepped_by, request_of, left_by, opened_by, outcome_of, comes, begins, begins_next, begun, goes_on, turned}
 use Rattle.race_core.specs.WorldCalls.{CallMade, IsMadeAs, kept_after, kept_after_all, AreMade, planned_of, outcomes_of, events_of_calls}
-use Rattle.race_core.proofs.HeldOpen.{AllOpen}
-use Rattle.race_core.proofs.HeldByCalls.{CallHolds, TurnHolds, started, Moves, unmoved, holds_on, closes_open, turn_holds_more}
+use Rattle.race_core.proofs.HeldByCalls.{TurnHolds, started, Moves, unmoved, holds_on, closes_open, turn_holds_more}
 
 -- ---- a step through the book
 

@@ -1,5 +1,5 @@
 -- The roots of a world's actors, granted one after another.
-use Rattle.std.proofs.Common.{◌≡◌, ℕ, suc, ◌+◌, ◌<◌, ◌≤◌, List, [], ◌∷◌, ◌++◌, length, Result, Ok, Err, append_assoc, refl, sym, ap, subst, ◌∙◌, arith}
+use Rattle.std.proofs.Common.{◌≡◌, ℕ, suc, List, [], ◌∷◌, ◌++◌, length, Result, Ok, Err, append_assoc, refl, sym, ap, ◌∙◌, arith}
 use Rattle.path_text.specs.declared.errno.Errno.{Errno}
 use Rattle.std.proofs.lemmas.List.{length_push}
 use Rattle.tree_model.specs.State.{State}
@@ -7,7 +7,7 @@ use Rattle.tree_model.specs.Steps.{grants}
 use Rattle.race_core.specs.declared.plan.ActorPlan.{ActorPlan}
 use Rattle.race_core.specs.Ledgers.{LedgerView}
 use Rattle.race_core.specs.Turns.{opened_ledger}
-use Rattle.race_core.specs.Opening.{Granted, Grants, before, onward_from, granted, after_these, root_in}
+use Rattle.race_core.specs.Opening.{Grants, before, onward_from, granted, after_these, root_in}
 
 after_again : (ledgers : List LedgerView) (ledger : LedgerView) (rest : Grants) → after_these ledgers (before ledger rest) ≡ after_these (ledgers ++ ledger ∷ []) rest
 after_again ledgers ledger (Ok granted) =

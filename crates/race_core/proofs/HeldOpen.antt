@@ -21,7 +21,6 @@ use Rattle.bulk_ops.specs.MakeAllOrder as make
 use Rattle.bulk_ops.specs.RemoveAllOrder as remove
 use Rattle.bulk_ops.specs.RemoveAllOrder.{Level, Stage, removes_file, opens, lists, shuts, leaves, removes_dir, dirs, before}
 use Rattle.bulk_ops.specs.declared.remove_all.clearing.TheConstants.{CLEARING_STEPS_MAX}
-use Rattle.root_ops.specs.declared.op.Op.TheVariants.{MkdirAll, RemoveAll}
 
 -- ---- handles that are held
 

@@ -8,3 +8,5 @@ mod HeldByCalls
 mod CallsSoFar
 mod WorldSoFar
 mod ReportsTell
+mod HandlesLeft
+mod OneEnd

@@ -1,5 +1,5 @@
 -- The calls of an actor, and the walks in them, in a report.
-use Rattle.std.proofs.Common.{◌≡◌, ◌⊎◌, ℕ, ◌==◌, Bool, true, false, cond, if◌then◌else◌, List, [], ◌∷◌, ◌++◌, map, reverse, Option, Some, None, Ok, slice_get, refl, sym, ap, ◌∙◌, subst, inl, inr, append-nil, append_assoc}
+use Rattle.std.proofs.Common.{◌≡◌, ℕ, ◌==◌, Bool, true, false, cond, List, [], ◌∷◌, ◌++◌, Option, Some, None, refl, sym, ap, ◌∙◌, subst, inl, inr, append_assoc}
 use Rattle.std.proofs.lemmas.Bool.{false≢true, eqb-true, eqb-false}
 use Rattle.std.proofs.lemmas.List.{reverse-reverse}
 use Rattle.path_text.specs.declared.errno.Errno.{Errno}
@@ -21,7 +21,7 @@ use Rattle.step_resolver.specs.Order as walk
 use Rattle.step_resolver.specs.Headline.{Headline, EveryWalk}
 use Rattle.step_resolver.specs.WalkHistory.{WalkInHistory, IsWalkInHistory, own_events}
 use Rattle.root_ops.specs.BulkTells.{BulkCallsTell}
-use Rattle.root_ops.specs.CallHistory.{CallInHistory, begin_of, IsCallInHistory, CallsTell}
+use Rattle.root_ops.specs.CallHistory.{IsCallInHistory, CallsTell}
 use Rattle.root_ops.specs.declared.aim.Aim.TheVariants.{Opens}
 use Rattle.root_ops.specs.declared.below.Below.{Below}
 use Rattle.root_ops.specs.declared.op.Op.{Op}
@@ -35,9 +35,8 @@ use Rattle.root_ops.proofs.Handles.WalkParts.{IsEnded, walk_ends, HasRoot, root_
 use Rattle.race_core.specs.declared.plan.ActorPlan.{ActorPlan}
 use Rattle.race_core.specs.declared.plan.Planned.{Planned}
 use Rattle.race_core.specs.declared.plan.Planned.TheVariants as planned
-use Rattle.race_core.specs.declared.report.Outcome.{Outcome}
 use Rattle.race_core.specs.Turns.{request_of, outcome_of}
-use Rattle.race_core.specs.WorldCalls.{WholeRun, IsRun, opening_of, root_of, CallMade, IsMadeAs, kept_after, kept_after_all, AreMade, planned_of, outcomes_of, events_of_calls, NoneCloses, IsHistory, ActorsCalls}
+use Rattle.race_core.specs.WorldCalls.{WholeRun, opening_of, root_of, CallMade, IsMadeAs, kept_after, kept_after_all, AreMade, planned_of, outcomes_of, events_of_calls, NoneCloses, IsHistory, ActorsCalls}
 use Rattle.race_core.specs.WorldLaws.{IsPlaced, WalksInReports, call_in, CallTells, CallsInReports, way_of_resolve, WalkTells, ResolveTells, ResolvesInReports, ResolvesAlone}
 use Rattle.race_core.proofs.WorldSoFar.{calls_in_order}
 
@@ -73,7 +72,7 @@ module _ (a h x : ℕ) where
   own_later : (event : Event) (rest : List Event) → (event.actor == a) ≡ false → own_events a (event ∷ rest) ≡ own_events a rest
   own_later event rest e = ap (λ b. cond b (event ∷ own_events a rest) (own_events a rest)) e
 
-  root_stays : (events : List Event) (s : State) → held s a h ≡ Some x → NoneCloses h (own_events a events) → held (after_events s events) a h ≡ Some x
+  pub root_stays : (events : List Event) (s : State) → held s a h ≡ Some x → NoneCloses h (own_events a events) → held (after_events s events) a h ≡ Some x
   root_stays [] s e none = e
   root_stays (event ∷ rest) s e none = on (event.actor == a) refl (λ f n. root_stays rest (after_event s event) f n)
     where

@@ -1,9 +1,8 @@
 -- Runs that go on by one turn, or by one actor.
-use Rattle.std.proofs.Common.{◌≡◌, ◌≢◌, ℕ, zero, suc, ◌+◌, ◌<◌, ◌≤◌, ◌⊎◌, inl, inr, List, [], ◌∷◌, ◌++◌, Bool, true, false, length, get_or, Option, Some, None, slice_get, ltb-true, refl, sym, ap, subst, ◌∙◌, arith, add-one}
+use Rattle.std.proofs.Common.{◌≡◌, ◌≢◌, ℕ, zero, suc, ◌+◌, ◌<◌, ◌⊎◌, inl, inr, List, [], ◌∷◌, ◌++◌, Bool, true, false, length, get_or, Some, None, slice_get, ltb-true, refl, sym, ap, subst, ◌∙◌, arith, add-one}
 use Rattle.std.proofs.Math.Nat.{eq-or-lt_of_le}
 use Rattle.std.specs.Prelude.{nat_lt, if◌then◌else◌}
 use Rattle.race_core.specs.declared.seat.Seat.{Seat}
-use Rattle.race_core.specs.Turns.{Luck}
 use Rattle.race_core.specs.Worlds.{WorldView, turn, TakesTurn, Runs, again, GoesToEnd, AllGoToEnd, numbers_below, is_busy_in, is_busy_at, AllOver, first_beyond}
 
 pub runs_more : (w : WorldView) (is : List ℕ) (u v : WorldView) (i : ℕ) → Runs w is u → TakesTurn u i v → Runs w (is ++ i ∷ []) v

@@ -1,6 +1,5 @@
 -- The first turn of a call, from what its contract tells of it.
-use Rattle.std.proofs.Common.{◌≡◌, ℕ, suc, ◌+◌, ◌≤◌, ◌<◌, List, [], ◌∷◌, ◌++◌, Bool, true, length, Option, Some, None, Result, Ok, Err, OnOk, is_some, ◌||◌, ◌⊎◌, inl, inr, refl, sym, ap, subst, ◌∙◌, zero-add, arith}
-use Rattle.path_text.specs.declared.errno.Errno.TheVariants.{BadHandle}
+use Rattle.std.proofs.Common.{◌≡◌, ℕ, suc, ◌+◌, ◌≤◌, ◌<◌, List, [], ◌∷◌, ◌++◌, true, Option, Some, None, Result, Ok, Err, OnOk, is_some, ◌||◌, ◌⊎◌, inl, inr, refl, sym, ap, subst, ◌∙◌, arith}
 use Rattle.handles.specs.Objects.{StandingObject}
 use Rattle.step_resolver.specs.declared.walk.Root.{Root}
 use Rattle.root_ops.specs.declared.below.Below.{Below}
@@ -13,7 +12,7 @@ use Rattle.root_ops.specs.View.{CallView, IsOwned, reply_view}
 use Rattle.handles.specs.declared.owner.Owner.{Owner}
 use Rattle.std.proofs.lemmas.List.{reverse-reverse}
 use Rattle.std.proofs.lemmas.Bool.{false≢true}
-use Rattle.root_ops.specs.Order.{starts, steps_left, CallTurn}
+use Rattle.root_ops.specs.Order.{starts, steps_left}
 use Rattle.root_ops.specs.TurnView.{below_of, turn_view, Keeps, StartsTo, steps_to_come, STEPS_MAX}
 use Rattle.race_core.specs.declared.plan.Planned.{Planned}
 use Rattle.race_core.specs.Advance.{Advances}

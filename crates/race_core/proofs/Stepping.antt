@@ -10,7 +10,7 @@ use Rattle.root_ops.specs.TurnView.{TakesTo}
 use Rattle.root_ops.specs.View.{CallView}
 use Rattle.race_core.specs.Advance.{IsStepped, Advances}
 use Rattle.race_core.specs.Book.{BookedHistory, is_close, refusal, answer_now, booked}
-use Rattle.race_core.specs.Turns.{Stepped, unless_refused, stepped_by}
+use Rattle.race_core.specs.Turns.{unless_refused}
 
 abbrev ok : Answer → Result Answer Errno
 ok answer = Ok answer

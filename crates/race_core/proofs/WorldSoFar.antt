@@ -1,39 +1,33 @@
 -- The calls of each actor in a world: from its making, through its turns, to the report.
-use Rattle.std.proofs.Common.{◌≡◌, ◌≢◌, ◌⊎◌, ℕ, zero, suc, ◌+◌, ◌≤◌, List, [], ◌∷◌, ◌++◌, Bool, true, false, not, ◌||◌, if◌then◌else◌, length, Option, Some, None, Result, Ok, Err, is_some, slice_get, refl, sym, ap, subst, ◌∙◌, inl, inr, append-nil, arith, add-zero}
+use Rattle.std.proofs.Common.{◌≡◌, ◌≢◌, ◌⊎◌, ℕ, zero, suc, ◌+◌, List, [], ◌∷◌, ◌++◌, Bool, true, false, ◌||◌, length, Option, Some, None, Result, Ok, Err, is_some, slice_get, refl, sym, ap, subst, ◌∙◌, inl, inr, append-nil, arith, add-zero}
 use Rattle.std.specs.Prelude.{slice_set}
 use Rattle.std.proofs.lemmas.Bool.{false≢true, cases_eq}
-use Rattle.std.proofs.lemmas.Option.{none-some, same_Some, slice_get_past}
+use Rattle.std.proofs.lemmas.Option.{none-some, same_Some}
 use Rattle.std.proofs.lemmas.List.{length_push}
 use Rattle.path_text.specs.declared.errno.Errno.{Errno}
 use Rattle.path_text.specs.declared.errno.Errno.TheVariants.{TooMany}
-use Rattle.tree_model.specs.declared.answer.Event.{Event}
-use Rattle.tree_model.specs.declared.inode.Inode.{Inode}
 use Rattle.tree_model.specs.declared.inode.OpenHandle.{OpenHandle}
-use Rattle.tree_model.specs.declared.step.StepOf.{StepOf}
 use Rattle.tree_model.specs.Entries.{refuse_if}
 use Rattle.tree_model.specs.State.{State, TOP, is_dir}
 use Rattle.tree_model.specs.Steps.{held, node_held, is_full, with_handle, directory_at, grants_at, grants}
 use Rattle.tree_model.specs.Trees.{IsState}
-use Rattle.tree_model.specs.History.{IsLegal}
+use Rattle.tree_model.specs.History.{IsLegal, after_events}
 use Rattle.tree_model.proofs.StepsKept.{directory_at-is_dir, grants_keep_trees}
-use Rattle.handles.specs.Objects.{StandingObject}
 use Rattle.step_resolver.specs.declared.walk.Root.{Root}
 use Rattle.step_resolver.specs.WalkHistory.{own_events}
 use Rattle.step_resolver.proofs.Underway.StepOutcomes.{with_handle-is_more}
 use Rattle.root_ops.specs.View.{CallView}
 use Rattle.race_core.specs.declared.plan.ActorPlan.{ActorPlan}
 use Rattle.race_core.specs.declared.plan.Planned.{Planned}
-use Rattle.race_core.specs.declared.opening.RootRefusal.{RootRefusal}
-use Rattle.race_core.specs.declared.report.Outcome.{Outcome}
 use Rattle.race_core.specs.declared.seat.Seat.{Seat}
-use Rattle.race_core.specs.Book.{BookedHistory, tree_now, opened_book, booked}
+use Rattle.race_core.specs.Book.{BookedHistory, opened_book}
 use Rattle.race_core.specs.Ledgers.{LedgerView}
-use Rattle.race_core.specs.Opening.{Granted, Grants, before, onward_from, granted, root_in, seats_of, IsOpened, Opens}
+use Rattle.race_core.specs.Opening.{Granted, Grants, before, onward_from, granted, root_in, seats_of, IsOpened}
 use Rattle.race_core.specs.TurnView.{is_busy, are_some}
 use Rattle.race_core.specs.Turns.{Luck, turned, opened_ledger}
-use Rattle.race_core.specs.WorldCalls.{WholeRun, IsRun, opening_of, root_of, CallMade, AreMade, planned_of, outcomes_of, events_of_calls, IsHistory, ActorsCalls}
+use Rattle.race_core.specs.WorldCalls.{WholeRun, IsRun, opening_of, root_of, AreMade, planned_of, events_of_calls, IsHistory, ActorsCalls}
 use Rattle.race_core.specs.WorldLaws.{CallsInOrder}
-use Rattle.race_core.specs.Worlds.{WorldView, turn_of, turn, Runs, again, GoesToEnd, AllGoToEnd, RunsOut, AllOver, ledgers_in, replies_in, RunsTo}
+use Rattle.race_core.specs.Worlds.{WorldView, turn_of, turn, Runs, again, AllGoToEnd, RunsOut, AllOver, ledgers_in, replies_in}
 use Rattle.race_core.proofs.CallsSoFar.{SoFar, SeatSoFar, BookMoves, same, one_more, turns_so_far, turn_keeps_root, turn_moves, so_far_among_others}
 
 -- ---- places
@@ -358,6 +352,8 @@ module _ (r : WholeRun) (i : ℕ) (plan : ActorPlan) (run : IsRun r) (planned : 
           on_left [] q none = record {
             node = ours.1.1.node;
             history = is_history;
+            leads = run.runs.reports.is_tree ∙ ap (λ (s : State). after_events s run.runs.end.book.events) (end.opened ∙ sym opening_is)
+                ∙ ap (after_events (opening_of r)) (sym run.runs.reports.are_events);
             calls = f.calls;
             planned = sym (append-nil (planned_of f.calls)) ∙ ap (λ ps. planned_of f.calls ++ ps) (sym q) ∙ sym f.at.planned;
             made = subst (λ (t : Root). AreMade t [] f.calls) rooted f.made;

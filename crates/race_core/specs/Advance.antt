@@ -1,8 +1,7 @@
 -- What the code of a turn comes to, in the words of `Turns`.
-use Rattle.std.specs.Prelude.{◌≡◌, ℕ, ◌+◌, List, [], ◌∷◌, Bool, Option, Some, None}
+use Rattle.std.specs.Prelude.{◌≡◌, ℕ, Bool}
 use Rattle.tree_model.specs.declared.answer.Answer.{Answer}
 use Rattle.tree_model.specs.declared.step.StepOf.{StepOf}
-use Rattle.root_ops.specs.declared.call.CallTurn.{CallTurn as Outcome}
 use Rattle.root_ops.specs.Order.{CallTurn, take, due}
 use Rattle.root_ops.specs.View.{CallView}
 use Rattle.race_core.specs.Book.{BookedHistory}

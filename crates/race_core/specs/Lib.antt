@@ -1,7 +1,9 @@
 pub mod Advance
 pub mod Book
 pub mod BookLaws
+pub mod EndHandles
 pub mod Ledgers
+pub mod OneReport
 pub mod Opening
 pub mod TurnView
 pub mod Turns

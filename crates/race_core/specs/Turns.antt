@@ -1,5 +1,5 @@
 -- One turn of a world, computed: one due step of the call under way, which is started first where none is.
-use Rattle.std.specs.Prelude.{◌≡◌, ◌||◌, ℕ, List, [], ◌∷◌, ◌++◌, Bool, true, false, if◌then◌else◌, reverse, slice_get, slice_set, slice_index_or, Option, Some, None}
+use Rattle.std.specs.Prelude.{◌||◌, ℕ, List, [], ◌∷◌, ◌++◌, Bool, false, if◌then◌else◌, reverse, slice_set, slice_index_or, Option, Some, None}
 use Rattle.std.specs.Option.{option_map}
 use Rattle.path_text.specs.declared.errno.Errno.{Errno}
 use Rattle.path_text.specs.declared.errno.Errno.TheVariants.{BadHandle, NoMemory, Invalid}
@@ -14,7 +14,7 @@ use Rattle.step_resolver.specs.declared.walk.Root.{Root}
 use Rattle.root_ops.specs.declared.below.Below.{Below}
 use Rattle.root_ops.specs.declared.op.Op.TheVariants as op
 use Rattle.root_ops.specs.declared.op.Request.{Request}
-use Rattle.root_ops.specs.Order.{Reply, opened, link_text, done, count, stepped, kept, fault, Doing, CallTurn, more, ends, starts, take, due}
+use Rattle.root_ops.specs.Order.{Reply, opened, link_text, done, count, stepped, kept, fault, CallTurn, more, ends, starts, take, due}
 use Rattle.root_ops.specs.TurnView.{below_of}
 use Rattle.root_ops.specs.View.{CallView}
 use Rattle.race_core.specs.declared.plan.Planned.{Planned}

@@ -6,7 +6,7 @@ use Rattle.tree_model.specs.State.{State, is_dir}
 use Rattle.tree_model.specs.StepLaws.{is_close_of}
 use Rattle.tree_model.specs.Steps.{held}
 use Rattle.tree_model.specs.Trees.{IsState}
-use Rattle.tree_model.specs.History.{IsLegal}
+use Rattle.tree_model.specs.History.{IsLegal, after_events}
 use Rattle.handles.specs.declared.owner.Owner.{Owner}
 use Rattle.handles.specs.Objects.{StandingObject}
 use Rattle.step_resolver.specs.declared.walk.Root.{Root}
@@ -108,10 +108,12 @@ pub record IsHistory (opening : State) (events : List Event) (root : Root) (node
   pub directory : is_dir opening.nodes node ≡ true
 
 -- The actor's calls, in their order: those that were planned, made with what those before them keep; its own events are theirs,
--- and the replies in the report are their outcomes. The history is legal, and its root is open as it begins.
+-- and the replies in the report are their outcomes. The history is legal, its root is open as it begins, and the tree is the one
+-- that the events lead to.
 pub record ActorsCalls (r : WholeRun) (i : ℕ) (plan : ActorPlan) : Type 0 where
   pub node : ℕ
   pub history : IsHistory (opening_of r) r.events (root_of r i) node
+  pub leads : r.tree ≡ after_events (opening_of r) r.events
   pub calls : List CallMade
   pub planned : planned_of calls ≡ plan.calls
   pub made : AreMade (root_of r i) [] calls

@@ -1,6 +1,5 @@
 -- What a report tells of the calls of each actor, and of the walks in them: statements of laws.
-use Rattle.std.specs.Prelude.{◌≡◌, ◌⊎◌, ℕ, List, [], ◌∷◌, ◌++◌, Bool, true, Option, Some, None, Ok, reverse, slice_get}
-use Rattle.path_text.specs.declared.errno.Errno.{Errno}
+use Rattle.std.specs.Prelude.{◌≡◌, ◌⊎◌, ℕ, List, [], ◌∷◌, ◌++◌, true, Some, None, Ok, reverse, slice_get}
 use Rattle.path_text.specs.declared.errno.Errno.TheVariants.{NoMemory}
 use Rattle.path_text.specs.declared.path.Rule.TheVariants.{Drop}
 use Rattle.path_text.specs.declared.path.Split.{Split}

@@ -1,5 +1,5 @@
 -- A world: a tree that actors take turns on; its turns, and its runs to the end.
-use Rattle.std.specs.Prelude.{◌≡◌, ◌≤◌, ◌<◌, ℕ, zero, suc, List, [], ◌∷◌, ◌++◌, Bool, true, false, length, map, Option, Some, None, Result, Ok, Err, slice_get, slice_set, nat_lt, if◌then◌else◌}
+use Rattle.std.specs.Prelude.{◌≡◌, ◌≤◌, ◌<◌, ℕ, zero, suc, List, [], ◌∷◌, ◌++◌, Bool, true, false, length, Option, Some, None, Result, Ok, Err, slice_get, slice_set, nat_lt, if◌then◌else◌}
 use Rattle.tree_model.specs.declared.answer.Event.{Event}
 use Rattle.tree_model.specs.State.{State}
 use Rattle.tree_model.specs.History.{IsLegal}
@@ -10,7 +10,7 @@ use Rattle.race_core.specs.declared.report.WorldFault.TheVariants as fault
 use Rattle.race_core.specs.Book.{BookedHistory, tree_now}
 use Rattle.race_core.specs.Ledgers.{LedgerView}
 use Rattle.race_core.specs.declared.seat.Seat.{Seat}
-use Rattle.race_core.specs.Turns.{Luck, Turned, turned}
+use Rattle.race_core.specs.Turns.{Luck, turned}
 use Rattle.race_core.specs.TurnView.{is_busy, turns_left}
 
 -- the book, each actor's seat by its number, and whether memory for the report ran short

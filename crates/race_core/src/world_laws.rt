@@ -1,5 +1,7 @@
 //! What a report tells of each actor's calls, and of the walks in them: laws, each the contract of a function without a
 //! body. They begin from what `World::new` and `World::run` ensure, over a tree that was given.
+ghost use Rattle.race_core.specs.EndHandles.{HandlesAtEnd};
+ghost use Rattle.race_core.specs.OneReport.{OneReport};
 ghost use Rattle.race_core.specs.WorldLaws.{CallsInOrder, WalksInReports, CallsInReports, ResolvesInReports, ResolvesAlone};
 
 use root_ops::{bulk_calls_tell, calls_tell, quiet_calls_mean};
@@ -52,3 +54,18 @@ pub fn single_resolve_tells()
 {
     headline();
 }
+
+/// At the end an actor's open handles are those from the opening, its root among them, and those that its calls opened,
+/// less those that a Release of its own closed, each on its node; and nothing else. A step of a plan opens and closes
+/// none. The root's handle isn't released.
+pub fn handles_at_end()
+    ensures { HandlesAtEnd }
+{
+    calls_tell();
+}
+
+/// Where memory never ran short there is just one report of a world on a schedule: the tree, the events, the replies and
+/// what was kept are the same in any two.
+pub fn reports_with_memory_are_one()
+    ensures { OneReport }
+{}

@@ -1,4 +1,4 @@
-use Rattle.std.proofs.Common.{Some, sym, subst}
+use Rattle.std.proofs.Common.{sym, subst}
 use Rattle.race_core.specs.TurnView.{IsStarted}
 use Rattle.race_core.proofs.Starting.{started}
 use Rattle.race_core.proofs.ledger.first_turn.Goals as goal

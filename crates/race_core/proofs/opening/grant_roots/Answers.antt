@@ -1,7 +1,6 @@
-use Rattle.std.proofs.Common.{◌≡◌, ◌+◌, ◌++◌, ◌∷◌, [], Bool, if◌then◌else◌, not, length, ap, ◌∙◌, arith}
+use Rattle.std.proofs.Common.{◌≡◌, ◌++◌, ◌∷◌, [], Bool, if◌then◌else◌, not, length, ap, ◌∙◌, arith}
 use Rattle.std.proofs.lemmas.List.{length_push}
 use Rattle.std.specs.Vec.Iter.{into_iter_items}
-use Rattle.race_core.specs.Opening.{granted}
 use Rattle.race_core.proofs.Granting.{granted_next}
 use Rattle.race_core.proofs.opening.grant_roots.Goals as goal
 

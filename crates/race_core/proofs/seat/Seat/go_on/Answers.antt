@@ -1,4 +1,4 @@
-use Rattle.std.proofs.Common.{◌≡◌, sym, ◌∙◌, subst}
+use Rattle.std.proofs.Common.{◌≡◌, subst}
 use Rattle.root_ops.specs.TurnView.{turn_view}
 use Rattle.race_core.specs.Advance.{Advances}
 use Rattle.race_core.specs.TurnView.{GoesOn, seat_at}

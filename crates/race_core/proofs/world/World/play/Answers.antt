@@ -1,4 +1,4 @@
-use Rattle.std.proofs.Common.{◌≡◌, ◌<◌, ◌∷◌, ◌++◌, [], ℕ, List, length, take, get_or, sym, subst, ◌∙◌}
+use Rattle.std.proofs.Common.{◌<◌, length, take, get_or, sym, subst, ◌∙◌}
 use Rattle.std.proofs.lemmas.List.{take_more}
 use Rattle.race_core.specs.Worlds.{Runs}
 use Rattle.race_core.proofs.Running.{runs_more, is_within}

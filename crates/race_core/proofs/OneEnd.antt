@@ -1,0 +1,111 @@
+-- Turns with memory lead a world to one end.
+use Rattle.std.proofs.Common.{◌≡◌, ℕ, zero, suc, List, [], ◌∷◌, Bool, true, false, ◌||◌, length, Option, Some, None, is_some, slice_get, refl, sym, ap, subst, ◌∙◌}
+use Rattle.std.specs.Prelude.{slice_set}
+use Rattle.std.proofs.lemmas.Bool.{false≢true}
+use Rattle.std.proofs.lemmas.Option.{same_Some}
+use Rattle.root_ops.specs.View.{CallView}
+use Rattle.race_core.specs.declared.plan.Planned.{Planned}
+use Rattle.race_core.specs.declared.seat.Seat.{Seat}
+use Rattle.race_core.specs.Book.{BookedHistory, tree_now}
+use Rattle.race_core.specs.Ledgers.{LedgerView}
+use Rattle.race_core.specs.OneReport.{full, HadMemory, AllHadMemory, OneReport}
+use Rattle.race_core.specs.TurnView.{are_some}
+use Rattle.race_core.specs.Turns.{Luck, Turned, turned, begins_next, goes_on}
+use Rattle.race_core.specs.Worlds.{WorldView, turn_of, turn, Runs, again, GoesToEnd, AllGoToEnd, numbers_below, is_busy_in, is_busy_at, ledgers_in, replies_in, kept_in}
+
+abbrev plays : WorldView → List ℕ → WorldView
+plays w [] = w
+plays w (i ∷ is) = plays (turn full w i) is
+
+played : (is : List ℕ) (w v : WorldView) (ran : Runs w is v) → HadMemory w is v ran → v ≡ plays w is
+played [] w v ran had = ran
+played (i ∷ is) w v ran had = played is (turn ran.0 w i) v ran.1 had.1 ∙ ap (λ (luck : Luck). plays (turn luck w i) is) had.0
+
+-- ---- an actor that has nothing left to do
+
+neither : (a b : Bool) → (a || b) ≡ false → (a ≡ false) × (b ≡ false)
+neither true b e = absurd (false≢true (sym e))
+neither false b e = (refl, e)
+
+none_left : (o : Option CallView) → is_some o ≡ false → o ≡ None
+none_left None e = refl
+none_left (Some call) e = absurd (false≢true (sym e))
+
+none_to_come : (ps : List Planned) → are_some ps ≡ false → ps ≡ []
+none_to_come [] e = refl
+none_to_come (p ∷ ps) e = absurd (false≢true (sym e))
+
+idle_turned : (luck : Luck) (book : BookedHistory) (ledger : LedgerView) (doing : Option CallView) → doing ≡ None → ledger.to_come ≡ []
+    → turned luck book ledger doing ≡ record { book = book; seat = record { ledger = ledger; doing = None } }
+idle_turned luck book ledger doing e q =
+    ap (λ (d : Option CallView). turned luck book ledger d) e
+    ∙ ap (λ (ps : List Planned). goes_on luck.step luck.room book (begins_next luck.start ledger ps).ledger (begins_next luck.start ledger ps).doing) q
+
+set_same : {A : Type 0} (xs : List A) (i : ℕ) (x : A) → slice_get xs i ≡ Some x → slice_set xs i x ≡ xs
+set_same [] i x e = refl
+set_same (y ∷ xs) zero x e = ap (λ z. z ∷ xs) (sym (same_Some y x e))
+set_same (y ∷ xs) (suc i) x e = ap (λ zs. y ∷ zs) (set_same xs i x e)
+
+idle_turn : (w : WorldView) (i : ℕ) → is_busy_at w.seats i ≡ false → turn full w i ≡ w
+idle_turn w i idle = on (slice_get w.seats i) refl (idle)
+  where
+    on : (o : Option Seat) → slice_get w.seats i ≡ o → is_busy_in (slice_get w.seats i) ≡ false → turn_of full w i o ≡ w
+    on None e idle = refl
+    on (Some seat) e idle =
+        let over = neither (is_some seat.doing) (are_some seat.ledger.to_come) (sym (ap is_busy_in e) ∙ idle) in
+        let done = none_left seat.doing over.0 in
+        ap (λ (t : Turned). record { book = t.book; seats = slice_set w.seats i t.seat; spent = w.spent })
+        (idle_turned full w.book seat.ledger seat.doing done (none_to_come seat.ledger.to_come over.1)
+        ∙ ap (λ (d : Option CallView). record { book = w.book; seat = record { ledger = seat.ledger; doing = d } }) (sym done))
+        ∙ ap (λ (ss : List Seat). record { book = w.book; seats = ss; spent = w.spent }) (set_same w.seats i seat e)
+
+-- ---- one end
+
+ends_alike : (k l : ℕ) (w : WorldView) (i : ℕ) → is_busy_at (plays w (again i k)).seats i ≡ false → is_busy_at (plays w (again i l)).seats i ≡ false
+    → plays w (again i k) ≡ plays w (again i l)
+ends_alike zero zero w i one two = refl
+ends_alike zero (suc l) w i one two =
+    let idle = idle_turn w i one in
+    ends_alike zero l w i one (subst (λ (u : WorldView). is_busy_at (plays u (again i l)).seats i ≡ false) idle two)
+    ∙ ap (λ (u : WorldView). plays u (again i l)) (sym idle)
+ends_alike (suc k) zero w i one two =
+    let idle = idle_turn w i two in
+    ap (λ (u : WorldView). plays u (again i k)) idle
+    ∙ ends_alike k zero w i (subst (λ (u : WorldView). is_busy_at (plays u (again i k)).seats i ≡ false) idle one) two
+ends_alike (suc k) (suc l) w i one two = ends_alike k l (turn full w i) i one two
+
+module _ (i : ℕ) (w u v : WorldView) (one : GoesToEnd w i u) (two : GoesToEnd w i v) where
+  goes_alike : HadMemory w (again i one.turns) u one.run → HadMemory w (again i two.turns) v two.run → u ≡ v
+  goes_alike first second =
+      let here = played (again i one.turns) w u one.run first in
+      let there = played (again i two.turns) w v two.run second in
+      here
+      ∙ ends_alike one.turns two.turns w i (subst (λ (x : WorldView). is_busy_at x.seats i ≡ false) here one.over)
+      (subst (λ (x : WorldView). is_busy_at x.seats i ≡ false) there two.over)
+      ∙ sym there
+
+all_alike : (is : List ℕ) (w w' u v : WorldView) → w ≡ w' → (one : AllGoToEnd w is u) (two : AllGoToEnd w' is v) → AllHadMemory w is u one → AllHadMemory w' is v two → u ≡ v
+all_alike [] w w' u v same one two first second = one ∙ same ∙ sym two
+all_alike (i ∷ is) w w' u v same one two first second =
+    all_alike is one.0 two.0 u v (from w' same two.0 two.1 second.0) one.2 two.2 first.1 second.1
+  where
+    from : (x : WorldView) → w ≡ x → (y : WorldView) (goes : GoesToEnd x i y) → HadMemory x (again i goes.turns) y goes.run → one.0 ≡ y
+    from x e y goes had =
+        subst (λ (z : WorldView). (g : GoesToEnd z i y) → HadMemory z (again i g.turns) y g.run → one.0 ≡ y) e
+        (λ g had'. goes_alike i w one.0 y one.1 g first.0 had') goes had
+
+outs_alike : (w : WorldView) (is schedule : List ℕ) (u v m n : WorldView) (one : Runs w schedule m) (two : Runs w schedule n) → HadMemory w schedule m one → HadMemory w schedule n two
+    → (rest : AllGoToEnd m is u) (other : AllGoToEnd n is v) → AllHadMemory m is u rest → AllHadMemory n is v other → u ≡ v
+outs_alike w is schedule u v m n one two first second rest other third fourth =
+    all_alike is m n u v (played schedule w m one first ∙ sym (played schedule w n two second)) rest other third fourth
+
+pub one_report : OneReport
+one_report w schedule tree events replies kept tree' events' replies' kept' one two first second =
+    let end = outs_alike w (numbers_below (length w.seats)) schedule one.end two.end one.runs.middle two.runs.middle one.runs.scheduled two.runs.scheduled first.scheduled second.scheduled
+    one.runs.rest two.runs.rest first.rest second.rest in
+    record {
+      same_tree = one.reports.is_tree ∙ ap (λ (v : WorldView). tree_now v.book) end ∙ sym two.reports.is_tree;
+      same_events = one.reports.are_events ∙ ap (λ (v : WorldView). v.book.events) end ∙ sym two.reports.are_events;
+      same_replies = one.reports.are_replies ∙ ap (λ (v : WorldView). replies_in (ledgers_in v.seats)) end ∙ sym two.reports.are_replies;
+      same_kept = one.reports.is_kept ∙ ap (λ (v : WorldView). kept_in (ledgers_in v.seats)) end ∙ sym two.reports.is_kept;
+    }
