@@ -1,0 +1,478 @@
+-- On alike trees, by paired handles, a step comes to the same.
+use Rattle.std.proofs.Common.{◌≡◌, ◌≢◌, ⊎_elim, ◌⊎◌, inl, inr, ℕ, zero, suc, ◌<◌, Bool, true, false, not, ◌==◌, ◌||◌, ◌&&◌, nat_le, List, [], ◌∷◌, ◌++◌, length, reverse, Option, Some, None, Result, Ok, Err, slice_get, slice_set, refl, sym, ap, ◌∙◌, subst, eqb-true, eq-eqb, length-append, length-set, arith}
+use Rattle.std.proofs.lemmas.Bool.{false≢true, true≢false, cases_eq}
+use Rattle.path_text.specs.declared.errno.Errno.{Errno}
+use Rattle.path_text.specs.declared.errno.Errno.TheVariants.{NotFound, BadHandle, NotDir, Invalid, TooMany}
+use Rattle.tree_model.specs.declared.answer.Answer.{Answer}
+use Rattle.tree_model.specs.declared.answer.Answer.TheVariants.{Opened, Text, Names, NotBelow, Listed, Done, Refused}
+use Rattle.tree_model.specs.declared.inode.Inode.{Inode}
+use Rattle.tree_model.specs.declared.inode.Object.{Object}
+use Rattle.tree_model.specs.declared.inode.Object.TheVariants as object
+use Rattle.tree_model.specs.declared.inode.OpenHandle.{OpenHandle}
+use Rattle.tree_model.specs.declared.step.Mode.{Mode}
+use Rattle.tree_model.specs.declared.step.StepOf.{StepOf}
+use Rattle.tree_model.specs.declared.step.StepOf.TheVariants as steps
+use Rattle.tree_model.specs.declared.tree.TheConstants.{HANDLES_MAX, NUMBERS_MAX}
+use Rattle.tree_model.specs.State.{State, object_at, child, parent, is_dir, names_below, names_in, sorted_names}
+use Rattle.tree_model.specs.Entries.{refuse_if, with_some, makes, makes_link, removes_file, removes_dir, renames}
+use Rattle.tree_model.specs.StepLaws.{only_tells, open_count, opened_count, closed_count}
+use Rattle.tree_model.specs.Steps.{Outcome, refused, answered, kind_of, node_held, held, held_count, is_full, with_handle, opens, reads, shows, changes, outcome}
+use Rattle.tree_model.proofs.Counts.{handles_are_counted, others_counts_stay}
+use Rattle.tree_model.proofs.Places.{slice_get-last}
+use Rattle.race_core.specs.Book.{is_close}
+use Rattle.explore.specs.Renamed.{step_by, answer_by}
+use Rattle.explore.specs.Alike.{Pairs, Agree, SameSteps, SameAnswers, IsPair, AlikeTrees}
+
+-- ---- lists
+
+before : {A : Type 0} (xs ys : List A) (i : ℕ) → i < length xs → slice_get (xs ++ ys) i ≡ slice_get xs i
+before [] ys i lt = absurd (omega arith)
+before (x ∷ xs) ys zero lt = refl
+before (x ∷ xs) ys (suc i) lt = before xs ys i (omega arith)
+
+set_at : {A : Type 0} (xs : List A) (i : ℕ) (y : A) → i < length xs → slice_get (slice_set xs i y) i ≡ Some y
+set_at [] i y lt = absurd (omega arith)
+set_at (x ∷ xs) zero y lt = refl
+set_at (x ∷ xs) (suc i) y lt = set_at xs i y (omega arith)
+
+set_other : {A : Type 0} (xs : List A) (i : ℕ) (y : A) (k : ℕ) → k ≢ i → slice_get (slice_set xs i y) k ≡ slice_get xs k
+set_other [] i y k ne = refl
+set_other (x ∷ xs) zero y zero ne = absurd (ne refl)
+set_other (x ∷ xs) zero y (suc k) ne = refl
+set_other (x ∷ xs) (suc i) y zero ne = refl
+set_other (x ∷ xs) (suc i) y (suc k) ne = set_other xs i y k (λ e. ne (ap suc e))
+
+-- ---- numbers of handles that are the same but for pairs
+
+-- whatever replacements agree on the pairs give both one number
+abbrev pub SameNumbers : Pairs → ℕ → ℕ → Type 0
+SameNumbers pairs h k = (f g : ℕ → ℕ) → Agree pairs f g → f h ≡ g k
+
+abbrev pub code : Option ℕ → ℕ
+code None = 0
+code (Some x) = suc x
+
+decode : (o p : Option ℕ) → code o ≡ code p → o ≡ p
+decode None None e = refl
+decode None (Some x) e = absurd (omega arith)
+decode (Some x) None e = absurd (omega arith)
+decode (Some x) (Some y) e = let same : x ≡ y = omega arith in ap Some same
+
+abbrev pub bit : Bool → ℕ
+bit true = 1
+bit false = 0
+
+unbit : (b c : Bool) → bit b ≡ bit c → b ≡ c
+unbit true true e = refl
+unbit false false e = refl
+unbit true false e = absurd (omega arith)
+unbit false true e = absurd (omega arith)
+
+module _ (pairs : Pairs) (s t : State) (alike : AlikeTrees pairs s t) where
+  pub same_held : (a h k : ℕ) → SameNumbers pairs h k → held s a h ≡ held t a k
+  same_held a h k same =
+      decode (held s a h) (held t a k)
+      (same (λ j. code (held s a j)) (λ l. code (held t a l)) (λ j l p. ap (λ o. code (node_held a o)) (alike.paired j l p).same))
+
+  tests : (h k j l : ℕ) → (h ≡ j → k ≡ l) × (k ≡ l → h ≡ j) → (h == j) ≡ (k == l)
+  tests h k j l both = go (h == j) (k == l) refl refl
+    where
+      go : (b c : Bool) → (h == j) ≡ b → (k == l) ≡ c → (h == j) ≡ (k == l)
+      go true true e e' = e ∙ sym e'
+      go false false e e' = e ∙ sym e'
+      go true false e e' = absurd (false≢true (sym e' ∙ eq-eqb k l (both.0 (eqb-true h j e))))
+      go false true e e' = absurd (false≢true (sym e ∙ eq-eqb h j (both.1 (eqb-true k l e'))))
+
+  -- one of the pair is a number that is in a pair just where the other is
+  pub together : (h k : ℕ) → SameNumbers pairs h k → (j l : ℕ) → pairs j l ≡ true → (h ≡ j → k ≡ l) × (k ≡ l → h ≡ j)
+  together h k same j l p =
+      let equal : (h == j) ≡ (k == l) =
+      unbit (h == j) (k == l) (same (λ x. bit (x == j)) (λ y. bit (y == l)) (λ x y q. ap bit (tests x y j l (alike.apart x y j l q p)))) in
+      ((λ e. eqb-true k l (sym equal ∙ eq-eqb h j e)), (λ e. eqb-true h j (equal ∙ eq-eqb k l e)))
+
+-- ---- steps by paired handles
+
+pub data Paired (pairs : Pairs) : StepOf ℕ → StepOf ℕ → Type 0 where
+  open' : (h k : ℕ) (n : List ℕ) → SameNumbers pairs h k → Paired pairs (steps.Open h n) (steps.Open k n)
+  dup' : (h k : ℕ) → SameNumbers pairs h k → Paired pairs (steps.Dup h) (steps.Dup k)
+  parent' : (h k : ℕ) → SameNumbers pairs h k → Paired pairs (steps.Parent h) (steps.Parent k)
+  read' : (h k : ℕ) → SameNumbers pairs h k → Paired pairs (steps.ReadLink h) (steps.ReadLink k)
+  below' : (r q h k : ℕ) → SameNumbers pairs r q → SameNumbers pairs h k → Paired pairs (steps.NameBelow r h) (steps.NameBelow q k)
+  list' : (h k : ℕ) → SameNumbers pairs h k → Paired pairs (steps.List h) (steps.List k)
+  close' : (h k : ℕ) → SameNumbers pairs h k → Paired pairs (steps.Close h) (steps.Close k)
+  make_dir' : (h k : ℕ) (n : List ℕ) → SameNumbers pairs h k → Paired pairs (steps.MakeDir h n) (steps.MakeDir k n)
+  make_file' : (h k : ℕ) (n : List ℕ) → SameNumbers pairs h k → Paired pairs (steps.MakeFile h n) (steps.MakeFile k n)
+  make_link' : (h k : ℕ) (n text : List ℕ) → SameNumbers pairs h k → Paired pairs (steps.MakeLink h n text) (steps.MakeLink k n text)
+  remove_file' : (h k : ℕ) (n : List ℕ) → SameNumbers pairs h k → Paired pairs (steps.RemoveFile h n) (steps.RemoveFile k n)
+  remove_dir' : (h k : ℕ) (n : List ℕ) → SameNumbers pairs h k → Paired pairs (steps.RemoveDir h n) (steps.RemoveDir k n)
+  rename' : (h k : ℕ) (n : List ℕ) (d e : ℕ) (m : List ℕ) (mode : Mode) → SameNumbers pairs h k → SameNumbers pairs d e
+      → Paired pairs (steps.Rename h n d m mode) (steps.Rename k n e m mode)
+
+module _ (pairs : Pairs) where
+  pub zero_agrees : Agree pairs (λ h. 0) (λ h. 0)
+  zero_agrees h k p = refl
+
+  pub paired_of : (x y : StepOf ℕ) → SameSteps pairs x y → Paired pairs x y
+  paired_of (steps.Open h n) (steps.Open k m) same =
+      let first : ◌≡◌ {A = StepOf ℕ} (steps.Open 0 n) (steps.Open 0 m) = same (λ h. 0) (λ h. 0) zero_agrees in
+      let names : n ≡ m = cc (first) in
+      subst (λ m. Paired pairs (steps.Open h n) (steps.Open k m)) names (open' h k n (λ f g agree. let e : ◌≡◌ {A = StepOf ℕ} (steps.Open (f h) n) (steps.Open (g k) m) = same f g agree in cc (e)))
+  paired_of (steps.Dup h) (steps.Dup k) same = dup' h k (λ f g agree. let e : ◌≡◌ {A = StepOf ℕ} (steps.Dup (f h)) (steps.Dup (g k)) = same f g agree in cc (e))
+  paired_of (steps.Parent h) (steps.Parent k) same = parent' h k (λ f g agree. let e : ◌≡◌ {A = StepOf ℕ} (steps.Parent (f h)) (steps.Parent (g k)) = same f g agree in cc (e))
+  paired_of (steps.ReadLink h) (steps.ReadLink k) same = read' h k (λ f g agree. let e : ◌≡◌ {A = StepOf ℕ} (steps.ReadLink (f h)) (steps.ReadLink (g k)) = same f g agree in cc (e))
+  paired_of (steps.NameBelow r h) (steps.NameBelow q k) same =
+      below' r q h k (λ f g agree. let e : ◌≡◌ {A = StepOf ℕ} (steps.NameBelow (f r) (f h)) (steps.NameBelow (g q) (g k)) = same f g agree in cc (e))
+      (λ f g agree. let e : ◌≡◌ {A = StepOf ℕ} (steps.NameBelow (f r) (f h)) (steps.NameBelow (g q) (g k)) = same f g agree in cc (e))
+  paired_of (steps.List h) (steps.List k) same = list' h k (λ f g agree. let e : ◌≡◌ {A = StepOf ℕ} (steps.List (f h)) (steps.List (g k)) = same f g agree in cc (e))
+  paired_of (steps.Close h) (steps.Close k) same = close' h k (λ f g agree. let e : ◌≡◌ {A = StepOf ℕ} (steps.Close (f h)) (steps.Close (g k)) = same f g agree in cc (e))
+  paired_of (steps.MakeDir h n) (steps.MakeDir k m) same =
+      let first : ◌≡◌ {A = StepOf ℕ} (steps.MakeDir 0 n) (steps.MakeDir 0 m) = same (λ h. 0) (λ h. 0) zero_agrees in
+      let names : n ≡ m = cc (first) in
+      subst (λ m. Paired pairs (steps.MakeDir h n) (steps.MakeDir k m)) names (make_dir' h k n (λ f g agree. let e : ◌≡◌ {A = StepOf ℕ} (steps.MakeDir (f h) n) (steps.MakeDir (g k) m) = same f g agree in cc (e)))
+  paired_of (steps.MakeFile h n) (steps.MakeFile k m) same =
+      let first : ◌≡◌ {A = StepOf ℕ} (steps.MakeFile 0 n) (steps.MakeFile 0 m) = same (λ h. 0) (λ h. 0) zero_agrees in
+      let names : n ≡ m = cc (first) in
+      subst (λ m. Paired pairs (steps.MakeFile h n) (steps.MakeFile k m)) names (make_file' h k n (λ f g agree. let e : ◌≡◌ {A = StepOf ℕ} (steps.MakeFile (f h) n) (steps.MakeFile (g k) m) = same f g agree in cc (e)))
+  paired_of (steps.MakeLink h n text) (steps.MakeLink k m text') same =
+      let first : ◌≡◌ {A = StepOf ℕ} (steps.MakeLink 0 n text) (steps.MakeLink 0 m text') = same (λ h. 0) (λ h. 0) zero_agrees in
+      let names : n ≡ m = cc (first) in
+      let texts : text ≡ text' = cc (first) in
+      subst (λ m. Paired pairs (steps.MakeLink h n text) (steps.MakeLink k m text')) names
+      (subst (λ text'. Paired pairs (steps.MakeLink h n text) (steps.MakeLink k n text')) texts
+      (make_link' h k n text (λ f g agree. let e : ◌≡◌ {A = StepOf ℕ} (steps.MakeLink (f h) n text) (steps.MakeLink (g k) m text') = same f g agree in cc (e))))
+  paired_of (steps.RemoveFile h n) (steps.RemoveFile k m) same =
+      let first : ◌≡◌ {A = StepOf ℕ} (steps.RemoveFile 0 n) (steps.RemoveFile 0 m) = same (λ h. 0) (λ h. 0) zero_agrees in
+      let names : n ≡ m = cc (first) in
+      subst (λ m. Paired pairs (steps.RemoveFile h n) (steps.RemoveFile k m)) names (remove_file' h k n (λ f g agree. let e : ◌≡◌ {A = StepOf ℕ} (steps.RemoveFile (f h) n) (steps.RemoveFile (g k) m) = same f g agree in cc (e)))
+  paired_of (steps.RemoveDir h n) (steps.RemoveDir k m) same =
+      let first : ◌≡◌ {A = StepOf ℕ} (steps.RemoveDir 0 n) (steps.RemoveDir 0 m) = same (λ h. 0) (λ h. 0) zero_agrees in
+      let names : n ≡ m = cc (first) in
+      subst (λ m. Paired pairs (steps.RemoveDir h n) (steps.RemoveDir k m)) names (remove_dir' h k n (λ f g agree. let e : ◌≡◌ {A = StepOf ℕ} (steps.RemoveDir (f h) n) (steps.RemoveDir (g k) m) = same f g agree in cc (e)))
+  paired_of (steps.Rename h n d m mode) (steps.Rename k n' e m' mode') same =
+      let first : ◌≡◌ {A = StepOf ℕ} (steps.Rename 0 n 0 m mode) (steps.Rename 0 n' 0 m' mode') = same (λ h. 0) (λ h. 0) zero_agrees in
+      let old : n ≡ n' = cc (first) in
+      let new : m ≡ m' = cc (first) in
+      let modes : mode ≡ mode' = cc (first) in
+      subst (λ n'. Paired pairs (steps.Rename h n d m mode) (steps.Rename k n' e m' mode')) old
+      (subst (λ m'. Paired pairs (steps.Rename h n d m mode) (steps.Rename k n e m' mode')) new
+      (subst (λ mode'. Paired pairs (steps.Rename h n d m mode) (steps.Rename k n e m mode')) modes
+      (rename' h k n d e m mode
+      (λ f g agree. let q : ◌≡◌ {A = StepOf ℕ} (steps.Rename (f h) n (f d) m mode) (steps.Rename (g k) n' (g e) m' mode') = same f g agree in cc (q))
+      (λ f g agree. let q : ◌≡◌ {A = StepOf ℕ} (steps.Rename (f h) n (f d) m mode) (steps.Rename (g k) n' (g e) m' mode') = same f g agree in cc (q)))))
+  paired_of x y same = absurd (differ (same (λ h. 0) (λ h. 0) zero_agrees))
+    where
+      differ : step_by (λ h. 0) x ≡ step_by (λ h. 0) y → ⊥
+      differ e = cc (e)
+
+-- ---- what a step comes to in both trees
+
+pub data AlikeEnds (s t : State) (a : ℕ) (pairs : Pairs) : Outcome → Outcome → Type 0 where
+  tells : (answer : Answer) → only_tells answer ≡ true → AlikeEnds s t a pairs (answered s answer) (answered t answer)
+  opens_on : (x : ℕ) (what : Object)
+      → AlikeEnds s t a pairs (record { answer = Opened (length s.handles) x (kind_of what); after = with_handle s a x })
+      (record { answer = Opened (length t.handles) x (kind_of what); after = with_handle t a x })
+  closes : (h k : ℕ) → ((j l : ℕ) → pairs j l ≡ true → (h ≡ j → k ≡ l) × (k ≡ l → h ≡ j))
+      → AlikeEnds s t a pairs (record { answer = Done; after = record { nodes = s.nodes; handles = slice_set s.handles h None } })
+      (record { answer = Done; after = record { nodes = t.nodes; handles = slice_set t.handles k None } })
+  changes_to : (nodes : List Inode)
+      → AlikeEnds s t a pairs (record { answer = Done; after = record { nodes = nodes; handles = s.handles } })
+      (record { answer = Done; after = record { nodes = nodes; handles = t.handles } })
+
+-- of the second tree the handles alone are its own
+abbrev pub other : State → List (Option OpenHandle) → State
+other s handles = record { nodes = s.nodes; handles = handles }
+
+module _ (pairs : Pairs) (s : State) (handles : List (Option OpenHandle)) (a : ℕ) where
+  abbrev Ends : Outcome → Outcome → Type 0
+  Ends o u = AlikeEnds s (other s handles) a pairs o u
+
+  on_both : (o p : Option ℕ) → o ≡ p → (F G : ℕ → Outcome) → ((x : ℕ) → Ends (F x) (G x))
+      → Ends (with_some o (refused s BadHandle) F) (with_some p (refused (other s handles) BadHandle) G)
+  on_both o p e F G r = subst (λ p. Ends (with_some o (refused s BadHandle) F) (with_some p (refused (other s handles) BadHandle) G)) e (by o)
+    where
+      by : (o : Option ℕ) → Ends (with_some o (refused s BadHandle) F) (with_some o (refused (other s handles) BadHandle) G)
+      by None = tells (Refused BadHandle) refl
+      by (Some x) = r x
+
+  some_both : {A : Type 0} (o : Option A) (error : Errno) (F G : A → Outcome) → ((x : A) → Ends (F x) (G x))
+      → Ends (with_some o (refused s error) F) (with_some o (refused (other s handles) error) G)
+  some_both None error F G r = tells (Refused error) refl
+  some_both (Some x) error F G r = r x
+
+  if_both : (b c : Bool) → b ≡ c → (error : Errno) (o u : Outcome) → Ends o u → Ends (refuse_if b (refused s error) o) (refuse_if c (refused (other s handles) error) u)
+  if_both true true e error o u r = tells (Refused error) refl
+  if_both false false e error o u r = r
+  if_both true false e error o u r = absurd (true≢false e)
+  if_both false true e error o u r = absurd (false≢true e)
+
+  opens_both : is_full s a ≡ is_full (other s handles) a → (x : ℕ) → Ends (opens s a x) (opens (other s handles) a x)
+  opens_both same x =
+      if_both (is_full s a) (is_full (other s handles) a) same TooMany _ _
+      (some_both (object_at s.nodes x) NotFound _ _ (λ what. opens_on x what))
+
+  reads_both : (o : Option Object) → Ends (reads s o) (reads (other s handles) o)
+  reads_both None = tells (Refused Invalid) refl
+  reads_both (Some object.Dir) = tells (Refused Invalid) refl
+  reads_both (Some object.File) = tells (Refused Invalid) refl
+  reads_both (Some (object.Link text)) = tells (Text text) refl
+
+  shows_both : (names : Option (List (List ℕ))) → Ends (shows s names) (shows (other s handles) names)
+  shows_both None = tells NotBelow refl
+  shows_both (Some names) = tells (Names (reverse names)) refl
+
+  changes_both : (changed : Result (List Inode) Errno) → Ends (changes s changed) (changes (other s handles) changed)
+  changes_both (Err error) = tells (Refused error) refl
+  changes_both (Ok nodes) = changes_to nodes
+
+  ends_both : AlikeTrees pairs s (other s handles) → (x y : StepOf ℕ) → is_full s a ≡ is_full (other s handles) a → Paired pairs x y → Ends (outcome s a x) (outcome (other s handles) a y)
+  ends_both alike x y same (open' h k n p) =
+      on_both _ _ (same_held pairs s (other s handles) alike a h k p) _ _ (λ d.
+      if_both (not (is_dir s.nodes d)) _ refl NotDir _ _ (some_both (child s.nodes d n) NotFound _ _ (λ c. opens_both same c)))
+  ends_both alike x y same (dup' h k p) = on_both _ _ (same_held pairs s (other s handles) alike a h k p) _ _ (λ d. opens_both same d)
+  ends_both alike x y same (parent' h k p) =
+      on_both _ _ (same_held pairs s (other s handles) alike a h k p) _ _ (λ d.
+      if_both (not (is_dir s.nodes d)) _ refl NotDir _ _ (some_both (parent s.nodes d) NotFound _ _ (λ c. opens_both same c)))
+  ends_both alike x y same (read' h k p) = on_both _ _ (same_held pairs s (other s handles) alike a h k p) _ _ (λ d. reads_both (object_at s.nodes d))
+  ends_both alike x y same (below' r q h k p p') =
+      on_both _ _ (same_held pairs s (other s handles) alike a r q p) _ _ (λ top.
+      on_both _ _ (same_held pairs s (other s handles) alike a h k p') _ _ (λ d. shows_both (names_below s.nodes top d)))
+  ends_both alike x y same (list' h k p) =
+      on_both _ _ (same_held pairs s (other s handles) alike a h k p) _ _ (λ d.
+      if_both (not (is_dir s.nodes d)) _ refl NotDir _ _ (tells (Listed (sorted_names (names_in s.nodes d))) refl))
+  ends_both alike x y same (close' h k p) =
+      on_both _ _ (same_held pairs s (other s handles) alike a h k p) _ _ (λ d. closes h k (together pairs s (other s handles) alike h k p))
+  ends_both alike x y same (make_dir' h k n p) =
+      on_both _ _ (same_held pairs s (other s handles) alike a h k p) _ _ (λ d. changes_both (makes s.nodes d n object.Dir))
+  ends_both alike x y same (make_file' h k n p) =
+      on_both _ _ (same_held pairs s (other s handles) alike a h k p) _ _ (λ d. changes_both (makes s.nodes d n object.File))
+  ends_both alike x y same (make_link' h k n text p) =
+      on_both _ _ (same_held pairs s (other s handles) alike a h k p) _ _ (λ d. changes_both (makes_link s.nodes d n text))
+  ends_both alike x y same (remove_file' h k n p) =
+      on_both _ _ (same_held pairs s (other s handles) alike a h k p) _ _ (λ d. changes_both (removes_file s.nodes d n))
+  ends_both alike x y same (remove_dir' h k n p) =
+      on_both _ _ (same_held pairs s (other s handles) alike a h k p) _ _ (λ d. changes_both (removes_dir s.nodes d n))
+  ends_both alike x y same (rename' h k n j l m mode p p') =
+      on_both _ _ (same_held pairs s (other s handles) alike a h k p) _ _ (λ d.
+      on_both _ _ (same_held pairs s (other s handles) alike a j l p') _ _ (λ e. changes_both (renames s.nodes d n e m mode)))
+
+same_full : {pairs : Pairs} {s t : State} → AlikeTrees pairs s t → (a : ℕ) → is_full s a ≡ is_full t a
+same_full alike a = λ i. nat_le HANDLES_MAX (alike.held_handles a i) || nat_le NUMBERS_MAX (alike.numbers i)
+
+pub ends_alike : (pairs : Pairs) (s t : State) (a : ℕ) → AlikeTrees pairs s t → (x y : StepOf ℕ) → Paired pairs x y → AlikeEnds s t a pairs (outcome s a x) (outcome t a y)
+ends_alike pairs s t a alike x y p = go t.nodes alike.nodes alike
+  where
+    go : (nodes : List Inode) → s.nodes ≡ nodes → AlikeTrees pairs s (record { nodes = nodes; handles = t.handles })
+        → AlikeEnds s (record { nodes = nodes; handles = t.handles }) a pairs (outcome s a x) (outcome (record { nodes = nodes; handles = t.handles }) a y)
+    go nodes e =
+        subst (λ nodes. AlikeTrees pairs s (record { nodes = nodes; handles = t.handles })
+        → AlikeEnds s (record { nodes = nodes; handles = t.handles }) a pairs (outcome s a x) (outcome (record { nodes = nodes; handles = t.handles }) a y))
+        e (λ same. ends_both pairs s t.handles a same x y (same_full same a) p)
+
+-- ---- the trees after it
+
+-- one pair more
+abbrev pub grown : Pairs → ℕ → ℕ → Pairs
+grown pairs h k j l = pairs j l || ((j == h) && (l == k))
+
+grown_old : (pairs : Pairs) (h k j l : ℕ) → pairs j l ≡ true → grown pairs h k j l ≡ true
+grown_old pairs h k j l p = ap (λ b. b || ((j == h) && (l == k))) p
+
+grown_cases : (pairs : Pairs) (h k j l : ℕ) → grown pairs h k j l ≡ true → (pairs j l ≡ true) ⊎ ((j ≡ h) × (l ≡ k))
+grown_cases pairs h k j l p = by (pairs j l) (j == h) (l == k) refl refl refl p
+  where
+    by : (b c d : Bool) → pairs j l ≡ b → (j == h) ≡ c → (l == k) ≡ d → (b || (c && d)) ≡ true → (pairs j l ≡ true) ⊎ ((j ≡ h) × (l ≡ k))
+    by true c d e e' e'' q = inl e
+    by false true true e e' e'' q = inr (eqb-true j h e', eqb-true l k e'')
+    by false true false e e' e'' q = absurd (false≢true q)
+    by false false d e e' e'' q = absurd (false≢true q)
+
+grown_new : (pairs : Pairs) (h k : ℕ) → grown pairs h k h k ≡ true
+grown_new pairs h k = by (pairs h k) (h == h) (k == k) (eq-eqb h h refl) (eq-eqb k k refl)
+  where
+    by : (b c d : Bool) → c ≡ true → d ≡ true → (b || (c && d)) ≡ true
+    by true c d e e' = refl
+    by false c d e e' = λ i. e i && e' i
+
+-- what was paired still is, and the answers are the same but for pairs
+pub record AfterStep (pairs : Pairs) (o u : Outcome) : Type 0 where
+  pub more : Pairs
+  pub grows : (h k : ℕ) → pairs h k ≡ true → more h k ≡ true
+  pub trees : AlikeTrees more o.after u.after
+  pub answers : SameAnswers more o.answer u.answer
+
+blind_answer : (answer : Answer) → only_tells answer ≡ true → (f : ℕ → ℕ) → answer_by f answer ≡ answer
+blind_answer (Opened h x kind) e f = absurd (false≢true e)
+blind_answer (Text text) e f = refl
+blind_answer (Names names) e f = refl
+blind_answer NotBelow e f = refl
+blind_answer (Listed names) e f = refl
+blind_answer Done e f = refl
+blind_answer (Refused error) e f = refl
+
+-- a handle more, of the next number
+paired_more : (entry : Option OpenHandle) (s t u v : State) → u.handles ≡ s.handles ++ entry ∷ [] → v.handles ≡ t.handles ++ entry ∷ []
+    → (h k : ℕ) → (IsPair s t h k) ⊎ ((h ≡ length s.handles) × (k ≡ length t.handles)) → IsPair u v h k
+paired_more entry s t u v e e' h k (inl old) = record {
+  here = omega (arith, old.here, ap length e, length-append s.handles (entry ∷ []));
+  there = omega (arith, old.there, ap length e', length-append t.handles (entry ∷ []));
+  same = ap (λ hs. slice_get hs h) e ∙ before s.handles (entry ∷ []) h old.here ∙ old.same
+      ∙ sym (before t.handles (entry ∷ []) k old.there) ∙ sym (ap (λ ks. slice_get ks k) e');
+}
+paired_more entry s t u v e e' h k (inr new) = record {
+  here = omega (arith, new.0, ap length e, length-append s.handles (entry ∷ []));
+  there = omega (arith, new.1, ap length e', length-append t.handles (entry ∷ []));
+  same = ap (λ hs. slice_get hs h) e ∙ ap (slice_get (s.handles ++ entry ∷ [])) new.0 ∙ slice_get-last s.handles entry
+      ∙ sym (slice_get-last t.handles entry) ∙ sym (ap (slice_get (t.handles ++ entry ∷ [])) new.1) ∙ sym (ap (λ ks. slice_get ks k) e');
+}
+
+apart_more : {pairs : Pairs} {s t : State} → AlikeTrees pairs s t → (h k j l : ℕ)
+    → (pairs h k ≡ true) ⊎ ((h ≡ length s.handles) × (k ≡ length t.handles)) → (pairs j l ≡ true) ⊎ ((j ≡ length s.handles) × (l ≡ length t.handles))
+    → (h ≡ j → k ≡ l) × (k ≡ l → h ≡ j)
+apart_more alike h k j l (inl p) (inl q) = alike.apart h k j l p q
+apart_more alike h k j l (inl p) (inr new) =
+    let old = alike.paired h k p in
+    ((λ e. absurd (omega (arith, old.here, new.0))), (λ e. absurd (omega (arith, old.there, new.1))))
+apart_more alike h k j l (inr new) (inl q) =
+    let old = alike.paired j l q in
+    ((λ e. absurd (omega (arith, old.here, new.0))), (λ e. absurd (omega (arith, old.there, new.1))))
+apart_more alike h k j l (inr new) (inr newer) = ((λ e. new.1 ∙ sym newer.1), (λ e. new.0 ∙ sym newer.0))
+
+-- a handle less in both
+paired_fewer : (s t u v : State) (h k j l : ℕ) → u.handles ≡ slice_set s.handles h None → v.handles ≡ slice_set t.handles k None
+    → (h ≡ j → k ≡ l) × (k ≡ l → h ≡ j) → IsPair s t j l → IsPair u v j l
+paired_fewer s t u v h k j l e e' both old = record {
+  here = omega (arith, old.here, ap length e, length-set s.handles h None);
+  there = omega (arith, old.there, ap length e', length-set t.handles k None);
+  same = ap (λ hs. slice_get hs j) e ∙ ⊎_elim closed another (cases_eq h j) ∙ sym (ap (λ ks. slice_get ks l) e');
+}
+  where
+    closed : h ≡ j → slice_get (slice_set s.handles h None) j ≡ slice_get (slice_set t.handles k None) l
+    closed q =
+        let q' : k ≡ l = both.0 q in
+        subst (λ j. slice_get (slice_set s.handles h None) j ≡ Some None) q (set_at s.handles h None (omega (arith, old.here)))
+        ∙ sym (subst (λ l. slice_get (slice_set t.handles k None) l ≡ Some None) q' (set_at t.handles k None (omega (arith, old.there))))
+
+    another : h ≢ j → slice_get (slice_set s.handles h None) j ≡ slice_get (slice_set t.handles k None) l
+    another ne = set_other s.handles h None j (λ q. ne (sym q)) ∙ old.same ∙ sym (set_other t.handles k None l (λ q. ne (both.1 (sym q))))
+
+after_ends : {pairs : Pairs} {s t : State} {a : ℕ} {o u : Outcome} → AlikeTrees pairs s t → AlikeEnds s t a pairs o u
+    → open_count o.after ≡ open_count u.after → ((b : ℕ) → held_count o.after b ≡ held_count u.after b) → AfterStep pairs o u
+after_ends {pairs} alike (tells answer e) open_handles held_handles = record {
+  more = pairs;
+  grows = λ h k p. p;
+  trees = alike;
+  answers = λ f g agree. blind_answer answer e f ∙ sym (blind_answer answer e g);
+}
+after_ends {pairs} {s} {t} {a} alike (opens_on x what) open_handles held_handles =
+    let entry : Option OpenHandle = Some (record { actor = a; node = x }) in record {
+      more = grown pairs (length s.handles) (length t.handles);
+      grows = λ h k p. grown_old pairs (length s.handles) (length t.handles) h k p;
+      trees = record {
+        nodes = alike.nodes;
+        numbers = omega (arith, alike.numbers, length-append s.handles (entry ∷ []), length-append t.handles (entry ∷ []));
+        open_handles = open_handles;
+        held_handles = held_handles;
+        paired = λ h k p. paired_more entry s t (with_handle s a x) (with_handle t a x) refl refl h k
+            (⊎_elim (λ old. inl (alike.paired h k old)) (λ new. inr new) (grown_cases pairs (length s.handles) (length t.handles) h k p));
+        apart = λ h k j l p q. apart_more alike h k j l
+            (grown_cases pairs (length s.handles) (length t.handles) h k p) (grown_cases pairs (length s.handles) (length t.handles) j l q);
+      };
+      answers = λ f g agree. ap (λ h. Opened h x (kind_of what)) (agree (length s.handles) (length t.handles) (grown_new pairs (length s.handles) (length t.handles)));
+    }
+after_ends {pairs} {s} {t} alike (closes h k both) open_handles held_handles = record {
+  more = pairs;
+  grows = λ h k p. p;
+  trees = record {
+    nodes = alike.nodes;
+    numbers = omega (arith, alike.numbers, length-set s.handles h None, length-set t.handles k None);
+    open_handles = open_handles;
+    held_handles = held_handles;
+    paired = λ j l p. paired_fewer s t _ _ h k j l refl refl (both j l p) (alike.paired j l p);
+    apart = alike.apart;
+  };
+  answers = λ f g agree. refl;
+}
+after_ends {pairs} {s} {t} alike (changes_to nodes) open_handles held_handles = record {
+  more = pairs;
+  grows = λ h k p. p;
+  trees = record {
+    nodes = refl;
+    numbers = alike.numbers;
+    open_handles = open_handles;
+    held_handles = held_handles;
+    paired = λ h k p. let old = alike.paired h k p in record { here = old.here; there = old.there; same = old.same };
+    apart = alike.apart;
+  };
+  answers = λ f g agree. refl;
+}
+
+-- ---- the counts after it
+
+blind_close : (f : ℕ → ℕ) (step : StepOf ℕ) → is_close (step_by f step) ≡ is_close step
+blind_close f (steps.Open h n) = refl
+blind_close f (steps.Dup h) = refl
+blind_close f (steps.Parent h) = refl
+blind_close f (steps.ReadLink h) = refl
+blind_close f (steps.NameBelow r h) = refl
+blind_close f (steps.List h) = refl
+blind_close f (steps.Close h) = refl
+blind_close f (steps.MakeDir h n) = refl
+blind_close f (steps.MakeFile h n) = refl
+blind_close f (steps.MakeLink h n text) = refl
+blind_close f (steps.RemoveFile h n) = refl
+blind_close f (steps.RemoveDir h n) = refl
+blind_close f (steps.Rename h n k m mode) = refl
+
+pub same_close : (pairs : Pairs) (x y : StepOf ℕ) → SameSteps pairs x y → is_close x ≡ is_close y
+same_close pairs x y same =
+    sym (blind_close (λ h. 0) x) ∙ ap is_close (same (λ h. 0) (λ h. 0) (zero_agrees pairs)) ∙ blind_close (λ h. 0) y
+
+abbrev closed_by : Answer → Bool → ℕ
+closed_by Done true = 1
+closed_by answer is_one = 0
+
+closed_is : (answer : Answer) (step : StepOf ℕ) → closed_count answer step ≡ closed_by answer (is_close step)
+closed_is Done (steps.Close h) = refl
+closed_is Done (steps.Open h n) = refl
+closed_is Done (steps.Dup h) = refl
+closed_is Done (steps.Parent h) = refl
+closed_is Done (steps.ReadLink h) = refl
+closed_is Done (steps.NameBelow r h) = refl
+closed_is Done (steps.List h) = refl
+closed_is Done (steps.MakeDir h n) = refl
+closed_is Done (steps.MakeFile h n) = refl
+closed_is Done (steps.MakeLink h n text) = refl
+closed_is Done (steps.RemoveFile h n) = refl
+closed_is Done (steps.RemoveDir h n) = refl
+closed_is Done (steps.Rename h n k m mode) = refl
+closed_is (Opened h x kind) step = refl
+closed_is (Text text) step = refl
+closed_is (Names names) step = refl
+closed_is NotBelow step = refl
+closed_is (Listed names) step = refl
+closed_is (Refused error) step = refl
+
+closed_same : (answer : Answer) (x y : StepOf ℕ) → is_close x ≡ is_close y → closed_count answer x ≡ closed_count answer y
+closed_same answer x y e = closed_is answer x ∙ ap (closed_by answer) e ∙ sym (closed_is answer y)
+
+counts_alike : {pairs : Pairs} {s t : State} {a : ℕ} {o u : Outcome} (x y : StepOf ℕ) → is_close x ≡ is_close y → AlikeEnds s t a pairs o u
+    → (opened_count o.answer ≡ opened_count u.answer) × (closed_count o.answer x ≡ closed_count u.answer y)
+counts_alike x y e (tells answer e') = (refl, closed_same answer x y e)
+counts_alike x y e (opens_on z what) = (refl, refl)
+counts_alike x y e (closes h k both) = (refl, closed_same Done x y e)
+counts_alike x y e (changes_to nodes) = (refl, closed_same Done x y e)
+
+-- By paired handles a step comes to the same on alike trees.
+pub steps_alike : (pairs : Pairs) (s t : State) (a : ℕ) → AlikeTrees pairs s t → (x y : StepOf ℕ) → SameSteps pairs x y → AfterStep pairs (outcome s a x) (outcome t a y)
+steps_alike pairs s t a alike x y same =
+    let ends = ends_alike pairs s t a alike x y (paired_of pairs x y same) in
+    let counts = counts_alike x y (same_close pairs x y same) ends in
+    let here = handles_are_counted s a x in
+    let there = handles_are_counted t a y in
+    after_ends alike ends
+    (omega (arith, here.1, there.1, counts.0, counts.1, alike.open_handles))
+    (λ b. ⊎_elim
+    (λ q. subst (λ b. held_count (outcome s a x).after b ≡ held_count (outcome t a y).after b) (sym q)
+    (omega (arith, here.0, there.0, counts.0, counts.1, alike.held_handles a)))
+    (λ ne. others_counts_stay s a x b ne ∙ alike.held_handles b ∙ sym (others_counts_stay t a y b ne))
+    (cases_eq b a))
