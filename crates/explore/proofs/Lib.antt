@@ -5,3 +5,6 @@ pub mod Steps
 pub mod Books
 pub mod Turns
 pub mod Worlds
+pub mod WantCalls
+pub mod WantWorlds
+pub mod SearchLaws

@@ -1,6 +1,8 @@
 //! What holds of every call and of alike worlds: laws, the contracts of functions without a body.
 ghost use Rattle.explore.specs.Alike.{AlikeWorldsTakeAlikeTurns, AlikeWorldsAreBusyAlike, AlikeWorldsTellTheSame, AlikeWorldsEndAlike};
 ghost use Rattle.explore.specs.Laws.{CallsBeginBlindly, StepsAreDueBlindly, AnswersAreTakenBlindly};
+ghost use Rattle.explore.specs.Search.{ChosenListsStandForAll, ReportsAreOfFullLists, FullListsAreReported};
+ghost use Rattle.explore.specs.Want.{WantIsTold, WantStays, RunsWithoutWantAreFull};
 
 /// A call looks at no handle's number. With other numbers in place of its handles' it begins in the same way, the same
 /// steps are due by those numbers, and their answers make the same of it.
@@ -17,4 +19,23 @@ pub fn alike_worlds_go_alike()
     ensures busy { AlikeWorldsAreBusyAlike }
     ensures tell { AlikeWorldsTellTheSame }
     ensures ends { AlikeWorldsEndAlike }
+{}
+
+/// Want of memory is told: a turn that lacked some is the turn with memory, or else its actor's call closes what it holds and
+/// fails so, whatever comes. So a run to the end without such a reply is the run with memory for all.
+pub fn want_is_told()
+    ensures told { WantIsTold }
+    ensures stays { WantStays }
+    ensures runs { RunsWithoutWantAreFull }
+{}
+
+/// What all schedules come to. A full list of turns has only turns of actors who have something left to do, and leaves
+/// nobody any. The report on a run of any schedule is that of a full list, and that on a full list is the list's own,
+/// where nobody in it lacked memory. And where of each list that was chosen, and each actor who has something left to do
+/// after it, one was chosen that leads to a world like that after the actor's turn, the chosen ones come to all that the
+/// full lists come to.
+pub fn chosen_lists_stand_for_all()
+    ensures chosen { ChosenListsStandForAll }
+    ensures reports { ReportsAreOfFullLists }
+    ensures lists { FullListsAreReported }
 {}

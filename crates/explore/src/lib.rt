@@ -6,4 +6,4 @@
 
 mod laws;
 
-pub use laws::{alike_worlds_go_alike, calls_are_blind};
+pub use laws::{alike_worlds_go_alike, calls_are_blind, chosen_lists_stand_for_all, want_is_told};
