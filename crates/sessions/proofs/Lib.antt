@@ -3,3 +3,4 @@ pub mod Calls
 pub mod Opens
 pub mod Closes
 pub mod Threads
+pub mod EachCall

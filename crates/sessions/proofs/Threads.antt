@@ -1,14 +1,13 @@
 -- A session's calls, and the walks in them, in a closed history.
-use Rattle.std.proofs.Common.{◌≡◌, ◌⊎◌, ℕ, zero, suc, ◌==◌, Bool, true, false, cond, if◌then◌else◌, List, [], ◌∷◌, ◌++◌, Option, Some, None, refl, sym, ap, ◌∙◌, subst, inl, inr, append-nil, append_assoc}
+use Rattle.std.proofs.Common.{◌≡◌, ℕ, ◌==◌, Bool, true, false, cond, if◌then◌else◌, List, [], ◌∷◌, ◌++◌, reverse, Option, Some, None, refl, sym, ap, ◌∙◌, subst, inl, inr, append_assoc}
 use Rattle.std.proofs.lemmas.Bool.{false≢true, eqb-true, eqb-false}
 use Rattle.path_text.specs.declared.errno.Errno.{Errno}
-use Rattle.path_text.specs.declared.errno.Errno.TheVariants.{NoMemory, NotFound}
+use Rattle.path_text.specs.declared.errno.Errno.TheVariants.{NoMemory}
 use Rattle.path_text.specs.Reading.{Reading}
 use Rattle.path_text.specs.Text.{text_fault, reading_of}
 use Rattle.tree_model.specs.declared.answer.Event.{Event}
 use Rattle.tree_model.specs.History.{IsLegal, after_event, after_events}
-use Rattle.tree_model.specs.State.{State, is_dir}
-use Rattle.tree_model.specs.StepLaws.{is_close_of}
+use Rattle.tree_model.specs.State.{State}
 use Rattle.tree_model.specs.Steps.{held}
 use Rattle.tree_model.proofs.HistoryLaws.{IsLegal-front, IsLegal-back}
 use Rattle.tree_model.proofs.StepLaws.{own_handles_stay, others_handles_stay}
@@ -28,14 +27,14 @@ use Rattle.root_ops.specs.declared.op.Op.TheVariants.{Resolve}
 use Rattle.root_ops.specs.declared.op.Request.{Request}
 use Rattle.root_ops.specs.declared.reply.Reply.{Reply as Told}
 use Rattle.root_ops.specs.declared.reply.Reply.TheVariants.{Opened, Text, Done, Count, Stepped, Kept, Fault}
-use Rattle.root_ops.specs.CallHistory.{CallInHistory, actor_of, begin_of, end_of, IsCallInHistory, RepliesWith, HandlesAfter, CallsTell}
-use Rattle.root_ops.specs.Order.{Reply, opened, link_text, done, count, stepped, kept, fault, ends, starts, walked, way_of, unless_fault, walks, LeadsTo}
-use Rattle.root_ops.specs.Quiet.{IsQuiet, ClosesWhatIsOpen, ComesTo, caller_of, QuietCallsMean}
+use Rattle.root_ops.specs.CallHistory.{CallInHistory, begin_of, IsCallInHistory, CallsTell}
+use Rattle.root_ops.specs.Order.{Reply, opened, fault, ends, starts, walked, unless_fault, walks, LeadsTo}
+use Rattle.root_ops.specs.Quiet.{QuietCallsMean}
 use Rattle.root_ops.specs.TurnView.{below_of}
 use Rattle.root_ops.specs.View.{reply_view}
 use Rattle.root_ops.proofs.Handles.OwnEvents.{events_append, cut}
-use Rattle.root_ops.proofs.Handles.WalkParts.{IsEnded, WalkEnds, walk_ends, HasRoot, root_later}
-use Rattle.sessions.specs.Call.{logs, root_of, Called}
+use Rattle.root_ops.proofs.Handles.WalkParts.{IsEnded, walk_ends, HasRoot, root_later}
+use Rattle.sessions.specs.Call.{root_of}
 use Rattle.sessions.specs.Session.{SessionView}
 use Rattle.sessions.specs.Threads.{NoneCloses, IsHistory, Around, CallsStandInOrder, IsPlaced, WalksInThreads, IsCallPlaced, CallsInThreads, WalkTells, ResolveTells, ResolvesInThreads, way_of_resolve}
 
@@ -87,18 +86,22 @@ root_at below opening events before node is none =
 
 -- ---- calls
 
-pub calls_in_threads : CallsTell → QuietCallsMean → CallsInThreads
-calls_in_threads tell mean c after reply is replies =
+pub call_is_there : (c : CallInHistory) (after : List Event) → IsCallPlaced c after → IsCallInHistory c
+call_is_there c after is =
     let has = root_at c.below c.opening (c.before ++ (c.window ++ after)) c.before c.root is.history is.unclosed in
     let legal_after = IsLegal-back c.opening c.before (c.window ++ after) is.history.legal in
-    let placed : IsCallInHistory c = record {
+    record {
       tree = is.history.tree;
       legal_before = IsLegal-front c.opening c.before (c.window ++ after) is.history.legal;
       legal = IsLegal-front (begin_of c) c.window after legal_after;
       own = is.own;
       root = has.root;
       root_is_dir = has.root_is_dir;
-    } in
+    }
+
+pub calls_in_threads : CallsTell → QuietCallsMean → CallsInThreads
+calls_in_threads tell mean c after reply is replies =
+    let placed = call_is_there c after is in
     (tell c reply placed replies, λ quiet closes. mean c reply placed replies quiet closes)
 
 -- ---- walks
@@ -149,11 +152,11 @@ walks_in_threads every opening events root node way path lines end earlier later
 
 -- ---- one session's Resolve
 
-at_its_end : (below : Below) (r told : Reply) (lines : List Line) → LeadsTo below (ends r) lines (ends told) → r ≡ told
+pub at_its_end : (below : Below) (r told : Reply) (lines : List Line) → LeadsTo below (ends r) lines (ends told) → r ≡ told
 at_its_end below r told [] e = cc (e)
 at_its_end below r told (line ∷ lines) e = absurd e
 
-is_fault : (reply : Told) (error : Errno) → fault error ≡ reply_view reply → reply ≡ Fault error
+pub is_fault : (reply : Told) (error : Errno) → fault error ≡ reply_view reply → reply ≡ Fault error
 is_fault (Opened standing) error q = cc (q)
 is_fault (Text text) error q = cc (q)
 is_fault Done error q = cc (q)
@@ -162,15 +165,19 @@ is_fault (Stepped answer) error q = cc (q)
 is_fault (Kept standing) error q = cc (q)
 is_fault (Fault other) error q = let same : error ≡ other = cc (q) in ap (λ x. Fault x) (sym same)
 
-is_opened : (reply : Told) (handle : Handle) (names : List (List ℕ)) → opened handle names ≡ reply_view reply
-    → (standing : StandingObject) × ((reply ≡ Opened standing) × (handle ≡ standing_handle standing))
-is_opened (Opened standing) handle names q = (standing, (refl, cc (q)))
+pub is_opened : (reply : Told) (handle : Handle) (names : List (List ℕ)) → opened handle names ≡ reply_view reply
+    → (standing : StandingObject) × ((reply ≡ Opened standing) × ((handle ≡ standing_handle standing) × (names ≡ reverse standing.names)))
+is_opened (Opened standing) handle names q = (standing, (refl, (cc (q), cc (q))))
 is_opened (Text text) handle names q = cc (q)
 is_opened Done handle names q = cc (q)
 is_opened (Count n) handle names q = cc (q)
 is_opened (Stepped answer) handle names q = cc (q)
 is_opened (Kept standing) handle names q = cc (q)
 is_opened (Fault other) handle names q = cc (q)
+
+by_parts : (handle : Handle) (names : List (List ℕ)) (standing : StandingObject) → handle ≡ standing_handle standing → names ≡ reverse standing.names
+    → found handle names ≡ found (standing_handle standing) (reverse standing.names)
+by_parts handle names standing same_handle same_names = ap (λ (h : Handle). found h names) same_handle ∙ ap (found (standing_handle standing)) same_names
 
 module _ (every : EveryWalk) (opening : State) (events : List Event) (session : SessionView) (request : Request) (reply : Told) (node : ℕ) (path : List ℕ) (lines : List Line) (later : List Event)
     (is : IsHistory opening events (root_of session) node) (none : NoneCloses session.root session.log)
@@ -199,7 +206,7 @@ module _ (every : EveryWalk) (opening : State) (events : List Event) (session : 
   by_end room first rest (found handle names) whole leads ended onward =
       let told = is_opened reply handle names (at_its_end below (opened handle names) (reply_view reply) rest onward) in
       let tells = walk_so first rest (found handle names) whole leads in
-      subst Says (sym told.1.0) (names, subst (λ (h : Handle). WalkTells opening events session request node path (found h names)) told.1.1 tells)
+      subst Says (sym told.1.0) (subst (λ (end : Turn). WalkTells opening events session request node path end) (by_parts handle names told.0 told.1.1.0 told.1.1.1) tells)
   by_end room first rest (partial handle names others) whole leads ended onward =
       let tells = walk_so first rest (partial handle names others) whole leads in
       absurd (false≢true (sym (ap (λ (way : Way). is_deepest way.goal) tells.way) ∙ tells.headline.tells.goal))

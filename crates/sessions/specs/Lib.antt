@@ -4,3 +4,4 @@ pub mod Call
 pub mod Open
 pub mod Close
 pub mod Threads
+pub mod EachCall

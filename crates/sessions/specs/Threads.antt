@@ -1,6 +1,5 @@
 -- What the calls of sessions tell in the history that a closed service gives.
-use Rattle.std.specs.Prelude.{◌≡◌, ℕ, ◌⊎◌, List, [], ◌∷◌, ◌++◌, Bool, true, false, Some, None}
-use Rattle.path_text.specs.declared.errno.Errno.{Errno}
+use Rattle.std.specs.Prelude.{◌≡◌, ℕ, ◌⊎◌, List, [], ◌∷◌, ◌++◌, true, false, reverse, Some}
 use Rattle.path_text.specs.declared.errno.Errno.TheVariants.{NoMemory}
 use Rattle.path_text.specs.Text.{text_fault, reading_of}
 use Rattle.path_text.specs.Reading.{Reading}
@@ -18,7 +17,6 @@ use Rattle.step_resolver.specs.Headline.{Headline}
 use Rattle.step_resolver.specs.View.{way_from}
 use Rattle.step_resolver.specs.WalkHistory.{WalkInHistory, own_events}
 use Rattle.step_resolver.specs.TurnView.{standing_handle}
-use Rattle.handles.specs.Objects.{StandingObject}
 use Rattle.root_ops.specs.CallHistory.{CallInHistory, actor_of, end_of, RepliesWith, HandlesAfter}
 use Rattle.root_ops.specs.declared.op.Op.TheVariants.{Resolve}
 use Rattle.root_ops.specs.declared.op.Request.{Request}
@@ -107,7 +105,7 @@ pub record WalkTells (opening : State) (events : List Event) (session : SessionV
 -- what the reply to a Resolve tells; other replies don't come
 abbrev pub ResolveTells : State → List Event → SessionView → Request → ℕ → List ℕ → Told → Type 0
 ResolveTells opening events session request node path (Opened standing) =
-    (names : List (List ℕ)) × WalkTells opening events session request node path (found (standing_handle standing) names)
+    WalkTells opening events session request node path (found (standing_handle standing) (reverse standing.names))
 ResolveTells opening events session request node path (Fault error) =
     (text_fault path ≡ Some error) ⊎ ((error ≡ NoMemory) ⊎ WalkTells opening events session request node path (failed error))
 ResolveTells opening events session request node path other = ⊥

@@ -1,7 +1,8 @@
 //! What the calls of sessions tell in a closed history: laws, each the contract of a function without a body.
+ghost use Rattle.sessions.specs.EachCall.{EachCallTells};
 ghost use Rattle.sessions.specs.Threads.{CallsStandInOrder, WalksInThreads, CallsInThreads, ResolvesInThreads};
 
-use root_ops::{calls_tell, quiet_calls_mean};
+use root_ops::{bulk_calls_tell, calls_tell, quiet_calls_mean};
 use step_resolver::headline;
 
 /// What a session logged by a call stands in the history after all that it had logged before, and before all that it logs
@@ -38,4 +39,17 @@ pub fn resolve_tells_in_threads()
     ensures { ResolvesInThreads }
 {
     headline();
+}
+
+/// One session's call, outright: its place in the closed history; which handles it leaves open; where no other session's
+/// event falls in its window, that the reply and the nodes after it are those of the operation done whole. Of a MkdirAll
+/// and a RemoveAll, whoever acts meanwhile, which entries it made or took away and why it failed (mkdir(2), unlink(2),
+/// rmdir(2)), and of the walk with which it begins the headline.
+pub fn each_call_tells_in_threads()
+    ensures { EachCallTells }
+{
+    headline();
+    calls_tell();
+    quiet_calls_mean();
+    bulk_calls_tell();
 }

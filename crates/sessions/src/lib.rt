@@ -20,7 +20,8 @@ mod tests;
 pub use close::{CloseCause, CloseRefusal, Closed, Stopped};
 pub use gate::{Gate, NoGate, Pause};
 pub use laws::{
-    calls_stand_in_order, calls_tell_in_threads, resolve_tells_in_threads, walks_tell_in_threads,
+    calls_stand_in_order, calls_tell_in_threads, each_call_tells_in_threads,
+    resolve_tells_in_threads, walks_tell_in_threads,
 };
 pub use open::{OpenCause, OpenRefusal, SESSIONS_MAX};
 pub use service::Service;
