@@ -3,8 +3,8 @@
 //!
 //! Without arguments each of the smaller workloads runs once, and how much of it was done is printed. `walks` times
 //! resolutions on the tree and on a book over it, `calls` operations as calls and by walks and steps of one's own, `bulk`
-//! calls that make or remove many entries, `steps` single steps and building, and `cache` look-ups and removals with one
-//! entry remembered and with many. `repeat KIND WORKLOAD COUNT` runs one workload so often, for a program that counts from
+//! calls that make or remove many entries, `steps` single steps and building, `cache` look-ups and removals with one
+//! entry remembered and with many, and `world` a world of 64 actors. `repeat KIND WORKLOAD COUNT` runs one workload so often, for a program that counts from
 //! outside. Nothing is claimed of time; what a walk or a call comes to is what its own crate proves of it.
 #![tactic(auto)]
 
@@ -18,6 +18,7 @@ mod steps;
 mod tree;
 mod walks;
 mod workload;
+mod worlds;
 
 use anyhow::bail;
 use bulk::{BULK_WORKLOADS, time_all_bulk, time_bulk};
@@ -27,6 +28,7 @@ use repeat::repeat;
 use steps::{STEP_WORKLOADS, time_all_steps, time_indexed, turns_of};
 use walks::{time_all_walks, time_walks};
 use workload::{WORKLOADS, paths_of};
+use worlds::{RESOLVED_MAX, time_world};
 
 /// The most files of a workload that is run without being timed, and the most entries that a bulk call then has.
 const FEW_FILES: u32 = 1_000;
@@ -63,6 +65,20 @@ fn answer_calls(rt: &HostRuntime) -> anyhow::Result<()> {
     Ok(())
 }
 
+// How many events a world has.
+fn answer_worlds(rt: &HostRuntime) -> anyhow::Result<()> {
+    let (_, events) = time_world(rt, 10)?;
+    println!(rt; "world: {events} events")?;
+    Ok(())
+}
+
+// The greatest world, timed once.
+fn time_greatest_world(rt: &HostRuntime) -> anyhow::Result<()> {
+    let (took, events) = time_world(rt, RESOLVED_MAX)?;
+    println!(rt; "world\t{took}\t{events}")?;
+    Ok(())
+}
+
 // How many steps of each kind are done.
 fn answer_steps(rt: &HostRuntime) -> anyhow::Result<()> {
     for (name, work, files, _) in STEP_WORKLOADS {
@@ -87,6 +103,7 @@ fn main(rt: HostRuntime) -> anyhow::Result<()> {
         [] => {
             answer_walks(&rt)?;
             answer_calls(&rt)?;
+            answer_worlds(&rt)?;
             answer_steps(&rt)
         }
         [word] if word.as_str() == "walks" => time_all_walks(&rt),
@@ -94,6 +111,7 @@ fn main(rt: HostRuntime) -> anyhow::Result<()> {
         [word] if word.as_str() == "bulk" => time_all_bulk(&rt),
         [word] if word.as_str() == "steps" => time_all_steps(&rt),
         [word] if word.as_str() == "cache" => time_cache(&rt),
+        [word] if word.as_str() == "world" => time_greatest_world(&rt),
         [word, kind, name, count] if word.as_str() == "repeat" => {
             let count = count.as_str().parse::<u32>()?;
             let (took, done) = repeat(&rt, kind.as_str(), name.as_str(), count)?;
@@ -102,7 +120,7 @@ fn main(rt: HostRuntime) -> anyhow::Result<()> {
         }
         _ => {
             bail!(
-                "usage: bench [walks | calls | bulk | steps | cache | repeat KIND WORKLOAD COUNT]"
+                "usage: bench [walks | calls | bulk | steps | cache | world | repeat KIND WORKLOAD COUNT]"
             )
         }
     }

@@ -6,6 +6,7 @@ use crate::steps::{STEP_WORKLOADS, time_indexed, turns_of};
 use crate::tree::CACHED_ENTRIES;
 use crate::walks::time_walks;
 use crate::workload::WORKLOADS;
+use crate::worlds::time_world;
 use anyhow::bail;
 
 // Resolutions, on the tree or on a book over it.
@@ -67,6 +68,7 @@ pub fn repeat(rt: &HostRuntime, kind: &str, name: &str, count: u32) -> anyhow::R
         "step" => steps(rt, name, count),
         "few" => cached(rt, name, 1, count),
         "many" => cached(rt, name, CACHED_ENTRIES, count),
+        "world" => time_world(rt, count),
         _ => bail!("no kind is called {kind}"),
     }
 }
