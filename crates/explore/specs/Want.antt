@@ -14,7 +14,7 @@ use Rattle.race_core.specs.declared.report.Outcome.TheVariants as outcomes
 use Rattle.race_core.specs.declared.seat.Seat.{Seat}
 use Rattle.race_core.specs.Book.{BookedHistory}
 use Rattle.race_core.specs.Turns.{Luck, turned}
-use Rattle.race_core.specs.Worlds.{WorldView, turn, ledgers_in, replies_in, AllOver, Runs}
+use Rattle.race_core.specs.Worlds.{WorldView, ledgers_in, replies_in, AllOver, Runs}
 use Rattle.explore.specs.Alike.{full, after_turns}
 
 abbrev pub is_want : Errno → Bool
