@@ -2,3 +2,4 @@ pub mod Growth
 pub mod Again
 pub mod Pieces
 pub mod Placed
+pub mod Printed

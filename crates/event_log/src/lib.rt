@@ -8,6 +8,7 @@
 
 mod compare;
 mod log;
+mod print;
 mod read;
 mod shape;
 #[cfg(test)]

@@ -2,17 +2,21 @@
 ghost use Rattle.std.specs.Prelude.{◌≡◌, ◌≤◌, ◌<◌, suc, ◌+◌, ◌++◌, [], ◌∷◌, true, length, take, slice_get, Some, IsTrue, ◌↔◌, IfOk, IfSome, OnOk, OnErr, IsOk};
 ghost use Rattle.tree_model.specs.declared.answer.Answer.TheVariants.{Done as DoneAnswer};
 ghost use Rattle.tree_model.specs.declared.step.StepOf.TheVariants.{Close as CloseStep};
+ghost use Rattle.transcript.specs.Output.{Gains};
+ghost use Rattle.transcript.specs.Words.{event_words};
 ghost use Rattle.event_log.specs.Log.{is_bare};
 ghost use Rattle.event_log.specs.Records.{event_with, event_texts, events_read, texts_of, IsLog};
 ghost use Rattle.event_log.specs.Shapes.{step_texts};
 
 use crate::compare::{is_answer, is_step};
+use crate::print::{write_answer, write_step};
 use crate::read::{after_step, back, read_answer, read_step};
 use crate::shape::{AnswerShape, Record, StepShape};
 use crate::write::{add_event, texts_len};
 use path_text::NoMemory;
 use std::alloc::Global;
 use std::marker::Model;
+use transcript::Output;
 use tree_model::{Actor, Answer, Event, HandleNo, Step};
 
 /// The most bytes that the names and texts of a log's events have together.
@@ -166,6 +170,19 @@ impl EventLog {
             step,
             answer,
         })
+    }
+
+    /// Adds what the event at a place, counted from 0, did, with no newline: `STEP = ANSWER`. It is written from where it
+    /// is kept, and takes no memory but for the text. NoMemory where the text's room was refused.
+    pub fn write_event(&self, out: &mut Output, at: usize) -> Result<(), NoMemory>
+        requires { at < length self.now.events }
+        ensures { IfSome (slice_get self.now.events at) (λ event. Gains out.old out.new (event_words event) result) }
+    {
+        let record = &self.records[at];
+        let own = back(self.bytes.as_slice(), record.start as usize);
+        write_step(out, &record.step, own)?;
+        out.text(" = ")?;
+        write_answer(out, &record.answer, after_step(&record.step, own))
     }
 
     /// Whose event stands at a place, counted from 0. Takes no memory.

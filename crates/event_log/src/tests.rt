@@ -1,9 +1,9 @@
 //! Each step and each answer there and back.
 use crate::*;
-use path_text::{Bytes, Errno, Name, Names};
+use path_text::{Bytes, Errno, Name, Names, NoMemory};
 use std::alloc::Global;
 use std::test::Fail;
-use transcript::read_step;
+use transcript::{Output, read_step};
 use tree_model::{Actor, Answer, HandleNo, Kind, Node, Step};
 
 /// Steps of each kind, a line each.
@@ -50,6 +50,19 @@ fn answer_at(alloc: Global, at: usize) -> Result<Answer, Errno> {
         _ => Answer::Refused(Errno::TooMany),
     })
 }
+
+/// The words of each of them.
+const ANSWERS: [&str; 9] = [
+    "opened 5 12 file",
+    "text /a\\x20b",
+    "names /a/bcd",
+    "names /",
+    "not_below",
+    "listed 2 ab c",
+    "listed 0",
+    "done",
+    "refused EMFILE",
+];
 
 /// The step of that line.
 fn step_of(alloc: Global, line: &str) -> Result<Step, Errno> {
@@ -101,6 +114,31 @@ fn reads_back_each_event(rt: HostRuntime) -> Result<(), Fail> {
     let log = filled(rt.alloc())?;
     assert!(rt; log.len() == 144 && !log.is_empty());
     assert!(rt; holds_all(rt.alloc(), &log, &filled(rt.alloc())?)?);
+    Ok(())
+}
+
+/// Whether each event of such a log is written as its step and its answer.
+fn writes_all(alloc: Global, log: &EventLog) -> Result<bool, NoMemory> {
+    let mut at = 0;
+    for line in STEPS.lines() {
+        for answer in ANSWERS {
+            let mut words = Output::new(alloc);
+            if at < log.len() {
+                log.write_event(&mut words, at)?;
+            }
+            let wanted = format!(in alloc; "{line} = {answer}")?;
+            if words.as_slice() != wanted.as_bytes() {
+                return Ok(false);
+            }
+            at += 1;
+        }
+    }
+    Ok(at == log.len())
+}
+
+#[test]
+fn writes_each_event(rt: HostRuntime) -> Result<(), Fail> {
+    assert!(rt; writes_all(rt.alloc(), &filled(rt.alloc())?)?);
     Ok(())
 }
 

@@ -12,16 +12,13 @@ use Rattle.tree_model.specs.Rows.{rows_in_order}
 use Rattle.tree_model.specs.State.{State, object_at}
 use Rattle.tree_model.specs.Steps.{held_count, kind_of}
 use Rattle.transcript.specs.Output.{escaped, kind_word, opened_words, fault_words}
-use Rattle.transcript.specs.Words.{line_of, step_words, answer_words}
+pub use Rattle.transcript.specs.Words.{event_words}
+use Rattle.transcript.specs.Words.{line_of, answer_words}
 
 -- what each element comes to by its number, counted from k on, one after another
 abbrev pub numbered : {A B : Type 0} → (ℕ → A → List B) → ℕ → List A → List B
 numbered line k [] = []
 numbered line k (x ∷ xs) = line k x ++ numbered line (suc k) xs
-
--- STEP = ANSWER
-abbrev pub event_words : Event → List ℕ
-event_words event = line_of (step_words event.step) ++ (codes " = " ++ line_of (answer_words event.answer))
 
 -- event K actor I STEP = ANSWER
 abbrev pub event_line : ℕ → Event → List ℕ

@@ -218,7 +218,7 @@ fn writes_event(alloc: Global) -> Result<bool, Fail> {
     )?;
     let mut words = Output::new(alloc);
     let mut lines = Output::new(alloc);
-    events(alloc, &mut lines, &log)?;
+    events(&mut lines, &log)?;
     if !log.is_empty() {
         event_words(alloc, &mut words, &log.event(alloc, 0)?)?;
     }

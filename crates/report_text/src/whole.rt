@@ -23,7 +23,7 @@ pub fn report<T: Tree>(
 ) -> Result<(), NoMemory>
     ensures { Gains out.old out.new (report_text report.now.events.events report.now.replies.items (T.state report.now.tree) actors) result }
 {
-    events(alloc, out, &report.events)?;
+    events(out, &report.events)?;
     replies(alloc, out, &report.replies)?;
     let snapshot = report.tree.snapshot(alloc)?;
     rows(alloc, out, &snapshot)?;

@@ -27,15 +27,14 @@ names_more names at name start before blank after found is_blank is_after h =
     ∙ append_assoc (before ++ BLANK ∷ []) (escaped name) rest ∙ append_assoc before (BLANK ∷ []) (escaped name ++ rest) ∙ ap (λ bs. before ++ bs) (sym one) ∙ h
 
 -- the word, the number and the names after blanks are the line
-pub listed_line : {T E : Type 0} (old worded numbered new : List ℕ) (count : ℕ) (names : List (List ℕ)) (answer : Answer) (result : Result T E) → answer ≡ Listed names → count ≡ length names
-    → worded ≡ old ++ codes "listed " → numbered ≡ worded ++ decimal count
-    → Gains numbered new (names_after_blanks names) result → Gains old new (line_of (answer_words answer)) result
-listed_line old worded numbered new count names answer (Ok x) is_answer is_count is_worded is_numbered gains =
+pub listed_line : {T E : Type 0} (old headed new : List ℕ) (count : ℕ) (names : List (List ℕ)) (answer : Answer) (result : Result T E) → answer ≡ Listed names → count ≡ length names
+    → headed ≡ old ++ (codes "listed " ++ decimal count)
+    → Gains headed new (names_after_blanks names) result → Gains old new (line_of (answer_words answer)) result
+listed_line old headed new count names answer (Ok x) is_answer is_count is_headed gains =
     let rest = names_after_blanks names in
     gains
-    ∙ ap (λ bs. bs ++ rest) (is_numbered ∙ ap (λ bs. bs ++ decimal count) is_worded)
-    ∙ append_assoc (old ++ codes "listed ") (decimal count) rest ∙ append_assoc old (codes "listed ") (decimal count ++ rest)
+    ∙ ap (λ bs. bs ++ rest) is_headed ∙ append_assoc old (codes "listed " ++ decimal count) rest
     ∙ ap (λ bs. old ++ (codes "listed " ++ bs)) (sym (line_with (decimal count) (map escaped names)))
     ∙ ap (λ n. old ++ line_of (codes "listed" ∷ decimal n ∷ map escaped names)) is_count
     ∙ ap (λ a. old ++ line_of (answer_words a)) (sym is_answer)
-listed_line old worded numbered new count names answer (Err e) is_answer is_count is_worded is_numbered gains = tt
+listed_line old headed new count names answer (Err e) is_answer is_count is_headed gains = tt

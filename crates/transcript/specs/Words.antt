@@ -5,6 +5,7 @@ use Rattle.path_text.specs.Errno.{name_of}
 use Rattle.path_text.specs.Print.{printed}
 use Rattle.tree_model.specs.declared.answer.Answer.{Answer}
 use Rattle.tree_model.specs.declared.answer.Answer.TheVariants.{Opened, Text, Names, NotBelow, Listed, Done, Refused}
+use Rattle.tree_model.specs.declared.answer.Event.{Event}
 use Rattle.tree_model.specs.declared.step.Mode.{Mode}
 use Rattle.tree_model.specs.declared.step.Mode.TheVariants.{Plain, NoReplace, Exchange}
 use Rattle.tree_model.specs.declared.step.StepOf.{StepOf}
@@ -54,3 +55,7 @@ answer_words NotBelow = codes "not_below" ∷ []
 answer_words (Listed names) = codes "listed" ∷ decimal (length names) ∷ map escaped names
 answer_words Done = codes "done" ∷ []
 answer_words (Refused error) = codes "refused" ∷ name_of error ∷ []
+
+-- STEP = ANSWER
+abbrev pub event_words : Event → List ℕ
+event_words event = line_of (step_words event.step) ++ (codes " = " ++ line_of (answer_words event.answer))

@@ -6,6 +6,7 @@
 #![tactic(auto)]
 
 mod laws;
+mod lent;
 mod output;
 mod reader;
 #[cfg(test)]
@@ -13,5 +14,6 @@ mod tests;
 mod words;
 
 pub use laws::names_are_told_apart;
+pub use lent::{AnswerHead, LentStep};
 pub use output::Output;
 pub use reader::read_step;
