@@ -1,0 +1,3 @@
+pub mod Room
+pub mod Work
+pub mod Serve
