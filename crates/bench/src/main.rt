@@ -4,7 +4,7 @@
 //! Without arguments each of the smaller workloads runs once, and how much of it was done is printed. `walks` times
 //! resolutions on the tree and on a book over it, `calls` operations as calls and by walks and steps of one's own, `bulk`
 //! calls that make or remove many entries, `steps` single steps and building, `cache` look-ups and removals with one
-//! entry remembered and with many, and `world` a world of 64 actors. `repeat KIND WORKLOAD COUNT` runs one workload so often, for a program that counts from
+//! entry remembered and with many, `world` a world of 64 actors, and `sessions` resolutions on several threads. `repeat KIND WORKLOAD COUNT` runs one workload so often, for a program that counts from
 //! outside. Nothing is claimed of time; what a walk or a call comes to is what its own crate proves of it.
 #![tactic(auto)]
 
@@ -15,6 +15,7 @@ mod clock;
 mod drive;
 mod repeat;
 mod steps;
+mod threads;
 mod tree;
 mod walks;
 mod workload;
@@ -26,6 +27,7 @@ use cache::{CACHE_WORKLOADS, time_cache, time_cached};
 use calls::{CALL_WORKLOADS, Way, time_all_calls, time_calls};
 use repeat::repeat;
 use steps::{STEP_WORKLOADS, time_all_steps, time_indexed, turns_of};
+use threads::{answer_sessions, time_all_sessions};
 use walks::{time_all_walks, time_walks};
 use workload::{WORKLOADS, paths_of};
 use worlds::{RESOLVED_MAX, time_world};
@@ -104,6 +106,7 @@ fn main(rt: HostRuntime) -> anyhow::Result<()> {
             answer_walks(&rt)?;
             answer_calls(&rt)?;
             answer_worlds(&rt)?;
+            answer_sessions(&rt)?;
             answer_steps(&rt)
         }
         [word] if word.as_str() == "walks" => time_all_walks(&rt),
@@ -112,6 +115,7 @@ fn main(rt: HostRuntime) -> anyhow::Result<()> {
         [word] if word.as_str() == "steps" => time_all_steps(&rt),
         [word] if word.as_str() == "cache" => time_cache(&rt),
         [word] if word.as_str() == "world" => time_greatest_world(&rt),
+        [word] if word.as_str() == "sessions" => time_all_sessions(&rt),
         [word, kind, name, count] if word.as_str() == "repeat" => {
             let count = count.as_str().parse::<u32>()?;
             let (took, done) = repeat(&rt, kind.as_str(), name.as_str(), count)?;
@@ -120,7 +124,7 @@ fn main(rt: HostRuntime) -> anyhow::Result<()> {
         }
         _ => {
             bail!(
-                "usage: bench [walks | calls | bulk | steps | cache | world | repeat KIND WORKLOAD COUNT]"
+                "usage: bench [walks | calls | bulk | steps | cache | world | sessions | repeat KIND WORKLOAD COUNT]"
             )
         }
     }
