@@ -106,7 +106,7 @@ fn main(rt: HostRuntime) -> anyhow::Result<()> {
             answer_walks(&rt)?;
             answer_calls(&rt)?;
             answer_worlds(&rt)?;
-            answer_sessions(&rt)?;
+            answer_sessions(&rt, &rt)?;
             answer_steps(&rt)
         }
         [word] if word.as_str() == "walks" => time_all_walks(&rt),
@@ -115,7 +115,7 @@ fn main(rt: HostRuntime) -> anyhow::Result<()> {
         [word] if word.as_str() == "steps" => time_all_steps(&rt),
         [word] if word.as_str() == "cache" => time_cache(&rt),
         [word] if word.as_str() == "world" => time_greatest_world(&rt),
-        [word] if word.as_str() == "sessions" => time_all_sessions(&rt),
+        [word] if word.as_str() == "sessions" => time_all_sessions(&rt, &rt),
         [word, kind, name, count] if word.as_str() == "repeat" => {
             let count = count.as_str().parse::<u32>()?;
             let (took, done) = repeat(&rt, kind.as_str(), name.as_str(), count)?;

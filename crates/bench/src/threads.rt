@@ -11,6 +11,7 @@ use sessions::{NoGate, Service, Session};
 use std::alloc::Global;
 use std::sync::Wait;
 use std::thread;
+use std::thread::Threads;
 use std::time::Instant;
 use tree_slab::SlabTree;
 
@@ -59,8 +60,9 @@ fn resolve_all<R: Wait>(
 
 /// Times so many sessions that each resolve so often, each on a thread of its own: the nanoseconds, and the events of all.
 /// The service must close.
-pub fn time_sessions(
+pub fn time_sessions<R: Threads + Wait + Sync>(
     rt: &HostRuntime,
+    threads: &R,
     workload: &Workload,
     sessions: u32,
     count: u32,
@@ -77,10 +79,10 @@ pub fn time_sessions(
     };
     let start = Instant::now(rt)?;
     thread::for_each_mut(
-        rt,
+        threads,
         opened.as_mut_slice(),
         SESSIONS_MAX,
-        &|_, session| resolve_all(rt, alloc, &service, session, &paths, count),
+        &|_, session| resolve_all(threads, alloc, &service, session, &paths, count),
     );
     let took = nanoseconds(rt, start)?;
     match service.stop().close(opened) {
@@ -90,26 +92,34 @@ pub fn time_sessions(
 }
 
 // The shortest round, as nanoseconds for one resolution.
-fn time(rt: &HostRuntime, workload: &Workload, sessions: u32) -> anyhow::Result<u64> {
-    let (_, events) = time_sessions(rt, workload, 1, TRIAL)?;
+fn time<R: Threads + Wait + Sync>(
+    rt: &HostRuntime,
+    threads: &R,
+    workload: &Workload,
+    sessions: u32,
+) -> anyhow::Result<u64> {
+    let (_, events) = time_sessions(rt, threads, workload, 1, TRIAL)?;
     let all = EVENTS_MAX * u64::from(TRIAL) / events.max(1);
     let count = u32::try_from(all / u64::from(sessions.max(1))).unwrap_or(TRIAL);
     let mut shortest = u64::MAX;
     for _ in 0..ROUNDS {
-        let (took, _) = time_sessions(rt, workload, sessions, count)?;
+        let (took, _) = time_sessions(rt, threads, workload, sessions, count)?;
         shortest = shortest.min(took / all.max(1));
     }
     Ok(shortest)
 }
 
 /// Times them all: 1, 2 and 4 sessions.
-pub fn time_all_sessions(rt: &HostRuntime) -> anyhow::Result<()> {
+pub fn time_all_sessions<R: Threads + Wait + Sync>(
+    rt: &HostRuntime,
+    threads: &R,
+) -> anyhow::Result<()> {
     for workload in &WORKLOADS {
         let name = workload.name;
         if RESOLVED.iter().any(|resolved| *resolved == name) {
             print!(rt; "{name}")?;
             for sessions in SESSIONS {
-                let took = time(rt, workload, sessions)?;
+                let took = time(rt, threads, workload, sessions)?;
                 print!(rt; "\t{took}")?;
             }
             println!(rt; "")?;
@@ -119,10 +129,13 @@ pub fn time_all_sessions(rt: &HostRuntime) -> anyhow::Result<()> {
 }
 
 /// How many events four sessions have that each resolve ten times.
-pub fn answer_sessions(rt: &HostRuntime) -> anyhow::Result<()> {
+pub fn answer_sessions<R: Threads + Wait + Sync>(
+    rt: &HostRuntime,
+    threads: &R,
+) -> anyhow::Result<()> {
     for workload in WORKLOADS.iter().take(1) {
         let name = workload.name;
-        let (_, events) = time_sessions(rt, workload, 4, 10)?;
+        let (_, events) = time_sessions(rt, threads, workload, 4, 10)?;
         println!(rt; "{name}: {events} events of 4 sessions")?;
     }
     Ok(())
