@@ -1,5 +1,5 @@
 -- What a worker does: it answers jobs, each by a call of its own session.
-use Rattle.std.specs.Prelude.{◌≡◌, ℕ, ◌⊎◌, ◌++◌, List, [], ◌∷◌, map, Bool, true, false, Option, Some, slice_get}
+use Rattle.std.specs.Prelude.{◌≡◌, ◌⊎◌, ◌++◌, List, [], ◌∷◌, map, Bool, true, false, Some, slice_get}
 use Rattle.path_text.specs.declared.errno.Errno.{Errno}
 use Rattle.path_text.specs.declared.errno.Errno.TheVariants.{Invalid, NoMemory}
 use Rattle.root_ops.specs.Copies.{is_release}

@@ -8,6 +8,8 @@
 mod room;
 mod serving;
 mod tally;
+#[cfg(test)]
+mod tests;
 mod told;
 mod worker;
 

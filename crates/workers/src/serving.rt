@@ -15,7 +15,7 @@ use std::sync::Wait;
 use std::thread::Threads;
 use tree_model::Tree;
 
-/// The most workers.
+/// The most sessions that `serve` takes, since each gets a worker.
 pub const WORKERS_MAX: usize = 8;
 
 /// Why jobs weren't served.
@@ -33,7 +33,8 @@ pub enum ServeCause {
     Lost(usize),
 }
 
-/// The sessions, and the reply to each job, in the order of the jobs.
+/// The sessions in the order in which they were given, and the reply to each job, in the order of the jobs. What a reply
+/// opened stays open until its session, which `Standing::owner` tells, is called to release it.
 #[derive(Debug, Drop)]
 pub struct Served {
     pub sessions: Vec<Session>,
@@ -157,7 +158,8 @@ fn serve_in<T: Tree + Send, R: Threads + Wait + Sync, G: Gate>(
 /// Serves the jobs by the sessions, each with a worker of its own, on a thread of its own where one can be made: a worker takes
 /// the number of a job, and answers that job by one call of its session with a copy of the request. The jobs stay the
 /// caller's. A Release is told Invalid (EINVAL), since what it holds stays the caller's too, and a request that found no
-/// memory to be copied NoMemory (ENOMEM), both without a call.
+/// memory to be copied NoMemory (ENOMEM), both without a call. Any other reply is that of `Session::call`, which calls the
+/// gate before each step, and tells a session that isn't the service's Invalid.
 ///
 /// Each job's reply stands in its place, and the sessions come back in their order. All room is got before the first
 /// worker starts, but for the replies': a worker has the room for a reply before it takes a job, and stops where it

@@ -1,5 +1,5 @@
 //! What a worker was told.
-ghost use Rattle.std.specs.Prelude.{◌≡◌, []};
+ghost use Rattle.std.specs.Prelude.{◌≡◌};
 
 use root_ops::Reply;
 use std::alloc::Global;

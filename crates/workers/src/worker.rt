@@ -1,5 +1,5 @@
 //! One worker: a session, and what it was told.
-ghost use Rattle.std.specs.Prelude.{◌≡◌, ◌<◌, ◌≤◌, ◌+◌, ◌++◌, [], map, ℕ, length, slice_index_or, slice_get, vec_len, vec_capacity};
+ghost use Rattle.std.specs.Prelude.{◌≡◌, ◌<◌, ◌≤◌, ◌+◌, ◌++◌, map, ℕ, length, slice_index_or, slice_get, vec_len, vec_capacity};
 ghost use Rattle.std.specs.Option.{option_copied};
 ghost use Rattle.workers.specs.Work.{WorkerView, Answers, WorksOn, idle, sessions_of, lists_of};
 

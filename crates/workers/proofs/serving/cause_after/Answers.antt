@@ -1,5 +1,5 @@
-use Rattle.std.proofs.Common.{◌≡◌, length}
-use Rattle.workers.proofs.Tallies.{AreCounts, first_is_doubled, none_is_doubled, first_is_lost, none_is_lost, all_once}
+use Rattle.std.proofs.Common.{length}
+use Rattle.workers.proofs.Tallies.{first_is_doubled, none_is_doubled, first_is_lost, none_is_lost, all_once}
 use Rattle.workers.proofs.serving.cause_after.Goals as goal
 
 pub returns-in-Some-doubled : goal.returns-in-Some-doubled

@@ -1,4 +1,4 @@
-use Rattle.std.proofs.Common.{◌≡◌, ℕ, ◌<◌, ◌++◌, List, [], length, get_or, take, drop, map, vec_len, sym, ap, subst, ◌∙◌, arith, rules}
+use Rattle.std.proofs.Common.{◌≡◌, ℕ, ◌<◌, ◌++◌, List, length, get_or, take, drop, map, ap, subst, ◌∙◌}
 use Rattle.workers.specs.Work.{WorkerView, WorksOn, idle, sessions_of, lists_of}
 use Rattle.workers.proofs.Works.{employed}
 use Rattle.workers.proofs.Tallies.{all_written}

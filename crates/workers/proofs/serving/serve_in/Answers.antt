@@ -1,4 +1,4 @@
-use Rattle.std.proofs.Common.{◌≡◌, length, take, drop, replicate, ◌++◌, List, slice_get, inr, sym, ap, subst, ◌∙◌, arith, rules}
+use Rattle.std.proofs.Common.{◌≡◌, length, List, inr, sym, ap, subst, ◌∙◌}
 use Rattle.std.proofs.lemmas.List.{length-replicate}
 use Rattle.root_ops.specs.declared.reply.Reply.{Reply}
 use Rattle.workers.specs.Serve.{IsCauseAfter, IsServed, AllOnce}

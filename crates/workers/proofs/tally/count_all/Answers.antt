@@ -1,5 +1,4 @@
-use Rattle.std.proofs.Common.{◌≡◌, get_or, length, ◌<◌, sym, ap, ◌∙◌, arith, rules}
-use Rattle.workers.specs.Serve.{replies_to}
+use Rattle.std.proofs.Common.{◌≡◌, get_or, length, ◌<◌, arith, rules}
 use Rattle.workers.proofs.Tallies.{count_on}
 use Rattle.workers.proofs.tally.count_all.Goals as goal
 
