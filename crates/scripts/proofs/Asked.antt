@@ -1,0 +1,67 @@
+-- The turns that pieces of a text say, read one after another.
+use Rattle.std.proofs.Common.{◌≡◌, ℕ, Bool, true, false, cond, List, [], ◌∷◌, ◌++◌, length, refl, sym, ap, ◌∙◌, subst, append_assoc}
+use Rattle.std.specs.Prelude.{Option, Some, None, Result, Ok, Err, nat_lt}
+use Rattle.std.proofs.lemmas.List.{append-nil}
+use Rattle.scripts.specs.declared.turns.Turns.{Turns}
+use Rattle.scripts.specs.declared.fault.ScriptFault.{ScriptFault}
+use Rattle.scripts.specs.declared.fault.ScriptFault.TheVariants.{Turn}
+use Rattle.scripts.specs.Checks.{then_with}
+use Rattle.scripts.specs.Turns.{words_of, AreTurns, AllSay, few_turns, first_foreign, own_turns, turns_asked}
+use Rattle.tree_model.specs.Entries.{refuse_if}
+
+-- what was read so far and what the pieces left say are what all say
+pub record IsSaidSoFar (pieces left : List (List ℕ)) (all : List Turns) : Type 0 where
+  pub onward : (rest : List Turns) → AllSay left rest → AllSay pieces (all ++ rest)
+  pub back : (turns : List Turns) → AllSay pieces turns → (rest : List Turns) × AllSay left rest
+
+pub nothing_said : (pieces : List (List ℕ)) → IsSaidSoFar pieces pieces []
+nothing_said pieces = record { onward = λ rest says. says; back = λ turns says. (turns, says) }
+
+pub one_more : (pieces : List (List ℕ)) (piece : List ℕ) (left : List (List ℕ)) (all : List Turns) (turns : Turns) → AreTurns (words_of piece) turns
+    → IsSaidSoFar pieces (piece ∷ left) all → IsSaidSoFar pieces left (all ++ turns ∷ [])
+one_more pieces piece left all turns says so_far = record {
+  onward = λ rest others. subst (λ (is : List Turns). AllSay pieces is) (sym (append_assoc all (turns ∷ []) rest)) (so_far.onward (turns ∷ rest) (says, others));
+  back = λ whole all_say. let r = so_far.back whole all_say in by r.0 r.1;
+}
+  where
+    by : (rest : List Turns) → AllSay (piece ∷ left) rest → (more : List Turns) × AllSay left more
+    by [] says = absurd says
+    by (first ∷ more) says = (more, says.1)
+
+-- where a piece says none, the whole says none
+pub none_said : (pieces : List (List ℕ)) (piece : List ℕ) (left : List (List ℕ)) (all : List Turns) → ((turns : Turns) → AreTurns (words_of piece) turns → ⊥)
+    → IsSaidSoFar pieces (piece ∷ left) all → (turns : List Turns) → AllSay pieces turns → ⊥
+none_said pieces piece left all none so_far turns says = let r = so_far.back turns says in by r.0 r.1
+  where
+    by : (rest : List Turns) → AllSay (piece ∷ left) rest → ⊥
+    by [] says = absurd says
+    by (first ∷ more) says = none first says.0
+
+pub all_said : (pieces : List (List ℕ)) (all : List Turns) → IsSaidSoFar pieces [] all → AllSay pieces all
+all_said pieces all so_far = subst (λ (is : List Turns). AllSay pieces is) (append-nil all) (so_far.onward [] tt)
+
+-- ---- the turns of the actors
+
+-- the place of the first turn that is no actor's, as a search tells it
+abbrev pub foreign_at : ℕ → List ℕ → Option ℕ
+foreign_at actors turns = cond (nat_lt (first_foreign actors turns) (length turns)) (Some (first_foreign actors turns)) None
+
+all_own : (k : ℕ) (turns : List ℕ) (over : Bool) → cond over (Some k) None ≡ None → refuse_if over (Err (Turn k)) (Ok turns) ≡ Ok turns
+all_own k turns true e = absurd (cc (e))
+all_own k turns false e = refl
+
+one_foreign : (k at : ℕ) (turns : List ℕ) (over : Bool) → cond over (Some k) None ≡ Some at
+    → ◌≡◌ {A = Result (List ℕ) ScriptFault} (refuse_if over (Err (Turn k)) (Ok turns)) (Err (Turn at))
+one_foreign k at turns true e = let same : k ≡ at = cc (e) in ap (λ (n : ℕ). Err (Turn n)) same
+one_foreign k at turns false e = absurd (cc (e))
+
+pub asked_are : (actors : ℕ) (asked : List Turns) (turns : List ℕ) → few_turns asked ≡ Ok turns → foreign_at actors turns ≡ None → turns_asked actors asked ≡ Ok turns
+asked_are actors asked turns few none =
+    ap (λ (r : Result (List ℕ) ScriptFault). then_with r (own_turns actors)) few
+    ∙ all_own (first_foreign actors turns) turns (nat_lt (first_foreign actors turns) (length turns)) none
+
+pub asked_has : (actors at : ℕ) (asked : List Turns) (turns : List ℕ) → few_turns asked ≡ Ok turns → foreign_at actors turns ≡ Some at
+    → turns_asked actors asked ≡ Err (Turn at)
+asked_has actors at asked turns few one =
+    ap (λ (r : Result (List ℕ) ScriptFault). then_with r (own_turns actors)) few
+    ∙ one_foreign (first_foreign actors turns) at turns (nat_lt (first_foreign actors turns) (length turns)) one
