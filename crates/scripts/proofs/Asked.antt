@@ -1,12 +1,12 @@
 -- The turns that pieces of a text say, read one after another.
-use Rattle.std.proofs.Common.{◌≡◌, ℕ, Bool, true, false, cond, List, [], ◌∷◌, ◌++◌, length, refl, sym, ap, ◌∙◌, subst, append_assoc}
-use Rattle.std.specs.Prelude.{Option, Some, None, Result, Ok, Err, nat_lt}
+use Rattle.std.proofs.Common.{◌≡◌, ℕ, Bool, inl, inr, true, false, cond, List, [], ◌∷◌, ◌++◌, length, refl, sym, ap, ◌∙◌, subst, append_assoc}
+use Rattle.std.specs.Prelude.{◌≢◌, Option, Some, None, Result, Ok, Err, IfOk, MatchOption, codes, nat_lt}
 use Rattle.std.proofs.lemmas.List.{append-nil}
 use Rattle.scripts.specs.declared.turns.Turns.{Turns}
 use Rattle.scripts.specs.declared.fault.ScriptFault.{ScriptFault}
 use Rattle.scripts.specs.declared.fault.ScriptFault.TheVariants.{Turn}
 use Rattle.scripts.specs.Checks.{then_with}
-use Rattle.scripts.specs.Turns.{words_of, AreTurns, AllSay, few_turns, first_foreign, own_turns, turns_asked}
+use Rattle.scripts.specs.Turns.{words_of, AreTurns, AllSay, SaysTurns, pieces_of, few_turns, first_foreign, own_turns, turns_asked}
 use Rattle.tree_model.specs.Entries.{refuse_if}
 
 -- what was read so far and what the pieces left say are what all say
@@ -65,3 +65,18 @@ pub asked_has : (actors at : ℕ) (asked : List Turns) (turns : List ℕ) → fe
 asked_has actors at asked turns few one =
     ap (λ (r : Result (List ℕ) ScriptFault). then_with r (own_turns actors)) few
     ∙ one_foreign (first_foreign actors turns) at turns (nat_lt (first_foreign actors turns) (length turns)) one
+
+-- ---- the whole text
+
+none_says : (text : List ℕ) → text ≢ codes "-" → ((turns : List Turns) → AllSay (pieces_of text) turns → ⊥) → (turns : List Turns) → SaysTurns text turns → ⊥
+none_says text other none turns (inl dash) = other dash.0
+none_says text other none turns (inr says) = none turns says
+
+-- a text that isn't `-` says what its pieces say
+pub says_by : {V E : Type 0} (items : V → List Turns) (text : List ℕ) (pieces : List (List ℕ)) (said : Result (Option V) E) → text ≢ codes "-" → pieces ≡ pieces_of text
+    → IfOk said (λ o. MatchOption o ((turns : List Turns) → AllSay pieces turns → ⊥) (λ v. AllSay pieces (items v)))
+    → IfOk said (λ o. MatchOption o ((turns : List Turns) → SaysTurns text turns → ⊥) (λ v. SaysTurns text (items v)))
+says_by items text pieces (Err e) other are says = tt
+says_by items text pieces (Ok (Some v)) other are says = inr (subst (λ (ps : List (List ℕ)). AllSay ps (items v)) are says)
+says_by items text pieces (Ok None) other are says =
+    none_says text other (subst (λ (ps : List (List ℕ)). (turns : List Turns) → AllSay ps turns → ⊥) are says)

@@ -115,11 +115,11 @@ turns_by actors (Some d) schedule e =
 -- turns without a foreign one are the actors'
 none_foreign : (actors : ℕ) (turns : List ℕ) → length turns ≤ first_foreign actors turns → All (λ actor. actor < actors) turns
 none_foreign actors [] all = All-nil (λ actor. actor < actors)
-none_foreign actors (i ∷ is) all = by (nat_le actors i) refl all
+none_foreign actors (i ∷ is) all = by (nat_le actors i) refl (none_foreign actors is) all
   where
-    by : (foreign : Bool) → nat_le actors i ≡ foreign → suc (length is) ≤ (if not foreign then suc (first_foreign actors is) else 0) → All (λ actor. actor < actors) (i ∷ is)
-    by true test all = omega (arith, all)
-    by false test all = All-cons (λ actor. actor < actors) i is (leb-false actors i test) (none_foreign actors is (omega (arith, all)))
+    by : (foreign : Bool) → nat_le actors i ≡ foreign → (length is ≤ first_foreign actors is → All (λ actor. actor < actors) is) → suc (length is) ≤ (if not foreign then suc (first_foreign actors is) else 0) → All (λ actor. actor < actors) (i ∷ is)
+    by true test others all = omega (arith, all)
+    by false test others all = All-cons (λ actor. actor < actors) i is (leb-false actors i test) (others (omega (arith, all)))
 
 own : (actors : ℕ) (turns schedule : List ℕ) → own_turns actors turns ≡ Ok schedule → All (λ actor. actor < actors) schedule
 own actors turns schedule e = by (nat_lt (first_foreign actors turns) (length turns)) refl e

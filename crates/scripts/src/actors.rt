@@ -123,11 +123,7 @@ pub fn actors_of(
 }
 
 /// Opens the directory at these names for the actor, who has no handle yet.
-pub fn open_root<T: Tree>(
-    alloc: Global,
-    tree: &mut T,
-    names: &Names,
-) -> Result<HandleNo, RunFault>
+pub fn open_root<T: Tree>(alloc: Global, tree: &mut T, names: &Names) -> Result<HandleNo, RunFault>
     requires none { (T.state tree.old).handles ≡ [] }
     requires tree { IsState (T.state tree.old) }
     ensures ok { IfOk result (λ root. IsAtHand (rooted (T.state tree.old).nodes (directory_at (T.state tree.old).nodes TOP names.now)) (T.state tree.new) ACTOR root) }

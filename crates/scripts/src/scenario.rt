@@ -86,11 +86,7 @@ pub fn plain_tree_of(alloc: Global, script: &Value) -> Result<ListTree, RunFault
 /// What a script says. Errors: the first check that fails, in this order: those of its version and its lines, of its
 /// tree, of its actors, each with its calls, and of its schedule, or of the turns that are asked for in its place;
 /// `NoMemory`.
-pub fn scenario_of(
-    alloc: Global,
-    script: &Value,
-    order: &TurnOrder,
-) -> Result<Scenario, RunFault>
+pub fn scenario_of(alloc: Global, script: &Value, order: &TurnOrder) -> Result<Scenario, RunFault>
     ensures said { IfOk result (λ scenario. scenario_of order.now (view script.now) ≡ Ok (said_by scenario)) }
     ensures playable { IfOk result (λ scenario. IsPlayable (said_by scenario)) }
     ensures nodes { IfOk result (λ scenario. nodes_in (view script.now) ≡ Ok scenario.tree.nodes) }

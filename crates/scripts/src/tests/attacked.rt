@@ -19,7 +19,8 @@ const ONE_WALK: &str = r#"{"version":1,"tree":[["dir","/c"],["dir","/c/a"],["dir
 ["link","/c/dang","none/x"],["dir","/secret"],["file","/secret/key"]],
 "actors":[{"root":"/c","calls":[{"op":"resolve","path":"a/b/f"}]}]}"#;
 
-const TEN_ROWS: &str = "row 0 c 1 dir\nrow 0 secret 9 dir\nrow 1 a 2 dir\nrow 1 abs 5 link\nrow 1 dang 8 link\n\
+const TEN_ROWS: &str =
+    "row 0 c 1 dir\nrow 0 secret 9 dir\nrow 1 a 2 dir\nrow 1 abs 5 link\nrow 1 dang 8 link\n\
     row 1 loop 7 link\nrow 1 up 6 link\nrow 2 b 3 dir\nrow 3 f 4 file\nrow 9 key 10 file\n";
 
 /// The script with its first such text changed.
@@ -65,7 +66,8 @@ fn refuses_an_attack_that_is_cut_short(rt: HostRuntime) {
 #[test]
 fn refuses_an_attack_that_is_changed(rt: HostRuntime) -> Result<(), Fail> {
     let alloc = rt.alloc();
-    let call = "a call has an \"op\" with its fields, gives a label of its own, and uses labels that calls before it give";
+    let call =
+        "a call has an \"op\" with its fields, gives a label of its own, and uses labels that calls before it give";
     for (old, new, want, wanted) in [
         (
             "\"version\":1",
@@ -104,12 +106,20 @@ fn refuses_an_attack_that_is_changed(rt: HostRuntime) -> Result<(), Fail> {
             "script: call 1 2\n",
             call,
         ),
-        ("\"version\":1", "\"version\":1,\"lines\":1", "book full", ""),
+        (
+            "\"version\":1",
+            "\"version\":1,\"lines\":1",
+            "book full",
+            "",
+        ),
     ] {
         let script = changed(alloc, MOVED_OUT, old, new)?;
         let mut told = String::from_str(alloc, want)?;
         told.push_str(wanted)?;
-        assert!(rt; fails(alloc, script.as_str().as_bytes(), told.as_str()), "{new:?}");
+        assert!(rt;
+            fails(alloc, script.as_str().as_bytes(), told.as_str()),
+            "{new:?}"
+        );
     }
     Ok(())
 }
@@ -174,7 +184,10 @@ fn keeps_to_the_lines_of_its_book(rt: HostRuntime) -> Result<(), Fail> {
         let mut want = String::from_str(alloc, replies)?;
         want.push_str(TEN_ROWS)?;
         want.push_str(held)?;
-        assert!(rt; comes_to(alloc, script, lines, events, want.as_str())?, "{lines:?}");
+        assert!(rt;
+            comes_to(alloc, script, lines, events, want.as_str())?,
+            "{lines:?}"
+        );
     }
     Ok(())
 }

@@ -184,9 +184,18 @@ fn takes(alloc: Global, turns: &str, want: &str) -> Result<bool, Fail> {
 #[test]
 fn takes_turns_that_are_asked_for(rt: HostRuntime) -> Result<(), Fail> {
     for (turns, want) in [
-        ("-", "event 0 actor 0 open 0 e = opened 2 1 dir\nevent 1 actor 0 parent"),
-        ("0,1", "event 0 actor 0 open 0 e = opened 2 1 dir\nevent 1 actor 1"),
-        ("0*2,1", "event 0 actor 0 open 0 e = opened 2 1 dir\nevent 1 actor 0"),
+        (
+            "-",
+            "event 0 actor 0 open 0 e = opened 2 1 dir\nevent 1 actor 0 parent",
+        ),
+        (
+            "0,1",
+            "event 0 actor 0 open 0 e = opened 2 1 dir\nevent 1 actor 1",
+        ),
+        (
+            "0*2,1",
+            "event 0 actor 0 open 0 e = opened 2 1 dir\nevent 1 actor 0",
+        ),
         ("1", "event 0 actor 1 remove_dir 1 e = done\n"),
         ("1*100000", "event 0 actor 1 remove_dir 1 e = done\n"),
         (
