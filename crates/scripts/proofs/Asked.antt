@@ -1,7 +1,7 @@
 -- The turns that pieces of a text say, read one after another.
-use Rattle.std.proofs.Common.{◌≡◌, ℕ, Bool, inl, inr, true, false, cond, List, [], ◌∷◌, ◌++◌, length, refl, sym, ap, ◌∙◌, subst, append_assoc}
+use Rattle.std.proofs.Common.{◌≡◌, ℕ, ◌+◌, ◌<◌, ◌≤◌, Bool, Bor, inl, inr, true, false, cond, List, [], ◌∷◌, ◌++◌, length, map, drop, get_or, refl, sym, ap, ◌∙◌, subst, append_assoc}
 use Rattle.std.specs.Prelude.{◌≢◌, Option, Some, None, Result, Ok, Err, IfOk, MatchOption, codes, nat_lt}
-use Rattle.std.proofs.lemmas.List.{append-nil}
+use Rattle.std.proofs.lemmas.List.{append-nil, drop_more, drop_all}
 use Rattle.scripts.specs.declared.turns.Turns.{Turns}
 use Rattle.scripts.specs.declared.fault.ScriptFault.{ScriptFault}
 use Rattle.scripts.specs.declared.fault.ScriptFault.TheVariants.{Turn}
@@ -39,6 +39,23 @@ none_said pieces piece left all none so_far turns says = let r = so_far.back tur
 
 pub all_said : (pieces : List (List ℕ)) (all : List Turns) → IsSaidSoFar pieces [] all → AllSay pieces all
 all_said pieces all so_far = subst (λ (is : List Turns). AllSay pieces is) (append-nil all) (so_far.onward [] tt)
+
+-- the same of a list of pieces, of which some were read
+abbrev texts : List (Bor (List ℕ)) → List (List ℕ)
+texts pieces = map (λ piece. piece.now) pieces
+
+pub none_there : (pieces : List (Bor (List ℕ))) (i : ℕ) (d : Bor (List ℕ)) (all : List Turns) (said : Option Turns) → i < length pieces
+    → MatchOption said ((turns : Turns) → AreTurns (words_of (get_or pieces i d).now) turns → ⊥) (AreTurns (words_of (get_or pieces i d).now)) → said ≡ None
+    → IsSaidSoFar (texts pieces) (texts (drop i pieces)) all → (turns : List Turns) → AllSay (texts pieces) turns → ⊥
+none_there pieces i d all None within none is so_far =
+    none_said (texts pieces) (get_or pieces i d).now (texts (drop (i + 1) pieces)) all none
+    (subst (λ (left : List (Bor (List ℕ))). IsSaidSoFar (texts pieces) (texts left) all) (drop_more pieces i d within) so_far)
+none_there pieces i d all (Some one) within says is so_far = absurd (cc (is))
+
+pub all_there : (pieces : List (Bor (List ℕ))) (i : ℕ) (all : List Turns) → length pieces ≤ i → IsSaidSoFar (texts pieces) (texts (drop i pieces)) all
+    → AllSay (texts pieces) all
+all_there pieces i all over so_far =
+    all_said (texts pieces) all (subst (λ (left : List (Bor (List ℕ))). IsSaidSoFar (texts pieces) (texts left) all) (drop_all i pieces over) so_far)
 
 -- ---- the turns of the actors
 

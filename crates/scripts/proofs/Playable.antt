@@ -1,5 +1,5 @@
 -- What a script says can be played, since the checks have passed.
-use Rattle.std.proofs.Common.{◌≡◌, ℕ, ◌+◌, ◌<◌, ◌≤◌, Bool, true, false, List, [], ◌∷◌, suc, length, refl, sym, ap, ◌∙◌, subst, arith, rules}
+use Rattle.std.proofs.Common.{◌≡◌, ℕ, ◌+◌, ◌<◌, ◌≤◌, Bool, true, false, List, [], ◌∷◌, suc, length, refl, subst, arith}
 use Rattle.std.proofs.lemmas.Bool.{leb-true, leb-false, ltb-true, ltb-false}
 use Rattle.std.proofs.lemmas.List.Elements.{All-nil, All-cons}
 use Rattle.std.specs.Prelude.{not, Option, Some, None, Result, Ok, Err, All, IsOk, nat_lt, nat_le, ◌&&◌, if◌then◌else◌, is_none, option_and_then, codes}
@@ -7,12 +7,10 @@ use Rattle.serde_json.specs.Data.{Data, Items, no_items, item}
 use Rattle.serde_json.specs.Find.{get, as_number, as_u64, as_array, as_object}
 use Rattle.path_text.specs.declared.errno.Errno.{Errno}
 use Rattle.race_core.specs.declared.plan.ActorPlan.{ActorPlan}
-use Rattle.race_core.specs.declared.plan.Planned.{Planned}
 use Rattle.tree_model.specs.declared.inode.Inode.{Inode}
 use Rattle.tree_model.specs.Entries.{with_some, refuse_if}
 use Rattle.tree_model.specs.State.{TOP}
 use Rattle.tree_model.specs.Steps.{directory_at}
-use Rattle.scripts.specs.declared.actors.TheConstants.{ACTORS_MAX}
 use Rattle.scripts.specs.declared.calls.TheConstants.{CALLS_MAX}
 use Rattle.scripts.specs.declared.calls.Version.{Version}
 use Rattle.scripts.specs.declared.fault.Cause.TheVariants.{Shape}
@@ -31,7 +29,7 @@ use Rattle.scripts.specs.Schedule.{turn_at, schedule_by}
 use Rattle.scripts.specs.Version.{version_in}
 use Rattle.scripts.specs.declared.turns.TurnOrder.{TurnOrder}
 use Rattle.scripts.specs.declared.turns.TurnOrder.TheVariants.{OfScript, Asked}
-use Rattle.scripts.specs.Turns.{own_turns, turns_asked, first_foreign, few_turns}
+use Rattle.scripts.specs.Turns.{own_turns, first_foreign, few_turns}
 use Rattle.scripts.proofs.Scenarios.{few_actors, some_actors}
 
 -- ---- checks that have passed
@@ -117,9 +115,12 @@ none_foreign : (actors : ℕ) (turns : List ℕ) → length turns ≤ first_fore
 none_foreign actors [] all = All-nil (λ actor. actor < actors)
 none_foreign actors (i ∷ is) all = by (nat_le actors i) refl (none_foreign actors is) all
   where
-    by : (foreign : Bool) → nat_le actors i ≡ foreign → (length is ≤ first_foreign actors is → All (λ actor. actor < actors) is) → suc (length is) ≤ (if not foreign then suc (first_foreign actors is) else 0) → All (λ actor. actor < actors) (i ∷ is)
-    by true test others all = omega (arith, all)
-    by false test others all = All-cons (λ actor. actor < actors) i is (leb-false actors i test) (others (omega (arith, all)))
+    by : (foreign : Bool) → nat_le actors i ≡ foreign → (length is ≤ first_foreign actors is → All (λ actor. actor < actors) is)
+        → suc (length is) ≤ (if not foreign then 1 + first_foreign actors is else 0) → All (λ actor. actor < actors) (i ∷ is)
+    by true test others all = let none : suc (length is) ≤ 0 = all in let no : ⊥ = omega (arith, none) in absurd no
+    by false test others all =
+        let more : suc (length is) ≤ 1 + first_foreign actors is = all in
+        All-cons (λ actor. actor < actors) i is (leb-false actors i test) (others (omega (arith, more)))
 
 own : (actors : ℕ) (turns schedule : List ℕ) → own_turns actors turns ≡ Ok schedule → All (λ actor. actor < actors) schedule
 own actors turns schedule e = by (nat_lt (first_foreign actors turns) (length turns)) refl e

@@ -1,5 +1,5 @@
 -- The text of a report on some actors' run, and a picture of it, have something in them.
-use Rattle.std.proofs.Common.{◌≡◌, ◌≢◌, ℕ, zero, suc, ◌<◌, List, [], ◌∷◌, ◌++◌, ◌+◌, ◌*◌, length, refl, sym, ◌∙◌, arith}
+use Rattle.std.proofs.Common.{◌≢◌, ℕ, zero, suc, ◌<◌, List, [], ◌∷◌, ◌++◌, ◌+◌, ◌*◌, length, refl, sym, ◌∙◌, arith}
 use Rattle.std.specs.Prelude.{codes, Result, Ok, Err, MatchResult, IfOk}
 use Rattle.std.specs.List.{flat_map}
 use Rattle.race_core.specs.declared.report.Outcome.{Outcome}

@@ -1,6 +1,6 @@
 -- What `inroot draw` writes: the picture of a report on a run of the world that the script says.
-use Rattle.std.specs.Prelude.{⊤, ◌≡◌, ◌≢◌, ◌<◌, ℕ, List, [], length, Option, Result, Ok, Err, MatchResult, IsOkAnd, IfSome}
-use Rattle.std.specs.Io.KnownBytes.{Appends, Keeps}
+use Rattle.std.specs.Prelude.{◌≡◌, ◌≢◌, ◌<◌, ℕ, List, length, Option, Result, MatchResult, IsOkAnd, IfSome}
+use Rattle.std.specs.Io.KnownBytes.{Keeps}
 use Rattle.drawings.specs.declared.picture.PictureFault.{PictureFault}
 use Rattle.drawings.specs.declared.picture.PictureFault.TheVariants as picture_fault
 use Rattle.drawings.specs.declared.picture.TheConstants.{ACTORS_MAX, LINES_MAX}

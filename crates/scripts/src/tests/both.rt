@@ -1,13 +1,12 @@
 //! Scripts run over the plain tree and over the indexed one.
-use super::BASE;
-use crate::actors::{ACTOR, open_root};
-use crate::fault::RunFault;
+use super::{BASE, PLAIN};
+use crate::actors::{first_actor_of, open_root, root_of};
+use crate::fault::{Cause, RunFault, ScriptFault};
 use crate::input::value_of;
 use crate::play::{replay, report_on};
 use crate::run::{line_of, walk};
 use crate::scenario::{Scenario, plain_tree_of, scenario_of};
 use crate::turns::TurnOrder;
-use path_text::{Flags, Names};
 use report_text::report;
 use std::alloc::Global;
 use std::test::Fail;
@@ -115,6 +114,57 @@ fn is_same_on_both(alloc: Global, attack: &str) -> Result<bool, Fail> {
 fn replays_alike_over_both_trees(rt: HostRuntime) -> Result<(), Fail> {
     for attack in ATTACKS {
         assert!(rt; is_same_on_both(rt.alloc(), attack)?, "{attack:?}");
+    }
+    Ok(())
+}
+
+/// The line of what a path means over the plain tree of the examples.
+#[tactic(auto, using(crate::proofs::Lines::opened_by))]
+fn plain_line(alloc: Global, path: &str) -> Result<Output, RunFault> {
+    let value = value_of(alloc, BASE.as_bytes())?;
+    let mut list = plain_tree_of(alloc, &value)?;
+    let Some(actor) = first_actor_of(&value) else {
+        return Err(RunFault::Script(ScriptFault::Actors));
+    };
+    let Some(names) = root_of(alloc, actor)? else {
+        return Err(RunFault::Script(ScriptFault::Actor(0, Cause::Shape)));
+    };
+    let root = open_root(alloc, &mut list, &names)?;
+    line_of(alloc, &mut list, root, path.as_bytes(), PLAIN)
+}
+
+/// Whether a walk comes to the same bytes over both trees.
+fn is_walked_alike(alloc: Global, path: &str) -> Result<bool, Fail> {
+    let plain = plain_line(alloc, path)?;
+    let mut written = Vec::new(alloc);
+    walk(
+        alloc,
+        &mut BASE.as_bytes(),
+        &mut written,
+        path.as_bytes(),
+        PLAIN,
+    )?;
+    Ok(written.as_slice() == plain.as_slice())
+}
+
+#[test]
+fn walks_alike_over_both_trees(rt: HostRuntime) -> Result<(), Fail> {
+    for path in [
+        "a/b/f",
+        "/",
+        "a/",
+        "",
+        "a/b/f/",
+        "none/x",
+        "/../../a",
+        "abs/f",
+        "abs/..",
+        "up",
+        "loop",
+        "dang",
+        "../secret",
+    ] {
+        assert!(rt; is_walked_alike(rt.alloc(), path)?, "{path:?}");
     }
     Ok(())
 }

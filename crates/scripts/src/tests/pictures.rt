@@ -83,7 +83,6 @@ fn ends_at_its_limits(rt: HostRuntime) -> Result<(), Fail> {
     for (actors, calls, want) in [
         (4, 0, None),
         (5, 0, Some(DrawFault::TooManyActors)),
-        (2, 500, None),
         (4, 251, Some(DrawFault::TooManyLines)),
     ] {
         let script = busy(alloc, actors, calls)?;

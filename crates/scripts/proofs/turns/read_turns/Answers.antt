@@ -1,7 +1,8 @@
-use Rattle.std.proofs.Common.{◌≡◌, ◌≢◌, List, ℕ, true, map, ap, ◌∙◌, lit<}
+use Rattle.std.proofs.Common.{◌≡◌, ◌≢◌, true, map, ap, ◌∙◌, lit<}
 use Rattle.std.specs.Prelude.{codes}
 use Rattle.std.proofs.lemmas.Iterator.Consumers.{map_from_collect}
 use Rattle.std.proofs.lemmas.Iterator.Splits.{YieldsList-from_str_split}
+use Rattle.std.proofs.lemmas.Result.{IfOk-at_ok}
 use Rattle.std.proofs.lemmas.Slice.Eq.{bytes_eq-Decides}
 use Rattle.scripts.specs.Turns.{COMMA, pieces_of}
 use Rattle.scripts.proofs.Asked.{says_by}
@@ -10,7 +11,7 @@ use Rattle.scripts.proofs.turns.read_turns.Goals as goal
 pub returns : goal.returns
 returns c =
     let split : map (λ piece. piece.now) c.in_ok-pieces.pieces.items ≡ pieces_of c.args.text.now =
-    map_from_collect _ c.in_ok-pieces.ensures.ran (YieldsList-from_str_split COMMA c.args.text.now (lit< tt) c.split.ensures.text c.split.ensures.has_more c.split.ensures.pattern) in
+    IfOk-at_ok _ c.in_ok-pieces.was (map_from_collect _ c.collect.ensures.ran (YieldsList-from_str_split COMMA c.args.text.now (lit< tt) c.split.ensures.text c.split.ensures.has_more c.split.ensures.pattern)) in
     let other : c.args.text.now ≢ codes "-" = λ dash.
     let equal : c.eq.result ≡ true = c.eq.ensures ∙ (bytes_eq-Decides c.args.text.now (codes "-")).1 dash in
     let no = c.if-eq.false in
