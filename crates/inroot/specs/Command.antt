@@ -3,9 +3,12 @@ use Rattle.std.specs.Prelude.{◌≡◌, ◌≢◌, ℕ, List, Bool, true, false
 use Rattle.path_text.specs.declared.flags.Flags.{Flags}
 use Rattle.clap.specs.Matches.{found_of, first_value, one_text, subcommand_name_of}
 use Rattle.clap.specs.declared.parser.matches.ArgMatches.{ArgMatches}
+use Rattle.inroot.specs.declared.command.Drawing.{Drawing}
 use Rattle.inroot.specs.declared.command.Request.{Request}
 use Rattle.inroot.specs.declared.command.Request.TheVariants as request
 use Rattle.inroot.specs.declared.command.Walking.{Walking}
+use Rattle.scripts.specs.declared.drawing.Form.{Form}
+use Rattle.scripts.specs.declared.drawing.Form.TheVariants.{Text, Svg}
 
 -- the option's value is `true` or `false`; without one it isn't set
 pub record IsOption (matches : ArgMatches) (id : List ℕ) (set : Bool) : Type 0 where
@@ -24,8 +27,23 @@ abbrev pub IsAsked : ArgMatches → Option Walking → Type 0
 IsAsked matches (Some walk) = IsWalk matches walk
 IsAsked matches None = first_value (found_of matches) (codes "PATH") ≡ None
 
+-- the turns that are asked for
+abbrev pub IsSchedule : ArgMatches → Option Bor → Type 0
+IsSchedule matches (Some text) = first_value (found_of matches) (codes "schedule") ≡ Some text.now
+IsSchedule matches None = first_value (found_of matches) (codes "schedule") ≡ None
+
+-- `--svg` asks for SVG
+abbrev pub is_svg : Form → Bool
+is_svg Svg = true
+is_svg Text = false
+
+pub record IsDrawing (matches : ArgMatches) (drawing : Drawing) : Type 0 where
+  pub schedule : IsSchedule matches drawing.schedule
+  pub form : IsOption matches (codes "svg") (is_svg drawing.form)
+
 -- the request is that of the command that was named
 abbrev pub IsRequest : ArgMatches → Option Request → Type 0
 IsRequest matches (Some (request.Walk walk)) = subcommand_name_of matches ≡ Some (codes "walk")
-IsRequest matches (Some request.Replay) = subcommand_name_of matches ≡ Some (codes "replay")
-IsRequest matches None = subcommand_name_of matches ≢ Some (codes "replay")
+IsRequest matches (Some (request.Replay schedule)) = subcommand_name_of matches ≡ Some (codes "replay")
+IsRequest matches (Some (request.Draw drawing)) = subcommand_name_of matches ≡ Some (codes "draw")
+IsRequest matches None = (subcommand_name_of matches ≢ Some (codes "replay")) × (subcommand_name_of matches ≢ Some (codes "draw"))

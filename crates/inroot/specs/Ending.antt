@@ -1,9 +1,15 @@
 -- The statuses that the program ends with: these four, and no other.
-use Rattle.std.specs.Prelude.{ℕ, Result, Ok, Err}
+use Rattle.std.specs.Prelude.{⊤, ℕ, List, Option, Some, None, Result, Ok, Err}
 use Rattle.scripts.specs.declared.fault.RunFault.{RunFault}
 use Rattle.scripts.specs.declared.fault.RunFault.TheVariants.{Script, ReadFailed, WriteFailed, NoMemory, BookFull}
 use Rattle.inroot.specs.declared.ending.Fault.{Fault}
-use Rattle.inroot.specs.declared.ending.Fault.TheVariants.{Usage, NotUtf8, NoRequest, Run}
+use Rattle.inroot.specs.declared.ending.Fault.TheVariants.{Usage, NotUtf8, Schedule, NoRequest, Run, DrawActors, DrawLines}
+use Rattle.scripts.specs.declared.drawing.DrawFault.{DrawFault}
+use Rattle.scripts.specs.declared.turns.TurnOrder.{TurnOrder}
+use Rattle.scripts.specs.declared.turns.TurnOrder.TheVariants.{OfScript, Asked}
+use Rattle.scripts.specs.declared.turns.Turns.{Turns}
+use Rattle.scripts.specs.Turns.{SaysTurns}
+use Rattle.scripts.specs.declared.drawing.DrawFault.TheVariants as drawing
 
 abbrev pub ANSWERED : ℕ
 ANSWERED = 0
@@ -21,9 +27,29 @@ abbrev pub status_of : {T : Type 0} → Result T Fault → ℕ
 status_of (Ok answer) = ANSWERED
 status_of (Err Usage) = USAGE
 status_of (Err NotUtf8) = USAGE
+status_of (Err Schedule) = USAGE
 status_of (Err NoRequest) = FAILED
 status_of (Err (Run (Script fault))) = SCRIPT_REFUSED
 status_of (Err (Run ReadFailed)) = FAILED
 status_of (Err (Run WriteFailed)) = FAILED
 status_of (Err (Run NoMemory)) = FAILED
 status_of (Err (Run BookFull)) = FAILED
+status_of (Err DrawActors) = FAILED
+status_of (Err DrawLines) = FAILED
+
+-- how the program tells why nothing was drawn
+abbrev pub told_of : DrawFault → Fault
+told_of (drawing.Run fault) = Run fault
+told_of drawing.TooManyActors = DrawActors
+told_of drawing.TooManyLines = DrawLines
+
+-- the order of the turns that a text says, or of the script where there is none; or the text says none
+abbrev pub IsOrder : Option Bor → Result TurnOrder Fault → Type 0
+IsOrder None (Ok OfScript) = ⊤
+IsOrder None (Ok (Asked turns)) = ⊥
+IsOrder None (Err fault) = ⊥
+IsOrder (Some text) (Ok OfScript) = ⊥
+IsOrder (Some text) (Ok (Asked turns)) = SaysTurns text.now turns.items
+IsOrder (Some text) (Err Schedule) = (turns : List Turns) → SaysTurns text.now turns → ⊥
+IsOrder (Some text) (Err (Run NoMemory)) = ⊤
+IsOrder (Some text) (Err other) = ⊥

@@ -1,21 +1,28 @@
 //! The command line.
 ghost use Rattle.std.specs.Prelude.{◌≡◌, codes, IfSome};
-ghost use Rattle.inroot.specs.Command.{IsAsked, IsOption, IsRequest};
+ghost use Rattle.inroot.specs.Command.{IsAsked, IsDrawing, IsOption, IsRequest, IsSchedule};
 
 use clap::{Arg, ArgAction, ArgMatches, Command};
 use path_text::Flags;
+use scripts::Form;
 use std::alloc::{AllocError, Global};
 
-// The names of the commands, the id of the path that `walk` takes, and its options by their ids, which are their names.
+// The names of the commands, the id of the path that `walk` takes, and the options by their ids, which are their names.
 const WALK: &str = "walk";
 
 const REPLAY: &str = "replay";
+
+const DRAW: &str = "draw";
 
 const PATH: &str = "PATH";
 
 const BENEATH: &str = "beneath";
 
 const NO_LINKS: &str = "no-links";
+
+const SCHEDULE: &str = "schedule";
+
+const SVG: &str = "svg";
 
 /// What help says of the statuses.
 const STATUSES: &str = "Statuses:
@@ -73,12 +80,43 @@ then, and for each actor with how many handles it has open.
 Example:
   inroot replay < examples/attacks/moved-out.json";
 
+// The option with the turns that are taken in place of the script's schedule.
+fn schedule<'a>(alloc: Global) -> Arg<'a> {
+    Arg::new(alloc, SCHEDULE)
+        .long(SCHEDULE)
+        .value_name("TURNS")
+        .action(ArgAction::Set)
+        .help("Take these turns first: I or I*N between commas, for actor I, or - for none")
+}
+
 // The command `replay`.
-fn replay<'a>(alloc: Global) -> Command<'a> {
+fn replay<'a>(alloc: Global) -> Result<Command<'a>, AllocError> {
     Command::new(alloc, REPLAY)
         .about("Run the actors' calls by the schedule, and print what came of them")
-        .override_usage("inroot replay < SCRIPT")
+        .override_usage("inroot replay [OPTIONS] < SCRIPT")
         .after_help(REPLAYING)
+        .arg(schedule(alloc))
+}
+
+/// What help says of `draw` beside its arguments.
+const DRAWING: &str =
+    "SCRIPT is a JSON text on standard input, as for replay, with at most 4 actors.
+
+Draws a column for each actor, a line for each event by its moment, and then one for
+how each call ended. A picture has at most 2000 lines.
+
+Example:
+  inroot draw < examples/attacks/moved-out.json";
+
+// The command `draw`.
+fn draw<'a>(alloc: Global) -> Result<Command<'a>, AllocError> {
+    let svg = option(alloc, SVG, "Draw as SVG and not as text");
+    Command::new(alloc, DRAW)
+        .about("Run the actors' calls by the schedule, and draw who did what when")
+        .override_usage("inroot draw [OPTIONS] < SCRIPT")
+        .after_help(DRAWING)
+        .arg(svg)?
+        .arg(schedule(alloc))
 }
 
 /// The commands of the program.
@@ -86,13 +124,14 @@ pub fn command<'a>(alloc: Global) -> Result<Command<'a>, AllocError> {
     Command::new(alloc, "inroot")
         .version("0.1.0")
         .about(
-            "Resolve paths below a root, and replay races, over the tree of a script on standard input",
+            "Resolve paths below a root, and replay and draw races, over the tree of a script on standard input",
         )
         .override_usage("inroot <COMMAND> < SCRIPT")
         .after_help(STATUSES)
         .subcommand_required(true)
         .subcommand(walk(alloc)?)?
-        .subcommand(replay(alloc))
+        .subcommand(replay(alloc)?)?
+        .subcommand(draw(alloc)?)
 }
 
 /// A path to walk, with these restrictions (openat2(2)).
@@ -102,11 +141,20 @@ pub struct Walking<'a> {
     pub flags: Flags,
 }
 
+/// A picture to draw, with the turns that are asked for in place of the script's.
+#[derive(Clone, Copy, Debug)]
+pub struct Drawing<'a> {
+    pub schedule: Option<&'a str>,
+    pub form: Form,
+}
+
 /// What a command line asks for.
 #[derive(Clone, Copy, Debug)]
 pub enum Request<'a> {
     Walk(Walking<'a>),
-    Replay,
+    /// With the turns that are asked for in place of the script's.
+    Replay(Option<&'a str>),
+    Draw(Drawing<'a>),
 }
 
 /// The walk that the arguments of `walk` ask for, if they have a path.
@@ -121,12 +169,35 @@ fn walk_asked<'a>(matches: &ArgMatches<'a>) -> Option<Walking<'a>>
     Some(Walking { path, flags })
 }
 
+/// The turns that the arguments of `replay` or `draw` ask for.
+fn schedule_asked<'a>(matches: &ArgMatches<'a>) -> Option<&'a str>
+    ensures { IsSchedule matches.now result }
+{
+    matches.get_str(SCHEDULE)
+}
+
+/// The picture that the arguments of `draw` ask for.
+fn drawing_asked<'a>(matches: &ArgMatches<'a>) -> Drawing<'a>
+    ensures { IsDrawing matches.now result }
+{
+    let schedule = schedule_asked(matches);
+    let form = if matches.get_flag(SVG) {
+        Form::Svg
+    } else {
+        Form::Text
+    };
+    Drawing { schedule, form }
+}
+
 /// The request of a command line, if it has one.
 pub fn asked<'a>(matches: &ArgMatches<'a>) -> Option<Request<'a>>
     ensures { IsRequest matches.now result }
 {
-    if matches.subcommand_matches(REPLAY).is_some() {
-        return Some(Request::Replay);
+    if let Some(matches) = matches.subcommand_matches(REPLAY) {
+        return Some(Request::Replay(schedule_asked(matches)));
+    }
+    if let Some(matches) = matches.subcommand_matches(DRAW) {
+        return Some(Request::Draw(drawing_asked(matches)));
     }
     let walk = walk_asked(matches.subcommand_matches(WALK)?)?;
     Some(Request::Walk(walk))

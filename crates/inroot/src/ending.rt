@@ -1,10 +1,11 @@
 //! How the program ends.
 ghost use Rattle.std.specs.Prelude.{◌≡◌};
-ghost use Rattle.inroot.specs.Ending.{status_of};
+ghost use Rattle.inroot.specs.Ending.{status_of, told_of};
 ghost use Rattle.inroot.specs.declared.ending.Fault.TheVariants.{Run};
 ghost use Rattle.scripts.specs.declared.fault.RunFault.TheVariants.{NoMemory as OutOfMemory};
 
-use scripts::RunFault;
+use path_text::NoMemory;
+use scripts::{DrawFault, RunFault};
 use std::alloc::{AllocError, AllocFailed};
 use thiserror::Error;
 
@@ -16,11 +17,20 @@ pub enum Fault {
     Usage,
     #[error("an argument is not UTF-8")]
     NotUtf8,
+    /// Turns that are asked for and have another form.
+    #[error("--schedule is I or I*N between commas, I an actor and N 1 to 100000, or - for none")]
+    Schedule,
     /// A command line that was taken, and has no command with its path: the table of the options is wrong.
     #[error("the command line has no request")]
     NoRequest,
     #[error("{0}")]
     Run(RunFault),
+    /// There are more actors than a picture has columns.
+    #[error("draw: actors")]
+    DrawActors,
+    /// The run has more events and replies than a picture has lines.
+    #[error("draw: lines")]
+    DrawLines,
 }
 
 impl From<RunFault> for Fault {
@@ -28,6 +38,26 @@ impl From<RunFault> for Fault {
 
     fn from(fault: RunFault) -> Fault {
         Fault::Run(fault)
+    }
+}
+
+impl From<DrawFault> for Fault {
+    ghost from_gives = { λ fault told. told ≡ told_of fault };
+
+    fn from(fault: DrawFault) -> Fault {
+        match fault {
+            DrawFault::Run(fault) => Fault::Run(fault),
+            DrawFault::TooManyActors => Fault::DrawActors,
+            DrawFault::TooManyLines => Fault::DrawLines,
+        }
+    }
+}
+
+impl From<NoMemory> for Fault {
+    ghost from_gives = { λ _ told. told ≡ Run OutOfMemory };
+
+    fn from(_error: NoMemory) -> Fault {
+        Fault::Run(RunFault::NoMemory)
     }
 }
 
@@ -46,8 +76,8 @@ pub fn status(ended: &Result<(), Fault>) -> u8
 {
     match ended {
         Ok(()) => 0,
-        Err(Fault::Usage | Fault::NotUtf8) => 2,
+        Err(Fault::Usage | Fault::NotUtf8 | Fault::Schedule) => 2,
         Err(Fault::Run(RunFault::Script(_))) => 3,
-        Err(Fault::NoRequest | Fault::Run(_)) => 4,
+        Err(Fault::NoRequest | Fault::Run(_) | Fault::DrawActors | Fault::DrawLines) => 4,
     }
 }

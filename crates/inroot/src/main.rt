@@ -1,5 +1,5 @@
-//! The program: resolves paths below a root, over the tree that a script on standard input gives, and replays scripts of
-//! calls that race.
+//! The program: resolves paths below a root, over the tree that a script on standard input gives, and replays and draws
+//! scripts of calls that race.
 //!
 //! It reads its command line, hands standard input and output to the library `scripts`, where it is stated what a
 //! run writes, and ends with the status that `ending` says of what happened.
@@ -10,9 +10,12 @@ mod ending;
 #[cfg(test)]
 mod tests;
 
+ghost use Rattle.inroot.specs.Ending.{IsOrder};
+
 use command::{Request, asked, command};
 use ending::{Fault, status};
-use scripts::{RunFault, replay, walk};
+use scripts::{RunFault, TurnOrder, draw, read_turns, replay, walk};
+use std::alloc::Global;
 use std::process::ExitCode;
 use std::{env, io};
 
@@ -41,6 +44,19 @@ fn words(rt: &HostRuntime) -> Result<Vec<String>, Fault> {
     }
 }
 
+/// The order of turns that a command line asks for. Errors: `Schedule` where they have another form; `NoMemory`.
+fn order_of(alloc: Global, schedule: Option<&str>) -> Result<TurnOrder, Fault>
+    ensures { IsOrder schedule result }
+{
+    let Some(text) = schedule else {
+        return Ok(TurnOrder::OfScript);
+    };
+    match read_turns(alloc, text)? {
+        Some(turns) => Ok(TurnOrder::Asked(turns)),
+        None => Err(Fault::Schedule),
+    }
+}
+
 /// Reads the command line, and runs what it asks for.
 fn run(rt: &HostRuntime) -> Result<(), Fault> {
     let alloc = rt.alloc();
@@ -58,7 +74,14 @@ fn run(rt: &HostRuntime) -> Result<(), Fault> {
             asked.path.as_bytes(),
             asked.flags,
         )?,
-        Request::Replay => replay(alloc, &mut input, &mut output)?,
+        Request::Replay(schedule) => {
+            let order = order_of(alloc, schedule)?;
+            replay(alloc, &mut input, &mut output, &order)?;
+        }
+        Request::Draw(asked) => {
+            let order = order_of(alloc, asked.schedule)?;
+            draw(alloc, &mut input, &mut output, &order, asked.form)?;
+        }
     }
     Ok(())
 }

@@ -1,7 +1,8 @@
 //! The statuses, and what a command line asks for.
 use crate::command::{Request, asked, command};
 use crate::ending::{Fault, status};
-use scripts::{RunFault, ScriptFault};
+use crate::order_of;
+use scripts::{Form, RunFault, ScriptFault, TurnOrder};
 use std::alloc::Global;
 
 #[test]
@@ -10,26 +11,28 @@ fn ends_with_its_statuses(rt: HostRuntime) {
         (Ok(()), 0),
         (Err(Fault::Usage), 2),
         (Err(Fault::NotUtf8), 2),
+        (Err(Fault::Schedule), 2),
         (Err(Fault::NoRequest), 4),
         (Err(Fault::Run(RunFault::Script(ScriptFault::TooLong))), 3),
         (Err(Fault::Run(RunFault::ReadFailed)), 4),
         (Err(Fault::Run(RunFault::WriteFailed)), 4),
         (Err(Fault::Run(RunFault::NoMemory)), 4),
         (Err(Fault::Run(RunFault::BookFull)), 4),
+        (Err(Fault::DrawActors), 4),
+        (Err(Fault::DrawLines), 4),
     ] {
         assert!(rt; status(&ended) == want, "{want:?}");
     }
 }
 
-/// Whether a command line asks for a replay.
-fn asks_replay(alloc: Global, words: &[&str]) -> bool {
-    let Ok(command) = command(alloc) else {
-        return false;
-    };
-    let Ok(matches) = command.try_get_matches_from(words) else {
-        return false;
-    };
-    matches!(asked(&matches), Some(Request::Replay))
+/// The turns that a command line asks for with a replay or a drawing, and the drawing's form.
+fn asks_run<'a>(alloc: Global, words: &'a [&'a str]) -> Option<(Option<&'a str>, Option<Form>)> {
+    let matches = command(alloc).ok()?.try_get_matches_from(words).ok()?;
+    match asked(&matches)? {
+        Request::Replay(schedule) => Some((schedule, None)),
+        Request::Draw(drawing) => Some((drawing.schedule, Some(drawing.form))),
+        Request::Walk(_) => None,
+    }
 }
 
 /// Whether a command line asks for this walk.
@@ -50,6 +53,40 @@ fn asks(alloc: Global, words: &[&str], path: &str, beneath: bool, no_links: bool
 fn reads_its_command_line(rt: HostRuntime) {
     let words = ["inroot", "walk", "--no-links", "--", "-a"];
     assert!(rt; asks(rt.alloc(), &words, "-a", false, true));
-    assert!(rt; asks_replay(rt.alloc(), &["inroot", "replay"]));
-    assert!(rt; !asks_replay(rt.alloc(), &["inroot", "replay", "a"]));
+    for (words, want) in [
+        (["inroot", "replay"].as_slice(), Some((None, None))),
+        (
+            &["inroot", "replay", "--schedule", "0*3,1"],
+            Some((Some("0*3,1"), None)),
+        ),
+        (&["inroot", "replay", "a"], None),
+        (&["inroot", "draw"], Some((None, Some(Form::Text)))),
+        (
+            &["inroot", "draw", "--schedule=-", "--svg"],
+            Some((Some("-"), Some(Form::Svg))),
+        ),
+        (&["inroot", "replay", "--svg"], None),
+    ] {
+        assert!(rt; asks_run(rt.alloc(), words) == want, "{words:?}");
+    }
+}
+
+/// How many pieces of turns a text asks for: none where it stands for the script's.
+fn pieces_asked(alloc: Global, schedule: Option<&str>) -> Result<Option<usize>, Fault> {
+    match order_of(alloc, schedule)? {
+        TurnOrder::OfScript => Ok(None),
+        TurnOrder::Asked(turns) => Ok(Some(turns.len())),
+    }
+}
+
+#[test]
+fn reads_the_turns_that_are_asked_for(rt: HostRuntime) {
+    for (schedule, want) in [
+        (None, Ok(None)),
+        (Some("-"), Ok(Some(0))),
+        (Some("0,1*5"), Ok(Some(2))),
+        (Some("x"), Err(Fault::Schedule)),
+    ] {
+        assert!(rt; pieces_asked(rt.alloc(), schedule) == want, "{schedule:?}");
+    }
 }

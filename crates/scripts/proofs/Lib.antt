@@ -1,3 +1,4 @@
+pub mod Asked
 pub mod Json
 pub mod Each
 pub mod Entries
@@ -8,3 +9,4 @@ pub mod Opened
 pub mod Scenarios
 pub mod Playable
 pub mod Replays
+pub mod Shown

@@ -110,7 +110,7 @@ lines_by d text flags s a h (Err fault) hand is = tt
 -- ---- what is written
 
 -- a line has its first byte
-first_byte : (line bytes : List ℕ) (b : ℕ) → line ≡ b ∷ bytes → line ≢ []
+pub first_byte : (line bytes : List ℕ) (b : ℕ) → line ≡ b ∷ bytes → line ≢ []
 first_byte line bytes b e none = cc (e, none)
 
 pub opened_is_some : (kind : Kind) (node : ℕ) (names : List (List ℕ)) (line : List ℕ) → line ≡ opened_line kind node names → line ≢ []

@@ -1,18 +1,16 @@
 -- What a script says can be played, since the checks have passed.
-use Rattle.std.proofs.Common.{◌≡◌, ℕ, ◌+◌, ◌<◌, ◌≤◌, Bool, true, false, List, [], ◌∷◌, length, refl, sym, ap, ◌∙◌, subst, arith, rules}
-use Rattle.std.proofs.lemmas.Bool.{leb-true, ltb-true}
+use Rattle.std.proofs.Common.{◌≡◌, ℕ, ◌+◌, ◌<◌, ◌≤◌, Bool, true, false, List, [], ◌∷◌, suc, length, refl, subst, arith}
+use Rattle.std.proofs.lemmas.Bool.{leb-true, leb-false, ltb-true, ltb-false}
 use Rattle.std.proofs.lemmas.List.Elements.{All-nil, All-cons}
-use Rattle.std.specs.Prelude.{Option, Some, None, Result, Ok, Err, All, IsOk, nat_lt, nat_le, ◌&&◌, if◌then◌else◌, is_none, option_and_then, codes}
+use Rattle.std.specs.Prelude.{not, Option, Some, None, Result, Ok, Err, All, IsOk, nat_lt, nat_le, ◌&&◌, if◌then◌else◌, is_none, option_and_then, codes}
 use Rattle.serde_json.specs.Data.{Data, Items, no_items, item}
 use Rattle.serde_json.specs.Find.{get, as_number, as_u64, as_array, as_object}
 use Rattle.path_text.specs.declared.errno.Errno.{Errno}
 use Rattle.race_core.specs.declared.plan.ActorPlan.{ActorPlan}
-use Rattle.race_core.specs.declared.plan.Planned.{Planned}
 use Rattle.tree_model.specs.declared.inode.Inode.{Inode}
 use Rattle.tree_model.specs.Entries.{with_some, refuse_if}
 use Rattle.tree_model.specs.State.{TOP}
 use Rattle.tree_model.specs.Steps.{directory_at}
-use Rattle.scripts.specs.declared.actors.TheConstants.{ACTORS_MAX}
 use Rattle.scripts.specs.declared.calls.TheConstants.{CALLS_MAX}
 use Rattle.scripts.specs.declared.calls.Version.{Version}
 use Rattle.scripts.specs.declared.fault.Cause.TheVariants.{Shape}
@@ -26,10 +24,13 @@ use Rattle.scripts.specs.Calls.{calls_of}
 use Rattle.scripts.specs.Checks.{are_over, then_with, each}
 use Rattle.scripts.specs.Fields.{list_in, perhaps}
 use Rattle.scripts.specs.Plans.{root_at, actor_at, actors_in, actors_of}
-use Rattle.scripts.specs.Scenario.{Said, IsPlayable, lines_in, header_of, nodes_in, scenario_of}
-use Rattle.scripts.specs.Schedule.{turn_at, schedule_by, schedule_of}
+use Rattle.scripts.specs.Scenario.{Said, IsPlayable, lines_in, header_of, nodes_in, schedule_for, scenario_of}
+use Rattle.scripts.specs.Schedule.{turn_at, schedule_by}
 use Rattle.scripts.specs.Version.{version_in}
-use Rattle.scripts.proofs.Scenarios.{few_actors}
+use Rattle.scripts.specs.declared.turns.TurnOrder.{TurnOrder}
+use Rattle.scripts.specs.declared.turns.TurnOrder.TheVariants.{OfScript, Asked}
+use Rattle.scripts.specs.Turns.{own_turns, first_foreign, few_turns}
+use Rattle.scripts.proofs.Scenarios.{few_actors, some_actors}
 
 -- ---- checks that have passed
 
@@ -109,6 +110,34 @@ turns_by actors (Some d) schedule e =
     let few = not_refused (are_over TURNS_MAX listed.x) fault.TooManyTurns _ schedule listed.went in
     all_of_each (λ actor. actor < actors) (turn_at actors) (is_turn actors) 0 listed.x schedule few
 
+-- turns without a foreign one are the actors'
+none_foreign : (actors : ℕ) (turns : List ℕ) → length turns ≤ first_foreign actors turns → All (λ actor. actor < actors) turns
+none_foreign actors [] all = All-nil (λ actor. actor < actors)
+none_foreign actors (i ∷ is) all = by (nat_le actors i) refl (none_foreign actors is) all
+  where
+    by : (foreign : Bool) → nat_le actors i ≡ foreign → (length is ≤ first_foreign actors is → All (λ actor. actor < actors) is)
+        → suc (length is) ≤ (if not foreign then 1 + first_foreign actors is else 0) → All (λ actor. actor < actors) (i ∷ is)
+    by true test others all = let none : suc (length is) ≤ 0 = all in let no : ⊥ = omega (arith, none) in absurd no
+    by false test others all =
+        let more : suc (length is) ≤ 1 + first_foreign actors is = all in
+        All-cons (λ actor. actor < actors) i is (leb-false actors i test) (others (omega (arith, more)))
+
+own : (actors : ℕ) (turns schedule : List ℕ) → own_turns actors turns ≡ Ok schedule → All (λ actor. actor < actors) schedule
+own actors turns schedule e = by (nat_lt (first_foreign actors turns) (length turns)) refl e
+  where
+    by : (foreign : Bool) → nat_lt (first_foreign actors turns) (length turns) ≡ foreign
+        → refuse_if foreign (Err (fault.Turn (first_foreign actors turns))) (Ok turns) ≡ Ok schedule → All (λ actor. actor < actors) schedule
+    by true test e = cc (e)
+    by false test e =
+        let same : turns ≡ schedule = cc (e) in
+        subst (λ (is : List ℕ). All (λ actor. actor < actors) is) same (none_foreign actors turns (ltb-false (first_foreign actors turns) (length turns) test))
+
+turns_for : (order : TurnOrder) (actors : ℕ) (d : Data) (schedule : List ℕ) → schedule_for order actors d ≡ Ok schedule → All (λ actor. actor < actors) schedule
+turns_for OfScript actors d schedule e = turns_by actors (get (codes "schedule") d) schedule e
+turns_for (Asked asked) actors d schedule e =
+    let listed = passed_then (few_turns asked.items) (own_turns actors) schedule e in
+    own actors listed.x schedule listed.went
+
 -- ---- lines
 
 within : (n lines : ℕ) (test : Bool) → nat_le n LINES_MAX ≡ test → (first : Bool) → (if first && test then Some n else None) ≡ Some lines → lines ≤ LINES_MAX
@@ -137,17 +166,18 @@ bounded d header e =
 
 -- ---- the whole
 
-pub playable : (d : Data) (said : Said) → scenario_of d ≡ Ok said → IsPlayable said
-playable d said e =
+pub playable : (order : TurnOrder) (d : Data) (said : Said) → scenario_of order d ≡ Ok said → IsPlayable said
+playable order d said e =
     let header = passed_then (header_of d) _ said e in
     let nodes = passed_then (nodes_in d) _ said header.went in
     let plans = passed_then (actors_of nodes.x header.x.version d) _ said nodes.went in
-    let schedule = passed_then (schedule_of (length plans.x) d) _ said plans.went in
+    let schedule = passed_then (schedule_for order (length plans.x) d) _ said plans.went in
     let went = schedule.went in
     let same : ◌≡◌ {A = Said} (record { nodes = nodes.x; plans = plans.x; schedule = schedule.x; lines = header.x.lines }) said = cc (went) in
     subst IsPlayable same (record {
+      some = some_actors nodes.x header.x.version d plans.x plans.was;
       few = few_actors nodes.x header.x.version d plans.x plans.was;
       roots = roots_are nodes.x header.x.version d plans.x plans.was;
-      turns = turns_by (length plans.x) (get (codes "schedule") d) schedule.x schedule.was;
+      turns = turns_for order (length plans.x) d schedule.x schedule.was;
       bounded = bounded d header.x header.was;
     })

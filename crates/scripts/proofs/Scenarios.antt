@@ -1,5 +1,5 @@
 -- What a whole script says, from what was read of its parts.
-use Rattle.std.proofs.Common.{◌≡◌, ℕ, ◌+◌, ◌≤◌, Bool, true, false, List, [], ◌∷◌, length, refl, sym, ap, ◌∙◌, subst, arith, rules}
+use Rattle.std.proofs.Common.{◌≡◌, ℕ, ◌+◌, ◌<◌, ◌≤◌, Bool, true, false, List, [], ◌∷◌, length, refl, sym, ap, ◌∙◌, subst, arith, rules}
 use Rattle.std.specs.Prelude.{Option, Some, None, Result, Ok, Err, codes}
 use Rattle.serde_json.specs.Data.{Data, Items, no_items, item}
 use Rattle.race_core.specs.declared.plan.ActorPlan.{ActorPlan}
@@ -16,8 +16,8 @@ use Rattle.scripts.specs.Checks.{count_of, has_none, are_over, then_with, each}
 use Rattle.scripts.specs.Fault.{IsFaultOf}
 use Rattle.scripts.specs.Fields.{list_in}
 use Rattle.scripts.specs.Plans.{actor_at, actors_in, actors_of}
-use Rattle.scripts.specs.Scenario.{Said, header_of, nodes_in, scenario_of}
-use Rattle.scripts.specs.Schedule.{schedule_of}
+use Rattle.scripts.specs.Scenario.{Said, header_of, nodes_in, schedule_for, scenario_of}
+use Rattle.scripts.specs.declared.turns.TurnOrder.{TurnOrder}
 
 -- ---- one check after another
 
@@ -35,43 +35,43 @@ fails said onward BookFull is = absurd is
 
 -- ---- the parts of a script
 
-abbrev with_plans : Data → Header → List Inode → List ActorPlan → Result Said ScriptFault
-with_plans d header nodes plans =
-    then_with (schedule_of (length plans) d) (λ schedule. Ok (record { nodes = nodes; plans = plans; schedule = schedule; lines = header.lines }))
+abbrev with_plans : TurnOrder → Data → Header → List Inode → List ActorPlan → Result Said ScriptFault
+with_plans order d header nodes plans =
+    then_with (schedule_for order (length plans) d) (λ schedule. Ok (record { nodes = nodes; plans = plans; schedule = schedule; lines = header.lines }))
 
-abbrev with_nodes : Data → Header → List Inode → Result Said ScriptFault
-with_nodes d header nodes = then_with (actors_of nodes header.version d) (with_plans d header nodes)
+abbrev with_nodes : TurnOrder → Data → Header → List Inode → Result Said ScriptFault
+with_nodes order d header nodes = then_with (actors_of nodes header.version d) (with_plans order d header nodes)
 
-abbrev with_header : Data → Header → Result Said ScriptFault
-with_header d header = then_with (nodes_in d) (with_nodes d header)
+abbrev with_header : TurnOrder → Data → Header → Result Said ScriptFault
+with_header order d header = then_with (nodes_in d) (with_nodes order d header)
 
 -- these parts were read
 pub record AreRead (d : Data) (header : Header) (nodes : List Inode) : Type 0 where
   pub head : header_of d ≡ Ok header
   pub tree : nodes_in d ≡ Ok nodes
 
-pub plans_refused : (d : Data) (header : Header) (nodes : List Inode) (fault : RunFault) → AreRead d header nodes
-    → IsFaultOf (actors_of nodes header.version d) fault → IsFaultOf (scenario_of d) fault
-plans_refused d header nodes fault are refused =
-    passes (header_of d) (with_header d) header fault are.head
-    (passes (nodes_in d) (with_nodes d header) nodes fault are.tree
-    (fails (actors_of nodes header.version d) (with_plans d header nodes) fault refused))
+pub plans_refused : (order : TurnOrder) (d : Data) (header : Header) (nodes : List Inode) (fault : RunFault) → AreRead d header nodes
+    → IsFaultOf (actors_of nodes header.version d) fault → IsFaultOf (scenario_of order d) fault
+plans_refused order d header nodes fault are refused =
+    passes (header_of d) (with_header order d) header fault are.head
+    (passes (nodes_in d) (with_nodes order d header) nodes fault are.tree
+    (fails (actors_of nodes header.version d) (with_plans order d header nodes) fault refused))
 
-pub schedule_refused : (d : Data) (header : Header) (nodes : List Inode) (plans : List ActorPlan) (fault : RunFault) → AreRead d header nodes
-    → actors_of nodes header.version d ≡ Ok plans → IsFaultOf (schedule_of (length plans) d) fault → IsFaultOf (scenario_of d) fault
-schedule_refused d header nodes plans fault are planned refused =
-    passes (header_of d) (with_header d) header fault are.head
-    (passes (nodes_in d) (with_nodes d header) nodes fault are.tree
-    (passes (actors_of nodes header.version d) (with_plans d header nodes) plans fault planned
-    (fails (schedule_of (length plans) d) (λ schedule. Ok (record { nodes = nodes; plans = plans; schedule = schedule; lines = header.lines })) fault refused)))
+pub schedule_refused : (order : TurnOrder) (d : Data) (header : Header) (nodes : List Inode) (plans : List ActorPlan) (fault : RunFault) → AreRead d header nodes
+    → actors_of nodes header.version d ≡ Ok plans → IsFaultOf (schedule_for order (length plans) d) fault → IsFaultOf (scenario_of order d) fault
+schedule_refused order d header nodes plans fault are planned refused =
+    passes (header_of d) (with_header order d) header fault are.head
+    (passes (nodes_in d) (with_nodes order d header) nodes fault are.tree
+    (passes (actors_of nodes header.version d) (with_plans order d header nodes) plans fault planned
+    (fails (schedule_for order (length plans) d) (λ schedule. Ok (record { nodes = nodes; plans = plans; schedule = schedule; lines = header.lines })) fault refused)))
 
-pub all_said : (d : Data) (header : Header) (nodes : List Inode) (plans : List ActorPlan) (schedule : List ℕ) → AreRead d header nodes
-    → actors_of nodes header.version d ≡ Ok plans → schedule_of (length plans) d ≡ Ok schedule
-    → scenario_of d ≡ Ok (record { nodes = nodes; plans = plans; schedule = schedule; lines = header.lines })
-all_said d header nodes plans schedule are planned scheduled =
-    ap (λ (r : Result Header ScriptFault). then_with r (with_header d)) are.head
-    ∙ ap (λ (r : Result (List Inode) ScriptFault). then_with r (with_nodes d header)) are.tree
-    ∙ ap (λ (r : Result (List ActorPlan) ScriptFault). then_with r (with_plans d header nodes)) planned
+pub all_said : (order : TurnOrder) (d : Data) (header : Header) (nodes : List Inode) (plans : List ActorPlan) (schedule : List ℕ) → AreRead d header nodes
+    → actors_of nodes header.version d ≡ Ok plans → schedule_for order (length plans) d ≡ Ok schedule
+    → scenario_of order d ≡ Ok (record { nodes = nodes; plans = plans; schedule = schedule; lines = header.lines })
+all_said order d header nodes plans schedule are planned scheduled =
+    ap (λ (r : Result Header ScriptFault). then_with r (with_header order d)) are.head
+    ∙ ap (λ (r : Result (List Inode) ScriptFault). then_with r (with_nodes order d header)) are.tree
+    ∙ ap (λ (r : Result (List ActorPlan) ScriptFault). then_with r (with_plans order d header nodes)) planned
     ∙ ap (λ (r : Result (List ℕ) ScriptFault). then_with r (λ turns. Ok (record { nodes = nodes; plans = plans; schedule = turns; lines = header.lines }))) scheduled
 
 -- ---- how many actors there are
@@ -114,3 +114,26 @@ few_actors nodes version d plans e = by (actors_in d) refl e
         let few : count_of items ≤ ACTORS_MAX = few_items (list_in (codes "actors") d) items is in
         let same : length plans ≡ count_of items = counted (actor_at nodes version) 0 items plans f in
         omega (arith, few, same)
+
+some_items : (o : Option Items) (items : Items)
+    → with_some o (Err Actors) (λ is. refuse_if (has_none is) (Err Actors) (refuse_if (are_over ACTORS_MAX is) (Err TooManyActors) (Ok is))) ≡ Ok items
+    → 0 < count_of items
+some_items None items e = cc (e)
+some_items (Some is) items e = by (has_none is) (are_over ACTORS_MAX is) refl e
+  where
+    by : (none over : Bool) → has_none is ≡ none → refuse_if none (Err Actors) (refuse_if over (Err TooManyActors) (Ok is)) ≡ Ok items → 0 < count_of items
+    by true over test e = cc (e)
+    by false true test e = cc (e)
+    by false false test e =
+        let same : is ≡ items = cc e in
+        subst (λ (js : Items). 0 < count_of js) same (search (rules))
+
+pub some_actors : (nodes : List Inode) (version : Version) (d : Data) (plans : List ActorPlan) → actors_of nodes version d ≡ Ok plans → 0 < length plans
+some_actors nodes version d plans e = by (actors_in d) refl e
+  where
+    by : (r : Result Items ScriptFault) → actors_in d ≡ r → then_with r (each (actor_at nodes version) 0) ≡ Ok plans → 0 < length plans
+    by (Err fault) is f = cc (f)
+    by (Ok items) is f =
+        let some : 0 < count_of items = some_items (list_in (codes "actors") d) items is in
+        let same : length plans ≡ count_of items = counted (actor_at nodes version) 0 items plans f in
+        omega (arith, some, same)

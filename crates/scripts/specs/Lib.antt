@@ -7,6 +7,7 @@ pub use Rattle.path_text.specs.Text
 pub mod Actors
 pub mod Calls
 pub mod Checks
+pub mod Drawing
 pub mod Fault
 pub mod Fields
 pub mod Input
@@ -20,5 +21,6 @@ pub mod Script
 pub mod Steps
 pub mod Tree
 pub mod TreeLaws
+pub mod Turns
 pub mod Version
 pub mod Words

@@ -13,6 +13,7 @@ use Rattle.tree_model.specs.State.{State}
 use Rattle.scripts.specs.declared.fault.RunFault.{RunFault}
 use Rattle.scripts.specs.declared.fault.RunFault.TheVariants.{Script, ReadFailed, WriteFailed, NoMemory, BookFull}
 use Rattle.scripts.specs.declared.fault.ScriptFault.{ScriptFault}
+use Rattle.scripts.specs.declared.turns.TurnOrder.{TurnOrder}
 use Rattle.scripts.specs.Fault.{check_of}
 use Rattle.scripts.specs.Scenario.{Said, said_for}
 
@@ -20,7 +21,7 @@ use Rattle.scripts.specs.Scenario.{Said, said_for}
 abbrev pub tree_of : Said → State
 tree_of said = record { nodes = said.nodes; handles = [] }
 
--- Of some run of what the script says, by its schedule and then each actor to its end: the tree, the events and the replies.
+-- Of some run of what the script says, by the schedule and then each actor to its end: the tree, the events and the replies.
 -- Runs of one script differ by nothing but where a turn had no memory.
 pub record IsRunOf (said : Said) (tree : State) (events : List Event) (replies : List (List Outcome)) : Type 0 where
   pub world : WorldView
@@ -58,17 +59,22 @@ IsNoRun said (Script fault) = ⊥
 IsNoRun said ReadFailed = ⊥
 IsNoRun said WriteFailed = ⊥
 
--- a replay's fault is the script's; or its book is too small; or a read or a growth was refused; or a write, where there is a text
-abbrev pub IsReplayFaultOf : Result Said ScriptFault → RunFault → Type 0
-IsReplayFaultOf said (Script fault) = said ≡ Err (check_of fault)
-IsReplayFaultOf said ReadFailed = ⊤
-IsReplayFaultOf said WriteFailed = IsOkAnd said (λ s. (text : List ℕ) × IsTextOf s text)
-IsReplayFaultOf said NoMemory = ⊤
-IsReplayFaultOf said BookFull = IsOkAnd said HasFewLines
+-- a fault of writing a text of what is said is the script's; or its book is too small; or a read or a growth was refused; or a
+-- write of such a text, which isn't empty
+abbrev pub IsWritingFaultOf : (Said → List ℕ → Type 0) → Result Said ScriptFault → RunFault → Type 0
+IsWritingFaultOf IsText said (Script fault) = said ≡ Err (check_of fault)
+IsWritingFaultOf IsText said ReadFailed = ⊤
+IsWritingFaultOf IsText said WriteFailed = IsOkAnd said (λ s. (text : List ℕ) × IsText s text × (text ≢ []))
+IsWritingFaultOf IsText said NoMemory = ⊤
+IsWritingFaultOf IsText said BookFull = IsOkAnd said HasFewLines
+
+-- such a text of what is said was written, and nothing else
+abbrev pub Wrote : (Said → List ℕ → Type 0) → Result Said ScriptFault → Option (List ℕ) → Option (List ℕ) → Type 0
+Wrote IsText said old new = IsOkAnd said (λ s. (text : List ℕ) × IsText s text × Appends old new text)
 
 -- The replay wrote the text of a report on a run of what the script says, and nothing else; or it failed as it should, and but
 -- for a writer that failed nothing was written. `known` is what the reader had left.
-abbrev pub IsReplay : {T : Type 0} → Option (List ℕ) → Option (List ℕ) → Option (List ℕ) → Result T RunFault → Type 0
-IsReplay known old new result = MatchResult result
-    (λ _. IfSome known (λ input. IsOkAnd (said_for input) (λ said. (text : List ℕ) × IsTextOf said text × Appends old new text)))
-    (λ fault. IfSome known (λ input. IsReplayFaultOf (said_for input) fault) × (fault ≢ WriteFailed → Keeps old new))
+abbrev pub IsReplay : {T : Type 0} → TurnOrder → Option (List ℕ) → Option (List ℕ) → Option (List ℕ) → Result T RunFault → Type 0
+IsReplay order known old new result = MatchResult result
+    (λ _. IfSome known (λ input. Wrote IsTextOf (said_for order input) old new))
+    (λ fault. IfSome known (λ input. IsWritingFaultOf IsTextOf (said_for order input) fault) × (fault ≢ WriteFailed → Keeps old new))

@@ -6,7 +6,7 @@ use Rattle.serde_json.specs.Find.{get, as_number, as_u64, as_object}
 use Rattle.race_core.specs.declared.plan.ActorPlan.{ActorPlan}
 use Rattle.tree_model.specs.declared.inode.Inode.{Inode}
 use Rattle.tree_model.specs.Entries.{with_some, refuse_if}
-use Rattle.tree_model.specs.State.{TOP}
+use Rattle.tree_model.specs.State.{State, TOP}
 use Rattle.tree_model.specs.Steps.{directory_at}
 use Rattle.scripts.specs.declared.actors.TheConstants.{ACTORS_MAX}
 use Rattle.scripts.specs.declared.fault.RunFault.{RunFault}
@@ -17,6 +17,8 @@ use Rattle.scripts.specs.declared.scenario.Header.{Header}
 use Rattle.scripts.specs.declared.scenario.Scenario.{Scenario}
 use Rattle.scripts.specs.declared.scenario.TheConstants.{LINES_MAX}
 use Rattle.scripts.specs.declared.input.TheConstants.{SCRIPT_MAX}
+use Rattle.scripts.specs.declared.turns.TurnOrder.{TurnOrder}
+use Rattle.scripts.specs.declared.turns.TurnOrder.TheVariants.{OfScript, Asked}
 use Rattle.scripts.specs.Checks.{then_with}
 use Rattle.scripts.specs.Fault.{check_of}
 use Rattle.scripts.specs.Fields.{list_in, perhaps}
@@ -24,6 +26,7 @@ use Rattle.scripts.specs.Input.{data_of}
 use Rattle.scripts.specs.Plans.{actors_of}
 use Rattle.scripts.specs.Schedule.{schedule_of}
 use Rattle.scripts.specs.Tree.{tree_of}
+use Rattle.scripts.specs.Turns.{turns_asked}
 use Rattle.scripts.specs.Version.{version_in}
 
 -- the tree's nodes, what each actor does, who takes each turn, and how many lines the book has
@@ -33,8 +36,11 @@ pub record Said : Type 0 where
   pub schedule : List ℕ
   pub lines : ℕ
 
+abbrev pub said_on : State → List ActorPlan → List ℕ → ℕ → Said
+said_on tree plans schedule lines = record { nodes = tree.nodes; plans = plans; schedule = schedule; lines = lines }
+
 abbrev pub said_by : Scenario → Said
-said_by s = record { nodes = s.tree.nodes; plans = s.plans.items; schedule = s.schedule.items; lines = s.lines }
+said_by s = said_on s.tree s.plans.items s.schedule.items s.lines
 
 abbrev pub lines_in : Data → Option ℕ
 lines_in d = perhaps (get (codes "lines") d) LINES_MAX (λ lines.
@@ -50,18 +56,23 @@ header_of d =
 abbrev pub nodes_in : Data → Result (List Inode) ScriptFault
 nodes_in d = with_some (list_in (codes "tree") d) (Err Tree) tree_of
 
+-- the schedule of so many actors: the script's, or what is asked for in its place
+abbrev pub schedule_for : TurnOrder → ℕ → Data → Result (List ℕ) ScriptFault
+schedule_for OfScript actors d = schedule_of actors d
+schedule_for (Asked turns) actors d = turns_asked actors turns.items
+
 -- what a script says, or the first check that fails
-abbrev pub scenario_of : Data → Result Said ScriptFault
-scenario_of d =
+abbrev pub scenario_of : TurnOrder → Data → Result Said ScriptFault
+scenario_of order d =
     then_with (header_of d) (λ header.
     then_with (nodes_in d) (λ nodes.
     then_with (actors_of nodes header.version d) (λ plans.
-    then_with (schedule_of (length plans) d) (λ schedule.
+    then_with (schedule_for order (length plans) d) (λ schedule.
     Ok (record { nodes = nodes; plans = plans; schedule = schedule; lines = header.lines })))))
 
--- what the script says that these bytes are
-abbrev pub said_for : List ℕ → Result Said ScriptFault
-said_for input = refuse_if (nat_lt SCRIPT_MAX (length input)) (Err TooLong) (then_with (data_of input) scenario_of)
+-- what the script says that these bytes are, with this order of turns
+abbrev pub said_for : TurnOrder → List ℕ → Result Said ScriptFault
+said_for order input = refuse_if (nat_lt SCRIPT_MAX (length input)) (Err TooLong) (then_with (data_of input) (scenario_of order))
 
 -- the fault of reading is the script's; or a read or a growth was refused
 abbrev pub IsReadingFaultOf : Result Said ScriptFault → RunFault → Type 0
@@ -71,8 +82,10 @@ IsReadingFaultOf said WriteFailed = ⊥
 IsReadingFaultOf said NoMemory = ⊤
 IsReadingFaultOf said BookFull = ⊥
 
--- What is said can be played: each actor's root is a directory, each turn an actor's, and a book may have the lines.
+-- What is said can be played: there are actors, each one's root is a directory, each turn an actor's, and a book may have the
+-- lines.
 pub record IsPlayable (said : Said) : Type 0 where
+  pub some : 0 < length said.plans
   pub few : length said.plans ≤ ACTORS_MAX
   pub roots : All (λ plan. IsOk (directory_at said.nodes TOP plan.root)) said.plans
   pub turns : All (λ actor. actor < length said.plans) said.schedule

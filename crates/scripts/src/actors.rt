@@ -18,7 +18,6 @@ use serde_json::Value;
 use std::alloc::Global;
 use tree_list::directory_at;
 use tree_model::{Actor, HandleNo, Inode, Tree, steps_keep_trees};
-use tree_slab::SlabTree;
 
 /// The most actors of a script.
 pub const ACTORS_MAX: usize = 64;
@@ -124,11 +123,11 @@ pub fn actors_of(
 }
 
 /// Opens the directory at these names for the actor, who has no handle yet.
-pub fn open_root(alloc: Global, tree: &mut SlabTree, names: &Names) -> Result<HandleNo, RunFault>
-    requires none { tree.old.handles ≡ [] }
-    requires tree { IsState tree.old }
-    ensures ok { IfOk result (λ root. IsAtHand (rooted tree.old.nodes (directory_at tree.old.nodes TOP names.now)) tree.new ACTOR root) }
-    ensures err { IfErr result (IsFaultOf (rooted tree.old.nodes (directory_at tree.old.nodes TOP names.now))) }
+pub fn open_root<T: Tree>(alloc: Global, tree: &mut T, names: &Names) -> Result<HandleNo, RunFault>
+    requires none { (T.state tree.old).handles ≡ [] }
+    requires tree { IsState (T.state tree.old) }
+    ensures ok { IfOk result (λ root. IsAtHand (rooted (T.state tree.old).nodes (directory_at (T.state tree.old).nodes TOP names.now)) (T.state tree.new) ACTOR root) }
+    ensures err { IfErr result (IsFaultOf (rooted (T.state tree.old).nodes (directory_at (T.state tree.old).nodes TOP names.now))) }
 {
     // The tree is one with the root open, too.
     steps_keep_trees();

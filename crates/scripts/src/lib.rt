@@ -1,14 +1,15 @@
-//! Scripts: reading one whole, running a walk over its tree below its first actor's root, and replaying it.
+//! Scripts: reading one whole, running a walk over its tree below its first actor's root, replaying it, and drawing it.
 //!
 //! A script is a JSON text with a tree's entries, actors with their roots and calls, and a schedule of their turns. What
 //! `read_scenario` reads is what the script says, or the first check that fails. What a run writes is a stated
 //! function of what the reader has left and of the call (`walk`), or the text of the report on a run of the script's world
-//! (`replay`), whatever reader and writer it is given.
+//! (`replay`), or a picture of such a run (`draw`), whatever reader and writer it is given.
 #![tactic(auto)]
 
 mod actors;
 mod calls;
 mod detail;
+mod drawing;
 mod fault;
 mod fields;
 mod input;
@@ -23,11 +24,13 @@ mod steps;
 #[cfg(test)]
 mod tests;
 mod tree;
+mod turns;
 mod words;
 
 pub use actors::ACTORS_MAX;
 pub use calls::CALLS_MAX;
 pub use detail::Detail;
+pub use drawing::{DrawFault, Form, draw};
 pub use fault::{Cause, JsonFault, RunFault, ScriptFault};
 pub use input::SCRIPT_MAX;
 pub use laws::first_refused_entry_is_told;
@@ -36,3 +39,4 @@ pub use run::walk;
 pub use scenario::{LINES_MAX, Scenario, read_scenario};
 pub use schedule::TURNS_MAX;
 pub use tree::ENTRIES_MAX;
+pub use turns::{TurnOrder, Turns, read_turns};

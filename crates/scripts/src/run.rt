@@ -20,19 +20,18 @@ use std::alloc::Global;
 use std::io::{Read, Write};
 use step_resolver::{Goal, Resolved, Root, resolve};
 use transcript::Output;
-use tree_model::{Actor, HandleNo, name_below_is_standing};
-use tree_slab::SlabTree;
+use tree_model::{Actor, HandleNo, Tree, name_below_is_standing};
 
 /// What a path text means below the root that is open. Errors: the text's faults, then those of `resolve`.
-fn look_up(
+fn look_up<T: Tree>(
     alloc: Global,
-    tree: &mut SlabTree,
+    tree: &mut T,
     root: HandleNo,
     text: &[u8],
     flags: Flags,
 ) -> Result<Resolved, Errno>
-    requires { IsReady tree.old ACTOR root (node_of tree.old ACTOR root) }
-    ensures { Resolves tree.old.nodes (node_of tree.old ACTOR root) (resolved tree.old.nodes (node_of tree.old ACTOR root) text.now true flags) result }
+    requires { IsReady (T.state tree.old) ACTOR root (node_of (T.state tree.old) ACTOR root) }
+    ensures { Resolves (T.state tree.old).nodes (node_of (T.state tree.old) ACTOR root) (resolved (T.state tree.old).nodes (node_of (T.state tree.old) ACTOR root) text.now true flags) result }
 {
     let path = Path::parse(alloc, text)?;
     let owner = Owner {
@@ -74,15 +73,15 @@ fn fault_line(alloc: Global, error: Errno) -> Result<Output, RunFault>
 }
 
 /// The line of what a path text means below the root that is open. `NoMemory`.
-fn line_of(
+pub fn line_of<T: Tree>(
     alloc: Global,
-    tree: &mut SlabTree,
+    tree: &mut T,
     root: HandleNo,
     text: &[u8],
     flags: Flags,
 ) -> Result<Output, RunFault>
-    requires { IsReady tree.old ACTOR root (node_of tree.old ACTOR root) }
-    ensures ok { IfOk result (λ line. line ≡ line_of tree.old.nodes (node_of tree.old ACTOR root) (resolved tree.old.nodes (node_of tree.old ACTOR root) text.now true flags)) }
+    requires { IsReady (T.state tree.old) ACTOR root (node_of (T.state tree.old) ACTOR root) }
+    ensures ok { IfOk result (λ line. line ≡ line_of (T.state tree.old).nodes (node_of (T.state tree.old) ACTOR root) (resolved (T.state tree.old).nodes (node_of (T.state tree.old) ACTOR root) text.now true flags)) }
     ensures some { IfOk result (λ line. line ≢ []) }
     ensures err { IfErr result (λ fault. fault ≡ run_fault.NoMemory) }
 {

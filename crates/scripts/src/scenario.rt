@@ -10,9 +10,10 @@ use crate::calls::{Version, version_in};
 use crate::fault::{RunFault, ScriptFault};
 use crate::fields::list_in;
 use crate::input::{read_script, value_of};
-use crate::schedule::schedule_of;
+use crate::schedule::schedule_for;
 use crate::script::is_no_object;
 use crate::tree::{indexed, list_of};
+use crate::turns::TurnOrder;
 use race_core::ActorPlan;
 use serde_json::Value;
 use std::alloc::Global;
@@ -71,7 +72,7 @@ fn header_of(script: &Value) -> Result<Header, RunFault>
 }
 
 /// The plain tree of a script. Errors: `Tree` where there is no list of entries, then those of `list_of`.
-fn plain_tree_of(alloc: Global, script: &Value) -> Result<ListTree, RunFault>
+pub fn plain_tree_of(alloc: Global, script: &Value) -> Result<ListTree, RunFault>
     ensures ok { IfOk result (λ tree. (nodes_in (view script.now) ≡ Ok tree.nodes) × (tree.handles ≡ [])) }
     ensures tree { IfOk result IsState }
     ensures err { IfErr result (IsFaultOf (nodes_in (view script.now))) }
@@ -83,20 +84,22 @@ fn plain_tree_of(alloc: Global, script: &Value) -> Result<ListTree, RunFault>
 }
 
 /// What a script says. Errors: the first check that fails, in this order: those of its version and its lines, of its
-/// tree, of its actors, each with its calls, and of its schedule; `NoMemory`.
-fn scenario_of(alloc: Global, script: &Value) -> Result<Scenario, RunFault>
-    ensures said { IfOk result (λ scenario. scenario_of (view script.now) ≡ Ok (said_by scenario)) }
+/// tree, of its actors, each with its calls, and of its schedule, or of the turns that are asked for in its place;
+/// `NoMemory`.
+pub fn scenario_of(alloc: Global, script: &Value, order: &TurnOrder) -> Result<Scenario, RunFault>
+    ensures said { IfOk result (λ scenario. scenario_of order.now (view script.now) ≡ Ok (said_by scenario)) }
     ensures playable { IfOk result (λ scenario. IsPlayable (said_by scenario)) }
+    ensures nodes { IfOk result (λ scenario. nodes_in (view script.now) ≡ Ok scenario.tree.nodes) }
     ensures none { IfOk result (λ scenario. scenario.tree.handles ≡ []) }
     ensures tree { IfOk result (λ scenario. IsState scenario.tree) }
-    ensures err { IfErr result (IsFaultOf (scenario_of (view script.now))) }
+    ensures err { IfErr result (IsFaultOf (scenario_of order.now (view script.now))) }
 {
     let header = header_of(script)?;
     let list = plain_tree_of(alloc, script)?;
     let tree = indexed(alloc, &list)?;
     let (nodes, _no_handles) = list.into_parts();
     let plans = actors_of(alloc, &nodes, header.version, script)?;
-    let schedule = schedule_of(alloc, plans.len(), script)?;
+    let schedule = schedule_for(alloc, plans.len(), order, script)?;
     let lines = header.lines;
     Ok(Scenario {
         tree,
@@ -106,16 +109,20 @@ fn scenario_of(alloc: Global, script: &Value) -> Result<Scenario, RunFault>
     })
 }
 
-/// Reads a script to its end, and what it says. Errors, in this order: those of `read_script`; `Script(NotJson)`; those
-/// of `scenario_of`.
-pub fn read_scenario<R: Read>(alloc: Global, reader: &mut R) -> Result<Scenario, RunFault>
-    ensures said { IfOk result (λ scenario. IfSome (R.remaining reader.old) (λ input. said_for input ≡ Ok (said_by scenario))) }
+/// Reads a script to its end, and what it says, with this order of turns. Errors, in this order: those of `read_script`;
+/// `Script(NotJson)`; those of `scenario_of`.
+pub fn read_scenario<R: Read>(
+    alloc: Global,
+    reader: &mut R,
+    order: &TurnOrder,
+) -> Result<Scenario, RunFault>
+    ensures said { IfOk result (λ scenario. IfSome (R.remaining reader.old) (λ input. said_for order.now input ≡ Ok (said_by scenario))) }
     ensures playable { IfOk result (λ scenario. IsPlayable (said_by scenario)) }
     ensures none { IfOk result (λ scenario. scenario.tree.handles ≡ []) }
     ensures tree { IfOk result (λ scenario. IsState scenario.tree) }
-    ensures err { IfErr result (λ fault. IfSome (R.remaining reader.old) (λ input. IsReadingFaultOf (said_for input) fault)) }
+    ensures err { IfErr result (λ fault. IfSome (R.remaining reader.old) (λ input. IsReadingFaultOf (said_for order.now input) fault)) }
 {
     let bytes = read_script(alloc, reader)?;
     let script = value_of(alloc, &bytes)?;
-    scenario_of(alloc, &script)
+    scenario_of(alloc, &script, order)
 }

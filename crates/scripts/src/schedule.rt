@@ -3,11 +3,13 @@ ghost use Rattle.std.specs.Prelude.{◌≡◌, ◌≤◌, Ok, IfOk, IfErr};
 ghost use Rattle.serde_json.specs.View.{view, items_view};
 ghost use Rattle.scripts.specs.Checks.{each};
 ghost use Rattle.scripts.specs.Fault.{IsFaultOf};
+ghost use Rattle.scripts.specs.Scenario.{schedule_for};
 ghost use Rattle.scripts.specs.Schedule.{turn_at, schedule_of};
 
 use crate::actors::ACTORS_MAX;
 use crate::fault::{RunFault, ScriptFault};
 use crate::fields::are_over;
+use crate::turns::{TurnOrder, turns_asked};
 use serde_json::Value;
 use std::alloc::Global;
 
@@ -42,7 +44,7 @@ fn turns_of(alloc: Global, actors: usize, turns: &[Value]) -> Result<Vec<u32>, R
 
 /// The schedule of a script with so many actors, empty where the key is missing. Errors, in this order: `Schedule`
 /// where it is no list; `TooManyTurns` past `TURNS_MAX` of them; those of `turns_of`.
-pub fn schedule_of(alloc: Global, actors: usize, script: &Value) -> Result<Vec<u32>, RunFault>
+fn schedule_of(alloc: Global, actors: usize, script: &Value) -> Result<Vec<u32>, RunFault>
     requires { actors ≤ ACTORS_MAX }
     ensures ok { IfOk result (λ schedule. schedule_of actors (view script.now) ≡ Ok schedule.items) }
     ensures err { IfErr result (IsFaultOf (schedule_of actors (view script.now))) }
@@ -57,4 +59,22 @@ pub fn schedule_of(alloc: Global, actors: usize, script: &Value) -> Result<Vec<u
         return Err(RunFault::Script(ScriptFault::TooManyTurns));
     }
     turns_of(alloc, actors, turns.as_slice())
+}
+
+/// The schedule of so many actors in this order: the script's, or what is asked for in its place. Errors: those of
+/// `schedule_of`, or of `turns_asked`.
+pub fn schedule_for(
+    alloc: Global,
+    actors: usize,
+    order: &TurnOrder,
+    script: &Value,
+) -> Result<Vec<u32>, RunFault>
+    requires { actors ≤ ACTORS_MAX }
+    ensures ok { IfOk result (λ schedule. schedule_for order.now actors (view script.now) ≡ Ok schedule.items) }
+    ensures err { IfErr result (IsFaultOf (schedule_for order.now actors (view script.now))) }
+{
+    match order {
+        TurnOrder::OfScript => schedule_of(alloc, actors, script),
+        TurnOrder::Asked(turns) => turns_asked(alloc, actors, turns.as_slice()),
+    }
 }

@@ -1,4 +1,8 @@
-//! The library's calls, on scripts; the walk's rows among another actor's steps in `races`, replays in `replays`.
+//! The library's calls, on scripts; the walk's rows among another actor's steps in `races`, replays in `replays`, over both trees in
+//! `both`, and drawings in `pictures`.
+mod attacked;
+mod both;
+mod pictures;
 mod races;
 mod readings;
 mod replays;

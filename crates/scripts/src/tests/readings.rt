@@ -3,6 +3,7 @@ use super::{BASE, Failing};
 use crate::fault::{Cause, RunFault, ScriptFault};
 use crate::scenario::{LINES_MAX, Scenario, read_scenario};
 use crate::schedule::TURNS_MAX;
+use crate::turns::TurnOrder;
 use path_text::Errno;
 use race_core::{Planned, Ref};
 use root_ops::{Op, Request};
@@ -12,7 +13,7 @@ use tree_model::{Mode, StepOf};
 
 /// Whether the script is refused so.
 fn refuses(alloc: Global, script: &[u8], want: ScriptFault) -> bool {
-    match read_scenario(alloc, &mut &*script) {
+    match read_scenario(alloc, &mut &*script, &TurnOrder::OfScript) {
         Ok(_) => false,
         Err(fault) => fault == RunFault::Script(want),
     }
@@ -20,7 +21,7 @@ fn refuses(alloc: Global, script: &[u8], want: ScriptFault) -> bool {
 
 /// How many lines, actors and turns the script has, where it isn't refused.
 fn counts(alloc: Global, script: &[u8]) -> Option<(u32, usize, usize)> {
-    let scenario = read_scenario(alloc, &mut &*script).ok()?;
+    let scenario = read_scenario(alloc, &mut &*script, &TurnOrder::OfScript).ok()?;
     Some((
         scenario.lines,
         scenario.plans.len(),
@@ -116,7 +117,7 @@ const MOVED_OUT: &str = r#"{"version":1,
 /// Whether a script is no JSON text.
 fn is_no_json(alloc: Global, script: &[u8]) -> bool {
     matches!(
-        read_scenario(alloc, &mut &*script),
+        read_scenario(alloc, &mut &*script, &TurnOrder::OfScript),
         Err(RunFault::Script(ScriptFault::NotJson(_)))
     )
 }
@@ -141,7 +142,7 @@ fn a_part_of_a_script_is_no_script(rt: HostRuntime) {
 fn fault_of_changed(alloc: Global, old: &str, new: &str) -> Option<RunFault> {
     let (before, after) = MOVED_OUT.split_once(old)?;
     let script = format!(in alloc; "{before}{new}{after}").ok()?;
-    read_scenario(alloc, &mut script.as_bytes()).err()
+    read_scenario(alloc, &mut script.as_bytes(), &TurnOrder::OfScript).err()
 }
 
 #[test]
@@ -179,7 +180,7 @@ fn script_of(alloc: Global, version: u8, calls: &str) -> Result<String, AllocErr
 /// Which of the first actor's calls is refused, where one is.
 fn refused_call(alloc: Global, version: u8, calls: &str) -> Option<usize> {
     let script = script_of(alloc, version, calls).ok()?;
-    match read_scenario(alloc, &mut script.as_bytes()) {
+    match read_scenario(alloc, &mut script.as_bytes(), &TurnOrder::OfScript) {
         Err(RunFault::Script(ScriptFault::Call(0, call))) => Some(call),
         _ => None,
     }
@@ -190,7 +191,7 @@ fn reads_calls(alloc: Global, version: u8, calls: &str, count: usize) -> bool {
     let Ok(script) = script_of(alloc, version, calls) else {
         return false;
     };
-    match read_scenario(alloc, &mut script.as_bytes()) {
+    match read_scenario(alloc, &mut script.as_bytes(), &TurnOrder::OfScript) {
         Ok(scenario) => scenario
             .plans
             .first()
@@ -355,7 +356,7 @@ fn calls_are_as_written(rt: HostRuntime) {
 {"op":"step","step":"below","on":"A"},
 {"op":"step","step":"rename","on":"A","name":"n","to":"root","new":"o","mode":"noreplace"},
 {"op":"release","on":"A"}]}]}"#;
-    let holds = read_scenario(rt.alloc(), &mut script.as_bytes()).is_ok_and(
+    let holds = read_scenario(rt.alloc(), &mut script.as_bytes(), &TurnOrder::OfScript).is_ok_and(
         |scenario| are_as_written(&scenario),
     );
     assert!(rt; holds);
@@ -380,7 +381,7 @@ fn fault_of_long(
     end: &str,
 ) -> Option<RunFault> {
     let script = long_list(alloc, front, element, count, end)?;
-    read_scenario(alloc, &mut script.as_bytes()).err()
+    read_scenario(alloc, &mut script.as_bytes(), &TurnOrder::OfScript).err()
 }
 
 #[test]
@@ -431,6 +432,6 @@ fn reading_that_fails_is_told(rt: HostRuntime) {
         kind: ErrorKind::Other,
         reads: 0,
     };
-    let told = read_scenario(rt.alloc(), &mut reader).err();
+    let told = read_scenario(rt.alloc(), &mut reader, &TurnOrder::OfScript).err();
     assert!(rt; told == Some(RunFault::ReadFailed));
 }

@@ -2,13 +2,20 @@
 use super::{BASE, Closed, Failing, tells};
 use crate::fault::RunFault;
 use crate::play::replay;
+use crate::turns::{TurnOrder, read_turns};
 use std::alloc::Global;
 use std::io::ErrorKind;
+use std::test::Fail;
 
 /// Whether a replay of the script writes this, and nothing else.
 fn replays(alloc: Global, script: &str, want: &str) -> bool {
     let mut written = Vec::new(alloc);
-    let ended = replay(alloc, &mut script.as_bytes(), &mut written);
+    let ended = replay(
+        alloc,
+        &mut script.as_bytes(),
+        &mut written,
+        &TurnOrder::OfScript,
+    );
     ended.is_ok() && written.as_slice() == want.as_bytes()
 }
 
@@ -90,7 +97,12 @@ fn writes_reports(rt: HostRuntime) {
 /// Whether a replay of the script is told in these words, and nothing is written.
 fn fails(alloc: Global, script: &str, want: &str) -> bool {
     let mut written = Vec::new(alloc);
-    match replay(alloc, &mut script.as_bytes(), &mut written) {
+    match replay(
+        alloc,
+        &mut script.as_bytes(),
+        &mut written,
+        &TurnOrder::OfScript,
+    ) {
         Ok(()) => false,
         Err(fault) => written.is_empty() && tells(alloc, fault, want),
     }
@@ -137,9 +149,79 @@ fn ends_where_a_read_or_a_write_fails(rt: HostRuntime) {
     let kind = ErrorKind::Other;
     let mut reader = Failing { kind, reads: 0 };
     let mut written = Vec::new(alloc);
-    let unread = replay(alloc, &mut reader, &mut written);
+    let unread = replay(alloc, &mut reader, &mut written, &TurnOrder::OfScript);
     assert_eq!(rt; unread, Err(RunFault::ReadFailed));
     assert!(rt; written.is_empty());
-    let unwritten = replay(alloc, &mut BASE.as_bytes(), &mut Closed);
+    let unwritten = replay(
+        alloc,
+        &mut BASE.as_bytes(),
+        &mut Closed,
+        &TurnOrder::OfScript,
+    );
     assert_eq!(rt; unwritten, Err(RunFault::WriteFailed));
+}
+
+/// Two actors with a call each, and no schedule.
+const RACE: &str = r#"{"version":1,"tree":[["dir","/e"]],"actors":[
+{"root":"/","calls":[{"op":"resolve","path":"e/.."}]},
+{"root":"/","calls":[{"op":"step","step":"remove_dir","on":"root","name":"e"}]}],"schedule":[7]}"#;
+
+/// Whether the race, with these turns in place of its schedule, has this last line of events, or is told in these words.
+fn takes(alloc: Global, turns: &str, want: &str) -> Result<bool, Fail> {
+    let Some(turns) = read_turns(alloc, turns)? else {
+        return Ok(want == "usage");
+    };
+    let order = TurnOrder::Asked(turns);
+    let mut written = Vec::new(alloc);
+    Ok(
+        match replay(alloc, &mut RACE.as_bytes(), &mut written, &order) {
+            Ok(()) => written.starts_with(want.as_bytes()),
+            Err(fault) => written.is_empty() && tells(alloc, fault, want),
+        },
+    )
+}
+
+#[test]
+fn takes_turns_that_are_asked_for(rt: HostRuntime) -> Result<(), Fail> {
+    for (turns, want) in [
+        (
+            "-",
+            "event 0 actor 0 open 0 e = opened 2 1 dir\nevent 1 actor 0 parent",
+        ),
+        (
+            "0,1",
+            "event 0 actor 0 open 0 e = opened 2 1 dir\nevent 1 actor 1",
+        ),
+        (
+            "0*2,1",
+            "event 0 actor 0 open 0 e = opened 2 1 dir\nevent 1 actor 0",
+        ),
+        ("1", "event 0 actor 1 remove_dir 1 e = done\n"),
+        ("1*100000", "event 0 actor 1 remove_dir 1 e = done\n"),
+        (
+            "0,1,2",
+            "script: schedule 2\na turn is an actor's number, counted from 0",
+        ),
+        (
+            "2*99999,0*2",
+            "script: schedule\na schedule has at most 100000 turns",
+        ),
+        (
+            "4294967295",
+            "script: schedule 0\na turn is an actor's number, counted from 0",
+        ),
+        ("", "usage"),
+        ("0,", "usage"),
+        ("--", "usage"),
+        ("+1", "usage"),
+        ("01", "usage"),
+        ("0 ", "usage"),
+        ("0*0", "usage"),
+        ("0*100001", "usage"),
+        ("0*1*1", "usage"),
+        ("4294967296", "usage"),
+    ] {
+        assert!(rt; takes(rt.alloc(), turns, want)?, "{turns:?}");
+    }
+    Ok(())
 }

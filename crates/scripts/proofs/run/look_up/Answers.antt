@@ -6,6 +6,6 @@ use Rattle.scripts.proofs.Lines.{read_by}
 use Rattle.scripts.proofs.run.look_up.Goals as goal
 
 pub returns : goal.returns
-returns c =
-    read_by c.args.tree.now.nodes (node_of c.args.tree.now ACTOR c.args.root) c.args.text.now c.args.flags c.in_ok-path.path c.resolve.result c.in_ok-path.ensures
-    (subst (λ (a : ℕ). ResolvesBelow c.args.tree.now a c.args.root c.in_ok-path.path Follow c.args.flags c.resolve.result) c.new.ensures c.resolve.ensures.means)
+returns g c =
+    read_by (g.T.Tree.state c.args.tree.now).nodes (node_of (g.T.Tree.state c.args.tree.now) ACTOR c.args.root) c.args.text.now c.args.flags c.in_ok-path.path c.resolve.result c.in_ok-path.ensures
+    (subst (λ (a : ℕ). ResolvesBelow (g.T.Tree.state c.args.tree.now) a c.args.root c.in_ok-path.path Follow c.args.flags c.resolve.result) c.new.ensures c.resolve.ensures.means)

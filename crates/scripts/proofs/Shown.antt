@@ -1,0 +1,62 @@
+-- The text of a report on some actors' run, and a picture of it, have something in them.
+use Rattle.std.proofs.Common.{◌≢◌, ℕ, zero, suc, ◌<◌, List, [], ◌∷◌, ◌++◌, ◌+◌, ◌*◌, length, refl, sym, ◌∙◌, arith}
+use Rattle.std.specs.Prelude.{codes, Result, Ok, Err, MatchResult, IfOk}
+use Rattle.std.specs.List.{flat_map}
+use Rattle.race_core.specs.declared.report.Outcome.{Outcome}
+use Rattle.report_text.specs.Report.{report_text, event_lines, reply_lines, row_lines, held_line, held_lines}
+use Rattle.tree_model.specs.declared.answer.Event.{Event}
+use Rattle.tree_model.specs.State.{State}
+use Rattle.drawings.specs.declared.text.TheConstants.{MARK_COLUMNS}
+use Rattle.drawings.specs.Cells.{to_right, actor_name}
+use Rattle.drawings.specs.Picture.{Drawn}
+use Rattle.drawings.specs.Svg.{line_y, svg_head, svg_columns, svg_lines, svg_of}
+use Rattle.drawings.specs.Text.{cell_width, cells, head_row, line_row, text_of}
+use Rattle.scripts.specs.declared.drawing.Form.{Form}
+use Rattle.scripts.specs.declared.drawing.Form.TheVariants.{Text, Svg}
+use Rattle.scripts.specs.declared.drawing.DrawFault.{DrawFault}
+use Rattle.scripts.specs.declared.fault.RunFault.{RunFault}
+use Rattle.scripts.specs.Drawing.{drawn, form_text, IsDrawingOf, IsNoDrawing}
+use Rattle.scripts.specs.Replay.{IsTextOf, IsNoRun}
+use Rattle.scripts.specs.Scenario.{Said, IsPlayable}
+use Rattle.scripts.proofs.Lines.{first_byte}
+
+tail_some : (xs ys : List ℕ) → ys ≢ [] → xs ++ ys ≢ []
+tail_some [] ys some e = some e
+tail_some (x ∷ xs) ys some e = cc (e)
+
+front_some : (xs ys : List ℕ) → xs ≢ [] → xs ++ ys ≢ []
+front_some [] ys some e = some refl
+front_some (x ∷ xs) ys some e = cc (e)
+
+held_some : (s : State) (n : ℕ) → 0 < n → held_lines s n ≢ []
+held_some s zero some = omega (arith, some)
+held_some s (suc n) some = tail_some (held_lines s n) (held_line s n) (first_byte (held_line s n) _ 104 refl)
+
+report_some : (events : List Event) (replies : List (List Outcome)) (s : State) (actors : ℕ) → 0 < actors → report_text events replies s actors ≢ []
+report_some events replies s actors some =
+    tail_some (event_lines events) _ (tail_some (reply_lines replies) _ (tail_some (row_lines s.nodes) _ (held_some s actors some)))
+
+text_some : (picture : Drawn) → text_of picture ≢ []
+text_some picture =
+    front_some (head_row picture.actors) (flat_map (line_row picture.actors) picture.lines)
+    (tail_some (to_right MARK_COLUMNS []) (cells picture.actors (cell_width picture.actors) actor_name ++ codes " |\n")
+    (tail_some (cells picture.actors (cell_width picture.actors) actor_name) (codes " |\n") (λ e. cc (e))))
+
+svg_some : (picture : Drawn) → svg_of picture ≢ []
+svg_some picture =
+    let end = line_y (length picture.lines) in
+    tail_some (svg_head (48 + 494 * picture.actors) end) _
+    (tail_some (svg_columns end picture.actors) _ (tail_some (svg_lines picture.actors picture.lines) (codes "</svg>\n") (λ e. cc (e))))
+
+drawing_some : (form : Form) (picture : Drawn) → form_text form picture ≢ []
+drawing_some Text picture = text_some picture
+drawing_some Svg picture = svg_some picture
+
+pub texts_some : (said : Said) (made : Result (List ℕ) RunFault) → IsPlayable said → MatchResult made (IsTextOf said) (IsNoRun said) → IfOk made (λ text. text ≢ [])
+texts_some said (Ok text) playable is = λ none. report_some is.events is.replies is.tree (length said.plans) playable.some (sym is.is ∙ none)
+texts_some said (Err fault) playable is = tt
+
+pub drawings_some : (form : Form) (said : Said) (made : Result (List ℕ) DrawFault) → MatchResult made (IsDrawingOf form said) (IsNoDrawing said)
+    → IfOk made (λ text. text ≢ [])
+drawings_some form said (Ok text) is = λ none. drawing_some form (drawn said is.events is.replies) (sym is.is ∙ none)
+drawings_some form said (Err fault) is = tt

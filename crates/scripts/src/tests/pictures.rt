@@ -1,0 +1,101 @@
+//! Scripts drawn: both forms, and what ends a drawing before.
+use super::{BASE, Closed};
+use crate::drawing::{DrawFault, Form, draw};
+use crate::fault::RunFault;
+use crate::turns::TurnOrder;
+use std::alloc::{AllocError, Global};
+use std::test::Fail;
+
+const RACE: &str = r#"{"version":1,"tree":[["dir","/e"]],"actors":[
+{"root":"/","calls":[{"op":"resolve","path":"e/.."}]},
+{"root":"/","calls":[{"op":"step","step":"remove_dir","on":"root","name":"e"}]}],"schedule":[0,1]}"#;
+
+const ALONE: &str = r#"{"version":1,"tree":[],"actors":[{"root":"/","calls":[]}]}"#;
+
+/// What is drawn of a script in this form.
+fn drawn(alloc: Global, script: &str, form: Form) -> Result<Vec<u8>, DrawFault> {
+    let mut written = Vec::new(alloc);
+    draw(
+        alloc,
+        &mut script.as_bytes(),
+        &mut written,
+        &TurnOrder::OfScript,
+        form,
+    )?;
+    Ok(written)
+}
+
+#[test]
+fn draws_scripts(rt: HostRuntime) -> Result<(), Fail> {
+    for (script, form, want) in [
+        (
+            RACE,
+            Form::Text,
+            "       | actor 0                                     | actor 1                                     |
+     0 | open 0 e = opened 2 1 dir                   |                                             |
+     1 |                                             | remove_dir 1 e = done                       |
+     2 | parent 2 = refused ENOENT                   |                                             |
+     3 | close 2 = done                              |                                             |
+       | call 0 = fault EAGAIN                       |                                             |
+       |                                             | call 0 = stepped done                       |
+",
+        ),
+        (
+            ALONE,
+            Form::Svg,
+            "<svg xmlns='http://www.w3.org/2000/svg' font-family='monospace' font-size='13' width='542' height='66'>
+<text x='56' y='33'>actor 0</text>
+<path stroke='#8a93a5' d='M64 44V66'/>
+</svg>
+",
+        ),
+    ] {
+        let picture = drawn(rt.alloc(), script, form)?;
+        assert!(rt; picture.as_slice() == want.as_bytes(), "{form:?}");
+    }
+    Ok(())
+}
+
+/// A script of so many actors, each with so many calls.
+fn busy(alloc: Global, actors: u32, calls: u32) -> Result<String, AllocError> {
+    let mut script = String::from_str(alloc, r#"{"version":1,"tree":[],"actors":[{"root":"/""#)?;
+    for actor in 0..actors {
+        script.push_str(if actor == 0 {
+            r#","calls":["#
+        } else {
+            r#"]},{"root":"/","calls":["#
+        })?;
+        for call in 0..calls {
+            script.push_str(if call == 0 {
+                r#"{"op":"resolve","path":"e"}"#
+            } else {
+                r#",{"op":"resolve","path":"e"}"#
+            })?;
+        }
+    }
+    script.push_str("]}]}")?;
+    Ok(script)
+}
+
+#[test]
+fn ends_at_its_limits(rt: HostRuntime) -> Result<(), Fail> {
+    let alloc = rt.alloc();
+    for (actors, calls, want) in [
+        (4, 0, None),
+        (5, 0, Some(DrawFault::TooManyActors)),
+        (4, 251, Some(DrawFault::TooManyLines)),
+    ] {
+        let script = busy(alloc, actors, calls)?;
+        let fault = drawn(alloc, script.as_str(), Form::Text).err();
+        assert_eq!(rt; fault, want);
+    }
+    let unwritten = draw(
+        alloc,
+        &mut BASE.as_bytes(),
+        &mut Closed,
+        &TurnOrder::OfScript,
+        Form::Svg,
+    );
+    assert_eq!(rt; unwritten, Err(DrawFault::Run(RunFault::WriteFailed)));
+    Ok(())
+}
