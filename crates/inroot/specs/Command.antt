@@ -1,4 +1,5 @@
 -- What a command line asks for.
+use Rattle.std.specs.Borrow.{Bor}
 use Rattle.std.specs.Prelude.{◌≡◌, ◌≢◌, ℕ, List, Bool, true, false, Option, Some, None, codes}
 use Rattle.path_text.specs.declared.flags.Flags.{Flags}
 use Rattle.clap.specs.Matches.{found_of, first_value, one_text, subcommand_name_of}
@@ -28,7 +29,7 @@ IsAsked matches (Some walk) = IsWalk matches walk
 IsAsked matches None = first_value (found_of matches) (codes "PATH") ≡ None
 
 -- the turns that are asked for
-abbrev pub IsSchedule : ArgMatches → Option Bor → Type 0
+abbrev pub IsSchedule : ArgMatches → Option (Bor (List ℕ)) → Type 0
 IsSchedule matches (Some text) = first_value (found_of matches) (codes "schedule") ≡ Some text.now
 IsSchedule matches None = first_value (found_of matches) (codes "schedule") ≡ None
 

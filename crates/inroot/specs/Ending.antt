@@ -1,4 +1,5 @@
 -- The statuses that the program ends with: these four, and no other.
+use Rattle.std.specs.Borrow.{Bor}
 use Rattle.std.specs.Prelude.{⊤, ℕ, List, Option, Some, None, Result, Ok, Err}
 use Rattle.scripts.specs.declared.fault.RunFault.{RunFault}
 use Rattle.scripts.specs.declared.fault.RunFault.TheVariants.{Script, ReadFailed, WriteFailed, NoMemory, BookFull}
@@ -44,7 +45,7 @@ told_of drawing.TooManyActors = DrawActors
 told_of drawing.TooManyLines = DrawLines
 
 -- the order of the turns that a text says, or of the script where there is none; or the text says none
-abbrev pub IsOrder : Option Bor → Result TurnOrder Fault → Type 0
+abbrev pub IsOrder : Option (Bor (List ℕ)) → Result TurnOrder Fault → Type 0
 IsOrder None (Ok OfScript) = ⊤
 IsOrder None (Ok (Asked turns)) = ⊥
 IsOrder None (Err fault) = ⊥
