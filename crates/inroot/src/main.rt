@@ -46,7 +46,7 @@ fn words(rt: &HostRuntime) -> Result<Vec<String>, Fault> {
 
 /// The order of turns that a command line asks for. Errors: `Schedule` where they have another form; `NoMemory`.
 fn order_of(alloc: Global, schedule: Option<&str>) -> Result<TurnOrder, Fault>
-    ensures { IsOrder schedule result }
+    ensures { IsOrder schedule.entry result }
 {
     let Some(text) = schedule else {
         return Ok(TurnOrder::OfScript);
