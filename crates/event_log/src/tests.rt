@@ -103,7 +103,7 @@ fn holds_all(alloc: Global, log: &EventLog, other: &EventLog) -> Result<bool, Er
             {
                 return Ok(false);
             }
-            at += 1;
+            at = at.saturating_add(1);
         }
     }
     Ok(at == log.len())
@@ -130,7 +130,7 @@ fn writes_all(alloc: Global, log: &EventLog) -> Result<bool, NoMemory> {
             if words.as_slice() != wanted.as_bytes() {
                 return Ok(false);
             }
-            at += 1;
+            at = at.saturating_add(1);
         }
     }
     Ok(at == log.len())
