@@ -6,6 +6,7 @@ use Rattle.tree_model.specs.State.{State}
 use Rattle.tree_model.specs.StepLaws.{open_count}
 use Rattle.tree_model.specs.Steps.{held_count}
 use Rattle.race_core.specs.Book.{BookedHistory, tree_now}
+pub use Rattle.race_core.specs.OneReport.{full}
 use Rattle.race_core.specs.declared.seat.Seat.{Seat}
 use Rattle.race_core.specs.Turns.{Luck}
 use Rattle.race_core.specs.Worlds.{WorldView, turn, is_busy_at, ledgers_in, replies_in}
@@ -72,10 +73,6 @@ abbrev pub Alike : WorldView → WorldView → Type 0
 Alike w v = (pairs : Pairs) × AlikeBy pairs w v
 
 -- ---- runs
-
--- memory was there for all
-abbrev pub full : Luck
-full = record { start = true; step = true; room = true }
 
 -- the world after these actors' turns, with memory for all
 abbrev pub after_turns : WorldView → List ℕ → WorldView
