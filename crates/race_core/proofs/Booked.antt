@@ -188,7 +188,7 @@ close_told s a h answer e = ap is_done e ∙ closes_by s (held s a h) _ (λ x. r
 pub close_leaves : (s : State) (a h : ℕ) → is_some (held s a h) ≡ false → (outcome s a (Close h)).after ≡ s
 close_leaves s a h e = left_by s (held s a h) _ e
 
-close_done : (s : State) (a h : ℕ) → is_some (held s a h) ≡ true → (outcome s a (Close h)).answer ≡ Done
+pub close_done : (s : State) (a h : ℕ) → is_some (held s a h) ≡ true → (outcome s a (Close h)).answer ≡ Done
 close_done s a h e = done_by s (held s a h) _ (λ x. refl) e
 
 -- a handle was closed: there was one

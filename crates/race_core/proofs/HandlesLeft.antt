@@ -1,6 +1,7 @@
 -- The handles that an actor's calls leave open, one call after another.
 use Rattle.std.proofs.Common.{◌≡◌, ◌≢◌, ℕ, ◌==◌, Bool, true, false, if◌then◌else◌, List, [], ◌∷◌, ◌++◌, Option, Some, None, refl, sym, ap, ◌∙◌, subst}
 use Rattle.std.proofs.lemmas.Bool.{eqb-true, eqb-false}
+use Rattle.std.proofs.lemmas.List.Elements.{filter-append}
 use Rattle.tree_model.specs.declared.answer.Event.{Event}
 use Rattle.tree_model.specs.History.{IsLegal, after_events}
 use Rattle.tree_model.specs.State.{State}
@@ -18,9 +19,10 @@ use Rattle.root_ops.specs.Order.{Reply, opened, link_text, done, count, stepped,
 use Rattle.root_ops.specs.TurnView.{below_of}
 use Rattle.root_ops.proofs.Handles.OwnEvents.{cut, nothing_more}
 use Rattle.root_ops.proofs.Handles.WalkParts.{HasRoot, root_later}
-use Rattle.race_core.specs.EndHandles.{Word, words_of_done, words_of, words_of_call, all_words, last_word, HandlesAtEnd}
+use Rattle.race_core.specs.EndHandles.{Word, words_of_done, words_of, words_of_call, all_words, last_word, HandlesAtEnd, RootsStayOpen, KeptIsReleased}
 use Rattle.race_core.specs.Turns.{request_of}
-use Rattle.race_core.specs.WorldCalls.{opening_of, root_of, CallMade, IsMadeAs, kept_after, AreMade, events_of_calls, NoneCloses}
+use Rattle.race_core.specs.WorldCalls.{opening_of, root_of, CallMade, IsMadeAs, kept_after, AreMade, events_of_calls, NoneCloses, KeptAreReleased}
+use Rattle.race_core.proofs.KeptOpen.{none_first, none_rest, done_at}
 use Rattle.race_core.proofs.ReportsTell.{root_stays}
 
 -- ---- words
@@ -70,14 +72,6 @@ module _ (c : CallInHistory) where
   call_words (fault error) stay h = stay h
 
 -- ---- one call after another
-
-none_first : (h : ℕ) (es fs : List Event) → NoneCloses h (es ++ fs) → NoneCloses h es
-none_first h [] fs none = tt
-none_first h (e ∷ es) fs none = (none.0, none_first h es fs none.1)
-
-none_rest : (h : ℕ) (es fs : List Event) → NoneCloses h (es ++ fs) → NoneCloses h fs
-none_rest h [] fs none = none
-none_rest h (e ∷ es) fs none = none_rest h es fs none.1
 
 module _ (tell : CallsTell) (root : Root) (node : ℕ) where
   abbrev a : ℕ
@@ -130,11 +124,23 @@ module _ (tell : CallsTell) (root : Root) (node : ℕ) where
       ∙ sym (words_on (held s a h) h (words_of_call (request_of root standings c.planned) c.reply) (all_words root (kept_after root.owner standings c) calls))
 
 pub handles_at_end : CallsTell → HandlesAtEnd
-handles_at_end tell r i plan of none h =
+handles_at_end tell r i plan of closes_own h =
     let opening = opening_of r in
     let here : IsHere tell (root_of r i) of.node opening r.events = record {
       has = λ request. record { tree = of.history.tree; root = of.history.opened; root_is_dir = of.history.directory };
       legal = of.history.legal;
     } in
     ap (λ (s : State). held s i h) of.leads
-    ∙ after_all tell (root_of r i) of.node of.calls [] opening r.events of.made here of.own (subst (NoneCloses (root_of r i).handle) of.own none) h
+    ∙ after_all tell (root_of r i) of.node of.calls [] opening r.events of.made here of.own (subst (NoneCloses (root_of r i).handle) of.own (of.spared closes_own)) h
+
+-- ---- the root, and what is kept
+
+pub roots_stay_open : RootsStayOpen
+roots_stay_open r i plan of before after closes_own whole =
+    let own_first : own_events i r.events ≡ own_events i before ++ own_events i after = ap (own_events i) whole ∙ filter-append (λ (v : Event). v.actor == i) before after in
+    root_stays i (root_of r i).handle of.node before (opening_of r) of.history.opened
+    (none_first (root_of r i).handle (own_events i before) (own_events i after) (subst (NoneCloses (root_of r i).handle) own_first (of.spared closes_own)))
+
+pub kept_is_released : KeptIsReleased
+kept_is_released r i plan of earlier c later closes_own split =
+    done_at (root_of r i).owner [] earlier c later (subst (KeptAreReleased (root_of r i).owner []) split (of.released closes_own))

@@ -64,20 +64,20 @@ abbrev Follows : (ℕ → Type 0) → List ℕ → After → Type 0
 Follows Open hs (gives reply) = (opened_by_reply reply ≡ []) × AllOpen Open hs
 Follows Open hs (acts wanted step ks) = (is_close step ≡ false) × AllOpen Open (hs ++ ks)
 
--- What a call under way holds is open; and its own step closes nothing.
-abbrev pub CallHolds : (ℕ → Type 0) → Doing → Type 0
-CallHolds Open (walking w aim) = AllOpen Open (held_walking w ++ held_by aim)
-CallHolds Open (acting wanted step hs) = (is_close step ≡ false) × AllOpen Open hs
-CallHolds Open (checking old new renaming) = AllOpen Open (new ∷ old ∷ [])
-CallHolds Open (closing h hs (gives reply)) = (opened_by_reply reply ≡ []) × AllOpen Open (h ∷ hs)
-CallHolds Open (closing h hs (acts wanted step ks)) = (is_close step ≡ false) × AllOpen Open (h ∷ (hs ++ ks))
-CallHolds Open (making m) = AllOpen Open (held_making m)
-CallHolds Open (removing r) = AllOpen Open (held_removing r)
-CallHolds Open (releasing h) = Unit {0}
+-- What a call under way holds is open, and its own step closes nothing; what it is to release may be closed.
+abbrev pub CallHolds : (ℕ → Type 0) → (ℕ → Type 0) → Doing → Type 0
+CallHolds Open Freed (walking w aim) = AllOpen Open (held_walking w ++ held_by aim)
+CallHolds Open Freed (acting wanted step hs) = (is_close step ≡ false) × AllOpen Open hs
+CallHolds Open Freed (checking old new renaming) = AllOpen Open (new ∷ old ∷ [])
+CallHolds Open Freed (closing h hs (gives reply)) = (opened_by_reply reply ≡ []) × AllOpen Open (h ∷ hs)
+CallHolds Open Freed (closing h hs (acts wanted step ks)) = (is_close step ≡ false) × AllOpen Open (h ∷ (hs ++ ks))
+CallHolds Open Freed (making m) = AllOpen Open (held_making m)
+CallHolds Open Freed (removing r) = AllOpen Open (held_removing r)
+CallHolds Open Freed (releasing h) = Freed h
 
-abbrev pub TurnHolds : (ℕ → Type 0) → CallTurn → Type 0
-TurnHolds Open (more doing) = CallHolds Open doing
-TurnHolds Open (ends reply) = AllOpen Open (opened_by_reply reply)
+abbrev pub TurnHolds : (ℕ → Type 0) → (ℕ → Type 0) → CallTurn → Type 0
+TurnHolds Open Freed (more doing) = CallHolds Open Freed doing
+TurnHolds Open Freed (ends reply) = AllOpen Open (opened_by_reply reply)
 
 -- the same once its step was answered
 abbrev Then : (ℕ → Type 0) → Doing → Answer → Type 0
@@ -111,30 +111,30 @@ single_closes_none (steps.RemoveFile h n) e = refl
 single_closes_none (steps.RemoveDir h n) e = refl
 single_closes_none (steps.Rename h n k m mode) e = refl
 
-module _ (Open : ℕ → Type 0) (below : Below) where
-  then_closes : (hs : List ℕ) (after : After) → Follows Open hs after → TurnHolds Open (call.closes hs after)
+module _ (Open Freed : ℕ → Type 0) (below : Below) where
+  then_closes : (hs : List ℕ) (after : After) → Follows Open hs after → TurnHolds Open Freed (call.closes hs after)
   then_closes [] (gives reply) all = subst (AllOpen Open) (sym all.0) tt
   then_closes [] (acts wanted step ks) all = all
   then_closes (h ∷ hs) (gives reply) all = all
   then_closes (h ∷ hs) (acts wanted step ks) all = all
 
-  then_gives_up : (hs : List ℕ) (error : Errno) → AllOpen Open hs → TurnHolds Open (call.gives_up hs error)
+  then_gives_up : (hs : List ℕ) (error : Errno) → AllOpen Open hs → TurnHolds Open Freed (call.gives_up hs error)
   then_gives_up hs error all = then_closes hs (gives (fault error)) (refl, all)
 
-  then_renames : (old new : ℕ) (renaming : Renaming) → AllOpen Open (new ∷ old ∷ []) → TurnHolds Open (renames old new renaming)
+  then_renames : (old new : ℕ) (renaming : Renaming) → AllOpen Open (new ∷ old ∷ []) → TurnHolds Open Freed (renames old new renaming)
   then_renames old new renaming all = on renaming.slash
     where
-      on : (b : Bool) → TurnHolds Open (if b then more (checking old new renaming) else more (acting wants.Done (rename_step renaming old new) (new ∷ old ∷ [])))
+      on : (b : Bool) → TurnHolds Open Freed (if b then more (checking old new renaming) else more (acting wants.Done (rename_step renaming old new) (new ∷ old ∷ [])))
       on true = all
       on false = (refl, all)
 
-  then_walks_on : (way : Way) (old : ℕ) (renaming : Renaming) (turn : walk.Turn) → HeldAt Open (old ∷ []) way turn → TurnHolds Open (walked_on old renaming turn)
+  then_walks_on : (way : Way) (old : ℕ) (renaming : Renaming) (turn : walk.Turn) → HeldAt Open (old ∷ []) way turn → TurnHolds Open Freed (walked_on old renaming turn)
   then_walks_on way old renaming (walk.more w) all = all
   then_walks_on way old renaming (found handle names) all = then_renames old handle.number renaming all
   then_walks_on way old renaming (partial handle names rest) all = then_gives_up (handle.number ∷ old ∷ []) NotFound all
   then_walks_on way old renaming (failed error) all = then_gives_up (old ∷ []) error all
 
-  then_reaches : (room : Bool) (handle : Handle) (names : List (List ℕ)) (aim : Aim) → AllOpen Open (handle.number ∷ held_by aim) → TurnHolds Open (reached below room handle names aim)
+  then_reaches : (room : Bool) (handle : Handle) (names : List (List ℕ)) (aim : Aim) → AllOpen Open (handle.number ∷ held_by aim) → TurnHolds Open Freed (reached below room handle names aim)
   then_reaches room handle names (Opens goal) all = all
   then_reaches room handle names Reads all = (refl, all)
   then_reaches room handle names (Changes change n) all = (change_closes_none change handle.number n, all)
@@ -144,22 +144,22 @@ module _ (Open : ℕ → Type 0) (below : Below) where
       (walk_started Open (handle.number ∷ []) way room (begins way path) all (walk_begun Open (handle.number ∷ []) way path all))
   then_reaches room handle names (Renames old renaming) all = then_renames old handle.number renaming all
 
-  then_walks : (way : Way) (room : Bool) (aim : Aim) (turn : walk.Turn) → HeldAt Open (held_by aim) way turn → TurnHolds Open (walked below room aim turn)
+  then_walks : (way : Way) (room : Bool) (aim : Aim) (turn : walk.Turn) → HeldAt Open (held_by aim) way turn → TurnHolds Open Freed (walked below room aim turn)
   then_walks way room aim (walk.more w) all = all
   then_walks way room aim (found handle names) all = then_reaches room handle names aim all
   then_walks way room aim (partial handle names rest) all = then_gives_up (handle.number ∷ held_by aim) NotFound all
   then_walks way room aim (failed error) all = then_gives_up (held_by aim) error all
 
-  then_checks : (old new : ℕ) (renaming : Renaming) (child : ℕ) (is_dir : Bool) → AllOpen Open (child ∷ new ∷ old ∷ []) → TurnHolds Open (checked old new renaming child is_dir)
+  then_checks : (old new : ℕ) (renaming : Renaming) (child : ℕ) (is_dir : Bool) → AllOpen Open (child ∷ new ∷ old ∷ []) → TurnHolds Open Freed (checked old new renaming child is_dir)
   then_checks old new renaming child true all = (refl, all)
   then_checks old new renaming child false all = (refl, all)
 
-  then_makes : (way : Way) (turn : make.MakeTurn) → HeldMaking Open way turn → TurnHolds Open (makes turn)
+  then_makes : (way : Way) (turn : make.MakeTurn) → HeldMaking Open way turn → TurnHolds Open Freed (makes turn)
   then_makes way (make.more m) all = all
   then_makes way (make.made handle names) all = all
   then_makes way (make.failed error) all = tt
 
-  then_clears : (turn : remove.Turn) → HeldRemoving Open turn → TurnHolds Open (clears turn)
+  then_clears : (turn : remove.Turn) → HeldRemoving Open turn → TurnHolds Open Freed (clears turn)
   then_clears (remove.more r) all = all
   then_clears (remove.removed n) all = tt
   then_clears (remove.failed error) all = tt
@@ -168,7 +168,7 @@ module _ (Open : ℕ → Type 0) (below : Below) where
   acted (Opened h x kind) hs all = all.1.1
   acted answer hs all = all
 
-  pub taken : (room : Bool) (doing : Doing) (answer : Answer) → Then Open doing answer → TurnHolds Open (take below room doing answer)
+  pub taken : (room : Bool) (doing : Doing) (answer : Answer) → Then Open doing answer → TurnHolds Open Freed (take below room doing answer)
   taken room (walking w aim) answer all =
       then_walks (way_of below aim) room aim (walk.take (way_of below aim) room w answer) (walk_taken Open (held_by aim) (way_of below aim) room w answer all)
   taken room (acting wanted step hs) answer all = then_closes hs (gives (reply_to wanted answer)) (brings_none wanted answer, acted answer hs all)
@@ -181,78 +181,82 @@ module _ (Open : ℕ → Type 0) (below : Below) where
 
   -- ---- its start
 
-  unless : (why : Option Errno) (turn : CallTurn) → TurnHolds Open turn → TurnHolds Open (unless_fault why turn)
+  unless : (why : Option Errno) (turn : CallTurn) → TurnHolds Open Freed turn → TurnHolds Open Freed (unless_fault why turn)
   unless (Some error) turn all = tt
   unless None turn all = all
 
-  begun_walk : (aim : Aim) (path : Reading) → held_by aim ≡ [] → TurnHolds Open (walks below aim path)
+  begun_walk : (aim : Aim) (path : Reading) → held_by aim ≡ [] → TurnHolds Open Freed (walks below aim path)
   begun_walk aim path none =
       then_walks (way_of below aim) true aim (begins (way_of below aim) path) (walk_begun Open (held_by aim) (way_of below aim) path (subst (AllOpen Open) (sym none) tt))
 
-  begun_change : (change : Change) (split : Result Split Errno) → TurnHolds Open (on_directory below change split)
+  begun_change : (change : Change) (split : Result Split Errno) → TurnHolds Open Freed (on_directory below change split)
   begun_change change (Err error) = tt
   begun_change change (Ok split) = begun_walk (Changes change split.name) split.dir refl
 
-  begun_between : (mode : Mode) (d : Split) (split : Result Split Errno) → TurnHolds Open (between below mode d split)
+  begun_between : (mode : Mode) (d : Split) (split : Result Split Errno) → TurnHolds Open Freed (between below mode d split)
   begun_between mode d (Err error) = tt
   begun_between mode d (Ok e) = begun_walk (WalksOn e.dir (renaming_of d e mode)) d.dir refl
 
-  begun_rename : (mode : Mode) (text : List ℕ) (split : Result Split Errno) → TurnHolds Open (from_entry below mode text split)
+  begun_rename : (mode : Mode) (text : List ℕ) (split : Result Split Errno) → TurnHolds Open Freed (from_entry below mode text split)
   begun_rename mode text (Err error) = tt
   begun_rename mode text (Ok d) = unless (text_fault text) _ (begun_between mode d (split_of (reading_of text) Drop))
 
-  begun_clearing : (split : Result Split Errno) → TurnHolds Open (clear_in below split)
+  begun_clearing : (split : Result Split Errno) → TurnHolds Open Freed (clear_in below split)
   begun_clearing (Err error) = tt
   begun_clearing (Ok split) =
       let way = way_from below.root Follow below.flags in
       then_clears (remove.begins way split.name split.dir) (removal_begun Open way split.name split.dir)
 
-  begun_single : (step : StepOf ℕ) → TurnHolds Open (single step)
+  begun_single : (step : StepOf ℕ) → TurnHolds Open Freed (single step)
   begun_single step = on (is_single step) refl
     where
-      on : (b : Bool) → is_single step ≡ b → TurnHolds Open (if b then more (acting wants.Any step []) else ends (fault Invalid))
+      on : (b : Bool) → is_single step ≡ b → TurnHolds Open Freed (if b then more (acting wants.Any step []) else ends (fault Invalid))
       on true e = (single_closes_none step e, tt)
       on false e = tt
 
-  no_single : (b : Bool) → TurnHolds Open (if b then ends (fault NoMemory) else ends (fault Invalid))
+  no_single : (b : Bool) → TurnHolds Open Freed (if b then ends (fault NoMemory) else ends (fault Invalid))
   no_single true = tt
   no_single false = tt
 
-  begun_release : (standing : StandingObject) → TurnHolds Open (releases below.root.owner standing)
-  begun_release standing = on (same_owner standing.owner below.root.owner)
+  begun_release : (standing : StandingObject) → (same_owner standing.owner below.root.owner ≡ true → Freed standing.handle) → TurnHolds Open Freed (releases below.root.owner standing)
+  begun_release standing free = on (same_owner standing.owner below.root.owner) refl
     where
-      on : (b : Bool) → TurnHolds Open (if b then more (releasing standing.handle) else ends (kept standing))
-      on true = tt
-      on false = tt
+      on : (b : Bool) → same_owner standing.owner below.root.owner ≡ b → TurnHolds Open Freed (if b then more (releasing standing.handle) else ends (kept standing))
+      on true e = free e
+      on false e = tt
+
+  -- what is to be released by this operation may be closed
+  abbrev pub MayRelease : Op → Type 0
+  MayRelease op = (standing : StandingObject) → op ≡ Release standing → same_owner standing.owner below.root.owner ≡ true → Freed standing.handle
 
   -- a call holds nothing yet as it starts
-  pub started : (room : Bool) (op : Op) → TurnHolds Open (starts below room op)
-  started true (Resolve path) = unless (text_fault path) _ (begun_walk (Opens Follow) (reading_of path) refl)
-  started true (ResolveNoFollow path) = unless (text_fault path) _ (begun_walk (Opens NoFollow) (reading_of path) refl)
-  started true (ReadLink path) = unless (text_fault path) _ (begun_walk Reads (reading_of path) refl)
-  started true (CreateFile path) = unless (text_fault path) _ (begun_change _ (split_of (reading_of path) Refuse))
-  started true (CreateDir path) = unless (text_fault path) _ (begun_change _ (split_of (reading_of path) Drop))
-  started true (CreateLink path text) = unless (text_fault path) _ (begun_change _ (split_of (reading_of path) Refuse))
-  started true (RemoveFile path) = unless (text_fault path) _ (begun_change _ (split_of (reading_of path) Refuse))
-  started true (RemoveDir path) = unless (text_fault path) _ (begun_change _ (split_of (reading_of path) Drop))
-  started true (Rename d n mode) = unless (text_fault d) _ (begun_rename mode n (split_of (reading_of d) Drop))
-  started true (MkdirAll path) = unless (text_fault path) _ (then_makes (make_way below) (make.begins (make_way below) (reading_of path)) (make_begun Open (make_way below) (reading_of path)))
-  started true (RemoveAll path) = unless (text_fault path) _ (begun_clearing (split_of (reading_of path) Drop))
-  started true (Single step) = begun_single step
-  started true (Release standing) = begun_release standing
-  started false (Resolve path) = unless (text_fault path) _ tt
-  started false (ResolveNoFollow path) = unless (text_fault path) _ tt
-  started false (ReadLink path) = unless (text_fault path) _ tt
-  started false (CreateFile path) = unless (text_fault path) _ tt
-  started false (CreateDir path) = unless (text_fault path) _ tt
-  started false (CreateLink path text) = unless (text_fault path) _ tt
-  started false (RemoveFile path) = unless (text_fault path) _ tt
-  started false (RemoveDir path) = unless (text_fault path) _ tt
-  started false (Rename d n mode) = unless (text_fault d) _ tt
-  started false (MkdirAll path) = unless (text_fault path) _ tt
-  started false (RemoveAll path) = unless (text_fault path) _ tt
-  started false (Single step) = no_single (is_single step)
-  started false (Release standing) = begun_release standing
+  pub started : (room : Bool) (op : Op) → MayRelease op → TurnHolds Open Freed (starts below room op)
+  started true (Resolve path) free = unless (text_fault path) _ (begun_walk (Opens Follow) (reading_of path) refl)
+  started true (ResolveNoFollow path) free = unless (text_fault path) _ (begun_walk (Opens NoFollow) (reading_of path) refl)
+  started true (ReadLink path) free = unless (text_fault path) _ (begun_walk Reads (reading_of path) refl)
+  started true (CreateFile path) free = unless (text_fault path) _ (begun_change _ (split_of (reading_of path) Refuse))
+  started true (CreateDir path) free = unless (text_fault path) _ (begun_change _ (split_of (reading_of path) Drop))
+  started true (CreateLink path text) free = unless (text_fault path) _ (begun_change _ (split_of (reading_of path) Refuse))
+  started true (RemoveFile path) free = unless (text_fault path) _ (begun_change _ (split_of (reading_of path) Refuse))
+  started true (RemoveDir path) free = unless (text_fault path) _ (begun_change _ (split_of (reading_of path) Drop))
+  started true (Rename d n mode) free = unless (text_fault d) _ (begun_rename mode n (split_of (reading_of d) Drop))
+  started true (MkdirAll path) free = unless (text_fault path) _ (then_makes (make_way below) (make.begins (make_way below) (reading_of path)) (make_begun Open (make_way below) (reading_of path)))
+  started true (RemoveAll path) free = unless (text_fault path) _ (begun_clearing (split_of (reading_of path) Drop))
+  started true (Single step) free = begun_single step
+  started true (Release standing) free = begun_release standing (free standing refl)
+  started false (Resolve path) free = unless (text_fault path) _ tt
+  started false (ResolveNoFollow path) free = unless (text_fault path) _ tt
+  started false (ReadLink path) free = unless (text_fault path) _ tt
+  started false (CreateFile path) free = unless (text_fault path) _ tt
+  started false (CreateDir path) free = unless (text_fault path) _ tt
+  started false (CreateLink path text) free = unless (text_fault path) _ tt
+  started false (RemoveFile path) free = unless (text_fault path) _ tt
+  started false (RemoveDir path) free = unless (text_fault path) _ tt
+  started false (Rename d n mode) free = unless (text_fault d) _ tt
+  started false (MkdirAll path) free = unless (text_fault path) _ tt
+  started false (RemoveAll path) free = unless (text_fault path) _ tt
+  started false (Single step) free = no_single (is_single step)
+  started false (Release standing) free = begun_release standing (free standing refl)
 
 -- ---- steps
 
@@ -262,11 +266,11 @@ pub record Moves (Open : ℕ → Type 0) (step : StepOf ℕ) (answer : Answer) (
   pub is_new : (h x : ℕ) (kind : Kind) → answer ≡ Opened h x kind → New h × (Open h → ⊥)
 
 module _ (Open New : ℕ → Type 0) (step : StepOf ℕ) (answer : Answer) (moves : Moves Open step answer New) where
-  stay : (hs : List ℕ) → ((k : ℕ) → is_close_of k step ≡ false) → AllOpen Open hs → AllOpen New hs
+  pub stay : (hs : List ℕ) → ((k : ℕ) → is_close_of k step ≡ false) → AllOpen Open hs → AllOpen New hs
   stay [] none all = tt
   stay (h ∷ hs) none all = (moves.stays h all.0 (none h), (all.1.0, stay hs none all.1.1))
 
-  not_held : (h : ℕ) (hs : List ℕ) → (Open h → ⊥) → AllOpen Open hs → IsNotIn h hs
+  pub not_held : (h : ℕ) (hs : List ℕ) → (Open h → ⊥) → AllOpen Open hs → IsNotIn h hs
   not_held h [] none all = tt
   not_held h (k ∷ hs) none all = ((λ e. none (subst Open (sym e) all.0)), not_held h hs none all.1.1)
 
@@ -282,7 +286,7 @@ module _ (Open New : ℕ → Type 0) (step : StepOf ℕ) (answer : Answer) (move
   made : (hs : List ℕ) → ((k : ℕ) → is_close_of k step ≡ false) → AllOpen Open hs → AllOpen New (with_opened answer hs)
   made hs none all = with_new answer refl hs none all
 
-  others : (h : ℕ) (hs : List ℕ) → step ≡ steps.Close h → IsNotIn h hs → AllOpen Open hs → AllOpen New hs
+  pub others : (h : ℕ) (hs : List ℕ) → step ≡ steps.Close h → IsNotIn h hs → AllOpen Open hs → AllOpen New hs
   others h [] is out all = tt
   others h (k ∷ hs) is out all = (moves.stays k all.0 (ap (is_close_of k) is ∙ not_that k h (λ e. out.0 (sym e))), (all.1.0, others h hs is out.1 all.1.1))
     where
@@ -301,7 +305,7 @@ opened_before (Listed names) hs fs = refl
 opened_before Done hs fs = refl
 opened_before (Refused error) hs fs = refl
 
-closes_none : (step : StepOf ℕ) → is_close step ≡ false → (k : ℕ) → is_close_of k step ≡ false
+pub closes_none : (step : StepOf ℕ) → is_close step ≡ false → (k : ℕ) → is_close_of k step ≡ false
 closes_none (steps.Open h n) e k = refl
 closes_none (steps.Dup h) e k = refl
 closes_none (steps.Parent h) e k = refl
@@ -347,19 +351,20 @@ module _ (Open New : ℕ → Type 0) (answer : Answer) where
   removal_moves (remove.clearing removes_dir level above n left) moves all = made Open New _ answer moves (dirs (level ∷ above)) (λ k. refl) all
   removal_moves (remove.closing h hs end) moves all = gone Open New _ answer moves h hs refl all
 
-  moved : (below : Below) (doing : Doing) → Moves Open (due below doing) answer New → CallHolds Open doing → Then New doing answer
-  moved below (walking w aim) moves all = walk_moves (way_of below aim) w (held_by aim) moves all
-  moved below (acting wanted step hs) moves all = made Open New step answer moves hs (closes_none step all.0) all.1
-  moved below (checking old new renaming) moves all = made Open New _ answer moves (new ∷ old ∷ []) (λ k. refl) all
-  moved below (closing h hs (gives reply)) moves all = (all.0, gone Open New _ answer moves h hs refl all.1)
-  moved below (closing h hs (acts wanted step ks)) moves all = (all.0, gone Open New _ answer moves h (hs ++ ks) refl all.1)
-  moved below (making m) moves all = make_moves (make_way below) m moves all
-  moved below (removing r) moves all = removal_moves r moves all
-  moved below (releasing h) moves all = tt
+  moved : (Freed : ℕ → Type 0) (below : Below) (doing : Doing) → Moves Open (due below doing) answer New → CallHolds Open Freed doing → Then New doing answer
+  moved Freed below (walking w aim) moves all = walk_moves (way_of below aim) w (held_by aim) moves all
+  moved Freed below (acting wanted step hs) moves all = made Open New step answer moves hs (closes_none step all.0) all.1
+  moved Freed below (checking old new renaming) moves all = made Open New _ answer moves (new ∷ old ∷ []) (λ k. refl) all
+  moved Freed below (closing h hs (gives reply)) moves all = (all.0, gone Open New _ answer moves h hs refl all.1)
+  moved Freed below (closing h hs (acts wanted step ks)) moves all = (all.0, gone Open New _ answer moves h (hs ++ ks) refl all.1)
+  moved Freed below (making m) moves all = make_moves (make_way below) m moves all
+  moved Freed below (removing r) moves all = removal_moves r moves all
+  moved Freed below (releasing h) moves all = tt
 
   -- a call holds what it held, but for what its step closed, and what that opened
-  pub holds_on : (below : Below) (room : Bool) (doing : Doing) → Moves Open (due below doing) answer New → CallHolds Open doing → TurnHolds New (take below room doing answer)
-  holds_on below room doing moves all = taken New below room doing answer (moved below doing moves all)
+  pub holds_on : (Freed NewFreed : ℕ → Type 0) (below : Below) (room : Bool) (doing : Doing) → Moves Open (due below doing) answer New → CallHolds Open Freed doing
+      → TurnHolds New NewFreed (take below room doing answer)
+  holds_on Freed NewFreed below room doing moves all = taken New NewFreed below room doing answer (moved Freed below doing moves all)
 
 -- a step that isn't made leaves all open
 pub unmoved : (Open : ℕ → Type 0) (step : StepOf ℕ) (error : Errno) → Moves Open step (Refused error) Open
@@ -395,33 +400,33 @@ module _ (Open : ℕ → Type 0) where
   removal_closes (remove.clearing removes_dir level above n left) e all = absurd (false≢true e)
   removal_closes (remove.closing h hs end) e all = (h, (refl, all.0))
 
-  -- a Close that is due is of a handle that is open, unless it is that of a Release
-  pub closes_open : (below : Below) (doing : Doing) → is_close (due below doing) ≡ true → CallHolds Open doing
-      → IsUnmade doing BadHandle ⊎ ((h : ℕ) × ((due below doing ≡ steps.Close h) × Open h))
-  closes_open below (walking w aim) e all = inr (walk_closes (way_of below aim) w (held_by aim) e all)
-  closes_open below (acting wanted step hs) e all = absurd (false≢true (sym all.0 ∙ e))
-  closes_open below (checking old new renaming) e all = absurd (false≢true e)
-  closes_open below (closing h hs (gives reply)) e all = inr (h, (refl, all.1.0))
-  closes_open below (closing h hs (acts wanted step ks)) e all = inr (h, (refl, all.1.0))
-  closes_open below (making m) e all = inr (make_closes (make_way below) m e all)
-  closes_open below (removing r) e all = inr (removal_closes r e all)
-  closes_open below (releasing h) e all = inl refl
+  -- a Close that is due is of a handle that is open, or of one that may be closed, which a Release closes
+  pub closes_open : (Freed : ℕ → Type 0) (below : Below) (doing : Doing) → is_close (due below doing) ≡ true → CallHolds Open Freed doing
+      → (h : ℕ) × ((due below doing ≡ steps.Close h) × ((IsUnmade doing BadHandle × Freed h) ⊎ Open h))
+  closes_open Freed below (walking w aim) e all = let c = walk_closes (way_of below aim) w (held_by aim) e all in (c.0, (c.1.0, inr c.1.1))
+  closes_open Freed below (acting wanted step hs) e all = absurd (false≢true (sym all.0 ∙ e))
+  closes_open Freed below (checking old new renaming) e all = absurd (false≢true e)
+  closes_open Freed below (closing h hs (gives reply)) e all = (h, (refl, inr all.1.0))
+  closes_open Freed below (closing h hs (acts wanted step ks)) e all = (h, (refl, inr all.1.0))
+  closes_open Freed below (making m) e all = let c = make_closes (make_way below) m e all in (c.0, (c.1.0, inr c.1.1))
+  closes_open Freed below (removing r) e all = let c = removal_closes r e all in (c.0, (c.1.0, inr c.1.1))
+  closes_open Freed below (releasing h) e all = (h, (refl, inl (refl, all)))
 
 -- ---- what stays open
 
 module _ (Open New : ℕ → Type 0) (stays : (h : ℕ) → Open h → New h) where
-  all_more : (hs : List ℕ) → AllOpen Open hs → AllOpen New hs
+  pub all_more : (hs : List ℕ) → AllOpen Open hs → AllOpen New hs
   all_more [] all = tt
   all_more (h ∷ hs) all = (stays h all.0, (all.1.0, all_more hs all.1.1))
 
   -- what a call holds stays held
-  pub turn_holds_more : (turn : CallTurn) → TurnHolds Open turn → TurnHolds New turn
-  turn_holds_more (more (walking w aim)) all = all_more (held_walking w ++ held_by aim) all
-  turn_holds_more (more (acting wanted step hs)) all = (all.0, all_more hs all.1)
-  turn_holds_more (more (checking old new renaming)) all = all_more (new ∷ old ∷ []) all
-  turn_holds_more (more (closing h hs (gives reply))) all = (all.0, all_more (h ∷ hs) all.1)
-  turn_holds_more (more (closing h hs (acts wanted step ks))) all = (all.0, all_more (h ∷ (hs ++ ks)) all.1)
-  turn_holds_more (more (making m)) all = all_more (held_making m) all
-  turn_holds_more (more (removing r)) all = all_more (held_removing r) all
-  turn_holds_more (more (releasing h)) all = tt
-  turn_holds_more (ends reply) all = all_more (opened_by_reply reply) all
+  pub turn_holds_more : (Freed NewFreed : ℕ → Type 0) → ((h : ℕ) → Freed h → NewFreed h) → (turn : CallTurn) → TurnHolds Open Freed turn → TurnHolds New NewFreed turn
+  turn_holds_more Freed NewFreed frees (more (walking w aim)) all = all_more (held_walking w ++ held_by aim) all
+  turn_holds_more Freed NewFreed frees (more (acting wanted step hs)) all = (all.0, all_more hs all.1)
+  turn_holds_more Freed NewFreed frees (more (checking old new renaming)) all = all_more (new ∷ old ∷ []) all
+  turn_holds_more Freed NewFreed frees (more (closing h hs (gives reply))) all = (all.0, all_more (h ∷ hs) all.1)
+  turn_holds_more Freed NewFreed frees (more (closing h hs (acts wanted step ks))) all = (all.0, all_more (h ∷ (hs ++ ks)) all.1)
+  turn_holds_more Freed NewFreed frees (more (making m)) all = all_more (held_making m) all
+  turn_holds_more Freed NewFreed frees (more (removing r)) all = all_more (held_removing r) all
+  turn_holds_more Freed NewFreed frees (more (releasing h)) all = frees h all
+  turn_holds_more Freed NewFreed frees (ends reply) all = all_more (opened_by_reply reply) all

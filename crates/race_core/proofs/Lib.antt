@@ -5,6 +5,7 @@ mod Running
 mod Granting
 mod HeldOpen
 mod HeldByCalls
+mod KeptOpen
 mod CallsSoFar
 mod WorldSoFar
 mod ReportsTell

@@ -1,9 +1,9 @@
 -- The calls of an actor, and the walks in them, in a report.
-use Rattle.std.proofs.Common.{◌≡◌, ℕ, ◌==◌, Bool, true, false, cond, List, [], ◌∷◌, ◌++◌, Option, Some, None, refl, sym, ap, ◌∙◌, subst, inl, inr, append_assoc}
+use Rattle.std.proofs.Common.{◌≡◌, ℕ, ◌==◌, Bool, true, false, cond, if◌then◌else◌, List, [], ◌∷◌, ◌++◌, Option, Some, None, refl, sym, ap, ◌∙◌, subst, inl, inr, append_assoc}
 use Rattle.std.proofs.lemmas.Bool.{false≢true, eqb-true, eqb-false}
-use Rattle.std.proofs.lemmas.List.{reverse-reverse}
+use Rattle.std.proofs.lemmas.List.{reverse-reverse, map-append}
 use Rattle.path_text.specs.declared.errno.Errno.{Errno}
-use Rattle.path_text.specs.declared.errno.Errno.TheVariants.{NoMemory}
+use Rattle.path_text.specs.declared.errno.Errno.TheVariants.{NoMemory, BadHandle}
 use Rattle.path_text.specs.Reading.{Reading}
 use Rattle.path_text.specs.Text.{text_fault, reading_of}
 use Rattle.tree_model.specs.declared.answer.Event.{Event}
@@ -16,7 +16,7 @@ use Rattle.handles.specs.Objects.{StandingObject}
 use Rattle.walk_plan.specs.declared.goal.Goal.TheVariants.{Follow}
 use Rattle.step_resolver.specs.declared.walk.Root.{Root}
 use Rattle.step_resolver.specs.Asked.{is_deepest}
-use Rattle.step_resolver.specs.Order.{Way, Handle, Line, Turn, found, partial, failed, begins, events_of}
+use Rattle.step_resolver.specs.Order.{Way, Handle, Line, not_made, Turn, found, partial, failed, begins, events_of}
 use Rattle.step_resolver.specs.Order as walk
 use Rattle.step_resolver.specs.Headline.{Headline, EveryWalk}
 use Rattle.step_resolver.specs.WalkHistory.{WalkInHistory, IsWalkInHistory, own_events}
@@ -25,9 +25,9 @@ use Rattle.root_ops.specs.CallHistory.{IsCallInHistory, CallsTell}
 use Rattle.root_ops.specs.declared.aim.Aim.TheVariants.{Opens}
 use Rattle.root_ops.specs.declared.below.Below.{Below}
 use Rattle.root_ops.specs.declared.op.Op.{Op}
-use Rattle.root_ops.specs.declared.op.Op.TheVariants.{Resolve}
+use Rattle.root_ops.specs.declared.op.Op.TheVariants.{Resolve, Release}
 use Rattle.root_ops.specs.declared.op.Request.{Request}
-use Rattle.root_ops.specs.Order.{Reply, opened, fault, ends, starts, walked, unless_fault, walks, LeadsTo}
+use Rattle.root_ops.specs.Order.{Reply, opened, done, kept, fault, releasing, more, ends, same_owner, starts, walked, unless_fault, walks, LeadsTo}
 use Rattle.root_ops.specs.Quiet.{QuietCallsMean}
 use Rattle.root_ops.specs.TurnView.{below_of}
 use Rattle.root_ops.proofs.Handles.OwnEvents.{events_append, cut}
@@ -36,8 +36,9 @@ use Rattle.race_core.specs.declared.plan.ActorPlan.{ActorPlan}
 use Rattle.race_core.specs.declared.plan.Planned.{Planned}
 use Rattle.race_core.specs.declared.plan.Planned.TheVariants as planned
 use Rattle.race_core.specs.Turns.{request_of, outcome_of}
-use Rattle.race_core.specs.WorldCalls.{WholeRun, opening_of, root_of, CallMade, IsMadeAs, kept_after, kept_after_all, AreMade, planned_of, outcomes_of, events_of_calls, NoneCloses, IsHistory, ActorsCalls}
+use Rattle.race_core.specs.WorldCalls.{WholeRun, opening_of, root_of, CallMade, IsMadeAs, kept_after, kept_after_all, AreMade, planned_of, outcomes_of, events_of_calls, NoneCloses, ReleasesOwn, KeptAreReleased, IsHistory, ActorsCalls}
 use Rattle.race_core.specs.WorldLaws.{IsPlaced, WalksInReports, call_in, CallTells, CallsInReports, way_of_resolve, WalkTells, ResolveTells, ResolvesInReports, ResolvesAlone}
+use Rattle.race_core.proofs.KeptOpen.{owners_are_one, none_first, asks_for_kept, done_at}
 use Rattle.race_core.proofs.WorldSoFar.{calls_in_order}
 
 -- ---- own events in three parts
@@ -98,8 +99,11 @@ root_at root below opening events before node same is none =
 -- ---- walks
 
 module _ (every : EveryWalk) (r : WholeRun) (i : ℕ) (plan : ActorPlan) (of : ActorsCalls r i plan) (way : Way) (path : Reading) (lines : List Line) (end : Turn) (earlier later : List Event)
-    (same_root : way.root ≡ (root_of r i).handle) (none : NoneCloses (root_of r i).handle earlier)
+    (closes_own : ReleasesOwn (root_of r i).owner plan.calls) (same_root : way.root ≡ (root_of r i).handle)
     (own : own_events i r.events ≡ earlier ++ (events_of i lines ++ later)) (leads : walk.LeadsTo way (begins way path) lines end) where
+  none : NoneCloses (root_of r i).handle earlier
+  none = none_first (root_of r i).handle earlier (events_of i lines ++ later) (subst (NoneCloses (root_of r i).handle) own (of.spared closes_own))
+
   parts : InThree i r.events earlier (events_of i lines) later
   parts = in_three i r.events earlier (events_of i lines) later own
 
@@ -136,8 +140,8 @@ module _ (every : EveryWalk) (r : WholeRun) (i : ℕ) (plan : ActorPlan) (of : A
   walk_tells = (the_walk, (placed, (refl, (refl, (refl, every the_walk end is_there leads)))))
 
 pub walks_in_reports : EveryWalk → WalksInReports
-walks_in_reports every r i plan of way path lines end earlier later same_root none own leads =
-    walk_tells every r i plan of way path lines end earlier later same_root none own leads
+walks_in_reports every r i plan of way path lines end earlier later closes_own same_root own leads =
+    walk_tells every r i plan of way path lines end earlier later closes_own same_root own leads
 
 -- ---- calls
 
@@ -152,6 +156,27 @@ made_in : (root : Root) (standings : List (Option StandingObject)) (earlier : Li
 made_in root standings [] c later made = made.0
 made_in root standings (b ∷ earlier) c later made = made_in root (kept_after root.owner standings b) earlier c later made.1
 
+at_its_end : (below : Below) (t told : Reply) (lines : List Line) → LeadsTo below (ends t) lines (ends told) → t ≡ told
+at_its_end below t told [] e = cc (e)
+at_its_end below t told (line ∷ lines) e = absurd e
+
+not_done : (reply : Reply) → reply ≡ done → reply ≡ fault BadHandle → ⊥
+not_done reply is_done is_fault = cc (is_done, is_fault)
+
+-- a Release whose Close wasn't made is of what is the owner's, and fails
+refused_release : (below : Below) (room : Bool) (standing : StandingObject) (reply : Reply) (others : List Line)
+    → LeadsTo below (starts below room (Release standing)) (not_made BadHandle ∷ others) (ends reply) → (standing.owner ≡ below.root.owner) × (reply ≡ fault BadHandle)
+refused_release below room standing reply others leads = by_room room leads
+  where
+    by_owner : (b : Bool) → same_owner standing.owner below.root.owner ≡ b → LeadsTo below (if b then more (releasing standing.handle) else ends (kept standing)) (not_made BadHandle ∷ others) (ends reply)
+        → (standing.owner ≡ below.root.owner) × (reply ≡ fault BadHandle)
+    by_owner true e led = (owners_are_one standing.owner below.root.owner e, sym (at_its_end below (fault BadHandle) reply others led.1))
+    by_owner false e led = absurd led
+
+    by_room : (b : Bool) → LeadsTo below (starts below b (Release standing)) (not_made BadHandle ∷ others) (ends reply) → (standing.owner ≡ below.root.owner) × (reply ≡ fault BadHandle)
+    by_room true led = by_owner (same_owner standing.owner below.root.owner) refl led
+    by_room false led = by_owner (same_owner standing.owner below.root.owner) refl led
+
 module _ (r : WholeRun) (i : ℕ) (plan : ActorPlan) (of : ActorsCalls r i plan) (earlier : List CallMade) (c : CallMade) (later : List CallMade) (request : Request)
     (split : of.calls ≡ earlier ++ c ∷ later) where
   its_own : own_events i r.events ≡ events_of_calls i earlier ++ (events_of i c.lines ++ events_of_calls i later)
@@ -162,10 +187,28 @@ module _ (r : WholeRun) (i : ℕ) (plan : ActorPlan) (of : ActorsCalls r i plan)
   it_leads asked =
       subst (λ (q : Option Request). IsMadeAs (root_of r i) q c) asked (made_in (root_of r i) [] earlier c later (subst (AreMade (root_of r i) []) split of.made))
 
-  call_tells : CallsTell → QuietCallsMean → BulkCallsTell → NoneCloses (root_of r i).handle (events_of_calls i earlier)
+  -- the Close of a Release that it asks for is made
+  closes_what_is_open : ReleasesOwn (root_of r i).owner plan.calls → request_of (root_of r i) (kept_after_all (root_of r i).owner [] earlier) c.planned ≡ Some request
+      → (standing : StandingObject) (others : List Line) → request.op ≡ Release standing → c.lines ≡ not_made BadHandle ∷ others → ⊥
+  closes_what_is_open closes_own asked standing others is_op are =
+      let planned_so : plan.calls ≡ planned_of earlier ++ c.planned ∷ planned_of later =
+      sym of.planned ∙ ap planned_of split ∙ map-append (λ (b : CallMade). b.planned) earlier (c ∷ later) in
+      let led = it_leads asked in
+      let led_so : LeadsTo (below_of (root_of r i) request.flags) (starts (below_of (root_of r i) request.flags) c.room (Release standing)) (not_made BadHandle ∷ others) (ends c.reply) =
+      subst (λ (ls : List Line). LeadsTo (below_of (root_of r i) request.flags) (starts (below_of (root_of r i) request.flags) c.room (Release standing)) ls (ends c.reply)) are
+      (subst (λ (o : Op). LeadsTo (below_of (root_of r i) request.flags) (starts (below_of (root_of r i) request.flags) c.room o) c.lines (ends c.reply)) is_op led) in
+      let refused_so = refused_release (below_of (root_of r i) request.flags) c.room standing c.reply others led_so in
+      let under = asks_for_kept (root_of r i) (kept_after_all (root_of r i).owner [] earlier) (planned_of earlier) c.planned (planned_of later) request standing
+      (subst (ReleasesOwn (root_of r i).owner) planned_so closes_own) asked is_op refused_so.0 in
+      let is_done = done_at (root_of r i).owner [] earlier c later (subst (KeptAreReleased (root_of r i).owner []) split (of.released closes_own)) under.call standing under.planned under.there in
+      not_done c.reply is_done refused_so.1
+
+  call_tells : CallsTell → QuietCallsMean → BulkCallsTell → ReleasesOwn (root_of r i).owner plan.calls
       → request_of (root_of r i) (kept_after_all (root_of r i).owner [] earlier) c.planned ≡ Some request → CallTells r i of.node earlier c request
-  call_tells tell mean bulk none asked =
+  call_tells tell mean bulk closes_own asked =
       let opening = opening_of r in
+      let none = none_first (root_of r i).handle (events_of_calls i earlier) (events_of i c.lines ++ events_of_calls i later)
+      (subst (NoneCloses (root_of r i).handle) its_own (of.spared closes_own)) in
       let parts = in_three i r.events (events_of_calls i earlier) (events_of i c.lines) (events_of_calls i later) its_own in
       let the_call = call_in r i of.node c request parts.before parts.window in
       let leads = it_leads asked in
@@ -187,23 +230,19 @@ module _ (r : WholeRun) (i : ℕ) (plan : ActorPlan) (of : ActorsCalls r i plan)
         own_before = parts.own_before;
         own = parts.own_window;
         handles = tell the_call c.reply placed leads;
-        quiet = λ quiet closes. mean the_call c.reply placed leads quiet closes;
+        quiet = λ quiet. mean the_call c.reply placed leads quiet (λ standing others is_op are. absurd (closes_what_is_open closes_own asked standing others is_op are));
         makes = λ text is room fine. bulk.made the_call c.reply text placed leads is room fine;
         clears = λ text two is room fine cuts. bulk.cleared the_call c.reply text two placed leads is room fine cuts;
       }
 
 pub calls_in_reports : CallsTell → QuietCallsMean → BulkCallsTell → CallsInReports
-calls_in_reports tell mean bulk r i plan of earlier c later request split none asked =
-    call_tells r i plan of earlier c later request split tell mean bulk none asked
+calls_in_reports tell mean bulk r i plan of earlier c later request closes_own split asked =
+    call_tells r i plan of earlier c later request split tell mean bulk closes_own asked
 
 -- ---- one Resolve
 
-at_its_end : (below : Below) (t told : Reply) (lines : List Line) → LeadsTo below (ends t) lines (ends told) → t ≡ told
-at_its_end below t told [] e = cc (e)
-at_its_end below t told (line ∷ lines) e = absurd e
-
 module _ (every : EveryWalk) (r : WholeRun) (i : ℕ) (plan : ActorPlan) (of : ActorsCalls r i plan) (earlier : List CallMade) (request : Request) (path : List ℕ) (reply : Reply) (lines : List Line) (later : List Event)
-    (none : NoneCloses (root_of r i).handle (events_of_calls i earlier)) (own : own_events i r.events ≡ events_of_calls i earlier ++ (events_of i lines ++ later)) where
+    (closes_own : ReleasesOwn (root_of r i).owner plan.calls) (own : own_events i r.events ≡ events_of_calls i earlier ++ (events_of i lines ++ later)) where
   abbrev below : Below
   below = below_of (root_of r i) request.flags
 
@@ -220,7 +259,7 @@ module _ (every : EveryWalk) (r : WholeRun) (i : ℕ) (plan : ActorPlan) (of : A
       let in_two : events_of i lines ++ later ≡ events_of i first ++ (events_of i rest ++ later) =
       ap (λ ls. events_of i ls ++ later) whole ∙ ap (λ es. es ++ later) (events_append i first rest) ∙ append_assoc (events_of i first) (events_of i rest) later in
       let told = walk_tells every r i plan of way (reading_of path) first end (events_of_calls i earlier) (events_of i rest ++ later)
-      refl none (own ∙ ap (λ es. events_of_calls i earlier ++ es) in_two) leads in
+      closes_own refl (own ∙ ap (λ es. events_of_calls i earlier ++ es) in_two) leads in
       record { walked = told.0; placed = told.1.0; way = told.1.1.0; path_is = told.1.1.1.0; headline = told.1.1.1.1.1 }
 
   by_end : (room : Bool) (first rest : List Line) (end : Turn) → lines ≡ first ++ rest → walk.LeadsTo way (begins way (reading_of path)) first end → IsEnded end
@@ -256,9 +295,9 @@ module _ (every : EveryWalk) (r : WholeRun) (i : ℕ) (plan : ActorPlan) (of : A
   resolve_says op room is_op leads = by_room room (subst (λ (o : Op). LeadsTo below (starts below room o) lines (ends reply)) is_op leads)
 
 pub resolves_in_reports : EveryWalk → ResolvesInReports
-resolves_in_reports every r i plan of earlier c later request path split none asks is_op =
+resolves_in_reports every r i plan of earlier c later request path closes_own split asks is_op =
     let asked = ap (request_of (root_of r i) (kept_after_all (root_of r i).owner [] earlier)) asks in
-    resolve_says every r i plan of earlier request path c.reply c.lines (events_of_calls i later) none (its_own r i plan of earlier c later request split)
+    resolve_says every r i plan of earlier request path c.reply c.lines (events_of_calls i later) closes_own (its_own r i plan of earlier c later request split)
     request.op c.room is_op (it_leads r i plan of earlier c later request split asked)
 
 -- an actor's only call
@@ -266,6 +305,9 @@ only_call : (calls : List CallMade) (p : Planned) → planned_of calls ≡ p ∷
 only_call [] p e = cc (e)
 only_call (c ∷ []) p e = let same : c.planned ≡ p = cc (e) in (c, (refl, same))
 only_call (b ∷ c ∷ calls) p e = cc (e)
+
+no_release : (path : List ℕ) (standing : StandingObject) → Resolve path ≡ Release standing → ⊥
+no_release path standing e = cc (e)
 
 pub resolves_alone : EveryWalk → ResolvesAlone
 resolves_alone every r i plan request path run there calls is_op =
@@ -276,7 +318,8 @@ resolves_alone every r i plan request path run there calls is_op =
         outcome_of one.0.reply,
         (
           of.replies ∙ ap (λ cs. Some (outcomes_of cs)) one.1.0,
-          resolves_in_reports every r i plan of [] one.0 [] request path one.1.0 tt one.1.1 is_op,
+          resolves_in_reports every r i plan of [] one.0 [] request path
+          (subst (ReleasesOwn (root_of r i).owner) (sym calls) ((λ standing other. absurd (no_release path standing (sym is_op ∙ other))), tt)) one.1.0 one.1.1 is_op,
         ),
       ),
     )

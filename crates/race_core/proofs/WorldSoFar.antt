@@ -25,7 +25,7 @@ use Rattle.race_core.specs.Ledgers.{LedgerView}
 use Rattle.race_core.specs.Opening.{Granted, Grants, before, onward_from, granted, root_in, seats_of, IsOpened}
 use Rattle.race_core.specs.TurnView.{is_busy, are_some}
 use Rattle.race_core.specs.Turns.{Luck, turned, opened_ledger}
-use Rattle.race_core.specs.WorldCalls.{WholeRun, IsRun, opening_of, root_of, AreMade, planned_of, events_of_calls, IsHistory, ActorsCalls}
+use Rattle.race_core.specs.WorldCalls.{WholeRun, IsRun, opening_of, root_of, AreMade, planned_of, events_of_calls, NoneCloses, ReleasesOwn, KeptAreReleased, IsHistory, ActorsCalls}
 use Rattle.race_core.specs.WorldLaws.{CallsInOrder}
 use Rattle.race_core.specs.Worlds.{WorldView, turn_of, turn, Runs, again, AllGoToEnd, RunsOut, AllOver, ledgers_in, replies_in}
 use Rattle.race_core.proofs.CallsSoFar.{SoFar, SeatSoFar, BookMoves, same, one_more, turns_so_far, turn_keeps_root, turn_moves, so_far_among_others}
@@ -323,7 +323,18 @@ module _ (r : WholeRun) (i : ℕ) (plan : ActorPlan) (run : IsRun r) (planned : 
     seat = first_seat;
     there = first_there;
     rooted = refl;
-    far = record { calls = []; made = tt; outcomes = refl; at = record { planned = refl; standings = refl; own = refl } };
+    far = record {
+      calls = [];
+      made = tt;
+      outcomes = refl;
+      released = λ own. tt;
+      at = record {
+        planned = refl;
+        standings = refl;
+        own = refl;
+        spared = λ own. record { are_open = (ap is_some ours.1.1.rooted.is_open, (tt, tt)); root = tt };
+      };
+    };
   }
 
   at_start : IsUnder opens.roots.tree i (root_of r i) plan.calls r.world
@@ -358,6 +369,9 @@ module _ (r : WholeRun) (i : ℕ) (plan : ActorPlan) (run : IsRun r) (planned : 
             planned = sym (append-nil (planned_of f.calls)) ∙ ap (λ ps. planned_of f.calls ++ ps) (sym q) ∙ sym f.at.planned;
             made = subst (λ (t : Root). AreMade t [] f.calls) rooted f.made;
             own = ap (own_events i) run.runs.reports.are_events ∙ subst (λ (t : Root). own_events t.owner.actor run.runs.end.book.events ≡ events_of_calls t.owner.actor f.calls) rooted f.at.own;
+            spared = λ own. subst (NoneCloses (root_of r i).handle) (sym (ap (own_events i) run.runs.reports.are_events))
+                (subst (λ (t : Root). ReleasesOwn t.owner plan.calls → NoneCloses t.handle (own_events t.owner.actor run.runs.end.book.events)) rooted (λ mine. (f.at.spared mine).root) own);
+            released = subst (λ (t : Root). ReleasesOwn t.owner plan.calls → KeptAreReleased t.owner [] f.calls) rooted f.released;
             replies = ap (λ rs. slice_get rs i) run.runs.reports.are_replies ∙ reply_at run.runs.end.seats i seat there ∙ ap (λ os. Some os) f.outcomes;
           }
 

@@ -1,16 +1,17 @@
--- The handles of each actor at the end of a report: a statement of a law.
+-- The handles of each actor in a report, and at its end: statements of laws.
 use Rattle.std.specs.Prelude.{◌≡◌, ◌==◌, ℕ, List, [], ◌∷◌, ◌++◌, if◌then◌else◌, Option, Some, None}
 use Rattle.handles.specs.Objects.{StandingObject}
+use Rattle.tree_model.specs.declared.answer.Event.{Event}
+use Rattle.tree_model.specs.History.{after_events}
 use Rattle.tree_model.specs.Steps.{held}
 use Rattle.step_resolver.specs.declared.walk.Root.{Root}
-use Rattle.step_resolver.specs.WalkHistory.{own_events}
 use Rattle.root_ops.specs.declared.op.Op.{Op}
 use Rattle.root_ops.specs.declared.op.Op.TheVariants.{Resolve, ResolveNoFollow, ReadLink, CreateFile, CreateDir, CreateLink, RemoveFile, RemoveDir, Rename, MkdirAll, RemoveAll, Single, Release}
 use Rattle.root_ops.specs.declared.op.Request.{Request}
 use Rattle.root_ops.specs.Order.{Reply, opened, link_text, done, count, stepped, kept, fault}
 use Rattle.race_core.specs.declared.plan.ActorPlan.{ActorPlan}
 use Rattle.race_core.specs.Turns.{request_of}
-use Rattle.race_core.specs.WorldCalls.{WholeRun, opening_of, root_of, CallMade, kept_after, NoneCloses, ActorsCalls}
+use Rattle.race_core.specs.WorldCalls.{WholeRun, opening_of, root_of, CallMade, kept_after, kept_after_all, ReleasesOwn, IsDoneIfKept, ActorsCalls}
 
 -- what a call's reply says of a handle: it is open on that node from now on, or closed
 pub record Word : Type 0 where
@@ -58,7 +59,18 @@ last_word before h [] = before
 last_word before h (word ∷ words) = last_word (if word.handle == h then word.node else before) h words
 
 -- At the end an actor's open handles are those from the opening, its root among them, and those that its calls opened, less those
--- that a Release of its own closed, each on its node; and nothing else. Its root's handle isn't closed.
+-- that a Release of its own closed, each on its node; and nothing else. Its plan closes only what its calls opened.
 abbrev pub HandlesAtEnd : Type 0
-HandlesAtEnd = (r : WholeRun) (i : ℕ) (plan : ActorPlan) (of : ActorsCalls r i plan) → NoneCloses (root_of r i).handle (own_events i r.events)
+HandlesAtEnd = (r : WholeRun) (i : ℕ) (plan : ActorPlan) (of : ActorsCalls r i plan) → ReleasesOwn (root_of r i).owner plan.calls
     → (h : ℕ) → held r.tree i h ≡ last_word (held (opening_of r) i h) h (all_words (root_of r i) [] of.calls)
+
+-- At each moment of a report the root of an actor whose plan closes only what its calls opened is open, its own, and on the same node.
+abbrev pub RootsStayOpen : Type 0
+RootsStayOpen = (r : WholeRun) (i : ℕ) (plan : ActorPlan) (of : ActorsCalls r i plan) (before after : List Event) → ReleasesOwn (root_of r i).owner plan.calls
+    → r.events ≡ before ++ after → held (after_events (opening_of r) before) i (root_of r i).handle ≡ Some of.node
+
+-- A Release of what a call of the actor opened and still keeps is done: such a plan's calls keep what they opened open until then.
+abbrev pub KeptIsReleased : Type 0
+KeptIsReleased = (r : WholeRun) (i : ℕ) (plan : ActorPlan) (of : ActorsCalls r i plan) (earlier : List CallMade) (c : CallMade) (later : List CallMade)
+    → ReleasesOwn (root_of r i).owner plan.calls → of.calls ≡ earlier ++ c ∷ later
+    → IsDoneIfKept (kept_after_all (root_of r i).owner [] earlier) c

@@ -1,5 +1,5 @@
 -- What a report tells of each actor: its calls in their order, each with its lines and its reply.
-use Rattle.std.specs.Prelude.{◌≡◌, ◌+◌, ℕ, List, [], ◌∷◌, ◌++◌, Bool, true, false, length, map, Option, Some, None, Ok, slice_get}
+use Rattle.std.specs.Prelude.{◌≡◌, ◌≢◌, ◌+◌, ℕ, List, [], ◌∷◌, ◌++◌, Bool, true, false, length, map, Option, Some, None, Ok, slice_get}
 use Rattle.path_text.specs.declared.errno.Errno.TheVariants.{BadHandle}
 use Rattle.tree_model.specs.declared.answer.Event.{Event}
 use Rattle.tree_model.specs.State.{State, is_dir}
@@ -12,14 +12,16 @@ use Rattle.handles.specs.Objects.{StandingObject}
 use Rattle.step_resolver.specs.declared.walk.Root.{Root}
 use Rattle.step_resolver.specs.Order.{Line, events_of}
 use Rattle.step_resolver.specs.WalkHistory.{own_events}
+use Rattle.root_ops.specs.declared.op.Op.TheVariants.{Release}
 use Rattle.root_ops.specs.declared.op.Request.{Request}
-use Rattle.root_ops.specs.Order.{Reply, fault, ends, starts, LeadsTo}
+use Rattle.root_ops.specs.Order.{Reply, done, fault, ends, starts, LeadsTo}
 use Rattle.root_ops.specs.TurnView.{below_of}
 use Rattle.race_core.specs.declared.plan.ActorPlan.{ActorPlan}
 use Rattle.race_core.specs.declared.plan.Planned.{Planned}
+use Rattle.race_core.specs.declared.plan.Planned.TheVariants as planned
 use Rattle.race_core.specs.declared.report.Outcome.{Outcome}
 use Rattle.race_core.specs.Opening.{Opens}
-use Rattle.race_core.specs.Turns.{request_of, left_by, opened_by, outcome_of}
+use Rattle.race_core.specs.Turns.{standing_under, request_of, left_by, opened_by, outcome_of}
 use Rattle.race_core.specs.Worlds.{WorldView, RunsTo}
 
 -- ---- a world's whole run
@@ -92,6 +94,26 @@ abbrev pub events_of_calls : ℕ → List CallMade → List Event
 events_of_calls a [] = []
 events_of_calls a (c ∷ calls) = events_of a c.lines ++ events_of_calls a calls
 
+-- ---- what is released
+
+-- A plan closes only what its own calls opened, each named by its number: no call of it asks for the Release of a Standing from
+-- elsewhere that has its owner. One of another owner may be handed in; it is kept.
+abbrev pub ReleasesOwn : Owner → List Planned → Type 0
+ReleasesOwn owner [] = Unit {0}
+ReleasesOwn owner (planned.Call request ∷ calls) =
+    ((standing : StandingObject) → request.op ≡ Release standing → standing.owner ≢ owner) × ReleasesOwn owner calls
+ReleasesOwn owner (planned.Single step ∷ calls) = ReleasesOwn owner calls
+ReleasesOwn owner (planned.Release call ∷ calls) = ReleasesOwn owner calls
+
+-- where that call keeps what it opened as this one begins, and this one releases it, it is done
+abbrev pub IsDoneIfKept : List (Option StandingObject) → CallMade → Type 0
+IsDoneIfKept standings c =
+    (call : ℕ) (standing : StandingObject) → c.planned ≡ planned.Release call → standing_under standings call ≡ Some standing → c.reply ≡ done
+
+abbrev pub KeptAreReleased : Owner → List (Option StandingObject) → List CallMade → Type 0
+KeptAreReleased owner standings [] = Unit {0}
+KeptAreReleased owner standings (c ∷ calls) = IsDoneIfKept standings c × KeptAreReleased owner (kept_after owner standings c) calls
+
 -- ---- an actor in a report
 
 -- none of these events closes the handle
@@ -109,7 +131,8 @@ pub record IsHistory (opening : State) (events : List Event) (root : Root) (node
 
 -- The actor's calls, in their order: those that were planned, made with what those before them keep; its own events are theirs,
 -- and the replies in the report are their outcomes. The history is legal, its root is open as it begins, and the tree is the one
--- that the events lead to.
+-- that the events lead to. Where the plan closes only what its calls opened, none of its events closes the root, and each Release of
+-- what is kept is done.
 pub record ActorsCalls (r : WholeRun) (i : ℕ) (plan : ActorPlan) : Type 0 where
   pub node : ℕ
   pub history : IsHistory (opening_of r) r.events (root_of r i) node
@@ -119,3 +142,5 @@ pub record ActorsCalls (r : WholeRun) (i : ℕ) (plan : ActorPlan) : Type 0 wher
   pub made : AreMade (root_of r i) [] calls
   pub own : own_events i r.events ≡ events_of_calls i calls
   pub replies : slice_get r.replies i ≡ Some (outcomes_of calls)
+  pub spared : ReleasesOwn (root_of r i).owner plan.calls → NoneCloses (root_of r i).handle (own_events i r.events)
+  pub released : ReleasesOwn (root_of r i).owner plan.calls → KeptAreReleased (root_of r i).owner [] calls

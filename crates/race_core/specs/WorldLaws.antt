@@ -17,14 +17,14 @@ use Rattle.root_ops.specs.BulkTells.{MakeEnds, ClearEnds}
 use Rattle.root_ops.specs.CallHistory.{CallInHistory, end_of, HandlesAfter}
 use Rattle.root_ops.specs.declared.op.Op.TheVariants.{Resolve, MkdirAll, RemoveAll}
 use Rattle.root_ops.specs.declared.op.Request.{Request}
-use Rattle.root_ops.specs.Quiet.{IsQuiet, ClosesWhatIsOpen, OpComesTo, caller_of}
+use Rattle.root_ops.specs.Quiet.{IsQuiet, OpComesTo, caller_of}
 use Rattle.root_ops.specs.TurnView.{below_of}
 use Rattle.race_core.specs.declared.plan.ActorPlan.{ActorPlan}
 use Rattle.race_core.specs.declared.plan.Planned.TheVariants as planned
 use Rattle.race_core.specs.declared.report.Outcome.{Outcome}
 use Rattle.race_core.specs.declared.report.Outcome.TheVariants as outcome
 use Rattle.race_core.specs.Turns.{request_of, outcome_of}
-use Rattle.race_core.specs.WorldCalls.{WholeRun, IsRun, opening_of, root_of, CallMade, kept_after_all, events_of_calls, NoneCloses, ActorsCalls}
+use Rattle.race_core.specs.WorldCalls.{WholeRun, IsRun, opening_of, root_of, CallMade, kept_after_all, events_of_calls, ReleasesOwn, ActorsCalls}
 
 -- in each report each actor's own events are those of its planned calls, in their order, and so are its replies
 abbrev pub CallsInOrder : Type 0
@@ -41,11 +41,11 @@ pub record IsPlaced (r : WholeRun) (i node : ℕ) (earlier : List Event) (w : Wa
   pub same_root : w.root ≡ node
   pub own_before : own_events i w.before ≡ earlier
 
--- Each walk, alone or inside a call: where its lines' events are among an actor's own, and the root's handle isn't closed before,
+-- Each walk, alone or inside a call: where its lines' events are among an actor's own, whose plan closes only what its calls opened,
 -- the headline holds of it.
 abbrev pub WalksInReports : Type 0
 WalksInReports = (r : WholeRun) (i : ℕ) (plan : ActorPlan) (of : ActorsCalls r i plan) (way : Way) (path : Reading) (lines : List Line) (end : Turn) (earlier later : List Event)
-    → way.root ≡ (root_of r i).handle → NoneCloses (root_of r i).handle earlier
+    → ReleasesOwn (root_of r i).owner plan.calls → way.root ≡ (root_of r i).handle
     → own_events i r.events ≡ earlier ++ (events_of i lines ++ later) → walk.LeadsTo way (begins way path) lines end
     → (w : WalkInHistory) × (IsPlaced r i of.node earlier w × ((w.way ≡ way) × ((w.path ≡ path) × ((w.lines ≡ lines) × Headline w end))))
 
@@ -75,17 +75,17 @@ pub record CallTells (r : WholeRun) (i node : ℕ) (earlier : List CallMade) (c 
   pub own_before : own_events i before ≡ events_of_calls i earlier
   pub own : own_events i window ≡ events_of i c.lines
   pub handles : HandlesAfter (call_in r i node c request before window) c.reply
-  pub quiet : IsQuiet (call_in r i node c request before window) → ClosesWhatIsOpen (call_in r i node c request before window)
+  pub quiet : IsQuiet (call_in r i node c request before window)
       → OpComesTo (caller_of (call_in r i node c request before window)) (end_of (call_in r i node c request before window)) c.room c.lines request.op c.reply
   pub makes : (text : List ℕ) → request.op ≡ MkdirAll text → c.room ≡ true → text_fault text ≡ None
       → MakeEnds (call_in r i node c request before window) (reading_of text) c.reply
   pub clears : (text : List ℕ) (split : Split) → request.op ≡ RemoveAll text → c.room ≡ true → text_fault text ≡ None → split_of (reading_of text) Drop ≡ Ok split
       → ClearEnds (call_in r i node c request before window) split c.reply
 
--- so it is of each call of an actor that asked for something, where the root's handle isn't closed before
+-- so it is of each call of an actor that asked for something, where its plan closes only what its calls opened
 abbrev pub CallsInReports : Type 0
 CallsInReports = (r : WholeRun) (i : ℕ) (plan : ActorPlan) (of : ActorsCalls r i plan) (earlier : List CallMade) (c : CallMade) (later : List CallMade) (request : Request)
-    → of.calls ≡ earlier ++ c ∷ later → NoneCloses (root_of r i).handle (events_of_calls i earlier)
+    → ReleasesOwn (root_of r i).owner plan.calls → of.calls ≡ earlier ++ c ∷ later
     → request_of (root_of r i) (kept_after_all (root_of r i).owner [] earlier) c.planned ≡ Some request
     → CallTells r i of.node earlier c request
 
@@ -114,12 +114,11 @@ ResolveTells r i node earlier request path outcome.Done = ⊥
 ResolveTells r i node earlier request path (outcome.Count n) = ⊥
 ResolveTells r i node earlier request path (outcome.Stepped answer) = ⊥
 
--- A Resolve of an actor, outright, where the root's handle isn't closed before: its outcome in the report
--- tells what the headline says.
+-- A Resolve of an actor, outright, where its plan closes only what its calls opened: its outcome in the report tells what the
+-- headline says.
 abbrev pub ResolvesInReports : Type 0
 ResolvesInReports = (r : WholeRun) (i : ℕ) (plan : ActorPlan) (of : ActorsCalls r i plan) (earlier : List CallMade) (c : CallMade) (later : List CallMade) (request : Request) (path : List ℕ)
-    → of.calls ≡ earlier ++ c ∷ later → NoneCloses (root_of r i).handle (events_of_calls i earlier)
-    → c.planned ≡ planned.Call request → request.op ≡ Resolve path
+    → ReleasesOwn (root_of r i).owner plan.calls → of.calls ≡ earlier ++ c ∷ later → c.planned ≡ planned.Call request → request.op ≡ Resolve path
     → ResolveTells r i of.node (events_of_calls i earlier) request path (outcome_of c.reply)
 
 -- An actor that makes one Resolve and nothing else: what World::run reports as its outcome tells what the headline says.

@@ -33,7 +33,7 @@ pub use plan::{ActorPlan, Planned, Plans, Ref};
 pub use report::{Outcome, Outcomes, Report, WorldFault};
 pub use world::World;
 pub use world_laws::{
-    actors_calls_stand_in_order, calls_tell_in_reports, handles_at_end,
-    reports_with_memory_are_one, resolve_tells_in_reports, single_resolve_tells,
+    actors_calls_stand_in_order, calls_tell_in_reports, handles_at_end, kept_is_released,
+    reports_with_memory_are_one, resolve_tells_in_reports, roots_stay_open, single_resolve_tells,
     walks_tell_in_reports,
 };
