@@ -37,12 +37,14 @@ use Rattle.race_core.specs.declared.plan.Planned.TheVariants as plans
 use Rattle.race_core.specs.declared.seat.Seat.{Seat}
 use Rattle.race_core.specs.Book.{BookedHistory, tree_now, free_lines, lines_needed, is_close, closes_nothing, refusal, answer_now, booked}
 use Rattle.race_core.specs.Ledgers.{LedgerView}
+use Rattle.race_core.specs.OwnHistory.{NoneCloses}
 use Rattle.race_core.specs.Turns.{Luck, Stepped, unless_refused, stepped_by, standing_under, request_of, left_by, opened_by, outcome_of, comes, ended, begins, begins_next, begun, goes_on, turned}
-use Rattle.race_core.specs.WorldCalls.{CallMade, IsMadeAs, kept_after, kept_after_all, AreMade, planned_of, outcomes_of, events_of_calls, NoneCloses, ReleasesOwn, KeptAreReleased}
+use Rattle.race_core.specs.WorldCalls.{CallMade, IsMadeAs, kept_after, kept_after_all, AreMade, planned_of, outcomes_of, events_of_calls, ReleasesOwn, KeptAreReleased}
 use Rattle.race_core.proofs.Booked.{close_done}
 use Rattle.race_core.proofs.HeldByCalls.{opened_by_reply, CallHolds, TurnHolds, started, Moves, unmoved, holds_on, closes_open, all_more, turn_holds_more}
 use Rattle.race_core.proofs.HeldOpen.{AllOpen}
-use Rattle.race_core.proofs.KeptOpen.{IsOpen, kept_handles, release_of, owners_are_one, owned_at, all_owned, open_left, released_at, IsHeld, IsFreed, Spares, no_close, another_close, spares_first, held_moves, kept_still, kept_then, release_begins, done_more, none_both, asks_for_kept}
+use Rattle.race_core.proofs.KeptOpen.{IsOpen, kept_handles, release_of, owners_are_one, owned_at, all_owned, open_left, released_at, IsHeld, IsFreed, Spares, no_close, another_close, spares_first, held_moves, kept_still, kept_then, release_begins, done_more, asks_for_kept}
+use Rattle.race_core.proofs.OwnHistory.{none_both}
 
 -- ---- a step through the book
 

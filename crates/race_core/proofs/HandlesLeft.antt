@@ -20,10 +20,11 @@ use Rattle.root_ops.specs.TurnView.{below_of}
 use Rattle.root_ops.proofs.Handles.OwnEvents.{cut, nothing_more}
 use Rattle.root_ops.proofs.Handles.WalkParts.{HasRoot, root_later}
 use Rattle.race_core.specs.EndHandles.{Word, words_of_done, words_of, words_of_call, all_words, last_word, HandlesAtEnd, RootsStayOpen, KeptIsReleased}
+use Rattle.race_core.specs.OwnHistory.{NoneCloses}
 use Rattle.race_core.specs.Turns.{request_of}
-use Rattle.race_core.specs.WorldCalls.{opening_of, root_of, CallMade, IsMadeAs, kept_after, AreMade, events_of_calls, NoneCloses, KeptAreReleased}
-use Rattle.race_core.proofs.KeptOpen.{none_first, none_rest, done_at}
-use Rattle.race_core.proofs.ReportsTell.{root_stays}
+use Rattle.race_core.specs.WorldCalls.{opening_of, root_of, CallMade, IsMadeAs, kept_after, AreMade, events_of_calls, KeptAreReleased}
+use Rattle.race_core.proofs.KeptOpen.{done_at}
+use Rattle.race_core.proofs.OwnHistory.{none_first, none_rest, root_stays}
 
 -- ---- words
 

@@ -5,7 +5,6 @@ use Rattle.std.specs.Option.{option_map}
 use Rattle.std.proofs.lemmas.Bool.{false≢true, ne_eqb}
 use Rattle.std.proofs.lemmas.Option.{none-some, same_Some}
 use Rattle.tree_model.specs.declared.answer.Answer.{Answer}
-use Rattle.tree_model.specs.declared.answer.Event.{Event}
 use Rattle.tree_model.specs.declared.step.StepOf.{StepOf}
 use Rattle.tree_model.specs.declared.step.StepOf.TheVariants as steps
 use Rattle.tree_model.specs.State.{State}
@@ -24,7 +23,7 @@ use Rattle.race_core.specs.declared.plan.Planned.TheVariants as plan
 use Rattle.race_core.specs.declared.plan.Ref.{Ref}
 use Rattle.race_core.specs.Book.{is_close}
 use Rattle.race_core.specs.Turns.{standing_under, handle_at, step_at, plain, request_of, left_by, opened_by}
-use Rattle.race_core.specs.WorldCalls.{CallMade, kept_after, kept_after_all, NoneCloses, ReleasesOwn, IsDoneIfKept, KeptAreReleased}
+use Rattle.race_core.specs.WorldCalls.{CallMade, kept_after, kept_after_all, ReleasesOwn, IsDoneIfKept, KeptAreReleased}
 use Rattle.race_core.proofs.HeldByCalls.{opened_by_reply, Moves, stay, not_held, others, closes_none}
 use Rattle.race_core.proofs.HeldOpen.{AllOpen}
 
@@ -236,20 +235,6 @@ pub done_at : (owner : Owner) (standings : List (Option StandingObject)) (earlie
     → KeptAreReleased owner standings (earlier ++ c ∷ later) → IsDoneIfKept (kept_after_all owner standings earlier) c
 done_at owner standings [] c later all = all.0
 done_at owner standings (b ∷ earlier) c later all = done_at owner (kept_after owner standings b) earlier c later all.1
-
--- ---- events that spare a handle
-
-pub none_first : (h : ℕ) (es fs : List Event) → NoneCloses h (es ++ fs) → NoneCloses h es
-none_first h [] fs none = tt
-none_first h (e ∷ es) fs none = (none.0, none_first h es fs none.1)
-
-pub none_rest : (h : ℕ) (es fs : List Event) → NoneCloses h (es ++ fs) → NoneCloses h fs
-none_rest h [] fs none = none
-none_rest h (e ∷ es) fs none = none_rest h es fs none.1
-
-pub none_both : (h : ℕ) (es fs : List Event) → NoneCloses h es → NoneCloses h fs → NoneCloses h (es ++ fs)
-none_both h [] fs first rest = rest
-none_both h (e ∷ es) fs first rest = (first.0, none_both h es fs first.1 rest)
 
 -- ---- what is asked
 

@@ -1,4 +1,5 @@
 pub mod Booked
+pub mod OwnHistory
 mod Stepping
 mod Starting
 mod Running

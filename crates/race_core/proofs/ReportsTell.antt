@@ -7,11 +7,10 @@ use Rattle.path_text.specs.declared.errno.Errno.TheVariants.{NoMemory, BadHandle
 use Rattle.path_text.specs.Reading.{Reading}
 use Rattle.path_text.specs.Text.{text_fault, reading_of}
 use Rattle.tree_model.specs.declared.answer.Event.{Event}
-use Rattle.tree_model.specs.History.{IsLegal, after_event, after_events}
+use Rattle.tree_model.specs.History.{IsLegal, after_events}
 use Rattle.tree_model.specs.State.{State}
 use Rattle.tree_model.specs.Steps.{held}
 use Rattle.tree_model.proofs.HistoryLaws.{IsLegal-front, IsLegal-back}
-use Rattle.tree_model.proofs.StepLaws.{own_handles_stay, others_handles_stay}
 use Rattle.handles.specs.Objects.{StandingObject}
 use Rattle.walk_plan.specs.declared.goal.Goal.TheVariants.{Follow}
 use Rattle.step_resolver.specs.declared.walk.Root.{Root}
@@ -30,71 +29,18 @@ use Rattle.root_ops.specs.declared.op.Request.{Request}
 use Rattle.root_ops.specs.Order.{Reply, opened, done, kept, fault, releasing, more, ends, same_owner, starts, walked, unless_fault, walks, LeadsTo}
 use Rattle.root_ops.specs.Quiet.{QuietCallsMean}
 use Rattle.root_ops.specs.TurnView.{below_of}
-use Rattle.root_ops.proofs.Handles.OwnEvents.{events_append, cut}
-use Rattle.root_ops.proofs.Handles.WalkParts.{IsEnded, walk_ends, HasRoot, root_later}
+use Rattle.root_ops.proofs.Handles.OwnEvents.{events_append}
+use Rattle.root_ops.proofs.Handles.WalkParts.{IsEnded, walk_ends}
 use Rattle.race_core.specs.declared.plan.ActorPlan.{ActorPlan}
 use Rattle.race_core.specs.declared.plan.Planned.{Planned}
 use Rattle.race_core.specs.declared.plan.Planned.TheVariants as planned
+use Rattle.race_core.specs.OwnHistory.{NoneCloses, Around}
 use Rattle.race_core.specs.Turns.{request_of, outcome_of}
-use Rattle.race_core.specs.WorldCalls.{WholeRun, opening_of, root_of, CallMade, IsMadeAs, kept_after, kept_after_all, AreMade, planned_of, outcomes_of, events_of_calls, NoneCloses, ReleasesOwn, KeptAreReleased, IsHistory, ActorsCalls}
+use Rattle.race_core.specs.WorldCalls.{WholeRun, opening_of, root_of, CallMade, IsMadeAs, kept_after, kept_after_all, AreMade, planned_of, outcomes_of, events_of_calls, ReleasesOwn, KeptAreReleased, ActorsCalls}
 use Rattle.race_core.specs.WorldLaws.{IsPlaced, WalksInReports, call_in, CallTells, CallsInReports, way_of_resolve, WalkTells, ResolveTells, ResolvesInReports, ResolvesAlone}
-use Rattle.race_core.proofs.KeptOpen.{owners_are_one, none_first, asks_for_kept, done_at}
+use Rattle.race_core.proofs.KeptOpen.{owners_are_one, asks_for_kept, done_at}
+use Rattle.race_core.proofs.OwnHistory.{around, none_first, root_at}
 use Rattle.race_core.proofs.WorldSoFar.{calls_in_order}
-
--- ---- own events in three parts
-
-pub record InThree (a : ℕ) (events earlier own later : List Event) : Type 0 where
-  pub before : List Event
-  pub window : List Event
-  pub after : List Event
-  pub whole : events ≡ before ++ (window ++ after)
-  pub own_before : own_events a before ≡ earlier
-  pub own_window : own_events a window ≡ own
-
-in_three : (a : ℕ) (events earlier own later : List Event) → own_events a events ≡ earlier ++ (own ++ later) → InThree a events earlier own later
-in_three a events earlier own later e =
-    let first = cut a events earlier (own ++ later) e in
-    let second = cut a first.after own later first.own_after in
-    record {
-      before = first.before;
-      window = second.before;
-      after = second.after;
-      whole = first.whole ∙ ap (λ es. first.before ++ es) second.whole;
-      own_before = first.own_before;
-      own_window = second.own_before;
-    }
-
--- ---- the root's handle stays open
-
-module _ (a h x : ℕ) where
-  own_here : (event : Event) (rest : List Event) → (event.actor == a) ≡ true → own_events a (event ∷ rest) ≡ event ∷ own_events a rest
-  own_here event rest e = ap (λ b. cond b (event ∷ own_events a rest) (own_events a rest)) e
-
-  own_later : (event : Event) (rest : List Event) → (event.actor == a) ≡ false → own_events a (event ∷ rest) ≡ own_events a rest
-  own_later event rest e = ap (λ b. cond b (event ∷ own_events a rest) (own_events a rest)) e
-
-  pub root_stays : (events : List Event) (s : State) → held s a h ≡ Some x → NoneCloses h (own_events a events) → held (after_events s events) a h ≡ Some x
-  root_stays [] s e none = e
-  root_stays (event ∷ rest) s e none = on (event.actor == a) refl (λ f n. root_stays rest (after_event s event) f n)
-    where
-      on : (b : Bool) → (event.actor == a) ≡ b
-          → (held (after_event s event) a h ≡ Some x → NoneCloses h (own_events a rest) → held (after_events (after_event s event) rest) a h ≡ Some x)
-          → held (after_events (after_event s event) rest) a h ≡ Some x
-      on true q go =
-          let now : NoneCloses h (event ∷ own_events a rest) = subst (NoneCloses h) (own_here event rest q) none in
-          let same = eqb-true event.actor a q in
-          let mine : held s event.actor h ≡ Some x = ap (λ b. held s b h) same ∙ e in
-          go (ap (λ b. held (after_event s event) b h) (sym same) ∙ own_handles_stay s event.actor event.step h x mine now.0) now.1
-      on false q go = go (others_handles_stay s event.actor event.step a h (λ same. eqb-false event.actor a q (sym same)) ∙ e) (subst (NoneCloses h) (own_later event rest q) none)
-
--- the root as a window begins
-root_at : (root : Root) (below : Below) (opening : State) (events before : List Event) (node : ℕ) → below.root ≡ root → IsHistory opening events root node
-    → NoneCloses root.handle (own_events root.owner.actor before) → HasRoot below node (after_events opening before)
-root_at root below opening events before node same is none =
-    let here : IsHistory opening events below.root node = subst (λ (t : Root). IsHistory opening events t node) (sym same) is in
-    let closed : NoneCloses below.root.handle (own_events below.root.owner.actor before) = subst (λ (t : Root). NoneCloses t.handle (own_events t.owner.actor before)) (sym same) none in
-    root_later below node opening before (record { tree = here.tree; root = here.opened; root_is_dir = here.directory })
-    (root_stays below.root.owner.actor below.root.handle node before opening here.opened closed)
 
 -- ---- walks
 
@@ -104,8 +50,8 @@ module _ (every : EveryWalk) (r : WholeRun) (i : ℕ) (plan : ActorPlan) (of : A
   none : NoneCloses (root_of r i).handle earlier
   none = none_first (root_of r i).handle earlier (events_of i lines ++ later) (subst (NoneCloses (root_of r i).handle) own (of.spared closes_own))
 
-  parts : InThree i r.events earlier (events_of i lines) later
-  parts = in_three i r.events earlier (events_of i lines) later own
+  parts : Around i r.events earlier (events_of i lines) later
+  parts = around i r.events earlier (events_of i lines) later own
 
   abbrev the_walk : WalkInHistory
   the_walk = record {
@@ -123,7 +69,7 @@ module _ (every : EveryWalk) (r : WholeRun) (i : ℕ) (plan : ActorPlan) (of : A
   is_there =
       let opening = opening_of r in
       let whole : IsLegal opening (parts.before ++ (parts.window ++ parts.after)) = subst (IsLegal opening) parts.whole of.history.legal in
-      let has = root_at (root_of r i) (below_of (root_of r i) way.flags) opening r.events parts.before of.node refl of.history (subst (NoneCloses (root_of r i).handle) (sym parts.own_before) none) in
+      let has = root_at (below_of (root_of r i) way.flags) opening r.events parts.before of.node of.history (subst (NoneCloses (root_of r i).handle) (sym parts.own_before) none) in
       record {
         tree = of.history.tree;
         legal_before = IsLegal-front opening parts.before (parts.window ++ parts.after) whole;
@@ -209,11 +155,11 @@ module _ (r : WholeRun) (i : ℕ) (plan : ActorPlan) (of : ActorsCalls r i plan)
       let opening = opening_of r in
       let none = none_first (root_of r i).handle (events_of_calls i earlier) (events_of i c.lines ++ events_of_calls i later)
       (subst (NoneCloses (root_of r i).handle) its_own (of.spared closes_own)) in
-      let parts = in_three i r.events (events_of_calls i earlier) (events_of i c.lines) (events_of_calls i later) its_own in
+      let parts = around i r.events (events_of_calls i earlier) (events_of i c.lines) (events_of_calls i later) its_own in
       let the_call = call_in r i of.node c request parts.before parts.window in
       let leads = it_leads asked in
       let whole : IsLegal opening (parts.before ++ (parts.window ++ parts.after)) = subst (IsLegal opening) parts.whole of.history.legal in
-      let has = root_at (root_of r i) (below_of (root_of r i) request.flags) opening r.events parts.before of.node refl of.history (subst (NoneCloses (root_of r i).handle) (sym parts.own_before) none) in
+      let has = root_at (below_of (root_of r i) request.flags) opening r.events parts.before of.node of.history (subst (NoneCloses (root_of r i).handle) (sym parts.own_before) none) in
       let placed : IsCallInHistory the_call = record {
         tree = of.history.tree;
         legal_before = IsLegal-front opening parts.before (parts.window ++ parts.after) whole;
@@ -319,7 +265,7 @@ resolves_alone every r i plan request path run there calls is_op =
         (
           of.replies ∙ ap (λ cs. Some (outcomes_of cs)) one.1.0,
           resolves_in_reports every r i plan of [] one.0 [] request path
-          (subst (ReleasesOwn (root_of r i).owner) (sym calls) ((λ standing other. absurd (no_release path standing (sym is_op ∙ other))), tt)) one.1.0 one.1.1 is_op,
+              (subst (ReleasesOwn (root_of r i).owner) (sym calls) ((λ standing other. absurd (no_release path standing (sym is_op ∙ other))), tt)) one.1.0 one.1.1 is_op,
         ),
       ),
     )

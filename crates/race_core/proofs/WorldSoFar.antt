@@ -23,9 +23,10 @@ use Rattle.race_core.specs.declared.seat.Seat.{Seat}
 use Rattle.race_core.specs.Book.{BookedHistory, opened_book}
 use Rattle.race_core.specs.Ledgers.{LedgerView}
 use Rattle.race_core.specs.Opening.{Granted, Grants, before, onward_from, granted, root_in, seats_of, IsOpened}
+use Rattle.race_core.specs.OwnHistory.{NoneCloses, IsHistory}
 use Rattle.race_core.specs.TurnView.{is_busy, are_some}
 use Rattle.race_core.specs.Turns.{Luck, turned, opened_ledger}
-use Rattle.race_core.specs.WorldCalls.{WholeRun, IsRun, opening_of, root_of, AreMade, planned_of, events_of_calls, NoneCloses, ReleasesOwn, KeptAreReleased, IsHistory, ActorsCalls}
+use Rattle.race_core.specs.WorldCalls.{WholeRun, IsRun, opening_of, root_of, AreMade, planned_of, events_of_calls, ReleasesOwn, KeptAreReleased, ActorsCalls}
 use Rattle.race_core.specs.WorldLaws.{CallsInOrder}
 use Rattle.race_core.specs.Worlds.{WorldView, turn_of, turn, Runs, again, AllGoToEnd, RunsOut, AllOver, ledgers_in, replies_in}
 use Rattle.race_core.proofs.CallsSoFar.{SoFar, SeatSoFar, BookMoves, same, one_more, turns_so_far, turn_keeps_root, turn_moves, so_far_among_others}

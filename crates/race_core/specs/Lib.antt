@@ -5,6 +5,7 @@ pub mod EndHandles
 pub mod Ledgers
 pub mod OneReport
 pub mod Opening
+pub mod OwnHistory
 pub mod TurnView
 pub mod Turns
 pub mod WorldCalls

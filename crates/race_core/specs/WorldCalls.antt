@@ -2,11 +2,9 @@
 use Rattle.std.specs.Prelude.{◌≡◌, ◌≢◌, ◌+◌, ℕ, List, [], ◌∷◌, ◌++◌, Bool, true, false, length, map, Option, Some, None, Ok, slice_get}
 use Rattle.path_text.specs.declared.errno.Errno.TheVariants.{BadHandle}
 use Rattle.tree_model.specs.declared.answer.Event.{Event}
-use Rattle.tree_model.specs.State.{State, is_dir}
-use Rattle.tree_model.specs.StepLaws.{is_close_of}
-use Rattle.tree_model.specs.Steps.{held}
+use Rattle.tree_model.specs.State.{State}
 use Rattle.tree_model.specs.Trees.{IsState}
-use Rattle.tree_model.specs.History.{IsLegal, after_events}
+use Rattle.tree_model.specs.History.{after_events}
 use Rattle.handles.specs.declared.owner.Owner.{Owner}
 use Rattle.handles.specs.Objects.{StandingObject}
 use Rattle.step_resolver.specs.declared.walk.Root.{Root}
@@ -21,6 +19,7 @@ use Rattle.race_core.specs.declared.plan.Planned.{Planned}
 use Rattle.race_core.specs.declared.plan.Planned.TheVariants as planned
 use Rattle.race_core.specs.declared.report.Outcome.{Outcome}
 use Rattle.race_core.specs.Opening.{Opens}
+use Rattle.race_core.specs.OwnHistory.{NoneCloses, IsHistory}
 use Rattle.race_core.specs.Turns.{standing_under, request_of, left_by, opened_by, outcome_of}
 use Rattle.race_core.specs.Worlds.{WorldView, RunsTo}
 
@@ -115,19 +114,6 @@ KeptAreReleased owner standings [] = Unit {0}
 KeptAreReleased owner standings (c ∷ calls) = IsDoneIfKept standings c × KeptAreReleased owner (kept_after owner standings c) calls
 
 -- ---- an actor in a report
-
--- none of these events closes the handle
-abbrev pub NoneCloses : ℕ → List Event → Type 0
-NoneCloses h [] = Unit {0}
-NoneCloses h (event ∷ events) = (is_close_of h event.step ≡ false) × NoneCloses h events
-
--- A history, and a root in it: the opening is a tree, the events are legal from it, and the root's handle is open there, the
--- actor's, and on a directory.
-pub record IsHistory (opening : State) (events : List Event) (root : Root) (node : ℕ) : Type 0 where
-  pub tree : IsState opening
-  pub legal : IsLegal opening events
-  pub opened : held opening root.owner.actor root.handle ≡ Some node
-  pub directory : is_dir opening.nodes node ≡ true
 
 -- The actor's calls, in their order: those that were planned, made with what those before them keep; its own events are theirs,
 -- and the replies in the report are their outcomes. The history is legal, its root is open as it begins, and the tree is the one
