@@ -112,7 +112,14 @@ impl Walk {
     {
         let mut place = None;
         match course.go_on(&mut place) {
-            Next::Due(pending) => match Box::new(alloc, State { course, place, pending }) {
+            Next::Due(pending) => match Box::new(
+                alloc,
+                State {
+                    course,
+                    place,
+                    pending,
+                },
+            ) {
                 Ok(state) => Turn::More(Walk { state }),
                 Err(AllocFailed { value }) => {
                     let _ = value.over();
