@@ -1,7 +1,7 @@
 -- What a walk's first turn can be: nothing is held at the root itself, so that without memory it fails as a first step does
 -- that wasn't made for want of it.
 use Rattle.std.proofs.Common.{◌≡◌, List, [], ◌∷◌, Bool, true, false, if◌then◌else◌, ℕ, refl, sym, subst, inl}
-use Rattle.std.specs.Prelude.{Some, None}
+use Rattle.std.specs.Prelude.{Option, Some, None}
 use Rattle.path_text.specs.declared.errno.Errno.TheVariants.{NoMemory, CrossRoot, TooLong}
 use Rattle.path_text.specs.Reading.{Reading}
 use Rattle.tree_model.specs.declared.answer.Answer.TheVariants.{Refused}
@@ -9,7 +9,8 @@ use Rattle.walk_plan.specs.Plan.{PlanState, leads_out}
 use Rattle.step_resolver.specs.Asked.{AskedPart, Cur, Up, Named, asked, follows}
 use Rattle.step_resolver.specs.Meaning.{LINKS_MAX, is_too_long}
 use Rattle.step_resolver.specs.Order.{Way, root_itself, holds, Todo, todo, Walking, opening, reading, rising, judging, duping, ending, closing, Turn, more, found, partial, failed, in_directory, on_own, on_parts, goes_on, begins, for_walk, starts, take, is_closing, LeadsTo}
-use Rattle.step_resolver.specs.View.{walking_of, HoldsNothing}
+use Rattle.handles.specs.Objects.{ReachedObject}
+use Rattle.step_resolver.specs.View.{walking_of, HoldsNothing, IsPending}
 use Rattle.step_resolver.specs.TurnsTell.{first_lines}
 use Rattle.step_resolver.specs.declared.pending.Pending.{Pending}
 use Rattle.step_resolver.specs.declared.pending.Pending.TheVariants as pending
@@ -89,15 +90,18 @@ module _ (way : Way) where
 
 -- ---- the pending step
 
-by_step : (p : PlanState) (step : Pending) → IsFirstStep (walking_of p step) → HoldsNothing step
-by_step p (pending.Opening None) first = tt
-by_step p (pending.Opening (Some held)) first = first
-by_step p (pending.Reading place link) first = first
-by_step p (pending.Rising held) first = first
-by_step p (pending.Judging held) first = first
-by_step p pending.Duping first = tt
-by_step p (pending.Ending held) first = first
-by_step p (pending.Closing first_closed second after) first = first
+by_step : (p : PlanState) (place : Option ReachedObject) (step : Pending) → IsFirstStep (walking_of p place step) → IsPending p place step → HoldsNothing place step
+by_step p None pending.Opening first is = (refl, tt)
+by_step p (Some held) pending.Opening first is = absurd first
+by_step p place (pending.Reading link) first is = absurd first
+by_step p None pending.Rising first is = (refl, tt)
+by_step p (Some held) pending.Rising first is = absurd first
+by_step p None pending.Judging first is = (refl, tt)
+by_step p (Some held) pending.Judging first is = absurd first
+by_step p place pending.Duping first is = (is.0, tt)
+by_step p None pending.Ending first is = (refl, tt)
+by_step p (Some held) pending.Ending first is = absurd first
+by_step p place (pending.Closing first_closed second after) first is = absurd first
 
-pub first_holds_nothing : (way : Way) (rest : Todo) (p : PlanState) (step : Pending) → more (walking_of p step) ≡ goes_on way root_itself rest → HoldsNothing step
-first_holds_nothing way rest p step e = by_step p step (subst IsFirst (sym e) (from_root way rest))
+pub first_holds_nothing : (way : Way) (rest : Todo) (p : PlanState) (place : Option ReachedObject) (step : Pending) → more (walking_of p place step) ≡ goes_on way root_itself rest → IsPending p place step → HoldsNothing place step
+first_holds_nothing way rest p place step e is = by_step p place step (subst IsFirst (sym e) (from_root way rest)) is

@@ -1,10 +1,10 @@
 -- What a walk has come to, as the order of steps sees it.
-use Rattle.std.specs.Prelude.{◌≡◌, ℕ, ◌+◌, ◌*◌, reverse, Bool, IsTrue}
+use Rattle.std.specs.Prelude.{◌≡◌, ℕ, ◌+◌, ◌*◌, reverse, Bool, IsTrue, Option, None}
 use Rattle.path_text.specs.declared.path.TheConstants.{PARTS_MAX}
 use Rattle.path_text.specs.Reading.{Reading}
 use Rattle.tree_model.specs.declared.answer.Answer.{Answer}
 use Rattle.handles.specs.declared.owner.Owner.{Owner}
-use Rattle.handles.specs.Objects.{StandingObject}
+use Rattle.handles.specs.Objects.{ReachedObject, StandingObject}
 use Rattle.walk_plan.specs.declared.goal.Goal.{Goal}
 use Rattle.walk_plan.specs.declared.goal.Goal.TheVariants.{Follow}
 use Rattle.step_resolver.specs.Asked.{asked, follows}
@@ -16,6 +16,8 @@ use Rattle.step_resolver.specs.declared.course.Course.{Course}
 use Rattle.step_resolver.specs.declared.pending.Next.{Next}
 use Rattle.step_resolver.specs.declared.pending.Next.TheVariants as next
 use Rattle.step_resolver.specs.declared.pending.Pending.{Pending}
+use Rattle.step_resolver.specs.declared.pending.End.{End}
+use Rattle.step_resolver.specs.declared.pending.End.TheVariants as end
 use Rattle.step_resolver.specs.declared.walk.Turn.{Turn as Outcome}
 use Rattle.step_resolver.specs.declared.walk.Turn.TheVariants.{More, Found, Partial, Failed}
 
@@ -54,23 +56,30 @@ STEPS_MAX = 4 * (PARTS_MAX * (LINKS_MAX + 1)) + 4
 
 -- ---- the same of a course
 
--- what comes after an answer, as a turn; the rest of a partial end is in the plan
-abbrev pub next_turn : Course → Next → Turn
-next_turn course (next.Due pending) = more (walking_of course.plan pending)
-next_turn course (next.Found standing) = found (standing_handle standing) (reverse standing.names)
-next_turn course (next.Partial standing) = partial (standing_handle standing) (reverse standing.names) (own_to_come course.plan)
-next_turn course (next.Failed error) = failed error
+-- what comes after an answer, as a turn
+abbrev pub next_turn : Course → Option ReachedObject → Next → Turn
+next_turn course place (next.Due pending) = more (walking_of course.plan place pending)
+next_turn course place (next.Failed error) = failed error
 
-abbrev pub IsNext : Course → Next → Type 0
-IsNext course (next.Due pending) = IsPending course.plan pending
-IsNext course (next.Found standing) = standing.owner ≡ course.root.owner
-IsNext course (next.Partial standing) = (standing.owner ≡ course.root.owner) × IsTrue (is_own course.plan)
-IsNext course (next.Failed error) = Unit {0}
+abbrev pub IsNext : Course → Option ReachedObject → Next → Type 0
+IsNext course place (next.Due pending) = IsPending course.plan place pending
+IsNext course place (next.Failed error) = place ≡ None
 
 -- the root, what the walk is after and its restrictions stay the same; and what comes next is of this course
-abbrev pub KeepsCourse : Course → Course → Next → Type 0
-KeepsCourse old new next =
-    (new.root ≡ old.root) × (new.plan.goal ≡ old.plan.goal) × (new.plan.flags ≡ old.plan.flags) × IsNext new next
+abbrev pub KeepsCourse : Course → Course → Option ReachedObject → Next → Type 0
+KeepsCourse old new place next =
+    (new.root ≡ old.root) × (new.plan.goal ≡ old.plan.goal) × (new.plan.flags ≡ old.plan.flags) × IsNext new place next
 
-abbrev pub TakesOn : Course → Pending → Answer → Course → Next → Type 0
-TakesOn old pending answer new next = TakesTo (course_way old) (walking_of old.plan pending) answer (next_turn new next)
+-- what comes after the last check, as a turn; the rest of a partial end is in the plan
+abbrev pub end_turn : Course → End → Turn
+end_turn course (end.Found standing) = found (standing_handle standing) (reverse standing.names)
+end_turn course (end.Partial standing) = partial (standing_handle standing) (reverse standing.names) (own_to_come course.plan)
+end_turn course (end.Due pending) = more (walking_of course.plan None pending)
+
+abbrev pub IsEnd : Course → End → Type 0
+IsEnd course (end.Found standing) = standing.owner ≡ course.root.owner
+IsEnd course (end.Partial standing) = (standing.owner ≡ course.root.owner) × IsTrue (is_own course.plan)
+IsEnd course (end.Due pending) = IsPending course.plan None pending
+
+abbrev pub TakesOn : Course → Option ReachedObject → Pending → Answer → Course → Option ReachedObject → Next → Type 0
+TakesOn old held pending answer new place next = TakesTo (course_way old) (walking_of old.plan held pending) answer (next_turn new place next)

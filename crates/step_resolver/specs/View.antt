@@ -1,5 +1,6 @@
 -- What a contract sees of a walk: the order's walk, read off its plan and what it holds.
-use Rattle.std.specs.Prelude.{◌≡◌, ◌≤◌, ◌<◌, ℕ, ◌-◌, List, [], ◌∷◌, Bool, true, false, not, length, reverse, Option, Some, None, IsTrue}
+use Rattle.std.specs.Prelude.{◌≡◌, ◌≤◌, ◌<◌, ℕ, ◌-◌, List, [], ◌∷◌, Bool, true, false, not, length, reverse, Option, Some, None, IsSome, IsTrue}
+use Rattle.std.specs.Option.{option_to_list}
 use Rattle.path_text.specs.declared.errno.Errno.{Errno}
 use Rattle.path_text.specs.declared.errno.Errno.TheVariants.{Raced, BadHandle}
 use Rattle.path_text.specs.declared.flags.Flags.{Flags}
@@ -93,25 +94,31 @@ EntersBy way position n new rest turn = (room : Bool) × (turn ≡ enters way ro
 
 -- ---- the walk
 
-abbrev pub after_of : PlanState → AfterClose → After
-after_of p (Gives error) = gives error
-after_of p (Onward place) = onward (place_of place p.names) (todo_of p)
-after_of p (Judges held) = judges (handle_of held) (reverse p.names) (todo_of p)
+-- the walk at what is held, where something is
+abbrev pub at_held : Option ReachedObject → (ReachedObject → Walking) → Walking
+at_held None step = duping []
+at_held (Some held) step = step held
 
-abbrev pub walking_of : PlanState → Pending → Walking
-walking_of p (Opening place) =
+abbrev pub after_of : PlanState → Option ReachedObject → AfterClose → After
+after_of p place (Gives error) = gives error
+after_of p place Onward = onward (place_of place p.names) (todo_of p)
+after_of p None Judges = gives BadHandle
+after_of p (Some held) Judges = judges (handle_of held) (reverse p.names) (todo_of p)
+
+abbrev pub walking_of : PlanState → Option ReachedObject → Pending → Walking
+walking_of p place Opening =
     opening (place_of place p.names) (is_own p) (plan.follows_next_link p) (name_in (next_part p)) (todo_of (stayed p))
-walking_of p (Reading place link) =
+walking_of p place (Reading link) =
     reading (place_of place p.names) (handle_of link) (todo_of (record (stayed p) { links_left = p.links_left - 1 }))
-walking_of p (Rising held) = rising (handle_of held) (reverse p.names) (todo_of p)
-walking_of p (Judging held) = judging (handle_of held) (reverse p.names) (todo_of p)
-walking_of p Duping = duping (own_to_come p)
-walking_of p (Ending held) = ending (handle_of held) (reverse p.names) (own_to_come p)
-walking_of p (Closing first second after) = closing first.handle (numbers_of second) (after_of p after)
+walking_of p place Rising = at_held place (λ held. rising (handle_of held) (reverse p.names) (todo_of p))
+walking_of p place Judging = at_held place (λ held. judging (handle_of held) (reverse p.names) (todo_of p))
+walking_of p place Duping = duping (own_to_come p)
+walking_of p place Ending = at_held place (λ held. ending (handle_of held) (reverse p.names) (own_to_come p))
+walking_of p place (Closing first second after) = closing first (option_to_list second) (after_of p place after)
 
-abbrev pub view_of : Course → Pending → WalkView
-view_of course pending =
-    record { owner = course.root.owner; way = way_of course.root course.plan; walking = walking_of course.plan pending }
+abbrev pub view_of : Course → Option ReachedObject → Pending → WalkView
+view_of course place pending =
+    record { owner = course.root.owner; way = way_of course.root course.plan; walking = walking_of course.plan place pending }
 
 -- ---- what every walk keeps
 
@@ -120,10 +127,10 @@ abbrev pub IsPlace : List (List ℕ) → Option ReachedObject → Type 0
 IsPlace names None = names ≡ []
 IsPlace names (Some held) = Unit {0}
 
-abbrev pub IsAfter : List (List ℕ) → AfterClose → Type 0
-IsAfter names (Gives error) = Unit {0}
-IsAfter names (Onward place) = IsPlace names place
-IsAfter names (Judges held) = Unit {0}
+abbrev pub IsAfter : List (List ℕ) → Option ReachedObject → AfterClose → Type 0
+IsAfter names place (Gives error) = place ≡ None
+IsAfter names place Onward = IsPlace names place
+IsAfter names place Judges = IsSome place
 
 -- the next part is a name that can be looked up
 abbrev pub IsAtName : PlanState → Type 0
@@ -135,25 +142,38 @@ pub record MayFollow (p : PlanState) : Type 0 where
   pub allowed : p.flags.no_links ≡ false
   pub left : 0 < p.links_left
 
-abbrev pub IsPending : PlanState → Pending → Type 0
-IsPending p (Opening place) = IsPlace p.names place × IsAtName p
-IsPending p (Reading place link) = IsPlace p.names place × MayFollow p
-IsPending p (Rising held) = Unit {0}
-IsPending p (Judging held) = Unit {0}
-IsPending p Duping = (p.names ≡ []) × (p.inner ≡ [])
-IsPending p (Ending held) = p.inner ≡ []
-IsPending p (Closing first second after) = IsAfter p.names after
+abbrev pub IsPending : PlanState → Option ReachedObject → Pending → Type 0
+IsPending p place Opening = IsPlace p.names place × IsAtName p
+IsPending p place (Reading link) = IsPlace p.names place × MayFollow p
+IsPending p place Rising = IsSome place
+IsPending p place Judging = IsSome place
+IsPending p place Duping = (place ≡ None) × (p.names ≡ []) × (p.inner ≡ [])
+IsPending p place Ending = IsSome place × (p.inner ≡ [])
+IsPending p place (Closing first second after) = IsAfter p.names place after
+
+-- the step holds no link
+abbrev pub HoldsNoLink : Pending → Type 0
+HoldsNoLink Opening = Unit {0}
+HoldsNoLink (Reading link) = ⊥
+HoldsNoLink Rising = Unit {0}
+HoldsNoLink Judging = Unit {0}
+HoldsNoLink Duping = Unit {0}
+HoldsNoLink Ending = Unit {0}
+HoldsNoLink (Closing first second after) = Unit {0}
 
 -- no handle is held while the step is made
-abbrev pub HoldsNothing : Pending → Type 0
-HoldsNothing (Opening None) = Unit {0}
-HoldsNothing (Opening (Some held)) = ⊥
-HoldsNothing (Reading place link) = ⊥
-HoldsNothing (Rising held) = ⊥
-HoldsNothing (Judging held) = ⊥
-HoldsNothing Duping = Unit {0}
-HoldsNothing (Ending held) = ⊥
-HoldsNothing (Closing first second after) = ⊥
+abbrev pub HoldsNothing : Option ReachedObject → Pending → Type 0
+HoldsNothing place pending = (place ≡ None) × HoldsNoLink pending
+
+-- the last check is due
+abbrev pub is_ending : Pending → Bool
+is_ending Opening = false
+is_ending (Reading link) = false
+is_ending Rising = false
+is_ending Judging = false
+is_ending Duping = false
+is_ending Ending = true
+is_ending (Closing first second after) = false
 
 -- ---- the same of a course
 

@@ -1,16 +1,17 @@
 //! A walk apart from its pending step, and what each answer comes to.
-ghost use Rattle.std.specs.Prelude.{◌≡◌, [], true, false, Some};
+ghost use Rattle.std.specs.Prelude.{◌≡◌, [], true, false, Option, Some, None, IsSome, option_to_list, reverse};
 ghost use Rattle.path_text.specs.declared.part.Part.TheVariants.{Up};
 ghost use Rattle.walk_plan.specs.Plan.{next_part, is_own, follows_next_link, stayed};
-ghost use Rattle.step_resolver.specs.Order.{gives_up, closing, at_end, goes_on, closes, comes, handle_at, more, refused_open, follows_link, is_followed};
+ghost use Rattle.step_resolver.specs.Order.{gives, ending, gives_up, closing, at_end, goes_on, closes, comes, handle_at, more, refused_open, follows_link, is_followed};
 ghost use Rattle.step_resolver.specs.View.{handle_of, numbers_of, is_directory_at, own_to_come, todo_of, stays, SameCourse, EntersBy, name_in, after_of, IsAtName, MayFollow};
 
 use crate::answers::{check_refusal, refusal_of};
-use crate::pending::{AfterClose, Next, Pending};
+use crate::pending::{AfterClose, End, Next, Pending};
 use crate::walk::Root;
 use handles::Reached;
 use path_text::{Errno, Part};
 use std::alloc::Global;
+use std::mem;
 use tree_model::{Answer, HandleNo, Kind};
 use walk_plan::{Goal, Plan};
 
@@ -54,9 +55,59 @@ fn is_directory(place: &Option<Reached>) -> bool
     }
 }
 
+// Lets go of a place in which nothing is held.
+pub(crate) fn let_go(place: Option<Reached>)
+    requires { place ≡ None }
+{
+    match place {
+        None => {}
+        // What is held is to be closed.
+        Some(_) => unreachable!(),
+    }
+}
+
+// Holds what was opened, where nothing is held.
+fn hold(place: &mut Option<Reached>, held: Reached)
+    requires { place.old ≡ None }
+    ensures { place.new ≡ Some held }
+{
+    let_go(mem::replace(place, Some(held)));
+}
+
+// What is held, which nothing is then.
+pub(crate) fn taken(place: &mut Option<Reached>) -> Reached
+    requires { IsSome place.old }
+    ensures held { place.old ≡ Some result }
+    ensures none { place.new ≡ None }
+{
+    match mem::replace(place, None) {
+        Some(held) => held,
+        None => unreachable!(),
+    }
+}
+
+// The handle that is to be closed.
+fn given_up(held: Reached) -> HandleNo
+    ensures { result ≡ held.handle }
+{
+    let handle = held.handle();
+    let _ = held.into_close();
+    handle
+}
+
+// The handle that is to be closed, if one is held.
+fn all_given_up(place: Option<Reached>) -> Option<HandleNo>
+    ensures { option_to_list result ≡ numbers_of place }
+{
+    match place {
+        None => None,
+        Some(held) => Some(given_up(held)),
+    }
+}
+
 impl Course {
     ghost use Rattle.step_resolver.specs.View.{course_way, position_at, IsPlace, IsAfter, IsPending};
-    ghost use Rattle.step_resolver.specs.TurnView.{next_turn, KeepsCourse, TakesOn};
+    ghost use Rattle.step_resolver.specs.TurnView.{next_turn, KeepsCourse, TakesOn, TakesTo, end_turn, IsEnd};
 
     /// The handle through which the place is reached.
     pub(crate) fn handle_at(&self, place: &Option<Reached>) -> HandleNo
@@ -68,54 +119,60 @@ impl Course {
         }
     }
 
+    // What is held is closed, and the walk fails.
+    fn fail(&self, place: &mut Option<Reached>, error: Errno) -> Next
+        ensures turn { next_turn self.now place.new result ≡ gives_up (numbers_of place.old) error }
+        ensures kept { KeepsCourse self.now self.now place.new result }
+    {
+        match mem::replace(place, None) {
+            None => Next::Failed(error),
+            Some(held) => self.close(place, held, None, AfterClose::Gives(error)),
+        }
+    }
+
     // The first is closed, then the second.
-    fn close(&self, first: Reached, second: Option<Reached>, after: AfterClose) -> Next
-        requires { IsAfter self.now.plan.names after }
-        ensures turn { next_turn self.now result ≡ more (closing first.handle (numbers_of second) (after_of self.now.plan after)) }
-        ensures kept { KeepsCourse self.now self.now result }
+    fn close(
+        &self,
+        place: &Option<Reached>,
+        first: Reached,
+        second: Option<Reached>,
+        after: AfterClose,
+    ) -> Next
+        requires { IsAfter self.now.plan.names place.now after }
+        ensures turn { next_turn self.now place.now result ≡ more (closing first.handle (numbers_of second) (after_of self.now.plan place.now after)) }
+        ensures kept { KeepsCourse self.now self.now place.now result }
     {
         Next::Due(Pending::Closing {
-            first,
-            second,
+            first: given_up(first),
+            second: all_given_up(second),
             after,
         })
     }
 
-    // What is held is closed, and the walk fails.
-    fn fail(&self, place: Option<Reached>, error: Errno) -> Next
-        ensures turn { next_turn self.now result ≡ gives_up (numbers_of place) error }
-        ensures kept { KeepsCourse self.now self.now result }
-    {
-        match place {
-            None => Next::Failed(error),
-            Some(held) => self.close(held, None, AfterClose::Gives(error)),
-        }
-    }
-
     // The end, or the place in which the first part left is missing: something is held for it, and its place asked.
-    fn end(&self, place: Option<Reached>) -> Next
-        requires place { IsPlace self.now.plan.names place }
+    fn end(&self, place: &Option<Reached>) -> Next
+        requires place { IsPlace self.now.plan.names place.now }
         requires own { self.now.plan.inner ≡ [] }
-        ensures turn { next_turn self.now result ≡ at_end (position_at self.now place) (own_to_come self.now.plan) }
-        ensures kept { KeepsCourse self.now self.now result }
+        ensures turn { next_turn self.now place.now result ≡ at_end (position_at self.now place.now) (own_to_come self.now.plan) }
+        ensures kept { KeepsCourse self.now self.now place.now result }
     {
         Next::Due(match place {
             None => Pending::Duping,
-            Some(held) => Pending::Ending(held),
+            Some(_) => Pending::Ending,
         })
     }
 
     /// Goes on from the place: the parts that need no step are passed, up to the step that is due.
     #[tactic(auto, using(crate::proofs::WalkParts::next_parts))]
-    pub(crate) fn go_on(&mut self, place: Option<Reached>) -> Next
-        requires { IsPlace self.old.plan.names place }
-        ensures turn { next_turn self.new result ≡ goes_on (course_way self.old) (position_at self.old place) (todo_of self.old.plan) }
-        ensures kept { KeepsCourse self.old self.new result }
+    pub(crate) fn go_on(&mut self, place: &mut Option<Reached>) -> Next
+        requires { IsPlace self.old.plan.names place.old }
+        ensures turn { next_turn self.new place.new result ≡ goes_on (course_way self.old) (position_at self.old place.old) (todo_of self.old.plan) }
+        ensures kept { KeepsCourse self.old self.new place.new result }
     {
         match self.plan.next() {
             None => self.end(place),
             Some(_) => {
-                if is_directory(&place) {
+                if is_directory(place) {
                     pass_stays(&mut self.plan);
                     self.move_on(place)
                 } else {
@@ -127,12 +184,12 @@ impl Course {
 
     // The same in a directory, where the walk doesn't stay at the next part.
     #[tactic(auto, using(crate::proofs::WalkParts::next_parts))]
-    fn move_on(&mut self, place: Option<Reached>) -> Next
-        requires place { IsPlace self.old.plan.names place }
-        requires directory { is_directory_at place ≡ true }
+    fn move_on(&mut self, place: &mut Option<Reached>) -> Next
+        requires place { IsPlace self.old.plan.names place.old }
+        requires directory { is_directory_at place.old ≡ true }
         requires moves { stays self.old.plan ≡ false }
-        ensures turn { next_turn self.new result ≡ goes_on (course_way self.old) (position_at self.old place) (todo_of self.old.plan) }
-        ensures kept { KeepsCourse self.old self.new result }
+        ensures turn { next_turn self.new place.new result ≡ goes_on (course_way self.old) (position_at self.old place.old) (todo_of self.old.plan) }
+        ensures kept { KeepsCourse self.old self.new place.new result }
     {
         match self.plan.next() {
             None => self.end(place),
@@ -143,7 +200,7 @@ impl Course {
                 if name.is_too_long() {
                     self.fail(place, Errno::TooLong)
                 } else {
-                    Next::Due(Pending::Opening(place))
+                    Next::Due(Pending::Opening)
                 }
             }
         }
@@ -151,13 +208,13 @@ impl Course {
 
     // `..`, at which the walk doesn't stay: to the parent, or out of the root, where it may not.
     #[tactic(auto, using(crate::proofs::WalkParts::rise_crosses, crate::proofs::WalkParts::rises))]
-    fn rise(&mut self, place: Option<Reached>) -> Next
-        requires place { IsPlace self.old.plan.names place }
-        requires directory { is_directory_at place ≡ true }
+    fn rise(&mut self, place: &mut Option<Reached>) -> Next
+        requires place { IsPlace self.old.plan.names place.old }
+        requires directory { is_directory_at place.old ≡ true }
         requires up { next_part self.old.plan ≡ Some Up }
         requires moves { stays self.old.plan ≡ false }
-        ensures turn { next_turn self.new result ≡ goes_on (course_way self.old) (position_at self.old place) (todo_of self.old.plan) }
-        ensures kept { KeepsCourse self.old self.new result }
+        ensures turn { next_turn self.new place.new result ≡ goes_on (course_way self.old) (position_at self.old place.old) (todo_of self.old.plan) }
+        ensures kept { KeepsCourse self.old self.new place.new result }
     {
         if self.plan.names().is_empty() {
             return self.fail(place, Errno::CrossRoot);
@@ -165,40 +222,19 @@ impl Course {
         match place {
             // No name was passed where nothing is held.
             None => unreachable!(),
-            Some(held) => {
+            Some(_) => {
                 self.plan.went_up();
-                Next::Due(Pending::Rising(held))
+                Next::Due(Pending::Rising)
             }
         }
     }
 
-    /// What the answer to the pending step comes to.
-    pub(crate) fn answered(&mut self, alloc: Global, pending: Pending, answer: Answer) -> Next
-        requires { IsPending self.old.plan pending }
-        ensures turn { TakesOn self.old pending answer self.new result }
-        ensures kept { KeepsCourse self.old self.new result }
-    {
-        match pending {
-            Pending::Opening(place) => self.opened(place, answer),
-            Pending::Reading { place, link } => self.read(alloc, place, link, answer),
-            Pending::Rising(held) => self.risen(held, answer),
-            Pending::Judging(held) => self.judged(held, answer),
-            Pending::Duping => self.duped(answer),
-            Pending::Ending(held) => self.ended(held, answer),
-            Pending::Closing {
-                first,
-                second,
-                after,
-            } => self.closed(first, second, after),
-        }
-    }
-
-    // A name was opened: a link that must be followed is read, anything else entered.
-    fn opened(&mut self, place: Option<Reached>, answer: Answer) -> Next
-        requires place { IsPlace self.old.plan.names place }
+    /// A name was opened: a link that must be followed is read, anything else entered.
+    pub(crate) fn opened(&mut self, place: &mut Option<Reached>, answer: Answer) -> Next
+        requires place { IsPlace self.old.plan.names place.old }
         requires named { IsAtName self.old.plan }
-        ensures turn { TakesOn self.old (Pending.Opening place) answer self.new result }
-        ensures kept { KeepsCourse self.old self.new result }
+        ensures turn { TakesOn self.old place.old Pending.Opening answer self.new place.new result }
+        ensures kept { KeepsCourse self.old self.new place.new result }
     {
         match Reached::of(&answer) {
             None => self.not_opened(place, refusal_of(&answer)),
@@ -220,11 +256,11 @@ impl Course {
     }
 
     // The name wasn't opened. A missing one of the caller's own is where the deepest directory ends.
-    fn not_opened(&self, place: Option<Reached>, error: Errno) -> Next
-        requires place { IsPlace self.now.plan.names place }
+    fn not_opened(&self, place: &mut Option<Reached>, error: Errno) -> Next
+        requires place { IsPlace self.now.plan.names place.old }
         requires named { IsAtName self.now.plan }
-        ensures turn { next_turn self.now result ≡ refused_open (course_way self.now) (position_at self.now place) (is_own self.now.plan) (follows_next_link self.now.plan) (name_in (next_part self.now.plan)) (todo_of (stayed self.now.plan)) error }
-        ensures kept { KeepsCourse self.now self.now result }
+        ensures turn { next_turn self.now place.new result ≡ refused_open (course_way self.now) (position_at self.now place.old) (is_own self.now.plan) (follows_next_link self.now.plan) (name_in (next_part self.now.plan)) (todo_of (stayed self.now.plan)) error }
+        ensures kept { KeepsCourse self.now self.now place.new result }
     {
         if error == Errno::NotFound && self.plan.goal() == Goal::Deepest && self.plan.is_own() {
             self.end(place)
@@ -234,139 +270,182 @@ impl Course {
     }
 
     // A link that must be followed: its text is read, unless no link may be followed any more, or none at all.
-    fn follow(&self, place: Option<Reached>, link: Reached) -> Next
-        requires place { IsPlace self.now.plan.names place }
+    fn follow(&self, place: &mut Option<Reached>, link: Reached) -> Next
+        requires place { IsPlace self.now.plan.names place.old }
         requires named { IsAtName self.now.plan }
-        ensures turn { next_turn self.now result ≡ follows_link (course_way self.now) (position_at self.now place) (handle_of link) (todo_of (stayed self.now.plan)) }
-        ensures kept { KeepsCourse self.now self.now result }
+        ensures turn { next_turn self.now place.new result ≡ follows_link (course_way self.now) (position_at self.now place.old) (handle_of link) (todo_of (stayed self.now.plan)) }
+        ensures kept { KeepsCourse self.now self.now place.new result }
     {
         if self.plan.links_left() == 0 || self.plan.flags().no_links {
-            self.close(link, place, AfterClose::Gives(Errno::Loop))
+            self.fail_with(place, link, Errno::Loop)
         } else {
-            Next::Due(Pending::Reading { place, link })
+            Next::Due(Pending::Reading(link))
         }
+    }
+
+    // What was just opened is closed, then what is held, and the walk fails.
+    fn fail_with(&self, place: &mut Option<Reached>, new: Reached, error: Errno) -> Next
+        ensures turn { next_turn self.now place.new result ≡ more (closing new.handle (numbers_of place.old) (gives error)) }
+        ensures kept { KeepsCourse self.now self.now place.new result }
+    {
+        let held = mem::replace(place, None);
+        self.close(place, new, held, AfterClose::Gives(error))
     }
 
     // What was opened is held, and what was held is closed.
     #[tactic(auto, using(crate::proofs::WalkAnswers::name_passed))]
-    fn enter(&mut self, place: Option<Reached>, new: Reached) -> Next
-        requires place { IsPlace self.old.plan.names place }
+    fn enter(&mut self, place: &mut Option<Reached>, new: Reached) -> Next
+        requires place { IsPlace self.old.plan.names place.old }
         requires named { IsAtName self.old.plan }
-        ensures turn { EntersBy (course_way self.old) (position_at self.old place) (name_in (next_part self.old.plan)) (handle_of new) (todo_of (stayed self.old.plan)) (next_turn self.new result) }
-        ensures kept { KeepsCourse self.old self.new result }
+        ensures turn { EntersBy (course_way self.old) (position_at self.old place.old) (name_in (next_part self.old.plan)) (handle_of new) (todo_of (stayed self.old.plan)) (next_turn self.new place.new result) }
+        ensures kept { KeepsCourse self.old self.new place.new result }
     {
         match self.plan.entered() {
-            Err(_) => self.close(new, place, AfterClose::Gives(Errno::NoMemory)),
-            Ok(()) => match place {
-                None => self.go_on(Some(new)),
-                Some(old) => self.close(old, None, AfterClose::Onward(Some(new))),
+            Err(_) => self.fail_with(place, new, Errno::NoMemory),
+            Ok(()) => match mem::replace(place, Some(new)) {
+                None => self.go_on(place),
+                Some(old) => self.close(place, old, None, AfterClose::Onward),
             },
         }
     }
 
-    // The text of a link was read: its parts come before all others, from the root where it is absolute.
+    /// The text of a link was read: its parts come before all others, from the root where it is absolute.
     #[tactic(auto, using(crate::proofs::WalkAnswers::texts_read))]
-    fn read(&mut self, alloc: Global, place: Option<Reached>, link: Reached, answer: Answer) -> Next
-        requires place { IsPlace self.old.plan.names place }
+    pub(crate) fn read(
+        &mut self,
+        alloc: Global,
+        place: &mut Option<Reached>,
+        link: Reached,
+        answer: Answer,
+    ) -> Next
+        requires place { IsPlace self.old.plan.names place.old }
         requires may { MayFollow self.old.plan }
-        ensures turn { TakesOn self.old (Pending.Reading place link) answer self.new result }
-        ensures kept { KeepsCourse self.old self.new result }
+        ensures turn { TakesOn self.old place.old (Pending.Reading link) answer self.new place.new result }
+        ensures kept { KeepsCourse self.old self.new place.new result }
     {
         match answer {
             Answer::Text(text) => match self.plan.through(alloc, text.as_slice()) {
-                Ok(true) => self.close(link, place, AfterClose::Onward(None)),
-                Ok(false) => self.close(link, None, AfterClose::Onward(place)),
-                Err(error) => self.close(link, place, AfterClose::Gives(error)),
+                Ok(true) => {
+                    let held = mem::replace(place, None);
+                    self.close(place, link, held, AfterClose::Onward)
+                }
+                Ok(false) => self.close(place, link, None, AfterClose::Onward),
+                Err(error) => self.fail_with(place, link, error),
             },
-            other => self.close(link, place, AfterClose::Gives(refusal_of(&other))),
+            other => self.fail_with(place, link, refusal_of(&other)),
         }
     }
 
-    // The parent was opened: what was held is closed, and the parent's place asked. One without a parent was
-    // removed, and that is Raced (EAGAIN of openat2(2)).
-    fn risen(&self, old: Reached, answer: Answer) -> Next
-        ensures turn { TakesOn self.now (Pending.Rising old) answer self.now result }
-        ensures kept { KeepsCourse self.now self.now result }
+    /// The parent was opened: what was held is closed, and the parent's place asked. One without a parent was
+    /// removed, and that is Raced (EAGAIN of openat2(2)).
+    pub(crate) fn risen(&self, place: &mut Option<Reached>, answer: Answer) -> Next
+        requires { IsSome place.old }
+        ensures turn { TakesOn self.now place.old Pending.Rising answer self.now place.new result }
+        ensures kept { KeepsCourse self.now self.now place.new result }
     {
+        let old = taken(place);
         match Reached::of(&answer) {
-            Some(new) => self.close(old, None, AfterClose::Judges(new)),
+            Some(new) => {
+                hold(place, new);
+                self.close(place, old, None, AfterClose::Judges)
+            }
             None => match refusal_of(&answer) {
-                Errno::NotFound => self.close(old, None, AfterClose::Gives(Errno::Raced)),
-                error => self.close(old, None, AfterClose::Gives(error)),
+                Errno::NotFound => self.close(place, old, None, AfterClose::Gives(Errno::Raced)),
+                error => self.close(place, old, None, AfterClose::Gives(error)),
             },
         }
     }
 
-    // The place of a parent was asked: the walk goes on from it only where it stands at the names passed.
+    /// The place of a parent was asked: the walk goes on from it only where it stands at the names passed.
     #[tactic(auto, using(crate::proofs::WalkAnswers::judging_fails))]
-    fn judged(&mut self, new: Reached, answer: Answer) -> Next
-        ensures turn { TakesOn self.old (Pending.Judging new) answer self.new result }
-        ensures kept { KeepsCourse self.old self.new result }
+    pub(crate) fn judged(&mut self, place: &mut Option<Reached>, answer: Answer) -> Next
+        requires { IsSome place.old }
+        ensures turn { TakesOn self.old place.old Pending.Judging answer self.new place.new result }
+        ensures kept { KeepsCourse self.old self.new place.new result }
     {
         let refusal = check_refusal(&answer);
+        let new = taken(place);
         match new.judge(self.root.owner, answer, self.plan.names()) {
-            Ok(standing) => self.go_on(Some(standing.onward())),
-            Err(reached) => self.close(reached, None, AfterClose::Gives(refusal)),
+            Ok(standing) => {
+                hold(place, standing.onward());
+                self.go_on(place)
+            }
+            Err(reached) => self.close(place, reached, None, AfterClose::Gives(refusal)),
         }
     }
 
-    // The root was opened again: it is held, and its place asked.
-    fn duped(&self, answer: Answer) -> Next
+    /// The root was opened again: it is held, and its place asked.
+    pub(crate) fn duped(&self, place: &mut Option<Reached>, answer: Answer) -> Next
+        requires place { place.old ≡ None }
         requires names { self.now.plan.names ≡ [] }
         requires own { self.now.plan.inner ≡ [] }
-        ensures turn { TakesOn self.now Pending.Duping answer self.now result }
-        ensures kept { KeepsCourse self.now self.now result }
+        ensures turn { TakesOn self.now place.old Pending.Duping answer self.now place.new result }
+        ensures kept { KeepsCourse self.now self.now place.new result }
     {
         match Reached::of(&answer) {
-            Some(held) => Next::Due(Pending::Ending(held)),
+            Some(held) => {
+                hold(place, held);
+                Next::Due(Pending::Ending)
+            }
             None => Next::Failed(refusal_of(&answer)),
         }
     }
 
-    // The place of what is held at the end was asked: it is the end only where it stands at the names passed.
+    /// The place of what is held at the end was asked: it is the end only where it stands at the names passed.
     #[tactic(auto, using(crate::proofs::WalkAnswers::ending_fails))]
-    fn ended(&self, held: Reached, answer: Answer) -> Next
+    pub(crate) fn ended(&self, held: Reached, answer: Answer) -> End
         requires { self.now.plan.inner ≡ [] }
-        ensures turn { TakesOn self.now (Pending.Ending held) answer self.now result }
-        ensures kept { KeepsCourse self.now self.now result }
+        ensures turn { TakesTo (course_way self.now) (ending (handle_of held) (reverse self.now.plan.names) (own_to_come self.now.plan)) answer (end_turn self.now result) }
+        ensures kept { IsEnd self.now result }
     {
         let refusal = check_refusal(&answer);
         match held.judge(self.root.owner, answer, self.plan.names()) {
             Ok(standing) => {
                 if self.plan.is_own() {
-                    Next::Partial(standing)
+                    End::Partial(standing)
                 } else {
-                    Next::Found(standing)
+                    End::Found(standing)
                 }
             }
-            Err(reached) => self.close(reached, None, AfterClose::Gives(refusal)),
+            Err(reached) => End::Due(Pending::Closing {
+                first: given_up(reached),
+                second: None,
+                after: AfterClose::Gives(refusal),
+            }),
         }
     }
 
-    // The first is closed, whatever was answered.
-    fn closed(&mut self, first: Reached, second: Option<Reached>, after: AfterClose) -> Next
-        requires { IsAfter self.old.plan.names after }
-        ensures turn { next_turn self.new result ≡ closes (course_way self.old) (numbers_of second) (after_of self.old.plan after) }
-        ensures kept { KeepsCourse self.old self.new result }
+    /// One was closed, whatever was answered; the second is to come.
+    pub(crate) fn closed(
+        &mut self,
+        place: &mut Option<Reached>,
+        second: Option<HandleNo>,
+        after: AfterClose,
+    ) -> Next
+        requires { IsAfter self.old.plan.names place.old after }
+        ensures turn { next_turn self.new place.new result ≡ closes (course_way self.old) (option_to_list second) (after_of self.old.plan place.old after) }
+        ensures kept { KeepsCourse self.old self.new place.new result }
     {
-        // The driver has made the Close that was due.
-        let _ = first.into_close();
         match second {
-            Some(next) => self.close(next, None, after),
-            None => self.come(after),
+            Some(first) => Next::Due(Pending::Closing {
+                first,
+                second: None,
+                after,
+            }),
+            None => self.come(place, after),
         }
     }
 
     // All was closed.
-    fn come(&mut self, after: AfterClose) -> Next
-        requires { IsAfter self.old.plan.names after }
-        ensures turn { next_turn self.new result ≡ comes (course_way self.old) (after_of self.old.plan after) }
-        ensures kept { KeepsCourse self.old self.new result }
+    fn come(&mut self, place: &mut Option<Reached>, after: AfterClose) -> Next
+        requires { IsAfter self.old.plan.names place.old after }
+        ensures turn { next_turn self.new place.new result ≡ comes (course_way self.old) (after_of self.old.plan place.old after) }
+        ensures kept { KeepsCourse self.old self.new place.new result }
     {
         match after {
             AfterClose::Gives(error) => Next::Failed(error),
-            AfterClose::Onward(place) => self.go_on(place),
-            AfterClose::Judges(new) => Next::Due(Pending::Judging(new)),
+            AfterClose::Onward => self.go_on(place),
+            AfterClose::Judges => Next::Due(Pending::Judging),
         }
     }
 }

@@ -1,12 +1,12 @@
 //! A walk along a path below a root.
-ghost use Rattle.std.specs.Prelude.{◌≡◌, ◌<◌, ◌≤◌, [], Bool, false, IfOk, IsOk, IsTrue, length};
+ghost use Rattle.std.specs.Prelude.{◌≡◌, ◌<◌, ◌≤◌, [], Bool, true, false, IfOk, IsOk, IsTrue, length};
 ghost use Rattle.path_text.specs.declared.path.TheConstants.{PARTS_MAX};
 
-use crate::course::Course;
+use crate::course::{self, Course};
 use crate::footprint_laws::walks_mean;
 use crate::laws::walks_tell;
-use crate::pending::{Next, Pending};
-use handles::{Owner, Standing};
+use crate::pending::{End, Next, Pending};
+use handles::{Owner, Reached, Standing};
 use path_text::{Errno, Flags, NoMemory, PARTS_MAX, Parts, Path};
 use std::alloc::{AllocFailed, Global};
 use std::marker::Model;
@@ -35,6 +35,8 @@ pub struct Walk {
 #[derive(Debug)]
 struct State {
     course: Course,
+    // what is held, at the names passed
+    place: Option<Reached>,
     pending: Pending,
 }
 
@@ -45,9 +47,9 @@ impl Model for Walk {
 
     ghost use Rattle.step_resolver.specs.View.{view_of, IsPending};
 
-    ghost view = { λ w. view_of w.state.value.course w.state.value.pending };
+    ghost view = { λ w. view_of w.state.value.course w.state.value.place w.state.value.pending };
 
-    ghost invariant = { λ w. IsPending w.state.value.course.plan w.state.value.pending };
+    ghost invariant = { λ w. IsPending w.state.value.course.plan w.state.value.place w.state.value.pending };
 }
 
 /// What a walk has come to.
@@ -65,7 +67,7 @@ pub enum Turn {
 
 impl Walk {
     ghost use Rattle.step_resolver.specs.Order.{due, for_walk, goes_on, root_itself, steps_left};
-    ghost use Rattle.step_resolver.specs.View.{way_from, course_way, opens_a_name, todo_of};
+    ghost use Rattle.step_resolver.specs.View.{way_from, course_way, opens_a_name, todo_of, walking_of, IsPending, is_ending};
     ghost use Rattle.step_resolver.specs.TurnView.{turn_view, Keeps, StartsTo, TakesTo, steps_to_come, STEPS_MAX};
     ghost use Rattle.step_resolver.specs.TurnsTell.{TellsBegun, TellsTaken};
 
@@ -108,17 +110,26 @@ impl Walk {
         ensures turn { (room : Bool) × (turn_view course.plan.goal result ≡ for_walk room (goes_on (course_way course) root_itself (todo_of course.plan))) }
         ensures kept { Keeps course.root.owner (course_way course) result }
     {
-        match course.go_on(None) {
-            Next::Due(pending) => match Box::new(alloc, State { course, pending }) {
+        let mut place = None;
+        match course.go_on(&mut place) {
+            Next::Due(pending) => match Box::new(
+                alloc,
+                State {
+                    course,
+                    place,
+                    pending,
+                },
+            ) {
                 Ok(state) => Turn::More(Walk { state }),
                 Err(AllocFailed { value }) => {
                     let _ = value.over();
                     Turn::Failed(Errno::NoMemory)
                 }
             },
-            Next::Found(standing) => Turn::Found(standing),
-            Next::Partial(standing) => Turn::Partial(standing, course.plan.rest()),
-            Next::Failed(error) => Turn::Failed(error),
+            Next::Failed(error) => {
+                course::let_go(place);
+                Turn::Failed(error)
+            }
         }
     }
 
@@ -127,23 +138,27 @@ impl Walk {
         ensures exact { IfOk result (λ step. step ≡ due self.now.way self.now.walking) }
         ensures no_memory { opens_a_name self.now.walking ≡ false → IsOk result }
     {
-        let State { course, pending } = &*self.state;
+        let State {
+            course,
+            place,
+            pending,
+        } = &*self.state;
         let root = course.root.handle;
         Ok(match pending {
-            Pending::Opening(place) => {
+            Pending::Opening => {
                 StepOf::Open(course.handle_at(place), course.plan.next_name(alloc)?)
             }
-            Pending::Reading { place: _, link } => StepOf::ReadLink(link.handle()),
-            Pending::Rising(held) => StepOf::Parent(held.handle()),
-            Pending::Judging(held) | Pending::Ending(held) => {
-                StepOf::NameBelow(root, held.handle())
+            Pending::Reading(link) => StepOf::ReadLink(link.handle()),
+            Pending::Rising => StepOf::Parent(course.handle_at(place)),
+            Pending::Judging | Pending::Ending => {
+                StepOf::NameBelow(root, course.handle_at(place))
             }
             Pending::Duping => StepOf::Dup(root),
             Pending::Closing {
                 first,
                 second: _,
                 after: _,
-            } => StepOf::Close(first.handle()),
+            } => StepOf::Close(*first),
         })
     }
 
@@ -181,36 +196,96 @@ impl Walk {
         ensures kept { Keeps self.owner self.way result }
     {
         let Walk { mut state } = self;
-        // Nothing can be moved out of a box: a step that holds nothing stands in until the next one is known.
-        let pending = mem::replace(&mut state.pending, Pending::Duping);
-        match state.course.answered(alloc, pending, answer) {
+        if state.pending.is_ending() {
+            return Walk::ended(state, answer);
+        }
+        match state.answered(alloc, answer) {
             Next::Due(pending) => {
-                // What comes back is the one that stood in. An assignment would have to drop it, and no step can be.
+                // The one that comes back holds nothing. An assignment would have to drop it, and no step can be.
                 mem::replace(&mut state.pending, pending).let_go();
                 Turn::More(Walk { state })
             }
-            Next::Found(standing) => {
-                State::let_go(state);
-                Turn::Found(standing)
-            }
-            Next::Partial(standing) => Turn::Partial(standing, State::rest(state)),
             Next::Failed(error) => {
                 State::let_go(state);
                 Turn::Failed(error)
             }
         }
     }
+
+    // The same of the last check.
+    fn ended(mut state: Box<State>, answer: Answer) -> Turn
+        requires pending { IsPending state.value.course.plan state.value.place state.value.pending }
+        requires ending { is_ending state.value.pending ≡ true }
+        ensures turn { TakesTo (course_way state.value.course) (walking_of state.value.course.plan state.value.place state.value.pending) answer (turn_view state.value.course.plan.goal result) }
+        ensures kept { Keeps state.value.course.root.owner (course_way state.value.course) result }
+    {
+        let held = course::taken(&mut state.place);
+        match state.course.ended(held, answer) {
+            End::Found(standing) => {
+                State::let_go(state);
+                Turn::Found(standing)
+            }
+            End::Partial(standing) => Turn::Partial(standing, State::rest(state)),
+            End::Due(pending) => {
+                mem::replace(&mut state.pending, pending).let_go();
+                Turn::More(Walk { state })
+            }
+        }
+    }
 }
 
 impl State {
-    ghost use Rattle.step_resolver.specs.View.{HoldsNothing};
+    ghost use Rattle.step_resolver.specs.View.{HoldsNothing, HoldsNoLink, IsPending, is_ending};
+    ghost use Rattle.step_resolver.specs.TurnView.{TakesOn, KeepsCourse};
     ghost use Rattle.walk_plan.specs.Plan.{is_own};
+
+    // What the answer to the pending step comes to, where that isn't the last check.
+    fn answered(&mut self, alloc: Global, answer: Answer) -> Next
+        requires pending { IsPending self.old.course.plan self.old.place self.old.pending }
+        requires goes_on { is_ending self.old.pending ≡ false }
+        ensures turn { TakesOn self.old.course self.old.place self.old.pending answer self.new.course self.new.place result }
+        ensures kept { KeepsCourse self.old.course self.new.course self.new.place result }
+        ensures no_link { HoldsNoLink self.new.pending }
+    {
+        match &self.pending {
+            Pending::Opening => self.course.opened(&mut self.place, answer),
+            Pending::Reading(_) => self.read(alloc, answer),
+            Pending::Rising => self.course.risen(&mut self.place, answer),
+            Pending::Judging => self.course.judged(&mut self.place, answer),
+            Pending::Duping => self.course.duped(&mut self.place, answer),
+            // It is the last check.
+            Pending::Ending => unreachable!(),
+            Pending::Closing {
+                first: _,
+                second,
+                after,
+            } => {
+                let (second, after) = (*second, *after);
+                self.course.closed(&mut self.place, second, after)
+            }
+        }
+    }
+
+    // The same of a link's text.
+    fn read(&mut self, alloc: Global, answer: Answer) -> Next
+        requires pending { IsPending self.old.course.plan self.old.place self.old.pending }
+        requires reads { HoldsNoLink self.old.pending → ⊥ }
+        ensures turn { TakesOn self.old.course self.old.place self.old.pending answer self.new.course self.new.place result }
+        ensures kept { KeepsCourse self.old.course self.new.course self.new.place result }
+        ensures no_link { HoldsNoLink self.new.pending }
+    {
+        // Nothing can be moved out of a box: a step that holds nothing stands in until the next one is known.
+        match mem::replace(&mut self.pending, Pending::Duping) {
+            Pending::Reading(link) => self.course.read(alloc, &mut self.place, link, answer),
+            _ => unreachable!(),
+        }
+    }
 
     // Lets a walk's box go where nothing is held any more. Apart from `taken`, so that a turn which goes on makes no room
     // for what lies in the box.
     #[inline(never)]
     fn let_go(state: Box<State>)
-        requires { HoldsNothing state.value.pending }
+        requires { HoldsNothing state.value.place state.value.pending }
     {
         let _ = Box::into_inner(state).over();
     }
@@ -218,7 +293,7 @@ impl State {
     // The caller's own parts that are left where nothing is held any more.
     #[inline(never)]
     fn rest(state: Box<State>) -> Parts
-        requires nothing { HoldsNothing state.value.pending }
+        requires nothing { HoldsNothing state.value.place state.value.pending }
         requires own { IsTrue (is_own state.value.course.plan) }
         ensures parts { result ≡ state.value.course.plan.own }
         ensures few { length result ≤ PARTS_MAX }
@@ -228,10 +303,15 @@ impl State {
 
     // What is left where nothing is held any more.
     fn over(self) -> Course
-        requires { HoldsNothing self.pending }
+        requires { HoldsNothing self.place self.pending }
         ensures { result ≡ self.course }
     {
-        let State { course, pending } = self;
+        let State {
+            course,
+            place,
+            pending,
+        } = self;
+        course::let_go(place);
         pending.let_go();
         course
     }

@@ -52,11 +52,15 @@ impl CachedDirectories {
         }
     }
 
-    /// The same, noted where it was read in a map. A note that finds no memory is passed over.
+    /// The same, noted where it was read in a map. A note that finds no memory is passed over. The entries of a small
+    /// directory aren't noted, since its map finds them as fast.
     pub(crate) fn find(&mut self, dir: Node, name: &Name) -> Option<Node>
         ensures found { result ≡ entry_in self.old dir name.now }
         ensures same { self.new ≡ self.old }
     {
+        if self.maps.is_small(dir) {
+            return self.maps.find(dir, name);
+        }
         match self.cache.look(dir, name) {
             Some(known) => known,
             None => self.read(dir, name),

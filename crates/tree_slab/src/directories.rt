@@ -1,6 +1,6 @@
 //! The ordered maps of the standing directories' entries, kept in a slab.
-ghost use Rattle.std.specs.Prelude.{◌≡◌, ◌+◌, ◌++◌, ◌∷◌, [], IsTrue, ◌↔◌, List, ℕ, Some, None, true, false, IfOk, OnOk, OnErr, IsSome};
-ghost use Rattle.std.specs.Option.{option_map};
+ghost use Rattle.std.specs.Prelude.{◌≡◌, nat_le, length, ◌+◌, ◌++◌, ◌∷◌, [], IsTrue, ◌↔◌, List, ℕ, Some, None, true, false, IfOk, OnOk, OnErr, IsSome};
+ghost use Rattle.std.specs.Option.{option_map, option_map_or};
 ghost use Rattle.std.specs.Ordering.{nat_cmp};
 ghost use Rattle.std.specs.Cmp.Lexicographic.{slice_cmp};
 ghost use Rattle.std.specs.List.Sorted.{IsStrictlySortedBy};
@@ -14,6 +14,9 @@ use std::alloc::Global;
 use std::collections::BTreeMap;
 use std::marker::Model;
 use tree_model::Node;
+
+// So many entries lie in one node of an ordered map, and are searched without going from node to node.
+const SMALL: usize = 11;
 
 /// The entries of the directories that stand, by the directory's number and the entry's name. Contracts see
 /// them as a list by the nodes' numbers.
@@ -137,6 +140,16 @@ impl Directories {
         ensures { result ≡ entry_in self.now dir name.now }
     {
         self.map_at(dir)?.get(name).copied()
+    }
+
+    /// Whether a directory has no more entries than one node of its map holds.
+    pub(crate) fn is_small(&self, dir: Node) -> bool
+        ensures { result ≡ option_map_or (λ entries. nat_le (length entries) SMALL) (entries_at self.now dir) true }
+    {
+        match self.map_at(dir) {
+            Some(map) => map.len() <= SMALL,
+            None => true,
+        }
     }
 
     /// Whether a directory has no entry.

@@ -9,11 +9,14 @@ pub returns-in-Ok-clause-turn : goal.returns-in-Ok-clause-turn
 returns-in-Ok-clause-turn c =
     let p = c.args.self.now.plan in
     let way = way_of c.args.self.now.root p in
+    let new = c.taken-new.result in
     let told = rw c.names.ensures at c.in-Ok.ensures.ok.0 in
-    let same : handle_of c.onward.result ≡ handle_of c.args.new =
-    ap handle_of (c.onward.ensures ∙ ap unchecked c.in-Ok.ensures.ok.1) in (
+    let same : handle_of c.onward.result ≡ handle_of new =
+    ap handle_of (c.onward.ensures ∙ ap unchecked c.in-Ok.ensures.ok.1) in
+    let going = rw c.hold.ensures at c.go_on.ensures.turn in
+    rw c.taken-new.ensures.held (
       true,
-      c.go_on.ensures.turn ∙ ap (λ handle. goes_on way (holds handle (reverse p.names)) (todo_of p)) same
-          ∙ sym (judging_stands way c.args.new p.names (todo_of p))
-          ∙ ap (take way true (judging (handle_of c.args.new) (reverse p.names) (todo_of p))) (sym told),
+      going ∙ ap (λ handle. goes_on way (holds handle (reverse p.names)) (todo_of p)) same
+          ∙ sym (judging_stands way new p.names (todo_of p))
+          ∙ ap (take way true (judging (handle_of new) (reverse p.names) (todo_of p))) (sym told),
     )

@@ -17,5 +17,5 @@ returns-else-eq-clause-turn c =
       | else-eq-via-then-eq+else-eq-2 w ↦ λ missing deepest. grind arith
       | else-eq-via-else-eq w ↦ λ missing deepest. grind arith
     ] in
-    let refused = refused_otherwise (way_of c.args.self.now.root p) (place_of c.args.place p.names) (is_own p) (follows_next_link p) (name_in (next_part p)) (todo_of (stayed p)) c.args.error otherwise in
-    c.fail.ensures.turn ∙ sym (rw (handles_at c.args.place p.names) at refused)
+    let refused = refused_otherwise (way_of c.args.self.now.root p) (place_of c.args.place.now p.names) (is_own p) (follows_next_link p) (name_in (next_part p)) (todo_of (stayed p)) c.args.error otherwise in
+    c.fail.ensures.turn ∙ sym (rw (handles_at c.args.place.now p.names) at refused)

@@ -4,5 +4,5 @@ use Rattle.step_resolver.proofs.course.Course.read.Goals as goal
 
 pub returns : goal.returns
 returns c =
-    let fails = unread c.args.self.now.root c.args.place c.args.link c.args.self.now.plan c.args.answer (λ text. c.in_default.not-Text text) in
-    record { turn = (true, cc (fails, c.close-in_default.ensures.turn, c.refusal_of.ensures)); kept = c.close-in_default.ensures.kept }
+    let fails = unread c.args.self.now.root c.args.place.now c.args.link c.args.self.now.plan c.args.answer (λ text. c.in_default.not-Text text) in
+    record { turn = (true, cc (fails, c.fail_with-in_default.ensures.turn, c.refusal_of.ensures)); kept = c.fail_with-in_default.ensures.kept }
