@@ -1,5 +1,5 @@
 -- What an actor's calls keep, and its root: open, each once, apart from what the call under way holds.
-use Rattle.std.proofs.Common.{◌≡◌, ◌≢◌, ◌⊎◌, ℕ, zero, suc, List, [], ◌∷◌, ◌++◌, Bool, true, false, if◌then◌else◌, Option, Some, None, is_some, refl, sym, ap, subst, ◌∙◌, inl, inr, eq-eqb, eqb-true, append-nil}
+use Rattle.std.proofs.Common.{◌≡◌, ◌≢◌, ℕ, zero, suc, List, [], ◌∷◌, ◌++◌, Bool, true, false, if◌then◌else◌, Option, Some, None, is_some, refl, sym, ap, subst, ◌∙◌, eq-eqb, eqb-true, append-nil}
 use Rattle.std.specs.Prelude.{slice_set, ◌==◌, ◌&&◌}
 use Rattle.std.specs.Option.{option_map}
 use Rattle.std.proofs.lemmas.Bool.{false≢true, ne_eqb}
@@ -17,10 +17,9 @@ use Rattle.step_resolver.proofs.Underway.WalkInvariant.{IsNotIn}
 use Rattle.root_ops.specs.declared.below.Below.{Below}
 use Rattle.root_ops.specs.declared.op.Op.TheVariants.{Single, Release}
 use Rattle.root_ops.specs.declared.op.Request.{Request}
-use Rattle.root_ops.specs.Order.{Reply, opened, link_text, done, count, stepped, kept, fault, CallTurn, more, ends, releasing, same_owner, starts}
+use Rattle.root_ops.specs.Order.{Reply, opened, link_text, done, count, stepped, kept, fault, more, ends, releasing, same_owner, starts}
 use Rattle.race_core.specs.declared.plan.Planned.{Planned}
 use Rattle.race_core.specs.declared.plan.Planned.TheVariants as plan
-use Rattle.race_core.specs.declared.plan.Ref.{Ref}
 use Rattle.race_core.specs.Book.{is_close}
 use Rattle.race_core.specs.Turns.{standing_under, handle_at, step_at, plain, request_of, left_by, opened_by}
 use Rattle.race_core.specs.WorldCalls.{CallMade, kept_after, kept_after_all, ReleasesOwn, IsDoneIfKept, KeptAreReleased}

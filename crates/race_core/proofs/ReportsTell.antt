@@ -1,6 +1,6 @@
 -- The calls of an actor, and the walks in them, in a report.
-use Rattle.std.proofs.Common.{◌≡◌, ℕ, ◌==◌, Bool, true, false, cond, if◌then◌else◌, List, [], ◌∷◌, ◌++◌, Option, Some, None, refl, sym, ap, ◌∙◌, subst, inl, inr, append_assoc}
-use Rattle.std.proofs.lemmas.Bool.{false≢true, eqb-true, eqb-false}
+use Rattle.std.proofs.Common.{◌≡◌, ℕ, Bool, true, false, if◌then◌else◌, List, [], ◌∷◌, ◌++◌, Option, Some, None, refl, sym, ap, ◌∙◌, subst, inl, inr, append_assoc}
+use Rattle.std.proofs.lemmas.Bool.{false≢true}
 use Rattle.std.proofs.lemmas.List.{reverse-reverse, map-append}
 use Rattle.path_text.specs.declared.errno.Errno.{Errno}
 use Rattle.path_text.specs.declared.errno.Errno.TheVariants.{NoMemory, BadHandle}
@@ -8,14 +8,13 @@ use Rattle.path_text.specs.Reading.{Reading}
 use Rattle.path_text.specs.Text.{text_fault, reading_of}
 use Rattle.tree_model.specs.declared.answer.Event.{Event}
 use Rattle.tree_model.specs.History.{IsLegal, after_events}
-use Rattle.tree_model.specs.State.{State}
 use Rattle.tree_model.specs.Steps.{held}
 use Rattle.tree_model.proofs.HistoryLaws.{IsLegal-front, IsLegal-back}
 use Rattle.handles.specs.Objects.{StandingObject}
 use Rattle.walk_plan.specs.declared.goal.Goal.TheVariants.{Follow}
 use Rattle.step_resolver.specs.declared.walk.Root.{Root}
 use Rattle.step_resolver.specs.Asked.{is_deepest}
-use Rattle.step_resolver.specs.Order.{Way, Handle, Line, not_made, Turn, found, partial, failed, begins, events_of}
+use Rattle.step_resolver.specs.Order.{Way, Line, not_made, Turn, found, partial, failed, begins, events_of}
 use Rattle.step_resolver.specs.Order as walk
 use Rattle.step_resolver.specs.Headline.{Headline, EveryWalk}
 use Rattle.step_resolver.specs.WalkHistory.{WalkInHistory, IsWalkInHistory, own_events}

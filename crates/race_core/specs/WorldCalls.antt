@@ -1,5 +1,5 @@
 -- What a report tells of each actor: its calls in their order, each with its lines and its reply.
-use Rattle.std.specs.Prelude.{◌≡◌, ◌≢◌, ◌+◌, ℕ, List, [], ◌∷◌, ◌++◌, Bool, true, false, length, map, Option, Some, None, Ok, slice_get}
+use Rattle.std.specs.Prelude.{◌≡◌, ◌≢◌, ◌+◌, ℕ, List, [], ◌∷◌, ◌++◌, Bool, length, map, Option, Some, None, Ok, slice_get}
 use Rattle.path_text.specs.declared.errno.Errno.TheVariants.{BadHandle}
 use Rattle.tree_model.specs.declared.answer.Event.{Event}
 use Rattle.tree_model.specs.State.{State}

@@ -8,7 +8,7 @@ use Rattle.path_text.specs.Split.{split_of}
 use Rattle.path_text.specs.Text.{text_fault, reading_of}
 use Rattle.tree_model.specs.declared.answer.Event.{Event}
 use Rattle.walk_plan.specs.declared.goal.Goal.TheVariants.{Follow}
-use Rattle.step_resolver.specs.Order.{Way, Handle, Line, Turn, found, failed, begins, events_of}
+use Rattle.step_resolver.specs.Order.{Way, Line, Turn, found, failed, begins, events_of}
 use Rattle.step_resolver.specs.Order as walk
 use Rattle.step_resolver.specs.Headline.{Headline}
 use Rattle.step_resolver.specs.View.{way_from}

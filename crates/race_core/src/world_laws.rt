@@ -1,7 +1,7 @@
 //! What a report tells of each actor's calls, and of the walks in them: laws, each the contract of a function without a
-//! body. They begin from what `World::new` and `World::run` ensure, over a tree that was given. Those that speak of a plan that
-//! closes only what its calls opened leave out the one that asks for the Release of a Standing from elsewhere, with the actor's own
-//! owner: a plan of Release by number, and of operations, is never that.
+//! body. They begin from what `World::new` and `World::run` ensure, over a tree that was given. A plan that closes only what
+//! its calls opened (`ReleasesOwn` of `specs/WorldCalls.antt`) names what it releases by the call's number; it hands in no
+//! Standing from elsewhere that has the actor's own owner.
 ghost use Rattle.race_core.specs.EndHandles.{HandlesAtEnd, RootsStayOpen, KeptIsReleased};
 ghost use Rattle.race_core.specs.OneReport.{OneReport};
 ghost use Rattle.race_core.specs.WorldLaws.{CallsInOrder, WalksInReports, CallsInReports, ResolvesInReports, ResolvesAlone};

@@ -3,13 +3,14 @@ ghost use Rattle.std.specs.Prelude.{IfOk};
 ghost use Rattle.tree_model.specs.Trees.{IsTree};
 
 use crate::*;
+use handles::{Owner, Reached, Standing};
 use path_text::{Bytes, Errno, Flags, Name, Names, NoMemory};
 use root_ops::{Op, Request};
 use std::alloc::Global;
 use std::test::Fail;
 use transcript::{Output, read_step};
 use tree_list::{Entry, ListTree, New};
-use tree_model::{Actor, HandleNo, Step, StepOf, Tree};
+use tree_model::{Actor, Answer, HandleNo, Kind, Node, Step, StepOf, Tree};
 use tree_slab::SlabTree;
 
 // Entry k is node k + 1: a directory, a file, or a link with that text.
@@ -313,6 +314,60 @@ fn what_is_kept_is_released(rt: HostRuntime) -> Result<(), Fail> {
     let wanted =
         "5 held 1\nopened dir 2 /a\ndone\nfault EBADF\nfault EBADF\nfault ENOENT\nstepped listed 6 a abs dang e loop up\nfault EBADF\n";
     assert!(rt; both_tell(rt.alloc(), RELEASES, &[], 100, wanted)?);
+    Ok(())
+}
+
+// A Standing from elsewhere, of that owner.
+fn standing_of(alloc: Global, owner: Owner) -> Result<Option<Standing>, Fail> {
+    let opened = Answer::Opened {
+        handle: HandleNo::new(5),
+        node: Node::new(2),
+        kind: Kind::Dir,
+    };
+    let (names, expected) = (names_of(alloc, "a")?, names_of(alloc, "a")?);
+    let Some(reached) = Reached::of(&opened) else {
+        return Ok(None);
+    };
+    match reached.judge(owner, Answer::Names(names), &expected) {
+        Ok(standing) => Ok(Some(standing)),
+        Err(reached) => {
+            let _close = reached.into_close();
+            Ok(None)
+        }
+    }
+}
+
+// How many events, outcomes and kept Standings the report has, where an actor is to release one of that owner.
+fn releases_of(alloc: Global, owner: Owner) -> Result<Option<[usize; 3]>, Fail> {
+    let Some(standing) = standing_of(alloc, owner)? else {
+        return Ok(None);
+    };
+    let (op, flags) = (Op::Release(standing), Flags::default());
+    let mut calls = Plans::new(alloc);
+    calls.push(Planned::Call(Request { op, flags }))?;
+    let root = names_of(alloc, "/c")?;
+    let mut plans = Vec::new(alloc);
+    plans.push(ActorPlan { root, calls })?;
+    let world = match World::new(alloc, tree(alloc)?, plans, 100) {
+        Ok(world) => world,
+        Err(_) => return Ok(None),
+    };
+    Ok(match world.run(alloc, &[]) {
+        Ok(report) => Some([report.events.len(), report.replies.len(), report.kept.len()]),
+        Err(_) => None,
+    })
+}
+
+// What is another owner's comes back in the report, without an event.
+#[test]
+fn what_is_anothers_is_kept(rt: HostRuntime) -> Result<(), Fail> {
+    for (tag, wanted) in [(7, [0, 1, 1]), (0, [0, 1, 0])] {
+        let actor = Actor::new(0);
+        assert!(rt;
+            releases_of(rt.alloc(), Owner { tag, actor })? == Some(wanted),
+            "{tag}"
+        );
+    }
     Ok(())
 }
 

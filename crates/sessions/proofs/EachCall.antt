@@ -50,7 +50,8 @@ use Rattle.root_ops.proofs.Handles.OwnEvents.{events_append, cut}
 use Rattle.root_ops.proofs.Handles.WalkParts.{IsEnded, walk_ends}
 use Rattle.sessions.specs.Call.{root_of, Called}
 use Rattle.sessions.specs.Session.{SessionView}
-use Rattle.sessions.specs.Threads.{NoneCloses, IsHistory, IsCallPlaced}
+use Rattle.sessions.specs.Threads.{IsCallPlaced}
+use Rattle.race_core.specs.OwnHistory.{NoneCloses, IsHistory}
 use Rattle.sessions.specs.EachCall.{BeginsWithWalk, IsDirectoryOf, HasName, WalksFirst, Makes, Clears, MakeAllTells, RemoveAllTells, BulkTells, CallTells, EachCallTells}
 use Rattle.sessions.proofs.Threads.{calls_stand_in_order, call_is_there, calls_in_threads, at_its_end, is_fault, is_opened}
 

@@ -1,16 +1,15 @@
 -- A session's calls, and the walks in them, in a closed history.
-use Rattle.std.proofs.Common.{◌≡◌, ℕ, ◌==◌, Bool, true, false, cond, if◌then◌else◌, List, [], ◌∷◌, ◌++◌, reverse, Option, Some, None, refl, sym, ap, ◌∙◌, subst, inl, inr, append_assoc}
-use Rattle.std.proofs.lemmas.Bool.{false≢true, eqb-true, eqb-false}
+use Rattle.std.proofs.Common.{◌≡◌, ℕ, Bool, true, false, if◌then◌else◌, List, [], ◌∷◌, ◌++◌, reverse, Option, Some, None, refl, sym, ap, ◌∙◌, subst, inl, inr, append_assoc}
+use Rattle.std.proofs.lemmas.Bool.{false≢true}
 use Rattle.path_text.specs.declared.errno.Errno.{Errno}
 use Rattle.path_text.specs.declared.errno.Errno.TheVariants.{NoMemory}
 use Rattle.path_text.specs.Reading.{Reading}
 use Rattle.path_text.specs.Text.{text_fault, reading_of}
 use Rattle.tree_model.specs.declared.answer.Event.{Event}
-use Rattle.tree_model.specs.History.{IsLegal, after_event, after_events}
+use Rattle.tree_model.specs.History.{IsLegal, after_events}
 use Rattle.tree_model.specs.State.{State}
 use Rattle.tree_model.specs.Steps.{held}
 use Rattle.tree_model.proofs.HistoryLaws.{IsLegal-front, IsLegal-back}
-use Rattle.tree_model.proofs.StepLaws.{own_handles_stay, others_handles_stay}
 use Rattle.walk_plan.specs.declared.goal.Goal.TheVariants.{Follow}
 use Rattle.step_resolver.specs.declared.walk.Root.{Root}
 use Rattle.step_resolver.specs.Asked.{is_deepest}
@@ -32,57 +31,16 @@ use Rattle.root_ops.specs.Order.{Reply, opened, fault, ends, starts, walked, unl
 use Rattle.root_ops.specs.Quiet.{QuietCallsMean}
 use Rattle.root_ops.specs.TurnView.{below_of}
 use Rattle.root_ops.specs.View.{reply_view}
-use Rattle.root_ops.proofs.Handles.OwnEvents.{events_append, cut}
-use Rattle.root_ops.proofs.Handles.WalkParts.{IsEnded, walk_ends, HasRoot, root_later}
+use Rattle.root_ops.proofs.Handles.OwnEvents.{events_append}
+use Rattle.root_ops.proofs.Handles.WalkParts.{IsEnded, walk_ends}
 use Rattle.sessions.specs.Call.{root_of}
 use Rattle.sessions.specs.Session.{SessionView}
-use Rattle.sessions.specs.Threads.{NoneCloses, IsHistory, Around, CallsStandInOrder, IsPlaced, WalksInThreads, IsCallPlaced, CallsInThreads, WalkTells, ResolveTells, ResolvesInThreads, way_of_resolve}
-
--- ---- own events in three parts
+use Rattle.race_core.specs.OwnHistory.{NoneCloses, IsHistory, Around}
+use Rattle.race_core.proofs.OwnHistory.{around, root_at}
+use Rattle.sessions.specs.Threads.{CallsStandInOrder, IsPlaced, WalksInThreads, IsCallPlaced, CallsInThreads, WalkTells, ResolveTells, ResolvesInThreads, way_of_resolve}
 
 pub calls_stand_in_order : CallsStandInOrder
-calls_stand_in_order a events earlier own later e =
-    let first = cut a events earlier (own ++ later) e in
-    let second = cut a first.after own later first.own_after in
-    record {
-      before = first.before;
-      window = second.before;
-      after = second.after;
-      whole = first.whole ∙ ap (λ es. first.before ++ es) second.whole;
-      own_before = first.own_before;
-      own_window = second.own_before;
-      own_after = second.own_after;
-    }
-
--- ---- the root's handle stays open
-
-module _ (a h x : ℕ) where
-  own_here : (event : Event) (rest : List Event) → (event.actor == a) ≡ true → own_events a (event ∷ rest) ≡ event ∷ own_events a rest
-  own_here event rest e = ap (λ b. cond b (event ∷ own_events a rest) (own_events a rest)) e
-
-  own_later : (event : Event) (rest : List Event) → (event.actor == a) ≡ false → own_events a (event ∷ rest) ≡ own_events a rest
-  own_later event rest e = ap (λ b. cond b (event ∷ own_events a rest) (own_events a rest)) e
-
-  pub root_stays : (events : List Event) (s : State) → held s a h ≡ Some x → NoneCloses h (own_events a events) → held (after_events s events) a h ≡ Some x
-  root_stays [] s e none = e
-  root_stays (event ∷ rest) s e none = on (event.actor == a) refl (λ f n. root_stays rest (after_event s event) f n)
-    where
-      on : (b : Bool) → (event.actor == a) ≡ b
-          → (held (after_event s event) a h ≡ Some x → NoneCloses h (own_events a rest) → held (after_events (after_event s event) rest) a h ≡ Some x)
-          → held (after_events (after_event s event) rest) a h ≡ Some x
-      on true q go =
-          let now : NoneCloses h (event ∷ own_events a rest) = subst (NoneCloses h) (own_here event rest q) none in
-          let same = eqb-true event.actor a q in
-          let mine : held s event.actor h ≡ Some x = ap (λ b. held s b h) same ∙ e in
-          go (ap (λ b. held (after_event s event) b h) (sym same) ∙ own_handles_stay s event.actor event.step h x mine now.0) now.1
-      on false q go = go (others_handles_stay s event.actor event.step a h (λ same. eqb-false event.actor a q (sym same)) ∙ e) (subst (NoneCloses h) (own_later event rest q) none)
-
--- the root as a window begins
-root_at : (below : Below) (opening : State) (events before : List Event) (node : ℕ) → IsHistory opening events below.root node
-    → NoneCloses below.root.handle (own_events below.root.owner.actor before) → HasRoot below node (after_events opening before)
-root_at below opening events before node is none =
-    root_later below node opening before (record { tree = is.tree; root = is.opened; root_is_dir = is.directory })
-    (root_stays below.root.owner.actor below.root.handle node before opening is.opened none)
+calls_stand_in_order a events earlier own later e = around a events earlier own later e
 
 -- ---- calls
 
@@ -109,14 +67,14 @@ calls_in_threads tell mean c after reply is replies =
 module _ (every : EveryWalk) (opening : State) (events : List Event) (root : Root) (node : ℕ) (way : Way) (path : Reading) (lines : List Line) (end : Turn) (earlier later : List Event)
     (is : IsHistory opening events root node) (same_root : way.root ≡ root.handle) (none : NoneCloses root.handle earlier)
     (own : own_events root.owner.actor events ≡ earlier ++ (events_of root.owner.actor lines ++ later)) (leads : walk.LeadsTo way (begins way path) lines end) where
-  around : Around root.owner.actor events earlier (events_of root.owner.actor lines) later
-  around = calls_stand_in_order root.owner.actor events earlier (events_of root.owner.actor lines) later own
+  in_three : Around root.owner.actor events earlier (events_of root.owner.actor lines) later
+  in_three = around root.owner.actor events earlier (events_of root.owner.actor lines) later own
 
   abbrev the_walk : WalkInHistory
   the_walk = record {
     opening = opening;
-    before = around.before;
-    window = around.window;
+    before = in_three.before;
+    window = in_three.window;
     actor = root.owner.actor;
     way = way;
     root = node;
@@ -129,19 +87,19 @@ module _ (every : EveryWalk) (opening : State) (events : List Event) (root : Roo
 
   is_there : IsWalkInHistory the_walk
   is_there =
-      let whole : IsLegal opening (around.before ++ (around.window ++ around.after)) = subst (IsLegal opening) around.whole is.legal in
-      let has = root_at below_root opening events around.before node is (subst (NoneCloses root.handle) (sym around.own_before) none) in
+      let whole : IsLegal opening (in_three.before ++ (in_three.window ++ in_three.after)) = subst (IsLegal opening) in_three.whole is.legal in
+      let has = root_at below_root opening events in_three.before node is (subst (NoneCloses root.handle) (sym in_three.own_before) none) in
       record {
         tree = is.tree;
-        legal_before = IsLegal-front opening around.before (around.window ++ around.after) whole;
-        legal = IsLegal-front (after_events opening around.before) around.window around.after (IsLegal-back opening around.before (around.window ++ around.after) whole);
-        own = around.own_window;
-        root = ap (held (after_events opening around.before) root.owner.actor) same_root ∙ has.root;
+        legal_before = IsLegal-front opening in_three.before (in_three.window ++ in_three.after) whole;
+        legal = IsLegal-front (after_events opening in_three.before) in_three.window in_three.after (IsLegal-back opening in_three.before (in_three.window ++ in_three.after) whole);
+        own = in_three.own_window;
+        root = ap (held (after_events opening in_three.before) root.owner.actor) same_root ∙ has.root;
         root_is_dir = has.root_is_dir;
       }
 
   placed : IsPlaced the_walk opening events root node earlier
-  placed = record { same_opening = refl; after = around.after; whole = around.whole; same_actor = refl; same_root = refl; own_before = around.own_before }
+  placed = record { same_opening = refl; after = in_three.after; whole = in_three.whole; same_actor = refl; same_root = refl; own_before = in_three.own_before }
 
   pub walk_in_threads : (w : WalkInHistory) × (IsPlaced w opening events root node earlier × ((w.way ≡ way) × ((w.path ≡ path) × ((w.lines ≡ lines) × Headline w end))))
   walk_in_threads = (the_walk, (placed, (refl, (refl, (refl, every the_walk end is_there leads)))))

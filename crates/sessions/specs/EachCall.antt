@@ -34,9 +34,9 @@ use Rattle.root_ops.specs.Order.{make_way}
 use Rattle.root_ops.specs.Quiet.{IsQuiet, ClosesWhatIsOpen, OpComesTo, caller_of}
 use Rattle.root_ops.specs.TurnView.{below_of}
 use Rattle.root_ops.specs.View.{reply_view}
+use Rattle.race_core.specs.OwnHistory.{NoneCloses, IsHistory}
 use Rattle.sessions.specs.Call.{root_of, Called}
 use Rattle.sessions.specs.Session.{SessionView}
-use Rattle.sessions.specs.Threads.{NoneCloses, IsHistory}
 
 -- ---- the walk with which a call begins
 

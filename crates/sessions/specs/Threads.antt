@@ -1,14 +1,10 @@
 -- What the calls of sessions tell in the history that a closed service gives.
-use Rattle.std.specs.Prelude.{◌≡◌, ℕ, ◌⊎◌, List, [], ◌∷◌, ◌++◌, true, false, reverse, Some}
+use Rattle.std.specs.Prelude.{◌≡◌, ℕ, ◌⊎◌, List, ◌++◌, reverse, Some}
 use Rattle.path_text.specs.declared.errno.Errno.TheVariants.{NoMemory}
 use Rattle.path_text.specs.Text.{text_fault, reading_of}
 use Rattle.path_text.specs.Reading.{Reading}
 use Rattle.tree_model.specs.declared.answer.Event.{Event}
-use Rattle.tree_model.specs.History.{IsLegal}
-use Rattle.tree_model.specs.State.{State, is_dir}
-use Rattle.tree_model.specs.StepLaws.{is_close_of}
-use Rattle.tree_model.specs.Steps.{held}
-use Rattle.tree_model.specs.Trees.{IsState}
+use Rattle.tree_model.specs.State.{State}
 use Rattle.walk_plan.specs.declared.goal.Goal.TheVariants.{Follow}
 use Rattle.step_resolver.specs.declared.walk.Root.{Root}
 use Rattle.step_resolver.specs.Order.{Way, Line, Turn, found, failed, begins, events_of}
@@ -24,33 +20,11 @@ use Rattle.root_ops.specs.declared.reply.Reply.{Reply as Told}
 use Rattle.root_ops.specs.declared.reply.Reply.TheVariants.{Opened, Fault}
 use Rattle.root_ops.specs.Order.{Reply}
 use Rattle.root_ops.specs.Quiet.{IsQuiet, ClosesWhatIsOpen, OpComesTo, caller_of}
+use Rattle.race_core.specs.OwnHistory.{NoneCloses, IsHistory, Around}
 use Rattle.sessions.specs.Call.{root_of, Called}
 use Rattle.sessions.specs.Session.{SessionView}
 
--- none of these events closes the handle
-abbrev pub NoneCloses : ℕ → List Event → Type 0
-NoneCloses h [] = Unit {0}
-NoneCloses h (event ∷ events) = (is_close_of h event.step ≡ false) × NoneCloses h events
-
--- A closed history, and a root in it: the opening is a tree, the events are legal from it, and the root's handle is open
--- there, the actor's, and on a directory.
-pub record IsHistory (opening : State) (events : List Event) (root : Root) (node : ℕ) : Type 0 where
-  pub tree : IsState opening
-  pub legal : IsLegal opening events
-  pub opened : held opening root.owner.actor root.handle ≡ Some node
-  pub directory : is_dir opening.nodes node ≡ true
-
 -- ---- a session's events in the history
-
--- the history in three: up to some of the actor's own events, these with others' between, and what comes after
-pub record Around (a : ℕ) (events earlier own later : List Event) : Type 0 where
-  pub before : List Event
-  pub window : List Event
-  pub after : List Event
-  pub whole : events ≡ before ++ (window ++ after)
-  pub own_before : own_events a before ≡ earlier
-  pub own_window : own_events a window ≡ own
-  pub own_after : own_events a after ≡ later
 
 -- What a session logged by one call stands in the history, after what it had logged before and before what it logs later.
 abbrev pub CallsStandInOrder : Type 0
