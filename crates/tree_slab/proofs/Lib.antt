@@ -9,3 +9,4 @@ pub mod Started
 pub mod Counts
 pub mod Remembered
 pub mod HeldCounts
+pub mod NamesDown

@@ -2,3 +2,4 @@ pub mod Directories
 pub mod Index
 pub mod Counts
 pub mod Cached
+pub mod Below

@@ -1,10 +1,12 @@
 //! The indexed tree: nodes and handles in tables by their numbers, the entries of each standing directory in
-//! an ordered map of its own, and the maps in a slab. What was looked up last is remembered in front of them.
+//! an ordered map of its own, and the maps in a slab. What was looked up last in large
+//! directories is remembered in front of them.
 //!
 //! It is a `Tree`, exactly as the plain one is. Entries are found, made, removed and renamed in a time that is
 //! logarithmic in the directory, and an actor's open handles are counted.
 #![tactic(auto)]
 
+mod below;
 mod cached;
 mod directories;
 mod handles;

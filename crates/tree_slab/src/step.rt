@@ -7,10 +7,10 @@ ghost use Rattle.tree_model.specs.Entries.{makes};
 ghost use Rattle.tree_model.specs.Trees.{HasPathText};
 ghost use Rattle.tree_list.specs.Changes.{IsStep, IsStepOr, answer_of};
 
+use crate::below::names_down;
 use crate::tree::SlabTree;
 use path_text::{Bytes, Errno, Name, Names, NoMemory, Path};
 use std::alloc::Global;
-use tree_list::names_below;
 use tree_model::{
     Actor, Answer, HandleNo, Inode, Mode, Node, Object, Place, StepOf, is_dir, parent, place_at,
 };
@@ -152,8 +152,8 @@ impl SlabTree {
         let Some(x) = self.node_held(actor, handle) else {
             return Ok(Answer::Refused(Errno::BadHandle));
         };
-        match names_below(alloc, self.nodes.as_slice(), top, x)? {
-            Some(names) => Ok(Answer::Names(names.reversed(alloc)?)),
+        match names_down(alloc, self.nodes.as_slice(), top, x)? {
+            Some(names) => Ok(Answer::Names(names)),
             None => Ok(Answer::NotBelow),
         }
     }
