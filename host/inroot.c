@@ -28,12 +28,12 @@ struct listing {
 
 /*
  * A call under way: its root, and in a jail the links of /proc; an error that no step of the model is refused by; how
- * many it opened; and what a directory's entries are listed in.
+ * many it opened; the last handle on what is no directory, which it stays; and what a directory's entries are listed in.
  */
 struct driver {
     int root, links;
     int unknown;
-    uint64_t opened;
+    uint64_t opened, no_dir;
     struct listing listing;
 };
 
@@ -80,9 +80,12 @@ static struct inroot_answered opened(struct driver *d, int fd)
         close(fd);
         return refused(d, error);
     }
+    uint64_t handle = handle_of(d, fd);
+    if (!S_ISDIR(about.st_mode))
+        d->no_dir = handle;
     return (struct inroot_answered){
         .what = ANSWER_OPENED,
-        .handle = handle_of(d, fd),
+        .handle = handle,
         .node = about.st_ino,
         .kind = S_ISDIR(about.st_mode) ? KIND_DIR : S_ISLNK(about.st_mode) ? KIND_LINK : KIND_FILE,
     };
@@ -160,17 +163,18 @@ static struct inroot_answered below_by_links(struct driver *d, int root, int fd,
  * outside. The link of what is no directory doesn't tell that, but its answer outside is the whole path from the top; a
  * removed object has none.
  */
-static struct inroot_answered below_in_jail(struct driver *d, int fd, char *text, size_t *length)
+static struct inroot_answered below_in_jail(struct driver *d, uint64_t handle, char *text, size_t *length)
 {
+    int fd = descriptor(handle);
     *length = 0;
-    if (fchdir(fd) == 0) {
+    if (handle != d->no_dir && fchdir(fd) == 0) {
         long got = syscall(SYS_getcwd, text, (size_t)TEXT_MAX);
         if (got < 0)
             return errno == ENOENT ? (struct inroot_answered){.what = ANSWER_NAMES} : refused(d, errno);
         *length = (size_t)got - 1;
         return (struct inroot_answered){.what = ANSWER_NAMES};
     }
-    if (errno != ENOTDIR)
+    if (handle != d->no_dir && errno != ENOTDIR)
         return refused(d, errno);
     ssize_t got = link_of(d->links, fd, text);
     if (got < 0)
@@ -243,7 +247,7 @@ static struct inroot_answered make(struct driver *d, const struct inroot_told *s
     case STEP_READLINK:
         return read_link(d, fd, text, length);
     case STEP_NAME_BELOW:
-        return d->links < 0 ? below_by_links(d, descriptor(step->other), fd, text, length) : below_in_jail(d, fd, text, length);
+        return d->links < 0 ? below_by_links(d, descriptor(step->other), fd, text, length) : below_in_jail(d, step->handle, text, length);
     case STEP_CLOSE:
         return done_or(d, close(fd));
     case STEP_MAKE_DIR:

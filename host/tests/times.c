@@ -1,6 +1,8 @@
 /*
  * times: how long one resolution takes, by openat2(2), by a plain walk of single openat(2) calls that asks the same
- * questions, and by inroot_open(), in a jail and by /proc.
+ * questions, and by inroot_open(), in a jail and by /proc. All run in one thread beside a waiting one, since in a process of
+ * several threads each use of a descriptor costs more. The least of many batches counts, so that other work on the machine
+ * tells little.
  *
  * usage: times DIR. Prints a line for each path, in microseconds.
  */
@@ -18,14 +20,19 @@
 #include <time.h>
 #include <unistd.h>
 
-enum { RUNS = 20000, DEPTH = 32 };
+enum { BATCHES = 400, BATCH = 50, DEPTH = 32 };
 
 static int root;
 
 static int by_kernel(const char *path)
 {
     struct open_how how = {.flags = O_PATH | O_CLOEXEC, .resolve = RESOLVE_IN_ROOT};
-    return (int)syscall(SYS_openat2, root, path, &how, sizeof how);
+    int fd;
+    /* A rename anywhere on the machine may refuse a path with `..`. */
+    do
+        fd = (int)syscall(SYS_openat2, root, path, &how, sizeof how);
+    while (fd < 0 && errno == EAGAIN);
+    return fd;
 }
 
 static int by_proc(const char *path)
@@ -68,22 +75,37 @@ static int plainly(const char *path)
 static double microseconds(int (*resolve)(const char *), const char *path)
 {
     struct timespec from, to;
-    clock_gettime(CLOCK_MONOTONIC, &from);
-    for (int at = 0; at < RUNS; at++)
-        close(sure(resolve(path), path));
-    clock_gettime(CLOCK_MONOTONIC, &to);
-    return ((double)(to.tv_sec - from.tv_sec) * 1e6 + (double)(to.tv_nsec - from.tv_nsec) / 1e3) / RUNS;
+    double least = 1e9;
+    for (int batch = 0; batch < BATCHES; batch++) {
+        clock_gettime(CLOCK_MONOTONIC, &from);
+        for (int at = 0; at < BATCH; at++)
+            close(sure(resolve(path), path));
+        clock_gettime(CLOCK_MONOTONIC, &to);
+        double each = ((double)(to.tv_sec - from.tv_sec) * 1e6 + (double)(to.tv_nsec - from.tv_nsec) / 1e3) / BATCH;
+        least = each < least ? each : least;
+    }
+    return least;
 }
 
 static const char *paths[] = {"a/b/f", "a/b", "a/b/../b/../b/../b/..", NULL};
-static double jailed[sizeof paths / sizeof *paths];
 
-static void *in_jail(void *unused)
+enum { PATHS = sizeof paths / sizeof *paths };
+
+static void *time_all(void *unused)
 {
+    double open[PATHS], plain[PATHS], proc[PATHS];
+    for (int at = 0; at < PATHS; at++) {
+        open[at] = microseconds(by_kernel, paths[at]);
+        plain[at] = microseconds(plainly, paths[at]);
+        proc[at] = microseconds(by_proc, paths[at]);
+    }
     errno = -inroot_jail(root);
     sure(-errno, "inroot_jail");
-    for (size_t at = 0; at < sizeof paths / sizeof *paths; at++)
-        jailed[at] = microseconds(by_jail, paths[at]);
+    for (int at = 0; at < PATHS; at++) {
+        double jailed = microseconds(by_jail, paths[at]);
+        printf("times: %.24s%s: openat2 %.2f, a plain walk %.2f, in a jail %.2f (%.2f times), by /proc %.2f us\n", paths[at],
+               strlen(paths[at]) > 24 ? ".." : "", open[at], plain[at], jailed, jailed / plain[at], proc[at]);
+    }
     inroot_jail_done();
     return unused;
 }
@@ -102,11 +124,8 @@ int main(int count, char **words)
         strcat(deep, at == 0 ? "d" : "/d");
         sure(mkdirat(root, deep, 0755), deep);
     }
-    paths[3] = deep;
-    pthread_create(&thread, NULL, in_jail, NULL);
+    paths[PATHS - 1] = deep;
+    pthread_create(&thread, NULL, time_all, NULL);
     pthread_join(thread, NULL);
-    for (size_t at = 0; at < sizeof paths / sizeof *paths; at++)
-        printf("times: %.24s%s: openat2 %.2f, a plain walk %.2f, in a jail %.2f, by /proc %.2f us\n", paths[at], strlen(paths[at]) > 24 ? ".." : "",
-               microseconds(by_kernel, paths[at]), microseconds(plainly, paths[at]), jailed[at], microseconds(by_proc, paths[at]));
     return 0;
 }

@@ -8,8 +8,8 @@ use Rattle.root_ops.specs.declared.call.CallTurn.TheVariants.{More, Done}
 use Rattle.root_ops.specs.declared.op.Op.{Op}
 use Rattle.root_ops.specs.declared.reply.Reply.TheVariants.{Fault}
 use Rattle.root_ops.specs.Order.{due}
-use Rattle.root_ops.specs.TurnView.{turn_view, StartsTo, TakesTo}
-use Rattle.root_ops.specs.View.{CallView}
+use Rattle.root_ops.specs.TurnView.{turn_view, Keeps, StartsTo, TakesTo}
+use Rattle.root_ops.specs.View.{CallView, is_nameless}
 use Rattle.wire.specs.Numbers.{op_of, below_asked, answer_of, step_told, step_bytes, reply_told, reply_bytes, NOT_SPELLED}
 use Rattle.wire.specs.declared.kept.Held.{Held}
 use Rattle.wire.specs.declared.numbers.Answered.{Answered}
@@ -26,10 +26,10 @@ abbrev pub LaidOut : Told → List ℕ → Told → List ℕ → List ℕ → Ty
 LaidOut numbers bytes told old new =
     (whole : Bool) × (told ≡ record numbers { whole = whole }) × (new ≡ (if whole then bytes ++ drop (length bytes) old else old))
 
--- The step is told, or that there was no memory to spell it.
+-- The step is told, or that there was no memory to spell it; one without a name, as a Close, is always told.
 abbrev pub SpelledAs : Bool → StepOf ℕ → Told → List ℕ → List ℕ → Type 0
 SpelledAs true step told old new = LaidOut (step_told step) (step_bytes step) told old new
-SpelledAs false step told old new = (told ≡ NOT_SPELLED) × (new ≡ old)
+SpelledAs false step told old new = (is_nameless step ≡ false) × ((told ≡ NOT_SPELLED) × (new ≡ old))
 
 abbrev pub IsDueTold : StepOf ℕ → Told → List ℕ → List ℕ → Type 0
 IsDueTold step told old new = (spelled : Bool) × SpelledAs spelled step told old new
@@ -39,10 +39,10 @@ abbrev pub IsTold : CallTurn → Option Held → Told → List ℕ → List ℕ 
 IsTold (More call) held told old new = (call_of held ≡ Some call) × IsDueTold (due call.below call.doing) told old new
 IsTold (Done reply) held told old new = (held ≡ None) × LaidOut (reply_told reply) (reply_bytes reply) told old new
 
--- The first turn of what is asked. A number that is no operation is Invalid; without memory for the texts or the call the
--- reply is NoMemory.
+-- The first turn of what is asked, below that root and by those restrictions. A number that is no operation is Invalid;
+-- without memory for the texts or the call the reply is NoMemory.
 abbrev pub BeginsTo : Below → Option Op → CallTurn → Type 0
-BeginsTo below (Some op) turn = StartsTo below op (turn_view turn)
+BeginsTo below (Some op) turn = StartsTo below op (turn_view turn) × Keeps below turn
 BeginsTo below None turn = turn ≡ Done (Fault Invalid)
 
 abbrev pub BeginsWith : Bool → Asked → List ℕ → List ℕ → CallTurn → Type 0
@@ -52,7 +52,7 @@ BeginsWith false asked first second turn = turn ≡ Done (Fault NoMemory)
 abbrev pub IsBegun : Asked → List ℕ → List ℕ → CallTurn → Type 0
 IsBegun asked first second turn = (room : Bool) × BeginsWith room asked first second turn
 
--- The next turn, by the answer that the numbers and bytes spell.
+-- The next turn, by the answer that the numbers and bytes spell. The root and the restrictions stay.
 abbrev pub IsNext : CallView → Answered → List ℕ → CallTurn → Type 0
 IsNext call told bytes turn =
-    (room : Bool) × TakesTo call.below call.doing (answer_of room told bytes) (turn_view turn)
+    (room : Bool) × (TakesTo call.below call.doing (answer_of room told bytes) (turn_view turn) × Keeps call.below turn)

@@ -10,11 +10,13 @@
 mod answered;
 mod asked;
 mod kept;
+mod laws;
 mod numbers;
 mod told;
 mod turns;
 
 pub use kept::Kept;
+pub use laws::conversations_are_calls;
 pub use numbers::{Answered, Asked, Told};
 pub use turns::{begin, next};
 

@@ -1,5 +1,5 @@
 //! What is told of a turn: the step that is due, or the reply.
-ghost use Rattle.std.specs.Prelude.{◌≡◌, ◌++◌, ◌∷◌, [], ℕ, List, IfOk, length, Bool, drop, if◌then◌else◌};
+ghost use Rattle.std.specs.Prelude.{◌≡◌, ◌++◌, ◌∷◌, [], IfOk, length, Bool, drop, if◌then◌else◌};
 ghost use Rattle.wire.specs.Numbers.{due_told, ended, kind_number, mode_number, reply_bytes, reply_told, step_bytes, step_told, NOT_SPELLED};
 ghost use Rattle.wire.specs.Turns.{LaidOut};
 
@@ -97,27 +97,6 @@ fn both_ended(alloc: Global, first: &[u8], second: &[u8]) -> Result<Vec<u8>, NoM
     Ok(bytes)
 }
 
-// The names and texts of a step.
-fn step_bytes(alloc: Global, step: &Step) -> Result<Vec<u8>, NoMemory>
-    ensures { IfOk result (λ bytes. bytes.items ≡ step_bytes step.now) }
-{
-    match step {
-        StepOf::Dup(_)
-        | StepOf::Parent(_)
-        | StepOf::ReadLink(_)
-        | StepOf::NameBelow(_, _)
-        | StepOf::List(_)
-        | StepOf::Close(_) => Ok(Vec::new(alloc)),
-        StepOf::Open(_, name)
-        | StepOf::MakeDir(_, name)
-        | StepOf::MakeFile(_, name)
-        | StepOf::RemoveFile(_, name)
-        | StepOf::RemoveDir(_, name) => ended(alloc, name.bytes()),
-        StepOf::MakeLink(_, name, text) => both_ended(alloc, name.bytes(), text.as_slice()),
-        StepOf::Rename(_, old, _, new, _) => both_ended(alloc, old.bytes(), new.bytes()),
-    }
-}
-
 // The numbers of a reply.
 fn reply_told(reply: &Reply) -> Told
     ensures { result ≡ reply_told reply.now }
@@ -166,22 +145,59 @@ fn lay_out(bytes: &[u8], room: &mut [u8]) -> bool
     true
 }
 
-// Tells these numbers, and lays the bytes out where there was room for them.
-fn tell(numbers: Told, bytes: Result<Vec<u8>, NoMemory>, told: &mut Told, room: &mut [u8])
-    ensures { (spelled : List ℕ) → IfOk bytes (λ vec. vec.items ≡ spelled) → LaidOut numbers spelled told.new room.old room.new }
+// Lays a text and a NUL after it there, without memory of its own.
+#[tactic(auto, using(crate::proofs::Spelling::laid))]
+fn lay_out_ended(text: &[u8], room: &mut [u8]) -> bool
+    ensures { room.new ≡ (if result then ended text.now ++ drop (length (ended text.now)) room.old else room.old) }
 {
-    let whole = match bytes {
+    if room.len() <= text.len() {
+        return false;
+    }
+    room[..text.len()].copy_from_slice(text);
+    room[text.len()] = 0;
+    true
+}
+
+// Lays two texts there, a NUL after each.
+fn lay_out_both(alloc: Global, first: &[u8], second: &[u8], room: &mut [u8]) -> bool
+    ensures { room.new ≡ (if result then (ended first.now ++ ended second.now) ++ drop (length (ended first.now ++ ended second.now)) room.old else room.old) }
+{
+    match both_ended(alloc, first, second) {
         Ok(bytes) => lay_out(&bytes, room),
         Err(_) => false,
-    };
-    *told = Told { whole, ..numbers };
+    }
+}
+
+// Lays the names and texts of a step there.
+fn lay_out_step(alloc: Global, step: &Step, room: &mut [u8]) -> bool
+    ensures { room.new ≡ (if result then step_bytes step.now ++ drop (length (step_bytes step.now)) room.old else room.old) }
+{
+    match step {
+        StepOf::Dup(_)
+        | StepOf::Parent(_)
+        | StepOf::ReadLink(_)
+        | StepOf::NameBelow(_, _)
+        | StepOf::List(_)
+        | StepOf::Close(_) => true,
+        StepOf::Open(_, name)
+        | StepOf::MakeDir(_, name)
+        | StepOf::MakeFile(_, name)
+        | StepOf::RemoveFile(_, name)
+        | StepOf::RemoveDir(_, name) => lay_out_ended(name.bytes(), room),
+        StepOf::MakeLink(_, name, text) => {
+            lay_out_both(alloc, name.bytes(), text.as_slice(), room)
+        }
+        StepOf::Rename(_, old, _, new, _) => lay_out_both(alloc, old.bytes(), new.bytes(), room),
+    }
 }
 
 /// Tells the step that is due.
 pub(crate) fn tell_step(alloc: Global, step: Step, told: &mut Told, room: &mut [u8])
     ensures { LaidOut (step_told step) (step_bytes step) told.new room.old room.new }
 {
-    tell(step_told(&step), step_bytes(alloc, &step), told, room);
+    let whole = lay_out_step(alloc, &step, room);
+    let numbers = step_told(&step);
+    *told = Told { whole, ..numbers };
 }
 
 /// Tells that there was no memory for the step that is due.
@@ -199,5 +215,10 @@ pub(crate) fn tell_no_memory(told: &mut Told)
 pub(crate) fn tell_reply(alloc: Global, reply: &Reply, told: &mut Told, room: &mut [u8])
     ensures { LaidOut (reply_told reply.now) (reply_bytes reply.now) told.new room.old room.new }
 {
-    tell(reply_told(reply), reply_bytes(alloc, reply), told, room);
+    let whole = match reply_bytes(alloc, reply) {
+        Ok(bytes) => lay_out(&bytes, room),
+        Err(_) => false,
+    };
+    let numbers = reply_told(reply);
+    *told = Told { whole, ..numbers };
 }

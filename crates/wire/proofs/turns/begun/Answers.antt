@@ -9,5 +9,5 @@ pub returns-in-Ok-Some : goal.returns-in-Ok-Some
 returns-in-Ok-Some c = (
   true,
   begins_some c.args.asked.now c.below-root.result (op_of c.args.asked.now c.args.first.now c.args.second.now) c.in-Ok-Some.op c.start.result
-      c.below-root.ensures (sym c.in-Ok-Some.ensures ∙ c.in-Ok-Some.field-0-is) c.start.ensures.turn,
+      c.below-root.ensures (sym c.in-Ok-Some.ensures ∙ c.in-Ok-Some.field-0-is) c.start.ensures.turn c.start.ensures.kept,
 )
