@@ -87,6 +87,10 @@ Begins old new (Some turn) = IsBegun old new turn
 abbrev pub is_busy : Seat → Bool
 is_busy seat = is_some seat.doing || are_some seat.ledger.to_come
 
+-- a call is under way
+abbrev pub is_within : Seat → Bool
+is_within seat = is_some seat.doing
+
 -- the next call was begun where none was under way, with memory or without; then fewer turns are left
 pub record Starts (old new : Seat) : Type 0 where
   pub room : Bool

@@ -11,7 +11,7 @@ use Rattle.race_core.specs.Book.{BookedHistory, tree_now}
 use Rattle.race_core.specs.Ledgers.{LedgerView}
 use Rattle.race_core.specs.declared.seat.Seat.{Seat}
 use Rattle.race_core.specs.Turns.{Luck, turned}
-use Rattle.race_core.specs.TurnView.{is_busy, turns_left}
+use Rattle.race_core.specs.TurnView.{is_busy, is_within, turns_left}
 
 -- the book, each actor's seat by its number, and whether memory for the report ran short
 pub record WorldView : Type 0 where
@@ -56,6 +56,14 @@ is_busy_in (Some seat) = is_busy seat
 
 abbrev pub is_busy_at : List Seat → ℕ → Bool
 is_busy_at seats i = is_busy_in (slice_get seats i)
+
+abbrev pub is_within_in : Option Seat → Bool
+is_within_in None = false
+is_within_in (Some seat) = is_within seat
+
+-- whether the actor of that number has a call under way
+abbrev pub is_within_at : List Seat → ℕ → Bool
+is_within_at seats i = is_within_in (slice_get seats i)
 
 abbrev pub turns_in : Option Seat → ℕ
 turns_in None = 0

@@ -1,6 +1,6 @@
 //! One actor's place in a world: what it has to do, and its call under way.
 ghost use Rattle.std.specs.Prelude.{◌≡◌, ◌+◌, None, OnOk};
-ghost use Rattle.race_core.specs.TurnView.{seat_at, Starts, GoesOn, IsTurned, is_busy, steps_then, turns_of, turns_left, Lowers};
+ghost use Rattle.race_core.specs.TurnView.{seat_at, Starts, GoesOn, IsTurned, is_busy, steps_then, turns_of, turns_left, Lowers, is_within};
 
 use crate::advance::{advance, give_up};
 use crate::book::Book;
@@ -81,6 +81,13 @@ impl Seat {
         ensures { result ≡ is_busy self.now }
     {
         self.doing.is_some() || !self.ledger.is_done()
+    }
+
+    /// Whether a call is under way.
+    pub(crate) fn is_within_call(&self) -> bool
+        ensures { result ≡ is_within self.now }
+    {
+        self.doing.is_some()
     }
 
     /// Gives the call under way up, and leaves what came of the others.

@@ -1,6 +1,6 @@
 //! A world: a tree, and actors who take turns on it.
 ghost use Rattle.std.specs.Prelude.{◌≡◌, ◌≢◌, ◌<◌, ◌≤◌, ◌+◌, ◌++◌, ℕ, length, None, true, false, IfOk, IfErr, OnOk, OnErr, slice_get, vec_len, vec_capacity};
-ghost use Rattle.race_core.specs.Worlds.{IsTurnAt, Lowers, is_busy_at, TakesTurn, first_beyond, Runs, GoesToEnd, AllGoToEnd, numbers_below, RunsOut, AllOver, ledgers_in, Reports, RunsTo, RefusesRun, Turns};
+ghost use Rattle.race_core.specs.Worlds.{IsTurnAt, Lowers, is_busy_at, is_within_at, TakesTurn, first_beyond, Runs, GoesToEnd, AllGoToEnd, numbers_below, RunsOut, AllOver, ledgers_in, Reports, RunsTo, RefusesRun, Turns};
 
 use crate::book::Book;
 use crate::ledger::Ledger;
@@ -194,6 +194,36 @@ impl<T: Tree> World<T> {
             Ok(()) => Ok(()),
             Err(_) => Err(WorldFault::NoMemory),
         }
+    }
+
+    /// How many actors there are.
+    pub fn actors(&self) -> usize
+        ensures { result ≡ length self.now.seats }
+    {
+        self.seats.len()
+    }
+
+    /// Whether the actor of that number has something left to do: a call under way, or calls to come. Nobody's number
+    /// has nothing.
+    #[tactic(auto, using(std::proofs::lemmas::Option::slice_get_past))]
+    pub fn has_turns(&self, actor: u32) -> bool
+        ensures { result ≡ is_busy_at self.now.seats actor }
+    {
+        let at = actor as usize;
+        at < self.seats.len() && self.is_busy(at)
+    }
+
+    /// Whether a call of the actor of that number is under way.
+    #[tactic(auto, using(std::proofs::lemmas::Option::slice_get_past))]
+    pub fn is_within_call(&self, actor: u32) -> bool
+        ensures { result ≡ is_within_at self.now.seats actor }
+    {
+        let at = actor as usize;
+        if at >= self.seats.len() {
+            return false;
+        }
+        let seat = &self.seats[at];
+        seat.is_within_call()
     }
 
     // Ends the world: each call under way is given up.
