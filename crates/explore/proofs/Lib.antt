@@ -8,3 +8,14 @@ pub mod Worlds
 pub mod WantCalls
 pub mod WantWorlds
 pub mod SearchLaws
+pub mod Among
+pub mod Lucky
+pub mod ToCome
+pub mod Ranks
+pub mod Told
+pub mod Followed
+pub mod Searching
+pub mod Choosing
+pub mod Mapped
+pub mod Turning
+pub mod Counting

@@ -23,11 +23,11 @@ use Rattle.explore.proofs.WantWorlds.{runs_are_full, ap_at, join}
 
 -- ---- turns one after another
 
-after_append : (w : WorldView) (is js : List ℕ) → after_turns w (is ++ js) ≡ after_turns (after_turns w is) js
+pub after_append : (w : WorldView) (is js : List ℕ) → after_turns w (is ++ js) ≡ after_turns (after_turns w is) js
 after_append w [] js = refl
 after_append w (i ∷ is) js = after_append (turn full w i) is js
 
-runs_append : (w u v : WorldView) (is js : List ℕ) → Runs w is u → Runs u js v → Runs w (is ++ js) v
+pub runs_append : (w u v : WorldView) (is js : List ℕ) → Runs w is u → Runs u js v → Runs w (is ++ js) v
 runs_append w u v [] js run more = subst (λ x. Runs x js v) run more
 runs_append w u v (i ∷ is) js run more = (run.0, runs_append (turn run.0 w i) u v is js run.1 more)
 
@@ -102,7 +102,7 @@ idle_turn w i idle = by (slice_get w.seats i) refl idle
         (turned full w.book seat.ledger seat.doing) rested (idle_turned w.book seat.ledger seat.doing q))
         (ap_at (λ (seats : List Seat). record { book = w.book; seats = seats; spent = w.spent }) (slice_set w.seats i seat) w.seats (set_same w.seats i seat e))
 
-over_rests : (w : WorldView) (is : List ℕ) → IsOver w → after_turns w is ≡ w
+pub over_rests : (w : WorldView) (is : List ℕ) → IsOver w → after_turns w is ≡ w
 over_rests w [] over = refl
 over_rests w (i ∷ is) over =
     join (after_turns (turn full w i) is) (after_turns w is) w (ap_at (λ (u : WorldView). after_turns u is) (turn full w i) w (idle_turn w i (over i))) (over_rests w is over)
@@ -126,19 +126,19 @@ tight w (i ∷ is) over = by (λ u rest. tight u is rest) (is_busy_at w.seats i)
 
 -- ---- runs to the end
 
-ends_run : (w v : WorldView) (is : List ℕ) → AllGoToEnd w is v → (js : List ℕ) × Runs w js v
+pub ends_run : (w v : WorldView) (is : List ℕ) → AllGoToEnd w is v → (js : List ℕ) × Runs w js v
 ends_run w v [] e = ([], e)
 ends_run w v (i ∷ is) goes =
     let rest = ends_run goes.0 v is goes.2 in
     (again i goes.1.turns ++ rest.0, runs_append w goes.0 v (again i goes.1.turns) rest.0 goes.1.run rest.1)
 
-over_at : (seats : List Seat) (i : ℕ) → AllOver seats → is_busy_at seats i ≡ false
+pub over_at : (seats : List Seat) (i : ℕ) → AllOver seats → is_busy_at seats i ≡ false
 over_at [] i over = refl
 over_at (seat ∷ seats) zero over = over.0
 over_at (seat ∷ seats) (suc i) over = over_at seats i over.1
 
 -- what a report is of: the turns of the schedule and more, with memory for all
-reported : (w : WorldView) (schedule : List ℕ) (tree : State) (events : List Event) (replies : List (List Outcome)) (kept : List StandingObject)
+pub reported : (w : WorldView) (schedule : List ℕ) (tree : State) (events : List Event) (replies : List (List Outcome)) (kept : List StandingObject)
     → (ran : RunsTo w schedule tree events replies kept) → replies_want replies ≡ false
     → (js : List ℕ) × ((ran.end ≡ after_turns w (schedule ++ js)) × IsOver (after_turns w (schedule ++ js)))
 reported w schedule tree events replies kept ran none =

@@ -185,7 +185,7 @@ turn_stays luck w i wants = by (slice_get w.seats i) refl
     by None e = wants
     by (Some seat) e = set_stays w.seats i seat (turned luck w.book seat.ledger seat.doing).seat e (want_stays luck w.book seat) wants
 
-turn_tells : (luck : Luck) (w : WorldView) (i : ℕ) → (turn luck w i ≡ turn full w i) ⊎ (seats_want (turn luck w i).seats ≡ true)
+pub turn_tells : (luck : Luck) (w : WorldView) (i : ℕ) → (turn luck w i ≡ turn full w i) ⊎ (seats_want (turn luck w i).seats ≡ true)
 turn_tells luck w i = by (slice_get w.seats i) refl
   where
     by : (seat : Option Seat) → slice_get w.seats i ≡ seat → (turn_of luck w i seat ≡ turn_of full w i seat) ⊎ (seats_want (turn_of luck w i seat).seats ≡ true)
@@ -197,7 +197,7 @@ turn_tells luck w i = by (slice_get w.seats i) refl
         (λ wants. inr (set_wants w.seats i seat (turned luck w.book seat.ledger seat.doing).seat e wants))
         (want_is_told luck w.book seat)
 
-run_stays : (w v : WorldView) (is : List ℕ) → Runs w is v → seats_want w.seats ≡ true → seats_want v.seats ≡ true
+pub run_stays : (w v : WorldView) (is : List ℕ) → Runs w is v → seats_want w.seats ≡ true → seats_want v.seats ≡ true
 run_stays w v [] run wants = ap (λ (u : WorldView). seats_want u.seats) run ∙ wants
 run_stays w v (i ∷ is) run wants = run_stays (turn run.0 w i) v is run.1 (turn_stays run.0 w i wants)
 
@@ -205,7 +205,7 @@ quiet : (doing : Option CallView) (b : Bool) → (is_some doing || b) ≡ false 
 quiet None b e = refl
 quiet (Some view) b e = absurd (true≢false e)
 
-told_at_end : (seats : List Seat) → AllOver seats → seats_want seats ≡ true → replies_want (replies_in (ledgers_in seats)) ≡ true
+pub told_at_end : (seats : List Seat) → AllOver seats → seats_want seats ≡ true → replies_want (replies_in (ledgers_in seats)) ≡ true
 told_at_end [] over wants = wants
 told_at_end (seat ∷ seats) over wants =
     ⊎_elim

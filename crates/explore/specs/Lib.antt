@@ -3,3 +3,9 @@ pub mod Laws
 pub mod Renamed
 pub mod Want
 pub mod Search
+pub mod Lists
+pub mod Explored
+pub mod Points
+pub mod Opened
+pub mod Tally
+pub mod Searching

@@ -1,0 +1,20 @@
+//! Where every schedule begins.
+ghost use Rattle.std.specs.Prelude.{◌≡◌, IfOk};
+
+use path_text::NoMemory;
+use race_core::World;
+use std::alloc::Global;
+use tree_model::Tree;
+
+/// Where every schedule begins: one world, made anew as often as it is asked for. A world can be neither copied nor let
+/// go, so each list of turns is gone through from a new one.
+pub trait Beginnings<T: Tree> {
+    ghost use Rattle.race_core.specs.Worlds.{WorldView};
+
+    /// The world that is made each time.
+    ghost opening: { Self → WorldView };
+
+    /// That world. NoMemory where its room was refused.
+    fn world(&self, alloc: Global) -> Result<World<T>, NoMemory>
+        ensures { IfOk result (λ world. world ≡ opening self.now) };
+}

@@ -1,0 +1,217 @@
+//! Races on a small tree, each gone through in full.
+use crate::{Limits, Scene, SearchFault, explore};
+use path_text::{Bytes, Errno, Flags, Name, Names, NoMemory};
+use race_core::{ActorPlan, Outcome, Planned, Plans, Ref};
+use root_ops::{Op, Request};
+use std::alloc::Global;
+use std::test::Fail;
+use transcript::{Output, read_step};
+use tree_list::{Entry, ListTree, New};
+use tree_model::{HandleNo, Step, StepOf};
+
+// Entry k is node k + 1: a directory, a file, or a link with that text.
+const ENTRIES: [(&str, &str); 11] = [
+    ("/c", "dir"),
+    ("/c/a", "dir"),
+    ("/c/a/b", "dir"),
+    ("/c/a/b/f", "file"),
+    ("/c/abs", "/a/b"),
+    ("/c/up", "../../a"),
+    ("/c/loop", "loop"),
+    ("/c/dang", "none/x"),
+    ("/secret", "dir"),
+    ("/secret/key", "file"),
+    ("/c/e", "dir"),
+];
+
+fn names_of(alloc: Global, path: &str) -> Result<Names, Errno> {
+    let mut names = Names::new(alloc);
+    for name in path.split('/').filter(|name| !name.is_empty()) {
+        names.push(Name::new(alloc, name.as_bytes())?)?;
+    }
+    Ok(names)
+}
+
+fn tree(alloc: Global) -> Result<ListTree, Fail> {
+    let mut entries = Vec::new(alloc);
+    for (path, what) in ENTRIES.as_slice() {
+        let what = match *what {
+            "dir" => New::Dir,
+            "file" => New::File,
+            text => New::Link(Bytes::from_slice(alloc, text.as_bytes())?),
+        };
+        let at = names_of(alloc, path)?;
+        entries.push(Entry { at, what })?;
+    }
+    Ok(ListTree::from_entries(alloc, &entries)?)
+}
+
+// In a planned step handle 0 stands for the root, and handle k for what call k - 1 keeps.
+fn at(handle: HandleNo) -> Ref {
+    match handle.number() {
+        0 => Ref::Root,
+        number => Ref::Call((number as usize).saturating_sub(1)),
+    }
+}
+
+fn planned_step(step: Step) -> StepOf<Ref> {
+    match step {
+        StepOf::MakeLink(dir, name, text) => StepOf::MakeLink(at(dir), name, text),
+        StepOf::RemoveFile(dir, name) => StepOf::RemoveFile(at(dir), name),
+        StepOf::RemoveDir(dir, name) => StepOf::RemoveDir(at(dir), name),
+        StepOf::Rename(from, old, to, new, mode) => {
+            StepOf::Rename(at(from), old, at(to), new, mode)
+        }
+        _ => StepOf::List(Ref::Root),
+    }
+}
+
+// `resolve PATH`, or a step.
+fn planned(alloc: Global, call: &str) -> Result<Planned, NoMemory> {
+    let (word, rest) = call.split_once(' ').unwrap_or((call, ""));
+    if word == "resolve" {
+        let op = Op::Resolve(Bytes::from_slice(alloc, rest.as_bytes())?);
+        let flags = Flags::default();
+        return Ok(Planned::Call(Request { op, flags }));
+    }
+    Ok(match read_step(alloc, call.as_bytes())? {
+        Some(step) => Planned::Single(planned_step(step)),
+        None => Planned::Release(999),
+    })
+}
+
+// An actor a line: its root, and its calls after colons.
+fn scene(alloc: Global, lines: &str) -> Result<Scene, Fail> {
+    let mut plans = Vec::new(alloc);
+    for line in lines.lines() {
+        let mut parts = line.split(": ");
+        let root = names_of(alloc, parts.next().unwrap_or(""))?;
+        let mut calls = Plans::new(alloc);
+        for call in parts {
+            calls.push(planned(alloc, call)?)?;
+        }
+        plans.push(ActorPlan { root, calls })?;
+    }
+    Ok(Scene {
+        tree: tree(alloc)?,
+        plans,
+        lines: 1000,
+    })
+}
+
+fn reply_words(alloc: Global, told: &mut Output, outcome: &Outcome) -> Result<(), NoMemory> {
+    match outcome {
+        Outcome::Opened { node, kind, names } => told.opened(alloc, *kind, *node, names),
+        Outcome::Fault(error) => told.fault(*error),
+        _ => told.text("other\n"),
+    }
+}
+
+// The numbers of lists and of turns, and of each outcome a line: the number of its lists, the cuts of the least, its
+// turns, and how the first call of actor 0 ended.
+fn told(alloc: Global, scene: &Scene, limits: Limits) -> Result<Result<Output, SearchFault>, Fail> {
+    let found = match explore(alloc, scene, limits) {
+        Ok(found) => found,
+        Err(fault) => return Ok(Err(fault)),
+    };
+    let mut told = Output::new(alloc);
+    told.number(found.lists)?;
+    told.text(" of up to ")?;
+    told.number(found.turns as u64)?;
+    told.text("\n")?;
+    for class in &found.classes {
+        told.number(class.lists)?;
+        told.text(" cuts ")?;
+        told.number(class.least.cuts)?;
+        told.text(" by ")?;
+        for turn in &class.least.turns {
+            told.number(u64::from(*turn))?;
+        }
+        told.text(" ")?;
+        for replies in &class.least.report.replies {
+            if let Some(outcome) = replies.as_slice().first() {
+                reply_words(alloc, &mut told, outcome)?;
+                break;
+            }
+        }
+    }
+    Ok(Ok(told))
+}
+
+const REMOVED: &str = "/c: resolve e/..
+/c: remove_dir 0 e";
+
+const LINK_GONE: &str = "/c: resolve abs/f
+/c: remove_file 0 abs";
+
+const MOVED_OUT: &str = "/c: resolve a/b/..
+: resolve c/a: resolve secret: rename 1 b 2 b plain";
+
+// Of each search: the actors, the most lists and turns and cuts, and what is told.
+const SEARCHES: [(&str, u64, u32, Option<u64>, Result<&str, SearchFault>); 8] = [
+    (
+        REMOVED,
+        6,
+        6,
+        None,
+        Ok(
+            "6 of up to 6\n1 cuts 0 by 10 fault ENOENT\n1 cuts 1 by 0100 fault EAGAIN\n4 cuts 0 by 000001 opened dir 1 /\n",
+        ),
+    ),
+    (REMOVED, 5, 6, None, Err(SearchFault::TooManyLists)),
+    (REMOVED, 6, 5, None, Err(SearchFault::TooManyTurns)),
+    (REMOVED, 0, 6, None, Err(SearchFault::TooManyLists)),
+    (
+        REMOVED,
+        2,
+        6,
+        Some(0),
+        Ok("2 of up to 6\n1 cuts 0 by 10 fault ENOENT\n1 cuts 0 by 000001 opened dir 1 /\n"),
+    ),
+    (
+        LINK_GONE,
+        10,
+        10,
+        None,
+        Ok(
+            "10 of up to 10\n1 cuts 0 by 10 fault ENOENT\n9 cuts 0 by 0000000001 opened file 4 /a/b/f\n",
+        ),
+    ),
+    (
+        MOVED_OUT,
+        3432,
+        14,
+        None,
+        Ok(
+            "3432 of up to 14\n8 cuts 0 by 1111111000 fault ENOENT\n112 cuts 1 by 00011111110000 fault EAGAIN\n3312 cuts 0 by 00000001111111 opened dir 2 /a\n",
+        ),
+    ),
+    (
+        MOVED_OUT,
+        4,
+        14,
+        Some(0),
+        Ok(
+            "4 of up to 14\n1 cuts 0 by 1111111000 fault ENOENT\n3 cuts 0 by 00000001111111 opened dir 2 /a\n",
+        ),
+    ),
+];
+
+#[test]
+fn searches_are_told(rt: HostRuntime) -> Result<(), Fail> {
+    for (lines, lists, turns, cuts, wanted) in SEARCHES.as_slice() {
+        let limits = Limits {
+            lists: *lists,
+            turns: *turns,
+            cuts: *cuts,
+        };
+        let told = told(rt.alloc(), &scene(rt.alloc(), lines)?, limits)?;
+        let same = match (&told, wanted) {
+            (Ok(told), Ok(wanted)) => told.as_slice() == wanted.as_bytes(),
+            (Err(fault), Err(wanted)) => fault == wanted,
+            _ => false,
+        };
+        assert!(rt; same, "{lines} {turns}");
+    }
+    Ok(())
+}
