@@ -3,7 +3,7 @@ use Rattle.std.proofs.Common.{◌≡◌, ℕ, suc, ◌+◌, ◌<◌, Bool, true,
 use Rattle.std.specs.Prelude.{if◌then◌else◌}
 use Rattle.std.proofs.Math.Seq.{drop-cons}
 use Rattle.std.proofs.lemmas.List.{append_assoc, take_more}
-use Rattle.surveys.specs.Numbered.{numbered}
+use Rattle.report_text.specs.Report.{numbered}
 use Rattle.surveys.specs.declared.survey.Told.{Told}
 use Rattle.surveys.specs.Survey.{is_new, new_among}
 

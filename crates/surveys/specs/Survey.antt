@@ -2,13 +2,12 @@
 use Rattle.std.specs.Prelude.{ℕ, ◌+◌, List, [], ◌∷◌, ◌++◌, Bool, not, length, min, sum_by, find, if◌then◌else◌, is_none, codes, decimal, Option, Some, None}
 use Rattle.std.specs.List.{flat_map, list_all, list_any}
 use Rattle.path_text.specs.Name.{same_bytes}
-use Rattle.surveys.specs.Numbered.{numbered}
+use Rattle.report_text.specs.Report.{numbered}
 use Rattle.surveys.specs.declared.property.Property.{Property}
 use Rattle.surveys.specs.declared.counts.TheConstants.{COUNT_MAX}
 use Rattle.surveys.specs.declared.survey.Told.{Told}
 use Rattle.surveys.specs.Counts.{count_words}
 use Rattle.surveys.specs.Property.{fails, rule_word}
-use Rattle.surveys.specs.Schedule.{schedule_words}
 
 -- ---- blocks: outcomes that look the same are one
 
@@ -32,15 +31,12 @@ new_ones all = new_among [] all
 abbrev pub lists_where : (Told → Bool) → List Told → ℕ
 lists_where test all = min (sum_by (λ told. if test told then told.lists else 0) all) COUNT_MAX
 
-abbrev pub lists_in : List Told → ℕ
-lists_in all = min (sum_by (λ told. told.lists) all) COUNT_MAX
-
 abbrev pub lists_to : List Told → Told → ℕ
 lists_to all told = lists_where (looks_like told) all
 
 -- ` cuts C schedule S`
 unfoldable pub witness_words : Told → List ℕ
-witness_words told = (codes " cuts " ++ decimal told.cuts) ++ (codes " schedule " ++ (schedule_words told.list.items ++ codes "\n"))
+witness_words told = (codes " cuts " ++ decimal told.cuts) ++ (codes " schedule " ++ (told.schedule ++ codes "\n"))
 
 -- a block by its number: `outcome K schedules N cuts C schedule S`, and its lines
 unfoldable pub block_text : List Told → ℕ → Told → List ℕ
@@ -77,11 +73,11 @@ all_hold all properties = list_all (λ property. is_none (find (breaks property)
 -- ---- the whole
 
 -- how many lists there are, how many turns the longest has, how many outcomes look different
-abbrev pub numbers_text : ℕ → List Told → List ℕ
-numbers_text longest all =
-    (codes "schedules " ++ count_words (lists_in all)) ++ ((codes "\nturns " ++ decimal longest)
+abbrev pub numbers_text : ℕ → ℕ → List Told → List ℕ
+numbers_text lists longest all =
+    (codes "schedules " ++ count_words lists) ++ ((codes "\nturns " ++ decimal longest)
     ++ ((codes "\noutcomes " ++ decimal (length (new_ones all))) ++ codes "\n"))
 
 -- these, then a block for each that looks new, then each property
-abbrev pub survey_text : ℕ → List Told → List Property → List ℕ
-survey_text longest all properties = numbers_text longest all ++ (blocks_text all ++ properties_text all properties)
+abbrev pub survey_text : ℕ → ℕ → List Told → List Property → List ℕ
+survey_text lists longest all properties = numbers_text lists longest all ++ (blocks_text all ++ properties_text all properties)

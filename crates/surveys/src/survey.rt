@@ -2,11 +2,10 @@
 ghost use Rattle.std.specs.Prelude.{◌≡◌, length, find};
 ghost use Rattle.std.specs.Option.{option_copied};
 ghost use Rattle.transcript.specs.Output.{Gains};
-ghost use Rattle.surveys.specs.Survey.{is_new, new_ones, lists_in, lists_to, lists_breaking, looks_like, breaks, witness_words, numbers_text, block_text, blocks_text, status_words, property_text, properties_text, all_hold, survey_text};
+ghost use Rattle.surveys.specs.Survey.{is_new, new_ones, lists_to, lists_breaking, looks_like, breaks, witness_words, numbers_text, block_text, blocks_text, status_words, property_text, properties_text, all_hold, survey_text};
 
 use crate::counts::{counted, numbered, plus};
 use crate::property::Property;
-use crate::schedule::schedule;
 use path_text::NoMemory;
 use transcript::Output;
 
@@ -17,8 +16,8 @@ pub struct Told {
     pub lists: u64,
     /// How many cuts the least of them has.
     pub cuts: u64,
-    /// The least of them: actors' numbers.
-    pub list: Vec<u32>,
+    /// The schedule that leads to the least of them.
+    pub schedule: Output,
     /// What is printed of its report.
     pub block: Output,
     /// All lines of its report but those of events, which properties are judged by.
@@ -40,7 +39,7 @@ impl Told {
     {
         numbered(out, " cuts ", self.cuts)?;
         out.text(" schedule ")?;
-        schedule(out, &self.list)?;
+        out.bytes(self.schedule.as_slice())?;
         out.text("\n")
     }
 }
@@ -70,17 +69,6 @@ fn count_new(all: &[Told]) -> usize
     found
 }
 
-// How many lists there are.
-fn lists_in(all: &[Told]) -> u64
-    ensures { result ≡ lists_in all.now }
-{
-    let mut lists = 0;
-    for told in all {
-        lists = plus(lists, told.lists);
-    }
-    lists
-}
-
 // How many lists come to what looks like this.
 fn lists_to(all: &[Told], told: &Told) -> u64
     ensures { result ≡ lists_to all.now told.now }
@@ -95,10 +83,10 @@ fn lists_to(all: &[Told], told: &Told) -> u64
 }
 
 // Adds how many lists there are, how many turns the longest has, and how many look like none before them.
-fn numbers(out: &mut Output, longest: u64, all: &[Told]) -> Result<(), NoMemory>
-    ensures { Gains out.old out.new (numbers_text longest all.now) result }
+fn numbers(out: &mut Output, lists: u64, longest: u64, all: &[Told]) -> Result<(), NoMemory>
+    ensures { Gains out.old out.new (numbers_text lists longest all.now) result }
 {
-    counted(out, "schedules ", lists_in(all))?;
+    counted(out, "schedules ", lists)?;
     numbered(out, "\nturns ", longest)?;
     numbered(out, "\noutcomes ", count_new(all) as u64)?;
     out.text("\n")
@@ -190,18 +178,19 @@ pub fn all_hold(all: &[Told], properties: &[Property]) -> bool
     true
 }
 
-/// Adds the text of outcomes, which come in the order of their least lists, the longest list having so many turns: how
-/// many lists there are, how many turns the longest has, how many outcomes look different, a block for each of these, and
-/// the line of each property. NoMemory where its room was refused, and a part of the text may have been added then.
+/// Adds the text of outcomes, which come in the order of their least lists, where there are so many lists, and the longest
+/// has so many turns: these numbers, how many outcomes look different, a block for each of these, and the line of each
+/// property. NoMemory where its room was refused, and a part of the text may have been added then.
 pub fn survey_text(
     out: &mut Output,
+    lists: u64,
     longest: u64,
     all: &[Told],
     properties: &[Property],
 ) -> Result<(), NoMemory>
-    ensures { Gains out.old out.new (survey_text longest all.now properties.now) result }
+    ensures { Gains out.old out.new (survey_text lists longest all.now properties.now) result }
 {
-    numbers(out, longest, all)?;
+    numbers(out, lists, longest, all)?;
     blocks(out, all)?;
     property_lines(out, all, properties)
 }

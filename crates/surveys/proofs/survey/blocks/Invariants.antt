@@ -1,5 +1,5 @@
 use Rattle.std.proofs.Common.{◌≡◌, ◌≤◌, ◌++◌, take, drop}
-use Rattle.surveys.specs.Numbered.{numbered}
+use Rattle.report_text.specs.Report.{numbered}
 use Rattle.surveys.specs.Survey.{new_among, block_text, blocks_text}
 use Rattle.surveys.proofs.survey.blocks.Given as goal
 
