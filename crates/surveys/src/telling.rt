@@ -12,6 +12,7 @@ use transcript::Output;
 use tree_model::{Snapshot, Tree};
 
 /// An outcome as it was found.
+#[derive(Debug, Drop)]
 pub struct Found<'a, T> {
     /// How many full lists of turns lead to it.
     pub lists: u64,
