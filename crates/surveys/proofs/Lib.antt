@@ -1,0 +1,3 @@
+mod Tails
+mod NewOnes
+mod Pieces

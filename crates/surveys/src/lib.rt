@@ -1,0 +1,22 @@
+//! What schedules of a world come to, told as text.
+//!
+//! A *full list* of turns is one after which no actor has anything left to do. The layers above tell of each outcome how many
+//! full lists lead to it, the least of them, and its report. `told_of` is what is told of one, and `survey_text` the text of
+//! all: a block for each outcome, with a schedule that leads to it, and then whether each property that was asked for holds
+//! of every one.
+#![tactic(auto)]
+
+mod changes;
+mod counts;
+mod outcome;
+mod property;
+mod schedule;
+mod survey;
+mod telling;
+#[cfg(test)]
+mod tests;
+
+pub use counts::COUNT_MAX;
+pub use property::{Property, Rule, read_property};
+pub use survey::{Told, all_hold, survey_text};
+pub use telling::{Found, told_of};
