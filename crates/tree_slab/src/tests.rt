@@ -150,22 +150,29 @@ open 0 up = opened 6 3 dir
 list 6 = listed 1 g";
 
 /// Entries that are looked up before they are made, moved and removed, and after it, on the base tree with handle 0 on
-/// `/c`.
-const REMEMBERED: &str = "open 0 q = refused ENOENT
+/// `/c`, which first gets more entries than are looked up without the cache.
+const REMEMBERED: &str = "make_file 0 1 = done
+make_file 0 2 = done
+make_file 0 3 = done
+make_file 0 4 = done
+make_file 0 5 = done
+make_file 0 6 = done
+make_file 0 7 = done
+open 0 q = refused ENOENT
 make_file 0 q = done
-open 0 q = opened 1 11 file
+open 0 q = opened 1 18 file
 rename 0 q 0 r plain = done
 open 0 q = refused ENOENT
-open 0 r = opened 2 11 file
+open 0 r = opened 2 18 file
 remove_file 0 r = done
 open 0 r = refused ENOENT
 make_dir 0 r = done
 make_dir 0 r = refused EEXIST
-open 0 r = opened 3 12 dir
+open 0 r = opened 3 19 dir
 open 3 s = refused ENOENT
 rename 0 r 0 abs exchange = done
 open 0 r = opened 4 5 link
-open 0 abs = opened 5 12 dir
+open 0 abs = opened 5 19 dir
 remove_dir 0 abs = done
 open 3 s = refused ENOENT
 make_file 3 s = refused ENOENT
