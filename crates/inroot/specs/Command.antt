@@ -1,6 +1,7 @@
 -- What a command line asks for.
 use Rattle.std.specs.Borrow.{Bor}
-use Rattle.std.specs.Prelude.{◌≡◌, ◌≢◌, ℕ, List, Bool, true, false, Option, Some, None, codes}
+use Rattle.std.specs.Prelude.{◌≡◌, ◌≢◌, ◌<◌, ◌≤◌, ℕ, List, Bool, true, false, Option, Some, None, codes}
+use Rattle.std.specs.Str.Parse.{digits_value, without_leading_plus}
 use Rattle.path_text.specs.declared.flags.Flags.{Flags}
 use Rattle.clap.specs.Matches.{found_of, first_value, one_text, subcommand_name_of}
 use Rattle.clap.specs.declared.parser.matches.ArgMatches.{ArgMatches}
@@ -42,9 +43,17 @@ pub record IsDrawing (matches : ArgMatches) (drawing : Drawing) : Type 0 where
   pub schedule : IsSchedule matches drawing.schedule
   pub form : IsOption matches (codes "svg") (is_svg drawing.form)
 
+-- the number is what the text after `--workers` says in decimal digits, and there may be so many
+pub record IsWorkers (matches : ArgMatches) (workers : ℕ) : Type 0 where
+  pub given : one_text (found_of matches) (codes "workers") ≢ None
+  pub number : (text : List ℕ) → one_text (found_of matches) (codes "workers") ≡ Some text → workers ≡ digits_value 10 (without_leading_plus text)
+  pub some : 0 < workers
+  pub few : workers ≤ 8
+
 -- the request is that of the command that was named
 abbrev pub IsRequest : ArgMatches → Option Request → Type 0
 IsRequest matches (Some (request.Walk walk)) = subcommand_name_of matches ≡ Some (codes "walk")
 IsRequest matches (Some (request.Replay schedule)) = subcommand_name_of matches ≡ Some (codes "replay")
 IsRequest matches (Some (request.Draw drawing)) = subcommand_name_of matches ≡ Some (codes "draw")
+IsRequest matches (Some (request.Run workers)) = (subcommand_name_of matches ≡ Some (codes "run")) × (0 < workers) × (workers ≤ 8)
 IsRequest matches None = (subcommand_name_of matches ≢ Some (codes "replay")) × (subcommand_name_of matches ≢ Some (codes "draw"))

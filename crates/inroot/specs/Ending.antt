@@ -4,8 +4,10 @@ use Rattle.std.specs.Prelude.{⊤, ℕ, List, Option, Some, None, Result, Ok, Er
 use Rattle.scripts.specs.declared.fault.RunFault.{RunFault}
 use Rattle.scripts.specs.declared.fault.RunFault.TheVariants.{Script, ReadFailed, WriteFailed, NoMemory, BookFull}
 use Rattle.inroot.specs.declared.ending.Fault.{Fault}
-use Rattle.inroot.specs.declared.ending.Fault.TheVariants.{Usage, NotUtf8, Schedule, NoRequest, Run, DrawActors, DrawLines}
+use Rattle.inroot.specs.declared.ending.Fault.TheVariants.{Usage, NotUtf8, Schedule, NoRequest, Run, DrawActors, DrawLines, Service}
 use Rattle.scripts.specs.declared.drawing.DrawFault.{DrawFault}
+use Rattle.scripts.specs.declared.jobs.JobsFault.{JobsFault}
+use Rattle.scripts.specs.declared.jobs.JobsFault.TheVariants as jobs
 use Rattle.scripts.specs.declared.turns.TurnOrder.{TurnOrder}
 use Rattle.scripts.specs.declared.turns.TurnOrder.TheVariants.{OfScript, Asked}
 use Rattle.scripts.specs.declared.turns.Turns.{Turns}
@@ -37,12 +39,18 @@ status_of (Err (Run NoMemory)) = FAILED
 status_of (Err (Run BookFull)) = FAILED
 status_of (Err DrawActors) = FAILED
 status_of (Err DrawLines) = FAILED
+status_of (Err (Service fault)) = FAILED
 
 -- how the program tells why nothing was drawn
 abbrev pub told_of : DrawFault → Fault
 told_of (drawing.Run fault) = Run fault
 told_of drawing.TooManyActors = DrawActors
 told_of drawing.TooManyLines = DrawLines
+
+-- how it tells why jobs have no replies
+abbrev pub jobs_told_of : JobsFault → Fault
+jobs_told_of (jobs.Run fault) = Run fault
+jobs_told_of (jobs.Service fault) = Service fault
 
 -- the order of the turns that a text says, or of the script where there is none; or the text says none
 abbrev pub IsOrder : Option (Bor (List ℕ)) → Result TurnOrder Fault → Type 0

@@ -1,10 +1,11 @@
 //! The command line.
 ghost use Rattle.std.specs.Prelude.{◌≡◌, codes, IfSome};
-ghost use Rattle.inroot.specs.Command.{IsAsked, IsDrawing, IsOption, IsRequest, IsSchedule};
+ghost use Rattle.inroot.specs.Command.{IsAsked, IsDrawing, IsOption, IsRequest, IsSchedule, IsWorkers};
 
+use clap::builder::ValueParser;
 use clap::{Arg, ArgAction, ArgMatches, Command};
 use path_text::Flags;
-use scripts::Form;
+use scripts::{Form, WORKERS_MAX};
 use std::alloc::{AllocError, Global};
 
 // The names of the commands, the id of the path that `walk` takes, and the options by their ids, which are their names.
@@ -13,6 +14,8 @@ const WALK: &str = "walk";
 const REPLAY: &str = "replay";
 
 const DRAW: &str = "draw";
+
+const RUN: &str = "run";
 
 const PATH: &str = "PATH";
 
@@ -23,6 +26,8 @@ const NO_LINKS: &str = "no-links";
 const SCHEDULE: &str = "schedule";
 
 const SVG: &str = "svg";
+
+const WORKERS: &str = "workers";
 
 /// What help says of the statuses.
 const STATUSES: &str = "Statuses:
@@ -119,19 +124,46 @@ fn draw<'a>(alloc: Global) -> Result<Command<'a>, AllocError> {
         .arg(schedule(alloc))
 }
 
+/// What help says of `run` beside its arguments.
+const RUNNING: &str =
+    "SCRIPT is a JSON text on standard input. The calls of its first actor are jobs: no step and
+no release. Workers, each a thread with that actor's root, take them in any order.
+
+Prints a line for how each job ended, and one for how many events there were.
+
+Example:
+  inroot run --workers 4 < examples/jobs.json";
+
+// The command `run`.
+fn run<'a>(alloc: Global) -> Result<Command<'a>, AllocError> {
+    let workers = Arg::new(alloc, WORKERS)
+        .long(WORKERS)
+        .value_name("N")
+        .required(true)
+        .action(ArgAction::Set)
+        .value_parser(ValueParser::unsigned(1, WORKERS_MAX as u64))
+        .help("How many workers there are, 1 to 8");
+    Command::new(alloc, RUN)
+        .about("Let workers make the first actor's calls side by side, and print how they ended")
+        .override_usage("inroot run --workers <N> < SCRIPT")
+        .after_help(RUNNING)
+        .arg(workers)
+}
+
 /// The commands of the program.
 pub fn command<'a>(alloc: Global) -> Result<Command<'a>, AllocError> {
     Command::new(alloc, "inroot")
         .version("0.1.0")
         .about(
-            "Resolve paths below a root, and replay and draw races, over the tree of a script on standard input",
+            "Resolve paths below a root, replay and draw races, and run calls side by side, over the tree of a script on standard input",
         )
         .override_usage("inroot <COMMAND> < SCRIPT")
         .after_help(STATUSES)
         .subcommand_required(true)
         .subcommand(walk(alloc)?)?
         .subcommand(replay(alloc)?)?
-        .subcommand(draw(alloc)?)
+        .subcommand(draw(alloc)?)?
+        .subcommand(run(alloc)?)
 }
 
 /// A path to walk, with these restrictions (openat2(2)).
@@ -155,6 +187,8 @@ pub enum Request<'a> {
     /// With the turns that are asked for in place of the script's.
     Replay(Option<&'a str>),
     Draw(Drawing<'a>),
+    /// By so many workers, 1 to 8.
+    Run(usize),
 }
 
 /// The walk that the arguments of `walk` ask for, if they have a path.
@@ -189,6 +223,17 @@ fn drawing_asked<'a>(matches: &ArgMatches<'a>) -> Drawing<'a>
     Drawing { schedule, form }
 }
 
+/// How many workers the arguments of `run` ask for, if it is a number that there may be.
+fn workers_asked(matches: &ArgMatches<'_>) -> Option<usize>
+    ensures { IfSome result (IsWorkers matches.now) }
+{
+    let workers = matches.get_one::<usize>(WORKERS)?;
+    if workers == 0 || workers > WORKERS_MAX {
+        return None;
+    }
+    Some(workers)
+}
+
 /// The request of a command line, if it has one.
 pub fn asked<'a>(matches: &ArgMatches<'a>) -> Option<Request<'a>>
     ensures { IsRequest matches.now result }
@@ -198,6 +243,9 @@ pub fn asked<'a>(matches: &ArgMatches<'a>) -> Option<Request<'a>>
     }
     if let Some(matches) = matches.subcommand_matches(DRAW) {
         return Some(Request::Draw(drawing_asked(matches)));
+    }
+    if let Some(matches) = matches.subcommand_matches(RUN) {
+        return Some(Request::Run(workers_asked(matches)?));
     }
     let walk = walk_asked(matches.subcommand_matches(WALK)?)?;
     Some(Request::Walk(walk))

@@ -1,11 +1,11 @@
 //! How the program ends.
 ghost use Rattle.std.specs.Prelude.{◌≡◌};
-ghost use Rattle.inroot.specs.Ending.{status_of, told_of};
+ghost use Rattle.inroot.specs.Ending.{status_of, told_of, jobs_told_of};
 ghost use Rattle.inroot.specs.declared.ending.Fault.TheVariants.{Run};
 ghost use Rattle.scripts.specs.declared.fault.RunFault.TheVariants.{NoMemory as OutOfMemory};
 
 use path_text::NoMemory;
-use scripts::{DrawFault, RunFault};
+use scripts::{DrawFault, JobsFault, RunFault, ServiceFault};
 use std::alloc::{AllocError, AllocFailed};
 use thiserror::Error;
 
@@ -31,6 +31,9 @@ pub enum Fault {
     /// The run has more events and replies than a picture has lines.
     #[error("draw: lines")]
     DrawLines,
+    /// Jobs weren't served, or their service wasn't closed.
+    #[error("{0}")]
+    Service(ServiceFault),
 }
 
 impl From<RunFault> for Fault {
@@ -49,6 +52,17 @@ impl From<DrawFault> for Fault {
             DrawFault::Run(fault) => Fault::Run(fault),
             DrawFault::TooManyActors => Fault::DrawActors,
             DrawFault::TooManyLines => Fault::DrawLines,
+        }
+    }
+}
+
+impl From<JobsFault> for Fault {
+    ghost from_gives = { λ fault told. told ≡ jobs_told_of fault };
+
+    fn from(fault: JobsFault) -> Fault {
+        match fault {
+            JobsFault::Run(fault) => Fault::Run(fault),
+            JobsFault::Service(fault) => Fault::Service(fault),
         }
     }
 }
@@ -78,6 +92,12 @@ pub fn status(ended: &Result<(), Fault>) -> u8
         Ok(()) => 0,
         Err(Fault::Usage | Fault::NotUtf8 | Fault::Schedule) => 2,
         Err(Fault::Run(RunFault::Script(_))) => 3,
-        Err(Fault::NoRequest | Fault::Run(_) | Fault::DrawActors | Fault::DrawLines) => 4,
+        Err(
+            Fault::NoRequest
+            | Fault::Run(_)
+            | Fault::DrawActors
+            | Fault::DrawLines
+            | Fault::Service(_),
+        ) => 4,
     }
 }

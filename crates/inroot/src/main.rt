@@ -1,5 +1,5 @@
-//! The program: resolves paths below a root, over the tree that a script on standard input gives, and replays and draws
-//! scripts of calls that race.
+//! The program: resolves paths below a root, over the tree that a script on standard input gives, replays and draws scripts
+//! of calls that race, and lets workers make a script's calls.
 //!
 //! It reads its command line, hands standard input and output to the library `scripts`, where it is stated what a
 //! run writes, and ends with the status that `ending` says of what happened.
@@ -14,9 +14,11 @@ ghost use Rattle.inroot.specs.Ending.{IsOrder};
 
 use command::{Request, asked, command};
 use ending::{Fault, status};
-use scripts::{RunFault, TurnOrder, draw, read_turns, replay, walk};
+use scripts::{RunFault, TurnOrder, draw, read_turns, replay, run_jobs, walk};
 use std::alloc::Global;
 use std::process::ExitCode;
+use std::sync::Wait;
+use std::thread::Threads;
 use std::{env, io};
 
 /// Tells help, the version or a usage fault, and how the program ends after it.
@@ -57,8 +59,8 @@ fn order_of(alloc: Global, schedule: Option<&str>) -> Result<TurnOrder, Fault>
     }
 }
 
-/// Reads the command line, and runs what it asks for.
-fn run(rt: &HostRuntime) -> Result<(), Fault> {
+/// Reads the command line, and runs what it asks for. Only `run` starts threads.
+fn run<R: Threads + Wait + Sync>(rt: &HostRuntime, threads: &R) -> Result<(), Fault> {
     let alloc = rt.alloc();
     let words = words(rt)?;
     let matches = match command(alloc)?.try_get_matches_from(words.as_slice()) {
@@ -82,6 +84,7 @@ fn run(rt: &HostRuntime) -> Result<(), Fault> {
             let order = order_of(alloc, asked.schedule)?;
             draw(alloc, &mut input, &mut output, &order, asked.form)?;
         }
+        Request::Run(workers) => run_jobs(threads, alloc, &mut input, &mut output, workers)?,
     }
     Ok(())
 }
@@ -98,7 +101,7 @@ fn tell(rt: &HostRuntime, fault: Fault) -> io::Result<()> {
 }
 
 fn main(rt: HostRuntime) -> ExitCode {
-    let ended = run(&rt);
+    let ended = run(&rt, &rt);
     if let Err(fault) = ended {
         // The status says it where standard error can't.
         let _ = tell(&rt, fault);

@@ -2,7 +2,7 @@
 use crate::command::{Request, asked, command};
 use crate::ending::{Fault, status};
 use crate::order_of;
-use scripts::{Form, RunFault, ScriptFault, TurnOrder};
+use scripts::{Form, RunFault, ScriptFault, ServiceFault, TurnOrder};
 use std::alloc::Global;
 
 #[test]
@@ -20,6 +20,7 @@ fn ends_with_its_statuses(rt: HostRuntime) {
         (Err(Fault::Run(RunFault::BookFull)), 4),
         (Err(Fault::DrawActors), 4),
         (Err(Fault::DrawLines), 4),
+        (Err(Fault::Service(ServiceFault::Lost(0))), 4),
     ] {
         assert!(rt; status(&ended) == want, "{want:?}");
     }
@@ -31,7 +32,7 @@ fn asks_run<'a>(alloc: Global, words: &'a [&'a str]) -> Option<(Option<&'a str>,
     match asked(&matches)? {
         Request::Replay(schedule) => Some((schedule, None)),
         Request::Draw(drawing) => Some((drawing.schedule, Some(drawing.form))),
-        Request::Walk(_) => None,
+        Request::Walk(_) | Request::Run(_) => None,
     }
 }
 
@@ -88,5 +89,29 @@ fn reads_the_turns_that_are_asked_for(rt: HostRuntime) {
         (Some("x"), Err(Fault::Schedule)),
     ] {
         assert!(rt; pieces_asked(rt.alloc(), schedule) == want, "{schedule:?}");
+    }
+}
+
+/// How many workers a command line asks for.
+fn asks_workers(alloc: Global, words: &[&str]) -> Option<usize> {
+    let matches = command(alloc).ok()?.try_get_matches_from(words).ok()?;
+    match asked(&matches)? {
+        Request::Run(workers) => Some(workers),
+        _ => None,
+    }
+}
+
+#[test]
+fn reads_how_many_workers(rt: HostRuntime) {
+    for (words, want) in [
+        (["inroot", "run", "--workers", "1"].as_slice(), Some(1)),
+        (["inroot", "run", "--workers=8"].as_slice(), Some(8)),
+        (["inroot", "run", "--workers", "0"].as_slice(), None),
+        (["inroot", "run", "--workers", "9"].as_slice(), None),
+        (["inroot", "run", "--workers", "x"].as_slice(), None),
+        (["inroot", "run", "--workers"].as_slice(), None),
+        (["inroot", "run"].as_slice(), None),
+    ] {
+        assert!(rt; asks_workers(rt.alloc(), words) == want, "{words:?}");
     }
 }

@@ -10,3 +10,6 @@ pub mod Scenarios
 pub mod Playable
 pub mod Replays
 pub mod Shown
+pub mod Owners
+pub mod Services
+pub mod Releases

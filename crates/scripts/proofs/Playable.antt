@@ -7,11 +7,14 @@ use Rattle.serde_json.specs.Data.{Data, Items, no_items, item}
 use Rattle.serde_json.specs.Find.{get, as_number, as_u64, as_array, as_object}
 use Rattle.path_text.specs.declared.errno.Errno.{Errno}
 use Rattle.race_core.specs.declared.plan.ActorPlan.{ActorPlan}
+use Rattle.race_core.specs.declared.plan.Planned.{Planned}
 use Rattle.tree_model.specs.declared.inode.Inode.{Inode}
 use Rattle.tree_model.specs.Entries.{with_some, refuse_if}
 use Rattle.tree_model.specs.State.{TOP}
 use Rattle.tree_model.specs.Steps.{directory_at}
 use Rattle.scripts.specs.declared.calls.TheConstants.{CALLS_MAX}
+use Rattle.scripts.specs.declared.calls.Purpose.{Purpose}
+use Rattle.scripts.specs.declared.calls.Purpose.TheVariants.{Turns, Jobs}
 use Rattle.scripts.specs.declared.calls.Version.{Version}
 use Rattle.scripts.specs.declared.fault.Cause.TheVariants.{Shape}
 use Rattle.scripts.specs.declared.fault.ScriptFault.{ScriptFault}
@@ -20,11 +23,13 @@ use Rattle.scripts.specs.declared.scenario.Header.{Header}
 use Rattle.scripts.specs.declared.scenario.TheConstants.{LINES_MAX}
 use Rattle.scripts.specs.declared.schedule.TheConstants.{TURNS_MAX}
 use Rattle.scripts.specs.Actors.{root_of}
-use Rattle.scripts.specs.Calls.{calls_of}
+use Rattle.scripts.specs.Calls.{call_of, call_at, calls_of, is_fit, is_job}
 use Rattle.scripts.specs.Checks.{are_over, then_with, each}
 use Rattle.scripts.specs.Fields.{list_in, perhaps}
+use Rattle.scripts.specs.Labels.{labels_from}
+use Rattle.scripts.specs.declared.labels.Label.{Label}
 use Rattle.scripts.specs.Plans.{root_at, actor_at, actors_in, actors_of}
-use Rattle.scripts.specs.Scenario.{Said, IsPlayable, lines_in, header_of, nodes_in, schedule_for, scenario_of}
+use Rattle.scripts.specs.Scenario.{Said, IsPlayable, IsFitFor, first_calls, lines_in, header_of, nodes_in, schedule_for, scenario_of}
 use Rattle.scripts.specs.Schedule.{turn_at, schedule_by}
 use Rattle.scripts.specs.Version.{version_in}
 use Rattle.scripts.specs.declared.turns.TurnOrder.{TurnOrder}
@@ -75,22 +80,22 @@ root_is_there : (k : ℕ) (found : Result ℕ Errno) (r : ℕ) → root_at k fou
 root_is_there k (Ok x) r e = refl
 root_is_there k (Err f) r e = cc (e)
 
-has_root : (nodes : List Inode) (version : Version) (k : ℕ) (d : Data) (plan : ActorPlan) → actor_at nodes version k d ≡ Ok plan → IsOk (directory_at nodes TOP plan.root)
-has_root nodes version k d plan e =
+has_root : (purpose : Purpose) (nodes : List Inode) (version : Version) (k : ℕ) (d : Data) (plan : ActorPlan) → actor_at purpose nodes version k d ≡ Ok plan → IsOk (directory_at nodes TOP plan.root)
+has_root purpose nodes version k d plan e =
     let named = was_there (root_of d) (fault.Actor k Shape) _ plan e in
     let listed = was_there (list_in (codes "calls") d) (fault.Actor k Shape) _ plan named.went in
     let rooted = passed_then (root_at k (directory_at nodes TOP named.x)) _ plan listed.went in
     let few = not_refused (are_over CALLS_MAX listed.x) (fault.TooManyCalls k) _ plan rooted.went in
-    let called = passed_then (calls_of version k listed.x) _ plan few in
+    let called = passed_then (calls_of purpose version k listed.x) _ plan few in
     let went = called.went in
     let same : ◌≡◌ {A = ActorPlan} (record { root = named.x; calls = called.x }) plan = cc (went) in
     subst (λ (p : ActorPlan). IsOk (directory_at nodes TOP p.root)) same (root_is_there k (directory_at nodes TOP named.x) rooted.x rooted.was)
 
-roots_are : (nodes : List Inode) (version : Version) (d : Data) (plans : List ActorPlan) → actors_of nodes version d ≡ Ok plans
+roots_are : (purpose : Purpose) (nodes : List Inode) (version : Version) (d : Data) (plans : List ActorPlan) → actors_of purpose nodes version d ≡ Ok plans
     → All (λ plan. IsOk (directory_at nodes TOP plan.root)) plans
-roots_are nodes version d plans e =
-    let listed = passed_then (actors_in d) (each (actor_at nodes version) 0) plans e in
-    all_of_each (λ plan. IsOk (directory_at nodes TOP plan.root)) (actor_at nodes version) (has_root nodes version) 0 listed.x plans listed.went
+roots_are purpose nodes version d plans e =
+    let listed = passed_then (actors_in d) (each (actor_at purpose nodes version) 0) plans e in
+    all_of_each (λ plan. IsOk (directory_at nodes TOP plan.root)) (actor_at purpose nodes version) (has_root purpose nodes version) 0 listed.x plans listed.went
 
 -- ---- turns
 
@@ -164,20 +169,73 @@ bounded d header e =
     let same : ◌≡◌ {A = Header} (record { version = version.x; lines = lines.x }) header = cc (went) in
     subst (λ (h : Header). h.lines ≤ LINES_MAX) same (bounded_lines (get (codes "lines") d) lines.x lines.was)
 
+-- ---- which calls may stand there
+
+kept : (fit : Bool) (f : ScriptFault) (x call : Planned) → refuse_if (not fit) (Err f) (Ok x) ≡ Ok call → (x ≡ call) × (fit ≡ true)
+kept true f x call e = (cc (e), refl)
+kept false f x call e = cc (e)
+
+fits : (purpose : Purpose) (version : Version) (actor : ℕ) (labels : List Label) (k : ℕ) (d : Data) (call : Planned)
+    → call_at purpose version actor labels k d ≡ Ok call → is_fit purpose actor call ≡ true
+fits purpose version actor labels k d call e =
+    let there = was_there (call_of version labels k d) (fault.Call actor k) _ call e in
+    let same = kept (is_fit purpose actor there.x) (fault.NoJob k) there.x call there.went in
+    subst (λ (c : Planned). is_fit purpose actor c ≡ true) same.0 same.1
+
+plan_fits : (purpose : Purpose) (nodes : List Inode) (version : Version) (k : ℕ) (d : Data) (plan : ActorPlan) → actor_at purpose nodes version k d ≡ Ok plan
+    → All (λ call. is_fit purpose k call ≡ true) plan.calls
+plan_fits purpose nodes version k d plan e =
+    let named = was_there (root_of d) (fault.Actor k Shape) _ plan e in
+    let listed = was_there (list_in (codes "calls") d) (fault.Actor k Shape) _ plan named.went in
+    let rooted = passed_then (root_at k (directory_at nodes TOP named.x)) _ plan listed.went in
+    let few = not_refused (are_over CALLS_MAX listed.x) (fault.TooManyCalls k) _ plan rooted.went in
+    let called = passed_then (calls_of purpose version k listed.x) _ plan few in
+    let went = called.went in
+    let same : ◌≡◌ {A = ActorPlan} (record { root = named.x; calls = called.x }) plan = cc (went) in
+    let labels = labels_from 0 listed.x in
+    let are : All (λ call. is_fit purpose k call ≡ true) called.x =
+    all_of_each (λ call. is_fit purpose k call ≡ true) (call_at purpose version k labels) (fits purpose version k labels) 0 listed.x called.x called.was in
+    subst (λ (p : ActorPlan). All (λ call. is_fit purpose k call ≡ true) p.calls) same are
+
+first_fits : (purpose : Purpose) (nodes : List Inode) (version : Version) (items : Items) (plans : List ActorPlan) → each (actor_at purpose nodes version) 0 items ≡ Ok plans
+    → All (λ call. is_fit purpose 0 call ≡ true) (first_calls plans)
+first_fits purpose nodes version no_items plans e =
+    let same : ◌≡◌ {A = List ActorPlan} [] plans = cc (e) in
+    subst (λ (ps : List ActorPlan). All (λ call. is_fit purpose 0 call ≡ true) (first_calls ps)) same (All-nil (λ call. is_fit purpose 0 call ≡ true))
+first_fits purpose nodes version (item d ds) plans e =
+    let first = passed_then (actor_at purpose nodes version 0 d) (λ y. then_with (each (actor_at purpose nodes version) 1 ds) (λ ys. Ok (y ∷ ys))) plans e in
+    let rest = passed_then (each (actor_at purpose nodes version) 1 ds) (λ ys. Ok (first.x ∷ ys)) plans first.went in
+    let went = rest.went in
+    let same : first.x ∷ rest.x ≡ plans = cc (went) in
+    subst (λ (ps : List ActorPlan). All (λ call. is_fit purpose 0 call ≡ true) (first_calls ps)) same (plan_fits purpose nodes version 0 d first.x first.was)
+
 -- ---- the whole
 
-pub playable : (order : TurnOrder) (d : Data) (said : Said) → scenario_of order d ≡ Ok said → IsPlayable said
-playable order d said e =
+pub playable : (purpose : Purpose) (order : TurnOrder) (d : Data) (said : Said) → scenario_of purpose order d ≡ Ok said → IsPlayable said
+playable purpose order d said e =
     let header = passed_then (header_of d) _ said e in
     let nodes = passed_then (nodes_in d) _ said header.went in
-    let plans = passed_then (actors_of nodes.x header.x.version d) _ said nodes.went in
+    let plans = passed_then (actors_of purpose nodes.x header.x.version d) _ said nodes.went in
     let schedule = passed_then (schedule_for order (length plans.x) d) _ said plans.went in
     let went = schedule.went in
     let same : ◌≡◌ {A = Said} (record { nodes = nodes.x; plans = plans.x; schedule = schedule.x; lines = header.x.lines }) said = cc (went) in
     subst IsPlayable same (record {
-      some = some_actors nodes.x header.x.version d plans.x plans.was;
-      few = few_actors nodes.x header.x.version d plans.x plans.was;
-      roots = roots_are nodes.x header.x.version d plans.x plans.was;
+      some = some_actors purpose nodes.x header.x.version d plans.x plans.was;
+      few = few_actors purpose nodes.x header.x.version d plans.x plans.was;
+      roots = roots_are purpose nodes.x header.x.version d plans.x plans.was;
       turns = turns_for order (length plans.x) d schedule.x schedule.was;
       bounded = bounded d header.x header.was;
     })
+
+-- and it is fit for what it is read for
+pub fit_for : (purpose : Purpose) (order : TurnOrder) (d : Data) (said : Said) → scenario_of purpose order d ≡ Ok said → IsFitFor purpose said
+fit_for Turns order d said e = tt
+fit_for Jobs order d said e =
+    let header = passed_then (header_of d) _ said e in
+    let nodes = passed_then (nodes_in d) _ said header.went in
+    let plans = passed_then (actors_of Jobs nodes.x header.x.version d) _ said nodes.went in
+    let schedule = passed_then (schedule_for order (length plans.x) d) _ said plans.went in
+    let went = schedule.went in
+    let same : ◌≡◌ {A = Said} (record { nodes = nodes.x; plans = plans.x; schedule = schedule.x; lines = header.x.lines }) said = cc (went) in
+    let listed = passed_then (actors_in d) (each (actor_at Jobs nodes.x header.x.version) 0) plans.x plans.was in
+    subst (IsFitFor Jobs) same (first_fits Jobs nodes.x header.x.version listed.x plans.x listed.went)

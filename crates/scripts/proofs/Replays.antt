@@ -33,7 +33,7 @@ pub record AllGranted (s : State) (i : ℕ) (plans : List ActorPlan) : Type 0 wh
   pub seated : length roots.ledgers ≡ length plans
 
 -- so few handles fill no actor's room
-has_room : (s : State) (i : ℕ) → length s.handles < 64 → is_full s i ≡ false
+pub has_room : (s : State) (i : ℕ) → length s.handles < 64 → is_full s i ≡ false
 has_room s i few =
     let fewer : held_count s i ≤ length s.handles = count_by-le-length (is_held_by i) s.handles in
     by (held_count s i) (length s.handles) (omega (arith, fewer, few)) few

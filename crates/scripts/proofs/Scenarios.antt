@@ -6,6 +6,7 @@ use Rattle.race_core.specs.declared.plan.ActorPlan.{ActorPlan}
 use Rattle.tree_model.specs.declared.inode.Inode.{Inode}
 use Rattle.tree_model.specs.Entries.{with_some, refuse_if}
 use Rattle.scripts.specs.declared.actors.TheConstants.{ACTORS_MAX}
+use Rattle.scripts.specs.declared.calls.Purpose.{Purpose}
 use Rattle.scripts.specs.declared.calls.Version.{Version}
 use Rattle.scripts.specs.declared.fault.RunFault.{RunFault}
 use Rattle.scripts.specs.declared.fault.RunFault.TheVariants.{Script, ReadFailed, WriteFailed, NoMemory, BookFull}
@@ -39,38 +40,38 @@ abbrev with_plans : TurnOrder → Data → Header → List Inode → List ActorP
 with_plans order d header nodes plans =
     then_with (schedule_for order (length plans) d) (λ schedule. Ok (record { nodes = nodes; plans = plans; schedule = schedule; lines = header.lines }))
 
-abbrev with_nodes : TurnOrder → Data → Header → List Inode → Result Said ScriptFault
-with_nodes order d header nodes = then_with (actors_of nodes header.version d) (with_plans order d header nodes)
+abbrev with_nodes : Purpose → TurnOrder → Data → Header → List Inode → Result Said ScriptFault
+with_nodes purpose order d header nodes = then_with (actors_of purpose nodes header.version d) (with_plans order d header nodes)
 
-abbrev with_header : TurnOrder → Data → Header → Result Said ScriptFault
-with_header order d header = then_with (nodes_in d) (with_nodes order d header)
+abbrev with_header : Purpose → TurnOrder → Data → Header → Result Said ScriptFault
+with_header purpose order d header = then_with (nodes_in d) (with_nodes purpose order d header)
 
 -- these parts were read
 pub record AreRead (d : Data) (header : Header) (nodes : List Inode) : Type 0 where
   pub head : header_of d ≡ Ok header
   pub tree : nodes_in d ≡ Ok nodes
 
-pub plans_refused : (order : TurnOrder) (d : Data) (header : Header) (nodes : List Inode) (fault : RunFault) → AreRead d header nodes
-    → IsFaultOf (actors_of nodes header.version d) fault → IsFaultOf (scenario_of order d) fault
-plans_refused order d header nodes fault are refused =
-    passes (header_of d) (with_header order d) header fault are.head
-    (passes (nodes_in d) (with_nodes order d header) nodes fault are.tree
-    (fails (actors_of nodes header.version d) (with_plans order d header nodes) fault refused))
+pub plans_refused : (purpose : Purpose) (order : TurnOrder) (d : Data) (header : Header) (nodes : List Inode) (fault : RunFault) → AreRead d header nodes
+    → IsFaultOf (actors_of purpose nodes header.version d) fault → IsFaultOf (scenario_of purpose order d) fault
+plans_refused purpose order d header nodes fault are refused =
+    passes (header_of d) (with_header purpose order d) header fault are.head
+    (passes (nodes_in d) (with_nodes purpose order d header) nodes fault are.tree
+    (fails (actors_of purpose nodes header.version d) (with_plans order d header nodes) fault refused))
 
-pub schedule_refused : (order : TurnOrder) (d : Data) (header : Header) (nodes : List Inode) (plans : List ActorPlan) (fault : RunFault) → AreRead d header nodes
-    → actors_of nodes header.version d ≡ Ok plans → IsFaultOf (schedule_for order (length plans) d) fault → IsFaultOf (scenario_of order d) fault
-schedule_refused order d header nodes plans fault are planned refused =
-    passes (header_of d) (with_header order d) header fault are.head
-    (passes (nodes_in d) (with_nodes order d header) nodes fault are.tree
-    (passes (actors_of nodes header.version d) (with_plans order d header nodes) plans fault planned
+pub schedule_refused : (purpose : Purpose) (order : TurnOrder) (d : Data) (header : Header) (nodes : List Inode) (plans : List ActorPlan) (fault : RunFault) → AreRead d header nodes
+    → actors_of purpose nodes header.version d ≡ Ok plans → IsFaultOf (schedule_for order (length plans) d) fault → IsFaultOf (scenario_of purpose order d) fault
+schedule_refused purpose order d header nodes plans fault are planned refused =
+    passes (header_of d) (with_header purpose order d) header fault are.head
+    (passes (nodes_in d) (with_nodes purpose order d header) nodes fault are.tree
+    (passes (actors_of purpose nodes header.version d) (with_plans order d header nodes) plans fault planned
     (fails (schedule_for order (length plans) d) (λ schedule. Ok (record { nodes = nodes; plans = plans; schedule = schedule; lines = header.lines })) fault refused)))
 
-pub all_said : (order : TurnOrder) (d : Data) (header : Header) (nodes : List Inode) (plans : List ActorPlan) (schedule : List ℕ) → AreRead d header nodes
-    → actors_of nodes header.version d ≡ Ok plans → schedule_for order (length plans) d ≡ Ok schedule
-    → scenario_of order d ≡ Ok (record { nodes = nodes; plans = plans; schedule = schedule; lines = header.lines })
-all_said order d header nodes plans schedule are planned scheduled =
-    ap (λ (r : Result Header ScriptFault). then_with r (with_header order d)) are.head
-    ∙ ap (λ (r : Result (List Inode) ScriptFault). then_with r (with_nodes order d header)) are.tree
+pub all_said : (purpose : Purpose) (order : TurnOrder) (d : Data) (header : Header) (nodes : List Inode) (plans : List ActorPlan) (schedule : List ℕ) → AreRead d header nodes
+    → actors_of purpose nodes header.version d ≡ Ok plans → schedule_for order (length plans) d ≡ Ok schedule
+    → scenario_of purpose order d ≡ Ok (record { nodes = nodes; plans = plans; schedule = schedule; lines = header.lines })
+all_said purpose order d header nodes plans schedule are planned scheduled =
+    ap (λ (r : Result Header ScriptFault). then_with r (with_header purpose order d)) are.head
+    ∙ ap (λ (r : Result (List Inode) ScriptFault). then_with r (with_nodes purpose order d header)) are.tree
     ∙ ap (λ (r : Result (List ActorPlan) ScriptFault). then_with r (with_plans order d header nodes)) planned
     ∙ ap (λ (r : Result (List ℕ) ScriptFault). then_with r (λ turns. Ok (record { nodes = nodes; plans = plans; schedule = turns; lines = header.lines }))) scheduled
 
@@ -105,14 +106,14 @@ few_items (Some is) items e = by (has_none is) (are_over ACTORS_MAX is) refl e
         let same : is ≡ items = cc e in
         subst (λ (js : Items). count_of js ≤ ACTORS_MAX) same (search (rules))
 
-pub few_actors : (nodes : List Inode) (version : Version) (d : Data) (plans : List ActorPlan) → actors_of nodes version d ≡ Ok plans → length plans ≤ ACTORS_MAX
-few_actors nodes version d plans e = by (actors_in d) refl e
+pub few_actors : (purpose : Purpose) (nodes : List Inode) (version : Version) (d : Data) (plans : List ActorPlan) → actors_of purpose nodes version d ≡ Ok plans → length plans ≤ ACTORS_MAX
+few_actors purpose nodes version d plans e = by (actors_in d) refl e
   where
-    by : (r : Result Items ScriptFault) → actors_in d ≡ r → then_with r (each (actor_at nodes version) 0) ≡ Ok plans → length plans ≤ ACTORS_MAX
+    by : (r : Result Items ScriptFault) → actors_in d ≡ r → then_with r (each (actor_at purpose nodes version) 0) ≡ Ok plans → length plans ≤ ACTORS_MAX
     by (Err fault) is f = cc (f)
     by (Ok items) is f =
         let few : count_of items ≤ ACTORS_MAX = few_items (list_in (codes "actors") d) items is in
-        let same : length plans ≡ count_of items = counted (actor_at nodes version) 0 items plans f in
+        let same : length plans ≡ count_of items = counted (actor_at purpose nodes version) 0 items plans f in
         omega (arith, few, same)
 
 some_items : (o : Option Items) (items : Items)
@@ -128,12 +129,12 @@ some_items (Some is) items e = by (has_none is) (are_over ACTORS_MAX is) refl e
         let same : is ≡ items = cc e in
         subst (λ (js : Items). 0 < count_of js) same (search (rules))
 
-pub some_actors : (nodes : List Inode) (version : Version) (d : Data) (plans : List ActorPlan) → actors_of nodes version d ≡ Ok plans → 0 < length plans
-some_actors nodes version d plans e = by (actors_in d) refl e
+pub some_actors : (purpose : Purpose) (nodes : List Inode) (version : Version) (d : Data) (plans : List ActorPlan) → actors_of purpose nodes version d ≡ Ok plans → 0 < length plans
+some_actors purpose nodes version d plans e = by (actors_in d) refl e
   where
-    by : (r : Result Items ScriptFault) → actors_in d ≡ r → then_with r (each (actor_at nodes version) 0) ≡ Ok plans → 0 < length plans
+    by : (r : Result Items ScriptFault) → actors_in d ≡ r → then_with r (each (actor_at purpose nodes version) 0) ≡ Ok plans → 0 < length plans
     by (Err fault) is f = cc (f)
     by (Ok items) is f =
         let some : 0 < count_of items = some_items (list_in (codes "actors") d) items is in
-        let same : length plans ≡ count_of items = counted (actor_at nodes version) 0 items plans f in
+        let same : length plans ≡ count_of items = counted (actor_at purpose nodes version) 0 items plans f in
         omega (arith, some, same)

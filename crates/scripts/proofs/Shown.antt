@@ -16,6 +16,8 @@ use Rattle.scripts.specs.declared.drawing.Form.TheVariants.{Text, Svg}
 use Rattle.scripts.specs.declared.drawing.DrawFault.{DrawFault}
 use Rattle.scripts.specs.declared.fault.RunFault.{RunFault}
 use Rattle.scripts.specs.Drawing.{drawn, form_text, IsDrawingOf, IsNoDrawing}
+use Rattle.scripts.specs.Jobs.{closed_line, IsJobsText, IsNoService}
+use Rattle.scripts.specs.declared.jobs.JobsFault.{JobsFault}
 use Rattle.scripts.specs.Replay.{IsTextOf, IsNoRun}
 use Rattle.scripts.specs.Scenario.{Said, IsPlayable}
 use Rattle.scripts.proofs.Lines.{first_byte}
@@ -60,3 +62,9 @@ pub drawings_some : (form : Form) (said : Said) (made : Result (List ℕ) DrawFa
     → IfOk made (λ text. text ≢ [])
 drawings_some form said (Ok text) is = λ none. drawing_some form (drawn said is.events is.replies) (sym is.is ∙ none)
 drawings_some form said (Err fault) is = tt
+
+pub jobs_some : (workers : ℕ) (said : Said) (made : Result (List ℕ) JobsFault) → MatchResult made (IsJobsText workers said) (IsNoService workers said)
+    → IfOk made (λ text. text ≢ [])
+jobs_some workers said (Ok text) is =
+    λ none. tail_some _ (closed_line (length is.events)) (first_byte (closed_line (length is.events)) _ 99 refl) (sym is.is ∙ none)
+jobs_some workers said (Err fault) is = tt

@@ -1,5 +1,5 @@
 -- The calls of a script's actors, over the data that it is.
-use Rattle.std.specs.Prelude.{ℕ, ◌&&◌, List, false, not, if◌then◌else◌, Option, Some, None, option_and_then, option_map, Result, Ok, Err, codes}
+use Rattle.std.specs.Prelude.{ℕ, ◌&&◌, ◌||◌, List, Bool, true, false, not, nat_lt, if◌then◌else◌, Option, Some, None, option_and_then, option_map, Result, Ok, Err, codes}
 use Rattle.serde_json.specs.Data.{Data, Items}
 use Rattle.path_text.specs.Name.{same_bytes}
 use Rattle.path_text.specs.declared.flags.Flags.{Flags}
@@ -7,6 +7,8 @@ use Rattle.root_ops.specs.declared.op.Op.{Op}
 use Rattle.root_ops.specs.declared.op.Op.TheVariants as op
 use Rattle.root_ops.specs.declared.op.Request.{Request}
 use Rattle.tree_model.specs.Entries.{with_some, refuse_if}
+use Rattle.scripts.specs.declared.calls.Purpose.{Purpose}
+use Rattle.scripts.specs.declared.calls.Purpose.TheVariants.{Turns, Jobs}
 use Rattle.scripts.specs.declared.calls.Version.{Version}
 use Rattle.scripts.specs.declared.calls.Version.TheVariants.{One, Two}
 use Rattle.scripts.specs.declared.fault.ScriptFault.{ScriptFault}
@@ -17,7 +19,7 @@ use Rattle.race_core.specs.declared.plan.Ref.{Ref}
 use Rattle.race_core.specs.declared.plan.Ref.TheVariants as ref
 use Rattle.scripts.specs.declared.words.OpName.{OpName}
 use Rattle.scripts.specs.declared.words.OpName.TheVariants.{Resolve, ResolveNoFollow, MkdirAll, ReadLink, CreateFile, CreateDir, CreateLink, RemoveFile, RemoveDir, RemoveAll, Rename}
-use Rattle.scripts.specs.declared.fault.ScriptFault.TheVariants.{Call}
+use Rattle.scripts.specs.declared.fault.ScriptFault.TheVariants.{Call, NoJob}
 use Rattle.scripts.specs.Checks.{each}
 use Rattle.scripts.specs.Fields.{text_in, mode_in, flag_in}
 use Rattle.scripts.specs.Labels.{takes_label, labels_from, has_good_label}
@@ -79,9 +81,22 @@ call_of version labels k d =
     else (if same_bytes word (codes "release") then option_map planned.Release (released_in labels k d)
     else with_some (op_name_of word) None (λ name. option_map planned.Call (request_of version labels k name d))))
 
-abbrev pub call_at : Version → ℕ → List Label → ℕ → Data → Result Planned ScriptFault
-call_at version actor labels k d = with_some (call_of version labels k d) (Err (Call actor k)) (λ call. Ok call)
+-- a job is an operation: no step, and no release
+abbrev pub is_job : Planned → Bool
+is_job (planned.Call request) = true
+is_job (planned.Single step) = false
+is_job (planned.Release number) = false
+
+-- whether a call may stand there: where the first actor's calls are jobs, any other call of it is refused
+abbrev pub is_fit : Purpose → ℕ → Planned → Bool
+is_fit Turns actor call = true
+is_fit Jobs actor call = nat_lt 0 actor || is_job call
+
+abbrev pub call_at : Purpose → Version → ℕ → List Label → ℕ → Data → Result Planned ScriptFault
+call_at purpose version actor labels k d =
+    with_some (call_of version labels k d) (Err (Call actor k)) (λ call.
+    refuse_if (not (is_fit purpose actor call)) (Err (NoJob k)) (Ok call))
 
 -- the calls of an actor, or the first that is refused
-abbrev pub calls_of : Version → ℕ → Items → Result (List Planned) ScriptFault
-calls_of version actor items = each (call_at version actor (labels_from 0 items)) 0 items
+abbrev pub calls_of : Purpose → Version → ℕ → Items → Result (List Planned) ScriptFault
+calls_of purpose version actor items = each (call_at purpose version actor (labels_from 0 items)) 0 items

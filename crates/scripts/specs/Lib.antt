@@ -11,6 +11,7 @@ pub mod Drawing
 pub mod Fault
 pub mod Fields
 pub mod Input
+pub mod Jobs
 pub mod Labels
 pub mod Plans
 pub mod Replay

@@ -9,6 +9,7 @@ use Rattle.tree_model.specs.State.{TOP}
 use Rattle.tree_model.specs.Steps.{directory_at}
 use Rattle.scripts.specs.declared.actors.TheConstants.{ACTORS_MAX}
 use Rattle.scripts.specs.declared.calls.TheConstants.{CALLS_MAX}
+use Rattle.scripts.specs.declared.calls.Purpose.{Purpose}
 use Rattle.scripts.specs.declared.calls.Version.{Version}
 use Rattle.scripts.specs.declared.fault.Cause.TheVariants.{Shape, Refused}
 use Rattle.scripts.specs.declared.fault.ScriptFault.{ScriptFault}
@@ -24,13 +25,13 @@ root_at k (Err error) = Err (Actor k (Refused error))
 root_at k (Ok r) = Ok r
 
 -- actor k: its root by names, which lead to a directory of these nodes, and its calls
-abbrev pub actor_at : List Inode → Version → ℕ → Data → Result ActorPlan ScriptFault
-actor_at nodes version k d =
+abbrev pub actor_at : Purpose → List Inode → Version → ℕ → Data → Result ActorPlan ScriptFault
+actor_at purpose nodes version k d =
     with_some (root_of d) (Err (Actor k Shape)) (λ names.
     with_some (list_in (codes "calls") d) (Err (Actor k Shape)) (λ items.
     then_with (root_at k (directory_at nodes TOP names)) (λ root.
     refuse_if (are_over CALLS_MAX items) (Err (TooManyCalls k))
-    (then_with (calls_of version k items) (λ calls. Ok (record { root = names; calls = calls }))))))
+    (then_with (calls_of purpose version k items) (λ calls. Ok (record { root = names; calls = calls }))))))
 
 -- the actors, of which there is one at least
 abbrev pub actors_in : Data → Result Items ScriptFault
@@ -40,5 +41,5 @@ actors_in d =
     (refuse_if (are_over ACTORS_MAX items) (Err TooManyActors) (Ok items)))
 
 -- what each actor does, or the first check that fails
-abbrev pub actors_of : List Inode → Version → Data → Result (List ActorPlan) ScriptFault
-actors_of nodes version d = then_with (actors_in d) (each (actor_at nodes version) 0)
+abbrev pub actors_of : Purpose → List Inode → Version → Data → Result (List ActorPlan) ScriptFault
+actors_of purpose nodes version d = then_with (actors_in d) (each (actor_at purpose nodes version) 0)

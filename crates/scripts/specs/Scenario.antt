@@ -1,14 +1,17 @@
 -- What a whole script says, over the data that its JSON text is (RFC 8259, as serde_json reads it). The checks are made in this
 -- order, and the first that fails is told.
-use Rattle.std.specs.Prelude.{⊤, ◌≡◌, ℕ, ◌<◌, ◌≤◌, ◌&&◌, List, length, if◌then◌else◌, nat_le, nat_lt, Option, Some, None, is_none, option_and_then, Result, Ok, Err, All, IsOk, codes}
+use Rattle.std.specs.Prelude.{⊤, ◌≡◌, ℕ, ◌<◌, ◌≤◌, ◌&&◌, List, [], ◌∷◌, length, if◌then◌else◌, nat_le, nat_lt, Option, Some, None, is_none, option_and_then, Result, Ok, Err, All, IsOk, IsTrue, codes}
 use Rattle.serde_json.specs.Data.{Data}
 use Rattle.serde_json.specs.Find.{get, as_number, as_u64, as_object}
 use Rattle.race_core.specs.declared.plan.ActorPlan.{ActorPlan}
+use Rattle.race_core.specs.declared.plan.Planned.{Planned}
 use Rattle.tree_model.specs.declared.inode.Inode.{Inode}
 use Rattle.tree_model.specs.Entries.{with_some, refuse_if}
 use Rattle.tree_model.specs.State.{State, TOP}
 use Rattle.tree_model.specs.Steps.{directory_at}
 use Rattle.scripts.specs.declared.actors.TheConstants.{ACTORS_MAX}
+use Rattle.scripts.specs.declared.calls.Purpose.{Purpose}
+use Rattle.scripts.specs.declared.calls.Purpose.TheVariants.{Turns, Jobs}
 use Rattle.scripts.specs.declared.fault.RunFault.{RunFault}
 use Rattle.scripts.specs.declared.fault.RunFault.TheVariants.{Script, ReadFailed, WriteFailed, NoMemory, BookFull}
 use Rattle.scripts.specs.declared.fault.ScriptFault.{ScriptFault}
@@ -19,6 +22,7 @@ use Rattle.scripts.specs.declared.scenario.TheConstants.{LINES_MAX}
 use Rattle.scripts.specs.declared.input.TheConstants.{SCRIPT_MAX}
 use Rattle.scripts.specs.declared.turns.TurnOrder.{TurnOrder}
 use Rattle.scripts.specs.declared.turns.TurnOrder.TheVariants.{OfScript, Asked}
+use Rattle.scripts.specs.Calls.{is_job}
 use Rattle.scripts.specs.Checks.{then_with}
 use Rattle.scripts.specs.Fault.{check_of}
 use Rattle.scripts.specs.Fields.{list_in, perhaps}
@@ -62,17 +66,21 @@ schedule_for OfScript actors d = schedule_of actors d
 schedule_for (Asked turns) actors d = turns_asked actors turns.items
 
 -- what a script says, or the first check that fails
-abbrev pub scenario_of : TurnOrder → Data → Result Said ScriptFault
-scenario_of order d =
+abbrev pub scenario_of : Purpose → TurnOrder → Data → Result Said ScriptFault
+scenario_of purpose order d =
     then_with (header_of d) (λ header.
     then_with (nodes_in d) (λ nodes.
-    then_with (actors_of nodes header.version d) (λ plans.
+    then_with (actors_of purpose nodes header.version d) (λ plans.
     then_with (schedule_for order (length plans) d) (λ schedule.
     Ok (record { nodes = nodes; plans = plans; schedule = schedule; lines = header.lines })))))
 
--- what the script says that these bytes are, with this order of turns
+-- what the script says that these bytes are, read for this purpose and with this order of turns
+abbrev pub said_as : Purpose → TurnOrder → List ℕ → Result Said ScriptFault
+said_as purpose order input = refuse_if (nat_lt SCRIPT_MAX (length input)) (Err TooLong) (then_with (data_of input) (scenario_of purpose order))
+
+-- the same for actors that take turns
 abbrev pub said_for : TurnOrder → List ℕ → Result Said ScriptFault
-said_for order input = refuse_if (nat_lt SCRIPT_MAX (length input)) (Err TooLong) (then_with (data_of input) (scenario_of order))
+said_for order input = said_as Turns order input
 
 -- the fault of reading is the script's; or a read or a growth was refused
 abbrev pub IsReadingFaultOf : Result Said ScriptFault → RunFault → Type 0
@@ -90,3 +98,17 @@ pub record IsPlayable (said : Said) : Type 0 where
   pub roots : All (λ plan. IsOk (directory_at said.nodes TOP plan.root)) said.plans
   pub turns : All (λ actor. actor < length said.plans) said.schedule
   pub bounded : said.lines ≤ LINES_MAX
+
+-- the root of the first actor, and its calls
+abbrev pub first_root : List ActorPlan → List (List ℕ)
+first_root [] = []
+first_root (plan ∷ plans) = plan.root
+
+abbrev pub first_calls : List ActorPlan → List Planned
+first_calls [] = []
+first_calls (plan ∷ plans) = plan.calls
+
+-- what is read for jobs has jobs alone for its first actor's calls
+abbrev pub IsFitFor : Purpose → Said → Type 0
+IsFitFor Turns said = ⊤
+IsFitFor Jobs said = All (λ call. IsTrue (is_job call)) (first_calls said.plans)

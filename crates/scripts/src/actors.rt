@@ -9,7 +9,7 @@ ghost use Rattle.scripts.specs.Plans.{actor_at, actors_in, actors_of};
 ghost use Rattle.scripts.specs.Checks.{each};
 ghost use Rattle.scripts.specs.Fault.{IsFaultOf};
 
-use crate::calls::{CALLS_MAX, Version, calls_of};
+use crate::calls::{CALLS_MAX, Purpose, Version, calls_of};
 use crate::fault::{Cause, RunFault, ScriptFault};
 use crate::fields::{are_over, has_none, list_in};
 use path_text::{Errno, Names, NoMemory};
@@ -46,13 +46,14 @@ pub fn first_actor_of(script: &Value) -> Option<&Value>
 /// `Actor` where it has another shape, or no such root; `TooManyCalls` past `CALLS_MAX` of them; those of `calls_of`.
 fn actor_at(
     alloc: Global,
+    purpose: Purpose,
     nodes: &[Inode],
     version: Version,
     at: usize,
     actor: &Value,
 ) -> Result<ActorPlan, RunFault>
-    ensures ok { IfOk result (λ plan. actor_at nodes.now version at (view actor.now) ≡ Ok plan) }
-    ensures err { IfErr result (IsFaultOf (actor_at nodes.now version at (view actor.now))) }
+    ensures ok { IfOk result (λ plan. actor_at purpose nodes.now version at (view actor.now) ≡ Ok plan) }
+    ensures err { IfErr result (IsFaultOf (actor_at purpose nodes.now version at (view actor.now))) }
 {
     let Some(root) = root_of(alloc, actor)? else {
         return Err(RunFault::Script(ScriptFault::Actor(at, Cause::Shape)));
@@ -67,23 +68,24 @@ fn actor_at(
     if are_over(calls, CALLS_MAX) {
         return Err(RunFault::Script(ScriptFault::TooManyCalls(at)));
     }
-    let calls = calls_of(alloc, version, at, calls)?;
+    let calls = calls_of(alloc, purpose, version, at, calls)?;
     Ok(ActorPlan { root, calls })
 }
 
 /// What the actors do, each by its number. Errors: those of the first that is refused.
 fn plans_of(
     alloc: Global,
+    purpose: Purpose,
     nodes: &[Inode],
     version: Version,
     actors: &[Value],
 ) -> Result<Vec<ActorPlan>, RunFault>
-    ensures ok { IfOk result (λ plans. each (actor_at nodes.now version) 0 (items_view actors.now) ≡ Ok plans.items) }
-    ensures err { IfErr result (IsFaultOf (each (actor_at nodes.now version) 0 (items_view actors.now))) }
+    ensures ok { IfOk result (λ plans. each (actor_at purpose nodes.now version) 0 (items_view actors.now) ≡ Ok plans.items) }
+    ensures err { IfErr result (IsFaultOf (each (actor_at purpose nodes.now version) 0 (items_view actors.now))) }
 {
     let mut plans = Vec::with_capacity(alloc, actors.len())?;
     for (at, actor) in actors.iter().enumerate() {
-        let plan = actor_at(alloc, nodes, version, at, actor)?;
+        let plan = actor_at(alloc, purpose, nodes, version, at, actor)?;
         plans.push(plan)?;
     }
     Ok(plans)
@@ -111,15 +113,16 @@ fn actors_in(script: &Value) -> Result<&[Value], RunFault>
 /// `NoMemory`.
 pub fn actors_of(
     alloc: Global,
+    purpose: Purpose,
     nodes: &[Inode],
     version: Version,
     script: &Value,
 ) -> Result<Vec<ActorPlan>, RunFault>
-    ensures ok { IfOk result (λ plans. actors_of nodes.now version (view script.now) ≡ Ok plans.items) }
-    ensures err { IfErr result (IsFaultOf (actors_of nodes.now version (view script.now))) }
+    ensures ok { IfOk result (λ plans. actors_of purpose nodes.now version (view script.now) ≡ Ok plans.items) }
+    ensures err { IfErr result (IsFaultOf (actors_of purpose nodes.now version (view script.now))) }
 {
     let actors = actors_in(script)?;
-    plans_of(alloc, nodes, version, actors)
+    plans_of(alloc, purpose, nodes, version, actors)
 }
 
 /// Opens the directory at these names for the actor, who has no handle yet.

@@ -2,7 +2,7 @@
 ghost use Rattle.std.specs.Prelude.{◌≡◌, Ok, IfOk, IfErr};
 ghost use Rattle.serde_json.specs.View.{view, items_view};
 ghost use Rattle.scripts.specs.Version.{version_in};
-ghost use Rattle.scripts.specs.Calls.{flags_in, op_of, request_of, released_in, call_of, call_at, calls_of};
+ghost use Rattle.scripts.specs.Calls.{flags_in, op_of, request_of, released_in, call_of, is_fit, call_at, calls_of};
 ghost use Rattle.scripts.specs.Fault.{IsFaultOf};
 ghost use Rattle.scripts.specs.Fields.{IsReadAs};
 
@@ -26,6 +26,16 @@ pub enum Version {
     One,
     /// Calls may have restrictions.
     Two,
+}
+
+/// What a script is read for.
+#[derive(Clone, Copy, Debug, PartialEq, Eq)]
+pub enum Purpose {
+    /// Its actors take turns, and make calls of each kind.
+    Turns,
+    /// Its first actor's calls are jobs, which have no order: operations alone, since a step and a release speak of what
+    /// a call before them opened.
+    Jobs,
 }
 
 /// The version of a script, if it is one that can be read.
@@ -131,40 +141,56 @@ fn call_of(
     }
 }
 
-/// The call of that number, or its refusal by its actor and its number.
+/// Whether a call of the actor of that number may stand in a script that is read for this.
+fn is_fit(purpose: Purpose, actor: usize, call: &Planned) -> bool
+    ensures { result ≡ is_fit purpose actor call.now }
+{
+    match purpose {
+        Purpose::Turns => true,
+        Purpose::Jobs => actor > 0 || matches!(call, Planned::Call(_)),
+    }
+}
+
+/// The call of that number. Errors: `Call` by its actor and its number; `NoJob` where it may not stand there; `NoMemory`.
 fn call_at(
     alloc: Global,
+    purpose: Purpose,
     version: Version,
     actor: usize,
     labels: &[Label],
     at: usize,
     call: &Value,
 ) -> Result<Planned, RunFault>
-    ensures ok { IfOk result (λ planned. call_at version actor labels.now at (view call.now) ≡ Ok planned) }
-    ensures err { IfErr result (IsFaultOf (call_at version actor labels.now at (view call.now))) }
+    ensures ok { IfOk result (λ planned. call_at purpose version actor labels.now at (view call.now) ≡ Ok planned) }
+    ensures err { IfErr result (IsFaultOf (call_at purpose version actor labels.now at (view call.now))) }
 {
     match call_of(alloc, version, labels, at, call) {
-        Ok(planned) => Ok(planned),
+        Ok(planned) => {
+            if is_fit(purpose, actor, &planned) {
+                return Ok(planned);
+            }
+            Err(RunFault::Script(ScriptFault::NoJob(at)))
+        }
         Err(FieldFault::Shape) => Err(RunFault::Script(ScriptFault::Call(actor, at))),
         Err(FieldFault::NoMemory) => Err(RunFault::NoMemory),
     }
 }
 
-/// The calls of the actor of that number. Errors: `TooManyCalls` past `CALLS_MAX` of them; `Call` of the first that is
-/// refused; `NoMemory`.
+/// The calls of the actor of that number. Errors: `Call` or `NoJob` of the first that is refused; `NoMemory`.
 pub fn calls_of(
     alloc: Global,
+    purpose: Purpose,
     version: Version,
     actor: usize,
     calls: &[Value],
 ) -> Result<Plans, RunFault>
-    ensures ok { IfOk result (λ plans. calls_of version actor (items_view calls.now) ≡ Ok plans) }
-    ensures err { IfErr result (IsFaultOf (calls_of version actor (items_view calls.now))) }
+    ensures ok { IfOk result (λ plans. calls_of purpose version actor (items_view calls.now) ≡ Ok plans) }
+    ensures err { IfErr result (IsFaultOf (calls_of purpose version actor (items_view calls.now))) }
 {
     let labels = labels_of(alloc, calls)?;
     let mut plans = Plans::new(alloc);
     for (at, call) in calls.iter().enumerate() {
-        let planned = call_at(alloc, version, actor, &labels, at, call)?;
+        let planned = call_at(alloc, purpose, version, actor, &labels, at, call)?;
         plans.push(planned)?;
     }
     Ok(plans)

@@ -98,6 +98,9 @@ impl Display for Detail {
             ScriptFault::Call(_, _) => f.write_str(
                 "a call has an \"op\" with its fields, gives a label of its own, and uses labels that calls before it give",
             ),
+            ScriptFault::NoJob(_) => f.write_str(
+                "the first actor's calls are jobs, which have no order: no step and no release is among them",
+            ),
             ScriptFault::Schedule => f.write_str("\"schedule\" is a list of actors' numbers"),
             ScriptFault::TooManyTurns => write!(f, "a schedule has at most {TURNS_MAX} turns"),
             ScriptFault::Turn(_) => f.write_str("a turn is an actor's number, counted from 0"),

@@ -64,6 +64,9 @@ pub enum ScriptFault {
     /// The first call that is refused, by its actor and its number.
     #[error("call {0} {1}")]
     Call(usize, usize),
+    /// The first call of the first actor that is a step or a release, where its calls are jobs.
+    #[error("call 0 {0}")]
+    NoJob(usize),
     /// No list of turns.
     #[error("schedule")]
     Schedule,

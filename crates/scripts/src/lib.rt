@@ -1,9 +1,11 @@
-//! Scripts: reading one whole, running a walk over its tree below its first actor's root, replaying it, and drawing it.
+//! Scripts: reading one whole, running a walk over its tree below its first actor's root, replaying it, drawing it, and
+//! serving its first actor's calls by workers.
 //!
 //! A script is a JSON text with a tree's entries, actors with their roots and calls, and a schedule of their turns. What
 //! `read_scenario` reads is what the script says, or the first check that fails. What a run writes is a stated
 //! function of what the reader has left and of the call (`walk`), or the text of the report on a run of the script's world
-//! (`replay`), or a picture of such a run (`draw`), whatever reader and writer it is given.
+//! (`replay`), or a picture of such a run (`draw`), or how each job ended that workers served (`run_jobs`), whatever reader
+//! and writer it is given.
 #![tactic(auto)]
 
 mod actors;
@@ -13,6 +15,7 @@ mod drawing;
 mod fault;
 mod fields;
 mod input;
+mod jobs;
 mod labels;
 mod laws;
 mod play;
@@ -33,6 +36,7 @@ pub use detail::Detail;
 pub use drawing::{DrawFault, Form, draw};
 pub use fault::{Cause, JsonFault, RunFault, ScriptFault};
 pub use input::SCRIPT_MAX;
+pub use jobs::{JobsFault, ServiceFault, run_jobs};
 pub use laws::first_refused_entry_is_told;
 pub use play::replay;
 pub use run::walk;
@@ -40,3 +44,4 @@ pub use scenario::{LINES_MAX, Scenario, read_scenario};
 pub use schedule::TURNS_MAX;
 pub use tree::ENTRIES_MAX;
 pub use turns::{TurnOrder, Turns, read_turns};
+pub use workers::WORKERS_MAX;

@@ -3,10 +3,10 @@ ghost use Rattle.std.specs.Prelude.{◌≡◌, [], Ok, IfOk, IfErr, IfSome};
 ghost use Rattle.serde_json.specs.View.{view};
 ghost use Rattle.tree_model.specs.Trees.{IsState};
 ghost use Rattle.scripts.specs.Fault.{IsFaultOf};
-ghost use Rattle.scripts.specs.Scenario.{lines_in, header_of, nodes_in, scenario_of, said_by, said_for, IsReadingFaultOf, IsPlayable};
+ghost use Rattle.scripts.specs.Scenario.{lines_in, header_of, nodes_in, scenario_of, said_as, said_by, said_for, IsReadingFaultOf, IsPlayable, IsFitFor};
 
 use crate::actors::actors_of;
-use crate::calls::{Version, version_in};
+use crate::calls::{Purpose, Version, version_in};
 use crate::fault::{RunFault, ScriptFault};
 use crate::fields::list_in;
 use crate::input::{read_script, value_of};
@@ -86,19 +86,25 @@ pub fn plain_tree_of(alloc: Global, script: &Value) -> Result<ListTree, RunFault
 /// What a script says. Errors: the first check that fails, in this order: those of its version and its lines, of its
 /// tree, of its actors, each with its calls, and of its schedule, or of the turns that are asked for in its place;
 /// `NoMemory`.
-pub fn scenario_of(alloc: Global, script: &Value, order: &TurnOrder) -> Result<Scenario, RunFault>
-    ensures said { IfOk result (λ scenario. scenario_of order.now (view script.now) ≡ Ok (said_by scenario)) }
+pub fn scenario_of(
+    alloc: Global,
+    purpose: Purpose,
+    script: &Value,
+    order: &TurnOrder,
+) -> Result<Scenario, RunFault>
+    ensures said { IfOk result (λ scenario. scenario_of purpose order.now (view script.now) ≡ Ok (said_by scenario)) }
     ensures playable { IfOk result (λ scenario. IsPlayable (said_by scenario)) }
+    ensures fit { IfOk result (λ scenario. IsFitFor purpose (said_by scenario)) }
     ensures nodes { IfOk result (λ scenario. nodes_in (view script.now) ≡ Ok scenario.tree.nodes) }
     ensures none { IfOk result (λ scenario. scenario.tree.handles ≡ []) }
     ensures tree { IfOk result (λ scenario. IsState scenario.tree) }
-    ensures err { IfErr result (IsFaultOf (scenario_of order.now (view script.now))) }
+    ensures err { IfErr result (IsFaultOf (scenario_of purpose order.now (view script.now))) }
 {
     let header = header_of(script)?;
     let list = plain_tree_of(alloc, script)?;
     let tree = indexed(alloc, &list)?;
     let (nodes, _no_handles) = list.into_parts();
-    let plans = actors_of(alloc, &nodes, header.version, script)?;
+    let plans = actors_of(alloc, purpose, &nodes, header.version, script)?;
     let schedule = schedule_for(alloc, plans.len(), order, script)?;
     let lines = header.lines;
     Ok(Scenario {
@@ -107,6 +113,26 @@ pub fn scenario_of(alloc: Global, script: &Value, order: &TurnOrder) -> Result<S
         schedule,
         lines,
     })
+}
+
+/// Reads a script to its end, and what it says, for this purpose and with this order of turns. Errors as of
+/// `read_scenario`.
+pub fn read_as<R: Read>(
+    alloc: Global,
+    purpose: Purpose,
+    reader: &mut R,
+    order: &TurnOrder,
+) -> Result<Scenario, RunFault>
+    ensures said { IfOk result (λ scenario. IfSome (R.remaining reader.old) (λ input. said_as purpose order.now input ≡ Ok (said_by scenario))) }
+    ensures playable { IfOk result (λ scenario. IsPlayable (said_by scenario)) }
+    ensures fit { IfOk result (λ scenario. IsFitFor purpose (said_by scenario)) }
+    ensures none { IfOk result (λ scenario. scenario.tree.handles ≡ []) }
+    ensures tree { IfOk result (λ scenario. IsState scenario.tree) }
+    ensures err { IfErr result (λ fault. IfSome (R.remaining reader.old) (λ input. IsReadingFaultOf (said_as purpose order.now input) fault)) }
+{
+    let bytes = read_script(alloc, reader)?;
+    let script = value_of(alloc, &bytes)?;
+    scenario_of(alloc, purpose, &script, order)
 }
 
 /// Reads a script to its end, and what it says, with this order of turns. Errors, in this order: those of `read_script`;
@@ -122,7 +148,5 @@ pub fn read_scenario<R: Read>(
     ensures tree { IfOk result (λ scenario. IsState scenario.tree) }
     ensures err { IfErr result (λ fault. IfSome (R.remaining reader.old) (λ input. IsReadingFaultOf (said_for order.now input) fault)) }
 {
-    let bytes = read_script(alloc, reader)?;
-    let script = value_of(alloc, &bytes)?;
-    scenario_of(alloc, &script, order)
+    read_as(alloc, Purpose::Turns, reader, order)
 }

@@ -1,4 +1,4 @@
-//! The library's calls, on scripts; the walk's rows among another actor's steps in `races`, replays in `replays`, over both trees in
+//! The library's calls, on scripts; the walk's rows among another actor's steps in `races`, replays in `replays`, jobs in `served`, over both trees in
 //! `both`, and drawings in `pictures`.
 mod attacked;
 mod both;
@@ -6,6 +6,7 @@ mod pictures;
 mod races;
 mod readings;
 mod replays;
+mod served;
 
 use crate::fault::{Cause, RunFault, ScriptFault};
 use crate::input::{READS_MAX, SCRIPT_MAX};

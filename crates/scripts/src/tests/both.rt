@@ -1,6 +1,7 @@
 //! Scripts run over the plain tree and over the indexed one.
 use super::{BASE, PLAIN};
 use crate::actors::{first_actor_of, open_root, root_of};
+use crate::calls::Purpose;
 use crate::fault::{Cause, RunFault, ScriptFault};
 use crate::input::value_of;
 use crate::play::{replay, report_on};
@@ -88,7 +89,7 @@ fn plain_text(alloc: Global, script: &str) -> Result<Output, RunFault> {
         plans,
         schedule,
         lines,
-    } = scenario_of(alloc, &value, &TurnOrder::OfScript)?;
+    } = scenario_of(alloc, Purpose::Turns, &value, &TurnOrder::OfScript)?;
     let actors = plans.len() as u32;
     let came_to = report_on(alloc, list, plans, schedule, lines)?;
     let mut text = Output::new(alloc);
