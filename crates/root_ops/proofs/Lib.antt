@@ -6,3 +6,6 @@ pub mod Steps
 pub mod FirstSteps
 pub mod Quiet
 pub mod Handles
+pub mod Replies
+pub mod FirstWalks
+pub mod BulkReplies

@@ -1,5 +1,5 @@
 -- A session's calls, and the walks in them, in a closed history.
-use Rattle.std.proofs.Common.{◌≡◌, ℕ, Bool, true, false, if◌then◌else◌, List, [], ◌∷◌, ◌++◌, reverse, Option, Some, None, refl, sym, ap, ◌∙◌, subst, inl, inr, append_assoc}
+use Rattle.std.proofs.Common.{◌≡◌, ℕ, Bool, true, false, if◌then◌else◌, List, ◌++◌, reverse, Option, Some, None, refl, sym, ap, ◌∙◌, subst, inl, inr, append_assoc}
 use Rattle.std.proofs.lemmas.Bool.{false≢true}
 use Rattle.path_text.specs.declared.errno.Errno.{Errno}
 use Rattle.path_text.specs.declared.errno.Errno.TheVariants.{NoMemory}
@@ -25,14 +25,14 @@ use Rattle.root_ops.specs.declared.op.Op.{Op}
 use Rattle.root_ops.specs.declared.op.Op.TheVariants.{Resolve}
 use Rattle.root_ops.specs.declared.op.Request.{Request}
 use Rattle.root_ops.specs.declared.reply.Reply.{Reply as Told}
-use Rattle.root_ops.specs.declared.reply.Reply.TheVariants.{Opened, Text, Done, Count, Stepped, Kept, Fault}
 use Rattle.root_ops.specs.CallHistory.{CallInHistory, begin_of, IsCallInHistory, CallsTell}
-use Rattle.root_ops.specs.Order.{Reply, opened, fault, ends, starts, walked, unless_fault, walks, LeadsTo}
+use Rattle.root_ops.specs.Order.{opened, fault, ends, starts, walked, unless_fault, walks, LeadsTo}
 use Rattle.root_ops.specs.Quiet.{QuietCallsMean}
 use Rattle.root_ops.specs.TurnView.{below_of}
 use Rattle.root_ops.specs.View.{reply_view}
 use Rattle.root_ops.proofs.Handles.OwnEvents.{events_append}
 use Rattle.root_ops.proofs.Handles.WalkParts.{IsEnded, walk_ends}
+use Rattle.root_ops.proofs.Replies.{at_its_end, is_fault, is_opened}
 use Rattle.sessions.specs.Call.{root_of}
 use Rattle.sessions.specs.Session.{SessionView}
 use Rattle.race_core.specs.OwnHistory.{NoneCloses, IsHistory, Around}
@@ -109,29 +109,6 @@ walks_in_threads every opening events root node way path lines end earlier later
     walk_in_threads every opening events root node way path lines end earlier later is same_root none own leads
 
 -- ---- one session's Resolve
-
-pub at_its_end : (below : Below) (r told : Reply) (lines : List Line) → LeadsTo below (ends r) lines (ends told) → r ≡ told
-at_its_end below r told [] e = cc (e)
-at_its_end below r told (line ∷ lines) e = absurd e
-
-pub is_fault : (reply : Told) (error : Errno) → fault error ≡ reply_view reply → reply ≡ Fault error
-is_fault (Opened standing) error q = cc (q)
-is_fault (Text text) error q = cc (q)
-is_fault Done error q = cc (q)
-is_fault (Count n) error q = cc (q)
-is_fault (Stepped answer) error q = cc (q)
-is_fault (Kept standing) error q = cc (q)
-is_fault (Fault other) error q = let same : error ≡ other = cc (q) in ap (λ x. Fault x) (sym same)
-
-pub is_opened : (reply : Told) (handle : Handle) (names : List (List ℕ)) → opened handle names ≡ reply_view reply
-    → (standing : StandingObject) × ((reply ≡ Opened standing) × ((handle ≡ standing_handle standing) × (names ≡ reverse standing.names)))
-is_opened (Opened standing) handle names q = (standing, (refl, (cc (q), cc (q))))
-is_opened (Text text) handle names q = cc (q)
-is_opened Done handle names q = cc (q)
-is_opened (Count n) handle names q = cc (q)
-is_opened (Stepped answer) handle names q = cc (q)
-is_opened (Kept standing) handle names q = cc (q)
-is_opened (Fault other) handle names q = cc (q)
 
 by_parts : (handle : Handle) (names : List (List ℕ)) (standing : StandingObject) → handle ≡ standing_handle standing → names ≡ reverse standing.names
     → found handle names ≡ found (standing_handle standing) (reverse standing.names)

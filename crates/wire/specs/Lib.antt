@@ -6,3 +6,4 @@ pub mod Kept
 pub mod Numbers
 pub mod Turns
 pub mod History
+pub mod Outright
