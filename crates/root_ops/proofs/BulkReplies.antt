@@ -1,5 +1,5 @@
 -- What the reply to a bulk call tells.
-use Rattle.std.proofs.Common.{◌≡◌, ℕ, Bool, true, false, List, [], reverse, Option, Some, None, Result, Ok, Err, refl, sym, ap, ◌∙◌, subst, inl, inr}
+use Rattle.std.proofs.Common.{◌≡◌, ℕ, Bool, true, false, List, reverse, Option, Some, None, Result, Ok, Err, refl, sym, ap, ◌∙◌, subst, inl, inr}
 use Rattle.path_text.specs.declared.errno.Errno.{Errno}
 use Rattle.path_text.specs.declared.errno.Errno.TheVariants.{NoMemory}
 use Rattle.path_text.specs.declared.path.Rule.TheVariants.{Drop}
@@ -14,27 +14,20 @@ use Rattle.bulk_ops.specs.RemoveAllOrder as remove
 use Rattle.root_ops.specs.declared.op.Op.{Op}
 use Rattle.root_ops.specs.declared.op.Op.TheVariants.{MkdirAll, RemoveAll}
 use Rattle.root_ops.specs.declared.reply.Reply.{Reply as Told}
-use Rattle.root_ops.specs.declared.reply.Reply.TheVariants.{Fault}
 use Rattle.root_ops.specs.BulkTells.{BulkCallsTell}
 use Rattle.root_ops.specs.CallHistory.{CallInHistory, IsCallInHistory, RepliesWith}
 use Rattle.root_ops.specs.EachCall.{Makes, Clears, MakeAllTells, RemoveAllTells, BulkTells}
-use Rattle.root_ops.specs.Order.{opened, count, fault, ends, make_way, makes, clears, clear_in, unless_fault, starts}
+use Rattle.root_ops.specs.Order.{opened, count, fault, ends, make_way, makes, clears, clear_in, unless_fault}
 use Rattle.root_ops.specs.View.{reply_view}
 use Rattle.root_ops.proofs.Handles.AfterWalks.{same_reply}
-use Rattle.root_ops.proofs.Handles.BulkHistory.{led_from}
-use Rattle.root_ops.proofs.Replies.{at_its_end, no_lines, is_fault, is_opened, is_count}
+use Rattle.root_ops.proofs.FirstTurn.{ends_at_once}
+use Rattle.root_ops.proofs.Replies.{is_fault, is_opened, is_count}
 
 same_made : (handle : Handle) (names : List (List ℕ)) (standing : StandingObject) → handle ≡ standing_handle standing → names ≡ reverse standing.names
     → make.made handle names ≡ make.made (standing_handle standing) (reverse standing.names)
 same_made handle names standing same_handle same_names = ap (λ (h : Handle). make.made h names) same_handle ∙ ap (make.made (standing_handle standing)) same_names
 
 module _ (bulk : BulkCallsTell) (c : CallInHistory) (reply : Told) (is : IsCallInHistory c) (leads : RepliesWith c (reply_view reply)) where
-  -- the call ends at its first turn
-  ends_at_once : (op : Op) (room : Bool) (error : Errno) → c.op ≡ op → c.room ≡ room → starts c.below room op ≡ ends (fault error) → (reply ≡ Fault error) × (c.lines ≡ [])
-  ends_at_once op room error same with_room first =
-      let led = led_from c (reply_view reply) op room (ends (fault error)) leads same with_room first in
-      (is_fault reply error (at_its_end c.below (fault error) (reply_view reply) c.lines led), no_lines c.below (fault error) (reply_view reply) c.lines led)
-
   -- ---- MkdirAll
 
   make_by_end : (text : List ℕ) (end : make.MakeTurn) → makes end ≡ ends (reply_view reply) → Makes c (reading_of text) end → MakeAllTells c text reply
@@ -52,14 +45,14 @@ module _ (bulk : BulkCallsTell) (c : CallInHistory) (reply : Told) (is : IsCallI
 
   make_by : (text : List ℕ) (why : Option Errno) (room : Bool) → c.op ≡ MkdirAll text → text_fault text ≡ why → c.room ≡ room → MakeAllTells c text reply
   make_by text (Some error) true same e with_room =
-      let over = ends_at_once (MkdirAll text) true error same with_room
+      let over = ends_at_once c reply (MkdirAll text) true error leads same with_room
       (ap (λ (w : Option Errno). unless_fault w (makes (make.begins (make_way c.below) (reading_of text)))) e) in
       subst (MakeAllTells c text) (sym over.0) (inl (record { why = inl e; no_step = over.1 }))
   make_by text (Some error) false same e with_room =
-      let over = ends_at_once (MkdirAll text) false error same with_room (ap (λ (w : Option Errno). unless_fault w (ends (fault NoMemory))) e) in
+      let over = ends_at_once c reply (MkdirAll text) false error leads same with_room (ap (λ (w : Option Errno). unless_fault w (ends (fault NoMemory))) e) in
       subst (MakeAllTells c text) (sym over.0) (inl (record { why = inl e; no_step = over.1 }))
   make_by text None false same e with_room =
-      let over = ends_at_once (MkdirAll text) false NoMemory same with_room (ap (λ (w : Option Errno). unless_fault w (ends (fault NoMemory))) e) in
+      let over = ends_at_once c reply (MkdirAll text) false NoMemory leads same with_room (ap (λ (w : Option Errno). unless_fault w (ends (fault NoMemory))) e) in
       subst (MakeAllTells c text) (sym over.0) (inl (record { why = inr (with_room, refl); no_step = over.1 }))
   make_by text None true same e with_room = make_with text same with_room e
 
@@ -81,20 +74,20 @@ module _ (bulk : BulkCallsTell) (c : CallInHistory) (reply : Told) (is : IsCallI
       → RemoveAllTells c text reply
   clear_by_split text (Ok split) same room fine at = clear_with text split same room fine at
   clear_by_split text (Err error) same room fine at =
-      let over = ends_at_once (RemoveAll text) true error same room
+      let over = ends_at_once c reply (RemoveAll text) true error leads same room
       (ap (λ (why : Option Errno). unless_fault why (clear_in c.below (split_of (reading_of text) Drop))) fine ∙ ap (λ (s : Result Split Errno). clear_in c.below s) at) in
       subst (RemoveAllTells c text) (sym over.0) (inr (inl (record { why = at; no_step = over.1 })))
 
   clear_by : (text : List ℕ) (why : Option Errno) (room : Bool) → c.op ≡ RemoveAll text → text_fault text ≡ why → c.room ≡ room → RemoveAllTells c text reply
   clear_by text (Some error) true same e with_room =
-      let over = ends_at_once (RemoveAll text) true error same with_room
+      let over = ends_at_once c reply (RemoveAll text) true error leads same with_room
       (ap (λ (w : Option Errno). unless_fault w (clear_in c.below (split_of (reading_of text) Drop))) e) in
       subst (RemoveAllTells c text) (sym over.0) (inl (record { why = inl e; no_step = over.1 }))
   clear_by text (Some error) false same e with_room =
-      let over = ends_at_once (RemoveAll text) false error same with_room (ap (λ (w : Option Errno). unless_fault w (ends (fault NoMemory))) e) in
+      let over = ends_at_once c reply (RemoveAll text) false error leads same with_room (ap (λ (w : Option Errno). unless_fault w (ends (fault NoMemory))) e) in
       subst (RemoveAllTells c text) (sym over.0) (inl (record { why = inl e; no_step = over.1 }))
   clear_by text None false same e with_room =
-      let over = ends_at_once (RemoveAll text) false NoMemory same with_room (ap (λ (w : Option Errno). unless_fault w (ends (fault NoMemory))) e) in
+      let over = ends_at_once c reply (RemoveAll text) false NoMemory leads same with_room (ap (λ (w : Option Errno). unless_fault w (ends (fault NoMemory))) e) in
       subst (RemoveAllTells c text) (sym over.0) (inl (record { why = inr (with_room, refl); no_step = over.1 }))
   clear_by text None true same e with_room = clear_by_split text (split_of (reading_of text) Drop) same with_room e refl
 

@@ -31,9 +31,9 @@ use Rattle.root_ops.specs.declared.op.Op.TheVariants.{Resolve, ResolveNoFollow, 
 use Rattle.root_ops.specs.BulkTells.{bulk_of}
 use Rattle.root_ops.specs.CallHistory.{CallInHistory, actor_of, begin_of, IsCallInHistory, RepliesWith}
 use Rattle.root_ops.specs.EachCall.{IsDirectoryOf, HasName, WalksFirst, BeginsWithWalk}
-use Rattle.root_ops.specs.Order.{Reply, ends, make_way, makes, clears, clear_in, unless_fault, starts, goal_of, way_of, walks, on_path, on_entry, in_directory, from_entry, between, renaming_of}
+use Rattle.root_ops.specs.Order.{Reply, ends, make_way, makes, clears, clear_in, unless_fault, starts, goal_of, way_of, walked, walks, on_path, on_entry, in_directory, from_entry, between, renaming_of, LeadsTo}
 use Rattle.root_ops.proofs.Bulk.{makes_led, clears_led}
-use Rattle.root_ops.proofs.Handles.BulkHistory.{led_from}
+use Rattle.root_ops.proofs.FirstTurn.{led_from}
 use Rattle.root_ops.proofs.Handles.OwnEvents.{events_append, cut}
 use Rattle.root_ops.proofs.Handles.WalkParts.{IsEnded, walk_ends}
 
@@ -104,7 +104,7 @@ clear_first way target turn lines end over (walk_stops handle names parts cut') 
 -- ---- a call
 
 module _ (every : EveryWalk) (c : CallInHistory) (reply : Reply) (is : IsCallInHistory c) (leads : RepliesWith c reply) where
-  begins_with : (goal : Goal) (path : Reading) → FirstLines (way_from c.below.root goal c.below.flags) (walk.begins (way_from c.below.root goal c.below.flags) path) c.lines
+  abbrev begins_with : (goal : Goal) (path : Reading) → FirstLines (way_from c.below.root goal c.below.flags) (walk.begins (way_from c.below.root goal c.below.flags) path) c.lines
       → BeginsWithWalk c (way_from c.below.root goal c.below.flags) path
   begins_with goal path of =
       let a = actor_of c in
@@ -171,16 +171,25 @@ module _ (every : EveryWalk) (c : CallInHistory) (reply : Reply) (is : IsCallInH
   over_of (walk.partial handle names rest) over = over
   over_of (walk.failed error) over = over
 
-  by_aim : (op : Op) (aim : Aim) (path : Reading) → c.op ≡ op → c.room ≡ true → starts c.below true op ≡ walks c.below aim path
-      → BeginsWithWalk c (way_from c.below.root (goal_of aim) c.below.flags) path
+  -- the walk with which it begins, and the call's lines after it
+  pub record WalkLed (aim : Aim) (path : Reading) : Type 0 where
+    pub begun : BeginsWithWalk c (way_from c.below.root (goal_of aim) c.below.flags) path
+    pub room : Bool
+    pub onward : LeadsTo c.below (walked c.below room aim begun.end) begun.rest (ends reply)
+
+  by_aim : (op : Op) (aim : Aim) (path : Reading) → c.op ≡ op → c.room ≡ true → starts c.below true op ≡ walks c.below aim path → WalkLed aim path
   by_aim op aim path same room first =
       let parts = walk_ends c.below aim reply c.lines true (walk.begins (way_of c.below aim) path) (led_from c reply op true (walks c.below aim path) leads same room first) in
-      begins_with (goal_of aim) path
-      (record { first = parts.first; rest = parts.rest; whole = parts.whole; end = parts.end; over = over_of parts.end parts.ended; leads = parts.leads })
+      record {
+        begun = begins_with (goal_of aim) path
+            (record { first = parts.first; rest = parts.rest; whole = parts.whole; end = parts.end; over = over_of parts.end parts.ended; leads = parts.leads });
+        room = parts.room;
+        onward = parts.onward;
+      }
 
   -- an operation on a path, and one on an entry
-  on_text : (op : Op) (aim : Aim) (text : List ℕ) → c.op ≡ op → c.room ≡ true → starts c.below true op ≡ on_path c.below aim text → text_fault text ≡ None
-      → BeginsWithWalk c (way_from c.below.root (goal_of aim) c.below.flags) (reading_of text)
+  pub on_text : (op : Op) (aim : Aim) (text : List ℕ) → c.op ≡ op → c.room ≡ true → starts c.below true op ≡ on_path c.below aim text → text_fault text ≡ None
+      → WalkLed aim (reading_of text)
   on_text op aim text same room first fine =
       by_aim op aim (reading_of text) same room (first ∙ ap (λ (why : Option Errno). unless_fault why (walks c.below aim (reading_of text))) fine)
 
@@ -188,18 +197,18 @@ module _ (every : EveryWalk) (c : CallInHistory) (reply : Reply) (is : IsCallInH
       → text_fault text ≡ None → IsDirectoryOf text rule path → BeginsWithWalk c (way_from c.below.root Follow c.below.flags) path
   on_last op rule change text path same room first fine of =
       subst (λ (p : Reading). BeginsWithWalk c (way_from c.below.root Follow c.below.flags) p) (sym of.1.1)
-      (by_aim op (Changes change of.0.name) of.0.dir same room
-      (first ∙ ap (λ (why : Option Errno). unless_fault why (in_directory c.below change (split_of (reading_of text) rule))) fine ∙ ap (λ (s : Result Split Errno). in_directory c.below change s) of.1.0))
+      ((by_aim op (Changes change of.0.name) of.0.dir same room
+      (first ∙ ap (λ (why : Option Errno). unless_fault why (in_directory c.below change (split_of (reading_of text) rule))) fine ∙ ap (λ (s : Result Split Errno). in_directory c.below change s) of.1.0)).begun)
 
   on_both : (old new : List ℕ) (mode : Mode) (path : Reading) → c.op ≡ Rename old new mode → c.room ≡ true → text_fault old ≡ None → IsDirectoryOf old Drop path
       → text_fault new ≡ None → HasName new Drop → BeginsWithWalk c (way_from c.below.root Follow c.below.flags) path
   on_both old new mode path same room fine of fine_too has =
       subst (λ (p : Reading). BeginsWithWalk c (way_from c.below.root Follow c.below.flags) p) (sym of.1.1)
-      (by_aim (Rename old new mode) (WalksOn has.0.dir (renaming_of of.0 has.0 mode)) of.0.dir same room
+      ((by_aim (Rename old new mode) (WalksOn has.0.dir (renaming_of of.0 has.0 mode)) of.0.dir same room
       (ap (λ (why : Option Errno). unless_fault why (from_entry c.below mode new (split_of (reading_of old) Drop))) fine
       ∙ ap (λ (s : Result Split Errno). from_entry c.below mode new s) of.1.0
       ∙ ap (λ (why : Option Errno). unless_fault why (between c.below mode of.0 (split_of (reading_of new) Drop))) fine_too
-      ∙ ap (λ (s : Result Split Errno). between c.below mode of.0 s) has.1))
+      ∙ ap (λ (s : Result Split Errno). between c.below mode of.0 s) has.1)).begun)
 
   abbrev Begins : Goal → Reading → Type 0
   Begins goal path = BeginsWithWalk c (way_from c.below.root goal c.below.flags) path
@@ -211,10 +220,10 @@ module _ (every : EveryWalk) (c : CallInHistory) (reply : Reply) (is : IsCallInH
   along goal g path p same same_path begins = by_goal goal g path same (subst (Begins g) (sym same_path) begins)
 
   pub walks_first : (op : Op) (goal : Goal) (path : Reading) → c.op ≡ op → c.room ≡ true → WalksFirst op goal path → Begins goal path
-  walks_first (Resolve text) goal path same room first = along goal Follow path (reading_of text) first.1.0 first.1.1 (on_text (Resolve text) (Opens Follow) text same room refl first.0)
+  walks_first (Resolve text) goal path same room first = along goal Follow path (reading_of text) first.1.0 first.1.1 (on_text (Resolve text) (Opens Follow) text same room refl first.0).begun
   walks_first (ResolveNoFollow text) goal path same room first =
-      along goal NoFollow path (reading_of text) first.1.0 first.1.1 (on_text (ResolveNoFollow text) (Opens NoFollow) text same room refl first.0)
-  walks_first (ReadLink text) goal path same room first = along goal NoFollow path (reading_of text) first.1.0 first.1.1 (on_text (ReadLink text) Reads text same room refl first.0)
+      along goal NoFollow path (reading_of text) first.1.0 first.1.1 (on_text (ResolveNoFollow text) (Opens NoFollow) text same room refl first.0).begun
+  walks_first (ReadLink text) goal path same room first = along goal NoFollow path (reading_of text) first.1.0 first.1.1 (on_text (ReadLink text) Reads text same room refl first.0).begun
   walks_first (CreateFile text) goal path same room first = by_goal goal Follow path first.1.0 (on_last (CreateFile text) Refuse changes.MakeFile text path same room refl first.0 first.1.1)
   walks_first (CreateDir text) goal path same room first = by_goal goal Follow path first.1.0 (on_last (CreateDir text) Drop changes.MakeDir text path same room refl first.0 first.1.1)
   walks_first (CreateLink text target) goal path same room first =

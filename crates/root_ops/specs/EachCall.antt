@@ -1,4 +1,5 @@
--- What each call tells, outright, in every legal history: of the walk with which it begins, and of a bulk call what it did.
+-- What each call tells, outright, in every legal history: of the walk with which it begins, whose end is the reply to a resolve,
+-- and of a bulk call what it did.
 -- openat2(2); mkdir(2), unlink(2), rmdir(2).
 use Rattle.std.specs.Prelude.{◌≡◌, ℕ, ◌⊎◌, List, [], ◌++◌, true, false, reverse, Some, None, Ok, Err}
 use Rattle.path_text.specs.declared.errno.Errno.{Errno}
@@ -117,15 +118,36 @@ BulkTells c (MkdirAll text) reply = MakeAllTells c text reply
 BulkTells c (RemoveAll text) reply = RemoveAllTells c text reply
 BulkTells c other reply = Unit {0}
 
+-- ---- a resolve
+
+-- the walk with which the call begins comes to this end
+pub record WalksTo (c : CallInHistory) (way : Way) (path : Reading) (end : walk.Turn) : Type 0 where
+  pub begun : BeginsWithWalk c way path
+  pub is_end : begun.end ≡ end
+
+-- What was opened is what the walk found, at the names that are told; and a fault is the walk's, or ends the call at once. Other
+-- replies don't come.
+abbrev pub WalkIsReply : CallInHistory → Goal → List ℕ → Told → Type 0
+WalkIsReply c goal text (Opened standing) =
+    WalksTo c (way_from c.below.root goal c.below.flags) (reading_of text) (walk.found (standing_handle standing) (reverse standing.names))
+WalkIsReply c goal text (Fault error) = EndsAtOnce c text error ⊎ WalksTo c (way_from c.below.root goal c.below.flags) (reading_of text) (walk.failed error)
+WalkIsReply c goal text other = ⊥
+
+abbrev pub ResolveTells : CallInHistory → Op → Told → Type 0
+ResolveTells c (Resolve text) reply = WalkIsReply c Follow text reply
+ResolveTells c (ResolveNoFollow text) reply = WalkIsReply c NoFollow text reply
+ResolveTells c other reply = Unit {0}
+
 -- ---- the whole
 
 -- What a call tells that replies so: which handles it leaves open; where nobody else acts in its window, that its reply and the
--- nodes after it are those of the operation done whole; of the walk with which it begins the headline; and of a bulk call what
--- it made or took away, and why it failed.
+-- nodes after it are those of the operation done whole; of the walk with which it begins the headline; that this walk's end is
+-- the reply to a resolve; and of a bulk call what it made or took away, and why it failed.
 pub record CallTells (c : CallInHistory) (reply : Told) : Type 0 where
   pub handles : HandlesAfter c (reply_view reply)
   pub quiet : IsQuiet c → ClosesWhatIsOpen c → OpComesTo (caller_of c) (end_of c) c.room c.lines c.op (reply_view reply)
   pub walked : (goal : Goal) (path : Reading) → WalksFirst c.op goal path → c.room ≡ true → BeginsWithWalk c (way_from c.below.root goal c.below.flags) path
+  pub resolved : ResolveTells c c.op reply
   pub bulk : BulkTells c c.op reply
 
 -- So it is of each call in each legal history.

@@ -33,8 +33,8 @@ pub fn bulk_calls_tell()
 /// One call, outright, in every legal history in which the root's handle is open as the window begins, is the actor's own
 /// and is on a directory: which handles it leaves open, as in `calls_tell`; where nobody else acts in its window, what it
 /// comes to, as in `quiet_calls_mean`; of the walk with which it begins (the old path's of a Rename), whoever acts
-/// meanwhile, the headline (openat2(2), RESOLVE_IN_ROOT); and of a MkdirAll and a RemoveAll by the reply which entries it
-/// made or took away and why it failed (mkdir(2), unlink(2), rmdir(2)).
+/// meanwhile, the headline (openat2(2), RESOLVE_IN_ROOT); that a resolve replies by the end of this walk; and of a MkdirAll
+/// and a RemoveAll by the reply which entries it made or took away and why it failed (mkdir(2), unlink(2), rmdir(2)).
 pub fn each_call_tells()
     ensures { EachCallTells }
 {

@@ -38,7 +38,7 @@ pub fn calls_tell_in_threads()
 pub fn resolve_tells_in_threads()
     ensures { ResolvesInThreads }
 {
-    headline();
+    each_call_tells();
 }
 
 /// One session's call, outright: its place in the closed history; which handles it leaves open; where no other session's

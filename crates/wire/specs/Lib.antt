@@ -1,4 +1,5 @@
 pub use Rattle.root_ops.specs.CallHistory
+pub use Rattle.root_ops.specs.EachCall
 pub use Rattle.root_ops.specs.Order
 pub use Rattle.root_ops.specs.TurnView
 pub use Rattle.root_ops.specs.View

@@ -28,7 +28,8 @@ call_in asked op room lines opening before window node = record {
 -- The exchanges are a call. In each legal history in which its lines are the program's own events in the window, and the root's
 -- handle is open as the window begins, the program's own and on a directory, the call tells: which handles it leaves open; where
 -- nobody else acts in the window, that its reply and the nodes after it are those of the operation done whole; of the walk with
--- which it begins the headline; and of a bulk call what it made or took away, and why it failed.
+-- which it begins the headline; that this walk's end is the reply to a resolve; and of a bulk call what it made or took away, and
+-- why it failed.
 pub record IsCallThatTells (asked : Asked) (op : Op) (heard : Heard) (exchanges : List Exchange) (reply : Reply) : Type 0 where
   pub call : IsCall asked op heard exchanges reply
   pub tells : (opening : State) (before window : List Event) (node : ℕ) → IsCallInHistory (call_in asked op call.room call.lines opening before window node)

@@ -20,8 +20,8 @@ pub fn conversations_are_calls()
 /// call's window, and the root's handle is open as the window begins, the program's own and on a directory: which handles
 /// it leaves open; where nobody else acts in the window, that its reply and the nodes after it are those of the operation
 /// done whole. And whoever acts meanwhile: of the walk with which it begins (the old path's of a rename) the headline
-/// (openat2(2), RESOLVE_IN_ROOT), and of the calls that make or remove all which entries they made or took away and why
-/// they failed (mkdir(2), unlink(2), rmdir(2)).
+/// (openat2(2), RESOLVE_IN_ROOT), that a resolve replies by the end of this walk, and of the calls that make or remove all
+/// which entries they made or took away and why they failed (mkdir(2), unlink(2), rmdir(2)).
 pub fn conversations_tell()
     ensures { ConversationsTell }
 {

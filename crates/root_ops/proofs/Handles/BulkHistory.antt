@@ -1,5 +1,5 @@
 -- A bulk call in a history is one of bulk_ops, which tells of it.
-use Rattle.std.proofs.Common.{◌≡◌, ℕ, List, Bool, true, Option, None, Result, Ok, refl, ap, ◌∙◌, subst}
+use Rattle.std.proofs.Common.{◌≡◌, ℕ, List, true, Option, None, Result, Ok, refl, ap, ◌∙◌}
 use Rattle.path_text.specs.declared.errno.Errno.{Errno}
 use Rattle.path_text.specs.declared.path.Rule.TheVariants.{Drop}
 use Rattle.path_text.specs.declared.path.Split.{Split}
@@ -15,12 +15,12 @@ use Rattle.bulk_ops.specs.MakeAllOrder as make
 use Rattle.bulk_ops.specs.RemoveAllOrder as remove
 use Rattle.bulk_ops.proofs.MakeAllEnds.{makes_tell}
 use Rattle.bulk_ops.proofs.RemovingAll.EachEnd.{every_call_tells}
-use Rattle.root_ops.specs.declared.op.Op.{Op}
 use Rattle.root_ops.specs.declared.op.Op.TheVariants.{MkdirAll, RemoveAll}
 use Rattle.root_ops.specs.BulkTells.{bulk_of, MakeEnds, ClearEnds, BulkCallsTell}
 use Rattle.root_ops.specs.CallHistory.{CallInHistory, IsCallInHistory, RepliesWith}
-use Rattle.root_ops.specs.Order.{Reply, CallTurn, ends, make_way, makes, clears, clear_in, unless_fault, starts, LeadsTo}
+use Rattle.root_ops.specs.Order.{Reply, make_way, makes, clears, clear_in, unless_fault}
 use Rattle.root_ops.proofs.Bulk.{makes_led, clears_led}
+use Rattle.root_ops.proofs.FirstTurn.{led_from}
 
 is_bulk_of : (c : CallInHistory) (goal : Goal) (path : Reading) → IsCallInHistory c → IsWalkInHistory (bulk_of c (way_from c.below.root goal c.below.flags) path)
 is_bulk_of c goal path is = record {
@@ -31,12 +31,6 @@ is_bulk_of c goal path is = record {
   root = is.root;
   root_is_dir = is.root_is_dir;
 }
-
--- the lines lead on from the first turn
-pub led_from : (c : CallInHistory) (reply : Reply) (op : Op) (room : Bool) (turn : CallTurn) → RepliesWith c reply → c.op ≡ op → c.room ≡ room → starts c.below room op ≡ turn
-    → LeadsTo c.below turn c.lines (ends reply)
-led_from c reply op room turn leads same with_room first =
-    subst (λ (t : CallTurn). LeadsTo c.below t c.lines (ends reply)) (ap (λ (b : Bool). starts c.below b c.op) with_room ∙ ap (starts c.below room) same ∙ first) leads
 
 makes_so : (c : CallInHistory) (reply : Reply) (text : List ℕ) → IsCallInHistory c → RepliesWith c reply → c.op ≡ MkdirAll text → c.room ≡ true → text_fault text ≡ None → MakeEnds c (reading_of text) reply
 makes_so c reply text is leads same room fine =
