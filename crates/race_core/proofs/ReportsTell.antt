@@ -30,6 +30,7 @@ use Rattle.root_ops.specs.Quiet.{QuietCallsMean}
 use Rattle.root_ops.specs.TurnView.{below_of}
 use Rattle.root_ops.proofs.Handles.OwnEvents.{events_append}
 use Rattle.root_ops.proofs.Handles.WalkParts.{IsEnded, walk_ends}
+use Rattle.root_ops.proofs.Replies.{at_its_end}
 use Rattle.race_core.specs.declared.plan.ActorPlan.{ActorPlan}
 use Rattle.race_core.specs.declared.plan.Planned.{Planned}
 use Rattle.race_core.specs.declared.plan.Planned.TheVariants as planned
@@ -100,10 +101,6 @@ made_in : (root : Root) (standings : List (Option StandingObject)) (earlier : Li
     → IsMadeAs root (request_of root (kept_after_all root.owner standings earlier) c.planned) c
 made_in root standings [] c later made = made.0
 made_in root standings (b ∷ earlier) c later made = made_in root (kept_after root.owner standings b) earlier c later made.1
-
-at_its_end : (below : Below) (t told : Reply) (lines : List Line) → LeadsTo below (ends t) lines (ends told) → t ≡ told
-at_its_end below t told [] e = cc (e)
-at_its_end below t told (line ∷ lines) e = absurd e
 
 not_done : (reply : Reply) → reply ≡ done → reply ≡ fault BadHandle → ⊥
 not_done reply is_done is_fault = cc (is_done, is_fault)

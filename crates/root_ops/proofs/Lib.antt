@@ -6,3 +6,8 @@ pub mod Steps
 pub mod FirstSteps
 pub mod Quiet
 pub mod Handles
+pub mod Replies
+pub mod FirstTurn
+pub mod FirstWalks
+pub mod Resolves
+pub mod BulkReplies

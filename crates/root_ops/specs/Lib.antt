@@ -20,3 +20,4 @@ pub mod MeaningLaws
 pub mod MeaningWorked
 pub mod Quiet
 pub mod QuietWorked
+pub mod EachCall

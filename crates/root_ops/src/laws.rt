@@ -1,7 +1,11 @@
 //! What holds of every call, in every history: laws, each the contract of a function without a body.
 ghost use Rattle.root_ops.specs.BulkTells.{BulkCallsTell};
 ghost use Rattle.root_ops.specs.CallHistory.{CallsTell};
+ghost use Rattle.root_ops.specs.EachCall.{EachCallTells};
 ghost use Rattle.root_ops.specs.StepCount.{FiveAfterWalks, BulkAfterWalks};
+
+use crate::quiet_laws::quiet_calls_mean;
+use step_resolver::headline;
 
 /// Once its walks are over a call makes at most five steps, if it is no bulk call. After its walk a MkdirAll makes at most
 /// three steps for each part of the rest of its path and two more, and a RemoveAll two for each of the `CLEARING_STEPS_MAX`
@@ -25,3 +29,17 @@ pub fn calls_tell()
 pub fn bulk_calls_tell()
     ensures { BulkCallsTell }
 {}
+
+/// One call, outright, in every legal history in which the root's handle is open as the window begins, is the actor's own
+/// and is on a directory: which handles it leaves open, as in `calls_tell`; where nobody else acts in its window, what it
+/// comes to, as in `quiet_calls_mean`; of the walk with which it begins (the old path's of a Rename), whoever acts
+/// meanwhile, the headline (openat2(2), RESOLVE_IN_ROOT); that a resolve replies by the end of this walk; and of a MkdirAll
+/// and a RemoveAll by the reply which entries it made or took away and why it failed (mkdir(2), unlink(2), rmdir(2)).
+pub fn each_call_tells()
+    ensures { EachCallTells }
+{
+    headline();
+    calls_tell();
+    quiet_calls_mean();
+    bulk_calls_tell();
+}

@@ -5,8 +5,9 @@
 //! by the handle that the walk found, and closes what it opened (mkdirat(2), unlinkat(2), renameat2(2), readlinkat(2)); or it
 //! is a bulk call of `bulk_ops`. Its `start`, `due` and `take` are exactly the order of steps of `specs/Order.antt`, which is
 //! over that of a walk and those of the bulk calls, and each `take` leaves fewer steps to come. The layers above use these
-//! contracts, and the laws `five_steps_after_walks`, `calls_tell`, which says what handles a call's end leaves open, and
-//! `quiet_calls_mean`, which says what it comes to where nobody else acts.
+//! contracts, and the laws `five_steps_after_walks`, `calls_tell`, which says what handles a call's end leaves open,
+//! `quiet_calls_mean`, which says what it comes to where nobody else acts, and `each_call_tells`, which says both of one
+//! call, of the walk with which it begins the headline, and of a bulk call what it did.
 #![tactic(auto)]
 
 mod aim;
@@ -23,7 +24,7 @@ mod reply;
 pub use aim::{Aim, Change, Renaming, Wanted};
 pub use below::Below;
 pub use call::{Call, CallTurn};
-pub use laws::{bulk_calls_tell, calls_tell, five_steps_after_walks};
+pub use laws::{bulk_calls_tell, calls_tell, each_call_tells, five_steps_after_walks};
 pub use op::{Op, Request};
 pub use quiet_laws::{operations_keep_trees, quiet_calls_mean, worked_operations, worked_rename};
 pub use reply::Reply;

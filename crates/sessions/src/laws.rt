@@ -2,7 +2,7 @@
 ghost use Rattle.sessions.specs.EachCall.{EachCallTells};
 ghost use Rattle.sessions.specs.Threads.{CallsStandInOrder, WalksInThreads, CallsInThreads, ResolvesInThreads};
 
-use root_ops::{bulk_calls_tell, calls_tell, quiet_calls_mean};
+use root_ops::{calls_tell, each_call_tells, quiet_calls_mean};
 use step_resolver::headline;
 
 /// What a session logged by a call stands in the history after all that it had logged before, and before all that it logs
@@ -38,7 +38,7 @@ pub fn calls_tell_in_threads()
 pub fn resolve_tells_in_threads()
     ensures { ResolvesInThreads }
 {
-    headline();
+    each_call_tells();
 }
 
 /// One session's call, outright: its place in the closed history; which handles it leaves open; where no other session's
@@ -48,8 +48,5 @@ pub fn resolve_tells_in_threads()
 pub fn each_call_tells_in_threads()
     ensures { EachCallTells }
 {
-    headline();
-    calls_tell();
-    quiet_calls_mean();
-    bulk_calls_tell();
+    each_call_tells();
 }

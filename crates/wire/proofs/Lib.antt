@@ -1,3 +1,4 @@
 mod AsBox
 mod Spelling
 mod Conversing
+mod Outright

@@ -1,4 +1,5 @@
 pub use Rattle.root_ops.specs.CallHistory
+pub use Rattle.root_ops.specs.EachCall
 pub use Rattle.root_ops.specs.Order
 pub use Rattle.root_ops.specs.TurnView
 pub use Rattle.root_ops.specs.View
@@ -6,3 +7,4 @@ pub mod Kept
 pub mod Numbers
 pub mod Turns
 pub mod History
+pub mod Outright

@@ -16,7 +16,7 @@ mod told;
 mod turns;
 
 pub use kept::Kept;
-pub use laws::conversations_are_calls;
+pub use laws::{conversations_are_calls, conversations_tell};
 pub use numbers::{Answered, Asked, Told};
 pub use turns::{begin, next};
 

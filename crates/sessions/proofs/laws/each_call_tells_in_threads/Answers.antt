@@ -2,4 +2,4 @@ use Rattle.sessions.proofs.EachCall.{each_call_tells_in_threads}
 use Rattle.sessions.proofs.laws.each_call_tells_in_threads.Goals as goal
 
 pub returns : goal.returns
-returns c = each_call_tells_in_threads c.headline.ensures c.calls_tell.ensures c.quiet_calls_mean.ensures c.bulk_calls_tell.ensures
+returns c = each_call_tells_in_threads c.each_call_tells.ensures
