@@ -20,7 +20,7 @@ use transcript::Output;
 use tree_model::{Actor, Answer, Event, HandleNo, Step};
 
 /// The most bytes that the names and texts of a log's events have together.
-pub const TEXTS_MAX: usize = 0x0400_0000;
+pub const TEXTS_MAX: usize = 0x0200_0000;
 
 /// Events in their order, kept as records. Contracts see the events, and for how many more events and bytes of
 /// names and texts there is memory already.
@@ -89,7 +89,7 @@ impl EventLog {
     }
 
     /// Gets room for the names and the text of a step. NoMemory where it was refused, or where the log would have
-    /// more than 67,108,864 bytes of them; no room is lost then.
+    /// more than 33,554,432 bytes of them; no room is lost then.
     pub fn reserve_texts(&mut self, step: &Step) -> Result<(), NoMemory>
         ensures events { self.new.events ≡ self.old.events }
         ensures ok { OnOk result (length (step_texts step.now) ≤ self.new.text_room) }
@@ -105,7 +105,7 @@ impl EventLog {
     }
 
     /// Adds an event at the end. NoMemory where room was refused, or where the log would have more than
-    /// 67,108,864 bytes of names and texts; the events are then unchanged. It takes no memory where there is
+    /// 33,554,432 bytes of names and texts; the events are then unchanged. It takes no memory where there is
     /// room for the event and for the names and the text of its step, and its answer has neither names nor a text.
     pub fn push(&mut self, actor: Actor, step: &Step, answer: &Answer) -> Result<(), NoMemory>
         ensures ok { OnOk result (self.new.events ≡ self.old.events ++ event_with actor step.now answer.now ∷ []) }
