@@ -91,3 +91,9 @@ int clock_gettime(clockid_t clock, struct timespec *to) {
 __attribute__((destructor)) static void tell(void) {
     fprintf(stderr, "%lu %ld %ld\n", last.requests, last.most, last.resident);
 }
+
+/* A program that may have threads ends so, past the destructors. */
+void _exit(int status) {
+    tell();
+    for (;;) syscall(SYS_exit_group, status);
+}
