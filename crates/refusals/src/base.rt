@@ -26,7 +26,8 @@ const ENTRIES: [(&str, &str); 11] = [
     ("/c/d", "dir"),
 ];
 
-fn names_of(alloc: Global, path: &str) -> Result<Names, Errno> {
+/// The names of a path, from the top.
+pub fn names_of(alloc: Global, path: &str) -> Result<Names, Errno> {
     let mut names = Names::new(alloc);
     for name in path.split('/').filter(|name| !name.is_empty()) {
         names.push(Name::new(alloc, name.as_bytes())?)?;

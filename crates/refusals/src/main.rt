@@ -3,16 +3,20 @@
 //! `refusals TREE SCENARIO` carries out one scenario, on the plain tree (`plain`) or on the indexed one (`indexed`), and
 //! prints `ready` once the tree stands; then how the other actor's step went; what the call replied; how many handles
 //! the caller then has open, and the same after it has released what it opened; how many events a book then has; and the
-//! entries that went (`-`) and came (`+`), each with its directory's node, its name and its own node. Without arguments all scenarios are carried
-//! out, on both trees. Printing takes no memory, but for the lists of entries that are compared: the call's own requests
-//! for memory are those between `ready` and its reply. Status 0; 2 for a wrong command line; 4 for want of memory
-//! outside the call, and for output that can't be written.
+//! entries that went (`-`) and came (`+`), each with its directory's node, its name and its own node. The scenario
+//! `sessions` is of two sessions of one service: where it wasn't opened at first, that and the handles of the tree that
+//! came back; the sessions' replies; how the service closed, with its events, each session's handles and own events; and
+//! the entries as before. Without arguments all scenarios are carried out, on both trees. Printing takes no memory, but
+//! for the lists of entries that are compared: the call's own requests for memory are those between `ready` and its
+//! reply. Status 0; 2 for a wrong command line; 4 for want of memory outside the call, and for output that can't be
+//! written.
 #![tactic(auto)]
 
 mod base;
 mod drive;
 mod ground;
 mod scenario;
+mod service;
 mod told;
 
 use base::{CACHED_ENTRIES, grant_root, moved_away, plain_tree};
@@ -22,13 +26,18 @@ use path_text::{Errno, NoMemory};
 use race_core::Book;
 use root_ops::Reply;
 use scenario::{SCENARIOS, Scenario, Setting, Work, scenario_named};
+use service::tell_sessions;
 use std::alloc::{AllocError, AllocFailed};
 use std::io;
 use std::process::ExitCode;
+use std::sync::Wait;
 use thiserror::Error;
 use told::{ToldAnswer, ToldReply, ToldRow};
 use tree_model::{Answer, Row, Tree};
 use tree_slab::SlabTree;
+
+/// The name of the scenario of two sessions.
+const SESSIONS: &str = "sessions";
 
 /// Why the program ends without an answer.
 #[derive(Clone, Copy, Debug, PartialEq, Eq, Error)]
@@ -169,33 +178,57 @@ fn tell_indexed(rt: &HostRuntime, scenario: Scenario) -> Result<(), Fault> {
     tell_on(rt, work, setting, tree)
 }
 
-fn tell_all(rt: &HostRuntime) -> Result<(), Fault> {
+fn tell_plain_sessions<R: Wait>(rt: &HostRuntime, waits: &R) -> Result<(), Fault> {
+    println!(rt; "plain sessions")?;
+    tell_sessions(rt, waits, plain_tree(rt.alloc())?)
+}
+
+fn tell_indexed_sessions<R: Wait>(rt: &HostRuntime, waits: &R) -> Result<(), Fault> {
+    println!(rt; "indexed sessions")?;
+    let plain = plain_tree(rt.alloc())?;
+    let tree = SlabTree::from_list(rt.alloc(), &plain, CACHED_ENTRIES)?;
+    tell_sessions(rt, waits, tree)
+}
+
+fn tell_all<R: Wait>(rt: &HostRuntime, waits: &R) -> Result<(), Fault> {
     for scenario in SCENARIOS {
         tell_plain(rt, scenario)?;
         tell_indexed(rt, scenario)?;
     }
-    Ok(())
+    tell_plain_sessions(rt, waits)?;
+    tell_indexed_sessions(rt, waits)
 }
 
-fn run(rt: &HostRuntime) -> Result<(), Fault> {
+fn tell_one<R: Wait>(rt: &HostRuntime, waits: &R, tree: &str, name: &str) -> Result<(), Fault> {
+    if name == SESSIONS {
+        return match tree {
+            "plain" => tell_plain_sessions(rt, waits),
+            "indexed" => tell_indexed_sessions(rt, waits),
+            _ => Err(Fault::Usage),
+        };
+    }
+    match (tree, scenario_named(name)) {
+        ("plain", Some(scenario)) => tell_plain(rt, scenario),
+        ("indexed", Some(scenario)) => tell_indexed(rt, scenario),
+        _ => Err(Fault::Usage),
+    }
+}
+
+fn run<R: Wait>(rt: &HostRuntime, waits: &R) -> Result<(), Fault> {
     let words: Vec<String> = match std::env::args(rt) {
         Ok(words) => words.skip(1).collect(rt.alloc())?,
         Err(error) if error.kind() == io::ErrorKind::InvalidData => return Err(Fault::Usage),
         Err(_) => return Err(Fault::Refused(Errno::NoMemory)),
     };
     match words.as_slice() {
-        [] => tell_all(rt),
-        [tree, name] => match (tree.as_str(), scenario_named(name.as_str())) {
-            ("plain", Some(scenario)) => tell_plain(rt, scenario),
-            ("indexed", Some(scenario)) => tell_indexed(rt, scenario),
-            _ => Err(Fault::Usage),
-        },
+        [] => tell_all(rt, waits),
+        [tree, name] => tell_one(rt, waits, tree.as_str(), name.as_str()),
         _ => Err(Fault::Usage),
     }
 }
 
 fn main(rt: HostRuntime) -> ExitCode {
-    match run(&rt) {
+    match run(&rt, &rt) {
         Ok(()) => ExitCode::SUCCESS,
         Err(fault) => {
             // The status says it where standard error can't.

@@ -1,6 +1,7 @@
 //! Replies, answers and entries as lines. They are written as they are printed, and take no memory.
 use path_text::Names;
 use root_ops::Reply;
+use sessions::CloseCause;
 use std::fmt::{self, Display, Formatter, Write};
 use tree_model::{Answer, Kind, Row};
 
@@ -104,5 +105,20 @@ impl<'a> Display for ToldRow<'a> {
         let name = Text(self.0.name.bytes());
         let child = self.0.child.number();
         write!(f, "{parent} {name} {child}")
+    }
+}
+
+/// Why a service isn't closed.
+#[derive(Clone, Copy)]
+pub struct ToldCause(pub CloseCause);
+
+impl Display for ToldCause {
+    fn fmt<W: Write>(&self, f: &mut Formatter<W>) -> fmt::Result {
+        match self.0 {
+            CloseCause::Stranger(place) => write!(f, "stranger {place}"),
+            CloseCause::Missing(number) => write!(f, "missing {number}"),
+            CloseCause::Opening => f.write_str("opening"),
+            CloseCause::Mismatch(number) => write!(f, "mismatch {number}"),
+        }
     }
 }
