@@ -85,6 +85,7 @@ __attribute__((destructor)) static void tell(void) {
     struct rusage usage;
     char line[200];
     int length, file;
+    if (!is_begun) return;
     is_begun = 0;
     if (!log || (file = open(log, O_WRONLY | O_CREAT | O_TRUNC, 0600)) < 0) return;
     getrusage(RUSAGE_SELF, &usage);
@@ -94,6 +95,12 @@ __attribute__((destructor)) static void tell(void) {
                       failed, live, usage.ru_maxrss, threads.count);
     syscall(SYS_write, file, line, (size_t)length);
     close(file);
+}
+
+/* A program that may start threads ends by this. */
+void _exit(int status) {
+    tell();
+    for (;;) syscall(SYS_exit_group, status);
 }
 
 /* ---- memory */
