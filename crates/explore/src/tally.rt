@@ -30,8 +30,8 @@ fn is_not_after(turns: &[u32], others: &[u32]) -> bool
 }
 
 impl<T: Tree> Ending<T> {
-    // Whether the list isn't after the other: by the cuts, then by the changes of actor, then as lists.
-    fn is_at_most(&self, other: &Ending<T>) -> bool
+    /// Whether the list isn't after the other: by the cuts, then by the changes of actor, then as lists.
+    pub fn is_at_most(&self, other: &Ending<T>) -> bool
         ensures { result ≡ is_at_most (rank_of self.now) (rank_of other.now) }
     {
         if self.cuts != other.cuts {

@@ -1,9 +1,9 @@
 -- What a command line asks for.
 use Rattle.std.specs.Borrow.{Bor}
-use Rattle.std.specs.Prelude.{◌≡◌, ◌≢◌, ◌<◌, ◌≤◌, ℕ, List, Bool, true, false, Option, Some, None, codes}
+use Rattle.std.specs.Prelude.{◌≡◌, ◌≢◌, ◌<◌, ◌≤◌, ℕ, List, [], Bool, true, false, Option, Some, None, option_map, unwrap_or, codes}
 use Rattle.std.specs.Str.Parse.{digits_value, without_leading_plus}
 use Rattle.path_text.specs.declared.flags.Flags.{Flags}
-use Rattle.clap.specs.Matches.{found_of, first_value, one_text, subcommand_name_of}
+use Rattle.clap.specs.Matches.{found_of, first_value, matched_of, one_text, raw_values, subcommand_name_of}
 use Rattle.clap.specs.declared.parser.matches.ArgMatches.{ArgMatches}
 use Rattle.inroot.specs.declared.command.Drawing.{Drawing}
 use Rattle.inroot.specs.declared.command.Request.{Request}
@@ -11,6 +11,8 @@ use Rattle.inroot.specs.declared.command.Request.TheVariants as request
 use Rattle.inroot.specs.declared.command.Walking.{Walking}
 use Rattle.scripts.specs.declared.drawing.Form.{Form}
 use Rattle.scripts.specs.declared.drawing.Form.TheVariants.{Text, Svg}
+use Rattle.surveys.specs.declared.options.Options.{Options}
+use Rattle.surveys.specs.Options.{texts_in}
 
 -- the option's value is `true` or `false`; without one it isn't set
 pub record IsOption (matches : ArgMatches) (id : List ℕ) (set : Bool) : Type 0 where
@@ -50,10 +52,25 @@ pub record IsWorkers (matches : ArgMatches) (workers : ℕ) : Type 0 where
   pub some : 0 < workers
   pub few : workers ≤ 8
 
+-- the texts of an option, of each time that it comes
+abbrev pub texts_given : ArgMatches → List ℕ → List (List ℕ)
+texts_given matches id = unwrap_or (option_map raw_values (matched_of (found_of matches) id)) []
+
+-- the texts are those that were given
+pub record IsExploration (matches : ArgMatches) (options : Options) : Type 0 where
+  pub actors : texts_in options.actors.now ≡ texts_given matches (codes "actor")
+  pub cuts : option_map (λ text. text.now) options.cuts ≡ first_value (found_of matches) (codes "cuts")
+  pub schedules : option_map (λ text. text.now) options.schedules ≡ first_value (found_of matches) (codes "schedules")
+  pub never : texts_in options.never.now ≡ texts_given matches (codes "never")
+  pub always : texts_in options.always.now ≡ texts_given matches (codes "always")
+
 -- the request is that of the command that was named
 abbrev pub IsRequest : ArgMatches → Option Request → Type 0
 IsRequest matches (Some (request.Walk walk)) = subcommand_name_of matches ≡ Some (codes "walk")
 IsRequest matches (Some (request.Replay schedule)) = subcommand_name_of matches ≡ Some (codes "replay")
 IsRequest matches (Some (request.Draw drawing)) = subcommand_name_of matches ≡ Some (codes "draw")
 IsRequest matches (Some (request.Run workers)) = (subcommand_name_of matches ≡ Some (codes "run")) × (0 < workers) × (workers ≤ 8)
-IsRequest matches None = (subcommand_name_of matches ≢ Some (codes "replay")) × (subcommand_name_of matches ≢ Some (codes "draw"))
+IsRequest matches (Some (request.Explore options)) = subcommand_name_of matches ≡ Some (codes "explore")
+IsRequest matches None =
+    (subcommand_name_of matches ≢ Some (codes "replay")) × (subcommand_name_of matches ≢ Some (codes "draw"))
+    × (subcommand_name_of matches ≢ Some (codes "explore"))

@@ -1,12 +1,14 @@
 //! The command line.
 ghost use Rattle.std.specs.Prelude.{◌≡◌, codes, IfSome};
-ghost use Rattle.inroot.specs.Command.{IsAsked, IsDrawing, IsOption, IsRequest, IsSchedule, IsWorkers};
+ghost use Rattle.inroot.specs.Command.{IsAsked, IsDrawing, IsExploration, IsOption, IsRequest, IsSchedule, IsWorkers, texts_given};
+ghost use Rattle.surveys.specs.Options.{texts_in};
 
 use clap::builder::ValueParser;
 use clap::{Arg, ArgAction, ArgMatches, Command};
 use path_text::Flags;
 use scripts::{Form, WORKERS_MAX};
 use std::alloc::{AllocError, Global};
+use surveys::Options;
 
 // The names of the commands, the id of the path that `walk` takes, and the options by their ids, which are their names.
 const WALK: &str = "walk";
@@ -29,9 +31,22 @@ const SVG: &str = "svg";
 
 const WORKERS: &str = "workers";
 
+const EXPLORE: &str = "explore";
+
+const ACTOR: &str = "actor";
+
+const CUTS: &str = "cuts";
+
+const SCHEDULES: &str = "schedules";
+
+const NEVER: &str = "never";
+
+const ALWAYS: &str = "always";
+
 /// What help says of the statuses.
 const STATUSES: &str = "Statuses:
   0  the answer was written, also where it is a fault as 'fault ENOENT'
+  1  a property of explore fails; the answer was written
   2  a wrong command line
   3  a script that is refused
   4  any other fault
@@ -150,12 +165,86 @@ fn run<'a>(alloc: Global) -> Result<Command<'a>, AllocError> {
         .arg(workers)
 }
 
+/// What help says of `explore` beside its arguments.
+const EXPLORING: &str =
+    "SCRIPT is a JSON text on standard input, as for replay. Its schedule isn't used.
+
+Prints how many schedules there are, how many turns the longest has, and a block for
+each outcome: how many schedules lead to it, and one that replay takes, with how many
+calls it cuts. TEXT is a line's beginning, as 'reply 0 0 fault' or 'held 0 1'.
+
+Example:
+  inroot explore --actor 0 < examples/attacks/moved-out.json";
+
+// An option with a value.
+fn valued<'a>(
+    alloc: Global,
+    name: &'a str,
+    value: &'a str,
+    action: ArgAction,
+    help: &'a str,
+) -> Arg<'a> {
+    Arg::new(alloc, name)
+        .long(name)
+        .value_name(value)
+        .action(action)
+        .help(help)
+}
+
+// The command `explore`.
+fn explore<'a>(alloc: Global) -> Result<Command<'a>, AllocError> {
+    let actor = valued(
+        alloc,
+        ACTOR,
+        "I",
+        ArgAction::Append,
+        "Tell the replies of actor I alone; may be given more than once",
+    );
+    let cuts = valued(
+        alloc,
+        CUTS,
+        "K",
+        ArgAction::Set,
+        "Only schedules that cut calls at most K times",
+    );
+    let schedules = valued(
+        alloc,
+        SCHEDULES,
+        "N",
+        ArgAction::Set,
+        "Tell nothing past N schedules: 1 to 10000000, or 100000",
+    );
+    let never = valued(
+        alloc,
+        NEVER,
+        "TEXT",
+        ArgAction::Append,
+        "Tell whether no report has a line that begins so",
+    );
+    let always = valued(
+        alloc,
+        ALWAYS,
+        "TEXT",
+        ArgAction::Append,
+        "Tell whether every report has a line that begins so",
+    );
+    Command::new(alloc, EXPLORE)
+        .about("Run the actors' calls by every schedule, and print what came of them")
+        .override_usage("inroot explore [OPTIONS] < SCRIPT")
+        .after_help(EXPLORING)
+        .arg(actor)?
+        .arg(cuts)?
+        .arg(schedules)?
+        .arg(never)?
+        .arg(always)
+}
+
 /// The commands of the program.
 pub fn command<'a>(alloc: Global) -> Result<Command<'a>, AllocError> {
     Command::new(alloc, "inroot")
         .version("0.1.0")
         .about(
-            "Resolve paths below a root, replay and draw races, and run calls side by side, over the tree of a script on standard input",
+            "Resolve paths below a root, replay, draw and explore races, and run calls side by side, over the tree of a script on standard input",
         )
         .override_usage("inroot <COMMAND> < SCRIPT")
         .after_help(STATUSES)
@@ -163,7 +252,8 @@ pub fn command<'a>(alloc: Global) -> Result<Command<'a>, AllocError> {
         .subcommand(walk(alloc)?)?
         .subcommand(replay(alloc)?)?
         .subcommand(draw(alloc)?)?
-        .subcommand(run(alloc)?)
+        .subcommand(run(alloc)?)?
+        .subcommand(explore(alloc)?)
 }
 
 /// A path to walk, with these restrictions (openat2(2)).
@@ -189,6 +279,8 @@ pub enum Request<'a> {
     Draw(Drawing<'a>),
     /// By so many workers, 1 to 8.
     Run(usize),
+    /// With the texts of its options.
+    Explore(Options<'a>),
 }
 
 /// The walk that the arguments of `walk` ask for, if they have a path.
@@ -234,8 +326,28 @@ fn workers_asked(matches: &ArgMatches<'_>) -> Option<usize>
     Some(workers)
 }
 
+/// The texts of an option that may come more than once; none where it doesn't come.
+fn texts_of<'m>(matches: &'m ArgMatches<'_>, id: &str) -> &'m [&'m str]
+    ensures { texts_in result.now ≡ texts_given matches.now id.now }
+{
+    matches.get_strs(id).unwrap_or(&[])
+}
+
+/// The texts of the options that the arguments of `explore` have.
+fn exploration_asked<'m>(matches: &'m ArgMatches<'_>) -> Options<'m>
+    ensures { IsExploration matches.now result }
+{
+    Options {
+        actors: texts_of(matches, ACTOR),
+        cuts: matches.get_str(CUTS),
+        schedules: matches.get_str(SCHEDULES),
+        never: texts_of(matches, NEVER),
+        always: texts_of(matches, ALWAYS),
+    }
+}
+
 /// The request of a command line, if it has one.
-pub fn asked<'a>(matches: &ArgMatches<'a>) -> Option<Request<'a>>
+pub fn asked<'m>(matches: &'m ArgMatches<'_>) -> Option<Request<'m>>
     ensures { IsRequest matches.now result }
 {
     if let Some(matches) = matches.subcommand_matches(REPLAY) {
@@ -246,6 +358,9 @@ pub fn asked<'a>(matches: &ArgMatches<'a>) -> Option<Request<'a>>
     }
     if let Some(matches) = matches.subcommand_matches(RUN) {
         return Some(Request::Run(workers_asked(matches)?));
+    }
+    if let Some(matches) = matches.subcommand_matches(EXPLORE) {
+        return Some(Request::Explore(exploration_asked(matches)));
     }
     let walk = walk_asked(matches.subcommand_matches(WALK)?)?;
     Some(Request::Walk(walk))

@@ -1,12 +1,13 @@
 //! How the program ends.
 ghost use Rattle.std.specs.Prelude.{◌≡◌};
-ghost use Rattle.inroot.specs.Ending.{status_of, told_of, jobs_told_of};
+ghost use Rattle.inroot.specs.Ending.{status_of, told_of, jobs_told_of, options_told_of, explore_told_of};
 ghost use Rattle.inroot.specs.declared.ending.Fault.TheVariants.{Run};
 ghost use Rattle.scripts.specs.declared.fault.RunFault.TheVariants.{NoMemory as OutOfMemory};
 
 use path_text::NoMemory;
 use scripts::{DrawFault, JobsFault, RunFault, ServiceFault};
 use std::alloc::{AllocError, AllocFailed};
+use surveys::{ExploreFault, OptionFault};
 use thiserror::Error;
 
 /// Why the program ends without its answer.
@@ -25,6 +26,21 @@ pub enum Fault {
     NoRequest,
     #[error("{0}")]
     Run(RunFault),
+    /// An option of `explore` that has another form.
+    #[error("{0}")]
+    Options(OptionFault),
+    /// A property of `explore` fails. The answer says so.
+    #[error("a property fails")]
+    PropertyFails,
+    /// The first actor that is named and isn't there.
+    #[error("explore: actor {0}")]
+    ExploreActor(u32),
+    /// There are more schedules than are gone through.
+    #[error("explore: schedules")]
+    ExploreSchedules,
+    /// A schedule has more turns than are gone through.
+    #[error("explore: turns")]
+    ExploreTurns,
     /// There are more actors than a picture has columns.
     #[error("draw: actors")]
     DrawActors,
@@ -67,6 +83,30 @@ impl From<JobsFault> for Fault {
     }
 }
 
+impl From<OptionFault> for Fault {
+    ghost from_gives = { λ fault told. told ≡ options_told_of fault };
+
+    fn from(fault: OptionFault) -> Fault {
+        match fault {
+            OptionFault::NoMemory => Fault::Run(RunFault::NoMemory),
+            other => Fault::Options(other),
+        }
+    }
+}
+
+impl From<ExploreFault> for Fault {
+    ghost from_gives = { λ fault told. told ≡ explore_told_of fault };
+
+    fn from(fault: ExploreFault) -> Fault {
+        match fault {
+            ExploreFault::Run(fault) => Fault::Run(fault),
+            ExploreFault::NoSuchActor(actor) => Fault::ExploreActor(actor),
+            ExploreFault::TooManySchedules => Fault::ExploreSchedules,
+            ExploreFault::TooManyTurns => Fault::ExploreTurns,
+        }
+    }
+}
+
 impl From<NoMemory> for Fault {
     ghost from_gives = { λ _ told. told ≡ Run OutOfMemory };
 
@@ -83,21 +123,27 @@ impl From<AllocError> for Fault {
     }
 }
 
-/// The status that the program ends with: 0 with an answer, a fault of the path too, and with help or the version;
-/// 2 for a command line that is refused; 3 for a script that is refused; 4 for any other fault.
+/// The status that the program ends with: 0 with an answer, a fault of the path too, and with help or the version; 1 with
+/// an answer that says that a property fails; 2 for a command line that is refused; 3 for a script that is refused; 4 for
+/// any other fault.
 pub fn status(ended: &Result<(), Fault>) -> u8
     ensures { result ≡ status_of ended.now }
 {
     match ended {
         Ok(()) => 0,
-        Err(Fault::Usage | Fault::NotUtf8 | Fault::Schedule) => 2,
+        Err(Fault::PropertyFails) => 1,
         Err(Fault::Run(RunFault::Script(_))) => 3,
         Err(
             Fault::NoRequest
             | Fault::Run(_)
+            | Fault::Options(OptionFault::NoMemory)
+            | Fault::ExploreActor(_)
+            | Fault::ExploreSchedules
+            | Fault::ExploreTurns
             | Fault::DrawActors
             | Fault::DrawLines
             | Fault::Service(_),
         ) => 4,
+        Err(Fault::Usage | Fault::NotUtf8 | Fault::Schedule | Fault::Options(_)) => 2,
     }
 }

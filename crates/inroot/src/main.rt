@@ -1,8 +1,8 @@
-//! The program: resolves paths below a root, over the tree that a script on standard input gives, replays and draws scripts
-//! of calls that race, and lets workers make a script's calls.
+//! The program: resolves paths below a root, over the tree that a script on standard input gives, replays, draws and
+//! explores scripts of calls that race, and lets workers make a script's calls.
 //!
-//! It reads its command line, hands standard input and output to the library `scripts`, where it is stated what a
-//! run writes, and ends with the status that `ending` says of what happened.
+//! It reads its command line, hands standard input and output to the libraries `scripts` and `surveys`, where it is stated
+//! what a run writes, and ends with the status that `ending` says of what happened.
 #![tactic(auto)]
 
 mod command;
@@ -20,6 +20,7 @@ use std::process::ExitCode;
 use std::sync::Wait;
 use std::thread::Threads;
 use std::{env, io};
+use surveys::{explore_script, read_asked};
 
 /// Tells help, the version or a usage fault, and how the program ends after it.
 fn told(rt: &HostRuntime, error: &clap::Error) -> Result<(), Fault> {
@@ -85,14 +86,20 @@ fn run<R: Threads + Wait + Sync>(rt: &HostRuntime, threads: &R) -> Result<(), Fa
             draw(alloc, &mut input, &mut output, &order, asked.form)?;
         }
         Request::Run(workers) => run_jobs(threads, alloc, &mut input, &mut output, workers)?,
+        Request::Explore(options) => {
+            let asked = read_asked(alloc, options)?;
+            if !explore_script(alloc, &mut input, &mut output, &asked)? {
+                return Err(Fault::PropertyFails);
+            }
+        }
     }
     Ok(())
 }
 
-/// Tells a fault on standard error, and what was wanted in a second line; but for one that clap has told.
+/// Tells a fault on standard error, and what was wanted in a second line; but for one that clap or the answer has told.
 fn tell(rt: &HostRuntime, fault: Fault) -> io::Result<()> {
     match fault {
-        Fault::Usage => Ok(()),
+        Fault::Usage | Fault::PropertyFails => Ok(()),
         Fault::Run(run) if let Some(detail) = run.detail() => {
             eprintln!(rt; "inroot: {run}\ninroot: {detail}")
         }

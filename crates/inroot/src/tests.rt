@@ -4,11 +4,18 @@ use crate::ending::{Fault, status};
 use crate::order_of;
 use scripts::{Form, RunFault, ScriptFault, ServiceFault, TurnOrder};
 use std::alloc::Global;
+use surveys::{OptionFault, Options};
 
 #[test]
 fn ends_with_its_statuses(rt: HostRuntime) {
     for (ended, want) in [
         (Ok(()), 0),
+        (Err(Fault::PropertyFails), 1),
+        (Err(Fault::Options(OptionFault::Cuts)), 2),
+        (Err(Fault::Options(OptionFault::NoMemory)), 4),
+        (Err(Fault::ExploreActor(0)), 4),
+        (Err(Fault::ExploreSchedules), 4),
+        (Err(Fault::ExploreTurns), 4),
         (Err(Fault::Usage), 2),
         (Err(Fault::NotUtf8), 2),
         (Err(Fault::Schedule), 2),
@@ -26,14 +33,20 @@ fn ends_with_its_statuses(rt: HostRuntime) {
     }
 }
 
-/// The turns that a command line asks for with a replay or a drawing, and the drawing's form.
-fn asks_run<'a>(alloc: Global, words: &'a [&'a str]) -> Option<(Option<&'a str>, Option<Form>)> {
-    let matches = command(alloc).ok()?.try_get_matches_from(words).ok()?;
-    match asked(&matches)? {
-        Request::Replay(schedule) => Some((schedule, None)),
-        Request::Draw(drawing) => Some((drawing.schedule, Some(drawing.form))),
-        Request::Walk(_) | Request::Run(_) => None,
-    }
+/// Whether a command line asks for a replay or a drawing with these turns, and for the drawing in this form, or is none.
+fn asks_run(alloc: Global, words: &[&str], want: Option<(Option<&str>, Option<Form>)>) -> bool {
+    let Ok(command) = command(alloc) else {
+        return false;
+    };
+    let Ok(matches) = command.try_get_matches_from(words) else {
+        return want.is_none();
+    };
+    let told = match asked(&matches) {
+        Some(Request::Replay(schedule)) => Some((schedule, None)),
+        Some(Request::Draw(drawing)) => Some((drawing.schedule, Some(drawing.form))),
+        _ => None,
+    };
+    told == want
 }
 
 /// Whether a command line asks for this walk.
@@ -68,8 +81,53 @@ fn reads_its_command_line(rt: HostRuntime) {
         ),
         (&["inroot", "replay", "--svg"], None),
     ] {
-        assert!(rt; asks_run(rt.alloc(), words) == want, "{words:?}");
+        assert!(rt; asks_run(rt.alloc(), words, want), "{words:?}");
     }
+}
+
+/// Whether a command line asks for an exploration with these options.
+fn asks_explored(alloc: Global, words: &[&str], want: Options) -> bool {
+    let Ok(command) = command(alloc) else {
+        return false;
+    };
+    let Ok(matches) = command.try_get_matches_from(words) else {
+        return false;
+    };
+    let Some(Request::Explore(options)) = asked(&matches) else {
+        return false;
+    };
+    options.actors == want.actors
+        && options.cuts == want.cuts
+        && options.schedules == want.schedules
+        && options.never == want.never
+        && options.always == want.always
+}
+
+#[test]
+fn reads_what_is_to_be_explored(rt: HostRuntime) {
+    assert!(rt; asks_explored(rt.alloc(), &["inroot", "explore"], Options::default()));
+    let words = [
+        "inroot",
+        "explore",
+        "--actor",
+        "0",
+        "--never",
+        "held 0 2",
+        "--actor=2",
+        "--cuts",
+        "1",
+        "--schedules=7",
+        "--always",
+        "held 1 1",
+    ];
+    let want = Options {
+        actors: &["0", "2"],
+        cuts: Some("1"),
+        schedules: Some("7"),
+        never: &["held 0 2"],
+        always: &["held 1 1"],
+    };
+    assert!(rt; asks_explored(rt.alloc(), &words, want));
 }
 
 /// How many pieces of turns a text asks for: none where it stands for the script's.

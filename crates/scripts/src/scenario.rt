@@ -71,7 +71,8 @@ fn header_of(script: &Value) -> Result<Header, RunFault>
     Ok(Header { version, lines })
 }
 
-/// The plain tree of a script. Errors: `Tree` where there is no list of entries, then those of `list_of`.
+/// The plain tree of a script. Errors, in this order: `Tree` where there is no list of entries, `TooManyEntries` past
+/// `ENTRIES_MAX` of them, `TreeEntry` of the first that is refused; `NoMemory`.
 pub fn plain_tree_of(alloc: Global, script: &Value) -> Result<ListTree, RunFault>
     ensures ok { IfOk result (λ tree. (nodes_in (view script.now) ≡ Ok tree.nodes) × (tree.handles ≡ [])) }
     ensures tree { IfOk result IsState }
@@ -83,7 +84,7 @@ pub fn plain_tree_of(alloc: Global, script: &Value) -> Result<ListTree, RunFault
     list_of(alloc, entries)
 }
 
-/// What a script says. Errors: the first check that fails, in this order: those of its version and its lines, of its
+/// What a script says, read for this purpose. Errors: the first check that fails, in this order: those of its version and its lines, of its
 /// tree, of its actors, each with its calls, and of its schedule, or of the turns that are asked for in its place;
 /// `NoMemory`.
 pub fn scenario_of(

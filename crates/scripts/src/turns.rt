@@ -27,8 +27,8 @@ pub enum TurnOrder {
     Asked(Vec<Turns>),
 }
 
-/// The number that a text is the decimal digits of, with no zero before them.
-fn number_of(text: &str) -> Option<u32>
+/// The number below 2^32 that a text says, if it says one: in decimal digits, with no zero before them.
+pub fn number_of(text: &str) -> Option<u32>
     ensures cases { MatchOption result ((n : ℕ) → n < 2 ^ 32 → text.now ≢ decimal n) (λ n. text.now ≡ decimal n) }
     ensures only { (n : ℕ) → n < 2 ^ 32 → text.now ≡ decimal n → result ≡ Some n }
 {

@@ -1,3 +1,6 @@
 mod Tails
 mod NewOnes
 mod Pieces
+mod Ordered
+mod Numbers
+mod Scripts

@@ -1,5 +1,5 @@
 -- Numbers of lists, exact below a bound.
-use Rattle.std.specs.Prelude.{ℕ, List, min, sum_by, nat_lt, if◌then◌else◌, codes, decimal}
+use Rattle.std.specs.Prelude.{ℕ, List, nat_lt, if◌then◌else◌, codes, decimal}
 use Rattle.surveys.specs.declared.counts.TheConstants.{COUNT_MAX}
 
 -- a number of lists, or the bound where it is no less

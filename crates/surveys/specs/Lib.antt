@@ -1,7 +1,12 @@
 pub mod Changes
+pub mod Classes
 pub mod Counts
+pub mod Explore
+pub mod Options
+pub mod Order
 pub mod Outcome
 pub mod Property
 pub mod Schedule
 pub mod Survey
+pub mod Surveyed
 pub mod Telling

@@ -1,5 +1,5 @@
 -- The text of what a search found.
-use Rattle.std.specs.Prelude.{ℕ, ◌+◌, List, [], ◌∷◌, ◌++◌, Bool, not, length, min, sum_by, find, if◌then◌else◌, is_none, codes, decimal, Option, Some, None}
+use Rattle.std.specs.Prelude.{ℕ, List, [], ◌∷◌, ◌++◌, Bool, not, length, min, sum_by, find, if◌then◌else◌, is_none, codes, decimal, Option, Some, None}
 use Rattle.std.specs.List.{flat_map, list_all, list_any}
 use Rattle.path_text.specs.Name.{same_bytes}
 use Rattle.report_text.specs.Report.{numbered}

@@ -1,4 +1,7 @@
 //! A race of two actors, told by the reports of three of its schedules; and which texts are properties.
+mod options;
+mod scene;
+
 use crate::*;
 use path_text::{Bytes, Flags, Name, Names};
 use race_core::{ActorPlan, Planned, Plans, Ref, Report, World};

@@ -3,7 +3,7 @@ use Rattle.std.specs.Prelude.{◌&&◌}
 use Rattle.std.specs.List.{list_all}
 use Rattle.std.proofs.lemmas.Iterator.{YieldsList-from_slice}
 use Rattle.std.proofs.lemmas.Iterator.Search.{all_from_yields_List}
-use Rattle.surveys.specs.Property.{is_printed, names_a_line}
+use Rattle.surveys.specs.Property.{is_printed}
 use Rattle.surveys.proofs.property.is_property.Goals as goal
 
 pub returns-then-names_a_line : goal.returns-then-names_a_line

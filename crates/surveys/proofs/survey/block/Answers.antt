@@ -1,4 +1,4 @@
-use Rattle.std.proofs.Common.{◌≡◌, ◌++◌, ap, ◌∙◌, sym, subst, List, ℕ}
+use Rattle.std.proofs.Common.{◌≡◌, ◌++◌, ap, ◌∙◌, subst, List, ℕ}
 use Rattle.std.specs.Prelude.{codes, decimal}
 use Rattle.transcript.specs.Output.{Gains}
 use Rattle.surveys.specs.Counts.{count_words}

@@ -1,6 +1,6 @@
-use Rattle.std.proofs.Common.{◌≡◌, ◌+◌, ◌≤◌, ◌++◌, ℕ, List, refl, sym, ap, ◌∙◌, arith, true, false, take, drop}
+use Rattle.std.proofs.Common.{◌+◌, ◌++◌, ℕ, List, sym, ap, ◌∙◌, arith, take, drop}
 use Rattle.surveys.specs.declared.survey.Told.{Told}
-use Rattle.surveys.specs.Survey.{block_text, is_new, new_among}
+use Rattle.surveys.specs.Survey.{block_text, new_among}
 use Rattle.report_text.specs.Report.{numbered}
 use Rattle.surveys.proofs.NewOnes.{one_more, none_more}
 use Rattle.surveys.proofs.survey.blocks.Goals as goal

@@ -1,0 +1,46 @@
+//! What is told of the outcomes that a search finds.
+ghost use Rattle.std.specs.Prelude.{◌≡◌, IfOk, map};
+ghost use Rattle.surveys.specs.Classes.{tell};
+
+use crate::survey::Told;
+use crate::telling::{Found, told_of};
+use explore::Class;
+use path_text::NoMemory;
+use std::alloc::Global;
+use tree_model::{Snapshot, Tree};
+
+// What is told of an outcome.
+fn tell<T: Tree>(
+    alloc: Global,
+    named: &[u32],
+    opening: &Snapshot,
+    actors: u32,
+    class: &Class<T>,
+) -> Result<Told, NoMemory>
+    ensures { IfOk result (λ told. told ≡ tell named.now opening.now actors class.now) }
+{
+    let found = Found {
+        lists: class.lists,
+        cuts: class.least.cuts,
+        turns: &class.least.turns,
+        report: &class.least.report,
+    };
+    told_of(alloc, named, opening, actors, &found)
+}
+
+/// What is told of each outcome, where so many actors are there and these are named. NoMemory where room was refused.
+pub(crate) fn tell_all<T: Tree>(
+    alloc: Global,
+    named: &[u32],
+    opening: &Snapshot,
+    actors: u32,
+    classes: &[Class<T>],
+) -> Result<Vec<Told>, NoMemory>
+    ensures { IfOk result (λ all. all.items ≡ map (tell named.now opening.now actors) classes.now) }
+{
+    let mut all = Vec::with_capacity(alloc, classes.len())?;
+    for class in classes {
+        all.push(tell(alloc, named, opening, actors, class)?)?;
+    }
+    Ok(all)
+}

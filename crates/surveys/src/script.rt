@@ -1,0 +1,115 @@
+//! A script explored: all schedules of its world are gone through, and what they come to is written.
+ghost use Rattle.std.specs.Prelude.{◌≡◌, ◌≢◌, [], Ok, IfOk, IfErr, IfSome, MatchResult};
+ghost use Rattle.scripts.specs.declared.fault.RunFault.TheVariants.{NoMemory as OutOfMemory};
+ghost use Rattle.scripts.specs.declared.turns.TurnOrder.TheVariants.{OfScript};
+ghost use Rattle.scripts.specs.Scenario.{said_by, said_for, IsPlayable, IsReadingFaultOf};
+ghost use Rattle.surveys.specs.declared.script.ExploreFault.TheVariants as explore_fault;
+ghost use Rattle.surveys.specs.Explore.{told_by, IsExplore, IsNoSurvey, IsSurveyOf};
+
+use crate::search::{Asked, Survey, SurveyFault, survey_scene};
+use explore::Scene;
+use scripts::{
+    Purpose, RunFault, Scenario, TurnOrder, plain_tree_of, read_script, scenario_of, value_of,
+};
+use std::alloc::Global;
+use std::io::{Read, Write};
+use thiserror::Error;
+use tree_list::ListTree;
+
+/// Why nothing was told. Nothing was written before it, but by a writer that failed.
+#[derive(Clone, Copy, Debug, PartialEq, Eq, Error)]
+pub enum ExploreFault {
+    #[error("{0}")]
+    Run(RunFault),
+    /// The first actor that is named and isn't there.
+    #[error("explore: actor {0}")]
+    NoSuchActor(u32),
+    /// There are more schedules than are gone through.
+    #[error("explore: schedules")]
+    TooManySchedules,
+    /// A schedule has more than 100,000 turns.
+    #[error("explore: turns")]
+    TooManyTurns,
+}
+
+impl From<RunFault> for ExploreFault {
+    ghost from_gives = { λ fault told. told ≡ explore_fault.Run fault };
+
+    fn from(fault: RunFault) -> ExploreFault {
+        ExploreFault::Run(fault)
+    }
+}
+
+// How it is told that there is no survey.
+fn told_by(fault: SurveyFault) -> ExploreFault
+    ensures { result ≡ told_by fault }
+{
+    match fault {
+        SurveyFault::NoSuchActor(actor) => ExploreFault::NoSuchActor(actor),
+        SurveyFault::TooManySchedules => ExploreFault::TooManySchedules,
+        SurveyFault::TooManyTurns => ExploreFault::TooManyTurns,
+        SurveyFault::NoMemory => ExploreFault::Run(RunFault::NoMemory),
+    }
+}
+
+// What a script says, and its tree as a list. Errors as of `read_scenario`.
+fn read_scene<R: Read>(alloc: Global, reader: &mut R) -> Result<(Scenario, ListTree), RunFault>
+    ensures said { IfOk result (λ read. IfSome (R.remaining reader.old) (λ input. said_for OfScript input ≡ Ok (said_by read.0))) }
+    ensures playable { IfOk result (λ read. IsPlayable (said_by read.0)) }
+    ensures none { IfOk result (λ read. read.0.tree.handles ≡ []) }
+    ensures same { IfOk result (λ read. read.1 ≡ read.0.tree) }
+    ensures err { IfErr result (λ fault. IfSome (R.remaining reader.old) (λ input. IsReadingFaultOf (said_for OfScript input) fault)) }
+{
+    let bytes = read_script(alloc, reader)?;
+    let script = value_of(alloc, &bytes)?;
+    let scenario = scenario_of(alloc, Purpose::Turns, &script, &TurnOrder::OfScript)?;
+    let tree = plain_tree_of(alloc, &script)?;
+    Ok((scenario, tree))
+}
+
+// All schedules of what a script says gone through. Errors as of `explore_script`, but for those of reading and writing.
+fn surveyed(
+    alloc: Global,
+    scenario: Scenario,
+    tree: ListTree,
+    asked: &Asked,
+) -> Result<Survey, ExploreFault>
+    requires same { tree ≡ scenario.tree }
+    requires none { scenario.tree.handles ≡ [] }
+    requires playable { IsPlayable (said_by scenario) }
+    ensures survey { MatchResult result (λ survey. IsSurveyOf asked.now survey.holds (said_by scenario) survey.text) (IsNoSurvey asked.now (said_by scenario)) }
+    ensures some { IfOk result (λ survey. survey.text ≢ []) }
+{
+    let (plans, lines) = (scenario.plans, scenario.lines);
+    if (lines as usize) < plans.len() {
+        return Err(ExploreFault::Run(RunFault::BookFull));
+    }
+    let scene = Scene { tree, plans, lines };
+    match survey_scene(alloc, &scene, asked) {
+        Ok(survey) => Ok(survey),
+        Err(fault) => Err(told_by(fault)),
+    }
+}
+
+/// Reads a script, goes through all schedules of its world, those with at most so many cuts, and writes what they come to.
+/// The script's own schedule is checked and not used. Whether no property fails.
+///
+/// Errors, in this order: those of `read_scenario`; `BookFull` where the script gives its book fewer lines than it has
+/// actors; `NoSuchActor` of the first that is named and isn't there; `TooManySchedules` where there are more than are gone
+/// through, and `TooManyTurns` where one has more than 100,000, whichever is met first; `NoMemory`; `WriteFailed`. Nothing is
+/// written before the text is whole.
+pub fn explore_script<R: Read, W: Write>(
+    alloc: Global,
+    reader: &mut R,
+    writer: &mut W,
+    asked: &Asked,
+) -> Result<bool, ExploreFault>
+    ensures run { IsExplore asked.now (R.remaining reader.old) (W.contents writer.old) (W.contents writer.new) result }
+{
+    let (scenario, tree) = read_scene(alloc, reader)?;
+    let survey = surveyed(alloc, scenario, tree, asked)?;
+    match writer.write_all(survey.text.as_slice()) {
+        Ok(()) => Ok(survey.holds),
+        Err(_) => Err(ExploreFault::Run(RunFault::WriteFailed)),
+    }
+}

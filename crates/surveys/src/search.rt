@@ -1,0 +1,128 @@
+//! All schedules of a world gone through, and told.
+ghost use Rattle.std.specs.Prelude.{◌≡◌, ◌≤◌, length, find, nat_le, IfOk, MatchResult};
+ghost use Rattle.race_core.specs.declared.opening.TheConstants.{ACTORS_MAX as MOST_ACTORS};
+ghost use Rattle.surveys.specs.declared.search.SurveyFault.TheVariants as survey_fault;
+ghost use Rattle.surveys.specs.Survey.{survey_text, all_hold};
+ghost use Rattle.surveys.specs.Surveyed.{tellings, IsSurvey, WhyNoSurvey};
+
+use crate::classes::tell_all;
+use crate::order::in_order;
+use crate::property::Property;
+use crate::survey::{all_hold, survey_text};
+use explore::{Findings, Limits, Scene, SearchFault, explore};
+use path_text::NoMemory;
+use std::alloc::Global;
+use thiserror::Error;
+use transcript::Output;
+use tree_list::ListTree;
+use tree_model::Tree;
+
+/// The most turns of a list that is gone through.
+pub const TURNS_MAX: u32 = 100_000;
+
+/// What is asked of a world.
+#[derive(Debug, Drop)]
+pub struct Asked {
+    /// The actors whose replies alone make an outcome; with none the replies of all, the tree and the open handles do.
+    pub named: Vec<u32>,
+    /// Only the lists with at most so many cuts, or all of them.
+    pub cuts: Option<u64>,
+    /// The most lists that are gone through.
+    pub most: u64,
+    /// Properties of every report, whatever actors are named.
+    pub properties: Vec<Property>,
+}
+
+/// What is told, and whether no property fails.
+#[derive(Debug, Drop)]
+pub struct Survey {
+    pub text: Output,
+    pub holds: bool,
+}
+
+/// Why nothing is told.
+#[derive(Clone, Copy, Debug, PartialEq, Eq, Error)]
+pub enum SurveyFault {
+    /// The first actor that is named and isn't there.
+    #[error("actor {0}")]
+    NoSuchActor(u32),
+    /// There are more schedules than are gone through.
+    #[error("schedules")]
+    TooManySchedules,
+    /// A schedule has more than 100,000 turns.
+    #[error("turns")]
+    TooManyTurns,
+    /// Room was refused.
+    #[error("no memory")]
+    NoMemory,
+}
+
+impl From<NoMemory> for SurveyFault {
+    ghost from_gives = { λ _ fault. fault ≡ survey_fault.NoMemory };
+
+    fn from(_error: NoMemory) -> SurveyFault {
+        SurveyFault::NoMemory
+    }
+}
+
+// The first of these that is none of so many actors.
+fn first_foreign(named: &[u32], actors: usize) -> Option<u32>
+    ensures { result ≡ find (λ i. nat_le actors i) named.now }
+{
+    for actor in named {
+        if actors <= *actor as usize {
+            return Some(*actor);
+        }
+    }
+    None
+}
+
+// What is told of what was found.
+fn survey_of(
+    alloc: Global,
+    scene: &Scene,
+    asked: &Asked,
+    found: Findings<ListTree>,
+) -> Result<Survey, NoMemory>
+    requires { length scene.now.plans.items ≤ MOST_ACTORS }
+    ensures text { IfOk result (λ survey. survey.text ≡ survey_text found.lists found.turns (tellings asked.now scene.now.tree scene.now.plans.items found.classes.items) asked.now.properties.items) }
+    ensures holds { IfOk result (λ survey. survey.holds ≡ all_hold (tellings asked.now scene.now.tree scene.now.plans.items found.classes.items) asked.now.properties.items) }
+{
+    let (lists, turns) = (found.lists, found.turns as u64);
+    let opening = scene.tree.snapshot(alloc)?;
+    let actors = scene.plans.len() as u32;
+    let classes = in_order(alloc, found.classes)?;
+    let all = tell_all(alloc, &asked.named, &opening, actors, &classes)?;
+    let mut text = Output::new(alloc);
+    survey_text(&mut text, lists, turns, &all, &asked.properties)?;
+    let holds = all_hold(&all, &asked.properties);
+    Ok(Survey { text, holds })
+}
+
+/// Goes through all full lists of turns of the world of a tree and of plans, those with at most so many cuts, and tells what
+/// they come to: how many there are, how many turns the longest has, each outcome once with how many lead to it and a
+/// schedule for the least of them, and whether each property holds of every one.
+///
+/// Errors: `NoSuchActor` of the first that is named and isn't there, before anything else; `TooManySchedules` and
+/// `TooManyTurns` beyond the limits, whichever is met first; `NoMemory` where room was refused, and where the world can't be
+/// made.
+pub fn survey_scene(alloc: Global, scene: &Scene, asked: &Asked) -> Result<Survey, SurveyFault>
+    requires { length scene.now.plans.items ≤ MOST_ACTORS }
+    ensures { MatchResult result (λ survey. IsSurvey asked.now scene.now.tree scene.now.plans.items scene.now.lines survey.holds survey.text) (WhyNoSurvey asked.now scene.now.tree scene.now.plans.items scene.now.lines) }
+{
+    if let Some(actor) = first_foreign(&asked.named, scene.plans.len()) {
+        return Err(SurveyFault::NoSuchActor(actor));
+    }
+    let limits = Limits {
+        lists: asked.most,
+        turns: TURNS_MAX,
+        cuts: asked.cuts,
+    };
+    match explore(alloc, scene, limits) {
+        Ok(found) => Ok(survey_of(alloc, scene, asked, found)?),
+        Err(SearchFault::TooManyTurns) => Err(SurveyFault::TooManyTurns),
+        Err(SearchFault::TooManyLists) => Err(SurveyFault::TooManySchedules),
+        // A world never has more actors than it may have.
+        Err(SearchFault::TooManyActors | SearchFault::NoMemory) => Err(SurveyFault::NoMemory),
+    }
+}
