@@ -26,7 +26,7 @@ returns c =
     c.deref-2.ensures.value ∙ c.in_ok-roots.ensures ∙ ap (replicate n) (c.first_plan-first.ensures.root ∙ ap first_root c.deref.ensures.value) in
     record {
       begun = subst (λ (f : RunFault). IsNoService n (said_by s) (Run f)) (sym c.told_of_opening.ensures)
-      (told_refused n (said_by s) cause
-      (why_refused n (said_by s) cause c.requires.playable c.requires.few
-      (cause_is n s.tree s.plans.items s.schedule.items s.lines c.deref-2.result.now c.requires.none same cause c.in-Err.ensures.cause)));
+          (told_refused n (said_by s) cause
+          (why_refused n (said_by s) cause c.requires.playable c.requires.few
+          (cause_is n s.tree s.plans.items s.schedule.items s.lines c.deref-2.result.now c.requires.none same cause c.in-Err.ensures.cause)));
     }
