@@ -1,51 +1,15 @@
 //! A race of two actors, gone through in full.
 use crate::*;
-use explore::Scene;
-use path_text::{Bytes, Flags, Name, Names};
-use race_core::{ActorPlan, Planned, Plans, Ref};
-use root_ops::{Op, Request};
 use std::alloc::Global;
 use std::test::Fail;
-use tree_list::{Entry, ListTree, New};
-use tree_model::StepOf;
-
-fn names_of(alloc: Global, path: &str) -> Result<Names, Fail> {
-    let mut names = Names::new(alloc);
-    for name in path.split('/').filter(|name| !name.is_empty()) {
-        names.push(Name::new(alloc, name.as_bytes())?)?;
-    }
-    Ok(names)
-}
-
-fn plan_of(alloc: Global, call: Planned) -> Result<ActorPlan, Fail> {
-    let mut calls = Plans::new(alloc);
-    calls.push(call)?;
-    let root = names_of(alloc, "/c")?;
-    Ok(ActorPlan { root, calls })
-}
 
 /// An actor resolves `e/..` below `/c`, and another removes `e`.
-fn race(alloc: Global) -> Result<Scene, Fail> {
-    let mut entries = Vec::new(alloc);
-    for path in ["/c", "/c/e"] {
-        let at = names_of(alloc, path)?;
-        let what = New::Dir;
-        entries.push(Entry { at, what })?;
-    }
-    let op = Op::Resolve(Bytes::from_slice(alloc, b"e/..".as_slice())?);
-    let flags = Flags::default();
-    let resolve = Planned::Call(Request { op, flags });
-    let remove = Planned::Single(StepOf::RemoveDir(Ref::Root, Name::new(alloc, b"e".as_slice())?));
-    let mut plans = Vec::new(alloc);
-    plans.push(plan_of(alloc, resolve)?)?;
-    plans.push(plan_of(alloc, remove)?)?;
-    let tree = ListTree::from_entries(alloc, &entries)?;
-    let lines = 100;
-    Ok(Scene { tree, plans, lines })
-}
+const RACE: &str = r#"{"version":1,"tree":[["dir","/c"],["dir","/c/e"]],"actors":[
+{"root":"/c","calls":[{"op":"resolve","path":"e/.."}]},
+{"root":"/c","calls":[{"op":"step","step":"remove_dir","on":"root","name":"e"}]}]}"#;
 
-/// What is told of the race, with two properties, or how its fault is told.
-fn told_of(alloc: Global, named: &[u32], cuts: Option<u64>, most: u64) -> Result<Vec<u8>, Fail> {
+/// What is asked of it, with three properties.
+fn asked_of(alloc: Global, named: &[u32], cuts: Option<u64>, most: u64) -> Result<Asked, Fail> {
     let mut properties = Vec::new(alloc);
     for (rule, text) in [
         (Rule::Never, "reply 0 0 fault EAGAIN"),
@@ -57,14 +21,19 @@ fn told_of(alloc: Global, named: &[u32], cuts: Option<u64>, most: u64) -> Result
         }
     }
     let named = Vec::from_slice(alloc, named)?;
-    let asked = Asked {
+    Ok(Asked {
         named,
         cuts,
         most,
         properties,
-    };
-    match survey_scene(alloc, &race(alloc)?, &asked) {
-        Ok(survey) => Ok(Vec::from_slice(alloc, survey.text.as_slice())?),
+    })
+}
+
+/// What is written of the race, or how its fault is told.
+fn written_of(alloc: Global, asked: &Asked) -> Result<Vec<u8>, Fail> {
+    let mut written = Vec::new(alloc);
+    match explore_script(alloc, &mut RACE.as_bytes(), &mut written, asked) {
+        Ok(_) => Ok(written),
         Err(fault) => {
             let told = format!(in alloc; "{fault}")?;
             Ok(Vec::from_slice(alloc, told.as_str().as_bytes())?)
@@ -126,10 +95,11 @@ fn tells_every_schedule(rt: HostRuntime) -> Result<(), Fail> {
         ([].as_slice(), None, 6, ALL),
         (&[1], None, 6, SECOND_ALONE),
         (&[0], Some(0), 6, UNCUT),
-        (&[], None, 5, "schedules"),
-        (&[0, 2], None, 6, "actor 2"),
+        (&[], None, 5, "explore: schedules"),
+        (&[0, 2], None, 6, "explore: actor 2"),
     ] {
-        let told = told_of(rt.alloc(), named, cuts, most)?;
+        let asked = asked_of(rt.alloc(), named, cuts, most)?;
+        let told = written_of(rt.alloc(), &asked)?;
         assert!(rt; told.as_slice() == want.as_bytes(), "{want}");
     }
     Ok(())
