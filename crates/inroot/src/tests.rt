@@ -33,20 +33,29 @@ fn ends_with_its_statuses(rt: HostRuntime) {
     }
 }
 
-/// Whether a command line asks for a replay or a drawing with these turns, and for the drawing in this form, or is none.
-fn asks_run(alloc: Global, words: &[&str], want: Option<(Option<&str>, Option<Form>)>) -> bool {
+/// Turns that are asked for with a replay or a drawing, and the drawing's form.
+type Run<'a> = (Option<&'a str>, Option<Form>);
+
+fn is_run(want: Option<Run>, schedule: Option<&str>, form: Option<Form>) -> bool {
+    match want {
+        Some((turns, wanted)) => turns == schedule && wanted == form,
+        None => false,
+    }
+}
+
+/// Whether a command line asks for this replay or drawing, or for none.
+fn asks_run(alloc: Global, words: &[&str], want: Option<Run>) -> bool {
     let Ok(command) = command(alloc) else {
         return false;
     };
     let Ok(matches) = command.try_get_matches_from(words) else {
         return want.is_none();
     };
-    let told = match asked(&matches) {
-        Some(Request::Replay(schedule)) => Some((schedule, None)),
-        Some(Request::Draw(drawing)) => Some((drawing.schedule, Some(drawing.form))),
-        _ => None,
-    };
-    told == want
+    match asked(&matches) {
+        Some(Request::Replay(schedule)) => is_run(want, schedule, None),
+        Some(Request::Draw(drawing)) => is_run(want, drawing.schedule, Some(drawing.form)),
+        _ => want.is_none(),
+    }
 }
 
 /// Whether a command line asks for this walk.
