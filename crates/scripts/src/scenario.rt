@@ -84,9 +84,9 @@ pub fn plain_tree_of(alloc: Global, script: &Value) -> Result<ListTree, RunFault
     list_of(alloc, entries)
 }
 
-/// What a script says, read for this purpose. Errors: the first check that fails, in this order: those of its version and its lines, of its
-/// tree, of its actors, each with its calls, and of its schedule, or of the turns that are asked for in its place;
-/// `NoMemory`.
+/// What a script says, read for this purpose. Errors: the first check that fails, in this order: those of its version and
+/// its lines, of its tree, of its actors, each with its calls, and of its schedule, or of the turns that are asked for in its
+/// place; `NoMemory`.
 pub fn scenario_of(
     alloc: Global,
     purpose: Purpose,

@@ -1,5 +1,5 @@
-//! The library's calls, on scripts; the walk's rows among another actor's steps in `races`, replays in `replays`, jobs in `served`, over both trees in
-//! `both`, and drawings in `pictures`.
+//! The library's calls, on scripts; the walk's rows among another actor's steps in `races`, replays in `replays`, jobs
+//! in `served`, over both trees in `both`, and drawings in `pictures`.
 mod attacked;
 mod both;
 mod pictures;
