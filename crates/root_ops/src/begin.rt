@@ -3,7 +3,7 @@ ghost use Rattle.std.specs.Prelude.{◌≡◌, ◌||◌, [], Ok, IfOk};
 ghost use Rattle.path_text.specs.Split.{split_of};
 ghost use Rattle.path_text.specs.Text.{text_fault, reading_of};
 ghost use Rattle.root_ops.specs.Order.{held_by, walks, on_path, on_entry, from_entry, unless_fault, lacks, single, begins_without, releases, is_single, same_owner, ends, fault, make_way, makes, make_missing, clears, clear_entry};
-ghost use Rattle.root_ops.specs.View.{HoldsNoWalk};
+ghost use Rattle.root_ops.specs.View.{HoldsNoCall};
 ghost use Rattle.step_resolver.specs.View.{way_from};
 ghost use Rattle.bulk_ops.specs.MakeAllOrder as make;
 ghost use Rattle.bulk_ops.specs.RemoveAllOrder as remove;
@@ -53,7 +53,7 @@ fn one_has_slash(old: &Split, new: &Split) -> bool
 
 // The box for what will be due. It is asked for first, since a walk under way can't be let go.
 fn room(alloc: Global, below: Below) -> Result<Box<Doing>, NoMemory>
-    ensures { IfOk result (λ state. HoldsNoWalk state.value) }
+    ensures { IfOk result (λ state. HoldsNoCall state.value) }
 {
     match Box::new(alloc, Doing::stand_in(below.handle())) {
         Ok(state) => Ok(state),

@@ -116,10 +116,7 @@ impl Below {
         ensures kept { IsNext self.now result }
     {
         match turn {
-            Turn::More(walk) => Next::Due(Doing::Walking {
-                walk,
-                aim: Aim::Renames(old, renaming),
-            }),
+            Turn::More(walk) => Next::Walks(walk, Aim::Renames(old, renaming)),
             Turn::Found(standing) => self.rename(old, standing.handle(), renaming),
             // None is after the deepest directory.
             Turn::Partial(standing, _rest) => {
@@ -164,7 +161,7 @@ impl Below {
         ensures kept { IsNext self.now result }
     {
         match turn {
-            Turn::More(walk) => Next::Due(Doing::Walking { walk, aim }),
+            Turn::More(walk) => Next::Walks(walk, aim),
             Turn::Found(standing) => self.reached(alloc, aim, standing),
             // None is after the deepest directory.
             Turn::Partial(standing, _rest) => {
@@ -235,17 +232,15 @@ impl Below {
         }
     }
 
-    /// What the answer to the step that is due comes to.
+    /// What the answer to the step that is due comes to, where no walk is under way.
     pub(crate) fn taken(&self, alloc: Global, doing: Doing, answer: Answer) -> Next
         requires { IsOurs self.now doing }
         ensures turn { TakesTo self.now (doing_view doing) answer (next_view result) }
         ensures kept { IsNext self.now result }
     {
         match doing {
-            Doing::Walking { walk, aim } => {
-                let turn = walk.take(alloc, answer);
-                self.walked(alloc, aim, turn)
-            }
+            // A walk takes its answer itself.
+            Doing::Aimed(_) => unreachable!(),
             Doing::Acting {
                 wanted,
                 step: _,

@@ -1,6 +1,7 @@
 //! A call that is under way.
-ghost use Rattle.std.specs.Prelude.{◌≡◌, ◌<◌, ◌≤◌, true, IfOk, IsOk};
+ghost use Rattle.std.specs.Prelude.{◌≡◌, ◌<◌, ◌≤◌, Bool, true, IfOk, IsOk};
 ghost use Rattle.step_resolver.specs.View.{opens_a_name};
+ghost use Rattle.step_resolver.specs.TurnView as walk;
 
 use crate::aim::{Aim, Change, Wanted};
 use crate::answers::reply_to;
@@ -12,7 +13,7 @@ use path_text::{NoMemory, Rule};
 use std::alloc::Global;
 use std::marker::Model;
 use std::mem;
-use step_resolver::Root;
+use step_resolver::{Root, Turn};
 use tree_model::{Answer, Step, StepOf};
 use walk_plan::Goal;
 
@@ -48,8 +49,8 @@ pub enum CallTurn {
 }
 
 impl Call {
-    ghost use Rattle.root_ops.specs.Order.{due, steps_left, is_closing};
-    ghost use Rattle.root_ops.specs.View.{is_nameless, next_view, HoldsNoWalk, IsNext};
+    ghost use Rattle.root_ops.specs.Order.{due, steps_left, is_closing, walked, way_of, goal_of};
+    ghost use Rattle.root_ops.specs.View.{is_nameless, is_aimed, aim_of, next_view, HoldsNoCall, IsNext};
     ghost use Rattle.root_ops.specs.TurnView.{below_of, turn_view, Keeps, StartsTo, TakesTo, steps_to_come, STEPS_MAX};
 
     /// Begins a call below the root. The path texts are read and split first, the old one of a Rename before the new one.
@@ -109,6 +110,7 @@ impl Call {
     {
         match &self.stage {
             Stage::Releasing(handle) => Ok(StepOf::Close(*handle)),
+            Stage::Walking(walk, _) => walk.due(alloc),
             Stage::Boxed(doing) => doing.due(alloc),
         }
     }
@@ -138,8 +140,12 @@ impl Call {
         let Call { below, stage } = self;
         match stage {
             Stage::Releasing(_) => CallTurn::Done(reply_to(Wanted::Done, answer)),
+            Stage::Walking(walk, state) => {
+                let turn = walk.take(alloc, answer);
+                Call::walked(alloc, below, state, turn)
+            }
             Stage::Boxed(mut state) => {
-                // Nothing can be moved out of a box: a step that holds no walk stands in until the next one is known.
+                // Nothing can be moved out of a box: a step that holds no call stands in until the next one is known.
                 let doing = mem::replace(&mut *state, Doing::stand_in(below.handle()));
                 let next = below.taken(alloc, doing, answer);
                 Call::turned(below, state, next)
@@ -147,14 +153,35 @@ impl Call {
         }
     }
 
+    // Where the walk has come to whose aim is in the box. As long as it goes on, the box stays as it is.
+    fn walked(alloc: Global, below: Below, mut state: Box<Doing>, turn: Turn) -> CallTurn
+        requires aimed { is_aimed state.value ≡ true }
+        requires ours { walk.Keeps below.root.owner (way_of below (aim_of state.value)) turn }
+        ensures turn { (room : Bool) × (turn_view result ≡ walked below room (aim_of state.value) (walk.turn_view (goal_of (aim_of state.value)) turn)) }
+        ensures kept { Keeps below result }
+    {
+        if let Turn::More(walk) = turn {
+            let stage = Stage::Walking(walk, state);
+            return CallTurn::More(Call { below, stage });
+        }
+        let aim = state.take_aim(below.handle());
+        let next = below.walked(alloc, aim, turn);
+        Call::turned(below, state, next)
+    }
+
     // What comes next takes the place of the step that stood in.
     pub(crate) fn turned(below: Below, mut state: Box<Doing>, next: Next) -> CallTurn
-        requires stand_in { HoldsNoWalk state.value }
+        requires stand_in { HoldsNoCall state.value }
         requires next { IsNext below next }
         ensures turn { turn_view result ≡ next_view next }
         ensures kept { Keeps below result }
     {
         match next {
+            Next::Walks(walk, aim) => {
+                mem::replace(&mut *state, Doing::Aimed(aim)).let_go();
+                let stage = Stage::Walking(walk, state);
+                CallTurn::More(Call { below, stage })
+            }
             Next::Due(doing) => {
                 // What comes back is the one that stood in. An assignment would have to drop it, and no step can be.
                 mem::replace(&mut *state, doing).let_go();

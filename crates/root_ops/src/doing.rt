@@ -1,13 +1,14 @@
 //! What a call holds while the step that is due is made, and what its answer comes to.
 ghost use Rattle.std.specs.Prelude.{◌≡◌, true, IfOk, IsOk};
 ghost use Rattle.root_ops.specs.declared.below.Below.{Below};
-ghost use Rattle.root_ops.specs.View.{HoldsNoWalk, IsOurs, is_nameless};
+ghost use Rattle.root_ops.specs.View.{HoldsNoCall, IsOurs, is_nameless, is_aimed, aim_of};
 
 use crate::aim::{Aim, Renaming, Wanted};
 use crate::reply::Reply;
 use bulk_ops::{MkdirAll, RemoveAll};
 use path_text::NoMemory;
 use std::alloc::Global;
+use std::mem;
 use step_resolver::Walk;
 use tree_model::{HandleNo, Step, StepOf};
 
@@ -23,11 +24,8 @@ pub(crate) enum Handles {
 /// The step that is due, by what is held while it is made.
 #[derive(Debug)]
 pub(crate) enum Doing {
-    /// That of a walk, and what is done with the object that it finds.
-    Walking {
-        walk: Walk,
-        aim: Aim,
-    },
+    /// That of a walk, which lies beside the box: what is done with the object that it finds.
+    Aimed(Aim),
     /// The call's own step, whose answer gives the reply; then the handles are closed.
     Acting {
         wanted: Wanted,
@@ -68,13 +66,16 @@ pub(crate) enum After {
 /// What comes after an answer: the next step, or the end.
 #[derive(Debug)]
 pub(crate) enum Next {
+    Walks(Walk, Aim),
     Due(Doing),
     Over(Reply),
 }
 
-/// A call under way: in a box, which is changed in place; or the release of a handle, which takes no memory.
+/// A call under way: a walk, with its aim in the box; what is due in the box, which is changed in place; or the release of
+/// a handle, which takes no memory.
 #[derive(Debug)]
 pub(crate) enum Stage {
+    Walking(Walk, Box<Doing>),
     Boxed(Box<Doing>),
     Releasing(HandleNo),
 }
@@ -99,9 +100,9 @@ impl Doing {
     ghost use Rattle.root_ops.specs.Order.{due};
     ghost use Rattle.root_ops.specs.View.{doing_view};
 
-    /// Holds no walk, and stands in a box from which the pending step was moved.
+    /// Holds no call, and stands in a box from which what was there is moved.
     pub(crate) fn stand_in(handle: HandleNo) -> Doing
-        ensures { HoldsNoWalk result }
+        ensures { HoldsNoCall result }
     {
         Doing::Acting {
             wanted: Wanted::Done,
@@ -113,11 +114,13 @@ impl Doing {
     /// The step that is due. NoMemory where the room of a name was refused; a step without a name takes no memory.
     #[tactic(auto, using(crate::proofs::Rooms::nameless_opens_none, crate::proofs::Bulk::nameless_makes_none, crate::proofs::Bulk::nameless_removes_none))]
     pub(crate) fn due(&self, alloc: Global) -> Result<Step, NoMemory>
+        requires { (below : Below) × IsOurs below self.now }
         ensures exact { (below : Below) → IsOurs below self.now → IfOk result (λ step. step ≡ due below (doing_view self.now)) }
         ensures no_memory { (below : Below) → IsOurs below self.now → is_nameless (due below (doing_view self.now)) ≡ true → IsOk result }
     {
         match self {
-            Doing::Walking { walk, aim: _ } => walk.due(alloc),
+            // A walk's step is the walk's.
+            Doing::Aimed(_) => unreachable!(),
             Doing::Acting {
                 wanted: _,
                 step,
@@ -138,11 +141,25 @@ impl Doing {
         }
     }
 
-    /// Lets go of what holds no walk.
+    /// Takes a walk's aim out of the box.
+    pub(crate) fn take_aim(&mut self, handle: HandleNo) -> Aim
+        requires { is_aimed self.old ≡ true }
+        ensures aim { result ≡ aim_of self.old }
+        ensures stand_in { HoldsNoCall self.new }
+    {
+        // Nothing can be moved out of a box: a step stands in until the next one is known.
+        match mem::replace(self, Doing::stand_in(handle)) {
+            Doing::Aimed(aim) => aim,
+            _ => unreachable!(),
+        }
+    }
+
+    /// Lets go of what holds no call.
     pub(crate) fn let_go(self)
-        requires { HoldsNoWalk self }
+        requires { HoldsNoCall self }
     {
         match self {
+            Doing::Aimed(_) => {}
             Doing::Acting {
                 wanted: _,
                 step: _,
@@ -158,7 +175,7 @@ impl Doing {
                 others: _,
                 after: _,
             } => {}
-            // A walk can't be let go, and no bulk call.
+            // No bulk call can be let go.
             _ => unreachable!(),
         }
     }
