@@ -69,8 +69,17 @@ static struct inroot_answered done_or(struct driver *d, int failed)
     return failed ? refused(d, errno) : (struct inroot_answered){.what = ANSWER_DONE};
 }
 
-/* What was opened, and its kind: what is neither a directory nor a link counts as a file. */
-static struct inroot_answered opened(struct driver *d, int fd)
+/* What was opened, whose kind is known. No answer rests on a node's number, so that the handle's own serves as one. */
+static struct inroot_answered opened(struct driver *d, int fd, enum inroot_kind kind)
+{
+    uint64_t handle = handle_of(d, fd);
+    if (kind != KIND_DIR)
+        d->no_dir = handle;
+    return (struct inroot_answered){.what = ANSWER_OPENED, .handle = handle, .node = handle, .kind = (uint8_t)kind};
+}
+
+/* What was opened, or the error of it, where the kind is to be asked for: what is neither a directory nor a link is a file. */
+static struct inroot_answered opened_as_it_is(struct driver *d, int fd)
 {
     struct stat about;
     if (fd < 0)
@@ -80,15 +89,7 @@ static struct inroot_answered opened(struct driver *d, int fd)
         close(fd);
         return refused(d, error);
     }
-    uint64_t handle = handle_of(d, fd);
-    if (!S_ISDIR(about.st_mode))
-        d->no_dir = handle;
-    return (struct inroot_answered){
-        .what = ANSWER_OPENED,
-        .handle = handle,
-        .node = about.st_ino,
-        .kind = S_ISDIR(about.st_mode) ? KIND_DIR : S_ISLNK(about.st_mode) ? KIND_LINK : KIND_FILE,
-    };
+    return opened(d, fd, S_ISDIR(about.st_mode) ? KIND_DIR : S_ISLNK(about.st_mode) ? KIND_LINK : KIND_FILE);
 }
 
 /* ---- steps */
@@ -96,6 +97,20 @@ static struct inroot_answered opened(struct driver *d, int fd)
 static int open_path(int dir, const char *name, int flags)
 {
     return openat(dir, name, O_PATH | O_NOFOLLOW | O_CLOEXEC | flags);
+}
+
+/*
+ * A directory is told by being opened as one. Anything else gives ENOTDIR, a link as well, and is opened by a second call,
+ * whose answer alone is the step's: should a directory stand there by then, its kind says so.
+ */
+static struct inroot_answered open_name(struct driver *d, int dir, const char *name)
+{
+    int fd = open_path(dir, name, O_DIRECTORY);
+    if (fd >= 0)
+        return opened(d, fd, KIND_DIR);
+    if (errno != ENOTDIR)
+        return refused(d, errno);
+    return opened_as_it_is(d, open_path(dir, name, 0));
 }
 
 /* The kernel opens the old parent of a removed directory. Removal is for good, so that asking afterwards is enough. */
@@ -109,7 +124,7 @@ static struct inroot_answered parent(struct driver *d, int fd)
         close(up);
         return refused(d, ENOENT);
     }
-    return opened(d, up);
+    return opened(d, up, KIND_DIR);
 }
 
 /* A text as large as the room may be cut off, and is too long in either case. ENOENT is what is no link. */
@@ -239,9 +254,9 @@ static struct inroot_answered make(struct driver *d, const struct inroot_told *s
         return refused(d, step->second > TEXT_MAX ? ENAMETOOLONG : ENOMEM);
     switch (step->what) {
     case STEP_OPEN:
-        return opened(d, open_path(fd, first, 0));
+        return open_name(d, fd, first);
     case STEP_DUP:
-        return opened(d, fcntl(fd, F_DUPFD_CLOEXEC, 0));
+        return opened_as_it_is(d, fcntl(fd, F_DUPFD_CLOEXEC, 0));
     case STEP_PARENT:
         return parent(d, fd);
     case STEP_READLINK:

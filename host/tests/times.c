@@ -1,8 +1,8 @@
 /*
  * times: how long one resolution takes, by openat2(2), by a plain walk of single openat(2) calls that asks the same
- * questions, and by inroot_open(), in a jail and by /proc. All run in one thread beside a waiting one, since in a process of
- * several threads each use of a descriptor costs more. The least of many batches counts, so that other work on the machine
- * tells little.
+ * questions, and by inroot_open(), in a jail and by /proc. These ways take turns batch by batch, on one processor, so that
+ * what the machine does beside weighs on all of them, and the least of many batches counts. The jail has a thread of its
+ * own. One of the two threads waits while the other works, since in a process of several each use of a descriptor costs more.
  *
  * usage: times DIR. Prints a line for each path, in microseconds.
  */
@@ -14,6 +14,8 @@
 #include <fcntl.h>
 #include <linux/openat2.h>
 #include <pthread.h>
+#include <sched.h>
+#include <semaphore.h>
 #include <string.h>
 #include <sys/stat.h>
 #include <sys/syscall.h>
@@ -72,43 +74,83 @@ static int plainly(const char *path)
     return at;
 }
 
+/* Of one batch, after a first resolution that isn't counted, since another way had the turn before. */
 static double microseconds(int (*resolve)(const char *), const char *path)
 {
     struct timespec from, to;
-    double least = 1e9;
-    for (int batch = 0; batch < BATCHES; batch++) {
-        clock_gettime(CLOCK_MONOTONIC, &from);
-        for (int at = 0; at < BATCH; at++)
-            close(sure(resolve(path), path));
-        clock_gettime(CLOCK_MONOTONIC, &to);
-        double each = ((double)(to.tv_sec - from.tv_sec) * 1e6 + (double)(to.tv_nsec - from.tv_nsec) / 1e3) / BATCH;
-        least = each < least ? each : least;
+    close(sure(resolve(path), path));
+    clock_gettime(CLOCK_MONOTONIC, &from);
+    for (int at = 0; at < BATCH; at++)
+        close(sure(resolve(path), path));
+    clock_gettime(CLOCK_MONOTONIC, &to);
+    return ((double)(to.tv_sec - from.tv_sec) * 1e6 + (double)(to.tv_nsec - from.tv_nsec) / 1e3) / BATCH;
+}
+
+/* What is handed to the thread in the jail, a path or none for its end, and what it hands back. */
+static struct {
+    sem_t asked, answered;
+    const char *path;
+    double taken;
+} jail;
+
+static void await(sem_t *turn)
+{
+    while (sem_wait(turn) != 0)
+        ;
+}
+
+static void *stay_in_jail(void *unused)
+{
+    errno = -inroot_jail(root);
+    sure(-errno, "inroot_jail");
+    sem_post(&jail.answered);
+    for (await(&jail.asked); jail.path != NULL; await(&jail.asked)) {
+        jail.taken = microseconds(by_jail, jail.path);
+        sem_post(&jail.answered);
     }
-    return least;
+    inroot_jail_done();
+    return unused;
+}
+
+static double microseconds_in_jail(const char *path)
+{
+    jail.path = path;
+    sem_post(&jail.asked);
+    await(&jail.answered);
+    return jail.taken;
+}
+
+static void keep_least(double *least, double taken)
+{
+    *least = taken < *least ? taken : *least;
+}
+
+static void time_path(const char *path)
+{
+    double open = 1e9, plain = 1e9, jailed = 1e9, proc = 1e9;
+    for (int batch = 0; batch < BATCHES; batch++) {
+        keep_least(&open, microseconds(by_kernel, path));
+        keep_least(&plain, microseconds(plainly, path));
+        keep_least(&jailed, microseconds_in_jail(path));
+        keep_least(&proc, microseconds(by_proc, path));
+    }
+    printf("times: %.24s%s: openat2 %.2f, a plain walk %.2f, in a jail %.2f (%.2f times), by /proc %.2f us\n", path,
+           strlen(path) > 24 ? ".." : "", open, plain, jailed, jailed / plain, proc);
+}
+
+/* This thread and those that it makes, where the system allows it: another processor may be faster or busier. */
+static void stay_on_one_processor(void)
+{
+    cpu_set_t one;
+    int here = sched_getcpu();
+    CPU_ZERO(&one);
+    CPU_SET(here < 0 ? 0 : here, &one);
+    sched_setaffinity(0, sizeof one, &one);
 }
 
 static const char *paths[] = {"a/b/f", "a/b", "a/b/../b/../b/../b/..", NULL};
 
 enum { PATHS = sizeof paths / sizeof *paths };
-
-static void *time_all(void *unused)
-{
-    double open[PATHS], plain[PATHS], proc[PATHS];
-    for (int at = 0; at < PATHS; at++) {
-        open[at] = microseconds(by_kernel, paths[at]);
-        plain[at] = microseconds(plainly, paths[at]);
-        proc[at] = microseconds(by_proc, paths[at]);
-    }
-    errno = -inroot_jail(root);
-    sure(-errno, "inroot_jail");
-    for (int at = 0; at < PATHS; at++) {
-        double jailed = microseconds(by_jail, paths[at]);
-        printf("times: %.24s%s: openat2 %.2f, a plain walk %.2f, in a jail %.2f (%.2f times), by /proc %.2f us\n", paths[at],
-               strlen(paths[at]) > 24 ? ".." : "", open[at], plain[at], jailed, jailed / plain[at], proc[at]);
-    }
-    inroot_jail_done();
-    return unused;
-}
 
 int main(int count, char **words)
 {
@@ -125,7 +167,15 @@ int main(int count, char **words)
         sure(mkdirat(root, deep, 0755), deep);
     }
     paths[PATHS - 1] = deep;
-    pthread_create(&thread, NULL, time_all, NULL);
+    stay_on_one_processor();
+    sem_init(&jail.asked, 0, 0);
+    sem_init(&jail.answered, 0, 0);
+    pthread_create(&thread, NULL, stay_in_jail, NULL);
+    await(&jail.answered);
+    for (int at = 0; at < PATHS; at++)
+        time_path(paths[at]);
+    jail.path = NULL;
+    sem_post(&jail.asked);
     pthread_join(thread, NULL);
     return 0;
 }
