@@ -1,2 +1,3 @@
 pub mod PartsLemmas
 pub mod PlanLemmas
+pub mod SameLemmas

@@ -5,3 +5,4 @@ pub use Rattle.path_text.specs.Reading
 pub use Rattle.path_text.specs.Text
 pub mod Plan
 pub mod View
+pub mod Same

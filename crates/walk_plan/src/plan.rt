@@ -16,6 +16,8 @@ use smallvec::SmallVec;
 use std::alloc::Global;
 use std::marker::Model;
 
+mod same;
+
 /// The most links that are followed along one path (path_resolution(7), MAXSYMLINKS of the Linux kernel).
 pub const LINKS_MAX: u8 = 40;
 

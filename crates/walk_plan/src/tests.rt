@@ -342,3 +342,63 @@ fn the_rest(rt: HostRuntime) -> Result<(), Fail> {
     assert!(rt; followed && passed && is_rest(plan, &[b"n", b"..", b"m", b"."]));
     Ok(())
 }
+
+// What of the plans is the same: the own parts to come, all, what comes after the next part.
+fn same_of(plan: &Plan, other: &Plan) -> &'static [u8] {
+    match (
+        plan.same_own(other),
+        plan.same_to_come(other),
+        plan.same_after_next(other),
+    ) {
+        (true, true, true) => b"own all after",
+        (true, false, true) => b"own after",
+        (true, false, false) => b"own",
+        (false, false, true) => b"after",
+        (false, false, false) => b"",
+        _ => b"other",
+    }
+}
+
+// The same after these links were followed, or none where the text is empty.
+fn same_after(
+    alloc: Global,
+    plan: &mut Plan,
+    link: &[u8],
+    other: &mut Plan,
+    others_link: &[u8],
+) -> &'static [u8] {
+    if !link.is_empty() {
+        let _ = follow(alloc, plan, link);
+    }
+    if !others_link.is_empty() {
+        let _ = follow(alloc, other, others_link);
+    }
+    same_of(plan, other)
+}
+
+#[test]
+fn plans_with_the_same_to_come(rt: HostRuntime) -> Result<(), Fail> {
+    let alloc = rt.alloc();
+    for (text, link, others_text, goal, others_link, same) in [
+        (
+            b"a/b".as_slice(),
+            b"".as_slice(),
+            b"a/b".as_slice(),
+            Goal::Deepest,
+            b"".as_slice(),
+            b"own all after".as_slice(),
+        ),
+        (b"a/b", b"", b"a/b", Goal::NoFollow, b"", b""),
+        (b"a/b/", b"", b"a/b/", Goal::NoFollow, b"", b"own all after"),
+        (b"a/b", b"", b"c/b", Goal::Follow, b"", b"after"),
+        (b"l/b", b"x/y", b"l/b", Goal::Follow, b"x/z", b"own"),
+        (b"l/b", b"x", b"l/b", Goal::Follow, b"y", b"own after"),
+        (b"x/b", b"", b"l/b", Goal::Follow, b"x", b""),
+    ] {
+        let mut plan = plan_of(alloc, text, Goal::Follow, PLAIN)?;
+        let mut other = plan_of(alloc, others_text, goal, PLAIN)?;
+        let told = same_after(alloc, &mut plan, link, &mut other, others_link);
+        assert!(rt; told == same, "{text:?} with {others_text:?}");
+    }
+    Ok(())
+}
