@@ -8,3 +8,5 @@ pub mod Underway
 pub mod Ends
 pub mod FirstTurns
 pub mod DrivenWalks
+pub mod Renumbered
+pub mod LikeWalks

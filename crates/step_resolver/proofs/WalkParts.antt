@@ -44,7 +44,7 @@ or_true true = refl
 or_true false = refl
 
 -- the first of the caller's own parts is followed as the caller says where it is the last
-ask_own : (follow : Bool) (q : Part) (own : List Part) → asked follow (q ∷ own) ≡ ask (follow || not (is_single (q ∷ own))) q ∷ asked follow own
+pub ask_own : (follow : Bool) (q : Part) (own : List Part) → asked follow (q ∷ own) ≡ ask (follow || not (is_single (q ∷ own))) q ∷ asked follow own
 ask_own true q [] = refl
 ask_own false q [] = refl
 ask_own true q (r ∷ own) = refl

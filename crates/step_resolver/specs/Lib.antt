@@ -34,3 +34,5 @@ pub mod TurnView
 pub mod TurnsTell
 pub mod Plain
 pub mod Driver
+pub mod Renamed
+pub mod Like

@@ -2,6 +2,7 @@
 //! without a body.
 ghost use Rattle.step_resolver.specs.Headline.{EveryWalk, WalksTell};
 ghost use Rattle.step_resolver.specs.OwnSteps.{DueStepsLeaveEntries, OwnEventsLeaveNodes};
+ghost use Rattle.step_resolver.specs.Renamed.{LikeWalksAgree};
 ghost use Rattle.step_resolver.specs.StepCount.{StepsByPartsPassed};
 ghost use Rattle.step_resolver.specs.WorkedRace.{RaceIsWorked};
 
@@ -41,4 +42,10 @@ pub fn steps_by_parts_passed()
 /// ends in EAGAIN, and what that tells.
 pub fn worked_race()
     ensures { RaceIsWorked }
+{}
+
+/// Two walks that are the same but for the numbers of their handles, each of which gets one number in both, are the
+/// same with these numbers.
+pub fn like_walks_agree()
+    ensures { LikeWalksAgree }
 {}

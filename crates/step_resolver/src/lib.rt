@@ -22,14 +22,17 @@ mod walk;
 
 pub use driver::{Resolved, advance, resolve};
 pub use footprint_laws::{quiet_walks_mean, raced_tells_of_change, walks_mean};
-pub use laws::{headline, own_steps_leave_entries, steps_by_parts_passed, walks_tell, worked_race};
+pub use laws::{
+    headline, like_walks_agree, own_steps_leave_entries, steps_by_parts_passed, walks_tell,
+    worked_race,
+};
 pub use meaning_laws::{
     deepest_is_front_and_rest, errors_of_parts, links_are_their_texts, meaning_of_appended_parts,
     nesting_does_not_matter, up_is_never_missing, worked_paths,
 };
 pub use plain::resolve_whole;
 pub use trail_laws::{links_add_up, quiet_trails_mean, trails_append, trails_split};
-pub use walk::{Root, Turn, Walk};
+pub use walk::{Root, Turn, Walk, like_held};
 pub use walk_plan::Goal;
 
 #[cfg(test)]

@@ -1,7 +1,7 @@
 //! Walks driven by answers made by hand: the steps in their order, and the ends, as openat2(2) and
 //! path_resolution(7) tell of them.
-use crate::{Goal, Root, Turn, Walk};
-use handles::{Owner, Standing};
+use crate::{Goal, Root, Turn, Walk, like_held};
+use handles::{Owner, Reached, Standing};
 use path_text::{Bytes, Errno, Flags, Name, Names, Part, Parts, Path};
 use std::alloc::Global;
 use std::test::*;
@@ -196,10 +196,11 @@ fn is_end(alloc: Global, turn: Turn, end: &str) -> bool {
     }
 }
 
-// Whether each step was due in its turn, and the walk came to its end.
-fn holds(alloc: Global, case: &Case<'_>) -> bool {
-    let Ok(path) = Path::parse(alloc, case.path.as_bytes()) else {
-        return false;
+// What the steps led to, and whether each was due in its turn.
+fn walked(alloc: Global, case: &Case<'_>) -> (Turn, bool) {
+    let path = match Path::parse(alloc, case.path.as_bytes()) {
+        Ok(path) => path,
+        Err(error) => return (Turn::Failed(error), false),
     };
     let mut turn = Walk::start(alloc, root(), path, case.goal, case.flags);
     let mut all_due = true;
@@ -208,6 +209,12 @@ fn holds(alloc: Global, case: &Case<'_>) -> bool {
         turn = next;
         all_due = all_due && was_due;
     }
+    (turn, all_due)
+}
+
+// Whether each step was due in its turn, and the walk came to its end.
+fn holds(alloc: Global, case: &Case<'_>) -> bool {
+    let (turn, all_due) = walked(alloc, case);
     is_end(alloc, turn, case.end) && all_due
 }
 
@@ -435,6 +442,176 @@ fn closes_what_it_holds_before_it_fails(rt: HostRuntime) -> Result<(), Fail> {
         },
     ] {
         assert!(rt; holds(rt.alloc(), &case), "{}", case.path);
+    }
+    Ok(())
+}
+
+// The walk along the path after these steps.
+fn under_way(alloc: Global, path: &str, goal: Goal, steps: &str) -> Turn {
+    let case = Case {
+        path,
+        goal,
+        flags: PLAIN,
+        steps,
+        end: "",
+    };
+    walked(alloc, &case).0
+}
+
+// Whether the walks are like each other, and whether they go the same way. Nothing where one of them ended.
+fn likeness(alloc: Global, turn: Turn, other: Turn) -> &'static str {
+    match (turn, other) {
+        (Turn::More(walk), Turn::More(others)) => {
+            let told = match (walk.is_like(&others), walk.goes_like(&others)) {
+                (true, true) => "walk way",
+                (true, false) => "walk",
+                (false, true) => "way",
+                (false, false) => "neither",
+            };
+            give_up(alloc, Turn::More(walk));
+            give_up(alloc, Turn::More(others));
+            told
+        }
+        (ended, others) => {
+            give_up(alloc, ended);
+            give_up(alloc, others);
+            ""
+        }
+    }
+}
+
+const OPENS: &str = "open 0 a -> dir 4 11";
+
+const READS: &str = "open 0 a -> dir 4 11, open 4 b -> link 5 12";
+
+const CLOSES: &str = "open 0 a -> dir 4 11, open 4 b -> link 5 12, read_link 5 -> done";
+
+#[test]
+fn walks_that_are_like_each_other(rt: HostRuntime) -> Result<(), Fail> {
+    let alloc = rt.alloc();
+    for (steps, path, goal, others_steps, told) in [
+        (
+            OPENS,
+            "a/b",
+            Goal::Follow,
+            "open 0 a -> dir 7 11",
+            "walk way",
+        ),
+        (OPENS, "a/b", Goal::Deepest, "open 0 a -> dir 7 11", "walk"),
+        (OPENS, "a/b", Goal::NoFollow, OPENS, "neither"),
+        (OPENS, "a/b", Goal::Follow, "open 0 a -> dir 4 12", "way"),
+        (OPENS, "a/c", Goal::Follow, OPENS, "way"),
+        (OPENS, "c/b", Goal::Follow, "open 0 c -> dir 4 11", "way"),
+        (
+            OPENS,
+            "l/b",
+            Goal::Follow,
+            "open 0 l -> link 4 9, read_link 4 -> text a, close 4 -> done, open 0 a -> dir 4 11",
+            "way",
+        ),
+        (OPENS, "a/b", Goal::Follow, READS, "way"),
+        (
+            READS,
+            "a/b",
+            Goal::Follow,
+            "open 0 a -> dir 5 11, open 5 b -> link 6 12",
+            "walk way",
+        ),
+        (
+            READS,
+            "a/b",
+            Goal::Follow,
+            "open 0 a -> dir 4 11, open 4 b -> link 5 13",
+            "way",
+        ),
+        (
+            CLOSES,
+            "a/b",
+            Goal::Follow,
+            "open 0 a -> dir 5 11, open 5 b -> link 6 12, read_link 6 -> done",
+            "walk way",
+        ),
+        (
+            CLOSES,
+            "a/b",
+            Goal::Follow,
+            "open 0 a -> dir 4 11, open 4 b -> done",
+            "way",
+        ),
+    ] {
+        let turn = under_way(alloc, "a/b", Goal::Follow, steps);
+        let other = under_way(alloc, path, goal, others_steps);
+        assert!(rt;
+            likeness(alloc, turn, other) == told,
+            "{steps} with {others_steps}"
+        );
+    }
+    Ok(())
+}
+
+// Whether the walk holds these handles, in this order, below handle 0.
+fn holds_handles(alloc: Global, turn: Turn, numbers: &str) -> bool {
+    let mut handles = Vec::new(alloc);
+    let mut told = false;
+    if let Turn::More(walk) = &turn {
+        told = walk.push_handles(&mut handles).is_ok() && is_number("0", walk.root().number());
+    }
+    give_up(alloc, turn);
+    let mut left = numbers;
+    for handle in handles.as_slice() {
+        let (word, others) = cut(left);
+        told = told && is_number(word, handle.number());
+        left = others;
+    }
+    told && left.is_empty()
+}
+
+#[test]
+fn handles_that_a_walk_holds(rt: HostRuntime) -> Result<(), Fail> {
+    let alloc = rt.alloc();
+    for (steps, numbers) in [
+        ("", ""),
+        (OPENS, "4"),
+        (READS, "4 5"),
+        (CLOSES, "5 4"),
+        ("open 0 a -> dir 4 11, open 4 b -> dir 5 12", "4 5"),
+        (
+            "open 0 a -> dir 4 11, open 4 b -> link 5 12, read_link 5 -> text c",
+            "5 4",
+        ),
+        ("open 0 a -> dir 4 11, open 4 b -> done", "4"),
+    ] {
+        let turn = under_way(alloc, "a/b/..", Goal::Follow, steps);
+        assert!(rt; holds_handles(alloc, turn, numbers), "{steps}");
+    }
+    Ok(())
+}
+
+// Whether what two answers opened is the same but for its handle.
+fn opens_like(answer: &Answer, other: &Answer) -> bool {
+    let mut like = false;
+    match (Reached::of(answer), Reached::of(other)) {
+        (Some(held), Some(others)) => {
+            like = like_held(&held, &others);
+            let _ = (held.into_close(), others.into_close());
+        }
+        (Some(held), None) | (None, Some(held)) => {
+            let _ = held.into_close();
+        }
+        (None, None) => {}
+    }
+    like
+}
+
+#[test]
+fn what_is_held_but_for_its_handle(rt: HostRuntime) -> Result<(), Fail> {
+    let held = opened(Kind::Dir, "4 11");
+    for (other, like) in [
+        (opened(Kind::Dir, "5 11"), true),
+        (opened(Kind::Dir, "4 12"), false),
+        (opened(Kind::File, "4 11"), false),
+    ] {
+        assert!(rt; opens_like(&held, &other) == like);
     }
     Ok(())
 }

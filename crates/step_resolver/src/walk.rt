@@ -14,6 +14,10 @@ use std::mem;
 use tree_model::{Answer, HandleNo, Step, StepOf};
 use walk_plan::{Goal, Plan};
 
+mod like;
+
+pub use like::like_held;
+
 /// The directory below which paths are resolved, by an open handle on it.
 #[derive(Clone, Copy, Debug, PartialEq, Eq)]
 pub struct Root {
