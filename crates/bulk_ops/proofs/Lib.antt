@@ -7,3 +7,6 @@ pub mod MakeAllAnswers
 pub mod MakeAllEnds
 pub mod MakeAllTurns
 pub mod MakingAlone
+pub mod LikeCalls
+pub mod LikeStages
+pub mod LikeFrames

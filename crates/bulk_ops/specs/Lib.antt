@@ -23,3 +23,4 @@ pub mod MakeAllTurnsTell
 pub mod MakeAllQuiet
 pub mod MakeAllWorked
 pub mod MakeAllQuietWorked
+pub mod Renamed

@@ -10,13 +10,17 @@
 //! `specs/MakeAllQuiet.antt` and `specs/RemoveAllQuiet.antt`: the chain of directories that is missing is made, or a part
 //! of it where something ran short; the target goes with every row below it. The layers above use the orders of steps and
 //! these laws.
+//! `is_like` compares two calls but for the numbers of their handles, and `push_handles` lists these, as
+//! `specs/Renamed.antt` has it: the law `like_bulk_calls_agree` says that like calls are told apart by these alone.
 #![tactic(auto)]
 
+mod like_laws;
 mod make_all;
 mod make_all_laws;
 mod remove_all;
 mod turn;
 
+pub use like_laws::like_bulk_calls_agree;
 pub use make_all::MkdirAll;
 pub use make_all_laws::{
     makes_tell, quiet_makes_mean, steps_after_the_walk, worked_make_call, worked_makes,

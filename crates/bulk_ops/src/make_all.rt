@@ -13,6 +13,8 @@ use std::marker::Model;
 use step_resolver::{Goal, Root, Turn, Walk};
 use tree_model::{Answer, Kind, Step, StepOf};
 
+mod like;
+
 /// A call that is under way. It can't be let go: each `due` step is to be made, and its answer taken, until the call
 /// ends. One to be given up has each Close made that is due, and is told `Refused(NoMemory)` at every other step.
 /// Contracts see it as a `MakingView`: whose it is, what stays the same for its walk, and the step that is due.

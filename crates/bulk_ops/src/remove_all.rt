@@ -15,6 +15,7 @@ use tree_model::{Answer, Step};
 mod clearing;
 mod frame;
 mod laws;
+mod like;
 mod phase;
 #[cfg(test)]
 mod tests;

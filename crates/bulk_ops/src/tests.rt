@@ -200,6 +200,46 @@ fn run_short_of_memory(
     }
 }
 
+// The call along the path, after so many steps.
+fn after_steps(alloc: Global, tree: &mut ListTree, path: &str, steps: u64) -> BulkTurn<MkdirAll> {
+    let mut turn = match Path::parse(alloc, path.as_bytes()) {
+        Ok(path) => MkdirAll::start(alloc, root(), path, PLAIN),
+        Err(error) => BulkTurn::Failed(error),
+    };
+    for _ in 0..steps {
+        turn = match turn {
+            BulkTurn::More(call) => {
+                let (answer, _made) = answer_due(alloc, tree, &call);
+                call.take(alloc, answer)
+            }
+            ended => ended,
+        };
+    }
+    turn
+}
+
+// The numbers of a call's handles, as a text.
+fn handles_of(alloc: Global, turn: &BulkTurn<MkdirAll>) -> Result<String, Errno> {
+    let mut handles = Vec::new(alloc);
+    if let BulkTurn::More(call) = turn {
+        call.push_handles(&mut handles)?;
+    }
+    let mut text = String::new(alloc);
+    for handle in &handles {
+        let number = handle.number();
+        text = format!(in alloc; "{text} {number}")?;
+    }
+    Ok(text)
+}
+
+// The tree where the actor has one handle more, and the others' steps are made.
+fn second_tree(alloc: Global, others: &str) -> Result<ListTree, Errno> {
+    let mut second = tree(alloc)?;
+    second.grant(alloc, actor(), &names_of(alloc, "/c/a")?)?;
+    others_act(alloc, &mut second, others, 0)?;
+    Ok(second)
+}
+
 // Whether the call comes to that end, after so many events, and leaves so many handles open.
 fn ends_so(alloc: Global, tree: &mut ListTree, case: &Case<'_>) -> Result<bool, Errno> {
     let (path, flags, others, end, events, held) = case;
@@ -417,6 +457,54 @@ fn closes_what_it_holds_where_memory_ends(rt: HostRuntime) -> Result<(), Fail> {
             from
         );
         assert!(rt; tree.held(actor()) == 1, "{}", from);
+    }
+    Ok(())
+}
+
+// A path, and how many steps its call has made; the same of a second call, in the tree where each later handle has a number
+// that is greater by one, after the others' steps; whether the two are alike; and the handles of each.
+#[test]
+fn is_like_another_but_for_handles(rt: HostRuntime) -> Result<(), Fail> {
+    let alloc = rt.alloc();
+    for (path, steps, second, second_steps, others, alike, handles, second_handles) in [
+        ("n/m", 0, "n/m", 0, "", true, "", ""),
+        ("n/m", 6, "n/m", 6, "", true, " 5", " 6"),
+        ("n/m", 5, "n/m", 5, "", true, " 4 5", " 5 6"),
+        // on another node
+        (
+            "n/m",
+            5,
+            "n/m",
+            5,
+            "0: make_file 1 z",
+            false,
+            " 4 5",
+            " 5 6",
+        ),
+        // at another step
+        ("n/m", 3, "n/m", 4, "", false, " 4", " 5"),
+        // with another name to come
+        ("n/m", 3, "n/k", 3, "", false, " 4", " 5"),
+        // what is only closed is on no node, and has no names
+        ("x/..", 3, "y/../m", 3, "", true, " 4", " 5"),
+        ("a/x/..", 3, "x/..", 3, "", true, " 4", " 5"),
+    ] {
+        let mut tree = tree(alloc)?;
+        let mut second_tree = second_tree(alloc, others)?;
+        let turn = after_steps(alloc, &mut tree, path, steps);
+        let other = after_steps(alloc, &mut second_tree, second, second_steps);
+        let found = handles_of(alloc, &turn);
+        let second_found = handles_of(alloc, &other);
+        let like = match (&turn, &other) {
+            (BulkTurn::More(call), BulkTurn::More(c)) => call.is_like(c),
+            _ => false,
+        };
+        let _ = end_of(alloc, turn);
+        let _ = end_of(alloc, other);
+        assert!(rt;
+            like == alike && found?.as_str() == handles && second_found?.as_str() == second_handles,
+            "{path} {second}"
+        );
     }
     Ok(())
 }

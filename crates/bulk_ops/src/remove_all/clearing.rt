@@ -56,18 +56,18 @@ pub(crate) struct Progress {
 /// A step of clearing that is due.
 #[derive(Debug)]
 pub(crate) struct Clearing {
-    stage: Stage,
-    progress: Progress,
+    pub(crate) stage: Stage,
+    pub(crate) progress: Progress,
     ghost one_left: { 0 < progress.left },
 }
 
 /// A closing that is due: of the first, then of the second, then of the directories from the last on.
 #[derive(Debug)]
 pub(crate) struct Closing {
-    first: Reached,
-    second: Option<Reached>,
-    above: Vec<Frame>,
-    end: End,
+    pub(crate) first: Reached,
+    pub(crate) second: Option<Reached>,
+    pub(crate) above: Vec<Frame>,
+    pub(crate) end: End,
 }
 
 /// The refusal that an answer is. One that doesn't fit the step counts as BadHandle.

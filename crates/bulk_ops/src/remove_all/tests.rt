@@ -131,6 +131,55 @@ fn start(alloc: Global, path: &str, flags: Flags) -> Result<BulkTurn<RemoveAll>,
     Ok(RemoveAll::start(alloc, root(), split.dir, split.name, flags))
 }
 
+// The call after so many steps, where the other makes its steps after so many of them.
+fn after_steps(
+    alloc: Global,
+    tree: &mut ListTree,
+    path: &str,
+    steps: u64,
+    after: u64,
+    others: &str,
+) -> BulkTurn<RemoveAll> {
+    let mut turn = match start(alloc, path, PLAIN) {
+        Ok(turn) => turn,
+        Err(error) => BulkTurn::Failed(error),
+    };
+    for step in 0..steps {
+        if step == after {
+            others_act(alloc, tree, others);
+        }
+        turn = match turn {
+            BulkTurn::More(call) => {
+                let answer = answer_due(alloc, tree, &call);
+                call.take(alloc, answer)
+            }
+            ended => ended,
+        };
+    }
+    turn
+}
+
+// The numbers of a call's handles, as a text.
+fn handles_of(alloc: Global, turn: &BulkTurn<RemoveAll>) -> Result<String, Errno> {
+    let mut handles = Vec::new(alloc);
+    if let BulkTurn::More(call) = turn {
+        call.push_handles(&mut handles)?;
+    }
+    let mut text = String::new(alloc);
+    for handle in &handles {
+        let number = handle.number();
+        text = format!(in alloc; "{text} {number}")?;
+    }
+    Ok(text)
+}
+
+// The tree where the caller has one handle more.
+fn second_base(alloc: Global) -> Result<ListTree, Errno> {
+    let mut tree = base(alloc)?;
+    tree.grant(alloc, Actor::new(0), &names_of(alloc, "/c/a")?)?;
+    Ok(tree)
+}
+
 fn flags_of(words: &str) -> Flags {
     Flags {
         beneath: words.contains("beneath"),
@@ -299,6 +348,60 @@ fn holds_a_handle_for_each_directory(rt: HostRuntime) -> Result<(), Fail> {
                 && count_entries(alloc, &tree)? == entries
                 && tree.held(Actor::new(0)) == 1,
             "{depth} {taken}"
+        );
+    }
+    Ok(())
+}
+
+// A path, and how many steps its call has made; how many a second call has made, in the tree where each later handle has a
+// greater number, and after how many of them the other made its steps; whether the two are alike; and the handles of each.
+#[test]
+fn is_like_another_but_for_handles(rt: HostRuntime) -> Result<(), Fail> {
+    let alloc = rt.alloc();
+    for (path, steps, second_steps, after, others, alike, handles, second_handles) in [
+        ("a", 1, 1, 0, "", true, " 0 2", " 0 3"),
+        ("a", 8, 8, 0, "", true, " 4 3 2", " 5 4 3"),
+        ("a", 13, 13, 0, "", true, " 2", " 3"),
+        // at another step
+        ("a", 8, 9, 0, "", false, " 4 3 2", " 5 4 3"),
+        // with one entry more to come
+        (
+            "a/b",
+            5,
+            5,
+            0,
+            "open 1 a; open 3 b; make_file 4 z",
+            false,
+            " 3 2",
+            " 6 5",
+        ),
+        // one that the other was faster to remove isn't counted
+        (
+            "a/b",
+            6,
+            6,
+            5,
+            "open 1 a; open 5 b; remove_file 6 f",
+            false,
+            " 3 2",
+            " 4 3",
+        ),
+    ] {
+        let mut tree = base(alloc)?;
+        let mut second_tree = second_base(alloc)?;
+        let turn = after_steps(alloc, &mut tree, path, steps, 0, "");
+        let second = after_steps(alloc, &mut second_tree, path, second_steps, after, others);
+        let found = handles_of(alloc, &turn);
+        let second_found = handles_of(alloc, &second);
+        let like = match (&turn, &second) {
+            (BulkTurn::More(call), BulkTurn::More(c)) => call.is_like(c),
+            _ => false,
+        };
+        let _ = drive(alloc, &mut tree, turn, 0, "");
+        let _ = drive(alloc, &mut second_tree, second, 0, "");
+        assert!(rt;
+            like == alike && found?.as_str() == handles && second_found?.as_str() == second_handles,
+            "{path} {others}"
         );
     }
     Ok(())

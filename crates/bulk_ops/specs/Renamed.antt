@@ -1,0 +1,87 @@
+-- Bulk calls with the numbers of their handles replaced by others; everything else stays.
+use Rattle.std.specs.Prelude.{◌≡◌, ℕ, List, [], ◌∷◌, ◌++◌}
+pub use Rattle.step_resolver.specs.Renamed.{numbers_by, root_by, way_by, handle_by, position_by, walk_after_by, walking_by, walk_turn_by, walk_after_handles, walking_handles}
+use Rattle.bulk_ops.specs.MakeAllOrder as make
+use Rattle.bulk_ops.specs.RemoveAllOrder as remove
+
+abbrev pub making_by : (ℕ → ℕ) → make.Making → make.Making
+making_by f (make.walking w) = make.walking (walking_by f w)
+making_by f (make.making held names n left) = make.making (handle_by f held) names n left
+making_by f (make.opening held names n left) = make.opening (handle_by f held) names n left
+making_by f (make.leaving old new names left) = make.leaving (f old) (handle_by f new) names left
+making_by f (make.ending held names) = make.ending (handle_by f held) names
+making_by f (make.closing h hs error) = make.closing (f h) (numbers_by f hs) error
+
+abbrev pub make_turn_by : (ℕ → ℕ) → make.MakeTurn → make.MakeTurn
+make_turn_by f (make.more bulk) = make.more (making_by f bulk)
+make_turn_by f (make.made handle names) = make.made (handle_by f handle) names
+make_turn_by f (make.failed error) = make.failed error
+
+abbrev pub level_by : (ℕ → ℕ) → remove.Level → remove.Level
+level_by f level = record level { dir = f level.dir }
+
+abbrev pub levels_by : (ℕ → ℕ) → List remove.Level → List remove.Level
+levels_by f [] = []
+levels_by f (level ∷ levels) = level_by f level ∷ levels_by f levels
+
+abbrev pub stage_by : (ℕ → ℕ) → remove.Stage → remove.Stage
+stage_by f remove.removes_file = remove.removes_file
+stage_by f remove.opens = remove.opens
+stage_by f (remove.lists h) = remove.lists (f h)
+stage_by f (remove.shuts h) = remove.shuts (f h)
+stage_by f (remove.leaves h) = remove.leaves (f h)
+stage_by f remove.removes_dir = remove.removes_dir
+
+abbrev pub removing_by : (ℕ → ℕ) → remove.Removing → remove.Removing
+removing_by f (remove.walking way target w) = remove.walking (way_by f way) target (walking_by f w)
+removing_by f (remove.clearing stage level above count left) = remove.clearing (stage_by f stage) (level_by f level) (levels_by f above) count left
+removing_by f (remove.closing h hs end) = remove.closing (f h) (numbers_by f hs) end
+
+abbrev pub remove_turn_by : (ℕ → ℕ) → remove.Turn → remove.Turn
+remove_turn_by f (remove.more bulk) = remove.more (removing_by f bulk)
+remove_turn_by f (remove.removed count) = remove.removed count
+remove_turn_by f (remove.failed error) = remove.failed error
+
+-- ---- the handles themselves, one by one
+
+abbrev pub making_handles : make.Making → List ℕ
+making_handles (make.walking w) = walking_handles w
+making_handles (make.making held names n left) = held.number ∷ []
+making_handles (make.opening held names n left) = held.number ∷ []
+making_handles (make.leaving old new names left) = old ∷ new.number ∷ []
+making_handles (make.ending held names) = held.number ∷ []
+making_handles (make.closing h hs error) = h ∷ hs
+
+abbrev pub stage_handles : remove.Stage → List ℕ
+stage_handles remove.removes_file = []
+stage_handles remove.opens = []
+stage_handles (remove.lists h) = h ∷ []
+stage_handles (remove.shuts h) = h ∷ []
+stage_handles (remove.leaves h) = h ∷ []
+stage_handles remove.removes_dir = []
+
+abbrev pub levels_handles : List remove.Level → List ℕ
+levels_handles [] = []
+levels_handles (level ∷ levels) = level.dir ∷ levels_handles levels
+
+abbrev pub removing_handles : remove.Removing → List ℕ
+removing_handles (remove.walking way target w) = way.root ∷ walking_handles w
+removing_handles (remove.clearing stage level above count left) = stage_handles stage ++ level.dir ∷ levels_handles above
+removing_handles (remove.closing h hs end) = h ∷ hs
+
+-- ---- the same but for the numbers of handles
+
+abbrev pub LikeMaking : make.Making → make.Making → Type 0
+LikeMaking m n = making_by (λ h. 0) m ≡ making_by (λ h. 0) n
+
+abbrev pub LikeRemoving : remove.Removing → remove.Removing → Type 0
+LikeRemoving r s = removing_by (λ h. 0) r ≡ removing_by (λ h. 0) s
+
+-- Calls that are the same but for their handles, each of which gets one number in both, are the same with these numbers.
+abbrev pub LikeMakingAgrees : Type 0
+LikeMakingAgrees = (f g : ℕ → ℕ) (m n : make.Making) → LikeMaking m n → numbers_by f (making_handles m) ≡ numbers_by g (making_handles n)
+    → making_by f m ≡ making_by g n
+
+abbrev pub LikeRemovingAgrees : Type 0
+LikeRemovingAgrees = (f g : ℕ → ℕ) (r s : remove.Removing) → LikeRemoving r s → numbers_by f (removing_handles r) ≡ numbers_by g (removing_handles s)
+    → removing_by f r ≡ removing_by g s
