@@ -11,3 +11,5 @@ pub mod FirstTurn
 pub mod FirstWalks
 pub mod Resolves
 pub mod BulkReplies
+pub mod LikeCalls
+pub mod Reversed

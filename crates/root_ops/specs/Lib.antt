@@ -21,3 +21,4 @@ pub mod MeaningWorked
 pub mod Quiet
 pub mod QuietWorked
 pub mod EachCall
+pub mod Renamed

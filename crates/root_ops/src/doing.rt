@@ -141,6 +141,17 @@ impl Doing {
         }
     }
 
+    /// A walk's aim.
+    pub(crate) fn aim(&self) -> &Aim
+        requires { is_aimed self.now ≡ true }
+        ensures { result.now ≡ aim_of self.now }
+    {
+        match self {
+            Doing::Aimed(aim) => aim,
+            _ => unreachable!(),
+        }
+    }
+
     /// Takes a walk's aim out of the box.
     pub(crate) fn take_aim(&mut self, handle: HandleNo) -> Aim
         requires { is_aimed self.old ≡ true }

@@ -8,6 +8,10 @@
 //! contracts, and the laws `five_steps_after_walks`, `calls_tell`, which says what handles a call's end leaves open,
 //! `quiet_calls_mean`, which says what it comes to where nobody else acts, and `each_call_tells`, which says both of one
 //! call, of the walk with which it begins the headline, and of a bulk call what it did.
+//!
+//! Requests, calls and answers are also compared but for the numbers of their handles (`is_like`, `like_answers`), and these
+//! are listed one by one (`push_handles`): two that are alike are the same once their handles get the same numbers, which is
+//! the law `like_calls_agree`.
 #![tactic(auto)]
 
 mod aim;
@@ -17,6 +21,8 @@ mod below;
 mod call;
 mod doing;
 mod laws;
+mod like;
+mod like_laws;
 mod op;
 mod quiet_laws;
 mod reply;
@@ -25,6 +31,8 @@ pub use aim::{Aim, Change, Renaming, Wanted};
 pub use below::Below;
 pub use call::{Call, CallTurn};
 pub use laws::{bulk_calls_tell, calls_tell, each_call_tells, five_steps_after_walks};
+pub use like::{like_answers, like_roots, like_standings, push_answer_handles};
+pub use like_laws::like_calls_agree;
 pub use op::{Op, Request};
 pub use quiet_laws::{operations_keep_trees, quiet_calls_mean, worked_operations, worked_rename};
 pub use reply::Reply;

@@ -15,6 +15,8 @@ use tree_list::{Entry, ListTree, New};
 use tree_model::{Actor, Answer, HandleNo, Mode, StepOf, Tree};
 use tree_slab::SlabTree;
 
+mod like;
+
 const PLAIN: Flags = Flags {
     beneath: false,
     no_links: false,
