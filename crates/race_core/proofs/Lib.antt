@@ -12,3 +12,5 @@ mod WorldSoFar
 mod ReportsTell
 mod HandlesLeft
 mod OneEnd
+mod LikeLists
+pub mod LikeSeats

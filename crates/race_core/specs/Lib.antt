@@ -11,3 +11,4 @@ pub mod Turns
 pub mod WorldCalls
 pub mod WorldLaws
 pub mod Worlds
+pub mod Renamed

@@ -155,6 +155,13 @@ impl<T: Tree> Book<T> {
         &self.events
     }
 
+    /// How many lines it has at most.
+    pub fn lines(&self) -> u32
+        ensures { result ≡ self.now.lines }
+    {
+        self.lines
+    }
+
     /// How many lines are free: neither an event's nor kept for the Close of an open handle. They never rise.
     pub fn free(&self) -> u32
         ensures { result ≡ free_lines self.now }

@@ -1,6 +1,5 @@
 //! What an actor of a world has to do, and what came of it.
 ghost use Rattle.std.specs.Prelude.{◌≡◌, IfOk, slice_set, not};
-ghost use Rattle.std.specs.Vec.Iter.{into_iter_items};
 ghost use Rattle.race_core.specs.Turns.{handle_at, step_at, request_of, standing_under, left_by, opened_ledger};
 ghost use Rattle.race_core.specs.TurnView.{Begins, IsStarted, are_some, taken_down};
 
@@ -10,8 +9,8 @@ use handles::Standing;
 use path_text::{Errno, Flags, NoMemory};
 use root_ops::{Call, CallTurn, Op, Reply, Request};
 use std::alloc::Global;
+use std::collections::VecDeque;
 use std::marker::Model;
-use std::vec::IntoIter;
 use step_resolver::Root;
 use tree_model::{Actor, HandleNo, Step, StepOf};
 
@@ -19,21 +18,20 @@ use tree_model::{Actor, HandleNo, Step, StepOf};
 /// Contracts see it as a `LedgerView`.
 #[derive(Drop)]
 pub(crate) struct Ledger {
-    root: Root,
-    to_come: IntoIter<Planned>,
-    outcomes: Outcomes,
-    standings: Vec<Option<Standing>>,
+    pub(crate) root: Root,
+    pub(crate) to_come: VecDeque<Planned>,
+    pub(crate) outcomes: Outcomes,
+    pub(crate) standings: Vec<Option<Standing>>,
     // What was another owner's to release.
-    kept: Vec<Standing>,
+    pub(crate) kept: Vec<Standing>,
 }
 
 impl Model for Ledger {
-    ghost use Rattle.std.specs.Vec.Iter.{into_iter_items};
     ghost use Rattle.race_core.specs.Ledgers.{LedgerView};
 
     ghost Value = { LedgerView };
 
-    ghost view = { λ l. record { root = l.root; to_come = into_iter_items l.to_come; outcomes = l.outcomes; standings = l.standings.items; kept = l.kept.items } };
+    ghost view = { λ l. record { root = l.root; to_come = l.to_come.items; outcomes = l.outcomes; standings = l.standings.items; kept = l.kept.items } };
 }
 
 // The handle that is named, where it is held.
@@ -118,8 +116,8 @@ fn first_turn(alloc: Global, root: Root, request: Option<Request>) -> CallTurn
 
 impl Ledger {
     /// The ledger of an actor at its root, with these calls to come.
-    pub(crate) fn new(alloc: Global, root: Root, to_come: IntoIter<Planned>) -> Ledger
-        ensures { result ≡ opened_ledger root (into_iter_items to_come) }
+    pub(crate) fn new(alloc: Global, root: Root, to_come: VecDeque<Planned>) -> Ledger
+        ensures { result ≡ opened_ledger root to_come.items }
     {
         Ledger {
             root,
@@ -149,14 +147,14 @@ impl Ledger {
     pub(crate) fn is_done(&self) -> bool
         ensures { result ≡ not (are_some self.now.to_come) }
     {
-        self.to_come.len() == 0
+        self.to_come.is_empty()
     }
 
     /// Begins the next call, if one is to come. A call that names what isn't held is at its end at once.
     pub(crate) fn begin(&mut self, alloc: Global) -> Option<CallTurn>
         ensures { Begins self.old self.new result }
     {
-        let planned = self.to_come.next()?;
+        let planned = self.to_come.pop_front()?;
         let request = request_of(self.root, self.standings.as_mut_slice(), planned);
         Some(first_turn(alloc, self.root, request))
     }

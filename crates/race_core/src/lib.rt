@@ -9,12 +9,18 @@
 //! A `World` has actors with planned calls below their roots, and takes one due step of an actor's call a turn, through its
 //! book. What a turn is, with memory as luck has it, is computed in `specs/Turns.antt`; `World::run` gives the report on a
 //! run of such turns (`specs/Worlds.antt`): those of the schedule, and then each actor's to its end.
+//!
+//! A search over schedules merges worlds that differ in the numbers of handles alone: `World::is_like` compares the actors
+//! of two worlds but for these numbers, `World::push_handles` lists them, and `like_seats_agree` says that these two settle
+//! an actor (`specs/Renamed.antt`).
 #![tactic(auto)]
 
 mod advance;
 mod book;
 mod laws;
 mod ledger;
+mod like;
+mod like_laws;
 mod opening;
 mod plan;
 mod report;
@@ -28,6 +34,8 @@ mod world_tests;
 
 pub use book::{Book, LINES_MAX, OpenRefusal};
 pub use laws::free_lines_never_rise;
+pub use like::like_outcomes;
+pub use like_laws::like_seats_agree;
 pub use opening::ACTORS_MAX;
 pub use plan::{ActorPlan, Planned, Plans, Ref};
 pub use report::{Outcome, Outcomes, Report, WorldFault};

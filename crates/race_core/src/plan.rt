@@ -1,12 +1,11 @@
 //! What each actor of a world is to do.
 ghost use Rattle.std.specs.Prelude.{◌≡◌, [], ◌∷◌, ◌++◌, length, IsTrue, ◌↔◌, OnOk, OnErr};
-ghost use Rattle.std.specs.Vec.Iter.{into_iter_items};
 
 use path_text::{Names, NoMemory};
 use root_ops::Request;
 use std::alloc::Global;
+use std::collections::VecDeque;
 use std::marker::Model;
-use std::vec::IntoIter;
 use tree_model::StepOf;
 
 /// What a planned step names in place of a handle's number.
@@ -88,10 +87,10 @@ impl Plans {
 
 impl Plans {
     /// The calls, one after another.
-    pub(crate) fn into_calls(self) -> IntoIter<Planned>
-        ensures { into_iter_items result ≡ self }
+    pub(crate) fn into_calls(self) -> VecDeque<Planned>
+        ensures { result.items ≡ self }
     {
-        self.calls.into_iter()
+        VecDeque::from(self.calls)
     }
 }
 

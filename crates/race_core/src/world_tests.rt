@@ -13,6 +13,7 @@ use tree_list::{Entry, ListTree, New};
 use tree_model::{Actor, Answer, HandleNo, Kind, Node, Step, StepOf, Tree};
 use tree_slab::SlabTree;
 
+mod like;
 mod refused;
 
 // Entry k is node k + 1: a directory, a file, or a link with that text.

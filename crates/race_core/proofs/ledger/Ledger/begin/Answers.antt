@@ -2,7 +2,6 @@ use Rattle.std.proofs.Common.{sym, subst, ap, ◌∙◌}
 use Rattle.std.specs.Prelude.{List, Option}
 use Rattle.std.proofs.lemmas.List.{with_items_is}
 use Rattle.std.specs.Vec.{with_items}
-use Rattle.std.specs.Vec.Iter.{into_iter_items}
 use Rattle.handles.specs.Objects.{StandingObject}
 use Rattle.race_core.specs.Ledgers.{LedgerView}
 use Rattle.race_core.specs.Turns.{request_of, left_by}
@@ -14,12 +13,12 @@ pub returns : goal.returns
 returns c =
     let was : LedgerView = record {
       root = c.self.inside.root;
-      to_come = into_iter_items c.self.inside.to_come;
+      to_come = c.self.inside.to_come.items;
       outcomes = c.self.inside.outcomes;
       standings = c.self.inside.standings.items;
       kept = c.self.inside.kept.items;
     } in
-    let begun = begun_by was c.in_ok-planned.planned (into_iter_items c.next.new.self) c.request_of-request.new.standings c.request_of-request.result c.first_turn.result
+    let begun = begun_by was c.in_ok-planned.planned c.pop_front.new.self.items c.request_of-request.new.standings c.request_of-request.result c.first_turn.result
     c.in_ok-planned.ensures.items
     (c.request_of-request.ensures.request ∙ ap (λ (ss : List (Option StandingObject)). request_of c.self.inside.root ss c.in_ok-planned.planned) c.as_mut_slice.ensures.value)
     (c.request_of-request.ensures.left ∙ ap (λ (ss : List (Option StandingObject)). left_by c.in_ok-planned.planned ss) c.as_mut_slice.ensures.value)
@@ -28,7 +27,7 @@ returns c =
     let P : LedgerView → List (Option StandingObject) → Type 0 = λ old ss.
     IsBegun old (record {
       root = c.self.inside.root;
-      to_come = into_iter_items c.next.new.self;
+      to_come = c.pop_front.new.self.items;
       outcomes = c.self.inside.outcomes;
       standings = ss;
       kept = c.self.inside.kept.items;
