@@ -1,0 +1,4 @@
+pub mod Adding
+pub mod Counted
+pub mod Led
+pub mod Words
