@@ -6,7 +6,7 @@ use Rattle.explore.specs.Explored.{EndingView, ClassView}
 use Rattle.explore.specs.Tally.{counted_in, IsPlace, Counts}
 use Rattle.explore.proofs.Told.{length_set}
 
-within_some : {A : Type 0} (xs : List A) (i : ℕ) → i < length xs → (x : A) × (slice_get xs i ≡ Some x)
+pub within_some : {A : Type 0} (xs : List A) (i : ℕ) → i < length xs → (x : A) × (slice_get xs i ≡ Some x)
 within_some [] i lt = absurd (omega arith)
 within_some (x ∷ xs) zero lt = (x, refl)
 within_some (x ∷ xs) (suc i) lt = within_some xs i (omega arith)

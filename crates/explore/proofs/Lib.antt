@@ -5,6 +5,9 @@ pub mod Steps
 pub mod Books
 pub mod Turns
 pub mod Worlds
+pub mod HandlesRenamed
+pub mod PairedLists
+pub mod Paired
 pub mod WantCalls
 pub mod WantWorlds
 pub mod SearchLaws
@@ -19,3 +22,6 @@ pub mod Choosing
 pub mod Mapped
 pub mod Turning
 pub mod Counting
+pub mod Merged
+pub mod Reached
+pub mod Concluded

@@ -2,11 +2,7 @@
 use Rattle.std.specs.Prelude.{◌≡◌, ◌<◌, ℕ, ◌+◌, zero, suc, List, [], ◌∷◌, ◌++◌, length, map, refl}
 use Rattle.std.proofs.Common.{sym, ap, ◌∙◌, subst, arith, get_or, take}
 use Rattle.race_core.specs.declared.report.Outcome.{Outcome}
-use Rattle.explore.specs.Renamed.{outcome_by, outcomes_by, replies_by}
-
-pub outcomes_map : (f : ℕ → ℕ) (xs : List Outcome) → outcomes_by f xs ≡ map (outcome_by f) xs
-outcomes_map f [] = refl
-outcomes_map f (x ∷ xs) = ap (λ ys. outcome_by f x ∷ ys) (outcomes_map f xs)
+use Rattle.explore.specs.Renamed.{outcomes_by, replies_by}
 
 pub replies_map : (f : ℕ → ℕ) (xs : List (List Outcome)) → replies_by f xs ≡ map (outcomes_by f) xs
 replies_map f [] = refl
@@ -37,15 +33,8 @@ module _ {A B : Type 0} (f : A → B) where
       → map f (take (i + 1) xs) ≡ map f (take (i + 1) ys)
   same_more xs ys i x y e lt lt' p q r = more xs i x lt p ∙ (ap (λ zs. zs ++ f x ∷ []) e ∙ (ap (λ z. map f (take i ys) ++ z ∷ []) r ∙ sym (more ys i y lt' q)))
 
-pub other_lengths : (f : ℕ → ℕ) (xs ys : List Outcome) → outcomes_by f xs ≡ outcomes_by f ys → length xs ≡ length ys
-other_lengths f xs ys e = same_lengths (outcome_by f) xs ys (sym (outcomes_map f xs) ∙ (e ∙ outcomes_map f ys))
-
 pub other_reply_lengths : (f : ℕ → ℕ) (xs ys : List (List Outcome)) → replies_by f xs ≡ replies_by f ys → length xs ≡ length ys
 other_reply_lengths f xs ys e = same_lengths (outcomes_by f) xs ys (sym (replies_map f xs) ∙ (e ∙ replies_map f ys))
-
-pub other_at : (f : ℕ → ℕ) (xs ys : List Outcome) (i : ℕ) (x y : Outcome) → outcomes_by f xs ≡ outcomes_by f ys → i < length xs → x ≡ get_or xs i x → y ≡ get_or ys i y
-    → outcome_by f x ≡ outcome_by f y
-other_at f xs ys i x y e lt p q = same_at (outcome_by f) xs ys i x y (sym (outcomes_map f xs) ∙ (e ∙ outcomes_map f ys)) lt p q
 
 pub other_reply_at : (f : ℕ → ℕ) (xs ys : List (List Outcome)) (i : ℕ) (x y : List Outcome) → replies_by f xs ≡ replies_by f ys → i < length xs → x ≡ get_or xs i x → y ≡ get_or ys i y
     → outcomes_by f x ≡ outcomes_by f y

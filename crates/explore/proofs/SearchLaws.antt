@@ -33,20 +33,20 @@ runs_append w u v (i ∷ is) js run more = (run.0, runs_append (turn run.0 w i) 
 
 -- ---- worlds like one another
 
-like_turns : {w v : WorldView} (i : ℕ) → IsLike w v → IsLike (turn full w i) (turn full v i)
+pub like_turns : {w v : WorldView} (i : ℕ) → IsLike w v → IsLike (turn full w i) (turn full v i)
 like_turns i (same u) = same (turn full u i)
 like_turns i (onward w u v alike like) = onward (turn full w i) (turn full u i) (turn full v i) (alike_turns w u full i alike) (like_turns {w = u} {v = v} i like)
 
-like_trans : {w u v : WorldView} → IsLike w u → IsLike u v → IsLike w v
+pub like_trans : {w u v : WorldView} → IsLike w u → IsLike u v → IsLike w v
 like_trans (same x) more = more
 like_trans {w} {u} {v} (onward a b c alike like) more = onward a b v alike (like_trans {w = b} {u = c} {v = v} like more)
 
-like_busy : {w v : WorldView} (i : ℕ) → IsLike w v → is_busy_at w.seats i ≡ is_busy_at v.seats i
+pub like_busy : {w v : WorldView} (i : ℕ) → IsLike w v → is_busy_at w.seats i ≡ is_busy_at v.seats i
 like_busy i (same u) = refl
 like_busy i (onward w u v alike like) =
     join (is_busy_at w.seats i) (is_busy_at u.seats i) (is_busy_at v.seats i) (busy_alike w u i alike) (like_busy {w = u} {v = v} i like)
 
-like_tells : {w v : WorldView} → IsLike w v → TellTheSame w v
+pub like_tells : {w v : WorldView} → IsLike w v → TellTheSame w v
 like_tells (same u) = record { replies = refl; nodes = refl; held = λ a. refl }
 like_tells (onward w u v alike like) =
     let first : TellTheSame w u = tell_alike w u alike in

@@ -42,17 +42,17 @@ replies_of_all w most e is =
 
 -- ---- the same outcome
 
-agree_same : (w : WorldView) (is : List ℕ) → AgreeIn w is is
+pub agree_same : (w : WorldView) (is : List ℕ) → AgreeIn w is is
 agree_same w is = record { replies = refl; nodes = refl; held = λ a lt. refl }
 
-agree_turned : (w : WorldView) (is js : List ℕ) → AgreeIn w is js → AgreeIn w js is
+pub agree_turned : (w : WorldView) (is js : List ℕ) → AgreeIn w is js → AgreeIn w js is
 agree_turned w is js h = record {
   replies = sym h.replies;
   nodes = sym h.nodes;
   held = λ a lt. sym (h.held a (subst (λ n. a < n) (actors_stay w js ∙ sym (actors_stay w is)) lt));
 }
 
-agree_on : (w : WorldView) (is js ks : List ℕ) → AgreeIn w is js → AgreeIn w js ks → AgreeIn w is ks
+pub agree_on : (w : WorldView) (is js ks : List ℕ) → AgreeIn w is js → AgreeIn w js ks → AgreeIn w is ks
 agree_on w is js ks h k = record {
   replies = h.replies ∙ k.replies;
   nodes = h.nodes ∙ k.nodes;

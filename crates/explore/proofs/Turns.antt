@@ -26,7 +26,7 @@ use Rattle.race_core.specs.Book.{BookedHistory}
 use Rattle.race_core.specs.Ledgers.{LedgerView}
 use Rattle.race_core.specs.Turns.{Luck, standing_under, handle_at, with_handle, step_at, plain, request_of, left_by, outcome_of, opened_by, ended, comes, begins, begins_next, begun, Turned, goes_on, turned, stepped_by}
 use Rattle.race_core.specs.Turns as turns
-use Rattle.race_core.specs.TurnView.{is_busy, are_some}
+use Rattle.race_core.specs.TurnView.{is_busy, is_within, are_some}
 use Rattle.explore.specs.Renamed.{step_by, answer_by, standing_by, reply_by, call_turn_by, root_by, below_by, request_by, call_by, planned_by, plans_by, outcome_by, outcomes_by, standings_by, kept_by, ledger_by, seat_by}
 use Rattle.explore.specs.Alike.{Pairs, Agree, SameSteps, SameSeats, AlikeBooks}
 use Rattle.explore.proofs.Calls.{calls_begin_blindly, steps_are_due_blindly, answers_are_taken_blindly}
@@ -255,16 +255,20 @@ module _ (pairs : Pairs) where
 
   -- ---- who is busy
 
-  blind_busy : (f : ℕ → ℕ) (seat : Seat) → is_busy (seat_by f seat) ≡ is_busy seat
-  blind_busy f seat = λ i. doing seat.doing i || plans seat.ledger.to_come i
-    where
-      doing : (view : Option CallView) → is_some (option_map (call_by f) view) ≡ is_some view
-      doing None = refl
-      doing (Some view) = refl
+  blind_within : (f : ℕ → ℕ) (view : Option CallView) → is_some (option_map (call_by f) view) ≡ is_some view
+  blind_within f None = refl
+  blind_within f (Some view) = refl
 
+  blind_busy : (f : ℕ → ℕ) (seat : Seat) → is_busy (seat_by f seat) ≡ is_busy seat
+  blind_busy f seat = λ i. blind_within f seat.doing i || plans seat.ledger.to_come i
+    where
       plans : (to_come : List Planned) → are_some (plans_by f to_come) ≡ are_some to_come
       plans [] = refl
       plans (next ∷ others) = refl
 
   pub same_busy : (s t : Seat) → SameSeats pairs s t → is_busy s ≡ is_busy t
   same_busy s t same = sym (blind_busy (λ h. 0) s) ∙ ap is_busy (same (λ h. 0) (λ h. 0) (zero_agrees pairs)) ∙ blind_busy (λ h. 0) t
+
+  pub same_within : (s t : Seat) → SameSeats pairs s t → is_within s ≡ is_within t
+  same_within s t same =
+      sym (blind_within (λ h. 0) s.doing) ∙ ap is_within (same (λ h. 0) (λ h. 0) (zero_agrees pairs)) ∙ blind_within (λ h. 0) t.doing

@@ -3,11 +3,11 @@ use Rattle.std.specs.Prelude.{◌≡◌, ℕ, zero, suc, List, [], ◌∷◌, tr
 use Rattle.std.proofs.Common.{ap}
 use Rattle.race_core.specs.declared.seat.Seat.{Seat}
 use Rattle.race_core.specs.Turns.{Luck}
-use Rattle.race_core.specs.Worlds.{WorldView, turn_of, turn, is_busy_in, ledgers_in, replies_in}
+use Rattle.race_core.specs.Worlds.{WorldView, turn_of, turn, is_busy_in, is_within_in, is_within_at, ledgers_in, replies_in}
 use Rattle.explore.specs.Renamed.{replies_by}
 use Rattle.explore.specs.Alike.{Pairs, SameSeats, AlikeSeats, AlikeBy, Alike, full, after_turns, AlikeWorldsTakeAlikeTurns, AlikeWorldsAreBusyAlike, AlikeWorldsTellTheSame, AlikeWorldsEndAlike}
 use Rattle.explore.proofs.Steps.{zero_agrees}
-use Rattle.explore.proofs.Turns.{turned_alike, same_busy}
+use Rattle.explore.proofs.Turns.{turned_alike, same_busy, same_within}
 
 -- the seats stay alike where more handles are paired
 more_alike : (pairs more : Pairs) → ((h k : ℕ) → pairs h k ≡ true → more h k ≡ true) → (ss ts : List Seat) → AlikeSeats pairs ss ts → AlikeSeats more ss ts
@@ -59,6 +59,16 @@ busy_alike w v i alike = by (slice_get w.seats i) (slice_get v.seats i) (get_ali
     by : (s t : Option Seat) → BothAlike alike.0 s t → is_busy_in s ≡ is_busy_in t
     by None None both = refl
     by (Some s) (Some t) both = same_busy alike.0 s t both
+    by None (Some t) both = absurd both
+    by (Some s) None both = absurd both
+
+-- and the same calls are under way
+pub within_alike : (w v : WorldView) (i : ℕ) → Alike w v → is_within_at w.seats i ≡ is_within_at v.seats i
+within_alike w v i alike = by (slice_get w.seats i) (slice_get v.seats i) (get_alike alike.0 w.seats v.seats i alike.1.seats)
+  where
+    by : (s t : Option Seat) → BothAlike alike.0 s t → is_within_in s ≡ is_within_in t
+    by None None both = refl
+    by (Some s) (Some t) both = same_within alike.0 s t both
     by None (Some t) both = absurd both
     by (Some s) None both = absurd both
 

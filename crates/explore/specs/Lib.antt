@@ -6,6 +6,9 @@ pub mod Search
 pub mod Lists
 pub mod Explored
 pub mod Points
+pub mod Paired
 pub mod Opened
 pub mod Tally
 pub mod Searching
+pub mod Merged
+pub mod Concluded

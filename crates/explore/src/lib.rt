@@ -4,7 +4,8 @@
 //! each how many lists lead to it, and the least of them with its report (`specs/Explored.antt`).
 //!
 //! Two worlds are *alike* where they differ in the numbers of their actors' handles alone (`specs/Alike.antt`). What is
-//! looked at in a search of all schedules is one of alike worlds: the laws say that it stands for all of them.
+//! looked at in a search of all schedules is one of alike worlds: the laws say that it stands for all of them, and
+//! `Seen::is_alike` tells exactly whether two worlds are.
 #![tactic(auto)]
 
 mod beginnings;
@@ -15,6 +16,7 @@ mod path;
 mod same;
 mod scene;
 mod search;
+mod seen;
 mod tally;
 #[cfg(test)]
 mod tests;
@@ -22,7 +24,11 @@ mod want;
 
 pub use beginnings::Beginnings;
 pub use found::{Class, Ending, Findings};
-pub use laws::{alike_worlds_go_alike, calls_are_blind, chosen_lists_stand_for_all, want_is_told};
+pub use laws::{
+    alike_worlds_go_alike, calls_are_blind, chosen_lists_stand_for_all, counts_conclude,
+    want_is_told, words_are_lists,
+};
 pub use limits::{Limits, SearchFault};
 pub use scene::Scene;
 pub use search::explore;
+pub use seen::Seen;

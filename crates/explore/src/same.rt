@@ -1,74 +1,10 @@
 //! Whether two runs tell the same.
 ghost use Rattle.std.specs.Prelude.{◌≡◌, ◌<◌, ◌≤◌, ℕ, IsTrue, ◌↔◌, length};
 ghost use Rattle.tree_model.specs.Steps.{held_count};
-ghost use Rattle.explore.specs.Renamed.{answer_by, outcome_by, outcomes_by, replies_by};
+ghost use Rattle.explore.specs.Renamed.{replies_by};
 
-use race_core::{ACTORS_MAX, Outcome, Outcomes};
-use tree_model::{Actor, Answer, Inode, Tree};
-
-// Whether the answers are equal but for the number of a handle.
-fn same_answers(answer: &Answer, other: &Answer) -> bool
-    ensures { IsTrue result ↔ (answer_by (λ h. 0) answer.now ≡ answer_by (λ h. 0) other.now) }
-{
-    match (answer, other) {
-        (
-            Answer::Opened {
-                handle: _,
-                node,
-                kind,
-            },
-            Answer::Opened {
-                handle: _,
-                node: n,
-                kind: k,
-            },
-        ) => node == n && kind == k,
-        (Answer::Text(text), Answer::Text(t)) => text.same(t),
-        (Answer::Names(names), Answer::Names(n)) => names.same(n),
-        (Answer::NotBelow, Answer::NotBelow) => true,
-        (Answer::Listed(names), Answer::Listed(n)) => names.same(n),
-        (Answer::Done, Answer::Done) => true,
-        (Answer::Refused(error), Answer::Refused(e)) => error == e,
-        _ => false,
-    }
-}
-
-// Whether the calls ended in the same way but for the number of a handle.
-fn same_outcomes(outcome: &Outcome, other: &Outcome) -> bool
-    ensures { IsTrue result ↔ (outcome_by (λ h. 0) outcome.now ≡ outcome_by (λ h. 0) other.now) }
-{
-    match (outcome, other) {
-        (
-            Outcome::Opened { node, kind, names },
-            Outcome::Opened {
-                node: n,
-                kind: k,
-                names: m,
-            },
-        ) => node == n && kind == k && names.same(m),
-        (Outcome::Text(text), Outcome::Text(t)) => text.same(t),
-        (Outcome::Done, Outcome::Done) => true,
-        (Outcome::Count(count), Outcome::Count(c)) => count == c,
-        (Outcome::Stepped(answer), Outcome::Stepped(a)) => same_answers(answer, a),
-        (Outcome::Fault(error), Outcome::Fault(e)) => error == e,
-        _ => false,
-    }
-}
-
-// Whether the calls of an actor ended in the same way, one by one.
-fn same_calls(outcomes: &[Outcome], others: &[Outcome]) -> bool
-    ensures { IsTrue result ↔ (outcomes_by (λ h. 0) outcomes.now ≡ outcomes_by (λ h. 0) others.now) }
-{
-    if outcomes.len() != others.len() {
-        return false;
-    }
-    for (call, outcome) in outcomes.iter().enumerate() {
-        if !same_outcomes(outcome, &others[call]) {
-            return false;
-        }
-    }
-    true
-}
+use race_core::{ACTORS_MAX, Outcomes, like_outcomes};
+use tree_model::{Actor, Inode, Tree};
 
 /// Whether the calls of each actor ended in the same way but for the numbers of handles.
 pub(crate) fn same_replies(replies: &[Outcomes], others: &[Outcomes]) -> bool
@@ -78,7 +14,7 @@ pub(crate) fn same_replies(replies: &[Outcomes], others: &[Outcomes]) -> bool
         return false;
     }
     for (actor, outcomes) in replies.iter().enumerate() {
-        if !same_calls(outcomes.as_slice(), others[actor].as_slice()) {
+        if !like_outcomes(outcomes.as_slice(), others[actor].as_slice()) {
             return false;
         }
     }

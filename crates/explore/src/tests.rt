@@ -1,7 +1,7 @@
 //! Races on a small tree, each gone through in full.
-use crate::{Limits, Scene, SearchFault, explore};
+use crate::{Beginnings, Limits, Scene, SearchFault, Seen, explore};
 use path_text::{Bytes, Errno, Flags, Name, Names, NoMemory};
-use race_core::{ActorPlan, Outcome, Planned, Plans, Ref};
+use race_core::{ActorPlan, Outcome, Planned, Plans, Ref, World};
 use root_ops::{Op, Request};
 use std::alloc::Global;
 use std::test::Fail;
@@ -212,6 +212,69 @@ fn searches_are_told(rt: HostRuntime) -> Result<(), Fail> {
             _ => false,
         };
         assert!(rt; same, "{lines} {turns}");
+    }
+    Ok(())
+}
+
+// Nothing more is asked of the world.
+fn end(alloc: Global, world: World<ListTree>) {
+    let _ = world.run(alloc, [].as_slice());
+}
+
+// The world after the turns of these actors, a digit each.
+fn seen(alloc: Global, scene: &Scene, turns: &str) -> Result<Seen<ListTree>, Fail> {
+    let mut world = scene.world(alloc)?;
+    for turn in turns.as_bytes() {
+        if world
+            .turn(alloc, u32::from(turn.saturating_sub(b'0')))
+            .is_err()
+        {
+            end(alloc, world);
+            return Err(NoMemory.into());
+        }
+    }
+    match Seen::new(alloc, world) {
+        Ok(seen) => Ok(seen),
+        Err(world) => {
+            end(alloc, world);
+            Err(NoMemory.into())
+        }
+    }
+}
+
+fn are_alike(alloc: Global, scene: &Scene, turns: &str, others: &str) -> Result<bool, Fail> {
+    let one = seen(alloc, scene, turns)?;
+    let other = match seen(alloc, scene, others) {
+        Ok(other) => other,
+        Err(fail) => {
+            end(alloc, one.into_world());
+            return Err(fail);
+        }
+    };
+    let alike = one.is_alike(&other);
+    end(alloc, one.into_world());
+    end(alloc, other.into_world());
+    Ok(alike)
+}
+
+// Two lists of turns, and whether they lead to alike worlds: by 01 and by 10 each actor holds the same, by another number.
+const LIKENESSES: [(&str, &str, bool); 8] = [
+    ("", "", true),
+    ("01", "10", true),
+    ("0", "1", false),
+    ("01", "01", true),
+    ("0011", "1100", true),
+    ("0011", "0111", false),
+    ("000111111", "111111000", true),
+    ("0001111111", "1111111000", false),
+];
+
+#[test]
+fn worlds_are_compared(rt: HostRuntime) -> Result<(), Fail> {
+    let scene = scene(rt.alloc(), MOVED_OUT)?;
+    for (turns, others, wanted) in LIKENESSES.as_slice() {
+        let alike = are_alike(rt.alloc(), &scene, turns, others)?;
+        assert!(rt; alike == *wanted, "{turns} {others}");
     }
     Ok(())
 }

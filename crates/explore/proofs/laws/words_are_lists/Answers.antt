@@ -1,0 +1,5 @@
+use Rattle.explore.proofs.Merged.{words_are_lists}
+use Rattle.explore.proofs.laws.words_are_lists.Goals as goal
+
+pub returns : goal.returns
+returns c = words_are_lists
