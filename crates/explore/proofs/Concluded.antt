@@ -15,7 +15,7 @@ use Rattle.explore.specs.Lists.{is_less_or, is_not_after, is_at_most, rank}
 use Rattle.explore.specs.Explored.{IsAsked, AgreeIn, ClassView, HasClass, IsLongest}
 use Rattle.explore.specs.Merged.{Places, IsFit, IsListOf}
 use Rattle.explore.specs.Concluded.{IsMergedClass, IsMerged, AreFound, IsToldBy, AreToldBy, HasLeast, FoundClassesHaveLeasts, CountsConclude}
-use Rattle.explore.proofs.Counting.{within_some}
+use Rattle.explore.proofs.Indices.{within_some}
 use Rattle.explore.proofs.Told.{agree_same, agree_turned, agree_on}
 use Rattle.explore.proofs.Merged.{list_word, word_list}
 use Rattle.explore.proofs.Reached.{some_word}

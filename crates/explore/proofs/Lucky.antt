@@ -1,13 +1,12 @@
 -- A run to an end that tells of no want had memory for each turn: so did what was gone through on the way.
-use Rattle.std.specs.Prelude.{◌≡◌, ℕ, List, [], ◌∷◌, ◌++◌, true, false, Option}
-use Rattle.std.proofs.Common.{sym, ap, ◌∙◌, subst, ⊎_elim}
+use Rattle.std.specs.Prelude.{◌≡◌, ℕ, List, [], ◌∷◌, ◌++◌, true, false}
+use Rattle.std.proofs.Common.{sym, ap, ◌∙◌, ⊎_elim}
 use Rattle.std.proofs.lemmas.Bool.{true≢false}
 use Rattle.race_core.specs.Turns.{Luck}
 use Rattle.race_core.specs.Worlds.{WorldView, turn, ledgers_in, replies_in, AllOver, Runs}
-use Rattle.explore.specs.declared.path.Choice.{Choice}
 use Rattle.explore.specs.Alike.{full}
 use Rattle.explore.specs.Want.{seats_want, replies_want}
-use Rattle.explore.specs.Points.{Point, onward, along, marks_after, Goes, AreChoices, choices_in, actors_of, AreChosen, Extends}
+use Rattle.explore.specs.Points.{Point, onward, along, marks_after, Goes}
 use Rattle.explore.proofs.WantWorlds.{turn_tells, run_stays, told_at_end, ap_at, join}
 use Rattle.explore.proofs.SearchLaws.{runs_append}
 
@@ -53,25 +52,3 @@ goes_full p q (i ∷ is) go well =
 pub goes_push : (p q r : Point) (is : List ℕ) (i : ℕ) (luck : Luck) → Goes p is q → r ≡ onward luck q i → Goes p (is ++ i ∷ []) r
 goes_push p q r [] i luck go e = (luck, join r (onward luck q i) (onward luck p i) e (ap_at (λ (x : Point). onward luck x i) q p go))
 goes_push p q r (j ∷ js) i luck go e = (go.0, goes_push (onward go.0 p j) q r js i luck go.1 e)
-
--- ---- choices on the way
-
-pub goes_of : (most : Option ℕ) (p q : Point) (cs : List Choice) → Extends most p cs q → Goes p (actors_of cs) q
-goes_of most p q [] ext = ext
-goes_of most p q (c ∷ cs) ext = (ext.1.0, goes_of most (onward ext.1.0 p c.actor) q cs ext.1.1)
-
-pub extends_full : (most : Option ℕ) (p q : Point) (cs : List Choice) → Extends most p cs q → EndsWell q.world → AreChosen most p cs
-extends_full most p q [] ext well = tt
-extends_full most p q (c ∷ cs) ext well =
-    let luck = ext.1.0 in
-    let here : onward luck p c.actor ≡ onward full p c.actor =
-    full_onward luck p c.actor (well_before (onward luck p c.actor) q (actors_of cs) (goes_of most (onward luck p c.actor) q cs ext.1.1) well) in
-    (ext.0, subst (λ (r : Point). AreChosen most r cs) here (extends_full most (onward luck p c.actor) q cs ext.1.1 well))
-
-pub extends_push : (most : Option ℕ) (p q r : Point) (cs : List Choice) (c : Choice) (luck : Luck)
-    → Extends most p cs q → AreChoices most q (choices_in c) → r ≡ onward luck q c.actor → Extends most p (cs ++ c ∷ []) r
-extends_push most p q r [] c luck ext here e = (
-  subst (λ (x : Point). AreChoices most x (choices_in c)) ext here,
-  (luck, join r (onward luck q c.actor) (onward luck p c.actor) e (ap_at (λ (x : Point). onward luck x c.actor) q p ext)),
-)
-extends_push most p q r (d ∷ ds) c luck ext here e = (ext.0, (ext.1.0, extends_push most (onward ext.1.0 p d.actor) q r ds c luck ext.1.1 here e))

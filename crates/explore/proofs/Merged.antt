@@ -26,7 +26,7 @@ like_within : {w v : WorldView} (i : ℕ) → IsLike w v → is_within_at w.seat
 like_within i (same u) = refl
 like_within i (onward w u v alike like) = within_alike w u i alike ∙ like_within {w = u} {v = v} i like
 
-like_cut : {w v : WorldView} (last : Option ℕ) (i : ℕ) → IsLike w v → is_cut w.seats last i ≡ is_cut v.seats last i
+pub like_cut : {w v : WorldView} (last : Option ℕ) (i : ℕ) → IsLike w v → is_cut w.seats last i ≡ is_cut v.seats last i
 like_cut None i like = refl
 like_cut {w} {v} (Some j) i like = ap (λ (b : Bool). is_another (Some j) i && b) (like_within {w = w} {v = v} j like)
 

@@ -7,7 +7,7 @@ use Rattle.tree_model.specs.declared.inode.OpenHandle.{OpenHandle}
 use Rattle.race_core.specs.declared.seat.Seat.{Seat}
 use Rattle.race_core.specs.Renamed.{seat_handles}
 use Rattle.explore.specs.Paired.{all_handles, AreAt, IsApartBefore, OpenAlike, ArePaired}
-use Rattle.explore.proofs.Choosing.{at_or_below}
+use Rattle.explore.proofs.Indices.{at_or_below}
 
 -- ---- the handles of one actor more
 

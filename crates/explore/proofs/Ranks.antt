@@ -1,21 +1,11 @@
 -- Lists of turns are in one order.
 use Rattle.std.specs.Prelude.{◌≡◌, ◌<◌, ◌≤◌, ℕ, zero, suc, length, List, [], ◌∷◌, Bool, true, false, refl}
-use Rattle.std.proofs.Common.{◌⊎◌, ◌∙◌, subst, ⊎_elim, arith, drop}
+use Rattle.std.proofs.Common.{arith, drop}
 use Rattle.std.proofs.lemmas.Bool.Decides.{nat_tests}
-use Rattle.std.proofs.lemmas.Bool.{true≢false, false≢true}
-use Rattle.explore.specs.Lists.{is_less_or, is_not_after, Rank, is_at_most}
-
-less_cases : (m n : ℕ) (b : Bool) → is_less_or m n b ≡ true → (m < n) ⊎ ((m ≡ n) × (b ≡ true))
-less_cases m n b e = grind (arith, nat_tests)
-
-less_by : (m n : ℕ) (b : Bool) → m < n → is_less_or m n b ≡ true
-less_by m n b e = grind (arith, nat_tests)
+use Rattle.explore.specs.Lists.{is_less_or, is_not_after}
 
 same_by : (m : ℕ) (b : Bool) → b ≡ true → is_less_or m m b ≡ true
 same_by m b e = grind (arith, nat_tests)
-
-more_cases : (m n : ℕ) (b : Bool) → is_less_or m n b ≡ false → (n < m) ⊎ ((m ≡ n) × (b ≡ false))
-more_cases m n b e = grind (arith, nat_tests)
 
 -- ---- the order of words
 
@@ -23,45 +13,7 @@ not_after_same : (is : List ℕ) → is_not_after is is ≡ true
 not_after_same [] = refl
 not_after_same (i ∷ is) = same_by i (is_not_after is is) (not_after_same is)
 
-not_after_total : (is js : List ℕ) → is_not_after is js ≡ false → is_not_after js is ≡ true
-not_after_total [] js e = absurd (true≢false e)
-not_after_total (i ∷ is) [] e = refl
-not_after_total (i ∷ is) (j ∷ js) e =
-    ⊎_elim (λ lt. less_by j i (is_not_after js is) lt)
-    (λ q. subst (λ k. is_less_or k i (is_not_after js is) ≡ true) q.0 (same_by i (is_not_after js is) (not_after_total is js q.1)))
-    (more_cases i j (is_not_after is js) e)
-
-chain_less : (m n k : ℕ) (b c d : Bool) → (b ≡ true → c ≡ true → d ≡ true) → is_less_or m n b ≡ true → is_less_or n k c ≡ true → is_less_or m k d ≡ true
-chain_less m n k b c d on e f =
-    ⊎_elim
-    (λ lt. ⊎_elim (λ lt'. less_by m k d (omega arith)) (λ q. less_by m k d (omega (arith, q.0))) (less_cases n k c f))
-    (λ p. ⊎_elim (λ lt'. less_by m k d (omega (arith, p.0)))
-    (λ q. subst (λ j. is_less_or m j d ≡ true) (p.0 ∙ q.0) (same_by m d (on p.1 q.1))) (less_cases n k c f))
-    (less_cases m n b e)
-
-not_after_chain : (is js ks : List ℕ) → is_not_after is js ≡ true → is_not_after js ks ≡ true → is_not_after is ks ≡ true
-not_after_chain [] js ks e f = refl
-not_after_chain (i ∷ is) [] ks e f = absurd (false≢true e)
-not_after_chain (i ∷ is) (j ∷ js) [] e f = absurd (false≢true f)
-not_after_chain (i ∷ is) (j ∷ js) (k ∷ ks) e f =
-    chain_less i j k (is_not_after is js) (is_not_after js ks) (is_not_after is ks) (not_after_chain is js ks) e f
-
 -- ---- ranks
-
-pub ranks_same : (a : Rank) → is_at_most a a ≡ true
-ranks_same a = same_by a.cuts _ (same_by a.changes _ (not_after_same a.turns))
-
-total_less : (m n : ℕ) (b c : Bool) → (b ≡ false → c ≡ true) → is_less_or m n b ≡ false → is_less_or n m c ≡ true
-total_less m n b c on e =
-    ⊎_elim (λ lt. less_by n m c lt) (λ q. subst (λ k. is_less_or k m c ≡ true) q.0 (same_by m c (on q.1))) (more_cases m n b e)
-
-pub ranks_total : (a b : Rank) → is_at_most a b ≡ false → is_at_most b a ≡ true
-ranks_total a b e =
-    total_less a.cuts b.cuts _ _ (λ f. total_less a.changes b.changes _ _ (λ g. not_after_total a.turns b.turns g) f) e
-
-pub ranks_chain : (a b c : Rank) → is_at_most a b ≡ true → is_at_most b c ≡ true → is_at_most a c ≡ true
-ranks_chain a b c e f =
-    chain_less a.cuts b.cuts c.cuts _ _ _ (λ g h. chain_less a.changes b.changes c.changes _ _ _ (λ i j. not_after_chain a.turns b.turns c.turns i j) g h) e f
 
 past_none : (is : List ℕ) (n : ℕ) → n < length is → is_not_after (drop n is) [] ≡ false
 past_none [] n lt = absurd (omega arith)

@@ -1,5 +1,5 @@
 -- What a search that merges alike worlds comes to, and how it follows from the counts of its graph.
-use Rattle.std.specs.Prelude.{◌≡◌, ℕ, List, true, length, slice_get, Option, Some}
+use Rattle.std.specs.Prelude.{◌≡◌, ◌<◌, ◌^◌, ℕ, List, true, length, slice_get, Option, Some}
 use Rattle.std.specs.Global.{Vec}
 use Rattle.race_core.specs.Worlds.{WorldView}
 use Rattle.turn_graph.specs.declared.graph.Spot.{Spot}
@@ -46,6 +46,29 @@ pub record IsToldBy (w : WorldView) (most : Option ℕ) (count : Count) (class :
 pub record AreToldBy (w : WorldView) (most : Option ℕ) (found : List ClassView) (counts : List Count) (classes : List ClassView) : Type 0 where
   pub as_many : length classes ≡ length found
   pub each : (k : ℕ) (class : ClassView) → slice_get classes k ≡ Some class → (count : Count) × ((slice_get counts k ≡ Some count) × IsToldBy w most count class)
+
+-- ---- counts that are told again
+
+-- it has a least list that can be gone through
+pub record HasShort (count : Count) : Type 0 where
+  pub least : words.Rank
+  pub counted : count.least ≡ Some least
+  pub short : length least.turns < 2 ^ 40
+
+abbrev pub AreShort : List Count → Type 0
+AreShort counts = (k : ℕ) (count : Count) → slice_get counts k ≡ Some count → HasShort count
+
+-- and that is asked for
+abbrev pub AsksIn : WorldView → Option ℕ → Count → Type 0
+AsksIn w most count = (least : words.Rank) → count.least ≡ Some least → IsAsked w most least.turns
+
+abbrev pub AskIn : WorldView → Option ℕ → List Count → Type 0
+AskIn w most counts = (k : ℕ) (count : Count) → slice_get counts k ≡ Some count → AsksIn w most count
+
+-- each class is told by the count at its place
+abbrev pub AreToldIn : WorldView → Option ℕ → List Count → List ClassView → Type 0
+AreToldIn w most counts classes =
+    (k : ℕ) (class : ClassView) → slice_get classes k ≡ Some class → (count : Count) × ((slice_get counts k ≡ Some count) × IsToldBy w most count class)
 
 -- ---- the laws
 

@@ -1,5 +1,5 @@
--- What a search of all schedules of a world comes to.
-use Rattle.std.specs.Prelude.{◌≡◌, ◌<◌, ◌≤◌, ◌⊎◌, ℕ, List, [], ◌∷◌, true, length, Option, Some, None, slice_get}
+-- What is asked of a search of all schedules of a world, and what it tells.
+use Rattle.std.specs.Prelude.{◌≡◌, ◌<◌, ◌≤◌, ℕ, List, [], ◌∷◌, true, length, Option, Some, None, slice_get}
 use Rattle.tree_model.specs.declared.answer.Event.{Event}
 use Rattle.tree_model.specs.State.{State}
 use Rattle.tree_model.specs.Steps.{held_count}
@@ -14,36 +14,7 @@ use Rattle.explore.specs.declared.limits.SearchFault.TheVariants as fault
 use Rattle.explore.specs.Renamed.{replies_by}
 use Rattle.explore.specs.Alike.{full, after_turns}
 use Rattle.explore.specs.Search.{IsFull}
-use Rattle.explore.specs.Lists.{cuts, rank, is_at_most}
-
--- ---- so many lists
-
-abbrev pub IsAmong : {A : Type 0} → A → List A → Type 0
-IsAmong x [] = ⊥
-IsAmong x (y ∷ ys) = (x ≡ y) ⊎ IsAmong x ys
-
-abbrev pub EachOnce : {A : Type 0} → List A → Type 0
-EachOnce [] = Unit {0}
-EachOnce (x ∷ xs) = (¬ IsAmong x xs) × EachOnce xs
-
--- all of which it holds, each once
-pub record AreAll (P : List ℕ → Type 0) (lists : List (List ℕ)) : Type 0 where
-  pub each : (is : List ℕ) → IsAmong is lists → P is
-  pub all : (is : List ℕ) → P is → IsAmong is lists
-  pub once : EachOnce lists
-
--- it holds of so many lists
-pub record AreSoMany (P : List ℕ → Type 0) (n : ℕ) : Type 0 where
-  pub lists : List (List ℕ)
-  pub are_all : AreAll P lists
-  pub count : n ≡ length lists
-
--- it holds of more than so many
-pub record AreMore (P : List ℕ → Type 0) (n : ℕ) : Type 0 where
-  pub lists : List (List ℕ)
-  pub each : (is : List ℕ) → IsAmong is lists → P is
-  pub once : EachOnce lists
-  pub more : n < length lists
+use Rattle.explore.specs.Lists.{cuts, rank}
 
 -- ---- which lists are asked for, and what they tell
 
@@ -95,12 +66,6 @@ pub record IsEnding (w : WorldView) (most : Option ℕ) (ending : EndingView) : 
   pub ranked : record { cuts = ending.cuts; changes = ending.changes; turns = ending.turns } ≡ rank w ending.turns
   pub report : Reports (after_turns w ending.turns).book (ledgers_in (after_turns w ending.turns).seats) ending.tree ending.events ending.replies ending.kept
 
--- The list is the least of those that are asked for and lead to its outcome, and so many do.
-pub record IsClass (w : WorldView) (most : Option ℕ) (class : ClassView) : Type 0 where
-  pub ending : IsEnding w most class.least
-  pub least : (is : List ℕ) → IsAsked w most is → AgreeIn w is class.least.turns → is_at_most (rank w class.least.turns) (rank w is) ≡ true
-  pub lists : AreSoMany (λ is. IsAsked w most is × AgreeIn w is class.least.turns) class.lists
-
 -- one of the classes has this list's outcome
 pub record HasClass (w : WorldView) (classes : List ClassView) (is : List ℕ) : Type 0 where
   pub at : ℕ
@@ -113,14 +78,6 @@ pub record IsLongest (w : WorldView) (most : Option ℕ) (turns : ℕ) : Type 0 
   pub reached : (is : List ℕ) × (IsAsked w most is × (length is ≡ turns))
   pub bounded : (is : List ℕ) → IsAsked w most is → length is ≤ turns
 
--- All lists that are asked for are counted; each has its outcome among the classes, and no two classes have the same one.
-pub record IsExplored (w : WorldView) (most : Option ℕ) (classes : List ClassView) (lists turns : ℕ) : Type 0 where
-  pub counted : AreSoMany (IsAsked w most) lists
-  pub longest : IsLongest w most turns
-  pub told : (is : List ℕ) → IsAsked w most is → HasClass w classes is
-  pub apart : (k l : ℕ) (c d : ClassView) → slice_get classes k ≡ Some c → slice_get classes l ≡ Some d → AgreeIn w c.least.turns d.least.turns → k ≡ l
-  pub each : (k : ℕ) (c : ClassView) → slice_get classes k ≡ Some c → IsClass w most c
-
 -- ---- why nothing is told
 
 -- each turn of the list is of an actor who has something left to do then, there are few cuts, and more turns than so many
@@ -132,5 +89,5 @@ pub record IsTooLong (w : WorldView) (most : Option ℕ) (turns : ℕ) (is : Lis
 abbrev pub WhyNot : WorldView → Limits → SearchFault → Type 0
 WhyNot w limits fault.TooManyActors = ACTORS_MAX < length w.seats
 WhyNot w limits fault.TooManyTurns = (is : List ℕ) × IsTooLong w limits.cuts limits.turns is
-WhyNot w limits fault.TooManyLists = AreMore (IsAsked w limits.cuts) limits.lists
+WhyNot w limits fault.TooManyStates = Unit {0}
 WhyNot w limits fault.NoMemory = Unit {0}

@@ -9,6 +9,7 @@ pub mod Points
 pub mod Paired
 pub mod Opened
 pub mod Tally
-pub mod Searching
 pub mod Merged
 pub mod Concluded
+pub mod Layers
+pub mod Spreading

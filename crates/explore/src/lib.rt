@@ -1,18 +1,22 @@
 //! Every schedule of actors' planned calls.
 //!
-//! `explore` goes through all full lists of turns of a world, those with at most so many cuts, and tells the outcomes: of
-//! each how many lists lead to it, and the least of them with its report (`specs/Explored.antt`).
+//! `explore` tells what all full lists of turns of a world come to, those with at most so many cuts: the outcomes, of each
+//! how many lists lead to it, and the least of them with its report (`IsMerged` of `specs/Concluded.antt`). The layer above
+//! uses that contract alone.
 //!
-//! Two worlds are *alike* where they differ in the numbers of their actors' handles alone (`specs/Alike.antt`). What is
-//! looked at in a search of all schedules is one of alike worlds: the laws say that it stands for all of them, and
-//! `Seen::is_alike` tells exactly whether two worlds are.
+//! Two worlds are *alike* where they differ in the numbers of their actors' handles alone (`specs/Alike.antt`), and
+//! `Seen::is_alike` tells exactly whether two are. The search goes on with one of alike worlds, layer by layer
+//! (`specs/Layers.antt`); the stands of lists on them make a graph, and the laws say that its words are the lists.
 #![tactic(auto)]
 
 mod beginnings;
+mod ends;
 mod found;
+mod growing;
 mod laws;
+mod layer;
 mod limits;
-mod path;
+mod marks;
 mod same;
 mod scene;
 mod search;
@@ -21,6 +25,7 @@ mod tally;
 #[cfg(test)]
 mod tests;
 mod want;
+mod ways;
 
 pub use beginnings::Beginnings;
 pub use found::{Class, Ending, Findings};

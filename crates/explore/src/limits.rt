@@ -8,8 +8,8 @@ use thiserror::Error;
 /// What is gone through at most.
 #[derive(Clone, Copy, Debug, PartialEq, Eq)]
 pub struct Limits {
-    /// The most full lists.
-    pub lists: u64,
+    /// The most worlds, of alike ones one.
+    pub states: u64,
     /// The most turns of a list.
     pub turns: u32,
     /// Only the lists with at most so many cuts, or all of them.
@@ -25,9 +25,9 @@ pub enum SearchFault {
     /// A list has more turns than the limit.
     #[error("too many turns")]
     TooManyTurns,
-    /// There are more lists than the limit.
-    #[error("too many schedules")]
-    TooManyLists,
+    /// There are more worlds than the limit, of alike ones one.
+    #[error("too many states")]
+    TooManyStates,
     /// Room was refused.
     #[error("out of memory")]
     NoMemory,

@@ -1,194 +1,210 @@
-//! All full lists of turns, one after another.
-ghost use Rattle.std.specs.Prelude.{◌≡◌, ◌<◌, ◌≤◌, ◌^◌, [], true, false, length, IfOk, IfErr, OnOk};
-ghost use Rattle.race_core.specs.Worlds.{RunsTo};
-ghost use Rattle.explore.specs.Explored.{IsExplored, WhyNot};
-ghost use Rattle.explore.specs.Points.{start, no_marks, actors_of, IsTurn, AreWithin, Goes, GoesOn, AreChoices, IsSound, Went, Follows};
-ghost use Rattle.explore.specs.Want.{replies_want};
+//! All full lists of turns, by layers of merged worlds.
+ghost use Rattle.std.specs.Prelude.{◌≡◌, ◌<◌, ◌≤◌, ◌+◌, ◌^◌, ◌++◌, ◌∷◌, [], ℕ, Option, length, IfOk, IfErr, OnOk};
+ghost use Rattle.std.specs.Global.{Vec};
+ghost use Rattle.race_core.specs.declared.opening.TheConstants.{ACTORS_MAX};
+ghost use Rattle.turn_graph.specs.declared.graph.Spot.{Spot};
+ghost use Rattle.explore.specs.Explored.{WhyNot};
+ghost use Rattle.explore.specs.Concluded.{IsMerged, IsToldBy, HasShort, AsksIn, AreShort, AskIn, AreToldIn};
+ghost use Rattle.explore.specs.Layers.{LayerView, AreOn, AreLed, IsFirst, IsPassed, HasSearched};
 
 use crate::beginnings::Beginnings;
-use crate::found::{Ending, Findings};
+use crate::ends::{all_ended, spots_of};
+use crate::found::{Class, Findings};
+use crate::growing::{ended, give_up, led};
+use crate::layer::{Layer, Stand};
 use crate::limits::{Limits, SearchFault};
-use crate::path::{Choice, Marks, advance, choices, marks_after, no_marks};
-use crate::want::tells_want;
+use crate::marks::no_marks;
+use crate::ways::spread;
 use path_text::NoMemory;
-use race_core::{ACTORS_MAX, Report, World};
+use race_core::ACTORS_MAX;
 use std::alloc::Global;
 use tree_model::Tree;
+use turn_graph::{Count, Graph};
 
-// One turn of that actor, and the marks after it.
-fn take_turn<T: Tree>(
-    alloc: Global,
-    world: &mut World<T>,
-    marks: &mut Marks,
-    actor: u32,
-) -> Result<(), NoMemory>
-    requires { AreWithin marks.old (2 ^ 40) }
-    ensures { OnOk result (IsTurn (record { world = world.old; marks = marks.old }) actor (record { world = world.new; marks = marks.new })) }
-{
-    let after = marks_after(world, *marks, actor);
-    if world.turn(alloc, actor).is_err() {
-        return Err(NoMemory);
-    }
-    *marks = after;
-    Ok(())
+// Ends the worlds of a layer that isn't gone on from.
+fn leave<T: Tree + Drop>(alloc: Global, layer: Layer<T>) {
+    let Layer { worlds, stands: _ } = layer;
+    give_up(alloc, worlds);
 }
 
-// The turns of the path, one after another.
-fn retrace<T: Tree>(
-    alloc: Global,
-    world: &mut World<T>,
-    marks: &mut Marks,
-    path: &[Choice],
-) -> Result<(), NoMemory>
-    requires none { marks.old ≡ no_marks }
-    requires few { length path.now < 2 ^ 40 }
-    ensures went { OnOk result (Goes (start world.old) (actors_of path.now) (record { world = world.new; marks = marks.new })) }
-    ensures within { OnOk result (AreWithin marks.new (length path.now)) }
-    ensures actors { OnOk result (length world.new.seats ≡ length world.old.seats) }
-{
-    for choice in path {
-        take_turn(alloc, world, marks, choice.actor)?;
-    }
-    Ok(())
-}
-
-// Goes on to the end, with the first choice each time, and adds the choices to the path. Whether the end comes within
-// so many turns.
-fn extend<T: Tree>(
-    alloc: Global,
-    world: &mut World<T>,
-    marks: &mut Marks,
-    limits: Limits,
-    path: &mut Vec<Choice>,
-) -> Result<bool, NoMemory>
-    requires actors { length world.old.seats ≤ ACTORS_MAX }
-    requires within { AreWithin marks.old (length path.old.items) }
-    requires turns { length path.old.items ≤ limits.turns }
-    ensures went { OnOk result (GoesOn limits.cuts (record { world = world.old; marks = marks.old }) path.old.items path.new.items (record { world = world.new; marks = marks.new })) }
-    ensures over { IfOk result (λ over. over ≡ true → AreChoices limits.cuts (record { world = world.new; marks = marks.new }) []) }
-    ensures few { IfOk result (λ over. over ≡ true → length path.new.items ≤ limits.turns) }
-    ensures many { IfOk result (λ over. over ≡ false → limits.turns < length path.new.items) }
-{
-    let turns = limits.turns as usize;
-    'turns: for _at in path.len()..turns + 1 {
-        let mut later = choices(alloc, world, *marks, limits.cuts)?;
-        let Some(actor) = later.pop() else {
-            return Ok(true);
-        };
-        path.push(Choice { actor, later })?;
-        take_turn(alloc, world, marks, actor)?;
-    }
-    Ok(false)
-}
-
-// Follows the path, and goes on from there to the end. Whether that comes within so many turns.
-fn go<T: Tree>(
-    alloc: Global,
-    world: &mut World<T>,
-    limits: Limits,
-    path: &mut Vec<Choice>,
-) -> Result<Gone, NoMemory>
-    requires actors { length world.old.seats ≤ ACTORS_MAX }
-    requires turns { length path.old.items ≤ limits.turns }
-    ensures went { IfOk result (λ gone. Went world.old limits.cuts path.old.items path.new.items (record { world = world.new; marks = gone.marks })) }
-    ensures over { IfOk result (λ gone. gone.over ≡ true → AreChoices limits.cuts (record { world = world.new; marks = gone.marks }) []) }
-    ensures few { IfOk result (λ gone. gone.over ≡ true → length path.new.items ≤ limits.turns) }
-    ensures many { IfOk result (λ gone. gone.over ≡ false → limits.turns < length path.new.items) }
-{
-    let mut marks = no_marks();
-    retrace(alloc, world, &mut marks, path.as_slice())?;
-    let over = extend(alloc, world, &mut marks, limits, path)?;
-    Ok(Gone { marks, over })
-}
-
-// What counted in a list, and whether it has come to its end.
-#[derive(Clone, Copy)]
-struct Gone {
-    marks: Marks,
-    over: bool,
-}
-
-// The report on a world. NoMemory where memory ran short in its run, too.
-fn told<T: Tree + Drop>(alloc: Global, world: World<T>) -> Result<Report<T>, NoMemory>
-    ensures ran { IfOk result (λ report. RunsTo world [] (T.state report.tree) report.events.events report.replies.items report.kept.items) }
-    ensures none { IfOk result (λ report. replies_want report.replies.items ≡ false) }
-{
-    let Ok(report) = world.run(alloc, [].as_slice()) else {
-        return Err(NoMemory);
-    };
-    if tells_want(report.replies.as_slice()) {
-        return Err(NoMemory);
-    }
-    Ok(report)
-}
-
-// The actors of the path's turns.
-fn turns_of(alloc: Global, path: &[Choice]) -> Result<Vec<u32>, NoMemory>
-    ensures { IfOk result (λ turns. turns.items ≡ actors_of path.now) }
-{
-    let mut turns = Vec::new(alloc);
-    for choice in path {
-        turns.push(choice.actor)?;
-    }
-    Ok(turns)
-}
-
-// Follows the path and goes on from there to the end of a full list, whose choices are added to it.
-fn follow<T: Tree + Drop, B: Beginnings<T>>(
+// The layer of no turns, of one world.
+//
+// Errors: TooManyActors over 64; TooManyStates where there may be no world; NoMemory where room was refused.
+fn first<T: Tree + Drop, B: Beginnings<T>>(
     alloc: Global,
     beginnings: &B,
     limits: Limits,
-    path: &mut Vec<Choice>,
-) -> Result<Ending<T>, SearchFault>
-    requires sound { IsSound limits.cuts (start (B.opening beginnings.now)) path.old.items }
-    requires turns { length path.old.items ≤ limits.turns }
-    ensures follows { IfOk result (λ ending. Follows (B.opening beginnings.now) limits.cuts path.old.items path.new.items ending) }
-    ensures few { OnOk result (length path.new.items ≤ limits.turns) }
+) -> Result<Layer<T>, SearchFault>
+    ensures first { IfOk result (λ layer. IsFirst (B.opening beginnings.now) layer) }
+    ensures on { IfOk result (λ layer. AreOn 0 layer) }
     ensures actors { OnOk result (length (B.opening beginnings.now).seats ≤ ACTORS_MAX) }
+    ensures states { OnOk result (1 ≤ limits.states) }
     ensures err { IfErr result (WhyNot (B.opening beginnings.now) limits) }
 {
-    let mut world = beginnings.world(alloc)?;
-    if world.actors() > ACTORS_MAX {
-        let _report = told(alloc, world)?;
+    if limits.states == 0 {
+        return Err(SearchFault::TooManyStates);
+    }
+    let stand = Stand {
+        world: 0,
+        turns: Vec::new(alloc),
+        marks: no_marks(),
+    };
+    let mut stands = Vec::new(alloc);
+    let Ok(()) = stands.push(stand) else {
+        return Err(SearchFault::NoMemory);
+    };
+    let live = led(alloc, beginnings, Vec::new(alloc))?;
+    if live.seen.world().actors() > ACTORS_MAX {
+        let _ending = ended(alloc, live)?;
         return Err(SearchFault::TooManyActors);
     }
-    let gone = go(alloc, &mut world, limits, path);
-    let report = told(alloc, world)?;
-    let Gone { marks, over } = gone?;
+    let mut worlds = Vec::new(alloc);
+    let Ok(()) = worlds.reserve(1) else {
+        worlds.destroy_empty();
+        let _ending = ended(alloc, live)?;
+        return Err(SearchFault::NoMemory);
+    };
+    worlds.push_reserved(live);
+    Ok(Layer { worlds, stands })
+}
+
+// Goes from one layer on to the next: its worlds are ended, and the spots of its stands added to the graph.
+//
+// Errors: TooManyStates where the next one would have more than so many worlds; NoMemory where room was refused.
+fn pass<T: Tree + Drop, B: Beginnings<T>>(
+    alloc: Global,
+    beginnings: &B,
+    limits: Limits,
+    room: u64,
+    layer: Layer<T>,
+    graph: &mut Graph,
+    classes: &mut Vec<Class<T>>,
+) -> Result<Layer<T>, SearchFault>
+    requires few { length graph.old + 1 < 2 ^ 40 }
+    requires on { AreOn (length graph.old) layer }
+    requires led { AreLed (B.opening beginnings.now) layer.worlds }
+    requires actors { length (B.opening beginnings.now).seats ≤ ACTORS_MAX }
+    ensures passed { IfOk result (λ next. (spots : Vec Spot) × ((graph.new ≡ graph.old ++ spots ∷ []) × IsPassed (B.opening beginnings.now) limits.cuts (length graph.old) layer next spots.items classes.old.items classes.new.items)) }
+    ensures room { IfOk result (λ next. length next.worlds ≤ room) }
+    ensures err { IfErr result (WhyNot (B.opening beginnings.now) limits) }
+{
+    let went = spread(alloc, beginnings, limits, room, &layer);
+    let Layer { worlds, stands } = layer;
+    let ended = all_ended(alloc, worlds, classes);
+    let (ways, next) = went?;
+    let Ok(tops) = ended else {
+        leave(alloc, next);
+        return Err(SearchFault::NoMemory);
+    };
+    let Ok(spots) = spots_of(alloc, stands.as_slice(), tops.as_slice(), ways) else {
+        leave(alloc, next);
+        return Err(SearchFault::NoMemory);
+    };
+    let Ok(()) = graph.push_layer(spots) else {
+        leave(alloc, next);
+        return Err(SearchFault::NoMemory);
+    };
+    Ok(next)
+}
+
+// Goes from layer to layer until nobody may have a turn; how many worlds there were.
+//
+// Errors: TooManyActors over 64; TooManyTurns where a list has more turns than the limit; TooManyStates where there are
+// more worlds than the limit; NoMemory where room was refused.
+fn search<T: Tree + Drop, B: Beginnings<T>>(
+    alloc: Global,
+    beginnings: &B,
+    limits: Limits,
+    graph: &mut Graph,
+    classes: &mut Vec<Class<T>>,
+) -> Result<u64, SearchFault>
+    requires graph { graph.old ≡ [] }
+    requires classes { classes.old.items ≡ [] }
+    ensures searched { OnOk result ((last : LayerView) × ((last.stands ≡ []) × HasSearched (B.opening beginnings.now) limits.cuts last graph.new classes.new.items)) }
+    ensures states { IfOk result (λ states. states ≤ limits.states) }
+    ensures depth { OnOk result (length graph.new ≤ limits.turns + 1) }
+    ensures err { IfErr result (WhyNot (B.opening beginnings.now) limits) }
+{
+    let mut states = 1;
+    let mut layer = first(alloc, beginnings, limits)?;
+    'layers: while !layer.stands.is_empty() && graph.depth() <= limits.turns as usize {
+        let room = limits.states - states;
+        layer = pass(alloc, beginnings, limits, room, layer, graph, classes)?;
+        states += layer.worlds.len() as u64;
+    }
+    let over = layer.stands.is_empty();
+    leave(alloc, layer);
     if !over {
         return Err(SearchFault::TooManyTurns);
     }
-    Ok(Ending {
-        turns: turns_of(alloc, path.as_slice())?,
-        cuts: marks.cuts,
-        changes: marks.changes,
-        report,
+    Ok(states)
+}
+
+// The class of which so many lists were counted; the least of them is gone through once more. NoMemory where room was
+// refused.
+fn told_class<T: Tree + Drop, B: Beginnings<T>>(
+    alloc: Global,
+    beginnings: &B,
+    count: &Count,
+) -> Result<Class<T>, NoMemory>
+    requires short { HasShort count.now }
+    ensures told { IfOk result (λ class. (most : Option ℕ) → AsksIn (B.opening beginnings.now) most count.now → IsToldBy (B.opening beginnings.now) most count.now class) }
+{
+    let Some(least) = &count.least else {
+        unreachable!();
+    };
+    let mut turns = Vec::new(alloc);
+    turns.extend_from_slice(least.word.as_slice())?;
+    let live = led(alloc, beginnings, turns)?;
+    let ending = ended(alloc, live)?;
+    let nodes = ending.snapshot(alloc)?;
+    Ok(Class {
+        least: ending,
+        lists: count.words,
+        nodes,
     })
 }
 
+// The class of each count, in order. NoMemory where room was refused.
+fn told_classes<T: Tree + Drop, B: Beginnings<T>>(
+    alloc: Global,
+    beginnings: &B,
+    counts: &[Count],
+) -> Result<Vec<Class<T>>, NoMemory>
+    requires short { AreShort counts.now }
+    ensures many { IfOk result (λ classes. length classes.items ≡ length counts.now) }
+    ensures told { IfOk result (λ classes. (most : Option ℕ) → AskIn (B.opening beginnings.now) most counts.now → AreToldIn (B.opening beginnings.now) most counts.now classes.items) }
+{
+    let mut classes = Vec::new(alloc);
+    for count in counts {
+        classes.push(told_class(alloc, beginnings, count)?)?;
+    }
+    Ok(classes)
+}
+
 /// Goes through every full list of turns with at most so many cuts, and tells each outcome once, with the number of its
-/// lists and the least of them. Each list is gone through in a world of its own.
+/// lists and the least of them. Of worlds that differ in the numbers of handles alone one is gone on from.
 ///
-/// Errors: TooManyActors over 64; TooManyTurns where a list has more turns than the limit; TooManyLists where there are more
-/// lists than the limit; NoMemory where room was refused, in a world's run too. Nothing is told then.
+/// Errors: TooManyActors over 64; TooManyTurns where a list has more turns than the limit; TooManyStates where there are
+/// more worlds than the limit; NoMemory where room was refused, in a world's run too. Nothing is told then.
 pub fn explore<T: Tree + Drop, B: Beginnings<T>>(
     alloc: Global,
     beginnings: &B,
     limits: Limits,
 ) -> Result<Findings<T>, SearchFault>
-    ensures explored { IfOk result (λ found. IsExplored (B.opening beginnings.now) limits.cuts found.classes.items found.lists found.turns) }
-    ensures lists { IfOk result (λ found. found.lists ≤ limits.lists) }
+    ensures merged { IfOk result (λ found. IsMerged (B.opening beginnings.now) limits.cuts found.classes.items found.lists found.turns) }
+    ensures states { IfOk result (λ found. found.states ≤ limits.states) }
     ensures err { IfErr result (WhyNot (B.opening beginnings.now) limits) }
 {
-    let mut path = Vec::new(alloc);
-    let mut found = Findings::new(alloc);
-    let mut ending = follow(alloc, beginnings, limits, &mut path)?;
-    'lists: for _at in 0..limits.lists {
-        found.tell(alloc, ending)?;
-        if !advance(&mut path) {
-            return Ok(found);
-        }
-        ending = follow(alloc, beginnings, limits, &mut path)?;
-    }
-    Err(SearchFault::TooManyLists)
+    let mut graph = Graph::new(alloc);
+    let mut classes = Vec::new(alloc);
+    let states = search(alloc, beginnings, limits, &mut graph, &mut classes)?;
+    let counts = graph.counted(alloc, classes.len())?;
+    let told = told_classes(alloc, beginnings, counts.classes.as_slice())?;
+    Ok(Findings {
+        classes: told,
+        lists: counts.all.words,
+        turns: counts.all.longest,
+        states,
+    })
 }

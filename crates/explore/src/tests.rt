@@ -107,7 +107,7 @@ fn reply_words(alloc: Global, told: &mut Output, outcome: &Outcome) -> Result<()
     }
 }
 
-// The numbers of lists and of turns, and of each outcome a line: the number of its lists, the cuts of the least, its
+// The numbers of lists, of states and of turns, and of each outcome a line: the number of its lists, the cuts of the least, its
 // turns, and how the first call of actor 0 ended.
 fn told(alloc: Global, scene: &Scene, limits: Limits) -> Result<Result<Output, SearchFault>, Fail> {
     let found = match explore(alloc, scene, limits) {
@@ -116,6 +116,8 @@ fn told(alloc: Global, scene: &Scene, limits: Limits) -> Result<Result<Output, S
     };
     let mut told = Output::new(alloc);
     told.number(found.lists)?;
+    told.text(" by ")?;
+    told.number(found.states)?;
     told.text(" of up to ")?;
     told.number(found.turns as u64)?;
     told.text("\n")?;
@@ -147,61 +149,62 @@ const LINK_GONE: &str = "/c: resolve abs/f
 const MOVED_OUT: &str = "/c: resolve a/b/..
 : resolve c/a: resolve secret: rename 1 b 2 b plain";
 
-// Of each search: the actors, the most lists and turns and cuts, and what is told.
-const SEARCHES: [(&str, u64, u32, Option<u64>, Result<&str, SearchFault>); 8] = [
+// Of each search: the actors, the most worlds and turns and cuts, and what is told.
+const SEARCHES: [(&str, u64, u32, Option<u64>, Result<&str, SearchFault>); 9] = [
     (
         REMOVED,
-        6,
+        15,
         6,
         None,
         Ok(
-            "6 of up to 6\n1 cuts 0 by 10 fault ENOENT\n1 cuts 1 by 0100 fault EAGAIN\n4 cuts 0 by 000001 opened dir 1 /\n",
+            "6 by 15 of up to 6\n1 cuts 0 by 10 fault ENOENT\n1 cuts 1 by 0100 fault EAGAIN\n4 cuts 0 by 000001 opened dir 1 /\n",
         ),
     ),
-    (REMOVED, 5, 6, None, Err(SearchFault::TooManyLists)),
-    (REMOVED, 6, 5, None, Err(SearchFault::TooManyTurns)),
-    (REMOVED, 0, 6, None, Err(SearchFault::TooManyLists)),
+    (REMOVED, 14, 6, None, Err(SearchFault::TooManyStates)),
+    (REMOVED, 15, 5, None, Err(SearchFault::TooManyTurns)),
+    (REMOVED, 0, 6, None, Err(SearchFault::TooManyStates)),
     (
         REMOVED,
-        2,
+        9,
         6,
         Some(0),
-        Ok("2 of up to 6\n1 cuts 0 by 10 fault ENOENT\n1 cuts 0 by 000001 opened dir 1 /\n"),
+        Ok("2 by 9 of up to 6\n1 cuts 0 by 10 fault ENOENT\n1 cuts 0 by 000001 opened dir 1 /\n"),
     ),
     (
         LINK_GONE,
-        10,
+        21,
         10,
         None,
         Ok(
-            "10 of up to 10\n1 cuts 0 by 10 fault ENOENT\n9 cuts 0 by 0000000001 opened file 4 /a/b/f\n",
+            "10 by 21 of up to 10\n1 cuts 0 by 10 fault ENOENT\n9 cuts 0 by 0000000001 opened file 4 /a/b/f\n",
         ),
     ),
     (
         MOVED_OUT,
-        3432,
+        70,
         14,
         None,
         Ok(
-            "3432 of up to 14\n8 cuts 0 by 1111111000 fault ENOENT\n112 cuts 1 by 00011111110000 fault EAGAIN\n3312 cuts 0 by 00000001111111 opened dir 2 /a\n",
+            "3432 by 70 of up to 14\n8 cuts 0 by 1111111000 fault ENOENT\n3312 cuts 0 by 00000001111111 opened dir 2 /a\n112 cuts 1 by 00011111110000 fault EAGAIN\n",
         ),
     ),
     (
         MOVED_OUT,
-        4,
+        37,
         14,
         Some(0),
         Ok(
-            "4 of up to 14\n1 cuts 0 by 1111111000 fault ENOENT\n3 cuts 0 by 00000001111111 opened dir 2 /a\n",
+            "4 by 37 of up to 14\n1 cuts 0 by 1111111000 fault ENOENT\n3 cuts 0 by 00000001111111 opened dir 2 /a\n",
         ),
     ),
+    (MOVED_OUT, 36, 14, Some(0), Err(SearchFault::TooManyStates)),
 ];
 
 #[test]
 fn searches_are_told(rt: HostRuntime) -> Result<(), Fail> {
-    for (lines, lists, turns, cuts, wanted) in SEARCHES.as_slice() {
+    for (lines, states, turns, cuts, wanted) in SEARCHES.as_slice() {
         let limits = Limits {
-            lists: *lists,
+            states: *states,
             turns: *turns,
             cuts: *cuts,
         };

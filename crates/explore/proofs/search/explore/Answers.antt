@@ -1,45 +1,37 @@
-use Rattle.std.proofs.Common.{◌≡◌, ◌≤◌, ℕ, sym, subst, refl, arith}
-use Rattle.race_core.specs.declared.opening.TheConstants.{ACTORS_MAX}
-use Rattle.explore.specs.Explored.{AreMore, IsAsked}
-use Rattle.explore.proofs.Told.{replies_of_all}
-use Rattle.explore.proofs.Searching.{comes_on, comes_to_end, comes_too_far, comes_first, next_is_sound}
+use Rattle.std.proofs.Common.{◌≡◌, ◌∙◌, List, sym, ap, subst, length, arith}
+use Rattle.race_core.specs.Worlds.{WorldView}
+use Rattle.turn_graph.specs.declared.count.Count.{Count}
+use Rattle.explore.specs.Concluded.{AreShort, AskIn, AreToldIn}
+use Rattle.explore.proofs.Concluded.{counts_conclude}
+use Rattle.explore.proofs.Fitting.{Fits, fits}
+use Rattle.explore.proofs.Merges.{leasts_short, all_told}
 use Rattle.explore.proofs.search.explore.Goals as goal
 
-pub lists-init : goal.lists-init
-lists-init g c = record {
-  come = comes_first (g.B.Beginnings.opening c.args.beginnings.now) c.args.limits.cuts c.new-path.result.items c.follow.new.path.items c.in_ok-ending.ending
-      c.new-found.result.classes.items c.new-found.result.lists c.new-found.result.turns
-      c.new-path.ensures.items c.new-found.ensures.classes c.new-found.ensures.lists c.new-found.ensures.turns c.in_ok-ending.ensures.actors c.in_ok-ending.ensures.follows;
-  turns = c.in_ok-ending.ensures.few;
-}
+pub told_classes-requires : goal.told_classes-requires
+told_classes-requires g c =
+    let w : WorldView = g.B.Beginnings.opening c.args.beginnings.now in
+    let searched = c.in_ok-states.ensures.searched in
+    let fit : Fits w c.args.limits.cuts c.search.new.graph c.search.new.classes.items =
+    fits w c.args.limits.cuts searched.0 c.search.new.graph c.search.new.classes.items searched.1.1 searched.1.0 in
+    let many : length c.in_ok-counts.counts.classes.items ≡ length c.search.new.classes.items =
+    c.in_ok-counts.ensures.each ∙ (c.len.ensures ∙ c.search.new.classes.ok.0) in
+    record {
+      short = subst (λ (counts : List Count). AreShort counts) (sym c.as_slice.ensures.value)
+          (leasts_short w c.args.limits.cuts c.search.new.graph c.search.new.classes.items fit c.in_ok-counts.counts c.in_ok-counts.ensures.counts many
+          (omega (arith, c.in_ok-states.ensures.depth)));
+    }
 
-pub tell-requires-clause-actors : goal.tell-requires-clause-actors
-tell-requires-clause-actors g c =
-    subst (λ (n : ℕ). n ≤ ACTORS_MAX) (sym (replies_of_all (g.B.Beginnings.opening c.args.beginnings.now) c.args.limits.cuts c.lists.ending c.lists.invariant.come.ending))
-    c.lists.invariant.come.actors
-
-pub returns-then-not-advance-clause-explored : goal.returns-then-not-advance-clause-explored
-returns-then-not-advance-clause-explored g c =
-    comes_to_end (g.B.Beginnings.opening c.args.beginnings.now) c.args.limits.cuts c.lists._at c.lists.path.items c.lists.ending c.lists.found.classes.items c.lists.found.lists c.lists.found.turns
-    c.lists.invariant.come c.tell.new.self.classes.items c.tell.new.self.lists c.tell.new.self.turns c.in_ok-tell.ensures.classes c.in_ok-tell.ensures.lists c.in_ok-tell.ensures.turns
-    c.if-not-advance.ensures
-
-pub follow-requires-in-lists-clause-sound : goal.follow-requires-in-lists-clause-sound
-follow-requires-in-lists-clause-sound g c =
-    next_is_sound (g.B.Beginnings.opening c.args.beginnings.now) c.args.limits.cuts c.lists._at c.lists.path.items c.lists.ending c.lists.found.classes.items c.lists.found.lists c.lists.found.turns
-    c.lists.invariant.come c.advance.new.path.items c.if-not-advance.ensures
-
-pub lists-preserved : goal.lists-preserved
-lists-preserved g c = record {
-  come = comes_on (g.B.Beginnings.opening c.args.beginnings.now) c.args.limits.cuts c.lists._at c.lists.path.items c.lists.ending c.lists.found.classes.items c.lists.found.lists c.lists.found.turns
-      c.lists.invariant.come c.tell.new.self.classes.items c.tell.new.self.lists c.tell.new.self.turns _ c.in_ok-tell.ensures.classes c.in_ok-tell.ensures.lists c.in_ok-tell.ensures.turns refl
-      c.advance.new.path.items c.follow-in-lists.new.path.items c.if-not-advance.ensures c.in_ok-ending-2.ending c.in_ok-ending-2.ensures.follows;
-  turns = c.in_ok-ending-2.ensures.few;
-}
-
-pub returns-clause-err : goal.returns-clause-err
-returns-clause-err g c =
-    let all : c.lists._at ≡ c.args.limits.lists = omega arith in
-    subst (λ (n : ℕ). AreMore (IsAsked (g.B.Beginnings.opening c.args.beginnings.now) c.args.limits.cuts) n) all
-    (comes_too_far (g.B.Beginnings.opening c.args.beginnings.now) c.args.limits.cuts c.lists._at c.lists.path.items c.lists.ending c.lists.found.classes.items c.lists.found.lists c.lists.found.turns
-    c.lists.invariant.come)
+pub returns-clause-merged : goal.returns-clause-merged
+returns-clause-merged g c =
+    let w : WorldView = g.B.Beginnings.opening c.args.beginnings.now in
+    let searched = c.in_ok-states.ensures.searched in
+    let fit : Fits w c.args.limits.cuts c.search.new.graph c.search.new.classes.items =
+    fits w c.args.limits.cuts searched.0 c.search.new.graph c.search.new.classes.items searched.1.1 searched.1.0 in
+    let many : length c.in_ok-counts.counts.classes.items ≡ length c.search.new.classes.items =
+    c.in_ok-counts.ensures.each ∙ (c.len.ensures ∙ c.search.new.classes.ok.0) in
+    counts_conclude w c.args.limits.cuts c.search.new.graph c.search.new.classes.items fit.at c.in_ok-counts.counts c.in_ok-told.told.items
+    fit.fit fit.found c.in_ok-counts.ensures.counts
+    (all_told w c.args.limits.cuts c.search.new.graph c.search.new.classes.items fit c.in_ok-counts.counts c.in_ok-counts.ensures.counts many
+    c.in_ok-told.told.items (c.in_ok-told.ensures.many ∙ ap length c.as_slice.ensures.value)
+    (subst (λ (counts : List Count). AskIn w c.args.limits.cuts counts → AreToldIn w c.args.limits.cuts counts c.in_ok-told.told.items) c.as_slice.ensures.value
+    (c.in_ok-told.ensures.told c.args.limits.cuts)))

@@ -1,0 +1,44 @@
+use Rattle.std.proofs.Common.{◌≡◌, [], length, subst}
+use Rattle.race_core.specs.Worlds.{WorldView, RunsTo}
+use Rattle.explore.specs.Layers.{LiveView, IsLed, IsSure, IsReportOf}
+use Rattle.explore.specs.Search.{IsOver}
+use Rattle.explore.proofs.Grown.{surely, is_report, replies_many}
+use Rattle.explore.proofs.growing.ended.Goals as goal
+
+pub returns-clause-sure : goal.returns-clause-sure
+returns-clause-sure g c =
+    let live : LiveView = record { world = c.live.inside.seen; marks = c.live.inside.marks; turns = c.live.inside.turns.items } in
+    let ran : RunsTo live.world [] (g.T.Tree.state c.in_ok-report.report.tree) c.in_ok-report.report.events.events c.in_ok-report.report.replies.items c.in_ok-report.report.kept.items =
+    subst (λ (v : WorldView). RunsTo v [] (g.T.Tree.state c.in_ok-report.report.tree) c.in_ok-report.report.events.events c.in_ok-report.report.replies.items c.in_ok-report.report.kept.items)
+    c.into_world.ensures c.in_ok-report.ensures.ran in
+    subst (λ (l : LiveView). (w : WorldView) → IsLed w l → IsSure w l) c.live.view_is
+    (surely live (g.T.Tree.state c.in_ok-report.report.tree) c.in_ok-report.report.events.events
+    c.in_ok-report.report.replies.items c.in_ok-report.report.kept.items ran c.in_ok-report.ensures.none)
+
+pub returns-clause-report : goal.returns-clause-report
+returns-clause-report g c =
+    let live : LiveView = record { world = c.live.inside.seen; marks = c.live.inside.marks; turns = c.live.inside.turns.items } in
+    let ran : RunsTo live.world [] (g.T.Tree.state c.in_ok-report.report.tree) c.in_ok-report.report.events.events c.in_ok-report.report.replies.items c.in_ok-report.report.kept.items =
+    subst (λ (v : WorldView). RunsTo v [] (g.T.Tree.state c.in_ok-report.report.tree) c.in_ok-report.report.events.events c.in_ok-report.report.replies.items c.in_ok-report.report.kept.items)
+    c.into_world.ensures c.in_ok-report.ensures.ran in
+    subst (λ (l : LiveView). IsOver l.world → IsReportOf l (record {
+      turns = c.live.inside.turns.items;
+      cuts = c.live.inside.marks.cuts;
+      changes = c.live.inside.marks.changes;
+      tree = g.T.Tree.state c.in_ok-report.report.tree;
+      events = c.in_ok-report.report.events.events;
+      replies = c.in_ok-report.report.replies.items;
+      kept = c.in_ok-report.report.kept.items;
+    })) c.live.view_is
+    (is_report live (g.T.Tree.state c.in_ok-report.report.tree) c.in_ok-report.report.events.events
+    c.in_ok-report.report.replies.items c.in_ok-report.report.kept.items ran c.in_ok-report.ensures.none)
+
+pub returns-clause-actors : goal.returns-clause-actors
+returns-clause-actors g c =
+    let live : LiveView = record { world = c.live.inside.seen; marks = c.live.inside.marks; turns = c.live.inside.turns.items } in
+    let ran : RunsTo live.world [] (g.T.Tree.state c.in_ok-report.report.tree) c.in_ok-report.report.events.events c.in_ok-report.report.replies.items c.in_ok-report.report.kept.items =
+    subst (λ (v : WorldView). RunsTo v [] (g.T.Tree.state c.in_ok-report.report.tree) c.in_ok-report.report.events.events c.in_ok-report.report.replies.items c.in_ok-report.report.kept.items)
+    c.into_world.ensures c.in_ok-report.ensures.ran in
+    subst (λ (l : LiveView). length c.in_ok-report.report.replies.items ≡ length l.world.seats) c.live.view_is
+    (replies_many live (g.T.Tree.state c.in_ok-report.report.tree) c.in_ok-report.report.events.events
+    c.in_ok-report.report.replies.items c.in_ok-report.report.kept.items ran c.in_ok-report.ensures.none)

@@ -1,0 +1,68 @@
+use Rattle.std.proofs.Common.{◌≡◌, ◌<◌, ◌++◌, ◌∷◌, [], ℕ, suc, List, ◌∙◌, sym, ap, subst, length, vec_len, ◌==◌, true, false, arith}
+use Rattle.std.proofs.lemmas.Bool.{true≢false, eqb-true, eqb-false}
+use Rattle.std.specs.Global.{Vec}
+use Rattle.race_core.specs.Worlds.{WorldView}
+use Rattle.turn_graph.specs.declared.graph.Spot.{Spot}
+use Rattle.explore.specs.Explored.{ClassView}
+use Rattle.explore.specs.Layers.{LayerView, HasSearched}
+use Rattle.explore.proofs.Merges.{born_led}
+use Rattle.explore.proofs.Passing.{length_push, passes, begun, first_led, last_on, left_long, none_left}
+use Rattle.explore.proofs.search.search.Goals as goal
+use Rattle.explore.proofs.search.search.Goals.{then-layers-test+else-depth-limits, else-layers-test}
+
+pub layers-init : goal.layers-init
+layers-init g c =
+    let w : WorldView = g.B.Beginnings.opening c.args.beginnings.now in
+    let none : length c.args.graph.now ≡ 0 = ap length c.requires.graph in record {
+      searched =
+          subst (λ (graph : List (Vec Spot)). HasSearched w c.args.limits.cuts c.in_ok-layer.layer graph c.args.classes.now.items) (sym c.requires.graph)
+          (subst (λ (classes : List ClassView). HasSearched w c.args.limits.cuts c.in_ok-layer.layer [] classes) (sym c.requires.classes)
+          (begun w c.args.limits.cuts c.in_ok-layer.layer c.in_ok-layer.ensures.first c.in_ok-layer.ensures.on));
+      led = first_led w c.args.limits.cuts c.in_ok-layer.layer c.in_ok-layer.ensures.first c.in_ok-layer.ensures.on;
+      actors = c.in_ok-layer.ensures.actors;
+      depth = omega (arith, none);
+      states = c.in_ok-layer.ensures.states;
+    }
+
+pub pass-requires-clause-on : goal.pass-requires-clause-on
+pass-requires-clause-on g c =
+    last_on (g.B.Beginnings.opening c.args.beginnings.now) c.args.limits.cuts c.layers.layer c.layers.graph c.layers.classes.items c.layers.invariant.searched
+
+pub layers-preserved : goal.layers-preserved
+layers-preserved g c =
+    let w : WorldView = g.B.Beginnings.opening c.args.beginnings.now in
+    let passed = c.in_ok-layer-2.ensures.passed in
+    let long : length c.pass.new.graph ≡ suc (length c.layers.graph) = ap length passed.1.0 ∙ length_push c.layers.graph passed.0 in
+    let many : c.len.result ≡ length c.in_ok-layer-2.layer.worlds =
+    c.len.ensures ∙ (c.layer-in-layers.inside.worlds.ok.0 ∙ ap (λ (l : LayerView). length l.worlds) c.layer-in-layers.view_is) in
+    let room = c.in_ok-layer-2.ensures.room in record {
+      searched =
+          subst (λ (graph : List (Vec Spot)). HasSearched w c.args.limits.cuts c.in_ok-layer-2.layer graph c.pass.new.classes.items) (sym passed.1.0)
+          (passes w c.args.limits.cuts c.layers.layer c.in_ok-layer-2.layer c.layers.graph passed.0 c.layers.classes.items c.pass.new.classes.items
+          c.layers.invariant.searched passed.1.1);
+      led = born_led w c.args.limits.cuts c.layers.layer c.in_ok-layer-2.layer passed.1.1.joined;
+      actors = c.layers.invariant.actors;
+      depth = omega (arith, long, c.if-depth-limits.true, c.depth.ensures);
+      states = omega (arith, many, room, c.layers.invariant.states);
+    }
+
+pub returns-then-not-over-clause-err : goal.returns-then-not-over-clause-err
+returns-then-not-over-clause-err g c =
+    let many : vec_len c.layer.inside.stands ≡ length c.layers.layer.stands =
+    c.layer.inside.stands.ok.0 ∙ ap (λ (l : LayerView). length l.stands) c.layer.view_is in
+    let some : (vec_len c.layer.inside.stands == 0) ≡ false = sym c.is_empty-over.ensures ∙ c.if-not-over.true in
+    let none : (vec_len c.layer.inside.stands ≡ 0) → ⊥ = eqb-false (vec_len c.layer.inside.stands) 0 some in
+    left_long (g.B.Beginnings.opening c.args.beginnings.now) c.args.limits.cuts c.layers.layer c.layers.graph c.layers.classes.items c.layers.invariant.searched
+    c.args.limits.turns
+    (elim c.layers-test.branch [
+      | then-layers-test+else-depth-limits w ↦ omega (arith, w.depth.ensures, w.if-depth-limits.false)
+      | else-layers-test w ↦ absurd (true≢false (sym w.layers-test.false ∙ (c.is_empty.ensures ∙ some)))
+    ])
+    (omega (arith, many, none))
+
+pub returns-clause-searched : goal.returns-clause-searched
+returns-clause-searched g c =
+    let many : vec_len c.layer.inside.stands ≡ length c.layers.layer.stands =
+    c.layer.inside.stands.ok.0 ∙ ap (λ (l : LayerView). length l.stands) c.layer.view_is in
+    let over : vec_len c.layer.inside.stands ≡ 0 = eqb-true (vec_len c.layer.inside.stands) 0 (sym c.is_empty-over.ensures ∙ c.if-not-over.false) in
+    (c.layers.layer, (none_left c.layers.layer.stands (sym many ∙ over), c.layers.invariant.searched))

@@ -1,0 +1,16 @@
+use Rattle.std.proofs.Common.{◌≡◌, ◌≤◌, ◌+◌, ◌-◌, length}
+use Rattle.race_core.specs.declared.opening.TheConstants.{ACTORS_MAX}
+use Rattle.explore.specs.Layers.{AreLed, HasSearched}
+use Rattle.explore.proofs.search.search.Given as goal
+
+abbrev pub invariant-layers : goal.invariant-layers
+invariant-layers g l = record {
+  searched : HasSearched (g.B.Beginnings.opening l.beginnings) l.limits.cuts l.layer l.graph l.classes.items;
+  led : AreLed (g.B.Beginnings.opening l.beginnings) l.layer.worlds;
+  actors : length (g.B.Beginnings.opening l.beginnings).seats ≤ ACTORS_MAX;
+  depth : length l.graph ≤ l.limits.turns + 1;
+  states : l.states ≤ l.limits.states;
+}
+
+abbrev pub decreases-layers : goal.decreases-layers
+decreases-layers g l = l.limits.turns + 1 - length l.graph

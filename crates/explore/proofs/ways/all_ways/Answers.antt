@@ -1,0 +1,34 @@
+use Rattle.std.proofs.Common.{◌≡◌, ◌≤◌, ◌+◌, ◌++◌, ◌∷◌, [], ℕ, List, length, ap, sym, subst, ◌∙◌, length-append, arith}
+use Rattle.std.specs.Global.{Vec}
+use Rattle.race_core.specs.Worlds.{WorldView}
+use Rattle.turn_graph.specs.declared.graph.Way.{Way}
+use Rattle.explore.specs.Layers.{LayerView}
+use Rattle.explore.specs.Spreading.{AreFirstWays, AreWaysAt}
+use Rattle.explore.proofs.WaysGrown.{first_on}
+use Rattle.explore.proofs.WaysFound.{first_more}
+use Rattle.explore.proofs.ways.all_ways.Goals as goal
+
+pub ways_from-requires-clause-ways : goal.ways_from-requires-clause-ways
+ways_from-requires-clause-ways g c =
+    subst (λ (xs : List (Vec Way)). AreFirstWays (g.B.Beginnings.opening c.args.beginnings.now) c.args.limits.cuts c.args.layer.now c.loop-at.next xs)
+    (sym c.as_slice.ensures.value) c.loop-at.invariant.ways
+
+pub loop-at-preserved : goal.loop-at-preserved
+loop-at-preserved g c =
+    let w : WorldView = g.B.Beginnings.opening c.args.beginnings.now in
+    let most = c.args.limits.cuts in
+    let layer : LayerView = c.args.layer.now in
+    let next : LayerView = c.ways_from.new.next in
+    let all : List (Vec Way) = c.loop-at.all.items in
+    let ways : Vec Way = c.in_ok-ways.ways in
+    let pushed : c.push.new.self.items ≡ all ++ ways ∷ [] = c.in-Ok.ensures.items in
+    let own : AreWaysAt w most layer next (length all) ways.items =
+    subst (λ (xs : List (Vec Way)). AreWaysAt w most layer next (length xs) ways.items) c.as_slice.ensures.value c.in_ok-ways.ensures.ways in
+    let longer : length (all ++ ways ∷ []) ≡ length all + 1 = length-append all (ways ∷ []) in
+    record {
+      many = ap length pushed ∙ (longer ∙ ap (λ (n : ℕ). n + 1) c.loop-at.invariant.many);
+      ways = subst (λ (xs : List (Vec Way)). AreFirstWays w most layer next xs) (sym pushed)
+          (first_more w most layer next all ways (first_on w most layer c.loop-at.next next c.in_ok-ways.ensures.grows all c.loop-at.invariant.ways) own);
+      next = c.in_ok-ways.ensures.next;
+      room = subst (λ (l : LayerView). length l.worlds ≤ c.args.room) c.next.view_is (omega (arith, c.next.inside.worlds.ok.0, c.len.ensures, c.if-len-room.false));
+    }

@@ -1,0 +1,158 @@
+//! What the worlds of a layer come to, and the spots of its stands.
+ghost use Rattle.std.specs.Prelude.{◌≡◌, ◌⊎◌, ◌<◌, ◌≤◌, ℕ, length, Option, Some, None, true, slice_get, IfOk, IfSome};
+ghost use Rattle.std.specs.Global.{Vec};
+ghost use Rattle.std.specs.Vec.Iter.{into_iter_items};
+ghost use Rattle.race_core.specs.Worlds.{WorldView, is_busy_at};
+ghost use Rattle.race_core.specs.declared.opening.TheConstants.{ACTORS_MAX};
+ghost use Rattle.turn_graph.specs.declared.graph.Way.{Way};
+ghost use Rattle.turn_graph.specs.Words.{AreApart, IsLayer};
+ghost use Rattle.explore.specs.declared.layer.Stand.{Stand};
+ghost use Rattle.explore.specs.Explored.{ClassView};
+ghost use Rattle.explore.specs.Search.{IsOver};
+ghost use Rattle.explore.specs.Tally.{SameOutcome};
+ghost use Rattle.explore.specs.Layers.{LiveView, Keeps, IsLed, IsSure, AreLed, AreSure, IsTop, AreTops, IsReportOf, AreApartClasses, AreFoundIn, spot_by};
+
+use crate::found::{Class, Ending};
+use crate::growing::ended;
+use crate::layer::{Live, Stand};
+use crate::tally::place_of;
+use path_text::NoMemory;
+use race_core::World;
+use std::alloc::Global;
+use std::vec::IntoIter;
+use tree_model::Tree;
+use turn_graph::{Spot, Way};
+
+// The first actor who has something left to do.
+fn first_busy<T: Tree>(world: &World<T>) -> Option<u32>
+    requires few { length world.now.seats ≤ ACTORS_MAX }
+    ensures some { IfSome result (λ i. is_busy_at world.now.seats i ≡ true) }
+    ensures none { result ≡ None → IsOver world.now }
+{
+    for at in 0..world.actors() {
+        let actor = at as u32;
+        if world.has_turns(actor) {
+            return Some(actor);
+        }
+    }
+    None
+}
+
+// The place of the class of that outcome; a new one is put after the others where none has it. NoMemory where room was
+// refused.
+fn class_at<T: Tree + Drop>(
+    alloc: Global,
+    classes: &mut Vec<Class<T>>,
+    ending: Ending<T>,
+) -> Result<usize, NoMemory>
+    requires actors { length ending.replies ≤ ACTORS_MAX }
+    ensures keeps { Keeps classes.old.items classes.new.items }
+    ensures there { IfOk result (λ at. (c : ClassView) × ((slice_get classes.new.items at ≡ Some c) × SameOutcome c.least ending)) }
+    ensures new { (k : ℕ) (c : ClassView) → slice_get classes.new.items k ≡ Some c → (slice_get classes.old.items k ≡ Some c) ⊎ (c.least ≡ ending) }
+    ensures apart { AreApartClasses classes.old.items → AreApartClasses classes.new.items }
+{
+    let nodes = ending.snapshot(alloc)?;
+    let at = place_of(classes.as_slice(), &ending, &nodes);
+    if at < classes.len() {
+        return Ok(at);
+    }
+    classes.push(Class::of(ending, nodes))?;
+    Ok(at)
+}
+
+// Ends the world. The class of what it comes to, if nobody has anything left to do. NoMemory where memory ran short, on
+// the way to it too.
+fn top_of<T: Tree + Drop>(
+    alloc: Global,
+    live: Live<T>,
+    classes: &mut Vec<Class<T>>,
+) -> Result<Option<usize>, NoMemory>
+    requires actors { length live.world.seats ≤ ACTORS_MAX }
+    ensures sure { IfOk result (λ top. (w : WorldView) → IsLed w live → IsSure w live) }
+    ensures top { IfOk result (λ top. IsTop classes.new.items live top) }
+    ensures keeps { Keeps classes.old.items classes.new.items }
+    ensures found { IfOk result (λ top. (k : ℕ) (c : ClassView) → slice_get classes.new.items k ≡ Some c → (slice_get classes.old.items k ≡ Some c) ⊎ IsReportOf live c.least) }
+    ensures apart { AreApartClasses classes.old.items → AreApartClasses classes.new.items }
+{
+    let busy = first_busy(live.seen.world());
+    let ending = ended(alloc, live)?;
+    if busy.is_some() {
+        return Ok(None);
+    }
+    let at = class_at(alloc, classes, ending)?;
+    Ok(Some(at))
+}
+
+// The same of each of the worlds that are still to come. NoMemory where memory ran short; some may be left then.
+fn tops_of<T: Tree + Drop>(
+    alloc: Global,
+    lives: &mut IntoIter<Live<T>>,
+    classes: &mut Vec<Class<T>>,
+) -> Result<Vec<Option<usize>>, NoMemory>
+    requires actors { (m : ℕ) (live : LiveView) → slice_get (into_iter_items lives.old) m ≡ Some live → length live.world.seats ≤ ACTORS_MAX }
+    ensures sure { IfOk result (λ tops. (w : WorldView) → AreLed w (into_iter_items lives.old) → AreSure w (into_iter_items lives.old)) }
+    ensures tops { IfOk result (λ tops. AreTops classes.new.items (into_iter_items lives.old) tops.items) }
+    ensures keeps { Keeps classes.old.items classes.new.items }
+    ensures found { IfOk result (λ tops. AreFoundIn (into_iter_items lives.old) classes.old.items classes.new.items) }
+    ensures apart { AreApartClasses classes.old.items → AreApartClasses classes.new.items }
+{
+    let mut tops = Vec::new(alloc);
+    'lives: while let Some(live) = lives.next() {
+        tops.push(top_of(alloc, live, classes)?)?;
+    }
+    Ok(tops)
+}
+
+/// Ends the worlds. Of each in which nobody has anything left to do, the class of what it comes to.
+/// NoMemory where memory ran short, on the way to one of them too; all of them are ended then, too.
+pub(crate) fn all_ended<T: Tree + Drop>(
+    alloc: Global,
+    worlds: Vec<Live<T>>,
+    classes: &mut Vec<Class<T>>,
+) -> Result<Vec<Option<usize>>, NoMemory>
+    requires actors { (m : ℕ) (live : LiveView) → slice_get worlds.items m ≡ Some live → length live.world.seats ≤ ACTORS_MAX }
+    ensures sure { IfOk result (λ tops. (w : WorldView) → AreLed w worlds.items → AreSure w worlds.items) }
+    ensures tops { IfOk result (λ tops. AreTops classes.new.items worlds.items tops.items) }
+    ensures keeps { Keeps classes.old.items classes.new.items }
+    ensures found { IfOk result (λ tops. AreFoundIn worlds.items classes.old.items classes.new.items) }
+    ensures apart { AreApartClasses classes.old.items → AreApartClasses classes.new.items }
+{
+    let mut lives = worlds.into_iter();
+    let tops = tops_of(alloc, &mut lives, classes);
+    'rest: while let Some(live) = lives.next() {
+        let _ending = ended(alloc, live);
+    }
+    lives.destroy_empty();
+    tops
+}
+
+// An end of that class, if there is one, and else these ways.
+fn spot_by(top: Option<usize>, ways: Vec<Way>) -> Spot
+    ensures { result ≡ spot_by top ways }
+{
+    match top {
+        Some(class) => Spot::Ends(class),
+        None => Spot::Goes(ways),
+    }
+}
+
+/// The spot of each stand: an end of its world's class, if that is over, and else the ways from it.
+pub(crate) fn spots_of(
+    alloc: Global,
+    stands: &[Stand],
+    tops: &[Option<usize>],
+    all: Vec<Vec<Way>>,
+) -> Result<Vec<Spot>, NoMemory>
+    requires many { length all.items ≡ length stands.now }
+    requires on { (s : ℕ) (stand : Stand) → slice_get stands.now s ≡ Some stand → stand.world < length tops.now }
+    requires apart { (s : ℕ) (ways : Vec Way) → slice_get all.items s ≡ Some ways → AreApart ways.items }
+    ensures many { IfOk result (λ spots. length spots.items ≡ length stands.now) }
+    ensures each { IfOk result (λ spots. (s : ℕ) (stand : Stand) (ways : Vec Way) (top : Option ℕ) → slice_get stands.now s ≡ Some stand → slice_get all.items s ≡ Some ways → slice_get tops.now stand.world ≡ Some top → slice_get spots.items s ≡ Some (spot_by top ways)) }
+    ensures apart { IfOk result (λ spots. IsLayer spots.items) }
+{
+    let mut spots = Vec::new(alloc);
+    for (stand, ways) in stands.iter().zip(all) {
+        spots.push(spot_by(tops[stand.world], ways))?;
+    }
+    Ok(spots)
+}

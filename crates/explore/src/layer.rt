@@ -1,0 +1,46 @@
+//! One of alike worlds each, that lists of so many turns lead to, and the stands on them.
+use crate::marks::Marks;
+use crate::seen::Seen;
+use std::marker::Model;
+use tree_model::Tree;
+
+/// A world, and the list of turns by which it was gone through. Contracts see it as a `LiveView`.
+pub(crate) struct Live<T: Tree> {
+    pub(crate) seen: Seen<T>,
+    pub(crate) turns: Vec<u32>,
+    pub(crate) marks: Marks,
+}
+
+impl<T: Tree> Model for Live<T> {
+    ghost use Rattle.explore.specs.Layers.{LiveView};
+
+    ghost Value = { LiveView };
+
+    ghost view = { λ l. record { world = l.seen; marks = l.marks; turns = l.turns.items } };
+}
+
+/// Where some lists of turns stand: on a world, with the last actor and the cuts before, where they are bounded.
+#[derive(Drop)]
+pub(crate) struct Stand {
+    /// The place of the world among those of the layer.
+    pub(crate) world: usize,
+    /// One of the lists.
+    pub(crate) turns: Vec<u32>,
+    /// What counted in it.
+    pub(crate) marks: Marks,
+}
+
+/// Worlds that lists of one length lead to, no two of them alike, and the stands on them. Contracts see it as a
+/// `LayerView`.
+pub(crate) struct Layer<T: Tree> {
+    pub(crate) worlds: Vec<Live<T>>,
+    pub(crate) stands: Vec<Stand>,
+}
+
+impl<T: Tree> Model for Layer<T> {
+    ghost use Rattle.explore.specs.Layers.{LayerView};
+
+    ghost Value = { LayerView };
+
+    ghost view = { λ l. record { worlds = l.worlds.items; stands = l.stands.items } };
+}
