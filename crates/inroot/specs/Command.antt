@@ -60,7 +60,7 @@ texts_given matches id = unwrap_or (option_map raw_values (matched_of (found_of 
 pub record IsExploration (matches : ArgMatches) (options : Options) : Type 0 where
   pub actors : texts_in options.actors.now ≡ texts_given matches (codes "actor")
   pub cuts : option_map (λ text. text.now) options.cuts ≡ first_value (found_of matches) (codes "cuts")
-  pub schedules : option_map (λ text. text.now) options.schedules ≡ first_value (found_of matches) (codes "schedules")
+  pub states : option_map (λ text. text.now) options.states ≡ first_value (found_of matches) (codes "states")
   pub never : texts_in options.never.now ≡ texts_given matches (codes "never")
   pub always : texts_in options.always.now ≡ texts_given matches (codes "always")
 

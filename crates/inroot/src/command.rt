@@ -37,7 +37,7 @@ const ACTOR: &str = "actor";
 
 const CUTS: &str = "cuts";
 
-const SCHEDULES: &str = "schedules";
+const STATES: &str = "states";
 
 const NEVER: &str = "never";
 
@@ -169,9 +169,9 @@ fn run<'a>(alloc: Global) -> Result<Command<'a>, AllocError> {
 const EXPLORING: &str =
     "SCRIPT is a JSON text on standard input, as for replay. Its schedule isn't used.
 
-Prints how many schedules there are, how many turns the longest has, and a block for
-each outcome: how many schedules lead to it, and one that replay takes, with how many
-calls it cuts. TEXT is a line's beginning, as 'reply 0 0 fault' or 'held 0 1'.
+Prints how many schedules there are, by how many different states they go, how many
+turns the longest has, and a block for each outcome: how many schedules lead to it,
+and one that replay takes, with how many calls it cuts. TEXT is a line's beginning, as 'reply 0 0 fault' or 'held 0 1'.
 
 Example:
   inroot explore --actor 0 < examples/attacks/moved-out.json";
@@ -207,12 +207,12 @@ fn explore<'a>(alloc: Global) -> Result<Command<'a>, AllocError> {
         ArgAction::Set,
         "Only schedules that cut calls at most K times",
     );
-    let schedules = valued(
+    let states = valued(
         alloc,
-        SCHEDULES,
+        STATES,
         "N",
         ArgAction::Set,
-        "Tell nothing past N schedules: 1 to 10000000, or 100000",
+        "Tell nothing past N different states: 1 to 10000000, or 100000",
     );
     let never = valued(
         alloc,
@@ -234,7 +234,7 @@ fn explore<'a>(alloc: Global) -> Result<Command<'a>, AllocError> {
         .after_help(EXPLORING)
         .arg(actor)?
         .arg(cuts)?
-        .arg(schedules)?
+        .arg(states)?
         .arg(never)?
         .arg(always)
 }
@@ -340,7 +340,7 @@ fn exploration_asked<'m>(matches: &'m ArgMatches<'_>) -> Options<'m>
     Options {
         actors: texts_of(matches, ACTOR),
         cuts: matches.get_str(CUTS),
-        schedules: matches.get_str(SCHEDULES),
+        states: matches.get_str(STATES),
         never: texts_of(matches, NEVER),
         always: texts_of(matches, ALWAYS),
     }

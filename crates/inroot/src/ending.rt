@@ -35,9 +35,9 @@ pub enum Fault {
     /// The first actor that is named and isn't there.
     #[error("explore: actor {0}")]
     ExploreActor(u32),
-    /// There are more schedules than are gone through.
-    #[error("explore: schedules")]
-    ExploreSchedules,
+    /// There are more worlds than are gone through.
+    #[error("explore: states")]
+    ExploreStates,
     /// A schedule has more turns than are gone through.
     #[error("explore: turns")]
     ExploreTurns,
@@ -101,7 +101,7 @@ impl From<ExploreFault> for Fault {
         match fault {
             ExploreFault::Run(fault) => Fault::Run(fault),
             ExploreFault::NoSuchActor(actor) => Fault::ExploreActor(actor),
-            ExploreFault::TooManySchedules => Fault::ExploreSchedules,
+            ExploreFault::TooManyStates => Fault::ExploreStates,
             ExploreFault::TooManyTurns => Fault::ExploreTurns,
         }
     }
@@ -138,7 +138,7 @@ pub fn status(ended: &Result<(), Fault>) -> u8
             | Fault::Run(_)
             | Fault::Options(OptionFault::NoMemory)
             | Fault::ExploreActor(_)
-            | Fault::ExploreSchedules
+            | Fault::ExploreStates
             | Fault::ExploreTurns
             | Fault::DrawActors
             | Fault::DrawLines

@@ -14,7 +14,7 @@ fn ends_with_its_statuses(rt: HostRuntime) {
         (Err(Fault::Options(OptionFault::Cuts)), 2),
         (Err(Fault::Options(OptionFault::NoMemory)), 4),
         (Err(Fault::ExploreActor(0)), 4),
-        (Err(Fault::ExploreSchedules), 4),
+        (Err(Fault::ExploreStates), 4),
         (Err(Fault::ExploreTurns), 4),
         (Err(Fault::Usage), 2),
         (Err(Fault::NotUtf8), 2),
@@ -107,7 +107,7 @@ fn asks_explored(alloc: Global, words: &[&str], want: Options) -> bool {
     };
     options.actors == want.actors
         && options.cuts == want.cuts
-        && options.schedules == want.schedules
+        && options.states == want.states
         && options.never == want.never
         && options.always == want.always
 }
@@ -125,14 +125,14 @@ fn reads_what_is_to_be_explored(rt: HostRuntime) {
         "--actor=2",
         "--cuts",
         "1",
-        "--schedules=7",
+        "--states=7",
         "--always",
         "held 1 1",
     ];
     let want = Options {
         actors: &["0", "2"],
         cuts: Some("1"),
-        schedules: Some("7"),
+        states: Some("7"),
         never: &["held 0 2"],
         always: &["held 1 1"],
     };

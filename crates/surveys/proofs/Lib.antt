@@ -4,3 +4,4 @@ mod Pieces
 mod Ordered
 mod Numbers
 mod Scripts
+mod ToldOnes

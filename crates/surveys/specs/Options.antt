@@ -3,9 +3,9 @@ use Rattle.std.specs.Prelude.{⊤, ◌≡◌, ◌<◌, ◌≤◌, ◌^◌, ℕ, 
 use Rattle.std.specs.Borrow.{Bor}
 use Rattle.std.specs.List.{list_all}
 use Rattle.surveys.specs.declared.options.OptionFault.{OptionFault}
-use Rattle.surveys.specs.declared.options.OptionFault.TheVariants.{Actor, Cuts, Schedules, Text, NoMemory}
+use Rattle.surveys.specs.declared.options.OptionFault.TheVariants.{Actor, Cuts, States, Text, NoMemory}
 use Rattle.surveys.specs.declared.options.Options.{Options}
-use Rattle.surveys.specs.declared.options.TheConstants.{CUTS_MAX, SCHEDULES_MAX, SCHEDULES}
+use Rattle.surveys.specs.declared.options.TheConstants.{CUTS_MAX, STATES_MAX, STATES}
 use Rattle.surveys.specs.declared.property.Property.{Property}
 use Rattle.surveys.specs.declared.property.Rule.{Rule}
 use Rattle.surveys.specs.declared.property.Rule.TheVariants.{Never, Always}
@@ -34,8 +34,8 @@ SaysCuts (Some text) (Some n) = (text.now ≡ decimal n) × (n ≤ CUTS_MAX)
 
 -- the usual number, or the one that the text says
 abbrev pub SaysMost : Option (Bor (List ℕ)) → ℕ → Type 0
-SaysMost None n = n ≡ SCHEDULES
-SaysMost (Some text) n = (text.now ≡ decimal n) × (1 ≤ n) × (n ≤ SCHEDULES_MAX)
+SaysMost None n = n ≡ STATES
+SaysMost (Some text) n = (text.now ≡ decimal n) × (1 ≤ n) × (n ≤ STATES_MAX)
 
 abbrev pub are_properties : List (List ℕ) → Bool
 are_properties texts = list_all is_property texts
@@ -59,7 +59,7 @@ property_texts options = texts_in options.never.now ++ texts_in options.always.n
 pub record AreAsked (options : Options) (asked : Asked) : Type 0 where
   pub named : SaysActors options asked.named.items
   pub cuts : SaysCuts options.cuts asked.cuts
-  pub most : SaysMost options.schedules asked.most
+  pub most : SaysMost options.states asked.most
   pub properties : asked.properties.items ≡ properties_by Never (texts_in options.never.now) ++ properties_by Always (texts_in options.always.now)
   pub texts : are_properties (property_texts options) ≡ true
 
@@ -74,7 +74,7 @@ IsUnsaid {A} SaysIt = (x : A) → SaysIt x → ⊥
 abbrev pub IsOptionFault : Options → OptionFault → Type 0
 IsOptionFault options Actor = IsUnsaid (SaysActors options)
 IsOptionFault options Cuts = IsSaid (SaysActors options) × IsUnsaid (SaysCuts options.cuts)
-IsOptionFault options Schedules = IsSaid (SaysActors options) × IsSaid (SaysCuts options.cuts) × IsUnsaid (SaysMost options.schedules)
+IsOptionFault options States = IsSaid (SaysActors options) × IsSaid (SaysCuts options.cuts) × IsUnsaid (SaysMost options.states)
 IsOptionFault options Text =
-    IsSaid (SaysActors options) × IsSaid (SaysCuts options.cuts) × IsSaid (SaysMost options.schedules) × (are_properties (property_texts options) ≡ false)
+    IsSaid (SaysActors options) × IsSaid (SaysCuts options.cuts) × IsSaid (SaysMost options.states) × (are_properties (property_texts options) ≡ false)
 IsOptionFault options NoMemory = ⊤

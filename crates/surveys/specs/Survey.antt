@@ -11,9 +11,9 @@ use Rattle.surveys.specs.Property.{fails, rule_word}
 
 -- ---- blocks: outcomes that look the same are one
 
--- what is printed of the two is the same
+-- what is printed of the two is the same where new nodes are numbered anew
 abbrev pub looks_like : Told → Told → Bool
-looks_like told other = same_bytes other.block told.block
+looks_like told other = same_bytes other.look told.look
 
 -- none of these looks like it
 abbrev pub is_new : List Told → Told → Bool
@@ -72,12 +72,12 @@ all_hold all properties = list_all (λ property. is_none (find (breaks property)
 
 -- ---- the whole
 
--- how many lists there are, how many turns the longest has, how many outcomes look different
-abbrev pub numbers_text : ℕ → ℕ → List Told → List ℕ
-numbers_text lists longest all =
-    (codes "schedules " ++ count_words lists) ++ ((codes "\nturns " ++ decimal longest)
-    ++ ((codes "\noutcomes " ++ decimal (length (new_ones all))) ++ codes "\n"))
+-- how many lists there are, by how many worlds, how many turns the longest has, how many outcomes look different
+abbrev pub numbers_text : ℕ → ℕ → ℕ → List Told → List ℕ
+numbers_text lists states longest all =
+    (codes "schedules " ++ count_words lists) ++ ((codes "\nstates " ++ decimal states) ++ ((codes "\nturns " ++ decimal longest)
+    ++ ((codes "\noutcomes " ++ decimal (length (new_ones all))) ++ codes "\n")))
 
 -- these, then a block for each that looks new, then each property
-abbrev pub survey_text : ℕ → ℕ → List Told → List Property → List ℕ
-survey_text lists longest all properties = numbers_text lists longest all ++ (blocks_text all ++ properties_text all properties)
+abbrev pub survey_text : ℕ → ℕ → ℕ → List Told → List Property → List ℕ
+survey_text lists states longest all properties = numbers_text lists states longest all ++ (blocks_text all ++ properties_text all properties)

@@ -1,17 +1,26 @@
 -- What is told of an outcome.
-use Rattle.std.specs.Prelude.{ℕ, List}
+use Rattle.std.specs.Prelude.{◌≡◌, ℕ, List, length}
 use Rattle.race_core.specs.declared.report.Outcome.{Outcome}
+use Rattle.renumbered.specs.Renumbered.{IsRenumbered}
+use Rattle.tree_model.specs.declared.inode.Inode.{Inode}
 use Rattle.tree_model.specs.State.{State}
 use Rattle.surveys.specs.declared.survey.Told.{Told}
 use Rattle.surveys.specs.Outcome.{outcome_lines, report_lines}
 use Rattle.surveys.specs.Schedule.{schedule_words}
 
--- so many lists lead to it, the least has so many cuts and these turns, and comes to these replies and this tree
-abbrev pub told_of : List ℕ → State → ℕ → ℕ → ℕ → List ℕ → List (List Outcome) → State → Told
-told_of named opening actors lists cuts turns replies tree = record {
-  lists = lists;
-  cuts = cuts;
-  schedule = schedule_words turns;
-  block = outcome_lines named opening replies tree actors;
-  lines = report_lines replies tree actors;
-}
+-- It is what is printed of these replies and this tree by other numbers of the nodes that the opening tree doesn't have.
+pub record IsLook (named : List ℕ) (opening : State) (actors : ℕ) (replies : List (List Outcome)) (tree : State) (look : List ℕ) : Type 0 where
+  pub nodes : List Inode
+  pub renumbered : List (List Outcome)
+  pub by_numbers : IsRenumbered (length opening.nodes) tree.nodes replies nodes renumbered
+  pub is : look ≡ outcome_lines named opening renumbered (record { nodes = nodes; handles = tree.handles }) actors
+
+-- So many lists lead to it, the least has so many cuts and these turns, and comes to these replies and this tree.
+pub record IsToldOf (named : List ℕ) (opening : State) (actors lists cuts : ℕ) (turns : List ℕ) (replies : List (List Outcome)) (tree : State)
+    (told : Told) : Type 0 where
+  pub counted : told.lists ≡ lists
+  pub cut : told.cuts ≡ cuts
+  pub scheduled : told.schedule ≡ schedule_words turns
+  pub printed : told.block ≡ outcome_lines named opening replies tree actors
+  pub looks : IsLook named opening actors replies tree told.look
+  pub judged_by : told.lines ≡ report_lines replies tree actors

@@ -1,6 +1,6 @@
 //! What is told of the outcomes that a search finds.
-ghost use Rattle.std.specs.Prelude.{◌≡◌, IfOk, map};
-ghost use Rattle.surveys.specs.Classes.{tell};
+ghost use Rattle.std.specs.Prelude.{IfOk};
+ghost use Rattle.surveys.specs.Classes.{IsTold, AreTold};
 
 use crate::survey::Told;
 use crate::telling::{Found, told_of};
@@ -17,7 +17,7 @@ fn tell<T: Tree>(
     actors: u32,
     class: &Class<T>,
 ) -> Result<Told, NoMemory>
-    ensures { IfOk result (λ told. told ≡ tell named.now opening.now actors class.now) }
+    ensures { IfOk result (IsTold named.now opening.now actors class.now) }
 {
     let found = Found {
         lists: class.lists,
@@ -36,7 +36,7 @@ pub(crate) fn tell_all<T: Tree>(
     actors: u32,
     classes: &[Class<T>],
 ) -> Result<Vec<Told>, NoMemory>
-    ensures { IfOk result (λ all. all.items ≡ map (tell named.now opening.now actors) classes.now) }
+    ensures { IfOk result (λ all. AreTold named.now opening.now actors classes.now all.items) }
 {
     let mut all = Vec::with_capacity(alloc, classes.len())?;
     for class in classes {

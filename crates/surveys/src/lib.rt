@@ -23,7 +23,7 @@ mod telling;
 mod tests;
 
 pub use counts::COUNT_MAX;
-pub use options::{CUTS_MAX, OptionFault, Options, SCHEDULES, SCHEDULES_MAX, read_asked};
+pub use options::{CUTS_MAX, OptionFault, Options, STATES, STATES_MAX, read_asked};
 pub use property::{Property, Rule, read_property};
 pub use script::{ExploreFault, explore_script};
 pub use search::{Asked, Survey, SurveyFault, TURNS_MAX, survey_scene};

@@ -13,18 +13,18 @@ use thiserror::Error;
 /// The most cuts that may be asked for.
 pub const CUTS_MAX: u32 = 1_000_000;
 
-/// The most schedules that may be asked for.
-pub const SCHEDULES_MAX: u32 = 10_000_000;
+/// The most worlds that may be asked for.
+pub const STATES_MAX: u32 = 10_000_000;
 
-/// How many schedules are gone through where nothing is said.
-pub const SCHEDULES: u32 = 100_000;
+/// How many worlds are gone through at most where nothing is said.
+pub const STATES: u32 = 100_000;
 
 /// The texts of the options, of each as often as it was given.
 #[derive(Clone, Copy, Debug, Default)]
 pub struct Options<'a> {
     pub actors: &'a [&'a str],
     pub cuts: Option<&'a str>,
-    pub schedules: Option<&'a str>,
+    pub states: Option<&'a str>,
     pub never: &'a [&'a str],
     pub always: &'a [&'a str],
 }
@@ -36,8 +36,8 @@ pub enum OptionFault {
     Actor,
     #[error("--cuts is a number up to 1000000")]
     Cuts,
-    #[error("--schedules is a number from 1 to 10000000")]
-    Schedules,
+    #[error("--states is a number from 1 to 10000000")]
+    States,
     #[error("--never and --always take a line's beginning: reply, row or held, and words after it")]
     Text,
     /// Room was refused.
@@ -92,16 +92,16 @@ fn cuts_in(text: Option<&str>) -> Result<Option<u64>, OptionFault>
     }
 }
 
-// How many schedules a text says, or the usual number where there is none.
-fn schedules_in(text: Option<&str>) -> Result<u64, OptionFault>
-    ensures { MatchResult result (SaysMost text.entry) (λ fault. (fault ≡ option_fault.Schedules) × IsUnsaid (SaysMost text.entry)) }
+// How many worlds a text says, or the usual number where there is none.
+fn states_in(text: Option<&str>) -> Result<u64, OptionFault>
+    ensures { MatchResult result (SaysMost text.entry) (λ fault. (fault ≡ option_fault.States) × IsUnsaid (SaysMost text.entry)) }
 {
     let Some(text) = text else {
-        return Ok(u64::from(SCHEDULES));
+        return Ok(u64::from(STATES));
     };
-    match number_within(text, 1, SCHEDULES_MAX) {
+    match number_within(text, 1, STATES_MAX) {
         Some(most) => Ok(u64::from(most)),
-        None => Err(OptionFault::Schedules),
+        None => Err(OptionFault::States),
     }
 }
 
@@ -127,7 +127,7 @@ fn add_properties(
 /// What the texts of options ask for, the properties by `never` before those by `always`.
 ///
 /// Errors, in this order: `Actor` where one of `actors` is no number below 2^32; `Cuts` where `cuts` is no number up to
-/// 1,000,000; `Schedules` where `schedules` is no number from 1 to 10,000,000; `Text` where one of `never` or `always` is no
+/// 1,000,000; `States` where `states` is no number from 1 to 10,000,000; `Text` where one of `never` or `always` is no
 /// property's (`read_property`); `NoMemory` where room was refused, whatever else is wrong. Numbers are written in decimal
 /// digits, with no zero before them.
 pub fn read_asked(alloc: Global, options: Options) -> Result<Asked, OptionFault>
@@ -137,7 +137,7 @@ pub fn read_asked(alloc: Global, options: Options) -> Result<Asked, OptionFault>
         return Err(OptionFault::Actor);
     };
     let cuts = cuts_in(options.cuts)?;
-    let most = schedules_in(options.schedules)?;
+    let most = states_in(options.states)?;
     let mut properties = Vec::new(alloc);
     if !add_properties(alloc, &mut properties, Rule::Never, options.never)? {
         return Err(OptionFault::Text);

@@ -84,6 +84,14 @@ fn named_replies(
     Ok(())
 }
 
+/// What a report comes to: its replies and its nodes, by whatever numbers, and the tree whose handles count.
+#[derive(Debug, Drop)]
+pub(crate) struct Ended<'a, T> {
+    pub replies: &'a [Outcomes],
+    pub nodes: &'a Snapshot,
+    pub tree: &'a T,
+}
+
 /// Adds what is printed of a report: where actors are named their replies alone, and else the replies of all, how the
 /// entries of the tree differ from those of the opening one, and how many handles each of so many actors has open. NoMemory
 /// where its room was refused.
@@ -92,20 +100,18 @@ pub(crate) fn outcome_lines<T: Tree>(
     out: &mut Output,
     named: &[u32],
     opening: &Snapshot,
-    outcomes: &[Outcomes],
-    tree: &T,
+    ended: &Ended<T>,
     actors: u32,
 ) -> Result<(), NoMemory>
-    ensures { Gains out.old out.new (outcome_lines named.now opening.now outcomes.now (T.state tree.now) actors) result }
+    ensures { Gains out.old out.new (outcome_lines named.now opening.now ended.now.replies.now (record { nodes = ended.now.nodes.now.nodes; handles = (T.state ended.now.tree.now).handles }) actors) result }
 {
     if !named.is_empty() {
-        return named_replies(alloc, out, named, outcomes);
+        return named_replies(alloc, out, named, ended.replies);
     }
-    let ended = tree.snapshot(alloc)?;
-    replies(alloc, out, outcomes)?;
-    changes(alloc, out, "minus ", opening, &ended)?;
-    changes(alloc, out, "plus ", &ended, opening)?;
-    held(out, tree, actors)
+    replies(alloc, out, ended.replies)?;
+    changes(alloc, out, "minus ", opening, ended.nodes)?;
+    changes(alloc, out, "plus ", ended.nodes, opening)?;
+    held(out, ended.tree, actors)
 }
 
 /// Adds all lines of a report but those of events. NoMemory where their room was refused.

@@ -24,9 +24,9 @@ pub enum ExploreFault {
     /// The first actor that is named and isn't there.
     #[error("explore: actor {0}")]
     NoSuchActor(u32),
-    /// There are more schedules than are gone through.
-    #[error("explore: schedules")]
-    TooManySchedules,
+    /// There are more worlds than are gone through.
+    #[error("explore: states")]
+    TooManyStates,
     /// A schedule has more than 100,000 turns.
     #[error("explore: turns")]
     TooManyTurns,
@@ -46,7 +46,7 @@ fn told_by(fault: SurveyFault) -> ExploreFault
 {
     match fault {
         SurveyFault::NoSuchActor(actor) => ExploreFault::NoSuchActor(actor),
-        SurveyFault::TooManySchedules => ExploreFault::TooManySchedules,
+        SurveyFault::TooManyStates => ExploreFault::TooManyStates,
         SurveyFault::TooManyTurns => ExploreFault::TooManyTurns,
         SurveyFault::NoMemory => ExploreFault::Run(RunFault::NoMemory),
     }
@@ -95,8 +95,8 @@ fn surveyed(
 /// The script's own schedule is checked and not used. Whether no property fails.
 ///
 /// Errors, in this order: those of `read_scenario`; `BookFull` where the script gives its book fewer lines than it has
-/// actors; `NoSuchActor` of the first that is named and isn't there; `TooManySchedules` where there are more than are gone
-/// through, and `TooManyTurns` where one has more than 100,000, whichever is met first; `NoMemory`; `WriteFailed`. Nothing is
+/// actors; `NoSuchActor` of the first that is named and isn't there; `TooManyStates` where there are more worlds than are
+/// gone through, and `TooManyTurns` where one has more than 100,000, whichever is met first; `NoMemory`; `WriteFailed`. Nothing is
 /// written before the text is whole.
 pub fn explore_script<R: Read, W: Write>(
     alloc: Global,

@@ -2,8 +2,7 @@
 ghost use Rattle.std.specs.Prelude.{◌≡◌, ◌≤◌, length, find, nat_le, IfOk, MatchResult};
 ghost use Rattle.race_core.specs.declared.opening.TheConstants.{ACTORS_MAX as MOST_ACTORS};
 ghost use Rattle.surveys.specs.declared.search.SurveyFault.TheVariants as survey_fault;
-ghost use Rattle.surveys.specs.Survey.{survey_text, all_hold};
-ghost use Rattle.surveys.specs.Surveyed.{tellings, IsSurvey, WhyNoSurvey};
+ghost use Rattle.surveys.specs.Surveyed.{IsTelling, IsSurvey, WhyNoSurvey};
 
 use crate::classes::tell_all;
 use crate::order::in_order;
@@ -27,7 +26,7 @@ pub struct Asked {
     pub named: Vec<u32>,
     /// Only the lists with at most so many cuts, or all of them.
     pub cuts: Option<u64>,
-    /// The most lists that are gone through.
+    /// The most worlds that are gone through, of alike ones one.
     pub most: u64,
     /// Properties of every report, whatever actors are named.
     pub properties: Vec<Property>,
@@ -46,9 +45,9 @@ pub enum SurveyFault {
     /// The first actor that is named and isn't there.
     #[error("actor {0}")]
     NoSuchActor(u32),
-    /// There are more schedules than are gone through.
-    #[error("schedules")]
-    TooManySchedules,
+    /// There are more worlds than are gone through.
+    #[error("states")]
+    TooManyStates,
     /// A schedule has more than 100,000 turns.
     #[error("turns")]
     TooManyTurns,
@@ -85,25 +84,25 @@ fn survey_of(
     found: Findings<ListTree>,
 ) -> Result<Survey, NoMemory>
     requires { length scene.now.plans.items ≤ MOST_ACTORS }
-    ensures text { IfOk result (λ survey. survey.text ≡ survey_text found.lists found.turns (tellings asked.now scene.now.tree scene.now.plans.items found.classes.items) asked.now.properties.items) }
-    ensures holds { IfOk result (λ survey. survey.holds ≡ all_hold (tellings asked.now scene.now.tree scene.now.plans.items found.classes.items) asked.now.properties.items) }
+    ensures { IfOk result (λ survey. IsTelling asked.now scene.now.tree scene.now.plans.items found.classes.items found.lists found.states found.turns survey.holds survey.text) }
 {
-    let (lists, turns) = (found.lists, found.turns as u64);
+    let (lists, states, turns) = (found.lists, found.states, found.turns as u64);
     let opening = scene.tree.snapshot(alloc)?;
     let actors = scene.plans.len() as u32;
     let classes = in_order(alloc, found.classes)?;
     let all = tell_all(alloc, &asked.named, &opening, actors, &classes)?;
     let mut text = Output::new(alloc);
-    survey_text(&mut text, lists, turns, &all, &asked.properties)?;
+    survey_text(&mut text, lists, states, turns, &all, &asked.properties)?;
     let holds = all_hold(&all, &asked.properties);
     Ok(Survey { text, holds })
 }
 
 /// Goes through all full lists of turns of the world of a tree and of plans, those with at most so many cuts, and tells what
-/// they come to: how many there are, how many turns the longest has, each outcome once with how many lead to it and a
-/// schedule for the least of them, and whether each property holds of every one.
+/// they come to: how many there are, by how many worlds, how many turns the longest has, each outcome once with how many
+/// lead to it and a schedule for the least of them, and whether each property holds of every one. Which numbers the nodes
+/// got that were made doesn't tell outcomes apart: they are compared with these nodes numbered anew.
 ///
-/// Errors: `NoSuchActor` of the first that is named and isn't there, before anything else; `TooManySchedules` and
+/// Errors: `NoSuchActor` of the first that is named and isn't there, before anything else; `TooManyStates` and
 /// `TooManyTurns` beyond the limits, whichever is met first; `NoMemory` where room was refused, and where the world can't be
 /// made.
 pub fn survey_scene(alloc: Global, scene: &Scene, asked: &Asked) -> Result<Survey, SurveyFault>
@@ -114,14 +113,14 @@ pub fn survey_scene(alloc: Global, scene: &Scene, asked: &Asked) -> Result<Surve
         return Err(SurveyFault::NoSuchActor(actor));
     }
     let limits = Limits {
-        lists: asked.most,
+        states: asked.most,
         turns: TURNS_MAX,
         cuts: asked.cuts,
     };
     match explore(alloc, scene, limits) {
         Ok(found) => Ok(survey_of(alloc, scene, asked, found)?),
         Err(SearchFault::TooManyTurns) => Err(SurveyFault::TooManyTurns),
-        Err(SearchFault::TooManyLists) => Err(SurveyFault::TooManySchedules),
+        Err(SearchFault::TooManyStates) => Err(SurveyFault::TooManyStates),
         // A world never has more actors than it may have.
         Err(SearchFault::TooManyActors | SearchFault::NoMemory) => Err(SurveyFault::NoMemory),
     }

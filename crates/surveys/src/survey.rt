@@ -20,16 +20,18 @@ pub struct Told {
     pub schedule: Output,
     /// What is printed of its report.
     pub block: Output,
+    /// The same where the nodes that the opening tree doesn't have are numbered anew.
+    pub look: Output,
     /// All lines of its report but those of events, which properties are judged by.
     pub lines: Output,
 }
 
 impl Told {
-    // Whether what is printed of it is the same as of another.
+    // Whether what is printed of it, with new nodes numbered anew, is the same as of another.
     fn looks_like(&self, other: &Told) -> bool
         ensures { result ≡ looks_like other.now self.now }
     {
-        self.block.as_slice() == other.block.as_slice()
+        self.look.as_slice() == other.look.as_slice()
     }
 
     // Adds how many cuts the least list has, and the schedule that leads to it.
@@ -82,11 +84,19 @@ fn lists_to(all: &[Told], told: &Told) -> u64
     lists
 }
 
-// Adds how many lists there are, how many turns the longest has, and how many look like none before them.
-fn numbers(out: &mut Output, lists: u64, longest: u64, all: &[Told]) -> Result<(), NoMemory>
-    ensures { Gains out.old out.new (numbers_text lists longest all.now) result }
+// Adds how many lists there are, by how many worlds, how many turns the longest has, and how many look like none before
+// them.
+fn numbers(
+    out: &mut Output,
+    lists: u64,
+    states: u64,
+    longest: u64,
+    all: &[Told],
+) -> Result<(), NoMemory>
+    ensures { Gains out.old out.new (numbers_text lists states longest all.now) result }
 {
     counted(out, "schedules ", lists)?;
+    numbered(out, "\nstates ", states)?;
     numbered(out, "\nturns ", longest)?;
     numbered(out, "\noutcomes ", count_new(all) as u64)?;
     out.text("\n")
@@ -178,19 +188,20 @@ pub fn all_hold(all: &[Told], properties: &[Property]) -> bool
     true
 }
 
-/// Adds the text of outcomes, which come in the order of their least lists, where there are so many lists, and the longest
-/// has so many turns: these numbers, how many outcomes look different, a block for each of these, and the line of each
+/// Adds the text of outcomes, which come in the order of their least lists, where there are so many lists by so many worlds, and
+/// the longest has so many turns: these numbers, how many outcomes look different, a block for each of these, and the line of each
 /// property. NoMemory where its room was refused, and a part of the text may have been added then.
 pub fn survey_text(
     out: &mut Output,
     lists: u64,
+    states: u64,
     longest: u64,
     all: &[Told],
     properties: &[Property],
 ) -> Result<(), NoMemory>
-    ensures { Gains out.old out.new (survey_text lists longest all.now properties.now) result }
+    ensures { Gains out.old out.new (survey_text lists states longest all.now properties.now) result }
 {
-    numbers(out, lists, longest, all)?;
+    numbers(out, lists, states, longest, all)?;
     blocks(out, all)?;
     property_lines(out, all, properties)
 }

@@ -1,12 +1,14 @@
 //! What is told of an outcome.
 ghost use Rattle.std.specs.Prelude.{◌≡◌, IfOk};
-ghost use Rattle.surveys.specs.Telling.{told_of};
+ghost use Rattle.surveys.specs.Outcome.{outcome_lines};
+ghost use Rattle.surveys.specs.Telling.{IsLook, IsToldOf};
 
-use crate::outcome::{outcome_lines, report_lines};
+use crate::outcome::{Ended, outcome_lines, report_lines};
 use crate::schedule::schedule;
 use crate::survey::Told;
 use path_text::NoMemory;
 use race_core::Report;
+use renumbered::renumber;
 use std::alloc::Global;
 use transcript::Output;
 use tree_model::{Snapshot, Tree};
@@ -24,9 +26,46 @@ pub struct Found<'a, T> {
     pub report: &'a Report<T>,
 }
 
+// What is printed of a report.
+fn printed<T: Tree>(
+    alloc: Global,
+    named: &[u32],
+    opening: &Snapshot,
+    ended: &Ended<T>,
+    actors: u32,
+) -> Result<Output, NoMemory>
+    ensures { IfOk result (λ text. text ≡ outcome_lines named.now opening.now ended.now.replies.now (record { nodes = ended.now.nodes.now.nodes; handles = (T.state ended.now.tree.now).handles }) actors) }
+{
+    let mut text = Output::new(alloc);
+    outcome_lines(alloc, &mut text, named, opening, ended, actors)?;
+    Ok(text)
+}
+
+// What is printed of a report whose new nodes are numbered anew.
+fn look<T: Tree>(
+    alloc: Global,
+    named: &[u32],
+    opening: &Snapshot,
+    ended: &Ended<T>,
+    actors: u32,
+) -> Result<Output, NoMemory>
+    ensures { IfOk result (IsLook named.now opening.now actors ended.now.replies.now (record { nodes = ended.now.nodes.now.nodes; handles = (T.state ended.now.tree.now).handles })) }
+{
+    let known = opening.nodes().len();
+    let anew = renumber(alloc, known, named, ended.nodes.nodes(), ended.replies)?;
+    let nodes = Snapshot::new(anew.nodes, Vec::new(alloc));
+    let renumbered = Ended {
+        replies: &anew.replies,
+        nodes: &nodes,
+        tree: ended.tree,
+    };
+    printed(alloc, named, opening, &renumbered, actors)
+}
+
 /// What is told of an outcome, where so many actors are there: the replies of the actors that are named alone, or where none
 /// is all replies, how the entries of the tree differ from those of the opening one, and how many handles each actor has open.
-/// NoMemory where room was refused.
+/// The same is made with the nodes of the run numbered anew, by which outcomes are told apart. NoMemory where room was
+/// refused.
 pub fn told_of<T: Tree>(
     alloc: Global,
     named: &[u32],
@@ -34,21 +73,19 @@ pub fn told_of<T: Tree>(
     actors: u32,
     found: &Found<T>,
 ) -> Result<Told, NoMemory>
-    ensures { IfOk result (λ told. told ≡ told_of named.now opening.now actors found.now.lists found.now.cuts found.now.turns.now found.now.report.now.replies.items (T.state found.now.report.now.tree)) }
+    ensures { IfOk result (IsToldOf named.now opening.now actors found.now.lists found.now.cuts found.now.turns.now found.now.report.now.replies.items (T.state found.now.report.now.tree)) }
 {
     let report = found.report;
     let mut leads = Output::new(alloc);
     schedule(&mut leads, found.turns)?;
-    let mut block = Output::new(alloc);
-    outcome_lines(
-        alloc,
-        &mut block,
-        named,
-        opening,
-        &report.replies,
-        &report.tree,
-        actors,
-    )?;
+    let nodes = report.tree.snapshot(alloc)?;
+    let ended = Ended {
+        replies: &report.replies,
+        nodes: &nodes,
+        tree: &report.tree,
+    };
+    let block = printed(alloc, named, opening, &ended, actors)?;
+    let look = look(alloc, named, opening, &ended, actors)?;
     let mut lines = Output::new(alloc);
     report_lines(alloc, &mut lines, &report.replies, &report.tree, actors)?;
     Ok(Told {
@@ -56,6 +93,7 @@ pub fn told_of<T: Tree>(
         cuts: found.cuts,
         schedule: leads,
         block,
+        look,
         lines,
     })
 }

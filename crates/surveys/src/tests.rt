@@ -89,7 +89,7 @@ fn text_of(alloc: Global, named: &[u32]) -> Result<Output, Fail> {
         }
     }
     let mut text = Output::new(alloc);
-    survey_text(&mut text, 21, 7, &all, &properties)?;
+    survey_text(&mut text, 21, 15, 7, &all, &properties)?;
     text.text(if all_hold(&all, &properties) {
         "all hold\n"
     } else {
@@ -99,6 +99,7 @@ fn text_of(alloc: Global, named: &[u32]) -> Result<Output, Fail> {
 }
 
 const ALL: &str = "schedules 21
+states 15
 turns 7
 outcomes 3
 outcome 0 schedules 4 cuts 0 schedule -
@@ -132,6 +133,7 @@ one fails
 ";
 
 const SECOND_ALONE: &str = "schedules 21
+states 15
 turns 7
 outcomes 1
 outcome 0 schedules 1000000000000000000+ cuts 0 schedule -

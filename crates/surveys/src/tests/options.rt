@@ -5,7 +5,7 @@ use std::test::Fail;
 const NONE: Options<'static> = Options {
     actors: &[],
     cuts: None,
-    schedules: None,
+    states: None,
     never: &[],
     always: &[],
 };
@@ -15,7 +15,7 @@ fn reads_options(rt: HostRuntime) -> Result<(), Fail> {
     let options = Options {
         actors: &["1", "0"],
         cuts: Some("1000000"),
-        schedules: Some("1"),
+        states: Some("1"),
         never: &["reply 0 0 fault"],
         always: &["held 1 1", "row"],
     };
@@ -53,25 +53,25 @@ fn refuses_options(rt: HostRuntime) {
         (
             Options {
                 cuts: Some("1000001"),
-                schedules: Some("0"),
+                states: Some("0"),
                 ..NONE
             },
             OptionFault::Cuts,
         ),
         (
             Options {
-                schedules: Some("0"),
+                states: Some("0"),
                 never: &["x"],
                 ..NONE
             },
-            OptionFault::Schedules,
+            OptionFault::States,
         ),
         (
             Options {
-                schedules: Some("10000001"),
+                states: Some("10000001"),
                 ..NONE
             },
-            OptionFault::Schedules,
+            OptionFault::States,
         ),
         (
             Options {

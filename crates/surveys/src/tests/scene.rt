@@ -42,6 +42,7 @@ fn written_of(alloc: Global, asked: &Asked) -> Result<Vec<u8>, Fail> {
 }
 
 const ALL: &str = "schedules 6
+states 15
 turns 6
 outcomes 3
 outcome 0 schedules 4 cuts 0 schedule -
@@ -68,6 +69,7 @@ always row 0 c 1 = holds
 ";
 
 const SECOND_ALONE: &str = "schedules 6
+states 15
 turns 6
 outcomes 1
 outcome 0 schedules 6 cuts 0 schedule -
@@ -78,6 +80,7 @@ always row 0 c 1 = holds
 ";
 
 const UNCUT: &str = "schedules 2
+states 9
 turns 6
 outcomes 2
 outcome 0 schedules 1 cuts 0 schedule -
@@ -92,11 +95,11 @@ always row 0 c 1 = holds
 #[test]
 fn tells_every_schedule(rt: HostRuntime) -> Result<(), Fail> {
     for (named, cuts, most, want) in [
-        ([].as_slice(), None, 6, ALL),
-        (&[1], None, 6, SECOND_ALONE),
-        (&[0], Some(0), 6, UNCUT),
-        (&[], None, 5, "explore: schedules"),
-        (&[0, 2], None, 6, "explore: actor 2"),
+        ([].as_slice(), None, 15, ALL),
+        (&[1], None, 15, SECOND_ALONE),
+        (&[0], Some(0), 9, UNCUT),
+        (&[], None, 14, "explore: states"),
+        (&[0, 2], None, 15, "explore: actor 2"),
     ] {
         let asked = asked_of(rt.alloc(), named, cuts, most)?;
         let told = written_of(rt.alloc(), &asked)?;
