@@ -59,7 +59,7 @@ module _ (pairs : Pairs) (b c : BookedHistory) (alike : AlikeBooks pairs b c) (a
     lines_alike : lines_needed x ≡ lines_needed y
     lines_alike = sym (blind_lines (λ h. 0) x) ∙ ap lines_needed (same (λ h. 0) (λ h. 0) (zero_agrees pairs)) ∙ blind_lines (λ h. 0) y
 
-    refused_alike : refusal b a x ≡ refusal c a y
+    pub refused_alike : refusal b a x ≡ refusal c a y
     refused_alike =
         let free : free_lines b ≡ free_lines c = (λ i. alike.lines i - (alike.events i + alike.trees.open_handles i)) in
         let closes = closes_alike x y (paired_of pairs x y same) in

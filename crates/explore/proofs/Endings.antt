@@ -65,6 +65,7 @@ same_turned e d h = record {
   replies = sym h.replies;
   held = λ a lt. sym (h.held a (subst (λ n. a < n) (other_reply_lengths (λ h. 0) e.replies d.replies h.replies) lt));
   nodes = sym h.nodes;
+  outside = sym h.outside;
 }
 
 -- one of the classes has it
@@ -93,7 +94,7 @@ module _ (classes new : List ClassView) (e : EndingView) (at : ℕ) (place : IsP
         own,
         (
           ap (λ xs. slice_get xs at) is ∙ (ap (slice_get (classes ++ own ∷ [])) here ∙ last_there classes own),
-          record { replies = refl; held = λ a lt. refl; nodes = refl },
+          record { replies = refl; held = λ a lt. refl; nodes = refl; outside = refl },
         ),
       )
 

@@ -8,7 +8,8 @@ use Rattle.tree_model.specs.State.{State}
 use Rattle.handles.specs.Objects.{StandingObject}
 use Rattle.race_core.specs.declared.report.Outcome.{Outcome}
 use Rattle.race_core.specs.Worlds.{WorldView, RunsTo, Reports, ledgers_in}
-use Rattle.explore.specs.Alike.{Alike, after_turns}
+use Rattle.explore.specs.Alike.{after_turns}
+use Rattle.explore.specs.Outside.{outside_of, IsSame}
 use Rattle.explore.specs.Layers.{LiveView, point_of, Keeps, IsLed, IsSure, Leads, IsReportOf}
 use Rattle.explore.specs.Points.{Point, start, along, IsTurn, Goes}
 use Rattle.explore.specs.Search.{IsOver}
@@ -49,14 +50,15 @@ module _ (live : LiveView) (tree : State) (events : List Event) (replies : List 
       let all = reported live.world [] tree events replies kept ran none in
       join ran.end (after_turns live.world ([] ++ all.0)) live.world all.1.0 (over_rests live.world ([] ++ all.0) over)
 
-  pub is_report : IsOver live.world
-      → IsReportOf live (record { turns = live.turns; cuts = live.marks.cuts; changes = live.marks.changes; tree = tree; events = events; replies = replies; kept = kept })
-  is_report over = record {
+  pub is_report : (outside : List ℕ) → outside ≡ outside_of live.world → IsOver live.world
+      → IsReportOf live (record { turns = live.turns; cuts = live.marks.cuts; changes = live.marks.changes; tree = tree; events = events; replies = replies; kept = kept; outside = outside })
+  is_report outside counted over = record {
     over = over;
     turns = refl;
     cuts = refl;
     changes = refl;
     report = subst (λ (v : WorldView). Reports v.book (ledgers_in v.seats) tree events replies kept) (end_is over) ran.reports;
+    outside = counted;
   }
 
   -- each actor has its replies
@@ -70,12 +72,12 @@ module _ (live : LiveView) (tree : State) (events : List Event) (replies : List 
 -- ---- its place among others
 
 -- that of one like it
-pub leads_like : (w : WorldView) (live other : LiveView) (worlds : List LiveView) (at : ℕ) → slice_get worlds at ≡ Some other → Alike live.world other.world
+pub leads_like : (w : WorldView) (live other : LiveView) (worlds : List LiveView) (at : ℕ) → slice_get worlds at ≡ Some other → IsSame live.world other.world
     → IsSure w live → Leads w live.turns worlds at
 leads_like w live other worlds at there alike sure = record {
   live = other;
   there = there;
-  by = inr (subst (λ (u : WorldView). Alike u other.world)
+  by = inr (subst (λ (u : WorldView). IsSame u other.world)
       (join live.world (along (start w) live.turns).world (after_turns w live.turns) (ap_at (λ (p : Point). p.world) (point_of live) (along (start w) live.turns) sure)
       (along_world (start w) live.turns)) alike);
 }

@@ -5,6 +5,8 @@ pub mod Steps
 pub mod Books
 pub mod Turns
 pub mod Worlds
+pub mod OutsideAlike
+pub mod Counting
 pub mod HandlesRenamed
 pub mod PairedLists
 pub mod Paired

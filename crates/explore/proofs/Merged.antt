@@ -18,13 +18,13 @@ use Rattle.explore.specs.Lists.{is_another, is_cut, plus, cuts_after, changes_af
 use Rattle.explore.specs.Explored.{IsWithin, IsAsked, TellAlike, ClassView}
 use Rattle.explore.specs.Merged.{Place, bounded_cuts, cuts_with, MayFollow, IsWay, IsFit, IsListOf, WordsAreLists}
 use Rattle.explore.proofs.Worlds.{within_alike}
-use Rattle.explore.proofs.SearchLaws.{like_turns, like_trans, like_busy, like_tells}
+use Rattle.explore.proofs.SearchLaws.{like_turns, like_trans, like_busy, like_tells, like_outside}
 
 -- ---- worlds like one another
 
 like_within : {w v : WorldView} (i : ℕ) → IsLike w v → is_within_at w.seats i ≡ is_within_at v.seats i
 like_within i (same u) = refl
-like_within i (onward w u v alike like) = within_alike w u i alike ∙ like_within {w = u} {v = v} i like
+like_within i (onward w u v alike like) = within_alike w u i alike.alike ∙ like_within {w = u} {v = v} i like
 
 pub like_cut : {w v : WorldView} (last : Option ℕ) (i : ℕ) → IsLike w v → is_cut w.seats last i ≡ is_cut v.seats last i
 like_cut None i like = refl
@@ -38,7 +38,7 @@ seats_as_many pairs (s ∷ ss) [] alike = absurd alike
 
 like_actors : {w v : WorldView} → IsLike w v → length w.seats ≡ length v.seats
 like_actors (same u) = refl
-like_actors (onward w u v alike like) = seats_as_many alike.0 w.seats u.seats alike.1.seats ∙ like_actors {w = u} {v = v} like
+like_actors (onward w u v alike like) = seats_as_many alike.alike.0 w.seats u.seats alike.alike.1.seats ∙ like_actors {w = u} {v = v} like
 
 like_tells_on : {w v : WorldView} (u : WorldView) → IsLike w v → TellAlike v u → TellAlike w u
 like_tells_on {w} {v} u like tells =
@@ -47,6 +47,7 @@ like_tells_on {w} {v} u like tells =
       replies = first.replies ∙ tells.replies;
       nodes = first.nodes ∙ tells.nodes;
       held = λ a lt. first.held a ∙ tells.held a (omega arith);
+      outside = like_outside {w = w} {v = v} like ∙ tells.outside;
     }
 
 -- ---- bounds on cuts

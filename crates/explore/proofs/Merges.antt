@@ -19,6 +19,7 @@ use Rattle.explore.specs.Concluded.{IsToldBy, AreToldBy, HasLeast, HasShort, Are
 use Rattle.explore.specs.Explored.{IsAsked, EndingView, ClassView, IsEnding}
 use Rattle.explore.specs.Layers.{LiveView, LayerView, IsLed, IsSure, AreLed, AreOn, IsFirst, IsOn, IsTop, AreTops, AreWaysBy, AreAllWays, IsReportOf, IsSpot, AreSpots, AreJoined, point_of, spot_by}
 use Rattle.explore.specs.Lists.{cuts, changes, rank}
+use Rattle.explore.specs.Outside.{outside_of}
 use Rattle.explore.specs.Points.{Point, start, along, no_marks, Goes}
 use Rattle.explore.specs.Search.{IsOver, IsFull}
 use Rattle.explore.proofs.Concluded.{found_have_leasts}
@@ -112,6 +113,7 @@ asked_ends w most live ending sure asked ends = (subst_ending, report.turns)
       report =
           subst (λ (is : List ℕ). Reports (after_turns w is).book (ledgers_in (after_turns w is).seats) ending.tree ending.events ending.replies ending.kept) (sym report.turns)
           (subst (λ (v : WorldView). Reports v.book (ledgers_in v.seats) ending.tree ending.events ending.replies ending.kept) world report.report);
+      outside = report.outside ∙ (ap outside_of world ∙ ap (λ (is : List ℕ). outside_of (after_turns w is)) (sym report.turns));
     }
 
 -- ---- the counts' least lists

@@ -18,7 +18,9 @@ use Rattle.race_core.specs.Worlds.{WorldView, turn_of, turn, is_busy_in, is_busy
 use Rattle.explore.specs.Alike.{full, after_turns, TellTheSame}
 use Rattle.explore.specs.Want.{replies_want}
 use Rattle.explore.specs.Search.{IsOver, IsFull, IsLike, same, onward, IsClosed, ChosenListsStandForAll, ReportsAreOfFullLists, FullListsAreReported}
-use Rattle.explore.proofs.Worlds.{alike_turns, busy_alike, tell_alike}
+use Rattle.explore.specs.Outside.{outside_of}
+use Rattle.explore.proofs.OutsideAlike.{same_turns}
+use Rattle.explore.proofs.Worlds.{busy_alike, tell_alike}
 use Rattle.explore.proofs.WantWorlds.{runs_are_full, ap_at, join}
 
 -- ---- turns one after another
@@ -35,7 +37,7 @@ runs_append w u v (i ∷ is) js run more = (run.0, runs_append (turn run.0 w i) 
 
 pub like_turns : {w v : WorldView} (i : ℕ) → IsLike w v → IsLike (turn full w i) (turn full v i)
 like_turns i (same u) = same (turn full u i)
-like_turns i (onward w u v alike like) = onward (turn full w i) (turn full u i) (turn full v i) (alike_turns w u full i alike) (like_turns {w = u} {v = v} i like)
+like_turns i (onward w u v alike like) = onward (turn full w i) (turn full u i) (turn full v i) (same_turns w u full i alike) (like_turns {w = u} {v = v} i like)
 
 pub like_trans : {w u v : WorldView} → IsLike w u → IsLike u v → IsLike w v
 like_trans (same x) more = more
@@ -44,14 +46,18 @@ like_trans {w} {u} {v} (onward a b c alike like) more = onward a b v alike (like
 pub like_busy : {w v : WorldView} (i : ℕ) → IsLike w v → is_busy_at w.seats i ≡ is_busy_at v.seats i
 like_busy i (same u) = refl
 like_busy i (onward w u v alike like) =
-    join (is_busy_at w.seats i) (is_busy_at u.seats i) (is_busy_at v.seats i) (busy_alike w u i alike) (like_busy {w = u} {v = v} i like)
+    join (is_busy_at w.seats i) (is_busy_at u.seats i) (is_busy_at v.seats i) (busy_alike w u i alike.alike) (like_busy {w = u} {v = v} i like)
 
 pub like_tells : {w v : WorldView} → IsLike w v → TellTheSame w v
 like_tells (same u) = record { replies = refl; nodes = refl; held = λ a. refl }
 like_tells (onward w u v alike like) =
-    let first : TellTheSame w u = tell_alike w u alike in
+    let first : TellTheSame w u = tell_alike w u alike.alike in
     let rest : TellTheSame u v = like_tells {w = u} {v = v} like in
     record { replies = first.replies ∙ rest.replies; nodes = first.nodes ∙ rest.nodes; held = λ a. first.held a ∙ rest.held a }
+
+pub like_outside : {w v : WorldView} → IsLike w v → outside_of w ≡ outside_of v
+like_outside (same u) = refl
+like_outside (onward w u v alike like) = join (outside_of w) (outside_of u) (outside_of v) alike.outside (like_outside {w = u} {v = v} like)
 
 module _ (w : WorldView) (chosen : List ℕ → Bool) (closed : IsClosed w chosen) where
   stands : (u : WorldView) (is js : List ℕ) → chosen js ≡ true → IsLike u (after_turns w js) → IsFull u is

@@ -13,6 +13,7 @@ use Rattle.explore.specs.declared.marks.Marks.{Marks}
 use Rattle.explore.specs.Alike.{Pairs, SameSeats, AlikeTrees, AlikeSeats, Alike, full, after_turns}
 use Rattle.explore.specs.Search.{IsOver, IsFull, IsLike, same, onward}
 use Rattle.explore.specs.Lists.{plus, is_another, cuts, changes}
+use Rattle.explore.specs.Outside.{outside_of, IsSame}
 use Rattle.explore.specs.Explored.{IsWithin, AreBusy, EndingView, ClassView, IsEnding, IsTooLong}
 use Rattle.explore.specs.Points.{Point, no_marks, marks_after, start, along, MayGo}
 use Rattle.explore.specs.Layers.{LiveView, point_of, IsSure, Leads, LayerView, IsFirst, IsOnward, IsMove, IsBornWorld, IsBornStand, IsReportOf, IsFoundIn, IsSearched}
@@ -62,10 +63,13 @@ alike_sym w v alike =
       },
     )
 
+same_sym : (w v : WorldView) → IsSame w v → IsSame v w
+same_sym w v is = record { alike = alike_sym w v is.alike; roots = sym is.roots; outside = sym is.outside }
+
 pub like_sym : {w v : WorldView} → IsLike w v → IsLike v w
 like_sym (same u) = same u
 like_sym (onward w u v alike like) =
-    like_trans {w = v} {u = u} {v = w} (like_sym {w = u} {v = v} like) (onward u w w (alike_sym w u alike) (same w))
+    like_trans {w = v} {u = u} {v = w} (like_sym {w = u} {v = v} like) (onward u w w (same_sym w u alike) (same w))
 
 like_marks : {w v : WorldView} (marks : Marks) (i : ℕ) → IsLike w v → marks_after w.seats marks i ≡ marks_after v.seats marks i
 like_marks {w} {v} marks i like =
@@ -119,6 +123,7 @@ so_far_ends w most live marks ending so sure is = record {
   };
   ranked = λ j. record { cuts = cuts_are j; changes = changes_are j; turns = ending.turns };
   report = subst (λ (u : WorldView). Reports u.book (ledgers_in u.seats) ending.tree ending.events ending.replies ending.kept) world is.report;
+  outside = is.outside ∙ ap_at outside_of live.world (after_turns w ending.turns) world;
 }
   where
     there : point_of live ≡ along (start w) ending.turns

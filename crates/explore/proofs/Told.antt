@@ -40,13 +40,14 @@ replies_of_all w most e is =
 -- ---- the same outcome
 
 pub agree_same : (w : WorldView) (is : List ℕ) → AgreeIn w is is
-agree_same w is = record { replies = refl; nodes = refl; held = λ a lt. refl }
+agree_same w is = record { replies = refl; nodes = refl; held = λ a lt. refl; outside = refl }
 
 pub agree_turned : (w : WorldView) (is js : List ℕ) → AgreeIn w is js → AgreeIn w js is
 agree_turned w is js h = record {
   replies = sym h.replies;
   nodes = sym h.nodes;
   held = λ a lt. sym (h.held a (subst (λ n. a < n) (actors_stay w js ∙ sym (actors_stay w is)) lt));
+  outside = sym h.outside;
 }
 
 pub agree_on : (w : WorldView) (is js ks : List ℕ) → AgreeIn w is js → AgreeIn w js ks → AgreeIn w is ks
@@ -54,6 +55,7 @@ agree_on w is js ks h k = record {
   replies = h.replies ∙ k.replies;
   nodes = h.nodes ∙ k.nodes;
   held = λ a lt. h.held a lt ∙ k.held a (subst (λ n. a < n) (actors_stay w is ∙ sym (actors_stay w js)) lt);
+  outside = h.outside ∙ k.outside;
 }
 
 module _ (w : WorldView) (most : Option ℕ) where
@@ -65,6 +67,7 @@ module _ (w : WorldView) (most : Option ℕ) where
         ap (λ s. held_count s a) (sym is.report.is_tree)
         ∙ h.held a (subst (λ n. a < n) (actors_stay w e.turns ∙ sym (replies_of_all w most d js)) lt)
         ∙ ap (λ s. held_count s a) js.report.is_tree;
+    outside = sym is.outside ∙ h.outside ∙ js.outside;
   }
 
   pub agrees_same : (e d : EndingView) → IsEnding w most e → IsEnding w most d → AgreeIn w e.turns d.turns → SameOutcome e d
@@ -75,6 +78,7 @@ module _ (w : WorldView) (most : Option ℕ) where
         ap (λ s. held_count s a) is.report.is_tree
         ∙ h.held a (subst (λ n. a < n) (replies_of_all w most d js ∙ sym (actors_stay w e.turns)) lt)
         ∙ ap (λ s. held_count s a) (sym js.report.is_tree);
+    outside = is.outside ∙ h.outside ∙ sym js.outside;
   }
 
 -- ---- places

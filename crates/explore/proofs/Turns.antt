@@ -193,14 +193,23 @@ pub record AfterTurn (pairs : Pairs) (o u : Turned) : Type 0 where
   pub seats : SameSeats more o.seat u.seat
 
 module _ (pairs : Pairs) where
-  same_begun : (room : Bool) (s t : Seat) → SameSeats pairs s t → SameSeats pairs (begun room s.ledger s.doing) (begun room t.ledger t.doing)
+  pub same_begun : (room : Bool) (s t : Seat) → SameSeats pairs s t → SameSeats pairs (begun room s.ledger s.doing) (begun room t.ledger t.doing)
   same_begun room s t same f g agree =
       begun_by f room s.ledger s.doing
       ∙ ap (λ (seat : Seat). begun room seat.ledger seat.doing) (same f g agree)
       ∙ sym (begun_by g room t.ledger t.doing)
 
-  same_actor : (s t : Seat) → SameSeats pairs s t → s.ledger.root.owner.actor ≡ t.ledger.root.owner.actor
+  pub same_actor : (s t : Seat) → SameSeats pairs s t → s.ledger.root.owner.actor ≡ t.ledger.root.owner.actor
   same_actor s t same = ap (λ (seat : Seat). seat.ledger.root.owner.actor) (same (λ h. 0) (λ h. 0) (zero_agrees pairs))
+
+  -- the same step is due
+  pub due_alike : (ledger ledger' : LedgerView) (call call' : CallView)
+      → SameSeats pairs (record { ledger = ledger; doing = Some call }) (record { ledger = ledger'; doing = Some call' })
+      → SameSteps pairs (due call.below call.doing) (due call'.below call'.doing)
+  due_alike ledger ledger' call call' same f g agree =
+      steps_are_due_blindly f call.below call.doing
+      ∙ ap (λ (view : CallView). due view.below view.doing) (same_Some (call_by f call) (call_by g call') (ap (λ (seat : Seat). seat.doing) (same f g agree)))
+      ∙ sym (steps_are_due_blindly g call'.below call'.doing)
 
   -- the step that is due is made by that actor, and its answer taken
   abbrev on_step : Bool → Bool → BookedHistory → LedgerView → CallView → ℕ → Turned
@@ -214,9 +223,7 @@ module _ (pairs : Pairs) where
   on_step_alike b c alike luck room ledger ledger' call call' same a =
       let calls : (f g : ℕ → ℕ) → Agree pairs f g → call_by f call ≡ call_by g call' =
       (λ f g agree. same_Some (call_by f call) (call_by g call') (ap (λ (seat : Seat). seat.doing) (same f g agree))) in
-      let dues : SameSteps pairs (due call.below call.doing) (due call'.below call'.doing) =
-      (λ f g agree. steps_are_due_blindly f call.below call.doing ∙ ap (λ (view : CallView). due view.below view.doing) (calls f g agree)
-      ∙ sym (steps_are_due_blindly g call'.below call'.doing)) in
+      let dues = due_alike ledger ledger' call call' same in
       let after = stepped_alike pairs b c alike a (due call.below call.doing) (due call'.below call'.doing) dues luck in
       record {
         more = after.more;

@@ -28,13 +28,13 @@ set_alike pairs more grows [] (t' ∷ ts) i s t alike same = absurd alike
 set_alike pairs more grows (s' ∷ ss) [] i s t alike same = absurd alike
 
 -- of each number there is a seat in both or in neither
-abbrev BothAlike : Pairs → Option Seat → Option Seat → Type 0
+abbrev pub BothAlike : Pairs → Option Seat → Option Seat → Type 0
 BothAlike pairs None None = Unit {0}
 BothAlike pairs (Some s) (Some t) = SameSeats pairs s t
 BothAlike pairs None (Some t) = ⊥
 BothAlike pairs (Some s) None = ⊥
 
-get_alike : (pairs : Pairs) (ss ts : List Seat) (i : ℕ) → AlikeSeats pairs ss ts → BothAlike pairs (slice_get ss i) (slice_get ts i)
+pub get_alike : (pairs : Pairs) (ss ts : List Seat) (i : ℕ) → AlikeSeats pairs ss ts → BothAlike pairs (slice_get ss i) (slice_get ts i)
 get_alike pairs [] [] i alike = tt
 get_alike pairs (s ∷ ss) (t ∷ ts) zero alike = alike.0
 get_alike pairs (s ∷ ss) (t ∷ ts) (suc i) alike = get_alike pairs ss ts i alike.1

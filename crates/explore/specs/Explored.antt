@@ -15,6 +15,7 @@ use Rattle.explore.specs.Renamed.{replies_by}
 use Rattle.explore.specs.Alike.{full, after_turns}
 use Rattle.explore.specs.Search.{IsFull}
 use Rattle.explore.specs.Lists.{cuts, rank}
+use Rattle.explore.specs.Outside.{outside_of}
 
 -- ---- which lists are asked for, and what they tell
 
@@ -33,11 +34,13 @@ abbrev pub AreBusy : WorldView → List ℕ → Type 0
 AreBusy w [] = Unit {0}
 AreBusy w (i ∷ is) = (is_busy_at w.seats i ≡ true) × AreBusy (turn full w i) is
 
--- The same outcome: the replies but for the numbers of handles, the nodes of the tree, and how many handles each actor has open.
+-- The same outcome: the replies but for the numbers of handles, the nodes of the tree, how many handles each actor has open, and
+-- how many changes it has made outside of its root.
 pub record TellAlike (w v : WorldView) : Type 0 where
   pub replies : replies_by (λ h. 0) (replies_in (ledgers_in w.seats)) ≡ replies_by (λ h. 0) (replies_in (ledgers_in v.seats))
   pub nodes : (tree_now w.book).nodes ≡ (tree_now v.book).nodes
   pub held : (a : ℕ) → a < length w.seats → held_count (tree_now w.book) a ≡ held_count (tree_now v.book) a
+  pub outside : outside_of w ≡ outside_of v
 
 -- the two lists lead to the same outcome
 abbrev pub AgreeIn : WorldView → List ℕ → List ℕ → Type 0
@@ -45,7 +48,7 @@ AgreeIn w is js = TellAlike (after_turns w is) (after_turns w js)
 
 -- ---- what is found
 
--- a list of turns, how many cuts and changes of actor it has, and its report
+-- a list of turns, how many cuts and changes of actor it has, its report, and how many changes each actor made outside of its root
 pub record EndingView : Type 0 where
   pub turns : List ℕ
   pub cuts : ℕ
@@ -54,6 +57,7 @@ pub record EndingView : Type 0 where
   pub events : List Event
   pub replies : List (List Outcome)
   pub kept : List StandingObject
+  pub outside : List ℕ
 
 -- an outcome: what its least list comes to, and how many lists lead to it
 pub record ClassView : Type 0 where
@@ -65,6 +69,7 @@ pub record IsEnding (w : WorldView) (most : Option ℕ) (ending : EndingView) : 
   pub asked : IsAsked w most ending.turns
   pub ranked : record { cuts = ending.cuts; changes = ending.changes; turns = ending.turns } ≡ rank w ending.turns
   pub report : Reports (after_turns w ending.turns).book (ledgers_in (after_turns w ending.turns).seats) ending.tree ending.events ending.replies ending.kept
+  pub outside : ending.outside ≡ outside_of (after_turns w ending.turns)
 
 -- one of the classes has this list's outcome
 pub record HasClass (w : WorldView) (classes : List ClassView) (is : List ℕ) : Type 0 where

@@ -9,10 +9,11 @@ use Rattle.turn_graph.specs.declared.graph.Spot.TheVariants.{Ends, Goes}
 use Rattle.turn_graph.specs.Words.{way_of, AreApart}
 use Rattle.explore.specs.declared.layer.Stand.{Stand}
 use Rattle.explore.specs.declared.marks.Marks.{Marks}
-use Rattle.explore.specs.Alike.{Alike, after_turns}
+use Rattle.explore.specs.Alike.{after_turns}
 use Rattle.explore.specs.Explored.{EndingView, ClassView}
 use Rattle.explore.specs.Lists.{is_another, is_cut}
 use Rattle.explore.specs.Merged.{bounded_cuts}
+use Rattle.explore.specs.Outside.{outside_of, IsSame}
 use Rattle.explore.specs.Points.{Point, no_marks, marks_after, start, along, AreWithin, MayGo}
 use Rattle.explore.specs.Points as points
 use Rattle.explore.specs.Search.{IsOver}
@@ -47,11 +48,11 @@ AreLed w lives = (k : ℕ) (live : LiveView) → slice_get lives k ≡ Some live
 abbrev pub AreSure : WorldView → List LiveView → Type 0
 AreSure w lives = (k : ℕ) (live : LiveView) → slice_get lives k ≡ Some live → IsSure w live
 
--- the list of turns is that of the world at that place, or leads to one like it
+-- the list of turns is that of the world at that place, or leads to one like it, in which each actor did as much outside of its root
 pub record Leads (w : WorldView) (turns : List ℕ) (lives : List LiveView) (k : ℕ) : Type 0 where
   pub live : LiveView
   pub there : slice_get lives k ≡ Some live
-  pub by : (live.turns ≡ turns) ⊎ Alike (after_turns w turns) live.world
+  pub by : (live.turns ≡ turns) ⊎ IsSame (after_turns w turns) live.world
 
 -- ---- layers
 
@@ -169,6 +170,7 @@ pub record IsReportOf (live : LiveView) (ending : EndingView) : Type 0 where
   pub cuts : ending.cuts ≡ live.marks.cuts
   pub changes : ending.changes ≡ live.marks.changes
   pub report : Reports live.world.book (ledgers_in live.world.seats) ending.tree ending.events ending.replies ending.kept
+  pub outside : ending.outside ≡ outside_of live.world
 
 -- it comes to the outcome of that class
 pub record IsPlaced (classes : List ClassView) (live : LiveView) (at : ℕ) : Type 0 where

@@ -4,6 +4,8 @@ pub mod Renamed
 pub mod Want
 pub mod Search
 pub mod Lists
+pub mod Outside
+pub mod Counting
 pub mod Explored
 pub mod Points
 pub mod Paired

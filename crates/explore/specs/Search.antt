@@ -6,7 +6,8 @@ use Rattle.handles.specs.Objects.{StandingObject}
 use Rattle.race_core.specs.declared.report.Outcome.{Outcome}
 use Rattle.race_core.specs.Book.{tree_now}
 use Rattle.race_core.specs.Worlds.{WorldView, turn, is_busy_at, ledgers_in, replies_in, RunsTo}
-use Rattle.explore.specs.Alike.{Alike, full, after_turns, TellTheSame}
+use Rattle.explore.specs.Alike.{full, after_turns, TellTheSame}
+use Rattle.explore.specs.Outside.{IsSame}
 use Rattle.explore.specs.Want.{replies_want}
 
 -- nobody has anything left to do
@@ -18,10 +19,10 @@ abbrev pub IsFull : WorldView → List ℕ → Type 0
 IsFull w [] = IsOver w
 IsFull w (i ∷ is) = (is_busy_at w.seats i ≡ true) × IsFull (turn full w i) is
 
--- from one world to another by alike ones
+-- from one world to another by alike ones, in which each actor has made as many changes outside of its root
 pub data IsLike : WorldView → WorldView → Type 0 where
   same : (w : WorldView) → IsLike w w
-  onward : (w u v : WorldView) → Alike w u → IsLike u v → IsLike w v
+  onward : (w u v : WorldView) → IsSame w u → IsLike u v → IsLike w v
 
 -- Some lists are chosen: the empty one, and of each chosen list and each actor who has something left to do after it, one
 -- that leads to a world like that after the actor's turn.

@@ -10,6 +10,7 @@ pub record SameOutcome (e d : EndingView) : Type 0 where
   pub replies : replies_by (λ h. 0) e.replies ≡ replies_by (λ h. 0) d.replies
   pub held : (a : ℕ) → a < length d.replies → held_count e.tree a ≡ held_count d.tree a
   pub nodes : e.tree.nodes ≡ d.tree.nodes
+  pub outside : e.outside ≡ d.outside
 
 abbrev pub rank_of : EndingView → Rank
 rank_of e = record { cuts = e.cuts; changes = e.changes; turns = e.turns }

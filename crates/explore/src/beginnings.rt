@@ -1,5 +1,5 @@
 //! Where every schedule begins.
-ghost use Rattle.std.specs.Prelude.{◌≡◌, IfOk};
+ghost use Rattle.std.specs.Prelude.{◌≡◌, [], IfOk, OnOk};
 
 use path_text::NoMemory;
 use race_core::World;
@@ -14,7 +14,8 @@ pub trait Beginnings<T: Tree> {
     /// The world that is made each time.
     ghost opening: { Self → WorldView };
 
-    /// That world. NoMemory where its room was refused.
+    /// That world, in which no step was made yet. NoMemory where its room was refused.
     fn world(&self, alloc: Global) -> Result<World<T>, NoMemory>
-        ensures { IfOk result (λ world. world ≡ opening self.now) };
+        ensures world { IfOk result (λ world. world ≡ opening self.now) }
+        ensures fresh { OnOk result ((opening self.now).book.events ≡ []) };
 }

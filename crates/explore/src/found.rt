@@ -14,6 +14,8 @@ pub struct Ending<T: Tree> {
     pub changes: u64,
     /// The report on the world's run by these turns.
     pub report: Report<T>,
+    /// Of each actor, how many changes it made outside of its root.
+    pub outside: Vec<u64>,
 }
 
 impl<T: Tree> Model for Ending<T> {
@@ -29,6 +31,7 @@ impl<T: Tree> Model for Ending<T> {
       events = e.report.events.events;
       replies = e.report.replies.items;
       kept = e.report.kept.items;
+      outside = e.outside.items;
     } };
 }
 

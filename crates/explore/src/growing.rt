@@ -1,7 +1,10 @@
 //! Worlds gone through from the beginning, each by its own list of turns, and one kept of alike ones.
-ghost use Rattle.std.specs.Prelude.{◌≡◌, ◌⊎◌, ◌<◌, ◌+◌, ◌^◌, ◌++◌, ◌∷◌, [], false, ℕ, length, Some, slice_get, IfOk, IfSome, OnOk};
+ghost use Rattle.std.specs.Prelude.{◌≡◌, ◌↔◌, ◌⊎◌, ◌<◌, ◌≤◌, ◌+◌, ◌^◌, ◌++◌, ◌∷◌, [], false, ℕ, length, Some, slice_get, IsTrue, IfOk, IfErr, IfSome, OnOk};
 ghost use Rattle.race_core.specs.Worlds.{WorldView, RunsTo};
-ghost use Rattle.explore.specs.Alike.{Alike};
+ghost use Rattle.race_core.specs.declared.opening.TheConstants.{ACTORS_MAX};
+ghost use Rattle.explore.specs.Counting.{IsTally};
+ghost use Rattle.explore.specs.Explored.{WhyNot};
+ghost use Rattle.explore.specs.Outside.{IsSame};
 ghost use Rattle.explore.specs.Points.{start, no_marks, Goes, IsTurn, AreWithin};
 ghost use Rattle.explore.specs.Search.{IsOver};
 ghost use Rattle.explore.specs.Want.{replies_want};
@@ -10,11 +13,13 @@ ghost use Rattle.explore.specs.Layers.{LiveView, Keeps, IsLed, IsSure, Leads, Is
 use crate::beginnings::Beginnings;
 use crate::found::Ending;
 use crate::layer::Live;
+use crate::limits::{Limits, SearchFault};
 use crate::marks::{Marks, marks_after, no_marks};
+use crate::outside::Tally;
 use crate::seen::Seen;
 use crate::want::tells_want;
 use path_text::NoMemory;
-use race_core::{Report, World};
+use race_core::{ACTORS_MAX, Report, World};
 use std::alloc::Global;
 use tree_model::Tree;
 
@@ -27,6 +32,8 @@ impl<T: Tree> Live<T> {
             seen,
             turns: _,
             marks: _,
+            tally: _,
+            is_state: _,
         } = self;
         seen.into_world()
     }
@@ -45,20 +52,25 @@ fn end<T: Tree + Drop>(alloc: Global, world: World<T>) {
     let _report = world.run(alloc, [].as_slice());
 }
 
-// One turn of that actor, and the marks after it.
+// One turn of that actor, and the marks after it and what was changed outside.
 fn take_turn<T: Tree>(
     alloc: Global,
     world: &mut World<T>,
     marks: &mut Marks,
+    tally: &mut Tally,
     actor: u32,
 ) -> Result<(), NoMemory>
-    requires { AreWithin marks.old (2 ^ 40) }
-    ensures { OnOk result (IsTurn (record { world = world.old; marks = marks.old }) actor (record { world = world.new; marks = marks.new })) }
+    requires few { AreWithin marks.old (2 ^ 40) }
+    requires tally { IsTally world.old tally.old }
+    ensures turned { OnOk result (IsTurn (record { world = world.old; marks = marks.old }) actor (record { world = world.new; marks = marks.new })) }
+    ensures tally { OnOk result (IsTally world.new tally.new) }
 {
     let after = marks_after(world, *marks, actor);
+    let events = world.book().events().len();
     if world.turn(alloc, actor).is_err() {
         return Err(NoMemory);
     }
+    tally.follow(alloc, world, events)?;
     *marks = after;
     Ok(())
 }
@@ -68,42 +80,80 @@ fn take_turns<T: Tree>(
     alloc: Global,
     world: &mut World<T>,
     marks: &mut Marks,
+    tally: &mut Tally,
     turns: &[u32],
 ) -> Result<(), NoMemory>
     requires none { marks.old ≡ no_marks }
     requires few { length turns.now < 2 ^ 40 }
+    requires tally { IsTally world.old tally.old }
     ensures went { OnOk result (Goes (start world.old) turns.now (record { world = world.new; marks = marks.new })) }
+    ensures tally { OnOk result (IsTally world.new tally.new) }
     ensures actors { OnOk result (length world.new.seats ≡ length world.old.seats) }
 {
     for actor in turns {
-        take_turn(alloc, world, marks, *actor)?;
+        take_turn(alloc, world, marks, tally, *actor)?;
     }
     Ok(())
 }
 
-/// A new world after these turns. NoMemory where it couldn't be made, or where memory for its report ran short.
+// The world after these turns, and what counts in them. It comes back where memory for its report ran short.
+fn gone<T: Tree + Drop>(
+    alloc: Global,
+    mut world: World<T>,
+    mut tally: Tally,
+    turns: Vec<u32>,
+) -> Result<Live<T>, World<T>>
+    requires few { length turns.items < 2 ^ 40 }
+    requires tally { IsTally world tally }
+    ensures led { IfOk result (λ live. IsLed world live) }
+    ensures turns { IfOk result (λ live. live.turns ≡ turns.items) }
+    ensures actors { IfOk result (λ live. length live.world.seats ≡ length world.seats) }
+{
+    let mut marks = no_marks();
+    if take_turns(alloc, &mut world, &mut marks, &mut tally, turns.as_slice()).is_err() {
+        return Err(world);
+    }
+    match Seen::new(alloc, world) {
+        Ok(seen) => Ok(Live {
+            seen,
+            turns,
+            marks,
+            tally,
+            is_state: true,
+        }),
+        Err(world) => Err(world),
+    }
+}
+
+/// A new world after these turns.
+///
+/// Errors: TooManyActors over 64; NoMemory where it couldn't be made, or where memory for its report ran short.
 pub(crate) fn led<T: Tree + Drop, B: Beginnings<T>>(
     alloc: Global,
     beginnings: &B,
     turns: Vec<u32>,
-) -> Result<Live<T>, NoMemory>
+) -> Result<Live<T>, SearchFault>
     requires few { length turns.items < 2 ^ 40 }
     ensures led { IfOk result (λ live. IsLed (B.opening beginnings.now) live) }
     ensures turns { IfOk result (λ live. live.turns ≡ turns.items) }
     ensures actors { IfOk result (λ live. length live.world.seats ≡ length (B.opening beginnings.now).seats) }
+    ensures few { OnOk result (length (B.opening beginnings.now).seats ≤ ACTORS_MAX) }
+    ensures err { (limits : Limits) → IfErr result (WhyNot (B.opening beginnings.now) limits) }
 {
-    let mut world = beginnings.world(alloc)?;
-    let mut marks = no_marks();
-    let taken = take_turns(alloc, &mut world, &mut marks, turns.as_slice());
-    if taken.is_err() {
+    let world = beginnings.world(alloc)?;
+    if world.actors() > ACTORS_MAX {
         end(alloc, world);
-        return Err(NoMemory);
+        return Err(SearchFault::TooManyActors);
     }
-    match Seen::new(alloc, world) {
-        Ok(seen) => Ok(Live { seen, turns, marks }),
+    let Ok(tally) = Tally::of(alloc, &world) else {
+        end(alloc, world);
+        return Err(SearchFault::NoMemory);
+    };
+    match gone(alloc, world, tally, turns) {
+        Ok(live) => Ok(live),
         Err(world) => {
             end(alloc, world);
-            Err(NoMemory)
+            Err(SearchFault::NoMemory)
         }
     }
 }
@@ -128,30 +178,76 @@ pub(crate) fn ended<T: Tree + Drop>(alloc: Global, live: Live<T>) -> Result<Endi
     ensures report { IfOk result (λ ending. IsOver live.world → IsReportOf live ending) }
     ensures actors { IfOk result (λ ending. length ending.replies ≡ length live.world.seats) }
 {
-    let Live { seen, turns, marks } = live;
+    let Live {
+        seen,
+        turns,
+        marks,
+        tally,
+        is_state: _,
+    } = live;
     let report = told(alloc, seen.into_world())?;
     Ok(Ending {
         turns,
         cuts: marks.cuts,
         changes: marks.changes,
         report,
+        outside: tally.into_counts(),
     })
 }
 
-// The place of the first world like that one.
-fn like_at<T: Tree>(worlds: &[Live<T>], live: &Live<T>) -> Option<usize>
-    ensures { IfSome result (λ at. (other : LiveView) × ((slice_get worlds.now at ≡ Some other) × Alike live.now.world other.world)) }
+impl<T: Tree> Live<T> {
+    // Whether the worlds are the same: alike, and each actor has made as many changes outside of its root.
+    fn is_same(&self, other: &Live<T>) -> bool
+        ensures { IsTrue result ↔ IsSame self.now.world other.now.world }
+    {
+        self.tally.same(&other.tally) && self.seen.is_alike(&other.seen)
+    }
+}
+
+// The place of the first world that is the same as that one.
+fn same_at<T: Tree>(worlds: &[Live<T>], live: &Live<T>) -> Option<usize>
+    ensures { IfSome result (λ at. (other : LiveView) × ((slice_get worlds.now at ≡ Some other) × IsSame live.now.world other.world)) }
 {
     for (at, other) in worlds.iter().enumerate() {
-        if live.seen.is_alike(&other.seen) {
+        if live.is_same(other) {
             return Some(at);
         }
     }
     None
 }
 
-// The place of a world like that one; it is put after the others where none is. NoMemory where its room was refused, or
-// where memory ran short in the one that isn't kept.
+// Whether none of the worlds is alike. It tells what is counted as a state, of which nothing is proved.
+fn is_unlike_all<T: Tree>(worlds: &[Live<T>], live: &Live<T>) -> bool {
+    for other in worlds {
+        if live.seen.is_alike(&other.seen) {
+            return false;
+        }
+    }
+    true
+}
+
+// The same world, counted as a state or not.
+fn counted<T: Tree>(live: Live<T>, is_state: bool) -> Live<T>
+    ensures { result ≡ live }
+{
+    let Live {
+        seen,
+        turns,
+        marks,
+        tally,
+        is_state: _,
+    } = live;
+    Live {
+        seen,
+        turns,
+        marks,
+        tally,
+        is_state,
+    }
+}
+
+// The place of a world that is the same as that one; it is put after the others where none is. NoMemory where its room was
+// refused, or where memory ran short in the one that isn't kept.
 fn put<T: Tree + Drop>(
     alloc: Global,
     worlds: &mut Vec<Live<T>>,
@@ -161,7 +257,7 @@ fn put<T: Tree + Drop>(
     ensures leads { IfOk result (λ at. (w : WorldView) → IsLed w live → Leads w live.turns worlds.new.items at) }
     ensures new { (k : ℕ) (born : LiveView) → slice_get worlds.new.items k ≡ Some born → (slice_get worlds.old.items k ≡ Some born) ⊎ (born ≡ live) }
 {
-    if let Some(at) = like_at(worlds.as_slice(), &live) {
+    if let Some(at) = same_at(worlds.as_slice(), &live) {
         let _ending = ended(alloc, live)?;
         return Ok(at);
     }
@@ -169,9 +265,15 @@ fn put<T: Tree + Drop>(
         end(alloc, live.into_world());
         return Err(NoMemory);
     }
+    let is_state = is_unlike_all(worlds.as_slice(), &live);
     let at = worlds.len();
-    worlds.push_reserved(live);
+    worlds.push_reserved(counted(live, is_state));
     Ok(at)
+}
+
+/// How many of the worlds have none before them that is alike.
+pub(crate) fn count_states<T: Tree>(worlds: &[Live<T>]) -> u64 {
+    worlds.iter().filter(|live| live.is_state).count() as u64
 }
 
 /// The place, among the next layer's worlds, of one like that after these turns and the actor's; it is put after the
@@ -191,6 +293,8 @@ pub(crate) fn world_after<T: Tree + Drop, B: Beginnings<T>>(
     let mut all = Vec::with_capacity(alloc, turns.len() + 1)?;
     all.extend_from_slice(turns)?;
     all.push(actor)?;
-    let live = led(alloc, beginnings, all)?;
+    let Ok(live) = led(alloc, beginnings, all) else {
+        return Err(NoMemory);
+    };
     put(alloc, next, live)
 }

@@ -1,5 +1,6 @@
 //! One of alike worlds each, that lists of so many turns lead to, and the stands on them.
 use crate::marks::Marks;
+use crate::outside::Tally;
 use crate::seen::Seen;
 use std::marker::Model;
 use tree_model::Tree;
@@ -9,14 +10,20 @@ pub(crate) struct Live<T: Tree> {
     pub(crate) seen: Seen<T>,
     pub(crate) turns: Vec<u32>,
     pub(crate) marks: Marks,
+    pub(crate) tally: Tally,
+    /// Whether no world before it is alike, whatever was done outside of the roots.
+    pub(crate) is_state: bool,
 }
 
 impl<T: Tree> Model for Live<T> {
+    ghost use Rattle.explore.specs.Counting.{IsTally};
     ghost use Rattle.explore.specs.Layers.{LiveView};
 
     ghost Value = { LiveView };
 
     ghost view = { λ l. record { world = l.seen; marks = l.marks; turns = l.turns.items } };
+
+    ghost invariant = { λ l. IsTally l.seen l.tally };
 }
 
 /// Where some lists of turns stand: on a world, with the last actor and the cuts before, where they are bounded.
@@ -30,7 +37,7 @@ pub(crate) struct Stand {
     pub(crate) marks: Marks,
 }
 
-/// Worlds that lists of one length lead to, no two of them alike, and the stands on them. Contracts see it as a
+/// Worlds that lists of one length lead to, no two of them the same, and the stands on them. Contracts see it as a
 /// `LayerView`.
 pub(crate) struct Layer<T: Tree> {
     pub(crate) worlds: Vec<Live<T>>,

@@ -7,6 +7,9 @@
 //! Two worlds are *alike* where they differ in the numbers of their actors' handles alone (`specs/Alike.antt`), and
 //! `Seen::is_alike` tells exactly whether two are. The search goes on with one of alike worlds, layer by layer
 //! (`specs/Layers.antt`); the stands of lists on them make a graph, and the laws say that its words are the lists.
+//!
+//! What an actor changes outside of its root (`specs/Outside.antt`) is a part of an outcome: worlds are taken for one only where
+//! each actor has made as many such changes.
 #![tactic(auto)]
 
 mod beginnings;
@@ -17,6 +20,8 @@ mod laws;
 mod layer;
 mod limits;
 mod marks;
+mod outside;
+mod progress;
 mod same;
 mod scene;
 mod search;
@@ -34,6 +39,7 @@ pub use laws::{
     want_is_told, words_are_lists,
 };
 pub use limits::{Limits, SearchFault};
+pub use progress::{Progress, Silent};
 pub use scene::Scene;
 pub use search::explore;
 pub use seen::Seen;

@@ -14,9 +14,9 @@ use crate::growing::{ended, give_up, led};
 use crate::layer::{Layer, Stand};
 use crate::limits::{Limits, SearchFault};
 use crate::marks::no_marks;
+use crate::progress::Progress;
 use crate::ways::spread;
 use path_text::NoMemory;
-use race_core::ACTORS_MAX;
 use std::alloc::Global;
 use tree_model::Tree;
 use turn_graph::{Count, Graph};
@@ -53,11 +53,10 @@ fn first<T: Tree + Drop, B: Beginnings<T>>(
     let Ok(()) = stands.push(stand) else {
         return Err(SearchFault::NoMemory);
     };
-    let live = led(alloc, beginnings, Vec::new(alloc))?;
-    if live.seen.world().actors() > ACTORS_MAX {
-        let _ending = ended(alloc, live)?;
-        return Err(SearchFault::TooManyActors);
-    }
+    let live = match led(alloc, beginnings, Vec::new(alloc)) {
+        Ok(live) => live,
+        Err(fault) => return Err(fault),
+    };
     let mut worlds = Vec::new(alloc);
     let Ok(()) = worlds.reserve(1) else {
         worlds.destroy_empty();
@@ -68,9 +67,10 @@ fn first<T: Tree + Drop, B: Beginnings<T>>(
     Ok(Layer { worlds, stands })
 }
 
-// Goes from one layer on to the next: its worlds are ended, and the spots of its stands added to the graph.
+// Goes from one layer on to the next: its worlds are ended, and the spots of its stands added to the graph. The next layer,
+// and how many states it has.
 //
-// Errors: TooManyStates where the next one would have more than so many worlds; NoMemory where room was refused.
+// Errors: TooManyStates where it would have more than so many; NoMemory where room was refused.
 fn pass<T: Tree + Drop, B: Beginnings<T>>(
     alloc: Global,
     beginnings: &B,
@@ -79,19 +79,19 @@ fn pass<T: Tree + Drop, B: Beginnings<T>>(
     layer: Layer<T>,
     graph: &mut Graph,
     classes: &mut Vec<Class<T>>,
-) -> Result<Layer<T>, SearchFault>
+) -> Result<(Layer<T>, u64), SearchFault>
     requires few { length graph.old + 1 < 2 ^ 40 }
     requires on { AreOn (length graph.old) layer }
     requires led { AreLed (B.opening beginnings.now) layer.worlds }
     requires actors { length (B.opening beginnings.now).seats ≤ ACTORS_MAX }
-    ensures passed { IfOk result (λ next. (spots : Vec Spot) × ((graph.new ≡ graph.old ++ spots ∷ []) × IsPassed (B.opening beginnings.now) limits.cuts (length graph.old) layer next spots.items classes.old.items classes.new.items)) }
-    ensures room { IfOk result (λ next. length next.worlds ≤ room) }
+    ensures passed { IfOk result (λ next. (spots : Vec Spot) × ((graph.new ≡ graph.old ++ spots ∷ []) × IsPassed (B.opening beginnings.now) limits.cuts (length graph.old) layer next.0 spots.items classes.old.items classes.new.items)) }
+    ensures room { IfOk result (λ next. next.1 ≤ room) }
     ensures err { IfErr result (WhyNot (B.opening beginnings.now) limits) }
 {
     let went = spread(alloc, beginnings, limits, room, &layer);
     let Layer { worlds, stands } = layer;
     let ended = all_ended(alloc, worlds, classes);
-    let (ways, next) = went?;
+    let (ways, next, states) = went?;
     let Ok(tops) = ended else {
         leave(alloc, next);
         return Err(SearchFault::NoMemory);
@@ -104,17 +104,18 @@ fn pass<T: Tree + Drop, B: Beginnings<T>>(
         leave(alloc, next);
         return Err(SearchFault::NoMemory);
     };
-    Ok(next)
+    Ok((next, states))
 }
 
-// Goes from layer to layer until nobody may have a turn; how many worlds there were.
+// Goes from layer to layer until nobody may have a turn; how many states there were.
 //
 // Errors: TooManyActors over 64; TooManyTurns where a list has more turns than the limit; TooManyStates where there are
 // more worlds than the limit; NoMemory where room was refused.
-fn search<T: Tree + Drop, B: Beginnings<T>>(
+fn search<T: Tree + Drop, B: Beginnings<T>, P: Progress>(
     alloc: Global,
     beginnings: &B,
     limits: Limits,
+    progress: &mut P,
     graph: &mut Graph,
     classes: &mut Vec<Class<T>>,
 ) -> Result<u64, SearchFault>
@@ -129,8 +130,10 @@ fn search<T: Tree + Drop, B: Beginnings<T>>(
     let mut layer = first(alloc, beginnings, limits)?;
     'layers: while !layer.stands.is_empty() && graph.depth() <= limits.turns as usize {
         let room = limits.states - states;
-        layer = pass(alloc, beginnings, limits, room, layer, graph, classes)?;
-        states += layer.worlds.len() as u64;
+        let (next, more) = pass(alloc, beginnings, limits, room, layer, graph, classes)?;
+        layer = next;
+        states += more;
+        progress.passed(states);
     }
     let over = layer.stands.is_empty();
     leave(alloc, layer);
@@ -155,7 +158,9 @@ fn told_class<T: Tree + Drop, B: Beginnings<T>>(
     };
     let mut turns = Vec::new(alloc);
     turns.extend_from_slice(least.word.as_slice())?;
-    let live = led(alloc, beginnings, turns)?;
+    let Ok(live) = led(alloc, beginnings, turns) else {
+        return Err(NoMemory);
+    };
     let ending = ended(alloc, live)?;
     let nodes = ending.snapshot(alloc)?;
     Ok(Class {
@@ -183,14 +188,16 @@ fn told_classes<T: Tree + Drop, B: Beginnings<T>>(
 }
 
 /// Goes through every full list of turns with at most so many cuts, and tells each outcome once, with the number of its
-/// lists and the least of them. Of worlds that differ in the numbers of handles alone one is gone on from.
+/// lists and the least of them. Of worlds that differ in the numbers of handles alone, and in which each actor has made as many
+/// changes outside of its root, one is gone on from. After each layer `progress` is told how many states there were.
 ///
 /// Errors: TooManyActors over 64; TooManyTurns where a list has more turns than the limit; TooManyStates where there are
 /// more worlds than the limit; NoMemory where room was refused, in a world's run too. Nothing is told then.
-pub fn explore<T: Tree + Drop, B: Beginnings<T>>(
+pub fn explore<T: Tree + Drop, B: Beginnings<T>, P: Progress>(
     alloc: Global,
     beginnings: &B,
     limits: Limits,
+    progress: &mut P,
 ) -> Result<Findings<T>, SearchFault>
     ensures merged { IfOk result (λ found. IsMerged (B.opening beginnings.now) limits.cuts found.classes.items found.lists found.turns) }
     ensures states { IfOk result (λ found. found.states ≤ limits.states) }
@@ -198,7 +205,14 @@ pub fn explore<T: Tree + Drop, B: Beginnings<T>>(
 {
     let mut graph = Graph::new(alloc);
     let mut classes = Vec::new(alloc);
-    let states = search(alloc, beginnings, limits, &mut graph, &mut classes)?;
+    let states = search(
+        alloc,
+        beginnings,
+        limits,
+        progress,
+        &mut graph,
+        &mut classes,
+    )?;
     let counts = graph.counted(alloc, classes.len())?;
     let told = told_classes(alloc, beginnings, counts.classes.as_slice())?;
     Ok(Findings {

@@ -42,6 +42,13 @@ impl<T: Tree> Ending<T> {
         is_not_after(self.turns.as_slice(), other.turns.as_slice())
     }
 
+    // Whether each actor made as many changes outside of its root.
+    fn changed_as(&self, other: &Ending<T>) -> bool
+        ensures { IsTrue result ↔ (self.now.outside ≡ other.now.outside) }
+    {
+        self.outside == other.outside
+    }
+
     // The actors' replies.
     fn replies(&self) -> &[Outcomes]
         ensures { result.now ≡ self.now.replies }
@@ -90,6 +97,9 @@ impl<T: Tree + Drop> Class<T> {
             return false;
         }
         if !self.least.holds_as(ending, replies.len()) {
+            return false;
+        }
+        if !self.least.changed_as(ending) {
             return false;
         }
         same_nodes(self.nodes.nodes(), nodes.nodes())

@@ -1,5 +1,5 @@
 //! Races on a small tree, each gone through in full.
-use crate::{Beginnings, Limits, Scene, SearchFault, Seen, explore};
+use crate::{Beginnings, Limits, Progress, Scene, SearchFault, Seen, Silent, explore};
 use path_text::{Bytes, Errno, Flags, Name, Names, NoMemory};
 use race_core::{ActorPlan, Outcome, Planned, Plans, Ref, World};
 use root_ops::{Op, Request};
@@ -66,11 +66,16 @@ fn planned_step(step: Step) -> StepOf<Ref> {
     }
 }
 
-// `resolve PATH`, or a step.
+// `resolve PATH`, `mkdir_all PATH`, or a step.
 fn planned(alloc: Global, call: &str) -> Result<Planned, NoMemory> {
     let (word, rest) = call.split_once(' ').unwrap_or((call, ""));
     if word == "resolve" {
         let op = Op::Resolve(Bytes::from_slice(alloc, rest.as_bytes())?);
+        let flags = Flags::default();
+        return Ok(Planned::Call(Request { op, flags }));
+    }
+    if word == "mkdir_all" {
+        let op = Op::MkdirAll(Bytes::from_slice(alloc, rest.as_bytes())?);
         let flags = Flags::default();
         return Ok(Planned::Call(Request { op, flags }));
     }
@@ -107,17 +112,28 @@ fn reply_words(alloc: Global, told: &mut Output, outcome: &Outcome) -> Result<()
     }
 }
 
+// The last number of states that was told.
+#[derive(Drop)]
+struct Last(u64);
+
+impl Progress for Last {
+    fn passed(&mut self, states: u64) {
+        self.0 = states;
+    }
+}
+
 // The numbers of lists, of states and of turns, and of each outcome a line: the number of its lists, the cuts of the least, its
 // turns, and how the first call of actor 0 ended.
 fn told(alloc: Global, scene: &Scene, limits: Limits) -> Result<Result<Output, SearchFault>, Fail> {
-    let found = match explore(alloc, scene, limits) {
+    let mut last = Last(0);
+    let found = match explore(alloc, scene, limits, &mut last) {
         Ok(found) => found,
         Err(fault) => return Ok(Err(fault)),
     };
     let mut told = Output::new(alloc);
     told.number(found.lists)?;
     told.text(" by ")?;
-    told.number(found.states)?;
+    told.number(if last.0 == found.states { last.0 } else { 0 })?;
     told.text(" of up to ")?;
     told.number(found.turns as u64)?;
     told.text("\n")?;
@@ -216,6 +232,34 @@ fn searches_are_told(rt: HostRuntime) -> Result<(), Fail> {
         };
         assert!(rt; same, "{lines} {turns}");
     }
+    Ok(())
+}
+
+const MADE_THEN_MOVED: &str = "/c: mkdir_all a/n
+: resolve c: resolve secret: rename 1 a 2 a plain";
+
+// How many lists there are in which actor 0 changes nothing outside of its root, and in which it does.
+fn within_and_outside(alloc: Global, scene: &Scene) -> Result<(u64, u64), Fail> {
+    let limits = Limits {
+        states: 1000,
+        turns: 100,
+        cuts: None,
+    };
+    let (mut within, mut outside) = (0u64, 0u64);
+    for class in &explore(alloc, scene, limits, &mut Silent)?.classes {
+        match class.least.outside.first() {
+            Some(0) => within = within.saturating_add(class.lists),
+            _ => outside = outside.saturating_add(class.lists),
+        }
+    }
+    Ok((within, outside))
+}
+
+// A directory that is made after its own was moved out is made outside.
+#[test]
+fn what_is_changed_outside_is_told(rt: HostRuntime) -> Result<(), Fail> {
+    let scene = scene(rt.alloc(), MADE_THEN_MOVED)?;
+    assert!(rt; within_and_outside(rt.alloc(), &scene)? == (757, 35));
     Ok(())
 }
 

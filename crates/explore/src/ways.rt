@@ -9,7 +9,7 @@ ghost use Rattle.explore.specs.Points.{AreWithin};
 ghost use Rattle.explore.specs.Spreading.{StandsAs, AreStandsAfter, AreWorldsAfter, IsOneBy, IsWayTo, AreFirstWays, AreWaysAt, IsNext, Grows};
 
 use crate::beginnings::Beginnings;
-use crate::growing::{give_up, world_after};
+use crate::growing::{count_states, give_up, world_after};
 use crate::layer::{Layer, Live, Stand};
 use crate::limits::{Limits, SearchFault};
 use crate::marks::{marks_after, may_go};
@@ -192,7 +192,8 @@ fn ways_from<T: Tree + Drop, B: Beginnings<T>>(
     Ok(ways)
 }
 
-// The ways from each stand. The next layer grows by what they lead to. TooManyStates and NoMemory as of `spread`.
+// The ways from each stand, and how many states the next layer has, which grows by what they lead to. TooManyStates and
+// NoMemory as of `spread`.
 fn all_ways<T: Tree + Drop, B: Beginnings<T>>(
     alloc: Global,
     beginnings: &B,
@@ -200,45 +201,47 @@ fn all_ways<T: Tree + Drop, B: Beginnings<T>>(
     room: u64,
     layer: &Layer<T>,
     next: &mut Layer<T>,
-) -> Result<Vec<Vec<Way>>, SearchFault>
+) -> Result<(Vec<Vec<Way>>, u64), SearchFault>
     requires on { (n : ℕ) × ((n + 1 < 2 ^ 40) × AreOn n layer.now) }
     requires actors { length (B.opening beginnings.now).seats ≤ ACTORS_MAX }
     requires next { IsNext (B.opening beginnings.now) limits.cuts layer.now next.old }
-    requires room { length next.old.worlds ≤ room }
-    ensures ways { IfOk result (λ all. AreAllWays (B.opening beginnings.now) limits.cuts layer.now next.new all.items) }
+    ensures ways { IfOk result (λ all. AreAllWays (B.opening beginnings.now) limits.cuts layer.now next.new all.0.items) }
     ensures next { IfOk result (λ all. IsNext (B.opening beginnings.now) limits.cuts layer.now next.new) }
-    ensures room { OnOk result (length next.new.worlds ≤ room) }
+    ensures room { IfOk result (λ all. all.1 ≤ room) }
     ensures err { IfErr result (WhyNot (B.opening beginnings.now) limits) }
 {
     let mut all = Vec::new(alloc);
+    let mut states = 0;
     for _at in 0..layer.stands.len() {
         let ways = ways_from(alloc, beginnings, limits.cuts, layer, all.as_slice(), next)?;
-        if next.worlds.len() as u64 > room {
+        states = count_states(next.worlds.as_slice());
+        if states > room {
             return Err(SearchFault::TooManyStates);
         }
         let Ok(()) = all.push(ways) else {
             return Err(SearchFault::NoMemory);
         };
     }
-    Ok(all)
+    Ok((all, states))
 }
 
-/// The ways from each stand of the layer, and the layer that they lead to.
+/// The ways from each stand of the layer, the layer that they lead to, and how many states that has: worlds of which none is
+/// alike.
 ///
-/// Errors: TooManyStates where that layer would have more than so many worlds; NoMemory where room was refused.
+/// Errors: TooManyStates where it would have more than so many; NoMemory where room was refused.
 pub(crate) fn spread<T: Tree + Drop, B: Beginnings<T>>(
     alloc: Global,
     beginnings: &B,
     limits: Limits,
     room: u64,
     layer: &Layer<T>,
-) -> Result<(Vec<Vec<Way>>, Layer<T>), SearchFault>
+) -> Result<(Vec<Vec<Way>>, Layer<T>, u64), SearchFault>
     requires on { (n : ℕ) × ((n + 1 < 2 ^ 40) × AreOn n layer.now) }
     requires actors { length (B.opening beginnings.now).seats ≤ ACTORS_MAX }
     ensures joined { IfOk result (λ spread. AreJoined (B.opening beginnings.now) limits.cuts layer.now spread.1) }
     ensures ways { IfOk result (λ spread. AreAllWays (B.opening beginnings.now) limits.cuts layer.now spread.1 spread.0.items) }
     ensures on { IfOk result (λ spread. (n : ℕ) → AreOn n layer.now → AreOn (suc n) spread.1) }
-    ensures room { IfOk result (λ spread. length spread.1.worlds ≤ room) }
+    ensures room { IfOk result (λ spread. spread.2 ≤ room) }
     ensures err { IfErr result (WhyNot (B.opening beginnings.now) limits) }
 {
     let mut next = Layer {
@@ -246,7 +249,7 @@ pub(crate) fn spread<T: Tree + Drop, B: Beginnings<T>>(
         stands: Vec::new(alloc),
     };
     match all_ways(alloc, beginnings, limits, room, layer, &mut next) {
-        Ok(all) => Ok((all, next)),
+        Ok((all, states)) => Ok((all, next, states)),
         Err(fault) => {
             let Layer { worlds, stands: _ } = next;
             give_up(alloc, worlds);

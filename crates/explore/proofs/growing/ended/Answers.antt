@@ -2,6 +2,7 @@ use Rattle.std.proofs.Common.{◌≡◌, [], length, subst}
 use Rattle.race_core.specs.Worlds.{WorldView, RunsTo}
 use Rattle.explore.specs.Layers.{LiveView, IsLed, IsSure, IsReportOf}
 use Rattle.explore.specs.Search.{IsOver}
+use Rattle.explore.proofs.Counting.{counts_there}
 use Rattle.explore.proofs.Grown.{surely, is_report, replies_many}
 use Rattle.explore.proofs.growing.ended.Goals as goal
 
@@ -29,9 +30,11 @@ returns-clause-report g c =
       events = c.in_ok-report.report.events.events;
       replies = c.in_ok-report.report.replies.items;
       kept = c.in_ok-report.report.kept.items;
+      outside = c.into_counts.result.items;
     })) c.live.view_is
     (is_report live (g.T.Tree.state c.in_ok-report.report.tree) c.in_ok-report.report.events.events
-    c.in_ok-report.report.replies.items c.in_ok-report.report.kept.items ran c.in_ok-report.ensures.none)
+    c.in_ok-report.report.replies.items c.in_ok-report.report.kept.items ran c.in_ok-report.ensures.none c.into_counts.result.items
+    (counts_there c.live.inside.seen _ c.into_counts.result.items c.live.invariant c.into_counts.ensures))
 
 pub returns-clause-actors : goal.returns-clause-actors
 returns-clause-actors g c =

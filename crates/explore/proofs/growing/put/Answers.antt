@@ -18,18 +18,21 @@ push_reserved-requires g c =
 pub returns-clause-keeps : goal.returns-clause-keeps
 returns-clause-keeps g c =
     let is : c.push_reserved.new.self.items ≡ c.args.worlds.now.items ++ c.args.live ∷ [] =
-    c.push_reserved.ensures.items ∙ ap (λ (xs : List LiveView). xs ++ c.args.live ∷ []) c.reserve.ensures.items in
+    c.push_reserved.ensures.items
+    ∙ (λ i. c.reserve.ensures.items i ++ c.counted.ensures i ∷ []) in
     push_keeps c.args.worlds.now.items c.push_reserved.new.self.items c.args.live is
 
 pub returns-clause-leads : goal.returns-clause-leads
 returns-clause-leads g c =
     let is : c.push_reserved.new.self.items ≡ c.args.worlds.now.items ++ c.args.live ∷ [] =
-    c.push_reserved.ensures.items ∙ ap (λ (xs : List LiveView). xs ++ c.args.live ∷ []) c.reserve.ensures.items in
+    c.push_reserved.ensures.items
+    ∙ (λ i. c.reserve.ensures.items i ++ c.counted.ensures i ∷ []) in
     λ w led. push_leads c.args.worlds.now.items c.push_reserved.new.self.items c.args.live is w c.len-at.result
     (c.len-at.ensures ∙ (c.reserve.ensures.len ∙ (sym c.as_slice.ensures.len ∙ ap length c.as_slice.ensures.value)))
 
 pub returns-clause-new : goal.returns-clause-new
 returns-clause-new g c =
     let is : c.push_reserved.new.self.items ≡ c.args.worlds.now.items ++ c.args.live ∷ [] =
-    c.push_reserved.ensures.items ∙ ap (λ (xs : List LiveView). xs ++ c.args.live ∷ []) c.reserve.ensures.items in
+    c.push_reserved.ensures.items
+    ∙ (λ i. c.reserve.ensures.items i ++ c.counted.ensures i ∷ []) in
     push_new c.args.worlds.now.items c.push_reserved.new.self.items c.args.live is

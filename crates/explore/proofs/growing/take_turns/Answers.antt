@@ -10,7 +10,8 @@ loop-actor-preserved g c =
     let r : Point = record { world = c.take_turn.new.world; marks = c.take_turn.new.marks } in
     let i = get_or c.args.turns.now c.loop-actor.actor-index 0 in
     record {
-      went = goes_turn_at (start c.args.world.now) q r c.args.turns.now c.loop-actor.actor-index c.loop-actor-test.true c.loop-actor.invariant.went c.in_ok-take_turn.ensures;
-      within = turn_within q r i c.loop-actor.actor-index c.in_ok-take_turn.ensures c.loop-actor.invariant.within;
-      actors = turn_actors q r i c.in_ok-take_turn.ensures ∙ c.loop-actor.invariant.actors;
+      went = goes_turn_at (start c.args.world.now) q r c.args.turns.now c.loop-actor.actor-index c.loop-actor-test.true c.loop-actor.invariant.went c.in_ok-take_turn.ensures.turned;
+      within = turn_within q r i c.loop-actor.actor-index c.in_ok-take_turn.ensures.turned c.loop-actor.invariant.within;
+      actors = turn_actors q r i c.in_ok-take_turn.ensures.turned ∙ c.loop-actor.invariant.actors;
+      tally = c.in_ok-take_turn.ensures.tally;
     }

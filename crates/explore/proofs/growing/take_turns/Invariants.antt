@@ -1,4 +1,5 @@
 use Rattle.std.proofs.Common.{◌≡◌, take, length}
+use Rattle.explore.specs.Counting.{IsTally}
 use Rattle.explore.specs.Points.{start, AreWithin, Goes}
 use Rattle.explore.proofs.growing.take_turns.Given as goal
 
@@ -7,4 +8,5 @@ invariant-loop-actor g l = record {
   went : Goes (start l.fn.world) (take l.actor-index l.turns) (record { world = l.world; marks = l.marks });
   within : AreWithin l.marks l.actor-index;
   actors : length l.world.seats ≡ length l.fn.world.seats;
+  tally : IsTally l.world l.tally;
 }

@@ -12,5 +12,5 @@ returns-clause-born g c =
     c.in_ok-all.ensures.items c.in_ok-extend_from_slice.ensures.items c.in_ok-push.ensures.items in
     λ k born there. ⊎_elim (λ was. inl was)
     (λ same. inr (subst (λ (live : LiveView). (live.turns ≡ c.args.turns.now ++ c.args.actor ∷ []) × (IsLed w live × (length live.world.seats ≡ length w.seats))) (sym same)
-    (c.in_ok-live.ensures.turns ∙ all, (c.in_ok-live.ensures.led, c.in_ok-live.ensures.actors))))
+    (c.in-Ok.ensures.turns ∙ all, (c.in-Ok.ensures.led, c.in-Ok.ensures.actors))))
     (c.put.ensures.new k born there)

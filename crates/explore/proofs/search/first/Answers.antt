@@ -1,5 +1,4 @@
-use Rattle.std.proofs.Common.{◌≡◌, ◌++◌, ◌∷◌, [], List, ◌∙◌, ap, refl, length, arith}
-use Rattle.race_core.specs.Worlds.{WorldView}
+use Rattle.std.proofs.Common.{◌++◌, ◌∷◌, [], List, ◌∙◌, ap, refl}
 use Rattle.explore.specs.declared.layer.Stand.{Stand}
 use Rattle.explore.specs.Layers.{LiveView}
 use Rattle.explore.proofs.Merges.{first_world}
@@ -10,8 +9,8 @@ pub returns-clause-first : goal.returns-clause-first
 returns-clause-first g c = record {
   worlds =
       c.push_reserved.ensures.items
-      ∙ (ap (λ (xs : List LiveView). xs ++ c.in_ok-live.live ∷ []) (c.reserve.ensures.items ∙ c.new-worlds.ensures.items)
-      ∙ ap (λ (l : LiveView). l ∷ []) (first_world (g.B.Beginnings.opening c.args.beginnings.now) c.in_ok-live.live c.new-2.result.items c.in_ok-live.ensures.led c.in_ok-live.ensures.turns c.new-2.ensures.items));
+      ∙ (ap (λ (xs : List LiveView). xs ++ c.in-Ok-led.live ∷ []) (c.reserve.ensures.items ∙ c.new-worlds.ensures.items)
+      ∙ ap (λ (l : LiveView). l ∷ []) (first_world (g.B.Beginnings.opening c.args.beginnings.now) c.in-Ok-led.live c.new-2.result.items c.in-Ok-led.ensures.led c.in-Ok-led.ensures.turns c.new-2.ensures.items));
   stand = record { world = 0; turns = c.new.result; marks = c.no_marks.result };
   stands =
       c.in-Ok.ensures.items
@@ -22,7 +21,7 @@ returns-clause-first g c = record {
 }
 
 pub returns-clause-on : goal.returns-clause-on
-returns-clause-on g c =
-    let many : c.actors.result ≡ length (g.B.Beginnings.opening c.args.beginnings.now).seats =
-    c.actors.ensures ∙ (ap (λ (v : WorldView). length v.seats) c.world.ensures ∙ (ap (λ (l : LiveView). length l.world.seats) c.live.view_is ∙ c.in_ok-live.ensures.actors)) in
-    first_on (g.B.Beginnings.opening c.args.beginnings.now) _ (returns-clause-first g c) (omega (arith, many, c.if-actors-gt-ACTORS_MAX.false))
+returns-clause-on g c = first_on (g.B.Beginnings.opening c.args.beginnings.now) _ (returns-clause-first g c) c.in-Ok-led.ensures.few
+
+pub returns-in-Err-clause-err : goal.returns-in-Err-clause-err
+returns-in-Err-clause-err g c = c.in-Err.ensures.err c.args.limits

@@ -31,19 +31,17 @@ pass-requires-clause-on g c =
 pub layers-preserved : goal.layers-preserved
 layers-preserved g c =
     let w : WorldView = g.B.Beginnings.opening c.args.beginnings.now in
-    let passed = c.in_ok-layer-2.ensures.passed in
+    let passed = c.in_ok-next.ensures.passed in
     let long : length c.pass.new.graph ≡ suc (length c.layers.graph) = ap length passed.1.0 ∙ length_push c.layers.graph passed.0 in
-    let many : c.len.result ≡ length c.in_ok-layer-2.layer.worlds =
-    c.len.ensures ∙ (c.layer-in-layers.inside.worlds.ok.0 ∙ ap (λ (l : LayerView). length l.worlds) c.layer-in-layers.view_is) in
-    let room = c.in_ok-layer-2.ensures.room in record {
+    let room = c.in_ok-next.ensures.room in record {
       searched =
-          subst (λ (graph : List (Vec Spot)). HasSearched w c.args.limits.cuts c.in_ok-layer-2.layer graph c.pass.new.classes.items) (sym passed.1.0)
-          (passes w c.args.limits.cuts c.layers.layer c.in_ok-layer-2.layer c.layers.graph passed.0 c.layers.classes.items c.pass.new.classes.items
+          subst (λ (graph : List (Vec Spot)). HasSearched w c.args.limits.cuts c.in_ok-next.next graph c.pass.new.classes.items) (sym passed.1.0)
+          (passes w c.args.limits.cuts c.layers.layer c.in_ok-next.next c.layers.graph passed.0 c.layers.classes.items c.pass.new.classes.items
           c.layers.invariant.searched passed.1.1);
-      led = born_led w c.args.limits.cuts c.layers.layer c.in_ok-layer-2.layer passed.1.1.joined;
+      led = born_led w c.args.limits.cuts c.layers.layer c.in_ok-next.next passed.1.1.joined;
       actors = c.layers.invariant.actors;
       depth = omega (arith, long, c.if-depth-limits.true, c.depth.ensures);
-      states = omega (arith, many, room, c.layers.invariant.states);
+      states = omega (arith, room, c.layers.invariant.states);
     }
 
 pub returns-then-not-over-clause-err : goal.returns-then-not-over-clause-err

@@ -30,5 +30,5 @@ loop-at-preserved g c =
       ways = subst (λ (xs : List (Vec Way)). AreFirstWays w most layer next xs) (sym pushed)
           (first_more w most layer next all ways (first_on w most layer c.loop-at.next next c.in_ok-ways.ensures.grows all c.loop-at.invariant.ways) own);
       next = c.in_ok-ways.ensures.next;
-      room = subst (λ (l : LayerView). length l.worlds ≤ c.args.room) c.next.view_is (omega (arith, c.next.inside.worlds.ok.0, c.len.ensures, c.if-len-room.false));
+      room = omega (arith, c.if-states-room.false);
     }

@@ -7,5 +7,5 @@ invariant-loop-at g l = record {
   many : length l.all.items ≡ l._at;
   ways : AreFirstWays (g.B.Beginnings.opening l.beginnings) l.limits.cuts l.layer l.next l.all.items;
   next : IsNext (g.B.Beginnings.opening l.beginnings) l.limits.cuts l.layer l.next;
-  room : length l.next.worlds ≤ l.room;
+  room : l.states ≤ l.room;
 }

@@ -14,6 +14,13 @@ returns-then-not-holds_as g c =
           ∙ s.held a (subst (λ (xs : List (List Outcome)). a < length xs) c.replies-replies.ensures lt))) ∙ c.if-not-holds_as.true))),
     )
 
+pub returns-then-not-changed_as : goal.returns-then-not-changed_as
+returns-then-not-changed_as g c =
+    let seen : c.self.inside.least ≡ c.args.self.now.least = ap (λ (k : ClassView). k.least) c.self.view_is in (
+      (λ t. absurd (false≢true t)),
+      (λ s. absurd (true≢false (sym (c.changed_as.ensures.1 (ap (λ (e : EndingView). e.outside) seen ∙ s.outside)) ∙ c.if-not-changed_as.true))),
+    )
+
 pub returns : goal.returns
 returns g c =
     let seen : c.self.inside.least ≡ c.args.self.now.least = ap (λ (k : ClassView). k.least) c.self.view_is in (
@@ -24,6 +31,7 @@ returns g c =
             ∙ c.holds_as.ensures.0 c.if-not-holds_as.false a (subst (λ (xs : List (List Outcome)). a < length xs) (sym c.replies-replies.ensures) lt);
         nodes = ap (λ (e : EndingView). e.tree.nodes) (sym seen)
             ∙ (sym c.self.invariant ∙ (sym c.nodes.ensures ∙ (c.same_nodes.ensures.0 t ∙ (c.nodes-2.ensures ∙ c.requires.nodes))));
+        outside = ap (λ (e : EndingView). e.outside) (sym seen) ∙ c.changed_as.ensures.0 c.if-not-changed_as.false;
       }),
       (λ s. c.same_nodes.ensures.1 (c.nodes.ensures ∙ (c.self.invariant ∙ (ap (λ (e : EndingView). e.tree.nodes) seen ∙ (s.nodes ∙ (sym c.requires.nodes ∙ sym c.nodes-2.ensures)))))),
     )
