@@ -4,7 +4,7 @@ use Rattle.std.specs.Prelude.{⊤, ℕ, List, Option, Some, None, Result, Ok, Er
 use Rattle.scripts.specs.declared.fault.RunFault.{RunFault}
 use Rattle.scripts.specs.declared.fault.RunFault.TheVariants.{Script, ReadFailed, WriteFailed, NoMemory, BookFull}
 use Rattle.inroot.specs.declared.ending.Fault.{Fault}
-use Rattle.inroot.specs.declared.ending.Fault.TheVariants.{Usage, NotUtf8, Schedule, NoRequest, Run, Options, PropertyFails, ExploreActor, ExploreStates, ExploreTurns, DrawActors, DrawLines, Service}
+use Rattle.inroot.specs.declared.ending.Fault.TheVariants.{Usage, NotUtf8, Schedule, NoRequest, Run, Options, PropertyFails, ExploreActor, ExploreProperty, ExploreStates, ExploreTurns, DrawActors, DrawLines, Service}
 use Rattle.scripts.specs.declared.drawing.DrawFault.{DrawFault}
 use Rattle.scripts.specs.declared.jobs.JobsFault.{JobsFault}
 use Rattle.scripts.specs.declared.jobs.JobsFault.TheVariants as jobs
@@ -48,6 +48,7 @@ status_of (Err PropertyFails) = PROPERTY_FAILS
 status_of (Err (Options option.NoMemory)) = FAILED
 status_of (Err (Options other)) = USAGE
 status_of (Err (ExploreActor actor)) = FAILED
+status_of (Err (ExploreProperty place)) = FAILED
 status_of (Err ExploreStates) = FAILED
 status_of (Err ExploreTurns) = FAILED
 status_of (Err DrawActors) = FAILED
@@ -74,6 +75,7 @@ options_told_of other = Options other
 abbrev pub explore_told_of : ExploreFault → Fault
 explore_told_of (explore.Run fault) = Run fault
 explore_told_of (explore.NoSuchActor actor) = ExploreActor actor
+explore_told_of (explore.NoSuchLine place) = ExploreProperty place
 explore_told_of explore.TooManyStates = ExploreStates
 explore_told_of explore.TooManyTurns = ExploreTurns
 

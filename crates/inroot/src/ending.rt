@@ -35,6 +35,9 @@ pub enum Fault {
     /// The first actor that is named and isn't there.
     #[error("explore: actor {0}")]
     ExploreActor(u32),
+    /// The first property that names an actor who isn't there, or a call that its actor doesn't have.
+    #[error("explore: property {0}")]
+    ExploreProperty(usize),
     /// There are more worlds than are gone through.
     #[error("explore: states")]
     ExploreStates,
@@ -101,6 +104,7 @@ impl From<ExploreFault> for Fault {
         match fault {
             ExploreFault::Run(fault) => Fault::Run(fault),
             ExploreFault::NoSuchActor(actor) => Fault::ExploreActor(actor),
+            ExploreFault::NoSuchLine(place) => Fault::ExploreProperty(place),
             ExploreFault::TooManyStates => Fault::ExploreStates,
             ExploreFault::TooManyTurns => Fault::ExploreTurns,
         }
@@ -138,6 +142,7 @@ pub fn status(ended: &Result<(), Fault>) -> u8
             | Fault::Run(_)
             | Fault::Options(OptionFault::NoMemory)
             | Fault::ExploreActor(_)
+            | Fault::ExploreProperty(_)
             | Fault::ExploreStates
             | Fault::ExploreTurns
             | Fault::DrawActors

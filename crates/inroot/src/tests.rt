@@ -14,6 +14,7 @@ fn ends_with_its_statuses(rt: HostRuntime) {
         (Err(Fault::Options(OptionFault::Cuts)), 2),
         (Err(Fault::Options(OptionFault::NoMemory)), 4),
         (Err(Fault::ExploreActor(0)), 4),
+        (Err(Fault::ExploreProperty(0)), 4),
         (Err(Fault::ExploreStates), 4),
         (Err(Fault::ExploreTurns), 4),
         (Err(Fault::Usage), 2),

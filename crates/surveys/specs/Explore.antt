@@ -7,7 +7,7 @@ use Rattle.scripts.specs.declared.turns.TurnOrder.TheVariants.{OfScript}
 use Rattle.scripts.specs.Replay.{tree_of, IsNoRun, IsWritingFaultOf, Wrote}
 use Rattle.scripts.specs.Scenario.{Said, said_for}
 use Rattle.surveys.specs.declared.script.ExploreFault.{ExploreFault}
-use Rattle.surveys.specs.declared.script.ExploreFault.TheVariants.{Run, NoSuchActor, TooManyStates, TooManyTurns}
+use Rattle.surveys.specs.declared.script.ExploreFault.TheVariants.{Run, NoSuchActor, NoSuchLine, TooManyStates, TooManyTurns}
 use Rattle.surveys.specs.declared.search.Asked.{Asked}
 use Rattle.surveys.specs.declared.search.SurveyFault.{SurveyFault}
 use Rattle.surveys.specs.declared.search.SurveyFault.TheVariants as survey
@@ -16,6 +16,7 @@ use Rattle.surveys.specs.Surveyed.{IsSurvey, WhyNoSurvey}
 -- how it is told that there is no survey
 abbrev pub told_by : SurveyFault → ExploreFault
 told_by (survey.NoSuchActor actor) = NoSuchActor actor
+told_by (survey.NoSuchLine place) = NoSuchLine place
 told_by survey.TooManyStates = TooManyStates
 told_by survey.TooManyTurns = TooManyTurns
 told_by survey.NoMemory = Run OutOfMemory
@@ -28,6 +29,7 @@ IsSurveyOf asked holds said text = IsSurvey asked (tree_of said) said.plans said
 abbrev pub IsNoSurvey : Asked → Said → ExploreFault → Type 0
 IsNoSurvey asked said (Run fault) = IsNoRun said fault
 IsNoSurvey asked said (NoSuchActor actor) = WhyNoSurvey asked (tree_of said) said.plans said.lines (survey.NoSuchActor actor)
+IsNoSurvey asked said (NoSuchLine place) = WhyNoSurvey asked (tree_of said) said.plans said.lines (survey.NoSuchLine place)
 IsNoSurvey asked said TooManyStates = WhyNoSurvey asked (tree_of said) said.plans said.lines survey.TooManyStates
 IsNoSurvey asked said TooManyTurns = WhyNoSurvey asked (tree_of said) said.plans said.lines survey.TooManyTurns
 
@@ -35,6 +37,7 @@ IsNoSurvey asked said TooManyTurns = WhyNoSurvey asked (tree_of said) said.plans
 abbrev pub IsExploreFaultOf : Asked → Result Said ScriptFault → ExploreFault → Type 0
 IsExploreFaultOf asked said (Run fault) = IsWritingFaultOf (λ s text. (holds : Bool) × IsSurveyOf asked holds s text) said fault
 IsExploreFaultOf asked said (NoSuchActor actor) = IsOkAnd said (λ s. IsNoSurvey asked s (NoSuchActor actor))
+IsExploreFaultOf asked said (NoSuchLine place) = IsOkAnd said (λ s. IsNoSurvey asked s (NoSuchLine place))
 IsExploreFaultOf asked said TooManyStates = IsOkAnd said (λ s. IsNoSurvey asked s TooManyStates)
 IsExploreFaultOf asked said TooManyTurns = IsOkAnd said (λ s. IsNoSurvey asked s TooManyTurns)
 

@@ -9,4 +9,5 @@ pub mod Property
 pub mod Schedule
 pub mod Survey
 pub mod Surveyed
+pub mod Tellable
 pub mod Telling

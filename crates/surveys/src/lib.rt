@@ -18,6 +18,7 @@ mod schedule;
 mod script;
 mod search;
 mod survey;
+mod tellable;
 mod telling;
 #[cfg(test)]
 mod tests;

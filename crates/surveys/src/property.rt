@@ -32,8 +32,8 @@ fn has_blank(line: &[u8], at: usize) -> bool
     }
 }
 
-// Whether a line is the text, or begins with the text and a blank.
-fn tells(text: &[u8], line: &[u8]) -> bool
+/// Whether a line is the text, or begins with the text and a blank.
+pub(crate) fn tells(text: &[u8], line: &[u8]) -> bool
     ensures { result ≡ tells text.now line.now }
 {
     line == text || (line.starts_with(text) && has_blank(line, text.len()))

@@ -24,6 +24,9 @@ pub enum ExploreFault {
     /// The first actor that is named and isn't there.
     #[error("explore: actor {0}")]
     NoSuchActor(u32),
+    /// The first property that no report can have a line for, by its place, counted from 0.
+    #[error("explore: property {0}")]
+    NoSuchLine(usize),
     /// There are more worlds than are gone through.
     #[error("explore: states")]
     TooManyStates,
@@ -46,6 +49,7 @@ fn told_by(fault: SurveyFault) -> ExploreFault
 {
     match fault {
         SurveyFault::NoSuchActor(actor) => ExploreFault::NoSuchActor(actor),
+        SurveyFault::NoSuchLine(place) => ExploreFault::NoSuchLine(place),
         SurveyFault::TooManyStates => ExploreFault::TooManyStates,
         SurveyFault::TooManyTurns => ExploreFault::TooManyTurns,
         SurveyFault::NoMemory => ExploreFault::Run(RunFault::NoMemory),
@@ -95,9 +99,10 @@ fn surveyed(
 /// The script's own schedule is checked and not used. Whether no property fails.
 ///
 /// Errors, in this order: those of `read_scenario`; `BookFull` where the script gives its book fewer lines than it has
-/// actors; `NoSuchActor` of the first that is named and isn't there; `TooManyStates` where there are more worlds than are
-/// gone through, and `TooManyTurns` where one has more than 100,000, whichever is met first; `NoMemory`; `WriteFailed`. Nothing is
-/// written before the text is whole.
+/// actors; `NoSuchActor` of the first that is named and isn't there; `NoSuchLine` of the first property that names an actor
+/// who isn't there, or a call that its actor doesn't have; `TooManyStates` where there are more worlds than are gone
+/// through, and `TooManyTurns` where one has more than 100,000, whichever is met first; `NoMemory`; `WriteFailed`. Nothing
+/// is written before the text is whole.
 pub fn explore_script<R: Read, W: Write>(
     alloc: Global,
     reader: &mut R,

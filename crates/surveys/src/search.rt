@@ -8,6 +8,7 @@ use crate::classes::tell_all;
 use crate::order::in_order;
 use crate::property::Property;
 use crate::survey::{all_hold, survey_text};
+use crate::tellable::first_untold;
 use explore::{Findings, Limits, Scene, SearchFault, explore};
 use path_text::NoMemory;
 use std::alloc::Global;
@@ -45,6 +46,9 @@ pub enum SurveyFault {
     /// The first actor that is named and isn't there.
     #[error("actor {0}")]
     NoSuchActor(u32),
+    /// The first property that no report can have a line for, by its place, counted from 0.
+    #[error("property {0}")]
+    NoSuchLine(usize),
     /// There are more worlds than are gone through.
     #[error("states")]
     TooManyStates,
@@ -102,15 +106,18 @@ fn survey_of(
 /// lead to it and a schedule for the least of them, and whether each property holds of every one. Which numbers the nodes
 /// got that were made doesn't tell outcomes apart: they are compared with these nodes numbered anew.
 ///
-/// Errors: `NoSuchActor` of the first that is named and isn't there, before anything else; `TooManyStates` and
-/// `TooManyTurns` beyond the limits, whichever is met first; `NoMemory` where room was refused, and where the world can't be
-/// made.
+/// Errors, in this order: `NoSuchActor` of the first that is named and isn't there; `NoSuchLine` of the first property that
+/// names an actor who isn't there, or a call that its actor doesn't have; `TooManyStates` and `TooManyTurns` beyond the
+/// limits, whichever is met first; `NoMemory` where room was refused, and where the world can't be made.
 pub fn survey_scene(alloc: Global, scene: &Scene, asked: &Asked) -> Result<Survey, SurveyFault>
     requires { length scene.now.plans.items ≤ MOST_ACTORS }
     ensures { MatchResult result (λ survey. IsSurvey asked.now scene.now.tree scene.now.plans.items scene.now.lines survey.holds survey.text) (WhyNoSurvey asked.now scene.now.tree scene.now.plans.items scene.now.lines) }
 {
     if let Some(actor) = first_foreign(&asked.named, scene.plans.len()) {
         return Err(SurveyFault::NoSuchActor(actor));
+    }
+    if let Some(place) = first_untold(alloc, &scene.plans, &asked.properties)? {
+        return Err(SurveyFault::NoSuchLine(place));
     }
     let limits = Limits {
         states: asked.most,

@@ -107,3 +107,36 @@ fn tells_every_schedule(rt: HostRuntime) -> Result<(), Fail> {
     }
     Ok(())
 }
+
+/// What is written of the race where a property of the tree is asked for, and then this one.
+fn told_of_property(alloc: Global, text: &str) -> Result<Vec<u8>, Fail> {
+    let mut asked = asked_of(alloc, &[1], Some(0), 9)?;
+    asked.properties = Vec::new(alloc);
+    for text in ["row 0 c 1", text] {
+        if let Some(property) = read_property(alloc, Rule::Always, text)? {
+            asked.properties.push(property)?;
+        }
+    }
+    written_of(alloc, &asked)
+}
+
+#[test]
+fn refuses_properties(rt: HostRuntime) -> Result<(), Fail> {
+    for (text, is_refused) in [
+        ("reply", false),
+        ("reply 1", false),
+        ("reply 1 0", false),
+        ("reply 1 0 stepped", false),
+        ("held 1 9", false),
+        ("row 7", false),
+        ("reply 1 1", true),
+        ("reply 2 0", true),
+        ("reply 00", true),
+        ("held 2", true),
+    ] {
+        let told = told_of_property(rt.alloc(), text)?;
+        let refused = told.as_slice() == "explore: property 1".as_bytes();
+        assert!(rt; refused == is_refused, "{text}");
+    }
+    Ok(())
+}
