@@ -1,2 +1,3 @@
 pub mod XmlTexts
 pub mod Widths
+pub mod Lists

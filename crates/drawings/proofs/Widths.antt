@@ -1,14 +1,13 @@
 -- How wide the lines of the text form are.
-use Rattle.std.proofs.Common.{◌≡◌, Bool, true, false, ℕ, zero, suc, ◌+◌, ◌-◌, ◌*◌, ◌/◌, ◌<◌, ◌≤◌, List, [], ◌∷◌, ◌++◌, length, take, replicate, refl, sym, ap, ◌∙◌, arith}
+use Rattle.std.proofs.Common.{◌≡◌, Bool, true, false, ℕ, zero, suc, ◌+◌, ◌-◌, ◌*◌, ◌<◌, ◌≤◌, List, ◌++◌, length, take, replicate, refl, lit<, arith}
 use Rattle.std.specs.Prelude.{nat_le, if◌then◌else◌, codes}
 use Rattle.std.proofs.lemmas.Bool.Decides.{nat_tests}
 use Rattle.std.proofs.lemmas.List.{length-append, length-replicate, length-take-le}
 use Rattle.std.proofs.lemmas.Fmt.{length-decimal-le}
 use Rattle.transcript.specs.Words.{BLANK}
-use Rattle.drawings.specs.declared.picture.TheConstants.{ACTORS_MAX}
 use Rattle.drawings.specs.declared.text.TheConstants.{LINE_COLUMNS, MARK_COLUMNS}
 use Rattle.drawings.specs.Cells.{cut, fitted, to_right}
-use Rattle.drawings.specs.DrawingLaws.{RowsFit, MarksFit}
+use Rattle.drawings.specs.DrawingLaws.{RowsFit, MarksFit, HeadingFits}
 use Rattle.drawings.specs.Text.{cell_width, cells, row}
 
 -- a fitted text takes its width
@@ -69,3 +68,17 @@ rows_fit (suc (suc (suc (suc (suc more))))) some few mark h shown = absurd (omeg
 
 pub marks_fit : MarksFit
 marks_fit moment small = length-decimal-le 6 moment (omega arith) small (omega arith)
+
+-- a text that is cut is no wider than that
+length_cut : (width : ℕ) (text : List ℕ) → 0 < width → length (cut width text) ≤ width
+length_cut width text h = by (nat_le (length text) width) refl
+  where
+    by : (t : Bool) → nat_le (length text) width ≡ t → length (if t then text else take (width - 1) text ++ codes "~") ≤ width
+    by true e = let fits : length text ≤ width = grind (arith, nat_tests) in fits
+    by false e =
+        let wide : width < length text = grind (arith, nat_tests) in
+        let taken : length (take (width - 1) text) ≡ width - 1 = length-take-le (width - 1) text (omega arith) in
+        omega (arith, length-append (take (width - 1) text) (codes "~"))
+
+pub heading_fits : HeadingFits
+heading_fits head = omega (arith, length_cut LINE_COLUMNS head.text (lit< tt), length-append (cut LINE_COLUMNS head.text) (codes "\n"))

@@ -1,10 +1,11 @@
 -- What holds of drawings: statements of laws.
 use Rattle.std.specs.Prelude.{◌≢◌, ◌<◌, ◌≤◌, ◌+◌, ◌^◌, ℕ, Some, List, [], ◌∷◌, ◌++◌, length, All, codes}
 use Rattle.drawings.specs.declared.picture.TheConstants.{ACTORS_MAX}
+use Rattle.drawings.specs.declared.picture.Head.{Head}
 use Rattle.drawings.specs.declared.text.TheConstants.{LINE_COLUMNS, MARK_COLUMNS}
 use Rattle.drawings.specs.Cells.{mark_of}
 use Rattle.drawings.specs.Svg.{xml_text}
-use Rattle.drawings.specs.Text.{row}
+use Rattle.drawings.specs.Text.{row, heading_row}
 
 -- a printed byte or a blank, and none that XML takes for markup: & < > " '
 pub record IsPlain (b : ℕ) : Type 0 where
@@ -34,7 +35,11 @@ XmlTextIsPlain = (bs : List ℕ) → All (λ b. b < 256) bs → IsXmlText (xml_t
 abbrev pub MarksFit : Type 0
 MarksFit = (moment : ℕ) → moment < 10 ^ 6 → length (mark_of (Some moment)) ≤ MARK_COLUMNS
 
--- no line of the text form is wider than 100 columns, whatever is shown; one byte more is the newline
+-- no line of the table is wider than 100 columns, whatever is shown; one byte more is the newline
 abbrev pub RowsFit : Type 0
 RowsFit = (actors : ℕ) → 0 < actors → actors ≤ ACTORS_MAX → (mark : List ℕ) → length mark ≤ MARK_COLUMNS → (shown : ℕ → List ℕ)
     → length (row actors mark shown) ≤ LINE_COLUMNS + 1
+
+-- nor is a line of the heading
+abbrev pub HeadingFits : Type 0
+HeadingFits = (head : Head) → length (heading_row head) ≤ LINE_COLUMNS + 1

@@ -1,4 +1,8 @@
 pub use Rattle.report_text.specs.Report
+pub mod Places
+pub mod Events
+pub mod Calls
+pub mod Notes
 pub mod Picture
 pub mod Cells
 pub mod Text

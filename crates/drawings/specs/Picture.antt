@@ -1,47 +1,106 @@
--- The lines of a picture: each event at its moment, and then how each call ended.
-use Rattle.std.specs.Prelude.{◌≡◌, ◌<◌, ◌≤◌, ℕ, List, [], ◌∷◌, ◌++◌, length, Some, None, codes, decimal, ⊤}
+-- What a picture shows of a run: a heading with each actor's root and how its calls ended, and a line for each event and each note.
+use Rattle.std.specs.Prelude.{◌<◌, ◌≤◌, ◌+◌, ℕ, suc, List, [], ◌∷◌, ◌++◌, length, slice_get, unwrap_or, Option, Some, None, codes, decimal}
 use Rattle.race_core.specs.declared.report.Outcome.{Outcome}
+use Rattle.race_core.specs.declared.report.Outcome.TheVariants as ended
+use Rattle.tree_model.specs.declared.answer.Answer.{Answer}
+use Rattle.tree_model.specs.declared.answer.Answer.TheVariants as answer
 use Rattle.tree_model.specs.declared.answer.Event.{Event}
-use Rattle.report_text.specs.Report.{numbered, event_words, reply_words}
+use Rattle.tree_model.specs.History.{after_event}
+use Rattle.tree_model.specs.State.{State}
+use Rattle.report_text.specs.Report.{numbered, reply_words}
+use Rattle.drawings.specs.declared.picture.Head.{Head}
 use Rattle.drawings.specs.declared.picture.Line.{Line}
 use Rattle.drawings.specs.declared.picture.PictureFault.{PictureFault}
 use Rattle.drawings.specs.declared.picture.PictureFault.TheVariants.{Actors, Lines, NoMemory}
 use Rattle.drawings.specs.declared.picture.TheConstants.{ACTORS_MAX, LINES_MAX}
+use Rattle.drawings.specs.declared.picture.Tone.{Tone}
+use Rattle.drawings.specs.declared.picture.Tone.TheVariants.{Plain, Good, Bad}
+use Rattle.drawings.specs.Events.{event_text}
+use Rattle.drawings.specs.Notes.{notes_below}
+use Rattle.drawings.specs.Places.{way_of, place_words}
 
--- how many actors there are, and the lines
+-- how many actors there are, the heading, and the lines
 pub record Drawn : Type 0 where
   pub actors : ℕ
+  pub heads : List Head
   pub lines : List Line
 
--- what an actor did at a moment
-abbrev pub moment_line : ℕ → Event → Line
-moment_line k event = record { moment = Some k; actor = event.actor; text = event_words event }
+-- ---- the lines
 
-abbrev pub moment_lines : List Event → List Line
-moment_lines events = numbered (λ k event. moment_line k event ∷ []) 0 events
+-- a check says yes or no
+abbrev pub answer_tone : Answer → Tone
+answer_tone (answer.Names names) = Good
+answer_tone answer.NotBelow = Bad
+answer_tone other = Plain
 
--- how a call of an actor ended
-abbrev pub end_line : ℕ → ℕ → Outcome → Line
-end_line actor call outcome =
-    record { moment = None; actor = actor; text = codes "call " ++ (decimal call ++ (codes " = " ++ reply_words outcome)) }
+-- an event at its moment, told in the tree just before it
+abbrev pub moment_line : State → ℕ → Event → Line
+moment_line s k event = record { moment = Some k; actor = event.actor; tone = answer_tone event.answer; text = event_text s event }
 
-abbrev pub ends_of : ℕ → List Outcome → List Line
-ends_of actor outcomes = numbered (λ call outcome. end_line actor call outcome ∷ []) 0 outcomes
+-- and then the notes of the other actors
+abbrev pub moment_lines : ℕ → State → State → ℕ → Event → List Line
+moment_lines actors opening s k event = moment_line s k event ∷ notes_below opening s (after_event s event) event.actor actors
 
-abbrev pub end_lines : List (List Outcome) → List Line
-end_lines replies = numbered ends_of 0 replies
+-- those of all events from a tree on, their moments counted from k
+abbrev pub lines_from : ℕ → State → State → ℕ → List Event → List Line
+lines_from actors opening s k [] = []
+lines_from actors opening s k (event ∷ events) =
+    moment_lines actors opening s k event ++ lines_from actors opening (after_event s event) (suc k) events
 
-abbrev pub lines_of : List Event → List (List Outcome) → List Line
-lines_of events replies = moment_lines events ++ end_lines replies
+-- ---- the heading
+
+-- an actor's root, which its handle of its own number was granted on
+abbrev pub root_head : State → ℕ → Head
+root_head opening actor =
+    record { tone = Plain; text = codes "actor " ++ (decimal actor ++ (codes " below " ++ place_words (way_of opening actor actor))) }
+
+abbrev pub reply_tone : Option Outcome → Tone
+reply_tone None = Plain
+reply_tone (Some (ended.Opened node kind names)) = Good
+reply_tone (Some (ended.Fault error)) = Bad
+reply_tone (Some other) = Plain
+
+-- how a call ended; a report has a reply for each
+abbrev pub reply_text : Option Outcome → List ℕ
+reply_text None = []
+reply_text (Some outcome) = codes " = " ++ reply_words outcome
+
+abbrev pub call_head : List ℕ → Option Outcome → Head
+call_head call reply = record { tone = reply_tone reply; text = codes "  " ++ (call ++ reply_text reply) }
+
+abbrev pub call_heads : List Outcome → List (List ℕ) → List Head
+call_heads outcomes calls = numbered (λ j call. call_head call (slice_get outcomes j) ∷ []) 0 calls
+
+-- how an actor's calls ended
+abbrev pub outcomes_at : List (List Outcome) → ℕ → List Outcome
+outcomes_at replies actor = unwrap_or (slice_get replies actor) []
+
+-- an actor's root, and then each of its calls
+abbrev pub actor_heads : State → List (List Outcome) → ℕ → List (List ℕ) → List Head
+actor_heads opening replies actor calls = root_head opening actor ∷ call_heads (outcomes_at replies actor) calls
+
+abbrev pub heads_of : State → List (List (List ℕ)) → List (List Outcome) → List Head
+heads_of opening calls replies = numbered (actor_heads opening replies) 0 calls
+
+-- ---- the whole
+
+-- the picture of the events that a tree with its roots granted led to; an actor for each list of calls
+abbrev pub drawn_of : State → List (List (List ℕ)) → List Event → List (List Outcome) → Drawn
+drawn_of opening calls events replies =
+    record { actors = length calls; heads = heads_of opening calls replies; lines = lines_from (length calls) opening opening 0 events }
+
+-- the lines with those of the heading
+abbrev pub line_count : Drawn → ℕ
+line_count picture = length picture.heads + length picture.lines
 
 -- one to four actors, and not too many lines
-pub record CanBeDrawn (actors : ℕ) (lines : List Line) : Type 0 where
-  pub some : 0 < actors
-  pub few : actors ≤ ACTORS_MAX
-  pub short : length lines ≤ LINES_MAX
+pub record CanBeDrawn (picture : Drawn) : Type 0 where
+  pub some : 0 < picture.actors
+  pub few : picture.actors ≤ ACTORS_MAX
+  pub short : line_count picture ≤ LINES_MAX
 
 -- there is no actor or too many; or too many lines; or a growth was refused
-abbrev pub IsPictureFault : ℕ → ℕ → PictureFault → Type 0
-IsPictureFault actors lines Actors = (0 < actors → ACTORS_MAX < actors)
-IsPictureFault actors lines Lines = (0 < actors) × (actors ≤ ACTORS_MAX) × (LINES_MAX < lines)
-IsPictureFault actors lines NoMemory = (0 < actors) × (actors ≤ ACTORS_MAX)
+abbrev pub IsPictureFault : Drawn → PictureFault → Type 0
+IsPictureFault picture Actors = (0 < picture.actors → ACTORS_MAX < picture.actors)
+IsPictureFault picture Lines = (0 < picture.actors) × (picture.actors ≤ ACTORS_MAX) × (LINES_MAX < line_count picture)
+IsPictureFault picture NoMemory = (0 < picture.actors) × (picture.actors ≤ ACTORS_MAX)

@@ -1,12 +1,15 @@
 -- A picture as SVG (Scalable Vector Graphics 1.1, W3C).
-use Rattle.std.specs.Prelude.{ℕ, zero, suc, ◌+◌, ◌-◌, ◌*◌, ◌==◌, List, [], ◌∷◌, ◌++◌, length, nat_lt, if◌then◌else◌, codes, decimal}
+use Rattle.std.specs.Prelude.{Bool, ℕ, zero, suc, ◌+◌, ◌-◌, ◌*◌, ◌==◌, List, [], ◌++◌, length, nat_lt, if◌then◌else◌, is_some, codes, decimal}
 use Rattle.std.specs.List.{flat_map}
 use Rattle.transcript.specs.Output.{escaped_byte}
 use Rattle.report_text.specs.Report.{numbered}
+use Rattle.drawings.specs.declared.picture.Head.{Head}
 use Rattle.drawings.specs.declared.picture.Line.{Line}
+use Rattle.drawings.specs.declared.picture.Tone.{Tone}
+use Rattle.drawings.specs.declared.picture.Tone.TheVariants.{Plain, Good, Bad}
 use Rattle.drawings.specs.declared.svg.TheConstants.{SHOWN_MAX}
 use Rattle.drawings.specs.Cells.{cut, mark_of, actor_name}
-use Rattle.drawings.specs.Picture.{Drawn}
+use Rattle.drawings.specs.Picture.{Drawn, line_count}
 
 -- What XML takes for markup is an entity (XML 1.0, section 4.6); a blank and a backslash stand for themselves, and any other
 -- byte for what it is escaped as.
@@ -27,53 +30,84 @@ xml_text bs = flat_map xml_byte bs
 abbrev pub tag : List ℕ → ℕ → List ℕ → ℕ → List ℕ → List ℕ
 tag first x second y last = first ++ (decimal x ++ (second ++ (decimal y ++ last)))
 
--- a text that begins at a place
-unfoldable pub text_at : ℕ → ℕ → List ℕ → List ℕ
-text_at x y text = tag (codes "<text x='") x (codes "' y='") y (codes "'>") ++ (xml_text text ++ codes "</text>\n")
+-- what ends the opening tag of a text: what is well is green, and what isn't is red
+abbrev pub tone_end : Tone → List ℕ
+tone_end Plain = codes "'>"
+tone_end Good = codes "' fill='#1a7f37'>"
+tone_end Bad = codes "' fill='#c0182b'>"
 
--- where the column of an actor begins, and where the text of a line stands
+-- a text that begins at a place
+unfoldable pub text_at : ℕ → ℕ → Tone → List ℕ → List ℕ
+text_at x y tone text = tag (codes "<text x='") x (codes "' y='") y (tone_end tone) ++ (xml_text text ++ codes "</text>\n")
+
+-- where the column of an actor begins
 abbrev pub column_x : ℕ → ℕ
 column_x actor = 56 + 494 * actor
 
+-- where the names of the columns stand, below so many lines of a heading, and where the text of a line of the heading does
+abbrev pub names_y : ℕ → ℕ
+names_y heads = 33 + 22 * heads
+
+abbrev pub heading_y : ℕ → ℕ
+heading_y at = 22 + 22 * at
+
+-- where the text of a line stands, those of the heading counted too
 abbrev pub line_y : ℕ → ℕ
 line_y at = 66 + 22 * at
 
--- a line down from the headings
-unfoldable pub life_line : ℕ → ℕ → List ℕ
-life_line x end = tag (codes "<path stroke='#8a93a5' d='M") x (codes " 44V") end (codes "'/>\n")
+-- a line of the heading by its place
+abbrev pub svg_heading : ℕ → Head → List ℕ
+svg_heading at head = text_at 8 (heading_y at) head.tone (cut SHOWN_MAX head.text)
 
--- an actor's heading, and its life line down to the end
-abbrev pub svg_column : ℕ → ℕ → List ℕ
-svg_column end actor = text_at (column_x actor) 33 (actor_name actor) ++ life_line (column_x actor + 8) end
+abbrev pub svg_headings : List Head → List ℕ
+svg_headings heads = numbered svg_heading 0 heads
+
+-- a line down from below the columns' names
+unfoldable pub life_line : ℕ → ℕ → ℕ → List ℕ
+life_line x start end = tag (codes "<path stroke='#8a93a5' d='M") x (codes " ") start (codes "V") ++ (decimal end ++ codes "'/>\n")
+
+-- an actor's name, and its life line down to the end
+abbrev pub svg_column : ℕ → ℕ → ℕ → List ℕ
+svg_column heads end actor =
+    text_at (column_x actor) (names_y heads) Plain (actor_name actor) ++ life_line (column_x actor + 8) (names_y heads + 11) end
 
 -- those of the actors below that number
-abbrev pub svg_columns : ℕ → ℕ → List ℕ
-svg_columns end zero = []
-svg_columns end (suc actor) = svg_columns end actor ++ svg_column end actor
+abbrev pub svg_columns : ℕ → ℕ → ℕ → List ℕ
+svg_columns heads end zero = []
+svg_columns heads end (suc actor) = svg_columns heads end actor ++ svg_column heads end actor
 
 -- a dot on a life line
 unfoldable pub svg_dot : ℕ → ℕ → List ℕ
 svg_dot x y = tag (codes "<circle r='4' cx='") x (codes "' cy='") y (codes "'/>\n")
 
--- a dot and the text in the column of a line's actor, where it has one
+-- a dot for what has a moment
+abbrev pub dot_if : Bool → ℕ → ℕ → List ℕ
+dot_if dotted x y = if dotted then svg_dot x y else []
+
+-- the dot and the text in the column of a line's actor, where it has one
 abbrev pub svg_place : ℕ → ℕ → Line → List ℕ
 svg_place actors y line =
-    if nat_lt line.actor actors then svg_dot (column_x line.actor + 8) (y - 5) ++ text_at (column_x line.actor + 26) y (cut SHOWN_MAX line.text)
+    if nat_lt line.actor actors
+    then dot_if (is_some line.moment) (column_x line.actor + 8) (y - 5) ++ text_at (column_x line.actor + 26) y line.tone (cut SHOWN_MAX line.text)
     else []
 
 -- a line by its place in the picture
 abbrev pub svg_line : ℕ → ℕ → Line → List ℕ
-svg_line actors at line = text_at 8 (line_y at) (mark_of line.moment) ++ svg_place actors (line_y at) line
+svg_line actors at line = text_at 8 (line_y at) Plain (mark_of line.moment) ++ svg_place actors (line_y at) line
 
-abbrev pub svg_lines : ℕ → List Line → List ℕ
-svg_lines actors lines = numbered (svg_line actors) 0 lines
+-- the lines below so many of the heading
+abbrev pub svg_lines : ℕ → ℕ → List Line → List ℕ
+svg_lines actors heads lines = numbered (λ at line. svg_line actors (heads + at) line) 0 lines
 
--- the opening tag
+-- the opening tag; blanks at the beginning of a text count
 unfoldable pub svg_head : ℕ → ℕ → List ℕ
 svg_head width height =
-    tag (codes "<svg xmlns='http://www.w3.org/2000/svg' font-family='monospace' font-size='13' width='") width (codes "' height='") height (codes "'>\n")
+    tag (codes "<svg xmlns='http://www.w3.org/2000/svg' xml:space='preserve' font-family='monospace' font-size='13' width='") width (codes "' height='") height
+    (codes "'>\n")
 
 abbrev pub svg_of : Drawn → List ℕ
 svg_of picture =
-    let end = line_y (length picture.lines) in
-    svg_head (48 + 494 * picture.actors) end ++ (svg_columns end picture.actors ++ (svg_lines picture.actors picture.lines ++ codes "</svg>\n"))
+    let heads = length picture.heads in
+    let end = line_y (line_count picture) in
+    svg_head (48 + 494 * picture.actors) end ++ (svg_headings picture.heads ++ (svg_columns heads end picture.actors
+    ++ (svg_lines picture.actors heads picture.lines ++ codes "</svg>\n")))

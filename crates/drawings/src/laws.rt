@@ -1,5 +1,5 @@
 //! What holds of drawings.
-ghost use Rattle.drawings.specs.DrawingLaws.{XmlTextIsPlain, RowsFit, MarksFit};
+ghost use Rattle.drawings.specs.DrawingLaws.{XmlTextIsPlain, RowsFit, MarksFit, HeadingFits};
 
 /// In SVG no byte of a name, a path or a link's text stands as markup, whatever it is: what is shown of any text has
 /// printed bytes and blanks alone, and `&`, `<`, `>` and the quotation marks only as entities.
@@ -11,4 +11,5 @@ pub fn xml_text_is_plain()
 pub fn rows_fit()
     ensures rows { RowsFit }
     ensures marks { MarksFit }
+    ensures heading { HeadingFits }
 {}

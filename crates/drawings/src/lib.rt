@@ -1,17 +1,24 @@
-//! Drawings of a run: a column for each actor, in which its steps stand at their moments, and then how its calls ended.
+//! Drawings of a run: a heading with each actor's root and how its calls ended, and a column for each actor, in which its
+//! steps stand at their moments, told by where things stood just before.
 //!
-//! A `Picture` is a list of lines, a stated function of the events and of how the calls ended. It is drawn as text of at
-//! most 100 columns, or as SVG, in which no byte of a name can be taken for markup. The layers above use `Picture::of`,
-//! `Picture::text` and `Picture::svg`.
+//! A `Picture` is a stated function of the tree at the opening, of what the actors call for, of the events and of how the
+//! calls ended. It is drawn as text of at most 100 columns, or as SVG, in which no byte of a name can be taken for markup. The
+//! layers above use `calls_of`, `Picture::of`, `Picture::text` and `Picture::svg`.
 #![tactic(auto)]
 
+mod calls;
 mod cells;
+mod events;
+mod heading;
 mod laws;
+mod notes;
 mod picture;
+mod places;
 mod svg;
 #[cfg(test)]
 mod tests;
 mod text;
 
+pub use calls::{CallWords, calls_of};
 pub use laws::{rows_fit, xml_text_is_plain};
-pub use picture::{ACTORS_MAX, LINES_MAX, Line, Picture, PictureFault};
+pub use picture::{ACTORS_MAX, Head, LINES_MAX, Line, Picture, PictureFault, Tone};

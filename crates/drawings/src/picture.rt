@@ -1,37 +1,61 @@
-//! A picture as its lines.
-ghost use Rattle.std.specs.Prelude.{◌≡◌, ◌<◌, ◌++◌, length, IfOk, IfErr, OnOk};
-ghost use Rattle.drawings.specs.Picture.{moment_line, moment_lines, end_line, ends_of, end_lines, lines_of, CanBeDrawn, IsPictureFault};
+//! A picture as its heading and its lines.
+ghost use Rattle.std.specs.Prelude.{◌≡◌, ◌<◌, ◌≤◌, [], ◌∷◌, ◌++◌, length, IfOk, IfErr, OnOk};
+ghost use Rattle.tree_model.specs.History.{after_event};
+ghost use Rattle.drawings.specs.Picture.{answer_tone, moment_line, moment_lines, lines_from, drawn_of, CanBeDrawn, IsPictureFault};
 ghost use Rattle.drawings.specs.declared.picture.PictureFault.TheVariants as picture_fault;
 
+use crate::calls::CallWords;
+use crate::events::event_text;
+use crate::heading::heads_of;
+use crate::notes::add_notes;
 use event_log::EventLog;
 use path_text::NoMemory;
-use race_core::{Outcome, Outcomes};
-use report_text::{event_words, reply_words};
+use race_core::Outcomes;
 use std::alloc::Global;
 use std::marker::Model;
 use thiserror::Error;
 use transcript::Output;
-use tree_model::Event;
+use tree_list::ListTree;
+use tree_model::{Answer, Event, Snapshot, Tree};
 
 /// The most actors that are drawn.
 pub const ACTORS_MAX: u64 = 4;
 
-/// The most lines that a picture has.
+/// The most lines that a picture has, those of its heading among them.
 pub const LINES_MAX: usize = 2000;
 
-/// A line of a picture: what an actor did, or how a call of it ended.
+/// How what is told looks.
+#[derive(Clone, Copy, Debug, PartialEq, Eq)]
+pub enum Tone {
+    Plain,
+    /// All is where it should be.
+    Good,
+    /// A call failed, or something is where it should not be.
+    Bad,
+}
+
+/// A line of the heading: an actor's root, or how a call of it ended.
 #[derive(Debug, Drop)]
-pub struct Line {
-    /// The event's place in the history, counted from 0; none where a call ended.
-    pub moment: Option<u64>,
-    pub actor: u64,
+pub struct Head {
+    pub tone: Tone,
     pub text: Output,
 }
 
-/// A picture that can be drawn. Contracts see how many actors it has and its lines.
+/// A line of a picture: what an actor did, or where what it holds stands after another's event.
+#[derive(Debug, Drop)]
+pub struct Line {
+    /// The event's place in the history, counted from 0; none of a note.
+    pub moment: Option<u64>,
+    pub actor: u64,
+    pub tone: Tone,
+    pub text: Output,
+}
+
+/// A picture that can be drawn. Contracts see how many actors it has, its heading and its lines.
 #[derive(Debug, Drop)]
 pub struct Picture {
     pub(crate) actors: u64,
+    pub(crate) heads: Vec<Head>,
     pub(crate) lines: Vec<Line>,
 }
 
@@ -40,9 +64,9 @@ impl Model for Picture {
 
     ghost Value = { Drawn };
 
-    ghost view = { λ p. record { actors = p.actors; lines = p.lines.items } };
+    ghost view = { λ p. record { actors = p.actors; heads = p.heads.items; lines = p.lines.items } };
 
-    ghost invariant = { λ p. CanBeDrawn p.actors p.lines.items };
+    ghost invariant = { λ p. CanBeDrawn (record { actors = p.actors; heads = p.heads.items; lines = p.lines.items }) };
 }
 
 /// Why there is no picture.
@@ -67,107 +91,117 @@ impl From<NoMemory> for PictureFault {
     }
 }
 
-// The line of the event of that place in the history.
-fn moment_line(alloc: Global, moment: u64, event: &Event) -> Result<Line, NoMemory>
-    ensures { IfOk result (λ line. line ≡ moment_line moment event.now) }
+// How an answer looks.
+fn answer_tone(answer: &Answer) -> Tone
+    ensures { result ≡ answer_tone answer.now }
+{
+    match answer {
+        Answer::Names(_) => Tone::Good,
+        Answer::NotBelow => Tone::Bad,
+        _ => Tone::Plain,
+    }
+}
+
+// The line of an event, told in the tree just before it.
+fn moment_line(alloc: Global, tree: &Snapshot, moment: u64, event: &Event) -> Result<Line, NoMemory>
+    ensures { IfOk result (λ line. line ≡ moment_line tree.now moment event.now) }
 {
     let mut text = Output::new(alloc);
-    event_words(alloc, &mut text, event)?;
+    event_text(alloc, &mut text, tree, event)?;
     Ok(Line {
         moment: Some(moment),
         actor: u64::from(event.actor.number()),
+        tone: answer_tone(&event.answer),
         text,
     })
 }
 
-// Adds the line of each event.
-fn add_moments(alloc: Global, lines: &mut Vec<Line>, log: &EventLog) -> Result<(), NoMemory>
-    ensures { OnOk result (lines.new.items ≡ lines.old.items ++ moment_lines log.now.events) }
-{
-    for at in 0..log.len() {
-        let event = log.event(alloc, at)?;
-        let line = moment_line(alloc, at as u64, &event)?;
-        lines.push(line)?;
-    }
-    Ok(())
-}
-
-// The line of a call that ended, by its number among its actor's.
-fn end_line(alloc: Global, actor: u64, call: u64, outcome: &Outcome) -> Result<Line, NoMemory>
-    ensures { IfOk result (λ line. line ≡ end_line actor call outcome.now) }
-{
-    let mut text = Output::new(alloc);
-    text.text("call ")?;
-    text.number(call)?;
-    text.text(" = ")?;
-    reply_words(alloc, &mut text, outcome)?;
-    Ok(Line {
-        moment: None,
-        actor,
-        text,
-    })
-}
-
-// Adds the line of each call of an actor.
-fn add_ends_of(
+// Adds the line of an event that led from one tree to another, and the notes of the other actors.
+fn add_moment(
     alloc: Global,
     lines: &mut Vec<Line>,
-    actor: u64,
-    outcomes: &[Outcome],
+    actors: u64,
+    opening: &Snapshot,
+    before: &Snapshot,
+    after: &Snapshot,
+    moment: u64,
+    event: &Event,
 ) -> Result<(), NoMemory>
-    ensures { OnOk result (lines.new.items ≡ lines.old.items ++ ends_of actor outcomes.now) }
+    requires few { actors ≤ ACTORS_MAX }
+    requires led { after.now ≡ after_event before.now event.now }
+    ensures { OnOk result (lines.new.items ≡ lines.old.items ++ moment_lines actors opening.now before.now moment event.now) }
 {
-    for (call, outcome) in outcomes.iter().enumerate() {
-        let line = end_line(alloc, actor, call as u64, outcome)?;
-        lines.push(line)?;
-    }
-    Ok(())
+    let line = moment_line(alloc, before, moment, event)?;
+    lines.push(line)?;
+    add_notes(alloc, lines, opening, before, after, event.actor, actors)
 }
 
-// Adds the line of each call of each actor.
-fn add_ends(alloc: Global, lines: &mut Vec<Line>, replies: &[Outcomes]) -> Result<(), NoMemory>
-    ensures { OnOk result (lines.new.items ≡ lines.old.items ++ end_lines replies.now) }
-{
-    for (actor, outcomes) in replies.iter().enumerate() {
-        add_ends_of(alloc, lines, actor as u64, outcomes.as_slice())?;
-    }
-    Ok(())
-}
-
-// All lines.
-fn lines_of(alloc: Global, events: &EventLog, replies: &[Outcomes]) -> Result<Vec<Line>, NoMemory>
-    ensures { IfOk result (λ lines. lines.items ≡ lines_of events.now.events replies.now) }
+// The lines of all events, whose steps are made again one by one.
+fn lines_of(
+    alloc: Global,
+    actors: u64,
+    opening: &Snapshot,
+    mut tree: ListTree,
+    events: &EventLog,
+) -> Result<Vec<Line>, NoMemory>
+    requires few { actors ≤ ACTORS_MAX }
+    requires same { opening.now ≡ tree }
+    ensures { IfOk result (λ lines. lines.items ≡ lines_from actors opening.now opening.now 0 events.now.events) }
 {
     let mut lines = Vec::new(alloc);
-    add_moments(alloc, &mut lines, events)?;
-    add_ends(alloc, &mut lines, replies)?;
+    let mut before = tree.snapshot(alloc)?;
+    for at in 0..events.len() {
+        let event = events.event(alloc, at)?;
+        let _answer = tree.step(alloc, event.actor, &event.step)?;
+        let after = tree.snapshot(alloc)?;
+        let moment = at as u64;
+        add_moment(
+            alloc, &mut lines, actors, opening, &before, &after, moment, &event,
+        )?;
+        before = after;
+    }
     Ok(lines)
 }
 
 impl Picture {
-    /// The picture of a run of so many actors: a line for each event, `STEP = ANSWER`, and then for each call,
-    /// `call J = REPLY`. Events and calls of other actors have a line and no column.
+    /// The picture of the events that a tree with its actors' roots granted led to, each root by the handle of its actor's
+    /// number; `calls` has what each actor calls for. The heading has a line for each root, and for each call
+    /// `CALL = REPLY`. Then each event has a line, told by where things stood just before it, and after an event each other
+    /// actor whose newest open handle's object was moved has a note. Events of actors that aren't there have a line and no
+    /// column.
     ///
-    /// Errors, in this order: `Actors` where there is no actor or there are more than 4; `NoMemory` where room was
-    /// refused; `Lines` over 2,000 lines.
+    /// Errors, in this order: `Actors` where there is no actor or there are more than 4; `Lines` over 2,000 events;
+    /// `NoMemory` where room was refused; `Lines` over 2,000 lines.
     pub fn of(
         alloc: Global,
-        actors: u64,
+        tree: ListTree,
+        calls: &[CallWords],
         events: &EventLog,
         replies: &[Outcomes],
     ) -> Result<Picture, PictureFault>
-        ensures ok { IfOk result (λ picture. (picture.actors ≡ actors) × (picture.lines ≡ lines_of events.now.events replies.now)) }
-        ensures fits { IfOk result (λ picture. CanBeDrawn picture.actors picture.lines) }
-        ensures err { IfErr result (IsPictureFault actors (length (lines_of events.now.events replies.now))) }
+        ensures ok { IfOk result (λ picture. picture ≡ drawn_of tree calls.now events.now.events replies.now) }
+        ensures fits { IfOk result CanBeDrawn }
+        ensures err { IfErr result (IsPictureFault (drawn_of tree calls.now events.now.events replies.now)) }
     {
+        let actors = calls.len() as u64;
         if actors == 0 || actors > ACTORS_MAX {
             return Err(PictureFault::Actors);
         }
-        let lines = lines_of(alloc, events, replies)?;
-        if lines.len() > LINES_MAX {
+        // A long run is told before its steps are made again.
+        if events.len() > LINES_MAX {
             return Err(PictureFault::Lines);
         }
-        Ok(Picture { actors, lines })
+        let opening = tree.snapshot(alloc)?;
+        let heads = heads_of(alloc, &opening, calls, replies)?;
+        let lines = lines_of(alloc, actors, &opening, tree, events)?;
+        if lines.len() > LINES_MAX || heads.len() > LINES_MAX - lines.len() {
+            return Err(PictureFault::Lines);
+        }
+        Ok(Picture {
+            actors,
+            heads,
+            lines,
+        })
     }
 
     /// How many actors the picture has.
@@ -175,6 +209,13 @@ impl Picture {
         ensures { result ≡ self.now.actors }
     {
         self.actors
+    }
+
+    /// The heading's lines in order.
+    pub fn heads(&self) -> &[Head]
+        ensures { result.now ≡ self.now.heads }
+    {
+        self.heads.as_slice()
     }
 
     /// The lines in order.

@@ -1,10 +1,10 @@
 //! A picture as SVG (Scalable Vector Graphics 1.1, W3C).
 ghost use Rattle.std.specs.Prelude.{◌≡◌, ◌<◌, ◌≤◌, ◌+◌, ◌++◌, length};
 ghost use Rattle.transcript.specs.Output.{Gains};
-ghost use Rattle.drawings.specs.Svg.{tag, xml_byte, xml_text, text_at, life_line, column_x, line_y, svg_column, svg_columns, svg_dot, svg_place, svg_line, svg_lines, svg_head, svg_of};
+ghost use Rattle.drawings.specs.Svg.{tag, xml_byte, xml_text, tone_end, text_at, life_line, column_x, names_y, heading_y, line_y, svg_heading, svg_headings, svg_column, svg_columns, svg_dot, dot_if, svg_place, svg_line, svg_lines, svg_head, svg_of};
 
 use crate::cells::{actor_name, cut, mark_of};
-use crate::picture::{ACTORS_MAX, LINES_MAX, Line, Picture};
+use crate::picture::{ACTORS_MAX, Head, LINES_MAX, Line, Picture, Tone};
 use path_text::NoMemory;
 use std::alloc::Global;
 use transcript::Output;
@@ -57,12 +57,23 @@ fn tag(
     out.text(last)
 }
 
+// What ends the opening tag of a text.
+fn tone_end(tone: Tone) -> &'static str
+    ensures { result.now ≡ tone_end tone }
+{
+    match tone {
+        Tone::Plain => "'>",
+        Tone::Good => "' fill='#1a7f37'>",
+        Tone::Bad => "' fill='#c0182b'>",
+    }
+}
+
 // Adds a text that begins at a place.
 #[tactic(auto, unfolding(crate::specs::Svg::text_at))]
-fn text_at(out: &mut Output, x: u64, y: u64, text: &[u8]) -> Result<(), NoMemory>
-    ensures { Gains out.old out.new (text_at x y text.now) result }
+fn text_at(out: &mut Output, x: u64, y: u64, tone: Tone, text: &[u8]) -> Result<(), NoMemory>
+    ensures { Gains out.old out.new (text_at x y tone text.now) result }
 {
-    tag(out, "<text x='", x, "' y='", y, "'>")?;
+    tag(out, "<text x='", x, "' y='", y, tone_end(tone))?;
     xml_text(out, text)?;
     out.text("</text>\n")
 }
@@ -76,6 +87,23 @@ fn column_x(actor: u64) -> u64
     56 + 494 * actor
 }
 
+// Where the names of the columns stand, below so many lines of the heading.
+fn names_y(heads: usize) -> u64
+    requires { heads ≤ LINES_MAX }
+    ensures y { result ≡ names_y heads }
+    ensures small { result ≤ 44033 }
+{
+    33 + 22 * heads as u64
+}
+
+// Where the text of a line of the heading stands.
+fn heading_y(at: usize) -> u64
+    requires { at ≤ LINES_MAX }
+    ensures { result ≡ heading_y at }
+{
+    22 + 22 * at as u64
+}
+
 // Where the text of a line stands; past the last line, where the picture ends.
 fn line_y(at: usize) -> u64
     requires { at ≤ LINES_MAX }
@@ -85,32 +113,69 @@ fn line_y(at: usize) -> u64
     66 + 22 * at as u64
 }
 
-// Adds a line down from the headings.
-#[tactic(auto, unfolding(crate::specs::Svg::life_line))]
-fn life_line(out: &mut Output, x: u64, end: u64) -> Result<(), NoMemory>
-    ensures { Gains out.old out.new (life_line x end) result }
+// Adds a line of the heading by its place.
+fn heading(out: &mut Output, alloc: Global, at: usize, head: &Head) -> Result<(), NoMemory>
+    requires { at ≤ LINES_MAX }
+    ensures { Gains out.old out.new (svg_heading at head.now) result }
 {
-    tag(out, "<path stroke='#8a93a5' d='M", x, " 44V", end, "'/>\n")
+    let mut text = Output::new(alloc);
+    cut(&mut text, SHOWN_MAX, head.text.as_slice())?;
+    text_at(out, 8, heading_y(at), head.tone, text.as_slice())
 }
 
-// Adds an actor's heading and its life line.
-fn column(alloc: Global, out: &mut Output, actor: u64, end: u64) -> Result<(), NoMemory>
-    requires { actor < ACTORS_MAX }
-    ensures { Gains out.old out.new (svg_column end actor) result }
+// Adds the heading.
+fn headings(alloc: Global, out: &mut Output, heads: &[Head]) -> Result<(), NoMemory>
+    requires { length heads.now ≤ LINES_MAX }
+    ensures { Gains out.old out.new (svg_headings heads.now) result }
 {
-    let x = column_x(actor);
+    for (at, head) in heads.iter().enumerate() {
+        heading(out, alloc, at, head)?;
+    }
+    Ok(())
+}
+
+// Adds a line down from below the columns' names.
+#[tactic(auto, unfolding(crate::specs::Svg::life_line))]
+fn life_line(out: &mut Output, x: u64, start: u64, end: u64) -> Result<(), NoMemory>
+    ensures { Gains out.old out.new (life_line x start end) result }
+{
+    tag(out, "<path stroke='#8a93a5' d='M", x, " ", start, "V")?;
+    out.number(end)?;
+    out.text("'/>\n")
+}
+
+// Adds an actor's name and its life line, below so many lines of the heading.
+fn column(
+    alloc: Global,
+    out: &mut Output,
+    heads: usize,
+    end: u64,
+    actor: u64,
+) -> Result<(), NoMemory>
+    requires few { actor < ACTORS_MAX }
+    requires short { heads ≤ LINES_MAX }
+    ensures { Gains out.old out.new (svg_column heads end actor) result }
+{
+    let (x, y) = (column_x(actor), names_y(heads));
     let name = actor_name(alloc, actor)?;
-    text_at(out, x, 33, name.as_slice())?;
-    life_line(out, x + 8, end)
+    text_at(out, x, y, Tone::Plain, name.as_slice())?;
+    life_line(out, x + 8, y + 11, end)
 }
 
 // Adds the column of each actor.
-fn columns(alloc: Global, out: &mut Output, actors: u64, end: u64) -> Result<(), NoMemory>
-    requires { actors ≤ ACTORS_MAX }
-    ensures { Gains out.old out.new (svg_columns end actors) result }
+fn columns(
+    alloc: Global,
+    out: &mut Output,
+    heads: usize,
+    end: u64,
+    actors: u64,
+) -> Result<(), NoMemory>
+    requires few { actors ≤ ACTORS_MAX }
+    requires short { heads ≤ LINES_MAX }
+    ensures { Gains out.old out.new (svg_columns heads end actors) result }
 {
     for actor in 0..actors {
-        column(alloc, out, actor, end)?;
+        column(alloc, out, heads, end, actor)?;
     }
     Ok(())
 }
@@ -121,6 +186,13 @@ fn dot(out: &mut Output, x: u64, y: u64) -> Result<(), NoMemory>
     ensures { Gains out.old out.new (svg_dot x y) result }
 {
     tag(out, "<circle r='4' cx='", x, "' cy='", y, "'/>\n")
+}
+
+// Adds the dot of what has a moment.
+fn dot_if(out: &mut Output, dotted: bool, x: u64, y: u64) -> Result<(), NoMemory>
+    ensures { Gains out.old out.new (dot_if dotted x y) result }
+{
+    if dotted { dot(out, x, y) } else { Ok(()) }
 }
 
 // Adds what stands in the column of a line's actor, where it has one.
@@ -135,8 +207,8 @@ fn place(alloc: Global, out: &mut Output, actors: u64, y: u64, line: &Line) -> R
     let x = column_x(line.actor);
     let mut text = Output::new(alloc);
     cut(&mut text, SHOWN_MAX, line.text.as_slice())?;
-    dot(out, x + 8, y - 5)?;
-    text_at(out, x + 26, y, text.as_slice())
+    dot_if(out, line.moment.is_some(), x + 8, y - 5)?;
+    text_at(out, x + 26, y, line.tone, text.as_slice())
 }
 
 // Adds a line by its place in the picture.
@@ -153,18 +225,24 @@ fn line(
 {
     let y = line_y(at);
     let mark = mark_of(alloc, line.moment)?;
-    text_at(out, 8, y, mark.as_slice())?;
+    text_at(out, 8, y, Tone::Plain, mark.as_slice())?;
     place(alloc, out, actors, y, line)
 }
 
-// Adds all lines.
-fn lines(alloc: Global, out: &mut Output, actors: u64, lines: &[Line]) -> Result<(), NoMemory>
+// Adds all lines, below so many of the heading.
+fn lines(
+    alloc: Global,
+    out: &mut Output,
+    actors: u64,
+    heads: usize,
+    lines: &[Line],
+) -> Result<(), NoMemory>
     requires actors { actors ≤ ACTORS_MAX }
-    requires short { length lines.now ≤ LINES_MAX }
-    ensures { Gains out.old out.new (svg_lines actors lines.now) result }
+    requires short { heads + length lines.now ≤ LINES_MAX }
+    ensures { Gains out.old out.new (svg_lines actors heads lines.now) result }
 {
     for (at, drawn) in lines.iter().enumerate() {
-        line(alloc, out, actors, at, drawn)?;
+        line(alloc, out, actors, heads + at, drawn)?;
     }
     Ok(())
 }
@@ -174,22 +252,30 @@ fn lines(alloc: Global, out: &mut Output, actors: u64, lines: &[Line]) -> Result
 fn head(out: &mut Output, width: u64, height: u64) -> Result<(), NoMemory>
     ensures { Gains out.old out.new (svg_head width height) result }
 {
-    let opening =
-        "<svg xmlns='http://www.w3.org/2000/svg' font-family='monospace' font-size='13' width='";
-    tag(out, opening, width, "' height='", height, "'>\n")
+    tag(
+        out,
+        "<svg xmlns='http://www.w3.org/2000/svg' xml:space='preserve' font-family='monospace' font-size='13' width='",
+        width,
+        "' height='",
+        height,
+        "'>\n",
+    )
 }
 
 impl Picture {
-    /// Adds the picture as SVG, in ASCII: for each actor a heading and a life line, and each line's moment, dot and text.
-    /// A text over 55 bytes is cut, and ends in a tilde. No byte of a text stands as markup: `&`, `<`, `>` and the
-    /// quotation marks are entities. NoMemory where its room was refused.
+    /// Adds the picture as SVG, in ASCII: the heading's lines, for each actor its name and a life line, and each line's
+    /// moment, dot and text. A text over 55 bytes is cut, and ends in a tilde. What is well is green, and what isn't is red.
+    /// No byte of a text stands as markup: `&`, `<`, `>` and the quotation marks are entities. NoMemory where its room was
+    /// refused.
     pub fn svg(&self, alloc: Global, out: &mut Output) -> Result<(), NoMemory>
         ensures { Gains out.old out.new (svg_of self.now) result }
     {
-        let end = line_y(self.lines.len());
+        let heads = self.heads.len();
+        let end = line_y(heads + self.lines.len());
         head(out, 48 + 494 * self.actors, end)?;
-        columns(alloc, out, self.actors, end)?;
-        lines(alloc, out, self.actors, &self.lines)?;
+        headings(alloc, out, &self.heads)?;
+        columns(alloc, out, heads, end, self.actors)?;
+        lines(alloc, out, self.actors, heads, &self.lines)?;
         out.text("</svg>\n")
     }
 }

@@ -3,16 +3,16 @@ ghost use Rattle.std.specs.Prelude.{◌≡◌, ◌<◌, ◌≤◌, ◌++◌, cod
 ghost use Rattle.std.specs.List.{flat_map};
 ghost use Rattle.transcript.specs.Output.{Gains};
 ghost use Rattle.drawings.specs.Cells.{fitted, actor_name};
-ghost use Rattle.drawings.specs.Text.{cell_width, shown, cells, head_row, line_row, text_of};
+ghost use Rattle.drawings.specs.Text.{cell_width, shown, cells, head_row, line_row, heading_row, table, text_of};
 
-use crate::cells::{actor_name, fitted, mark_of, to_right};
-use crate::picture::{ACTORS_MAX, Line, Picture};
+use crate::cells::{actor_name, cut, fitted, mark_of, to_right};
+use crate::picture::{ACTORS_MAX, Head, Line, Picture};
 use path_text::NoMemory;
 use std::alloc::Global;
 use transcript::Output;
 
 /// How wide a line is at most, without the newline.
-pub const LINE_COLUMNS: u64 = 100;
+pub const LINE_COLUMNS: usize = 100;
 
 /// How wide the moment at the beginning of a line is.
 pub const MARK_COLUMNS: usize = 6;
@@ -24,7 +24,7 @@ fn cell_width(actors: u64) -> usize
     ensures width { result ≡ cell_width actors }
     ensures some { 0 < result }
 {
-    ((LINE_COLUMNS - 8) / actors - 3) as usize
+    (LINE_COLUMNS - 8) / actors as usize - 3
 }
 
 // Adds a bar and a cell.
@@ -70,7 +70,7 @@ fn cells(out: &mut Output, actors: u64, width: usize, line: &Line) -> Result<(),
     Ok(())
 }
 
-// Adds the heading.
+// Adds the names of the columns.
 fn head_row(alloc: Global, out: &mut Output, actors: u64) -> Result<(), NoMemory>
     requires some { 0 < actors }
     requires few { actors ≤ ACTORS_MAX }
@@ -105,13 +105,41 @@ fn line_rows(alloc: Global, out: &mut Output, actors: u64, lines: &[Line]) -> Re
     Ok(())
 }
 
+// Adds a line of the heading.
+fn heading_row(out: &mut Output, head: &Head) -> Result<(), NoMemory>
+    ensures { Gains out.old out.new (heading_row head.now) result }
+{
+    cut(out, LINE_COLUMNS, head.text.as_slice())?;
+    out.text("\n")
+}
+
+// Adds the heading.
+fn heading_rows(out: &mut Output, heads: &[Head]) -> Result<(), NoMemory>
+    ensures { Gains out.old out.new (flat_map heading_row heads.now) result }
+{
+    for head in heads {
+        heading_row(out, head)?;
+    }
+    Ok(())
+}
+
 impl Picture {
-    /// Adds the picture as text: a heading, and then each line, with its moment and a column for each actor. No line is
-    /// wider than 100 columns: a text that is too wide is cut, and ends in a tilde. NoMemory where its room was refused.
-    pub fn text(&self, alloc: Global, out: &mut Output) -> Result<(), NoMemory>
-        ensures { Gains out.old out.new (text_of self.now) result }
+    // Adds the table.
+    fn table(&self, alloc: Global, out: &mut Output) -> Result<(), NoMemory>
+        ensures { Gains out.old out.new (table self.now) result }
     {
         head_row(alloc, out, self.actors)?;
         line_rows(alloc, out, self.actors, &self.lines)
+    }
+
+    /// Adds the picture as text: its heading, an empty line, and a table: the columns' names, and then each line, with its
+    /// moment and a column for each actor. No line is wider than 100 columns: a text that is too wide is cut, and ends in a
+    /// tilde. NoMemory where its room was refused.
+    pub fn text(&self, alloc: Global, out: &mut Output) -> Result<(), NoMemory>
+        ensures { Gains out.old out.new (text_of self.now) result }
+    {
+        heading_rows(out, &self.heads)?;
+        out.text("\n")?;
+        self.table(alloc, out)
     }
 }

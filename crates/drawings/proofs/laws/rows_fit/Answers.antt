@@ -1,4 +1,4 @@
-use Rattle.drawings.proofs.Widths.{rows_fit, marks_fit}
+use Rattle.drawings.proofs.Widths.{rows_fit, marks_fit, heading_fits}
 use Rattle.drawings.proofs.laws.rows_fit.Goals as goal
 
 pub returns-clause-rows : goal.returns-clause-rows
@@ -6,3 +6,6 @@ returns-clause-rows c = rows_fit
 
 pub returns-clause-marks : goal.returns-clause-marks
 returns-clause-marks c = marks_fit
+
+pub returns-clause-heading : goal.returns-clause-heading
+returns-clause-heading c = heading_fits

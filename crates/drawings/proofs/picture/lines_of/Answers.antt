@@ -1,0 +1,17 @@
+use Rattle.std.proofs.Common.{◌≡◌, sym, ap, ◌∙◌}
+use Rattle.tree_model.specs.History.{after_event}
+use Rattle.tree_model.specs.State.{State}
+use Rattle.drawings.proofs.Lists.{moment_more}
+use Rattle.drawings.proofs.picture.lines_of.Goals as goal
+
+pub loop-at-preserved : goal.loop-at-preserved
+loop-at-preserved c =
+    let event = c.in_ok-event.event in
+    let led : c.in_ok-after.after ≡ after_event c.loop-at.before event =
+    c.in_ok-after.ensures ∙ c.in_ok-_answer.ensures.after ∙ ap (λ (s : State). after_event s event) (sym c.loop-at.invariant.same) in
+    record {
+      same = c.in_ok-after.ensures;
+      lines =
+          moment_more c.args.actors c.args.opening.now c.loop-at.before c.in_ok-after.after c.args.events.now.events c.loop-at.at event c.loop-at.lines.items c.add_moment.new.lines.items _
+          c.in_ok-event.ensures led c.in_ok-add_moment.ensures c.loop-at.invariant.lines;
+    }
