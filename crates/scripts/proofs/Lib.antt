@@ -13,3 +13,4 @@ pub mod Shown
 pub mod Owners
 pub mod Services
 pub mod Releases
+pub mod Drawings

@@ -6,11 +6,9 @@ use Rattle.race_core.specs.declared.report.Outcome.{Outcome}
 use Rattle.report_text.specs.Report.{report_text, event_lines, reply_lines, row_lines, held_line, held_lines}
 use Rattle.tree_model.specs.declared.answer.Event.{Event}
 use Rattle.tree_model.specs.State.{State}
-use Rattle.drawings.specs.declared.text.TheConstants.{MARK_COLUMNS}
-use Rattle.drawings.specs.Cells.{to_right, actor_name}
-use Rattle.drawings.specs.Picture.{Drawn}
-use Rattle.drawings.specs.Svg.{line_y, svg_head, svg_columns, svg_lines, svg_of}
-use Rattle.drawings.specs.Text.{cell_width, cells, head_row, line_row, text_of}
+use Rattle.drawings.specs.Picture.{Drawn, line_count}
+use Rattle.drawings.specs.Svg.{line_y, svg_head, svg_headings, svg_columns, svg_lines, svg_of}
+use Rattle.drawings.specs.Text.{heading_row, table, text_of}
 use Rattle.scripts.specs.declared.drawing.Form.{Form}
 use Rattle.scripts.specs.declared.drawing.Form.TheVariants.{Text, Svg}
 use Rattle.scripts.specs.declared.drawing.DrawFault.{DrawFault}
@@ -39,16 +37,14 @@ report_some events replies s actors some =
     tail_some (event_lines events) _ (tail_some (reply_lines replies) _ (tail_some (row_lines s.nodes) _ (held_some s actors some)))
 
 text_some : (picture : Drawn) → text_of picture ≢ []
-text_some picture =
-    front_some (head_row picture.actors) (flat_map (line_row picture.actors) picture.lines)
-    (tail_some (to_right MARK_COLUMNS []) (cells picture.actors (cell_width picture.actors) actor_name ++ codes " |\n")
-    (tail_some (cells picture.actors (cell_width picture.actors) actor_name) (codes " |\n") (λ e. cc (e))))
+text_some picture = tail_some (flat_map heading_row picture.heads) (codes "\n" ++ table picture) (front_some (codes "\n") (table picture) (λ e. cc (e)))
 
 svg_some : (picture : Drawn) → svg_of picture ≢ []
 svg_some picture =
-    let end = line_y (length picture.lines) in
-    tail_some (svg_head (48 + 494 * picture.actors) end) _
-    (tail_some (svg_columns end picture.actors) _ (tail_some (svg_lines picture.actors picture.lines) (codes "</svg>\n") (λ e. cc (e))))
+    let heads = length picture.heads in
+    let end = line_y (line_count picture) in
+    tail_some (svg_head (48 + 494 * picture.actors) end) _ (tail_some (svg_headings picture.heads) _
+    (tail_some (svg_columns heads end picture.actors) _ (tail_some (svg_lines picture.actors heads picture.lines) (codes "</svg>\n") (λ e. cc (e)))))
 
 drawing_some : (form : Form) (picture : Drawn) → form_text form picture ≢ []
 drawing_some Text picture = text_some picture
@@ -60,7 +56,7 @@ texts_some said (Err fault) playable is = tt
 
 pub drawings_some : (form : Form) (said : Said) (made : Result (List ℕ) DrawFault) → MatchResult made (IsDrawingOf form said) (IsNoDrawing said)
     → IfOk made (λ text. text ≢ [])
-drawings_some form said (Ok text) is = λ none. drawing_some form (drawn said is.events is.replies) (sym is.is ∙ none)
+drawings_some form said (Ok text) is = λ none. drawing_some form (drawn said is.tree is.events is.replies is.run) (sym is.is ∙ none)
 drawings_some form said (Err fault) is = tt
 
 pub jobs_some : (workers : ℕ) (said : Said) (made : Result (List ℕ) JobsFault) → MatchResult made (IsJobsText workers said) (IsNoService workers said)

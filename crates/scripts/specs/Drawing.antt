@@ -1,13 +1,15 @@
 -- What `inroot draw` writes: the picture of a report on a run of the world that the script says.
-use Rattle.std.specs.Prelude.{◌≡◌, ◌≢◌, ◌<◌, ℕ, List, length, Option, Result, MatchResult, IsOkAnd, IfSome}
+use Rattle.std.specs.Prelude.{◌≡◌, ◌≢◌, ◌<◌, ℕ, List, length, Option, Some, None, Result, Ok, Err, MatchResult, IsOkAnd, IfSome}
 use Rattle.std.specs.Io.KnownBytes.{Keeps}
 use Rattle.drawings.specs.declared.picture.PictureFault.{PictureFault}
 use Rattle.drawings.specs.declared.picture.PictureFault.TheVariants as picture_fault
 use Rattle.drawings.specs.declared.picture.TheConstants.{ACTORS_MAX, LINES_MAX}
-use Rattle.drawings.specs.Picture.{Drawn, lines_of}
+use Rattle.drawings.specs.Calls.{calls_of}
+use Rattle.drawings.specs.Picture.{Drawn, drawn_of, line_count}
 use Rattle.drawings.specs.Svg.{svg_of}
 use Rattle.drawings.specs.Text.{text_of}
 use Rattle.race_core.specs.declared.report.Outcome.{Outcome}
+use Rattle.race_core.specs.Opening.{Grants}
 use Rattle.tree_model.specs.declared.answer.Event.{Event}
 use Rattle.tree_model.specs.State.{State}
 use Rattle.scripts.specs.declared.drawing.DrawFault.{DrawFault}
@@ -20,9 +22,14 @@ use Rattle.scripts.specs.declared.turns.TurnOrder.{TurnOrder}
 use Rattle.scripts.specs.Replay.{IsRunOf, IsNoRun, IsWritingFaultOf, Wrote}
 use Rattle.scripts.specs.Scenario.{Said, said_for}
 
--- a column for each actor, and the lines of what happened
-abbrev pub drawn : Said → List Event → List (List Outcome) → Drawn
-drawn said events replies = record { actors = length said.plans; lines = lines_of events replies }
+-- the tree in which all roots are granted, if they are
+abbrev pub opened_by : Grants → Option State
+opened_by (Ok granted) = Some granted.tree
+opened_by (Err refusal) = None
+
+-- the picture of a run, from the tree in which its roots were granted on
+abbrev pub drawn : (said : Said) (tree : State) (events : List Event) (replies : List (List Outcome)) → IsRunOf said tree events replies → Drawn
+drawn said tree events replies run = drawn_of run.opened.roots.tree (calls_of said.plans) events replies
 
 abbrev pub form_text : Form → Drawn → List ℕ
 form_text Text picture = text_of picture
@@ -34,15 +41,15 @@ pub record IsDrawingOf (form : Form) (said : Said) (text : List ℕ) : Type 0 wh
   pub events : List Event
   pub replies : List (List Outcome)
   pub run : IsRunOf said tree events replies
-  pub is : text ≡ form_text form (drawn said events replies)
+  pub is : text ≡ form_text form (drawn said tree events replies run)
 
--- more happened in some run than a picture has lines
+-- the picture of some run has more lines than one may have
 pub record HasManyLines (said : Said) : Type 0 where
   pub tree : State
   pub events : List Event
   pub replies : List (List Outcome)
   pub run : IsRunOf said tree events replies
-  pub over : LINES_MAX < length (lines_of events replies)
+  pub over : LINES_MAX < line_count (drawn said tree events replies run)
 
 -- why a picture of some actors isn't made, and so it is told
 abbrev pub told_of : PictureFault → DrawFault

@@ -1,22 +1,29 @@
 //! A script drawn: its world is run to its end, and a picture of it is written.
-ghost use Rattle.std.specs.Prelude.{◌≡◌, ◌≢◌, [], IfOk, MatchResult, OnOk};
+ghost use Rattle.std.specs.Prelude.{◌≡◌, ◌≢◌, ◌≤◌, [], length, Ok, Some, IfOk, IfErr, IfSome, MatchResult, OnOk};
 ghost use Rattle.drawings.specs.Picture.{IsPictureFault};
+ghost use Rattle.race_core.specs.Opening.{granted};
 ghost use Rattle.scripts.specs.declared.drawing.DrawFault.TheVariants as draw_fault;
 ghost use Rattle.scripts.specs.declared.fault.RunFault.TheVariants.{NoMemory as OutOfMemory};
-ghost use Rattle.scripts.specs.Drawing.{form_text, told_of, IsDraw, IsDrawingOf, IsNoDrawing};
-ghost use Rattle.scripts.specs.Scenario.{said_by, IsPlayable};
+ghost use Rattle.scripts.specs.Drawing.{form_text, opened_by, told_of, IsDraw, IsDrawingOf, IsNoDrawing};
+ghost use Rattle.scripts.specs.Scenario.{said_by, said_for, IsPlayable, IsReadingFaultOf};
 ghost use Rattle.transcript.specs.Output.{Gains};
 
+use crate::actors::ACTORS_MAX;
+use crate::calls::Purpose;
 use crate::fault::RunFault;
+use crate::input::{read_script, value_of};
 use crate::play::report_of;
-use crate::scenario::{Scenario, read_scenario};
+use crate::scenario::{Scenario, plain_tree_of, scenario_of};
 use crate::turns::TurnOrder;
-use drawings::{Picture, PictureFault};
+use drawings::{Picture, PictureFault, calls_of};
 use path_text::NoMemory;
+use race_core::ActorPlan;
 use std::alloc::Global;
 use std::io::{Read, Write};
 use thiserror::Error;
 use transcript::Output;
+use tree_list::ListTree;
+use tree_model::{Actor, Tree};
 
 /// How a picture is written.
 #[derive(Clone, Copy, Debug, PartialEq, Eq)]
@@ -35,7 +42,7 @@ pub enum DrawFault {
     /// There are more actors than a picture has columns.
     #[error("draw: actors")]
     TooManyActors,
-    /// The run has more events and replies than a picture has lines.
+    /// The run has more events, notes and calls than a picture has lines.
     #[error("draw: lines")]
     TooManyLines,
 }
@@ -82,17 +89,58 @@ fn add_picture(
     }
 }
 
-/// The drawing of a scenario's run. Errors, in this order: those of `report_of`; `TooManyActors` over the 4 that a picture
-/// has; `NoMemory`; `TooManyLines` over the 2,000 that it has.
-fn drawing_of(alloc: Global, scenario: Scenario, form: Form) -> Result<Output, DrawFault>
+/// What a script says with this order of turns, and its tree a second time, as a list. Errors as of `read_scenario`.
+fn read_scene<R: Read>(
+    alloc: Global,
+    reader: &mut R,
+    order: &TurnOrder,
+) -> Result<(Scenario, ListTree), RunFault>
+    ensures said { IfOk result (λ read. IfSome (R.remaining reader.old) (λ input. said_for order.now input ≡ Ok (said_by read.0))) }
+    ensures playable { IfOk result (λ read. IsPlayable (said_by read.0)) }
+    ensures none { IfOk result (λ read. read.0.tree.handles ≡ []) }
+    ensures same { IfOk result (λ read. read.1 ≡ read.0.tree) }
+    ensures err { IfErr result (λ fault. IfSome (R.remaining reader.old) (λ input. IsReadingFaultOf (said_for order.now input) fault)) }
+{
+    let bytes = read_script(alloc, reader)?;
+    let script = value_of(alloc, &bytes)?;
+    let scenario = scenario_of(alloc, Purpose::Turns, &script, order)?;
+    let tree = plain_tree_of(alloc, &script)?;
+    Ok((scenario, tree))
+}
+
+/// Grants each actor its root, in the order of their numbers. `NoMemory` where room was refused; where a script's checks
+/// have passed, no root is refused otherwise.
+fn grant_roots(alloc: Global, tree: &mut ListTree, plans: &[ActorPlan]) -> Result<(), NoMemory>
+    requires { length plans.now ≤ ACTORS_MAX }
+    ensures { OnOk result (opened_by (granted tree.old 0 plans.now) ≡ Some tree.new) }
+{
+    for (actor, plan) in plans.iter().enumerate() {
+        match tree.grant(alloc, Actor::new(actor as u32), &plan.root) {
+            Ok(_root) => {}
+            Err(_) => return Err(NoMemory),
+        }
+    }
+    Ok(())
+}
+
+/// The drawing of a scenario's run, whose steps are made again on the same tree. Errors: those of `report_of`;
+/// `TooManyActors` over the 4 that a picture has; `NoMemory`; `TooManyLines` over the 2,000 that it has.
+fn drawing_of(
+    alloc: Global,
+    scenario: Scenario,
+    mut tree: ListTree,
+    form: Form,
+) -> Result<Output, DrawFault>
+    requires same { tree ≡ scenario.tree }
     requires none { scenario.tree.handles ≡ [] }
     requires playable { IsPlayable (said_by scenario) }
     ensures drawn { MatchResult result (IsDrawingOf form (said_by scenario)) (IsNoDrawing (said_by scenario)) }
     ensures some { IfOk result (λ text. text ≢ []) }
 {
-    let actors = scenario.plans.len() as u64;
+    grant_roots(alloc, &mut tree, &scenario.plans)?;
+    let calls = calls_of(alloc, &scenario.plans)?;
     let came_to = report_of(alloc, scenario)?;
-    let picture = match Picture::of(alloc, actors, &came_to.events, &came_to.replies) {
+    let picture = match Picture::of(alloc, tree, &calls, &came_to.events, &came_to.replies) {
         Ok(picture) => picture,
         Err(fault) => return Err(told_of(fault)),
     };
@@ -101,12 +149,13 @@ fn drawing_of(alloc: Global, scenario: Scenario, form: Form) -> Result<Output, D
     Ok(text)
 }
 
-/// Reads a script, runs its world in this order of turns, and writes a picture of it: a column for each actor, a line for
-/// each event by its moment, and then one for how each call ended.
+/// Reads a script, runs its world in this order of turns, and writes a picture of it: a heading with each actor's root and
+/// how its calls ended, and a column for each actor, in which its steps stand at their moments.
 ///
 /// Errors, in this order: those of `read_scenario`; `BookFull` where the script gives its book fewer lines than it has
-/// actors; `TooManyActors` over 4; `TooManyLines` where the run has more than 2,000 events and replies; `NoMemory`, where
-/// room for the world or the picture was refused; `WriteFailed`. Nothing is written before the picture is whole.
+/// actors; `TooManyActors` over 4; `TooManyLines` where the picture has more than 2,000 lines; `NoMemory`, where room for
+/// the world or the picture was refused, in place of any of the last three too; `WriteFailed`. Nothing is written before the
+/// picture is whole.
 pub fn draw<R: Read, W: Write>(
     alloc: Global,
     reader: &mut R,
@@ -116,8 +165,8 @@ pub fn draw<R: Read, W: Write>(
 ) -> Result<(), DrawFault>
     ensures run { IsDraw order.now form (R.remaining reader.old) (W.contents writer.old) (W.contents writer.new) result }
 {
-    let scenario = read_scenario(alloc, reader, order)?;
-    let text = drawing_of(alloc, scenario, form)?;
+    let (scenario, tree) = read_scene(alloc, reader, order)?;
+    let text = drawing_of(alloc, scenario, tree, form)?;
     match writer.write_all(text.as_slice()) {
         Ok(()) => Ok(()),
         Err(_) => Err(DrawFault::Run(RunFault::WriteFailed)),

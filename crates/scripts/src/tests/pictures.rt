@@ -31,21 +31,26 @@ fn draws_scripts(rt: HostRuntime) -> Result<(), Fail> {
         (
             RACE,
             Form::Text,
-            "       | actor 0                                     | actor 1                                     |
-     0 | open 0 e = opened 2 1 dir                   |                                             |
-     1 |                                             | remove_dir 1 e = done                       |
-     2 | parent 2 = refused ENOENT                   |                                             |
-     3 | close 2 = done                              |                                             |
-       | call 0 = fault EAGAIN                       |                                             |
-       |                                             | call 0 = stepped done                       |
+            "actor 0 below /
+  resolve e/.. = fault EAGAIN
+actor 1 below /
+  remove_dir e in root = stepped done
+
+       | actor 0                                     | actor 1                                     |
+     0 | open e in / = dir 1                         |                                             |
+     1 |                                             | remove_dir /e = done                        |
+       | now gone                                    |                                             |
+     2 | open .. of gone = ENOENT                    |                                             |
+     3 | close gone = done                           |                                             |
 ",
         ),
         (
             ALONE,
             Form::Svg,
-            "<svg xmlns='http://www.w3.org/2000/svg' font-family='monospace' font-size='13' width='542' height='66'>
-<text x='56' y='33'>actor 0</text>
-<path stroke='#8a93a5' d='M64 44V66'/>
+            "<svg xmlns='http://www.w3.org/2000/svg' xml:space='preserve' font-family='monospace' font-size='13' width='542' height='88'>
+<text x='8' y='22'>actor 0 below /</text>
+<text x='56' y='55'>actor 0</text>
+<path stroke='#8a93a5' d='M64 66V88'/>
 </svg>
 ",
         ),
