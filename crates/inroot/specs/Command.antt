@@ -56,11 +56,12 @@ pub record IsWorkers (matches : ArgMatches) (workers : ℕ) : Type 0 where
 abbrev pub texts_given : ArgMatches → List ℕ → List (List ℕ)
 texts_given matches id = unwrap_or (option_map raw_values (matched_of (found_of matches) id)) []
 
--- the texts are those that were given
+-- the texts are those that were given, and `--outside` asks for what acts outside
 pub record IsExploration (matches : ArgMatches) (options : Options) : Type 0 where
   pub actors : texts_in options.actors.now ≡ texts_given matches (codes "actor")
   pub cuts : option_map (λ text. text.now) options.cuts ≡ first_value (found_of matches) (codes "cuts")
   pub states : option_map (λ text. text.now) options.states ≡ first_value (found_of matches) (codes "states")
+  pub outside : IsOption matches (codes "outside") options.outside
   pub never : texts_in options.never.now ≡ texts_given matches (codes "never")
   pub always : texts_in options.always.now ≡ texts_given matches (codes "always")
 

@@ -39,6 +39,8 @@ const CUTS: &str = "cuts";
 
 const STATES: &str = "states";
 
+const OUTSIDE: &str = "outside";
+
 const NEVER: &str = "never";
 
 const ALWAYS: &str = "always";
@@ -214,6 +216,11 @@ fn explore<'a>(alloc: Global) -> Result<Command<'a>, AllocError> {
         ArgAction::Set,
         "Tell nothing past N different states: 1 to 10000000, or 100000",
     );
+    let outside = option(
+        alloc,
+        OUTSIDE,
+        "Tell how many steps of each actor acted outside of its root",
+    );
     let never = valued(
         alloc,
         NEVER,
@@ -235,6 +242,7 @@ fn explore<'a>(alloc: Global) -> Result<Command<'a>, AllocError> {
         .arg(actor)?
         .arg(cuts)?
         .arg(states)?
+        .arg(outside)?
         .arg(never)?
         .arg(always)
 }
@@ -341,6 +349,7 @@ fn exploration_asked<'m>(matches: &'m ArgMatches<'_>) -> Options<'m>
         actors: texts_of(matches, ACTOR),
         cuts: matches.get_str(CUTS),
         states: matches.get_str(STATES),
+        outside: matches.get_flag(OUTSIDE),
         never: texts_of(matches, NEVER),
         always: texts_of(matches, ALWAYS),
     }

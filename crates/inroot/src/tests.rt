@@ -109,6 +109,7 @@ fn asks_explored(alloc: Global, words: &[&str], want: Options) -> bool {
     options.actors == want.actors
         && options.cuts == want.cuts
         && options.states == want.states
+        && options.outside == want.outside
         && options.never == want.never
         && options.always == want.always
 }
@@ -127,6 +128,7 @@ fn reads_what_is_to_be_explored(rt: HostRuntime) {
         "--cuts",
         "1",
         "--states=7",
+        "--outside",
         "--always",
         "held 1 1",
     ];
@@ -134,6 +136,7 @@ fn reads_what_is_to_be_explored(rt: HostRuntime) {
         actors: &["0", "2"],
         cuts: Some("1"),
         states: Some("7"),
+        outside: true,
         never: &["held 0 2"],
         always: &["held 1 1"],
     };

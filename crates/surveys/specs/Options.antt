@@ -37,8 +37,8 @@ abbrev pub SaysMost : Option (Bor (List ℕ)) → ℕ → Type 0
 SaysMost None n = n ≡ STATES
 SaysMost (Some text) n = (text.now ≡ decimal n) × (1 ≤ n) × (n ≤ STATES_MAX)
 
-abbrev pub are_properties : List (List ℕ) → Bool
-are_properties texts = list_all is_property texts
+abbrev pub are_properties : Bool → List (List ℕ) → Bool
+are_properties outside texts = list_all (is_property outside) texts
 
 abbrev pub properties_by : Rule → List (List ℕ) → List Property
 properties_by rule texts = map (λ text. record { rule = rule; text = text }) texts
@@ -60,8 +60,9 @@ pub record AreAsked (options : Options) (asked : Asked) : Type 0 where
   pub named : SaysActors options asked.named.items
   pub cuts : SaysCuts options.cuts asked.cuts
   pub most : SaysMost options.states asked.most
+  pub outside : asked.outside ≡ options.outside
   pub properties : asked.properties.items ≡ properties_by Never (texts_in options.never.now) ++ properties_by Always (texts_in options.always.now)
-  pub texts : are_properties (property_texts options) ≡ true
+  pub texts : are_properties options.outside (property_texts options) ≡ true
 
 -- ---- which option is refused: the first in this order
 
@@ -76,5 +77,5 @@ IsOptionFault options Actor = IsUnsaid (SaysActors options)
 IsOptionFault options Cuts = IsSaid (SaysActors options) × IsUnsaid (SaysCuts options.cuts)
 IsOptionFault options States = IsSaid (SaysActors options) × IsSaid (SaysCuts options.cuts) × IsUnsaid (SaysMost options.states)
 IsOptionFault options Text =
-    IsSaid (SaysActors options) × IsSaid (SaysCuts options.cuts) × IsSaid (SaysMost options.states) × (are_properties (property_texts options) ≡ false)
+    IsSaid (SaysActors options) × IsSaid (SaysCuts options.cuts) × IsSaid (SaysMost options.states) × (are_properties options.outside (property_texts options) ≡ false)
 IsOptionFault options NoMemory = ⊤

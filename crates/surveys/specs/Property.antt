@@ -34,16 +34,18 @@ fails property lines = fails_by property.rule (has property.text lines)
 
 -- ---- what a text must be to be a property's
 
--- a line of a reply, of an entry or of a count of handles is named by its first word
-abbrev pub names_a_line : List ℕ → Bool
-names_a_line text = tells (codes "reply") text || tells (codes "row") text || tells (codes "held") text
+-- a line of a reply, of an entry or of a count of handles is named by its first word; and of a count of steps outside, where they
+-- are counted
+abbrev pub names_a_line : Bool → List ℕ → Bool
+names_a_line outside text =
+    tells (codes "reply") text || tells (codes "row") text || tells (codes "held") text || (outside && tells (codes "outside") text)
 
 -- a line has such bytes alone
 abbrev pub is_printed : ℕ → Bool
 is_printed b = nat_le 0x20 b && nat_le b 0x7e
 
-abbrev pub is_property : List ℕ → Bool
-is_property text = names_a_line text && list_all is_printed text
+abbrev pub is_property : Bool → List ℕ → Bool
+is_property outside text = names_a_line outside text && list_all is_printed text
 
 abbrev pub rule_word : Rule → List ℕ
 rule_word Never = codes "never "

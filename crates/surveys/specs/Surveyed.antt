@@ -22,12 +22,12 @@ first_foreign asked plans = find (λ i. nat_le (length plans) i) asked.named.ite
 -- all who are named are there, and each property names a line that a report can have
 pub record IsOfThese (asked : Asked) (plans : List ActorPlan) : Type 0 where
   pub actors : first_foreign asked plans ≡ None
-  pub properties : first_untold plans asked.properties.items ≡ None
+  pub properties : first_untold asked.outside plans asked.properties.items ≡ None
 
 -- What is told of each outcome, in the order of their least lists, makes the text, and says whether no property fails.
 pub record IsTelling (asked : Asked) (tree : State) (plans : List ActorPlan) (classes : List ClassView) (lists states turns : ℕ) (holds : Bool) (text : List ℕ) : Type 0 where
   pub all : List Told
-  pub told : AreTold asked.named.items tree (length plans) (in_order classes) all
+  pub told : AreTold asked.named.items asked.outside tree (length plans) (in_order classes) all
   pub is : text ≡ survey_text lists states turns all asked.properties.items
   pub judged : holds ≡ all_hold all asked.properties.items
 
@@ -48,7 +48,7 @@ pub record IsSurvey (asked : Asked) (tree : State) (plans : List ActorPlan) (lin
 -- growth was refused.
 abbrev pub WhyNoSurvey : Asked → State → List ActorPlan → ℕ → SurveyFault → Type 0
 WhyNoSurvey asked tree plans lines (NoSuchActor actor) = first_foreign asked plans ≡ Some actor
-WhyNoSurvey asked tree plans lines (NoSuchLine place) = (first_foreign asked plans ≡ None) × (first_untold plans asked.properties.items ≡ Some place)
+WhyNoSurvey asked tree plans lines (NoSuchLine place) = (first_foreign asked plans ≡ None) × (first_untold asked.outside plans asked.properties.items ≡ Some place)
 WhyNoSurvey asked tree plans lines TooManyStates = IsOfThese asked plans
 WhyNoSurvey asked tree plans lines TooManyTurns = IsOfThese asked plans × ((is : List ℕ) × IsTooLong (opened_world tree plans lines) asked.cuts TURNS_MAX is)
 WhyNoSurvey asked tree plans lines NoMemory = ⊤

@@ -25,6 +25,7 @@ pub struct Options<'a> {
     pub actors: &'a [&'a str],
     pub cuts: Option<&'a str>,
     pub states: Option<&'a str>,
+    pub outside: bool,
     pub never: &'a [&'a str],
     pub always: &'a [&'a str],
 }
@@ -38,7 +39,7 @@ pub enum OptionFault {
     Cuts,
     #[error("--states is a number from 1 to 10000000")]
     States,
-    #[error("--never and --always take a line's beginning: reply, row or held, and words after it")]
+    #[error("--never and --always take a line's beginning: reply, row or held, or outside with --outside, and words after it")]
     Text,
     /// Room was refused.
     #[error("no memory")]
@@ -109,14 +110,15 @@ fn states_in(text: Option<&str>) -> Result<u64, OptionFault>
 fn add_properties(
     alloc: Global,
     properties: &mut Vec<Property>,
+    outside: bool,
     rule: Rule,
     texts: &[&str],
 ) -> Result<bool, NoMemory>
-    ensures all { IfOk result (λ all. all ≡ are_properties (texts_in texts.now)) }
+    ensures all { IfOk result (λ all. all ≡ are_properties outside (texts_in texts.now)) }
     ensures added { IfOk result (λ all. all ≡ true → properties.new.items ≡ properties.old.items ++ properties_by rule (texts_in texts.now)) }
 {
     for text in texts {
-        let Some(property) = read_property(alloc, rule, text)? else {
+        let Some(property) = read_property(alloc, outside, rule, text)? else {
             return Ok(false);
         };
         properties.push(property)?;
@@ -138,17 +140,25 @@ pub fn read_asked(alloc: Global, options: Options) -> Result<Asked, OptionFault>
     };
     let cuts = cuts_in(options.cuts)?;
     let most = states_in(options.states)?;
+    let outside = options.outside;
     let mut properties = Vec::new(alloc);
-    if !add_properties(alloc, &mut properties, Rule::Never, options.never)? {
+    if !add_properties(alloc, &mut properties, outside, Rule::Never, options.never)? {
         return Err(OptionFault::Text);
     }
-    if !add_properties(alloc, &mut properties, Rule::Always, options.always)? {
+    if !add_properties(
+        alloc,
+        &mut properties,
+        outside,
+        Rule::Always,
+        options.always,
+    )? {
         return Err(OptionFault::Text);
     }
     Ok(Asked {
         named,
         cuts,
         most,
+        outside,
         properties,
     })
 }

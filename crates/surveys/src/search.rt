@@ -29,6 +29,9 @@ pub struct Asked {
     pub cuts: Option<u64>,
     /// The most worlds that are gone through, of alike ones one.
     pub most: u64,
+    /// Whether it is told how many steps of each actor acted outside of its root: outcomes that differ in these numbers are
+    /// two then.
+    pub outside: bool,
     /// Properties of every report, whatever actors are named.
     pub properties: Vec<Property>,
 }
@@ -94,7 +97,14 @@ fn survey_of(
     let opening = scene.tree.snapshot(alloc)?;
     let actors = scene.plans.len() as u32;
     let classes = in_order(alloc, found.classes)?;
-    let all = tell_all(alloc, &asked.named, &opening, actors, &classes)?;
+    let all = tell_all(
+        alloc,
+        &asked.named,
+        asked.outside,
+        &opening,
+        actors,
+        &classes,
+    )?;
     let mut text = Output::new(alloc);
     survey_text(&mut text, lists, states, turns, &all, &asked.properties)?;
     let holds = all_hold(&all, &asked.properties);
@@ -104,7 +114,8 @@ fn survey_of(
 /// Goes through all full lists of turns of the world of a tree and of plans, those with at most so many cuts, and tells what
 /// they come to: how many there are, by how many worlds, how many turns the longest has, each outcome once with how many
 /// lead to it and a schedule for the least of them, and whether each property holds of every one. Which numbers the nodes
-/// got that were made doesn't tell outcomes apart: they are compared with these nodes numbered anew.
+/// got that were made doesn't tell outcomes apart: they are compared with these nodes numbered anew. How many steps
+/// of each actor acted outside of its root does, where it is told.
 ///
 /// Errors, in this order: `NoSuchActor` of the first that is named and isn't there; `NoSuchLine` of the first property that
 /// names an actor who isn't there, or a call that its actor doesn't have; `TooManyStates` and `TooManyTurns` beyond the
@@ -116,7 +127,7 @@ pub fn survey_scene(alloc: Global, scene: &Scene, asked: &Asked) -> Result<Surve
     if let Some(actor) = first_foreign(&asked.named, scene.plans.len()) {
         return Err(SurveyFault::NoSuchActor(actor));
     }
-    if let Some(place) = first_untold(alloc, &scene.plans, &asked.properties)? {
+    if let Some(place) = first_untold(alloc, asked.outside, &scene.plans, &asked.properties)? {
         return Err(SurveyFault::NoSuchLine(place));
     }
     let limits = Limits {

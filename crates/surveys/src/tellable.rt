@@ -1,6 +1,6 @@
 //! Which properties name a line that a report on a world's run can have.
 ghost use Rattle.std.specs.Prelude.{◌≡◌, ◌++◌, IfOk, decimal};
-ghost use Rattle.surveys.specs.Tellable.{meets, reply_start, is_reply_of, is_reply, is_of_actor, can_be_told, first_untold};
+ghost use Rattle.surveys.specs.Tellable.{meets, reply_start, is_reply_of, is_reply, is_of_actor, is_count, can_be_told, first_untold};
 
 use crate::counts::numbered;
 use crate::property::{Property, tells};
@@ -77,12 +77,36 @@ fn is_of_actor(
     Ok(false)
 }
 
-// Whether a report can have a line that a text is, begins or is begun by: one of an entry, whatever it says; one of an
-// actor's handles; or one of the reply to a call.
-fn can_be_told(alloc: Global, plans: &[ActorPlan], text: &[u8]) -> Result<bool, NoMemory>
-    ensures { IfOk result (λ can. can ≡ can_be_told plans.now text.now) }
+// Whether it meets that of an actor's handles, or of its steps outside where they are counted.
+fn is_count(
+    alloc: Global,
+    outside: bool,
+    plans: &[ActorPlan],
+    text: &[u8],
+) -> Result<bool, NoMemory>
+    ensures { IfOk result (λ is. is ≡ is_count outside plans.now text.now) }
 {
-    if meets(text, b"row") || is_of_actor(alloc, text, "held ", plans)? {
+    if is_of_actor(alloc, text, "held ", plans)? {
+        return Ok(true);
+    }
+    if outside {
+        is_of_actor(alloc, text, "outside ", plans)
+    } else {
+        Ok(false)
+    }
+}
+
+// Whether a report can have a line that a text is, begins or is begun by: one of an entry, whatever it says; one that
+// counts an actor's handles or steps; or one of the reply to a call.
+fn can_be_told(
+    alloc: Global,
+    outside: bool,
+    plans: &[ActorPlan],
+    text: &[u8],
+) -> Result<bool, NoMemory>
+    ensures { IfOk result (λ can. can ≡ can_be_told outside plans.now text.now) }
+{
+    if meets(text, b"row") || is_count(alloc, outside, plans, text)? {
         return Ok(true);
     }
     is_reply(alloc, text, plans)
@@ -92,13 +116,14 @@ fn can_be_told(alloc: Global, plans: &[ActorPlan], text: &[u8]) -> Result<bool, 
 /// have. NoMemory where room was refused.
 pub(crate) fn first_untold(
     alloc: Global,
+    outside: bool,
     plans: &[ActorPlan],
     properties: &[Property],
 ) -> Result<Option<usize>, NoMemory>
-    ensures { IfOk result (λ place. place ≡ first_untold plans.now properties.now) }
+    ensures { IfOk result (λ place. place ≡ first_untold outside plans.now properties.now) }
 {
     for (place, property) in properties.iter().enumerate() {
-        if !can_be_told(alloc, plans, property.text.as_slice())? {
+        if !can_be_told(alloc, outside, plans, property.text.as_slice())? {
             return Ok(Some(place));
         }
     }

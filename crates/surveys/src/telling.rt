@@ -24,6 +24,8 @@ pub struct Found<'a, T> {
     pub turns: &'a [u32],
     /// Its report.
     pub report: &'a Report<T>,
+    /// How many steps of each actor acted outside of its root, where they were counted.
+    pub outside: &'a [u64],
 }
 
 // What is printed of a report.
@@ -34,7 +36,7 @@ fn printed<T: Tree>(
     ended: &Ended<T>,
     actors: u32,
 ) -> Result<Output, NoMemory>
-    ensures { IfOk result (λ text. text ≡ outcome_lines named.now opening.now ended.now.replies.now (record { nodes = ended.now.nodes.now.nodes; handles = (T.state ended.now.tree.now).handles }) actors) }
+    ensures { IfOk result (λ text. text ≡ outcome_lines named.now opening.now ended.now.replies.now (record { nodes = ended.now.nodes.now.nodes; handles = (T.state ended.now.tree.now).handles }) ended.now.outside.now actors) }
 {
     let mut text = Output::new(alloc);
     outcome_lines(alloc, &mut text, named, opening, ended, actors)?;
@@ -49,7 +51,7 @@ fn look<T: Tree>(
     ended: &Ended<T>,
     actors: u32,
 ) -> Result<Output, NoMemory>
-    ensures { IfOk result (IsLook named.now opening.now actors ended.now.replies.now (record { nodes = ended.now.nodes.now.nodes; handles = (T.state ended.now.tree.now).handles })) }
+    ensures { IfOk result (IsLook named.now opening.now actors ended.now.replies.now (record { nodes = ended.now.nodes.now.nodes; handles = (T.state ended.now.tree.now).handles }) ended.now.outside.now) }
 {
     let known = opening.nodes().len();
     let anew = renumber(alloc, known, named, ended.nodes.nodes(), ended.replies)?;
@@ -58,14 +60,15 @@ fn look<T: Tree>(
         replies: &anew.replies,
         nodes: &nodes,
         tree: ended.tree,
+        outside: ended.outside,
     };
     printed(alloc, named, opening, &renumbered, actors)
 }
 
 /// What is told of an outcome, where so many actors are there: the replies of the actors that are named alone, or where none
-/// is all replies, how the entries of the tree differ from those of the opening one, and how many handles each actor has open.
-/// The same is made with the nodes of the run numbered anew, by which outcomes are told apart. NoMemory where room was
-/// refused.
+/// is all replies, how the entries of the tree differ from those of the opening one, and how many handles each actor has open;
+/// and then how many steps acted outside, where they were counted. The same is made with the nodes of the run numbered anew,
+/// by which outcomes are told apart. NoMemory where room was refused.
 pub fn told_of<T: Tree>(
     alloc: Global,
     named: &[u32],
@@ -73,7 +76,7 @@ pub fn told_of<T: Tree>(
     actors: u32,
     found: &Found<T>,
 ) -> Result<Told, NoMemory>
-    ensures { IfOk result (IsToldOf named.now opening.now actors found.now.lists found.now.cuts found.now.turns.now found.now.report.now.replies.items (T.state found.now.report.now.tree)) }
+    ensures { IfOk result (IsToldOf named.now opening.now actors found.now.lists found.now.cuts found.now.turns.now found.now.report.now.replies.items (T.state found.now.report.now.tree) found.now.outside.now) }
 {
     let report = found.report;
     let mut leads = Output::new(alloc);
@@ -83,11 +86,12 @@ pub fn told_of<T: Tree>(
         replies: &report.replies,
         nodes: &nodes,
         tree: &report.tree,
+        outside: found.outside,
     };
     let block = printed(alloc, named, opening, &ended, actors)?;
     let look = look(alloc, named, opening, &ended, actors)?;
     let mut lines = Output::new(alloc);
-    report_lines(alloc, &mut lines, &report.replies, &report.tree, actors)?;
+    report_lines(alloc, &mut lines, &ended, actors)?;
     Ok(Told {
         lists: found.lists,
         cuts: found.cuts,

@@ -75,6 +75,7 @@ fn text_of(alloc: Global, named: &[u32]) -> Result<Output, Fail> {
             cuts,
             turns,
             report,
+            outside: &[],
         };
         all.push(told_of(alloc, named, &opening, 2, &found)?)?;
     }
@@ -84,7 +85,7 @@ fn text_of(alloc: Global, named: &[u32]) -> Result<Output, Fail> {
         (Rule::Always, "held 1 1"),
         (Rule::Always, "row 1 l\\x20x 3 li"),
     ] {
-        if let Some(property) = read_property(alloc, rule, text)? {
+        if let Some(property) = read_property(alloc, false, rule, text)? {
             properties.push(property)?;
         }
     }
@@ -161,11 +162,12 @@ fn reads_properties(rt: HostRuntime) -> Result<(), Fail> {
         ("held", true),
         ("row 0 a 1 dir", true),
         ("rows", false),
+        ("outside 0 0", false),
         ("event 0", false),
         ("", false),
         ("held 0\n", false),
     ] {
-        let read = read_property(rt.alloc(), Rule::Never, text)?;
+        let read = read_property(rt.alloc(), false, Rule::Never, text)?;
         assert!(rt; read.is_some() == want, "{text:?}");
     }
     Ok(())

@@ -6,6 +6,7 @@ const NONE: Options<'static> = Options {
     actors: &[],
     cuts: None,
     states: None,
+    outside: false,
     never: &[],
     always: &[],
 };
@@ -16,12 +17,13 @@ fn reads_options(rt: HostRuntime) -> Result<(), Fail> {
         actors: &["1", "0"],
         cuts: Some("1000000"),
         states: Some("1"),
-        never: &["reply 0 0 fault"],
+        outside: true,
+        never: &["outside 0 1"],
         always: &["held 1 1", "row"],
     };
     let asked = read_asked(rt.alloc(), options)?;
     assert!(rt; asked.named.as_slice() == [1, 0].as_slice());
-    assert!(rt; asked.cuts == Some(1_000_000) && asked.most == 1);
+    assert!(rt; asked.cuts == Some(1_000_000) && asked.most == 1 && asked.outside);
     let mut rules = Vec::new(rt.alloc());
     for property in &asked.properties {
         rules.push(property.rule)?;
@@ -76,6 +78,13 @@ fn refuses_options(rt: HostRuntime) {
         (
             Options {
                 never: &["rows"],
+                ..NONE
+            },
+            OptionFault::Text,
+        ),
+        (
+            Options {
+                always: &["outside"],
                 ..NONE
             },
             OptionFault::Text,

@@ -8,6 +8,13 @@ const RACE: &str = r#"{"version":1,"tree":[["dir","/c"],["dir","/c/e"]],"actors"
 {"root":"/c","calls":[{"op":"resolve","path":"e/.."}]},
 {"root":"/c","calls":[{"op":"step","step":"remove_dir","on":"root","name":"e"}]}]}"#;
 
+/// An actor makes `a/n` below `/c`, and another moves `a` to `/s`.
+const MADE_THEN_MOVED: &str =
+    r#"{"version":1,"tree":[["dir","/c"],["dir","/c/a"],["dir","/s"]],"actors":[
+{"root":"/c","calls":[{"op":"mkdir_all","path":"a/n"}]},
+{"root":"/","calls":[{"op":"resolve","path":"c","as":"C"},{"op":"resolve","path":"s","as":"S"},
+{"op":"step","step":"rename","on":"C","name":"a","to":"S","new":"a"}]}]}"#;
+
 /// What is asked of it, with three properties.
 fn asked_of(alloc: Global, named: &[u32], cuts: Option<u64>, most: u64) -> Result<Asked, Fail> {
     let mut properties = Vec::new(alloc);
@@ -16,7 +23,7 @@ fn asked_of(alloc: Global, named: &[u32], cuts: Option<u64>, most: u64) -> Resul
         (Rule::Always, "held 1 1"),
         (Rule::Always, "row 0 c 1"),
     ] {
-        if let Some(property) = read_property(alloc, rule, text)? {
+        if let Some(property) = read_property(alloc, false, rule, text)? {
             properties.push(property)?;
         }
     }
@@ -25,14 +32,15 @@ fn asked_of(alloc: Global, named: &[u32], cuts: Option<u64>, most: u64) -> Resul
         named,
         cuts,
         most,
+        outside: false,
         properties,
     })
 }
 
-/// What is written of the race, or how its fault is told.
-fn written_of(alloc: Global, asked: &Asked) -> Result<Vec<u8>, Fail> {
+/// What is written of a script, or how its fault is told.
+fn written_of(alloc: Global, script: &str, asked: &Asked) -> Result<Vec<u8>, Fail> {
     let mut written = Vec::new(alloc);
-    match explore_script(alloc, &mut RACE.as_bytes(), &mut written, asked) {
+    match explore_script(alloc, &mut script.as_bytes(), &mut written, asked) {
         Ok(_) => Ok(written),
         Err(fault) => {
             let told = format!(in alloc; "{fault}")?;
@@ -102,7 +110,7 @@ fn tells_every_schedule(rt: HostRuntime) -> Result<(), Fail> {
         (&[0, 2], None, 15, "explore: actor 2"),
     ] {
         let asked = asked_of(rt.alloc(), named, cuts, most)?;
-        let told = written_of(rt.alloc(), &asked)?;
+        let told = written_of(rt.alloc(), RACE, &asked)?;
         assert!(rt; told.as_slice() == want.as_bytes(), "{want}");
     }
     Ok(())
@@ -113,11 +121,11 @@ fn told_of_property(alloc: Global, text: &str) -> Result<Vec<u8>, Fail> {
     let mut asked = asked_of(alloc, &[1], Some(0), 9)?;
     asked.properties = Vec::new(alloc);
     for text in ["row 0 c 1", text] {
-        if let Some(property) = read_property(alloc, Rule::Always, text)? {
+        if let Some(property) = read_property(alloc, false, Rule::Always, text)? {
             asked.properties.push(property)?;
         }
     }
-    written_of(alloc, &asked)
+    written_of(alloc, RACE, &asked)
 }
 
 #[test]
@@ -138,5 +146,49 @@ fn refuses_properties(rt: HostRuntime) -> Result<(), Fail> {
         let refused = told.as_slice() == "explore: property 1".as_bytes();
         assert!(rt; refused == is_refused, "{text}");
     }
+    Ok(())
+}
+
+/// What is asked of the other race: the replies of one actor, what each did outside, and two properties of that.
+fn asked_outside(alloc: Global) -> Result<Asked, Fail> {
+    let mut properties = Vec::new(alloc);
+    for (rule, text) in [(Rule::Never, "outside 1 1"), (Rule::Always, "outside 0 0")] {
+        if let Some(property) = read_property(alloc, true, rule, text)? {
+            properties.push(property)?;
+        }
+    }
+    Ok(Asked {
+        named: Vec::from_slice(alloc, [0].as_slice())?,
+        cuts: None,
+        most: 62,
+        outside: true,
+        properties,
+    })
+}
+
+const MADE_OUTSIDE: &str = "schedules 792
+states 62
+turns 15
+outcomes 3
+outcome 0 schedules 331 cuts 0 schedule -
+reply 0 0 opened dir 4 /a/n
+outside 0 0
+outcome 1 schedules 426 cuts 1 schedule 0*6,1*5
+reply 0 0 fault EAGAIN
+outside 0 0
+outcome 2 schedules 35 cuts 1 schedule 0*3,1*5
+reply 0 0 fault EAGAIN
+outside 0 1
+never outside 1 1 = holds
+always outside 0 0 = fails 35 cuts 1 schedule 0*3,1*5
+";
+
+#[test]
+fn tells_what_acts_outside(rt: HostRuntime) -> Result<(), Fail> {
+    let told = written_of(rt.alloc(), MADE_THEN_MOVED, &asked_outside(rt.alloc())?)?;
+    assert!(rt;
+        told.as_slice() == MADE_OUTSIDE.as_bytes(),
+        "{MADE_OUTSIDE}"
+    );
     Ok(())
 }

@@ -6,4 +6,4 @@ use Rattle.surveys.proofs.tellable.first_untold.Given as goal
 
 -- it is the first of what is left
 abbrev pub invariant-loop-place : goal.invariant-loop-place
-invariant-loop-place l = position_from (λ property. not (can_be_told l.plans property.text)) l.place (drop l.place l.properties) ≡ first_untold l.plans l.properties
+invariant-loop-place l = position_from (λ property. not (can_be_told l.fn.outside l.plans property.text)) l.place (drop l.place l.properties) ≡ first_untold l.fn.outside l.plans l.properties
