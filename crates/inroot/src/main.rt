@@ -9,6 +9,7 @@ mod command;
 mod ending;
 #[cfg(test)]
 mod tests;
+mod waiting;
 
 ghost use Rattle.inroot.specs.Ending.{IsOrder};
 
@@ -21,6 +22,7 @@ use std::sync::Wait;
 use std::thread::Threads;
 use std::{env, io};
 use surveys::{explore_script, read_asked};
+use waiting::Waiting;
 
 /// Tells help, the version or a usage fault, and how the program ends after it.
 fn told(rt: &HostRuntime, error: &clap::Error) -> Result<(), Fault> {
@@ -88,7 +90,10 @@ fn run<R: Threads + Wait + Sync>(rt: &HostRuntime, threads: &R) -> Result<(), Fa
         Request::Run(workers) => run_jobs(threads, alloc, &mut input, &mut output, workers)?,
         Request::Explore(options) => {
             let asked = read_asked(alloc, options)?;
-            if !explore_script(alloc, &mut input, &mut output, &asked)? {
+            let mut waiting = Waiting::new(rt);
+            let explored = explore_script(alloc, &mut input, &mut output, &asked, &mut waiting);
+            waiting.end();
+            if !explored? {
                 return Err(Fault::PropertyFails);
             }
         }

@@ -24,6 +24,7 @@ mod telling;
 mod tests;
 
 pub use counts::COUNT_MAX;
+pub use explore::{Progress, Silent};
 pub use options::{CUTS_MAX, OptionFault, Options, STATES, STATES_MAX, read_asked};
 pub use property::{Property, Rule, read_property};
 pub use script::{ExploreFault, explore_script};

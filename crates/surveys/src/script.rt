@@ -7,7 +7,7 @@ ghost use Rattle.surveys.specs.declared.script.ExploreFault.TheVariants as explo
 ghost use Rattle.surveys.specs.Explore.{told_by, IsExplore, IsNoSurvey, IsSurveyOf};
 
 use crate::search::{Asked, Survey, SurveyFault, survey_scene};
-use explore::Scene;
+use explore::{Progress, Scene};
 use scripts::{
     Purpose, RunFault, Scenario, TurnOrder, plain_tree_of, read_script, scenario_of, value_of,
 };
@@ -72,11 +72,12 @@ fn read_scene<R: Read>(alloc: Global, reader: &mut R) -> Result<(Scenario, ListT
 }
 
 // All schedules of what a script says gone through. Errors as of `explore_script`, but for those of reading and writing.
-fn surveyed(
+fn surveyed<P: Progress>(
     alloc: Global,
     scenario: Scenario,
     tree: ListTree,
     asked: &Asked,
+    progress: &mut P,
 ) -> Result<Survey, ExploreFault>
     requires same { tree ≡ scenario.tree }
     requires none { scenario.tree.handles ≡ [] }
@@ -89,30 +90,32 @@ fn surveyed(
         return Err(ExploreFault::Run(RunFault::BookFull));
     }
     let scene = Scene { tree, plans, lines };
-    match survey_scene(alloc, &scene, asked) {
+    match survey_scene(alloc, &scene, asked, progress) {
         Ok(survey) => Ok(survey),
         Err(fault) => Err(told_by(fault)),
     }
 }
 
 /// Reads a script, goes through all schedules of its world, those with at most so many cuts, and writes what they come to.
-/// The script's own schedule is checked and not used. Whether no property fails.
+/// The script's own schedule is checked and not used. Whether no property fails. On the way `progress` is told how many worlds
+/// there were.
 ///
 /// Errors, in this order: those of `read_scenario`; `BookFull` where the script gives its book fewer lines than it has
 /// actors; `NoSuchActor` of the first that is named and isn't there; `NoSuchLine` of the first property that names an actor
 /// who isn't there, or a call that its actor doesn't have; `TooManyStates` where there are more worlds than are gone
 /// through, and `TooManyTurns` where one has more than 100,000, whichever is met first; `NoMemory`; `WriteFailed`. Nothing
 /// is written before the text is whole.
-pub fn explore_script<R: Read, W: Write>(
+pub fn explore_script<R: Read, W: Write, P: Progress>(
     alloc: Global,
     reader: &mut R,
     writer: &mut W,
     asked: &Asked,
+    progress: &mut P,
 ) -> Result<bool, ExploreFault>
     ensures run { IsExplore asked.now (R.remaining reader.old) (W.contents writer.old) (W.contents writer.new) result }
 {
     let (scenario, tree) = read_scene(alloc, reader)?;
-    let survey = surveyed(alloc, scenario, tree, asked)?;
+    let survey = surveyed(alloc, scenario, tree, asked, progress)?;
     match writer.write_all(survey.text.as_slice()) {
         Ok(()) => Ok(survey.holds),
         Err(_) => Err(ExploreFault::Run(RunFault::WriteFailed)),

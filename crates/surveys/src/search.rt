@@ -9,7 +9,7 @@ use crate::order::in_order;
 use crate::property::Property;
 use crate::survey::{all_hold, survey_text};
 use crate::tellable::first_untold;
-use explore::{Findings, Limits, Scene, SearchFault, explore};
+use explore::{Findings, Limits, Progress, Scene, SearchFault, explore};
 use path_text::NoMemory;
 use std::alloc::Global;
 use thiserror::Error;
@@ -115,12 +115,17 @@ fn survey_of(
 /// they come to: how many there are, by how many worlds, how many turns the longest has, each outcome once with how many
 /// lead to it and a schedule for the least of them, and whether each property holds of every one. Which numbers the nodes
 /// got that were made doesn't tell outcomes apart: they are compared with these nodes numbered anew. How many steps
-/// of each actor acted outside of its root does, where it is told.
+/// of each actor acted outside of its root does, where it is told. On the way `progress` is told how many worlds there were.
 ///
 /// Errors, in this order: `NoSuchActor` of the first that is named and isn't there; `NoSuchLine` of the first property that
 /// names an actor who isn't there, or a call that its actor doesn't have; `TooManyStates` and `TooManyTurns` beyond the
 /// limits, whichever is met first; `NoMemory` where room was refused, and where the world can't be made.
-pub fn survey_scene(alloc: Global, scene: &Scene, asked: &Asked) -> Result<Survey, SurveyFault>
+pub fn survey_scene<P: Progress>(
+    alloc: Global,
+    scene: &Scene,
+    asked: &Asked,
+    progress: &mut P,
+) -> Result<Survey, SurveyFault>
     requires { length scene.now.plans.items ≤ MOST_ACTORS }
     ensures { MatchResult result (λ survey. IsSurvey asked.now scene.now.tree scene.now.plans.items scene.now.lines survey.holds survey.text) (WhyNoSurvey asked.now scene.now.tree scene.now.plans.items scene.now.lines) }
 {
@@ -135,7 +140,7 @@ pub fn survey_scene(alloc: Global, scene: &Scene, asked: &Asked) -> Result<Surve
         turns: TURNS_MAX,
         cuts: asked.cuts,
     };
-    match explore(alloc, scene, limits) {
+    match explore(alloc, scene, limits, progress) {
         Ok(found) => Ok(survey_of(alloc, scene, asked, found)?),
         Err(SearchFault::TooManyTurns) => Err(SurveyFault::TooManyTurns),
         Err(SearchFault::TooManyStates) => Err(SurveyFault::TooManyStates),

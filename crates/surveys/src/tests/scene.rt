@@ -40,7 +40,13 @@ fn asked_of(alloc: Global, named: &[u32], cuts: Option<u64>, most: u64) -> Resul
 /// What is written of a script, or how its fault is told.
 fn written_of(alloc: Global, script: &str, asked: &Asked) -> Result<Vec<u8>, Fail> {
     let mut written = Vec::new(alloc);
-    match explore_script(alloc, &mut script.as_bytes(), &mut written, asked) {
+    match explore_script(
+        alloc,
+        &mut script.as_bytes(),
+        &mut written,
+        asked,
+        &mut Silent,
+    ) {
         Ok(_) => Ok(written),
         Err(fault) => {
             let told = format!(in alloc; "{fault}")?;
