@@ -5,15 +5,13 @@ ghost use Rattle.race_core.specs.Opening.{granted};
 ghost use Rattle.scripts.specs.declared.drawing.DrawFault.TheVariants as draw_fault;
 ghost use Rattle.scripts.specs.declared.fault.RunFault.TheVariants.{NoMemory as OutOfMemory};
 ghost use Rattle.scripts.specs.Drawing.{form_text, opened_by, told_of, IsDraw, IsDrawingOf, IsNoDrawing};
-ghost use Rattle.scripts.specs.Scenario.{said_by, said_for, IsPlayable, IsReadingFaultOf};
+ghost use Rattle.scripts.specs.Scenario.{said_by, IsPlayable};
 ghost use Rattle.transcript.specs.Output.{Gains};
 
 use crate::actors::ACTORS_MAX;
-use crate::calls::Purpose;
 use crate::fault::RunFault;
-use crate::input::{read_script, value_of};
 use crate::play::report_of;
-use crate::scenario::{Scenario, plain_tree_of, scenario_of};
+use crate::scenario::{Scenario, read_scene};
 use crate::turns::TurnOrder;
 use drawings::{Picture, PictureFault, calls_of};
 use path_text::NoMemory;
@@ -87,25 +85,6 @@ fn add_picture(
         Form::Text => picture.text(alloc, out),
         Form::Svg => picture.svg(alloc, out),
     }
-}
-
-/// What a script says with this order of turns, and its tree a second time, as a list. Errors as of `read_scenario`.
-fn read_scene<R: Read>(
-    alloc: Global,
-    reader: &mut R,
-    order: &TurnOrder,
-) -> Result<(Scenario, ListTree), RunFault>
-    ensures said { IfOk result (λ read. IfSome (R.remaining reader.old) (λ input. said_for order.now input ≡ Ok (said_by read.0))) }
-    ensures playable { IfOk result (λ read. IsPlayable (said_by read.0)) }
-    ensures none { IfOk result (λ read. read.0.tree.handles ≡ []) }
-    ensures same { IfOk result (λ read. read.1 ≡ read.0.tree) }
-    ensures err { IfErr result (λ fault. IfSome (R.remaining reader.old) (λ input. IsReadingFaultOf (said_for order.now input) fault)) }
-{
-    let bytes = read_script(alloc, reader)?;
-    let script = value_of(alloc, &bytes)?;
-    let scenario = scenario_of(alloc, Purpose::Turns, &script, order)?;
-    let tree = plain_tree_of(alloc, &script)?;
-    Ok((scenario, tree))
 }
 
 /// Grants each actor its root, in the order of their numbers. `NoMemory` where room was refused; where a script's checks

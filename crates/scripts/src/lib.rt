@@ -5,8 +5,7 @@
 //! `read_scenario` reads is what the script says, or the first check that fails. What a run writes is a stated
 //! function of what the reader has left and of the call (`walk`), or the text of the report on a run of the script's world
 //! (`replay`), or a picture of such a run (`draw`), or how each job ended that workers served (`run_jobs`), whatever reader
-//! and writer it is given. Whoever wants the script's tree as a list beside its scenario reads it by the steps of
-//! `read_scenario`: `read_script`, `value_of`, `scenario_of` and `plain_tree_of`.
+//! and writer it is given. Whoever wants the script's tree as a list beside its scenario reads both by `read_scene`.
 #![tactic(auto)]
 
 mod actors;
@@ -32,16 +31,16 @@ mod turns;
 mod words;
 
 pub use actors::ACTORS_MAX;
-pub use calls::{CALLS_MAX, Purpose};
+pub use calls::CALLS_MAX;
 pub use detail::Detail;
 pub use drawing::{DrawFault, Form, draw};
 pub use fault::{Cause, JsonFault, RunFault, ScriptFault};
-pub use input::{SCRIPT_MAX, read_script, value_of};
+pub use input::SCRIPT_MAX;
 pub use jobs::{JobsFault, ServiceFault, run_jobs};
 pub use laws::first_refused_entry_is_told;
 pub use play::replay;
 pub use run::walk;
-pub use scenario::{LINES_MAX, Scenario, plain_tree_of, read_scenario, scenario_of};
+pub use scenario::{LINES_MAX, Scenario, read_scenario, read_scene};
 pub use schedule::TURNS_MAX;
 pub use tree::ENTRIES_MAX;
 pub use turns::{TurnOrder, Turns, number_of, read_turns};

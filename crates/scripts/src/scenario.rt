@@ -151,3 +151,22 @@ pub fn read_scenario<R: Read>(
 {
     read_as(alloc, Purpose::Turns, reader, order)
 }
+
+/// Reads a script as `read_scenario` does, and its tree a second time, as a list. Errors as of `read_scenario`.
+pub fn read_scene<R: Read>(
+    alloc: Global,
+    reader: &mut R,
+    order: &TurnOrder,
+) -> Result<(Scenario, ListTree), RunFault>
+    ensures said { IfOk result (λ read. IfSome (R.remaining reader.old) (λ input. said_for order.now input ≡ Ok (said_by read.0))) }
+    ensures playable { IfOk result (λ read. IsPlayable (said_by read.0)) }
+    ensures none { IfOk result (λ read. read.0.tree.handles ≡ []) }
+    ensures same { IfOk result (λ read. read.1 ≡ read.0.tree) }
+    ensures err { IfErr result (λ fault. IfSome (R.remaining reader.old) (λ input. IsReadingFaultOf (said_for order.now input) fault)) }
+{
+    let bytes = read_script(alloc, reader)?;
+    let script = value_of(alloc, &bytes)?;
+    let scenario = scenario_of(alloc, Purpose::Turns, &script, order)?;
+    let tree = plain_tree_of(alloc, &script)?;
+    Ok((scenario, tree))
+}

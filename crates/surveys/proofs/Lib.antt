@@ -3,5 +3,4 @@ mod NewOnes
 mod Pieces
 mod Ordered
 mod Numbers
-mod Scripts
 mod ToldOnes

@@ -1,16 +1,13 @@
 //! A script explored: all schedules of its world are gone through, and what they come to is written.
-ghost use Rattle.std.specs.Prelude.{◌≡◌, ◌≢◌, [], Ok, IfOk, IfErr, IfSome, MatchResult};
+ghost use Rattle.std.specs.Prelude.{◌≡◌, ◌≢◌, [], IfOk, MatchResult};
 ghost use Rattle.scripts.specs.declared.fault.RunFault.TheVariants.{NoMemory as OutOfMemory};
-ghost use Rattle.scripts.specs.declared.turns.TurnOrder.TheVariants.{OfScript};
-ghost use Rattle.scripts.specs.Scenario.{said_by, said_for, IsPlayable, IsReadingFaultOf};
+ghost use Rattle.scripts.specs.Scenario.{said_by, IsPlayable};
 ghost use Rattle.surveys.specs.declared.script.ExploreFault.TheVariants as explore_fault;
 ghost use Rattle.surveys.specs.Explore.{told_by, IsExplore, IsNoSurvey, IsSurveyOf};
 
 use crate::search::{Asked, Survey, SurveyFault, survey_scene};
 use explore::{Progress, Scene};
-use scripts::{
-    Purpose, RunFault, Scenario, TurnOrder, plain_tree_of, read_script, scenario_of, value_of,
-};
+use scripts::{RunFault, Scenario, TurnOrder, read_scene};
 use std::alloc::Global;
 use std::io::{Read, Write};
 use thiserror::Error;
@@ -56,21 +53,6 @@ fn told_by(fault: SurveyFault) -> ExploreFault
     }
 }
 
-// What a script says, and its tree as a list. Errors as of `read_scenario`.
-fn read_scene<R: Read>(alloc: Global, reader: &mut R) -> Result<(Scenario, ListTree), RunFault>
-    ensures said { IfOk result (λ read. IfSome (R.remaining reader.old) (λ input. said_for OfScript input ≡ Ok (said_by read.0))) }
-    ensures playable { IfOk result (λ read. IsPlayable (said_by read.0)) }
-    ensures none { IfOk result (λ read. read.0.tree.handles ≡ []) }
-    ensures same { IfOk result (λ read. read.1 ≡ read.0.tree) }
-    ensures err { IfErr result (λ fault. IfSome (R.remaining reader.old) (λ input. IsReadingFaultOf (said_for OfScript input) fault)) }
-{
-    let bytes = read_script(alloc, reader)?;
-    let script = value_of(alloc, &bytes)?;
-    let scenario = scenario_of(alloc, Purpose::Turns, &script, &TurnOrder::OfScript)?;
-    let tree = plain_tree_of(alloc, &script)?;
-    Ok((scenario, tree))
-}
-
 // All schedules of what a script says gone through. Errors as of `explore_script`, but for those of reading and writing.
 fn surveyed<P: Progress>(
     alloc: Global,
@@ -114,7 +96,7 @@ pub fn explore_script<R: Read, W: Write, P: Progress>(
 ) -> Result<bool, ExploreFault>
     ensures run { IsExplore asked.now (R.remaining reader.old) (W.contents writer.old) (W.contents writer.new) result }
 {
-    let (scenario, tree) = read_scene(alloc, reader)?;
+    let (scenario, tree) = read_scene(alloc, reader, &TurnOrder::OfScript)?;
     let survey = surveyed(alloc, scenario, tree, asked, progress)?;
     match writer.write_all(survey.text.as_slice()) {
         Ok(()) => Ok(survey.holds),
