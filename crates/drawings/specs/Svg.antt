@@ -102,7 +102,7 @@ svg_lines actors heads lines = numbered (λ at line. svg_line actors (heads + at
 -- the opening tag; blanks at the beginning of a text count
 unfoldable pub svg_head : ℕ → ℕ → List ℕ
 svg_head width height =
-    tag (codes "<svg xmlns='http://www.w3.org/2000/svg' xml:space='preserve' font-family='monospace' font-size='13' width='") width (codes "' height='") height
+    tag (codes "<svg xmlns='http://www.w3.org/2000/svg' xml:space='preserve' style='background:white' font-family='monospace' font-size='13' width='") width (codes "' height='") height
     (codes "'>\n")
 
 abbrev pub svg_of : Drawn → List ℕ

@@ -254,7 +254,7 @@ fn head(out: &mut Output, width: u64, height: u64) -> Result<(), NoMemory>
 {
     tag(
         out,
-        "<svg xmlns='http://www.w3.org/2000/svg' xml:space='preserve' font-family='monospace' font-size='13' width='",
+        "<svg xmlns='http://www.w3.org/2000/svg' xml:space='preserve' style='background:white' font-family='monospace' font-size='13' width='",
         width,
         "' height='",
         height,

@@ -49,7 +49,7 @@ actor 1 below /
 ";
 
 const SVG: &str =
-    "<svg xmlns='http://www.w3.org/2000/svg' xml:space='preserve' font-family='monospace' font-size='13' width='1036' height='440'>
+    "<svg xmlns='http://www.w3.org/2000/svg' xml:space='preserve' style='background:white' font-family='monospace' font-size='13' width='1036' height='440'>
 <text x='8' y='22'>actor 0 below /c</text>
 <text x='8' y='44' fill='#1a7f37'>  resolve a beneath = opened dir 2 /a</text>
 <text x='8' y='66'>actor 1 below /</text>

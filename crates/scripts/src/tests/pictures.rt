@@ -47,7 +47,7 @@ actor 1 below /
         (
             ALONE,
             Form::Svg,
-            "<svg xmlns='http://www.w3.org/2000/svg' xml:space='preserve' font-family='monospace' font-size='13' width='542' height='88'>
+            "<svg xmlns='http://www.w3.org/2000/svg' xml:space='preserve' style='background:white' font-family='monospace' font-size='13' width='542' height='88'>
 <text x='8' y='22'>actor 0 below /</text>
 <text x='56' y='55'>actor 0</text>
 <path stroke='#8a93a5' d='M64 66V88'/>
