@@ -1,5 +1,5 @@
 -- The worlds of a layer are ended: the classes of what they come to, and the spots of the stands.
-use Rattle.std.specs.Prelude.{◌≡◌, ◌<◌, ◌≤◌, ◌+◌, ℕ, zero, suc, List, [], ◌∷◌, ◌++◌, Bool, true, false, length, Option, Some, None, is_some, IfSome, slice_get, refl}
+use Rattle.std.specs.Prelude.{◌≡◌, ◌<◌, ◌≤◌, ℕ, zero, suc, List, [], ◌∷◌, ◌++◌, Bool, true, false, length, Option, Some, None, is_some, IfSome, slice_get, refl}
 use Rattle.std.specs.Global.{Vec}
 use Rattle.std.proofs.Common.{◌⊎◌, ◌∙◌, inl, inr, sym, ap, subst, ⊎_elim, arith, length-append, get_or, drop}
 use Rattle.std.proofs.lemmas.Bool.{true≢false}

@@ -1,9 +1,8 @@
 -- What a layer that was gone through comes to, and the classes that are told in the end.
-use Rattle.std.specs.Prelude.{◌≡◌, ◌<◌, ◌≤◌, ◌+◌, ◌^◌, ◌++◌, ℕ, suc, List, [], ◌∷◌, Option, Some, None, length, slice_get, refl}
+use Rattle.std.specs.Prelude.{◌≡◌, ◌<◌, ◌+◌, ◌^◌, ◌++◌, ℕ, suc, List, [], ◌∷◌, Option, Some, None, length, slice_get, refl}
 use Rattle.std.specs.Global.{Vec}
 use Rattle.std.proofs.Common.{sym, ap, ◌∙◌, subst, ⊎_elim, arith}
 use Rattle.std.proofs.lemmas.Option.{same_Some, none-some, slice_get_within}
-use Rattle.race_core.specs.declared.opening.TheConstants.{ACTORS_MAX}
 use Rattle.race_core.specs.Worlds.{WorldView, Reports, ledgers_in, turn}
 use Rattle.turn_graph.specs.declared.graph.Way.{Way}
 use Rattle.turn_graph.specs.declared.graph.Spot.{Spot}
@@ -15,12 +14,12 @@ use Rattle.turn_graph.specs.Words as words
 use Rattle.turn_graph.specs.Counted.{IsLeast, AreCounts}
 use Rattle.explore.specs.declared.layer.Stand.{Stand}
 use Rattle.explore.specs.Alike.{full, after_turns}
-use Rattle.explore.specs.Concluded.{IsToldBy, AreToldBy, HasLeast, HasShort, AreShort, AsksIn, AskIn, AreToldIn}
+use Rattle.explore.specs.Concluded.{IsToldBy, AreToldBy, HasLeast, AreShort, AsksIn, AskIn, AreToldIn}
 use Rattle.explore.specs.Explored.{IsAsked, EndingView, ClassView, IsEnding}
-use Rattle.explore.specs.Layers.{LiveView, LayerView, IsLed, IsSure, AreLed, AreOn, IsFirst, IsOn, IsTop, AreTops, AreWaysBy, AreAllWays, IsReportOf, IsSpot, AreSpots, AreJoined, point_of, spot_by}
-use Rattle.explore.specs.Lists.{cuts, changes, rank}
+use Rattle.explore.specs.Layers.{LiveView, LayerView, IsLed, IsSure, AreLed, AreOn, IsTop, AreTops, AreWaysBy, AreAllWays, IsReportOf, IsSpot, AreSpots, AreJoined, point_of, spot_by}
+use Rattle.explore.specs.Lists.{cuts, changes}
 use Rattle.explore.specs.Outside.{outside_of}
-use Rattle.explore.specs.Points.{Point, start, along, no_marks, Goes}
+use Rattle.explore.specs.Points.{Point, start, no_marks, Goes}
 use Rattle.explore.specs.Search.{IsOver, IsFull}
 use Rattle.explore.proofs.Concluded.{found_have_leasts}
 use Rattle.explore.proofs.Indices.{within_some}

@@ -1,5 +1,5 @@
 -- Alike worlds act outside of their actors' roots alike.
-use Rattle.std.specs.Prelude.{◌≡◌, ⊤, ◌⊎◌, ℕ, zero, suc, List, [], ◌∷◌, ◌++◌, ◌==◌, ◌&&◌, ◌||◌, Bool, true, false, Option, Some, None, length, slice_get, slice_set, if◌then◌else◌, refl}
+use Rattle.std.specs.Prelude.{◌≡◌, ◌⊎◌, ℕ, zero, suc, List, [], ◌∷◌, ◌++◌, ◌==◌, ◌&&◌, ◌||◌, Bool, true, false, Option, Some, None, slice_get, slice_set, if◌then◌else◌, refl}
 use Rattle.std.proofs.Common.{sym, ap, ◌∙◌, subst, inl, inr}
 use Rattle.std.proofs.lemmas.Bool.{false≢true, true≢false}
 use Rattle.std.proofs.lemmas.Option.{none-some, same_Some}
@@ -20,12 +20,12 @@ use Rattle.race_core.specs.declared.plan.Planned.{Planned}
 use Rattle.race_core.specs.declared.seat.Seat.{Seat}
 use Rattle.race_core.specs.Book.{BookedHistory, tree_now, is_close, is_done, refusal, answer_now, booked}
 use Rattle.race_core.specs.Ledgers.{LedgerView}
-use Rattle.race_core.specs.Turns.{Luck, Stepped, unless_refused, stepped_by, comes, begins, begins_next, begun, goes_on, turned}
+use Rattle.race_core.specs.Turns.{Luck, unless_refused, stepped_by, comes, begins, begins_next, begun, goes_on, turned}
 use Rattle.race_core.specs.Worlds.{WorldView, turn_of, turn}
 use Rattle.explore.specs.Renamed.{answer_by}
 use Rattle.explore.specs.Alike.{Pairs, SameSteps, SameSeats, AlikeTrees, AlikeBooks, AlikeBy}
 use Rattle.explore.specs.Lists.{plus}
-use Rattle.explore.specs.Outside.{changed_by, is_outside, any_outside, acts_outside, outside_after, outside_from, roots_from, roots_of, outside_of, AlikeWorldsActOutsideAlike}
+use Rattle.explore.specs.Outside.{changed_by, is_outside, any_outside, acts_outside, outside_after, outside_from, roots_from, roots_of, AlikeWorldsActOutsideAlike}
 use Rattle.explore.proofs.Books.{refused_alike}
 use Rattle.explore.proofs.Steps.{SameNumbers, same_held, zero_agrees, Paired, open', dup', parent', read', below', list', close', make_dir', make_file', make_link', remove_file', remove_dir', rename', paired_of, same_close, steps_alike}
 use Rattle.explore.proofs.Turns.{same_begun, same_actor, due_alike}

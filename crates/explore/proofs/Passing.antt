@@ -10,7 +10,7 @@ use Rattle.turn_graph.specs.declared.graph.Spot.TheVariants.{Ends, Goes}
 use Rattle.explore.specs.declared.layer.Stand.{Stand}
 use Rattle.explore.specs.declared.marks.Marks.{Marks}
 use Rattle.explore.specs.Explored.{ClassView, IsTooLong}
-use Rattle.explore.specs.Layers.{Keeps, LiveView, LayerView, IsPlaced, IsSpot, AreSpots, AreJoined, AreSure, IsOn, AreOn, IsFirst, IsFoundIn, IsPassed, IsSearched, HasSearched, IsLed, AreLed}
+use Rattle.explore.specs.Layers.{Keeps, LiveView, LayerView, IsSpot, AreSpots, AreJoined, AreSure, IsOn, AreOn, IsFirst, IsFoundIn, IsPassed, HasSearched, IsLed, AreLed}
 use Rattle.explore.specs.Points.{no_marks, AreWithin}
 use Rattle.explore.proofs.Indices.{within_some}
 use Rattle.explore.proofs.SoFar.{too_long}

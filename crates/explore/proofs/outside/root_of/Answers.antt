@@ -1,4 +1,4 @@
-use Rattle.std.proofs.Common.{◌≡◌, ◌∙◌, ◌++◌, List, ap}
+use Rattle.std.proofs.Common.{◌≡◌, ◌∙◌, ◌++◌, ap}
 use Rattle.std.specs.Prelude.{slice_get}
 use Rattle.tree_model.specs.Steps.{node_held}
 use Rattle.race_core.specs.Renamed.{seat_handles}

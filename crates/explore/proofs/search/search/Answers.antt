@@ -1,4 +1,4 @@
-use Rattle.std.proofs.Common.{◌≡◌, ◌<◌, ◌++◌, ◌∷◌, [], ℕ, suc, List, ◌∙◌, sym, ap, subst, length, vec_len, ◌==◌, true, false, arith}
+use Rattle.std.proofs.Common.{◌≡◌, [], suc, List, ◌∙◌, sym, ap, subst, length, vec_len, ◌==◌, false, arith}
 use Rattle.std.proofs.lemmas.Bool.{true≢false, eqb-true, eqb-false}
 use Rattle.std.specs.Global.{Vec}
 use Rattle.race_core.specs.Worlds.{WorldView}

@@ -1,4 +1,4 @@
-use Rattle.std.proofs.Common.{◌≡◌, ◌≤◌, ◌+◌, ◌-◌, length}
+use Rattle.std.proofs.Common.{◌≤◌, ◌+◌, ◌-◌, length}
 use Rattle.race_core.specs.declared.opening.TheConstants.{ACTORS_MAX}
 use Rattle.explore.specs.Layers.{AreLed, HasSearched}
 use Rattle.explore.proofs.search.search.Given as goal

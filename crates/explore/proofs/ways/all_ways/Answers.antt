@@ -1,4 +1,4 @@
-use Rattle.std.proofs.Common.{◌≡◌, ◌≤◌, ◌+◌, ◌++◌, ◌∷◌, [], ℕ, List, length, ap, sym, subst, ◌∙◌, length-append, arith}
+use Rattle.std.proofs.Common.{◌≡◌, ◌+◌, ◌++◌, ◌∷◌, [], ℕ, List, length, ap, sym, subst, ◌∙◌, length-append, arith}
 use Rattle.std.specs.Global.{Vec}
 use Rattle.race_core.specs.Worlds.{WorldView}
 use Rattle.turn_graph.specs.declared.graph.Way.{Way}

@@ -1,7 +1,6 @@
-use Rattle.std.proofs.Common.{◌≡◌, ◌≤◌, ◌∙◌, ℕ, List, ap, sym, subst, refl, arith}
-use Rattle.std.specs.Prelude.{slice_get, slice_index_or, Some, None, Option}
+use Rattle.std.proofs.Common.{◌≡◌, ◌≤◌, ◌∙◌, List, ap, sym, subst, refl, arith}
+use Rattle.std.specs.Prelude.{slice_get, slice_index_or, Some, None}
 use Rattle.tree_model.specs.declared.answer.Event.{Event}
-use Rattle.tree_model.specs.declared.inode.Inode.{Inode}
 use Rattle.race_core.specs.Book.{BookedHistory, tree_now}
 use Rattle.explore.specs.Counting.{TallyView, bumped}
 use Rattle.explore.specs.Outside.{changed_by, any_outside}
