@@ -1,3 +1,4 @@
 pub mod XmlTexts
 pub mod Widths
 pub mod Lists
+pub mod SvgForms

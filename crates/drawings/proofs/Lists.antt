@@ -1,16 +1,22 @@
 -- Lists that are gone through from the front, with what is left of them.
-use Rattle.std.proofs.Common.{◌≡◌, ℕ, suc, ◌+◌, ◌≤◌, List, [], ◌∷◌, ◌++◌, length, drop, sym, ap, ◌∙◌, add-one, arith}
-use Rattle.std.specs.Prelude.{Some, Result, Ok, Err, slice_get, codes}
+use Rattle.std.proofs.Common.{◌≡◌, ℕ, suc, ◌+◌, List, ◌++◌, drop, sym, ap, ◌∙◌, add-one}
+use Rattle.std.specs.Prelude.{Some, Result, Ok, Err, OnOk, slice_get, codes}
 use Rattle.std.specs.List.{flat_map}
-use Rattle.std.proofs.lemmas.List.{append_assoc, length-append}
+use Rattle.std.proofs.lemmas.List.{append_assoc}
 use Rattle.report_text.proofs.Numbered.{next_left}
 use Rattle.tree_model.specs.declared.answer.Event.{Event}
 use Rattle.tree_model.specs.History.{after_event}
 use Rattle.tree_model.specs.State.{State}
 use Rattle.transcript.specs.Output.{escaped, Gains}
+use Rattle.drawings.specs.declared.picture.Closes.{Closes}
 use Rattle.drawings.specs.declared.picture.Line.{Line}
 use Rattle.drawings.specs.Events.{spaced}
 use Rattle.drawings.specs.Picture.{moment_lines, lines_from}
+
+-- what holds anyway holds where there is a value
+pub on_ok : {T E P : Type 0} (r : Result T E) → P → OnOk r P
+on_ok (Ok x) h = h
+on_ok (Err e) h = tt
 
 -- a text grew twice
 pub two_more : {T E : Type 0} (old one new a b : List ℕ) (result : Result T E) → one ≡ old ++ a → Gains one new b result → Gains old new (a ++ b) result
@@ -35,23 +41,12 @@ name_more names at name before blank after whole found is_blank is_after h =
     ∙ ap (λ left. before ++ flat_map spaced left) (sym (next_left names at name found)) ∙ h
 
 -- the lines of one more event are added
-pub moment_more : (actors : ℕ) (opening s t : State) (events : List Event) (at : ℕ) (event : Event) (before after whole : List Line)
-    → slice_get events at ≡ Some event → t ≡ after_event s event → after ≡ before ++ moment_lines actors opening s at event
-    → before ++ lines_from actors opening s at (drop at events) ≡ whole → after ++ lines_from actors opening t (at + 1) (drop (at + 1) events) ≡ whole
-moment_more actors opening s t events at event before after whole found led is_after h =
-    let rest = lines_from actors opening (after_event s event) (suc at) (drop (suc at) events) in
-    ap (λ n. after ++ lines_from actors opening t n (drop n events)) (add-one at)
-    ∙ ap (λ u. after ++ lines_from actors opening u (suc at) (drop (suc at) events)) led
-    ∙ ap (λ lines. lines ++ rest) is_after ∙ append_assoc before (moment_lines actors opening s at event) rest
-    ∙ ap (λ left. before ++ lines_from actors opening s at left) (sym (next_left events at event found)) ∙ h
-
--- each event has a line
-pub a_line_each : (actors : ℕ) (opening s : State) (k : ℕ) (events : List Event) → length events ≤ length (lines_from actors opening s k events)
-a_line_each actors opening s k [] = omega arith
-a_line_each actors opening s k (event ∷ events) =
-    let t = after_event s event in
-    omega (
-      arith,
-      a_line_each actors opening t (suc k) events,
-      length-append (moment_lines actors opening s k event) (lines_from actors opening t (suc k) events),
-    )
+pub moment_more : (closes : Closes) (actors : ℕ) (opening s t : State) (events : List Event) (at : ℕ) (event : Event) (before after whole : List Line)
+    → slice_get events at ≡ Some event → t ≡ after_event s event → after ≡ before ++ moment_lines closes actors opening s at event
+    → before ++ lines_from closes actors opening s at (drop at events) ≡ whole → after ++ lines_from closes actors opening t (at + 1) (drop (at + 1) events) ≡ whole
+moment_more closes actors opening s t events at event before after whole found led is_after h =
+    let rest = lines_from closes actors opening (after_event s event) (suc at) (drop (suc at) events) in
+    ap (λ n. after ++ lines_from closes actors opening t n (drop n events)) (add-one at)
+    ∙ ap (λ u. after ++ lines_from closes actors opening u (suc at) (drop (suc at) events)) led
+    ∙ ap (λ lines. lines ++ rest) is_after ∙ append_assoc before (moment_lines closes actors opening s at event) rest
+    ∙ ap (λ left. before ++ lines_from closes actors opening s at left) (sym (next_left events at event found)) ∙ h

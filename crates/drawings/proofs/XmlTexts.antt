@@ -5,15 +5,16 @@ use Rattle.std.proofs.lemmas.Bool.{eq-eqb}
 use Rattle.std.proofs.lemmas.Bool.Decides.{nat_tests}
 use Rattle.std.proofs.lemmas.List.Elements.{All-head, All-tail}
 use Rattle.transcript.specs.Output.{hex_digit, escaped_byte}
-use Rattle.drawings.specs.DrawingLaws.{IsPlain, IsXmlText, XmlTextIsPlain}
-use Rattle.drawings.specs.DrawingLaws.IsXmlText.{done, plain, amp, lt, gt, quot, apos}
+use Rattle.drawings.specs.DrawingLaws.{XmlTextIsPlain}
 use Rattle.drawings.specs.Svg.{xml_byte, xml_text}
+use Rattle.drawings.specs.Xml.{IsPlain, IsXmlText}
+use Rattle.drawings.specs.Xml.IsXmlText.{done, plain, amp, lt, gt, quot, apos}
 
 apart : (b c : ℕ) → (b == c) ≡ false → b ≢ c
 apart b c f e = let t : (b == c) ≡ true = eq-eqb b c e in absurd (cc)
 
 -- a byte from 0x21 to 0x7e, which is none of the five
-plain_byte : (b : ℕ) → 0x20 ≤ b → b ≤ 0x7e → b ≢ 0x26 → b ≢ 0x3c → b ≢ 0x3e → b ≢ 0x22 → b ≢ 0x27 → IsPlain b
+pub plain_byte : (b : ℕ) → 0x20 ≤ b → b ≤ 0x7e → b ≢ 0x26 → b ≢ 0x3c → b ≢ 0x3e → b ≢ 0x22 → b ≢ 0x27 → IsPlain b
 plain_byte b from to no_ampersand no_less no_greater no_quotation no_apostrophe =
     record { from = from; to = to; no_ampersand = no_ampersand; no_less = no_less; no_greater = no_greater; no_quotation = no_quotation; no_apostrophe = no_apostrophe }
 
@@ -21,7 +22,7 @@ plain_byte b from to no_ampersand no_less no_greater no_quotation no_apostrophe 
 word_byte : (b : ℕ) → 0x3e < b → b ≤ 0x7e → IsPlain b
 word_byte b from to = plain_byte b (omega arith) to (omega arith) (omega arith) (omega arith) (omega arith) (omega arith)
 
-digit_byte : (b : ℕ) → 0x30 ≤ b → b < 0x3a → IsPlain b
+pub digit_byte : (b : ℕ) → 0x30 ≤ b → b < 0x3a → IsPlain b
 digit_byte b from to = plain_byte b (omega arith) (omega arith) (omega arith) (omega arith) (omega arith) (omega arith) (omega arith)
 
 hex_is_plain : (v : ℕ) → v < 16 → IsPlain (hex_digit v)

@@ -1,35 +1,35 @@
 -- What holds of drawings: statements of laws.
-use Rattle.std.specs.Prelude.{◌≢◌, ◌<◌, ◌≤◌, ◌+◌, ◌^◌, ℕ, Some, List, [], ◌∷◌, ◌++◌, length, All, codes}
+use Rattle.std.specs.Prelude.{◌<◌, ◌≤◌, ◌+◌, ◌^◌, ℕ, Some, IfSome, List, length, All, codes}
 use Rattle.drawings.specs.declared.picture.TheConstants.{ACTORS_MAX}
 use Rattle.drawings.specs.declared.picture.Head.{Head}
+use Rattle.drawings.specs.declared.picture.Line.{Line}
 use Rattle.drawings.specs.declared.text.TheConstants.{LINE_COLUMNS, MARK_COLUMNS}
 use Rattle.drawings.specs.Cells.{mark_of}
-use Rattle.drawings.specs.Svg.{xml_text}
+use Rattle.drawings.specs.Picture.{Drawn, CanBeDrawn}
+use Rattle.drawings.specs.Svg.{xml_text, svg_of}
 use Rattle.drawings.specs.Text.{row, heading_row}
+use Rattle.drawings.specs.Xml.{IsXmlText, IsDocument}
 
--- a printed byte or a blank, and none that XML takes for markup: & < > " '
-pub record IsPlain (b : ℕ) : Type 0 where
-  pub from : 0x20 ≤ b
-  pub to : b ≤ 0x7e
-  pub no_ampersand : b ≢ 0x26
-  pub no_less : b ≢ 0x3c
-  pub no_greater : b ≢ 0x3e
-  pub no_quotation : b ≢ 0x22
-  pub no_apostrophe : b ≢ 0x27
-
--- a text of plain bytes and of the five entities (XML 1.0, section 4.6)
-pub data IsXmlText : List ℕ → Type 0 where
-  done : IsXmlText []
-  plain : (b : ℕ) (bs : List ℕ) → IsPlain b → IsXmlText bs → IsXmlText (b ∷ bs)
-  amp : (bs : List ℕ) → IsXmlText bs → IsXmlText (codes "&amp;" ++ bs)
-  lt : (bs : List ℕ) → IsXmlText bs → IsXmlText (codes "&lt;" ++ bs)
-  gt : (bs : List ℕ) → IsXmlText bs → IsXmlText (codes "&gt;" ++ bs)
-  quot : (bs : List ℕ) → IsXmlText bs → IsXmlText (codes "&quot;" ++ bs)
-  apos : (bs : List ℕ) → IsXmlText bs → IsXmlText (codes "&apos;" ++ bs)
+abbrev pub AreBytes : List ℕ → Type 0
+AreBytes bs = All (λ b. b < 256) bs
 
 -- whatever bytes are to be shown, what stands for them is plain text
 abbrev pub XmlTextIsPlain : Type 0
-XmlTextIsPlain = (bs : List ℕ) → All (λ b. b < 256) bs → IsXmlText (xml_text bs)
+XmlTextIsPlain = (bs : List ℕ) → AreBytes bs → IsXmlText (xml_text bs)
+
+-- a line's text is of bytes, and its moment of 64 bits
+pub record IsLine (line : Line) : Type 0 where
+  pub bytes : AreBytes line.text
+  pub moment : IfSome line.moment (λ moment. moment < 2 ^ 64)
+
+-- a picture is of such lines, its heading too
+pub record IsOfBytes (picture : Drawn) : Type 0 where
+  pub heads : All (λ (head : Head). AreBytes head.text) picture.heads
+  pub lines : All IsLine picture.lines
+
+-- whatever a picture shows, as SVG it is one well-formed element of that name
+abbrev pub SvgIsWellFormed : Type 0
+SvgIsWellFormed = (picture : Drawn) → CanBeDrawn picture → IsOfBytes picture → IsDocument (codes "svg") (svg_of picture)
 
 -- a moment below a million has room at the beginning of a line
 abbrev pub MarksFit : Type 0

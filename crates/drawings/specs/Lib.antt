@@ -7,4 +7,5 @@ pub mod Picture
 pub mod Cells
 pub mod Text
 pub mod Svg
+pub mod Xml
 pub mod DrawingLaws

@@ -1,13 +1,17 @@
 -- What a picture shows of a run: a heading with each actor's root and how its calls ended, and a line for each event and each note.
-use Rattle.std.specs.Prelude.{◌<◌, ◌≤◌, ◌+◌, ℕ, suc, List, [], ◌∷◌, ◌++◌, length, slice_get, unwrap_or, Option, Some, None, codes, decimal}
+use Rattle.std.specs.Prelude.{◌<◌, ◌≤◌, ◌+◌, ◌⊎◌, ℕ, suc, List, [], ◌∷◌, ◌++◌, Bool, true, false, not, if◌then◌else◌, length, slice_get, unwrap_or, Option, Some, None, codes, decimal}
 use Rattle.race_core.specs.declared.report.Outcome.{Outcome}
 use Rattle.race_core.specs.declared.report.Outcome.TheVariants as ended
 use Rattle.tree_model.specs.declared.answer.Answer.{Answer}
 use Rattle.tree_model.specs.declared.answer.Answer.TheVariants as answer
 use Rattle.tree_model.specs.declared.answer.Event.{Event}
+use Rattle.tree_model.specs.declared.step.StepOf.{StepOf}
+use Rattle.tree_model.specs.declared.step.StepOf.TheVariants.{Close}
 use Rattle.tree_model.specs.History.{after_event}
 use Rattle.tree_model.specs.State.{State}
 use Rattle.report_text.specs.Report.{numbered, reply_words}
+use Rattle.drawings.specs.declared.picture.Closes.{Closes}
+use Rattle.drawings.specs.declared.picture.Closes.TheVariants.{Shown, Hidden}
 use Rattle.drawings.specs.declared.picture.Head.{Head}
 use Rattle.drawings.specs.declared.picture.Line.{Line}
 use Rattle.drawings.specs.declared.picture.PictureFault.{PictureFault}
@@ -37,15 +41,30 @@ answer_tone other = Plain
 abbrev pub moment_line : State → ℕ → Event → Line
 moment_line s k event = record { moment = Some k; actor = event.actor; tone = answer_tone event.answer; text = event_text s event }
 
+-- a handle was closed, which changes nothing that is drawn
+abbrev pub is_plain_close : StepOf ℕ → Answer → Bool
+is_plain_close (Close handle) answer.Done = true
+is_plain_close step given = false
+
+-- whether an event has a line
+abbrev pub is_shown : Closes → Event → Bool
+is_shown Shown event = true
+is_shown Hidden event = not (is_plain_close event.step event.answer)
+
+-- its line, if it has one
+abbrev pub line_if : Bool → Line → List Line
+line_if shown line = if shown then line ∷ [] else []
+
 -- and then the notes of the other actors
-abbrev pub moment_lines : ℕ → State → State → ℕ → Event → List Line
-moment_lines actors opening s k event = moment_line s k event ∷ notes_below opening s (after_event s event) event.actor actors
+abbrev pub moment_lines : Closes → ℕ → State → State → ℕ → Event → List Line
+moment_lines closes actors opening s k event =
+    line_if (is_shown closes event) (moment_line s k event) ++ notes_below opening s (after_event s event) event.actor actors
 
 -- those of all events from a tree on, their moments counted from k
-abbrev pub lines_from : ℕ → State → State → ℕ → List Event → List Line
-lines_from actors opening s k [] = []
-lines_from actors opening s k (event ∷ events) =
-    moment_lines actors opening s k event ++ lines_from actors opening (after_event s event) (suc k) events
+abbrev pub lines_from : Closes → ℕ → State → State → ℕ → List Event → List Line
+lines_from closes actors opening s k [] = []
+lines_from closes actors opening s k (event ∷ events) =
+    moment_lines closes actors opening s k event ++ lines_from closes actors opening (after_event s event) (suc k) events
 
 -- ---- the heading
 
@@ -85,9 +104,9 @@ heads_of opening calls replies = numbered (actor_heads opening replies) 0 calls
 -- ---- the whole
 
 -- the picture of the events that a tree with its roots granted led to; an actor for each list of calls
-abbrev pub drawn_of : State → List (List (List ℕ)) → List Event → List (List Outcome) → Drawn
-drawn_of opening calls events replies =
-    record { actors = length calls; heads = heads_of opening calls replies; lines = lines_from (length calls) opening opening 0 events }
+abbrev pub drawn_of : Closes → State → List (List (List ℕ)) → List Event → List (List Outcome) → Drawn
+drawn_of closes opening calls events replies =
+    record { actors = length calls; heads = heads_of opening calls replies; lines = lines_from closes (length calls) opening opening 0 events }
 
 -- the lines with those of the heading
 abbrev pub line_count : Drawn → ℕ
@@ -99,8 +118,12 @@ pub record CanBeDrawn (picture : Drawn) : Type 0 where
   pub few : picture.actors ≤ ACTORS_MAX
   pub short : line_count picture ≤ LINES_MAX
 
--- there is no actor or too many; or too many lines; or a growth was refused
-abbrev pub IsPictureFault : Drawn → PictureFault → Type 0
-IsPictureFault picture Actors = (0 < picture.actors → ACTORS_MAX < picture.actors)
-IsPictureFault picture Lines = (0 < picture.actors) × (picture.actors ≤ ACTORS_MAX) × (LINES_MAX < line_count picture)
-IsPictureFault picture NoMemory = (0 < picture.actors) × (picture.actors ≤ ACTORS_MAX)
+-- there are too many events, whether they are shown or not, or too many lines
+abbrev pub IsLong : List Event → Drawn → Type 0
+IsLong events picture = (LINES_MAX < length events) ⊎ (LINES_MAX < line_count picture)
+
+-- there is no actor or too many; or the picture would be long; or a growth was refused
+abbrev pub IsPictureFault : List Event → Drawn → PictureFault → Type 0
+IsPictureFault events picture Actors = (0 < picture.actors → ACTORS_MAX < picture.actors)
+IsPictureFault events picture Lines = (0 < picture.actors) × (picture.actors ≤ ACTORS_MAX) × IsLong events picture
+IsPictureFault events picture NoMemory = (0 < picture.actors) × (picture.actors ≤ ACTORS_MAX)

@@ -1,5 +1,5 @@
 //! What a place of a picture shows of a text.
-ghost use Rattle.std.specs.Prelude.{◌≡◌, ◌<◌, replicate, IfOk};
+ghost use Rattle.std.specs.Prelude.{◌≡◌, ◌<◌, ◌^◌, replicate, IfOk, IfSome};
 ghost use Rattle.transcript.specs.Output.{Gains};
 ghost use Rattle.transcript.specs.Words.{BLANK};
 ghost use Rattle.drawings.specs.Cells.{cut, fitted, to_right, mark_of, actor_name};
@@ -49,7 +49,8 @@ pub(crate) fn to_right(out: &mut Output, width: usize, text: &[u8]) -> Result<()
 
 /// What stands for a moment: its number, and nothing where there is none.
 pub(crate) fn mark_of(alloc: Global, moment: Option<u64>) -> Result<Output, NoMemory>
-    ensures { IfOk result (λ mark. mark ≡ mark_of moment) }
+    ensures mark { IfOk result (λ mark. mark ≡ mark_of moment) }
+    ensures fits { IfSome moment (λ m. m < 2 ^ 64) }
 {
     let mut mark = Output::new(alloc);
     if let Some(moment) = moment {

@@ -20,5 +20,5 @@ mod tests;
 mod text;
 
 pub use calls::{CallWords, calls_of};
-pub use laws::{rows_fit, xml_text_is_plain};
-pub use picture::{ACTORS_MAX, Head, LINES_MAX, Line, Picture, PictureFault, Tone};
+pub use laws::{rows_fit, svg_is_well_formed, xml_text_is_plain};
+pub use picture::{ACTORS_MAX, Closes, Head, LINES_MAX, Line, Picture, PictureFault, Tone};

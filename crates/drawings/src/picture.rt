@@ -1,7 +1,7 @@
 //! A picture as its heading and its lines.
 ghost use Rattle.std.specs.Prelude.{◌≡◌, ◌<◌, ◌≤◌, [], ◌∷◌, ◌++◌, length, IfOk, IfErr, OnOk};
 ghost use Rattle.tree_model.specs.History.{after_event};
-ghost use Rattle.drawings.specs.Picture.{answer_tone, moment_line, moment_lines, lines_from, drawn_of, CanBeDrawn, IsPictureFault};
+ghost use Rattle.drawings.specs.Picture.{answer_tone, moment_line, is_shown, line_if, moment_lines, lines_from, drawn_of, CanBeDrawn, IsPictureFault};
 ghost use Rattle.drawings.specs.declared.picture.PictureFault.TheVariants as picture_fault;
 
 use crate::calls::CallWords;
@@ -16,7 +16,7 @@ use std::marker::Model;
 use thiserror::Error;
 use transcript::Output;
 use tree_list::ListTree;
-use tree_model::{Answer, Event, Snapshot, Tree};
+use tree_model::{Answer, Event, Snapshot, StepOf, Tree};
 
 /// The most actors that are drawn.
 pub const ACTORS_MAX: u64 = 4;
@@ -32,6 +32,14 @@ pub enum Tone {
     Good,
     /// A call failed, or something is where it should not be.
     Bad,
+}
+
+/// Whether a picture shows that handles were closed, which changes nothing that is drawn. A Close that is refused is shown
+/// anyway.
+#[derive(Clone, Copy, Debug, PartialEq, Eq)]
+pub enum Closes {
+    Hidden,
+    Shown,
 }
 
 /// A line of the heading: an actor's root, or how a call of it ended.
@@ -75,7 +83,7 @@ pub enum PictureFault {
     /// There is no actor, or there are more than 4.
     #[error("a picture has 1 to 4 actors")]
     Actors,
-    /// There are more than 2,000 lines.
+    /// There are more than 2,000 events or lines.
     #[error("a picture has at most 2000 lines")]
     Lines,
     /// Room was refused.
@@ -116,10 +124,39 @@ fn moment_line(alloc: Global, tree: &Snapshot, moment: u64, event: &Event) -> Re
     })
 }
 
+// Whether an event has a line.
+fn is_shown(closes: Closes, event: &Event) -> bool
+    ensures { result ≡ is_shown closes event.now }
+{
+    match (closes, &event.step, &event.answer) {
+        (Closes::Hidden, StepOf::Close(_), Answer::Done) => false,
+        _ => true,
+    }
+}
+
+// Adds the line of an event, if it has one.
+fn add_line(
+    alloc: Global,
+    lines: &mut Vec<Line>,
+    closes: Closes,
+    before: &Snapshot,
+    moment: u64,
+    event: &Event,
+) -> Result<(), NoMemory>
+    ensures { OnOk result (lines.new.items ≡ lines.old.items ++ line_if (is_shown closes event.now) (moment_line before.now moment event.now)) }
+{
+    if is_shown(closes, event) {
+        let line = moment_line(alloc, before, moment, event)?;
+        lines.push(line)?;
+    }
+    Ok(())
+}
+
 // Adds the line of an event that led from one tree to another, and the notes of the other actors.
 fn add_moment(
     alloc: Global,
     lines: &mut Vec<Line>,
+    closes: Closes,
     actors: u64,
     opening: &Snapshot,
     before: &Snapshot,
@@ -129,16 +166,16 @@ fn add_moment(
 ) -> Result<(), NoMemory>
     requires few { actors ≤ ACTORS_MAX }
     requires led { after.now ≡ after_event before.now event.now }
-    ensures { OnOk result (lines.new.items ≡ lines.old.items ++ moment_lines actors opening.now before.now moment event.now) }
+    ensures { OnOk result (lines.new.items ≡ lines.old.items ++ moment_lines closes actors opening.now before.now moment event.now) }
 {
-    let line = moment_line(alloc, before, moment, event)?;
-    lines.push(line)?;
+    add_line(alloc, lines, closes, before, moment, event)?;
     add_notes(alloc, lines, opening, before, after, event.actor, actors)
 }
 
 // The lines of all events, whose steps are made again one by one.
 fn lines_of(
     alloc: Global,
+    closes: Closes,
     actors: u64,
     opening: &Snapshot,
     mut tree: ListTree,
@@ -146,7 +183,7 @@ fn lines_of(
 ) -> Result<Vec<Line>, NoMemory>
     requires few { actors ≤ ACTORS_MAX }
     requires same { opening.now ≡ tree }
-    ensures { IfOk result (λ lines. lines.items ≡ lines_from actors opening.now opening.now 0 events.now.events) }
+    ensures { IfOk result (λ lines. lines.items ≡ lines_from closes actors opening.now opening.now 0 events.now.events) }
 {
     let mut lines = Vec::new(alloc);
     let mut before = tree.snapshot(alloc)?;
@@ -156,7 +193,7 @@ fn lines_of(
         let after = tree.snapshot(alloc)?;
         let moment = at as u64;
         add_moment(
-            alloc, &mut lines, actors, opening, &before, &after, moment, &event,
+            alloc, &mut lines, closes, actors, opening, &before, &after, moment, &event,
         )?;
         before = after;
     }
@@ -166,22 +203,23 @@ fn lines_of(
 impl Picture {
     /// The picture of the events that a tree with its actors' roots granted led to, each root by the handle of its actor's
     /// number; `calls` has what each actor calls for. The heading has a line for each root, and for each call
-    /// `CALL = REPLY`. Then each event has a line, told by where things stood just before it, and after an event each other
-    /// actor whose newest open handle's object was moved has a note. Events of actors that aren't there have a line and no
-    /// column.
+    /// `CALL = REPLY`. Then each event has a line, told by where things stood just before it, but for closes that are to be
+    /// hidden; and after an event each other actor whose newest open handle's object was moved has a note. Events of actors
+    /// that aren't there have a line and no column.
     ///
-    /// Errors, in this order: `Actors` where there is no actor or there are more than 4; `Lines` over 2,000 events;
-    /// `NoMemory` where room was refused; `Lines` over 2,000 lines.
+    /// Errors, in this order: `Actors` where there is no actor or there are more than 4; `Lines` over 2,000 events, shown or
+    /// not; `NoMemory` where room was refused; `Lines` over 2,000 lines.
     pub fn of(
         alloc: Global,
         tree: ListTree,
         calls: &[CallWords],
         events: &EventLog,
         replies: &[Outcomes],
+        closes: Closes,
     ) -> Result<Picture, PictureFault>
-        ensures ok { IfOk result (λ picture. picture ≡ drawn_of tree calls.now events.now.events replies.now) }
+        ensures ok { IfOk result (λ picture. picture ≡ drawn_of closes tree calls.now events.now.events replies.now) }
         ensures fits { IfOk result CanBeDrawn }
-        ensures err { IfErr result (IsPictureFault (drawn_of tree calls.now events.now.events replies.now)) }
+        ensures err { IfErr result (IsPictureFault events.now.events (drawn_of closes tree calls.now events.now.events replies.now)) }
     {
         let actors = calls.len() as u64;
         if actors == 0 || actors > ACTORS_MAX {
@@ -193,7 +231,7 @@ impl Picture {
         }
         let opening = tree.snapshot(alloc)?;
         let heads = heads_of(alloc, &opening, calls, replies)?;
-        let lines = lines_of(alloc, actors, &opening, tree, events)?;
+        let lines = lines_of(alloc, closes, actors, &opening, tree, events)?;
         if lines.len() > LINES_MAX || heads.len() > LINES_MAX - lines.len() {
             return Err(PictureFault::Lines);
         }

@@ -1,6 +1,9 @@
 //! A picture as SVG (Scalable Vector Graphics 1.1, W3C).
-ghost use Rattle.std.specs.Prelude.{◌≡◌, ◌<◌, ◌≤◌, ◌+◌, ◌++◌, length};
+ghost use Rattle.std.specs.Prelude.{◌≡◌, ◌<◌, ◌≤◌, ◌+◌, ◌++◌, length, All, OnOk, codes};
 ghost use Rattle.transcript.specs.Output.{Gains};
+ghost use Rattle.drawings.specs.declared.picture.Head.{Head as HeadValue};
+ghost use Rattle.drawings.specs.DrawingLaws.{AreBytes, IsLine};
+ghost use Rattle.drawings.specs.Xml.{IsDocument};
 ghost use Rattle.drawings.specs.Svg.{tag, xml_byte, xml_text, tone_end, text_at, life_line, column_x, names_y, heading_y, line_y, svg_heading, svg_headings, svg_column, svg_columns, svg_dot, dot_if, svg_place, svg_line, svg_lines, svg_head, svg_of};
 
 use crate::cells::{actor_name, cut, mark_of};
@@ -116,17 +119,20 @@ fn line_y(at: usize) -> u64
 // Adds a line of the heading by its place.
 fn heading(out: &mut Output, alloc: Global, at: usize, head: &Head) -> Result<(), NoMemory>
     requires { at ≤ LINES_MAX }
-    ensures { Gains out.old out.new (svg_heading at head.now) result }
+    ensures told { Gains out.old out.new (svg_heading at head.now) result }
+    ensures bytes { AreBytes head.now.text }
 {
     let mut text = Output::new(alloc);
-    cut(&mut text, SHOWN_MAX, head.text.as_slice())?;
+    let whole = head.text.as_slice();
+    cut(&mut text, SHOWN_MAX, whole)?;
     text_at(out, 8, heading_y(at), head.tone, text.as_slice())
 }
 
 // Adds the heading.
 fn headings(alloc: Global, out: &mut Output, heads: &[Head]) -> Result<(), NoMemory>
     requires { length heads.now ≤ LINES_MAX }
-    ensures { Gains out.old out.new (svg_headings heads.now) result }
+    ensures told { Gains out.old out.new (svg_headings heads.now) result }
+    ensures bytes { OnOk result (All (λ (head : HeadValue). AreBytes head.text) heads.now) }
 {
     for (at, head) in heads.iter().enumerate() {
         heading(out, alloc, at, head)?;
@@ -199,14 +205,16 @@ fn dot_if(out: &mut Output, dotted: bool, x: u64, y: u64) -> Result<(), NoMemory
 fn place(alloc: Global, out: &mut Output, actors: u64, y: u64, line: &Line) -> Result<(), NoMemory>
     requires actors { actors ≤ ACTORS_MAX }
     requires low { 5 ≤ y }
-    ensures { Gains out.old out.new (svg_place actors y line.now) result }
+    ensures told { Gains out.old out.new (svg_place actors y line.now) result }
+    ensures bytes { AreBytes line.now.text }
 {
+    let told = line.text.as_slice();
     if line.actor >= actors {
         return Ok(());
     }
     let x = column_x(line.actor);
     let mut text = Output::new(alloc);
-    cut(&mut text, SHOWN_MAX, line.text.as_slice())?;
+    cut(&mut text, SHOWN_MAX, told)?;
     dot_if(out, line.moment.is_some(), x + 8, y - 5)?;
     text_at(out, x + 26, y, line.tone, text.as_slice())
 }
@@ -221,7 +229,8 @@ fn line(
 ) -> Result<(), NoMemory>
     requires actors { actors ≤ ACTORS_MAX }
     requires short { at < LINES_MAX }
-    ensures { Gains out.old out.new (svg_line actors at line.now) result }
+    ensures told { Gains out.old out.new (svg_line actors at line.now) result }
+    ensures bytes { OnOk result (IsLine line.now) }
 {
     let y = line_y(at);
     let mark = mark_of(alloc, line.moment)?;
@@ -239,7 +248,8 @@ fn lines(
 ) -> Result<(), NoMemory>
     requires actors { actors ≤ ACTORS_MAX }
     requires short { heads + length lines.now ≤ LINES_MAX }
-    ensures { Gains out.old out.new (svg_lines actors heads lines.now) result }
+    ensures told { Gains out.old out.new (svg_lines actors heads lines.now) result }
+    ensures bytes { OnOk result (All IsLine lines.now) }
 {
     for (at, drawn) in lines.iter().enumerate() {
         line(alloc, out, actors, heads + at, drawn)?;
@@ -268,7 +278,8 @@ impl Picture {
     /// No byte of a text stands as markup: `&`, `<`, `>` and the quotation marks are entities. NoMemory where its room was
     /// refused.
     pub fn svg(&self, alloc: Global, out: &mut Output) -> Result<(), NoMemory>
-        ensures { Gains out.old out.new (svg_of self.now) result }
+        ensures told { Gains out.old out.new (svg_of self.now) result }
+        ensures xml { OnOk result (IsDocument (codes "svg") (svg_of self.now)) }
     {
         let heads = self.heads.len();
         let end = line_y(heads + self.lines.len());

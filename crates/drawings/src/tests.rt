@@ -12,7 +12,7 @@ use tree_model::{Actor, Answer, Kind, Mode, Node, StepOf, Tree};
 
 /// The steps of a run, each after its actor's number. The first actor's root is `/c` by handle 0, the second's the top by
 /// handle 1.
-const STEPS: [(u32, &str); 9] = [
+const STEPS: [(u32, &str); 10] = [
     (0, "open 0 a"),
     (1, "open 1 c"),
     (1, "rename 1 c 1 d plain"),
@@ -25,8 +25,10 @@ const STEPS: [(u32, &str); 9] = [
     ),
     (1, "remove_dir 1 b"),
     (1, "below 1 3"),
+    (0, "close 0"),
 ];
 
+/// The picture without what was closed.
 const TEXT: &str = "actor 0 below /c
   resolve a beneath = opened dir 2 /a
 actor 1 below /
@@ -48,17 +50,18 @@ actor 1 below /
      8 |                                             | CHECK /d below /? yes: /d                   |
 ";
 
+/// The picture with it.
 const SVG: &str =
-    "<svg xmlns='http://www.w3.org/2000/svg' xml:space='preserve' style='background:white' font-family='monospace' font-size='13' width='1036' height='440'>
+    "<svg xmlns='http://www.w3.org/2000/svg' xml:space='preserve' style='background:white' font-family='monospace' font-size='13' width='1036' height='462'>
 <text x='8' y='22'>actor 0 below /c</text>
 <text x='8' y='44' fill='#1a7f37'>  resolve a beneath = opened dir 2 /a</text>
 <text x='8' y='66'>actor 1 below /</text>
 <text x='8' y='88'>  rename c in root to d in root = stepped done</text>
 <text x='8' y='110' fill='#c0182b'>  release call 0 = fault EBADF</text>
 <text x='56' y='143'>actor 0</text>
-<path stroke='#8a93a5' d='M64 154V440'/>
+<path stroke='#8a93a5' d='M64 154V462'/>
 <text x='550' y='143'>actor 1</text>
-<path stroke='#8a93a5' d='M558 154V440'/>
+<path stroke='#8a93a5' d='M558 154V462'/>
 <text x='8' y='176'>0</text>
 <circle r='4' cx='64' cy='171'/>
 <text x='82' y='176'>open a in /c = dir 2</text>
@@ -92,6 +95,9 @@ const SVG: &str =
 <text x='8' y='418'>8</text>
 <circle r='4' cx='558' cy='413'/>
 <text x='576' y='418' fill='#1a7f37'>CHECK /d below /? yes: /d</text>
+<text x='8' y='440'>9</text>
+<circle r='4' cx='64' cy='435'/>
+<text x='82' y='440'>close /d = done</text>
 </svg>
 ";
 
@@ -181,14 +187,19 @@ fn replies_of(alloc: Global) -> Result<Vec<Outcomes>, Fail> {
     Ok(replies)
 }
 
-/// Whether the run is drawn so, as text and as SVG.
-fn draws(alloc: Global) -> Result<bool, Fail> {
+/// The picture of the run.
+fn picture_of(alloc: Global, closes: Closes) -> Result<Picture, Fail> {
     let calls = calls_for(alloc, 2)?;
     let (events, replies) = (events_of(alloc, 1)?, replies_of(alloc)?);
-    let picture = Picture::of(alloc, tree_of(alloc)?, &calls, &events, &replies)?;
+    Ok(Picture::of(alloc, tree_of(alloc)?, &calls, &events, &replies, closes)?)
+}
+
+/// Whether the run is drawn so, as text without what was closed, and as SVG with it.
+fn draws(alloc: Global) -> Result<bool, Fail> {
     let (mut text, mut svg) = (Output::new(alloc), Output::new(alloc));
+    let picture = picture_of(alloc, Closes::Hidden)?;
     picture.text(alloc, &mut text)?;
-    picture.svg(alloc, &mut svg)?;
+    picture_of(alloc, Closes::Shown)?.svg(alloc, &mut svg)?;
     Ok(
         picture.actors() == 2
             && picture.heads().len() == 5
@@ -201,6 +212,7 @@ fn draws(alloc: Global) -> Result<bool, Fail> {
 #[test]
 fn draws_a_run(rt: HostRuntime) -> Result<(), Fail> {
     xml_text_is_plain();
+    svg_is_well_formed();
     rows_fit();
     assert!(rt; draws(rt.alloc())?);
     Ok(())
@@ -210,7 +222,8 @@ fn draws_a_run(rt: HostRuntime) -> Result<(), Fail> {
 fn refusal(alloc: Global, actors: u32, times: u32) -> Result<Option<PictureFault>, Fail> {
     let (calls, replies) = (calls_for(alloc, actors)?, replies_of(alloc)?);
     let events = events_of(alloc, times)?;
-    Ok(Picture::of(alloc, tree_of(alloc)?, &calls, &events, &replies).err())
+    let tree = tree_of(alloc)?;
+    Ok(Picture::of(alloc, tree, &calls, &events, &replies, Closes::Hidden).err())
 }
 
 #[test]
@@ -219,8 +232,8 @@ fn keeps_to_its_limits(rt: HostRuntime) -> Result<(), Fail> {
         (0, 1, Some(PictureFault::Actors)),
         (1, 0, None),
         (4, 200, None),
-        (4, 223, Some(PictureFault::Lines)),
-        (5, 223, Some(PictureFault::Actors)),
+        (4, 201, Some(PictureFault::Lines)),
+        (5, 201, Some(PictureFault::Actors)),
     ] {
         assert!(rt;
             refusal(rt.alloc(), actors, times)? == wanted,

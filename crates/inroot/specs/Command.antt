@@ -5,6 +5,8 @@ use Rattle.std.specs.Str.Parse.{digits_value, without_leading_plus}
 use Rattle.path_text.specs.declared.flags.Flags.{Flags}
 use Rattle.clap.specs.Matches.{found_of, first_value, matched_of, one_text, raw_values, subcommand_name_of}
 use Rattle.clap.specs.declared.parser.matches.ArgMatches.{ArgMatches}
+use Rattle.drawings.specs.declared.picture.Closes.{Closes}
+use Rattle.drawings.specs.declared.picture.Closes.TheVariants.{Shown, Hidden}
 use Rattle.inroot.specs.declared.command.Drawing.{Drawing}
 use Rattle.inroot.specs.declared.command.Request.{Request}
 use Rattle.inroot.specs.declared.command.Request.TheVariants as request
@@ -41,9 +43,15 @@ abbrev pub is_svg : Form → Bool
 is_svg Svg = true
 is_svg Text = false
 
+-- `--all` asks for what is closed, too
+abbrev pub is_all : Closes → Bool
+is_all Shown = true
+is_all Hidden = false
+
 pub record IsDrawing (matches : ArgMatches) (drawing : Drawing) : Type 0 where
   pub schedule : IsSchedule matches drawing.schedule
-  pub form : IsOption matches (codes "svg") (is_svg drawing.form)
+  pub form : IsOption matches (codes "svg") (is_svg drawing.style.form)
+  pub closes : IsOption matches (codes "all") (is_all drawing.style.closes)
 
 -- the number is what the text after `--workers` says in decimal digits, and there may be so many
 pub record IsWorkers (matches : ArgMatches) (workers : ℕ) : Type 0 where

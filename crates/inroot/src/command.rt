@@ -5,8 +5,9 @@ ghost use Rattle.surveys.specs.Options.{texts_in};
 
 use clap::builder::ValueParser;
 use clap::{Arg, ArgAction, ArgMatches, Command};
+use drawings::Closes;
 use path_text::Flags;
-use scripts::{Form, WORKERS_MAX};
+use scripts::{Form, Style, WORKERS_MAX};
 use std::alloc::{AllocError, Global};
 use surveys::Options;
 
@@ -28,6 +29,8 @@ const NO_LINKS: &str = "no-links";
 const SCHEDULE: &str = "schedule";
 
 const SVG: &str = "svg";
+
+const ALL: &str = "all";
 
 const WORKERS: &str = "workers";
 
@@ -124,8 +127,9 @@ fn replay<'a>(alloc: Global) -> Result<Command<'a>, AllocError> {
 const DRAWING: &str =
     "SCRIPT is a JSON text on standard input, as for replay, with at most 4 actors.
 
-Draws a column for each actor, a line for each event by its moment, and then one for
-how each call ended. A picture has at most 2000 lines.
+Draws what each actor calls for and how it ended, and then a column for each actor, in
+which its steps stand at their moments, but for the handles that it closes. A run that
+is drawn has at most 2000 events, and a picture 2000 lines.
 
 Example:
   inroot draw < examples/attacks/moved-out.json";
@@ -133,11 +137,13 @@ Example:
 // The command `draw`.
 fn draw<'a>(alloc: Global) -> Result<Command<'a>, AllocError> {
     let svg = option(alloc, SVG, "Draw as SVG and not as text");
+    let all = option(alloc, ALL, "Show each handle that is closed, too");
     Command::new(alloc, DRAW)
         .about("Run the actors' calls by the schedule, and draw who did what when")
         .override_usage("inroot draw [OPTIONS] < SCRIPT")
         .after_help(DRAWING)
         .arg(svg)?
+        .arg(all)?
         .arg(schedule(alloc))
 }
 
@@ -275,7 +281,7 @@ pub struct Walking<'a> {
 #[derive(Clone, Copy, Debug)]
 pub struct Drawing<'a> {
     pub schedule: Option<&'a str>,
-    pub form: Form,
+    pub style: Style,
 }
 
 /// What a command line asks for.
@@ -320,7 +326,13 @@ fn drawing_asked<'a>(matches: &ArgMatches<'a>) -> Drawing<'a>
     } else {
         Form::Text
     };
-    Drawing { schedule, form }
+    let closes = if matches.get_flag(ALL) {
+        Closes::Shown
+    } else {
+        Closes::Hidden
+    };
+    let style = Style { form, closes };
+    Drawing { schedule, style }
 }
 
 /// How many workers the arguments of `run` ask for, if it is a number that there may be.

@@ -85,7 +85,7 @@ fn run<R: Threads + Wait + Sync>(rt: &HostRuntime, threads: &R) -> Result<(), Fa
         }
         Request::Draw(asked) => {
             let order = order_of(alloc, asked.schedule)?;
-            draw(alloc, &mut input, &mut output, &order, asked.form)?;
+            draw(alloc, &mut input, &mut output, &order, asked.style)?;
         }
         Request::Run(workers) => run_jobs(threads, alloc, &mut input, &mut output, workers)?,
         Request::Explore(options) => {

@@ -2,6 +2,7 @@
 use crate::command::{Request, asked, command};
 use crate::ending::{Fault, status};
 use crate::order_of;
+use drawings::Closes;
 use scripts::{Form, RunFault, ScriptFault, ServiceFault, TurnOrder};
 use std::alloc::Global;
 use surveys::{OptionFault, Options};
@@ -34,12 +35,12 @@ fn ends_with_its_statuses(rt: HostRuntime) {
     }
 }
 
-/// Turns that are asked for with a replay or a drawing, and the drawing's form.
-type Run<'a> = (Option<&'a str>, Option<Form>);
+/// Turns that are asked for with a replay or a drawing, and how it is drawn.
+type Run<'a> = (Option<&'a str>, Option<(Form, Closes)>);
 
-fn is_run(want: Option<Run>, schedule: Option<&str>, form: Option<Form>) -> bool {
+fn is_run(want: Option<Run>, schedule: Option<&str>, style: Option<(Form, Closes)>) -> bool {
     match want {
-        Some((turns, wanted)) => turns == schedule && wanted == form,
+        Some((turns, wanted)) => turns == schedule && wanted == style,
         None => false,
     }
 }
@@ -54,7 +55,10 @@ fn asks_run(alloc: Global, words: &[&str], want: Option<Run>) -> bool {
     };
     match asked(&matches) {
         Some(Request::Replay(schedule)) => is_run(want, schedule, None),
-        Some(Request::Draw(drawing)) => is_run(want, drawing.schedule, Some(drawing.form)),
+        Some(Request::Draw(drawing)) => {
+            let style = (drawing.style.form, drawing.style.closes);
+            is_run(want, drawing.schedule, Some(style))
+        }
         _ => want.is_none(),
     }
 }
@@ -84,10 +88,13 @@ fn reads_its_command_line(rt: HostRuntime) {
             Some((Some("0*3,1"), None)),
         ),
         (&["inroot", "replay", "a"], None),
-        (&["inroot", "draw"], Some((None, Some(Form::Text)))),
+        (
+            &["inroot", "draw", "--all"],
+            Some((None, Some((Form::Text, Closes::Shown)))),
+        ),
         (
             &["inroot", "draw", "--schedule=-", "--svg"],
-            Some((Some("-"), Some(Form::Svg))),
+            Some((Some("-"), Some((Form::Svg, Closes::Hidden)))),
         ),
         (&["inroot", "replay", "--svg"], None),
     ] {

@@ -3,10 +3,11 @@ use Rattle.std.proofs.Common.{◌≡◌, ℕ, ◌≤◌, Bool, List, [], length,
 use Rattle.std.specs.Prelude.{Option, Some, None, Result, Ok, Err, IfSome}
 use Rattle.std.proofs.lemmas.Bool.{le-ltb}
 use Rattle.std.proofs.lemmas.List.{length-map}
+use Rattle.drawings.specs.declared.picture.Closes.{Closes}
 use Rattle.drawings.specs.declared.picture.PictureFault.{PictureFault}
 use Rattle.drawings.specs.declared.picture.PictureFault.TheVariants as picture_fault
 use Rattle.drawings.specs.Calls.{calls_of}
-use Rattle.drawings.specs.Picture.{Drawn, drawn_of, line_count, IsPictureFault}
+use Rattle.drawings.specs.Picture.{Drawn, drawn_of, IsLong, IsPictureFault}
 use Rattle.race_core.specs.declared.plan.ActorPlan.{ActorPlan}
 use Rattle.race_core.specs.declared.report.Outcome.{Outcome}
 use Rattle.race_core.specs.Opening.{granted}
@@ -17,7 +18,7 @@ use Rattle.tree_model.specs.Entries.{refuse_if}
 use Rattle.tree_model.specs.State.{State}
 use Rattle.scripts.specs.declared.calls.Purpose.TheVariants.{Turns}
 use Rattle.scripts.specs.declared.drawing.DrawFault.{DrawFault}
-use Rattle.scripts.specs.declared.drawing.Form.{Form}
+use Rattle.scripts.specs.declared.drawing.Style.{Style}
 use Rattle.scripts.specs.declared.fault.RunFault.{RunFault}
 use Rattle.scripts.specs.declared.fault.RunFault.TheVariants.{Script, ReadFailed, WriteFailed, NoMemory, BookFull}
 use Rattle.scripts.specs.declared.fault.ScriptFault.{ScriptFault}
@@ -25,7 +26,7 @@ use Rattle.scripts.specs.declared.fault.ScriptFault.TheVariants.{TooLong}
 use Rattle.scripts.specs.declared.input.TheConstants.{SCRIPT_MAX}
 use Rattle.scripts.specs.declared.turns.TurnOrder.{TurnOrder}
 use Rattle.scripts.specs.Checks.{then_with}
-use Rattle.scripts.specs.Drawing.{drawn, form_text, opened_by, told_of, IsDrawingOf, IsNoDrawing}
+use Rattle.scripts.specs.Drawing.{drawn, form_text, opened_by, told_of, IsDrawingOf, IsNoDrawing, IsWellFormed}
 use Rattle.scripts.specs.Fault.{IsFaultOf}
 use Rattle.scripts.specs.Input.{data_of}
 use Rattle.scripts.specs.Replay.{tree_of, IsRunOf}
@@ -71,34 +72,36 @@ opening said t tree events replies run h =
     let are : Some t ≡ Some run.opened.roots.tree = sym h ∙ ap opened_by run.opened.are_granted in cc (are)
 
 -- the picture made of it is the run's
-made : (said : Said) (t tree : State) (calls : List (List (List ℕ))) (events : List Event) (replies : List (List Outcome)) (run : IsRunOf said tree events replies)
-    → opened_by (granted (tree_of said) 0 said.plans) ≡ Some t → calls ≡ calls_of said.plans → drawn_of t calls events replies ≡ drawn said tree events replies run
-made said t tree calls events replies run h are =
-    ap (λ (s : State). drawn_of s calls events replies) (opening said t tree events replies run h)
-    ∙ ap (λ (cs : List (List (List ℕ))). drawn_of run.opened.roots.tree cs events replies) are
+made : (closes : Closes) (said : Said) (t tree : State) (calls : List (List (List ℕ))) (events : List Event) (replies : List (List Outcome)) (run : IsRunOf said tree events replies)
+    → opened_by (granted (tree_of said) 0 said.plans) ≡ Some t → calls ≡ calls_of said.plans → drawn_of closes t calls events replies ≡ drawn closes said tree events replies run
+made closes said t tree calls events replies run h are =
+    ap (λ (s : State). drawn_of closes s calls events replies) (opening said t tree events replies run h)
+    ∙ ap (λ (cs : List (List (List ℕ))). drawn_of closes run.opened.roots.tree cs events replies) are
 
-pub is_drawing : (form : Form) (said : Said) (t tree : State) (calls : List (List (List ℕ))) (events : List Event) (replies : List (List Outcome)) (picture : Drawn) (text : List ℕ)
+pub is_drawing : (style : Style) (said : Said) (t tree : State) (calls : List (List (List ℕ))) (events : List Event) (replies : List (List Outcome)) (picture : Drawn) (text : List ℕ)
     → IsRunOf said tree events replies → opened_by (granted (tree_of said) 0 said.plans) ≡ Some t → calls ≡ calls_of said.plans
-    → picture ≡ drawn_of t calls events replies → text ≡ form_text form picture → IsDrawingOf form said text
-is_drawing form said t tree calls events replies picture text run h are drawn_so told =
+    → picture ≡ drawn_of style.closes t calls events replies → text ≡ form_text style.form picture → IsWellFormed style.form (form_text style.form picture)
+    → IsDrawingOf style said text
+is_drawing style said t tree calls events replies picture text run h are drawn_so told well_formed =
     record {
       tree = tree;
       events = events;
       replies = replies;
       run = run;
-      is = told ∙ ap (form_text form) (drawn_so ∙ made said t tree calls events replies run h are);
+      is = told ∙ ap (form_text style.form) (drawn_so ∙ made style.closes said t tree calls events replies run h are);
+      well_formed = subst (IsWellFormed style.form) (sym told) well_formed;
     }
 
 -- and where there is none, it is told why
-pub is_no_drawing : (said : Said) (t tree : State) (calls : List (List (List ℕ))) (events : List Event) (replies : List (List Outcome)) (fault : PictureFault) (told : DrawFault)
+pub is_no_drawing : (closes : Closes) (said : Said) (t tree : State) (calls : List (List (List ℕ))) (events : List Event) (replies : List (List Outcome)) (fault : PictureFault) (told : DrawFault)
     → IsPlayable said → IsRunOf said tree events replies → opened_by (granted (tree_of said) 0 said.plans) ≡ Some t → calls ≡ calls_of said.plans
-    → IsPictureFault (drawn_of t calls events replies) fault → told ≡ told_of fault → IsNoDrawing said told
-is_no_drawing said t tree calls events replies fault told playable run h are why is = subst (IsNoDrawing said) (sym is) (by fault why)
+    → IsPictureFault events (drawn_of closes t calls events replies) fault → told ≡ told_of fault → IsNoDrawing closes said told
+is_no_drawing closes said t tree calls events replies fault told playable run h are why is = subst (IsNoDrawing closes said) (sym is) (by fault why)
   where
     counted : length calls ≡ length said.plans
     counted = ap length are ∙ length-map said.plans _
 
-    by : (fault : PictureFault) → IsPictureFault (drawn_of t calls events replies) fault → IsNoDrawing said (told_of fault)
+    by : (fault : PictureFault) → IsPictureFault events (drawn_of closes t calls events replies) fault → IsNoDrawing closes said (told_of fault)
     by picture_fault.Actors why = let some = playable.some in omega (arith, counted, some, why)
     by picture_fault.Lines why =
         record {
@@ -106,6 +109,6 @@ is_no_drawing said t tree calls events replies fault told playable run h are why
           events = events;
           replies = replies;
           run = run;
-          over = omega (arith, why.2, ap line_count (made said t tree calls events replies run h are));
+          over = subst (IsLong events) (made closes said t tree calls events replies run h are) why.2;
         }
     by picture_fault.NoMemory why = tt

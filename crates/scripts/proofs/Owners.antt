@@ -1,10 +1,10 @@
 -- Each object that a reply to a job opened is one of the sessions'.
-use Rattle.std.proofs.Common.{◌≡◌, ℕ, zero, suc, ◌+◌, ◌==◌, ◌<◌, Bool, true, false, cond, List, [], ◌∷◌, ◌++◌, length, replicate, slice_get, Option, Some, None, ◌⊎◌, inl, inr, refl, sym, ap, ◌∙◌, subst, arith}
+use Rattle.std.proofs.Common.{◌≡◌, ℕ, zero, suc, ◌+◌, ◌==◌, ◌<◌, Bool, true, false, cond, List, [], ◌∷◌, length, replicate, slice_get, Option, Some, None, inl, inr, refl, sym, ap, ◌∙◌, subst, arith}
 use Rattle.std.specs.Prelude.{All}
 use Rattle.std.specs.List.{cons_option}
 use Rattle.std.proofs.lemmas.Bool.{eqb-true}
 use Rattle.std.proofs.lemmas.List.{length-replicate}
-use Rattle.std.proofs.lemmas.List.Elements.{All-nil, All-cons, All-head, All-tail, All-append, All-weaker}
+use Rattle.std.proofs.lemmas.List.Elements.{All-nil, All-cons, All-head, All-tail, All-append}
 use Rattle.std.proofs.lemmas.Option.{same_Some, none-some, slice_get_within}
 use Rattle.path_text.specs.declared.errno.Errno.TheVariants.{Invalid, NoMemory}
 use Rattle.handles.specs.declared.owner.Owner.{Owner}
@@ -17,7 +17,7 @@ use Rattle.root_ops.specs.declared.reply.Reply.{Reply}
 use Rattle.root_ops.specs.declared.reply.Reply.TheVariants.{Opened, Text, Done, Count, Stepped, Kept, Fault}
 use Rattle.root_ops.specs.View.{IsOwned}
 use Rattle.sessions.specs.Call.{Called, is_of, turned_away}
-use Rattle.sessions.specs.Open.{IsOpened, HasRoot}
+use Rattle.sessions.specs.Open.{IsOpened}
 use Rattle.sessions.specs.Service.{ServiceView}
 use Rattle.sessions.specs.Session.{SessionView}
 use Rattle.tree_model.specs.State.{State}

@@ -23,7 +23,7 @@ use Rattle.scripts.specs.declared.scenario.Header.{Header}
 use Rattle.scripts.specs.declared.scenario.TheConstants.{LINES_MAX}
 use Rattle.scripts.specs.declared.schedule.TheConstants.{TURNS_MAX}
 use Rattle.scripts.specs.Actors.{root_of}
-use Rattle.scripts.specs.Calls.{call_of, call_at, calls_of, is_fit, is_job}
+use Rattle.scripts.specs.Calls.{call_of, call_at, calls_of, is_fit}
 use Rattle.scripts.specs.Checks.{are_over, then_with, each}
 use Rattle.scripts.specs.Fields.{list_in, perhaps}
 use Rattle.scripts.specs.Labels.{labels_from}

@@ -17,7 +17,7 @@ use Rattle.sessions.specs.declared.close.CloseCause.TheVariants as close
 use Rattle.sessions.specs.declared.open.OpenCause.{OpenCause}
 use Rattle.sessions.specs.declared.open.OpenCause.TheVariants as opening
 use Rattle.sessions.specs.declared.open.TheConstants.{SESSIONS_MAX}
-use Rattle.sessions.specs.Open.{granted, after_grant, book_cause, cause_after, opening_cause, IsOpened}
+use Rattle.sessions.specs.Open.{granted, after_grant, cause_after, opening_cause, IsOpened}
 use Rattle.sessions.specs.Service.{ServiceView}
 use Rattle.sessions.specs.Session.{SessionView}
 use Rattle.tree_model.specs.declared.inode.Inode.{Inode}

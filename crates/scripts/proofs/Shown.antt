@@ -11,6 +11,7 @@ use Rattle.drawings.specs.Svg.{line_y, svg_head, svg_headings, svg_columns, svg_
 use Rattle.drawings.specs.Text.{heading_row, table, text_of}
 use Rattle.scripts.specs.declared.drawing.Form.{Form}
 use Rattle.scripts.specs.declared.drawing.Form.TheVariants.{Text, Svg}
+use Rattle.scripts.specs.declared.drawing.Style.{Style}
 use Rattle.scripts.specs.declared.drawing.DrawFault.{DrawFault}
 use Rattle.scripts.specs.declared.fault.RunFault.{RunFault}
 use Rattle.scripts.specs.Drawing.{drawn, form_text, IsDrawingOf, IsNoDrawing}
@@ -54,10 +55,10 @@ pub texts_some : (said : Said) (made : Result (List ℕ) RunFault) → IsPlayabl
 texts_some said (Ok text) playable is = λ none. report_some is.events is.replies is.tree (length said.plans) playable.some (sym is.is ∙ none)
 texts_some said (Err fault) playable is = tt
 
-pub drawings_some : (form : Form) (said : Said) (made : Result (List ℕ) DrawFault) → MatchResult made (IsDrawingOf form said) (IsNoDrawing said)
+pub drawings_some : (style : Style) (said : Said) (made : Result (List ℕ) DrawFault) → MatchResult made (IsDrawingOf style said) (IsNoDrawing style.closes said)
     → IfOk made (λ text. text ≢ [])
-drawings_some form said (Ok text) is = λ none. drawing_some form (drawn said is.tree is.events is.replies is.run) (sym is.is ∙ none)
-drawings_some form said (Err fault) is = tt
+drawings_some style said (Ok text) is = λ none. drawing_some style.form (drawn style.closes said is.tree is.events is.replies is.run) (sym is.is ∙ none)
+drawings_some style said (Err fault) is = tt
 
 pub jobs_some : (workers : ℕ) (said : Said) (made : Result (List ℕ) JobsFault) → MatchResult made (IsJobsText workers said) (IsNoService workers said)
     → IfOk made (λ text. text ≢ [])

@@ -3,7 +3,6 @@ use Rattle.std.specs.Prelude.{⊤, ◌≡◌, ◌≢◌, ◌<◌, ℕ, List, [],
 use Rattle.std.specs.List.{filter_map}
 use Rattle.std.specs.Io.KnownBytes.{Keeps}
 use Rattle.path_text.specs.declared.errno.Errno.TheVariants.{Invalid}
-use Rattle.path_text.specs.declared.flags.Flags.{Flags}
 use Rattle.handles.specs.Objects.{StandingObject}
 use Rattle.root_ops.specs.declared.op.Op.TheVariants.{Release}
 use Rattle.root_ops.specs.declared.op.Request.{Request}

@@ -4,7 +4,7 @@ ghost use Rattle.drawings.specs.Picture.{IsPictureFault};
 ghost use Rattle.race_core.specs.Opening.{granted};
 ghost use Rattle.scripts.specs.declared.drawing.DrawFault.TheVariants as draw_fault;
 ghost use Rattle.scripts.specs.declared.fault.RunFault.TheVariants.{NoMemory as OutOfMemory};
-ghost use Rattle.scripts.specs.Drawing.{form_text, opened_by, told_of, IsDraw, IsDrawingOf, IsNoDrawing};
+ghost use Rattle.scripts.specs.Drawing.{form_text, opened_by, told_of, IsDraw, IsDrawingOf, IsNoDrawing, IsWellFormed};
 ghost use Rattle.scripts.specs.Scenario.{said_by, IsPlayable};
 ghost use Rattle.transcript.specs.Output.{Gains};
 
@@ -13,7 +13,7 @@ use crate::fault::RunFault;
 use crate::play::report_of;
 use crate::scenario::{Scenario, read_scene};
 use crate::turns::TurnOrder;
-use drawings::{Picture, PictureFault, calls_of};
+use drawings::{Closes, Picture, PictureFault, calls_of};
 use path_text::NoMemory;
 use race_core::ActorPlan;
 use std::alloc::Global;
@@ -32,6 +32,13 @@ pub enum Form {
     Svg,
 }
 
+/// What is drawn of a run, and how.
+#[derive(Clone, Copy, Debug, PartialEq, Eq)]
+pub struct Style {
+    pub form: Form,
+    pub closes: Closes,
+}
+
 /// Why nothing was drawn.
 #[derive(Clone, Copy, Debug, PartialEq, Eq, Error)]
 pub enum DrawFault {
@@ -40,7 +47,7 @@ pub enum DrawFault {
     /// There are more actors than a picture has columns.
     #[error("draw: actors")]
     TooManyActors,
-    /// The run has more events, notes and calls than a picture has lines.
+    /// The run has more events, or its picture more lines, than a picture may have.
     #[error("draw: lines")]
     TooManyLines,
 }
@@ -79,7 +86,8 @@ fn add_picture(
     picture: &Picture,
     form: Form,
 ) -> Result<(), NoMemory>
-    ensures { Gains out.old out.new (form_text form picture.now) result }
+    ensures told { Gains out.old out.new (form_text form picture.now) result }
+    ensures well_formed { OnOk result (IsWellFormed form (form_text form picture.now)) }
 {
     match form {
         Form::Text => picture.text(alloc, out),
@@ -103,36 +111,44 @@ fn grant_roots(alloc: Global, tree: &mut ListTree, plans: &[ActorPlan]) -> Resul
 }
 
 /// The drawing of a scenario's run, whose steps are made again on the same tree. Errors: those of `report_of`;
-/// `TooManyActors` over the 4 that a picture has; `NoMemory`; `TooManyLines` over the 2,000 that it has.
+/// `TooManyActors` over the 4 that a picture has; `NoMemory`; `TooManyLines` over 2,000 events or lines.
 fn drawing_of(
     alloc: Global,
     scenario: Scenario,
     mut tree: ListTree,
-    form: Form,
+    style: Style,
 ) -> Result<Output, DrawFault>
     requires same { tree ≡ scenario.tree }
     requires none { scenario.tree.handles ≡ [] }
     requires playable { IsPlayable (said_by scenario) }
-    ensures drawn { MatchResult result (IsDrawingOf form (said_by scenario)) (IsNoDrawing (said_by scenario)) }
+    ensures drawn { MatchResult result (IsDrawingOf style (said_by scenario)) (IsNoDrawing style.closes (said_by scenario)) }
     ensures some { IfOk result (λ text. text ≢ []) }
 {
     grant_roots(alloc, &mut tree, &scenario.plans)?;
     let calls = calls_of(alloc, &scenario.plans)?;
     let came_to = report_of(alloc, scenario)?;
-    let picture = match Picture::of(alloc, tree, &calls, &came_to.events, &came_to.replies) {
+    let picture = match Picture::of(
+        alloc,
+        tree,
+        &calls,
+        &came_to.events,
+        &came_to.replies,
+        style.closes,
+    ) {
         Ok(picture) => picture,
         Err(fault) => return Err(told_of(fault)),
     };
     let mut text = Output::new(alloc);
-    add_picture(alloc, &mut text, &picture, form)?;
+    add_picture(alloc, &mut text, &picture, style.form)?;
     Ok(text)
 }
 
 /// Reads a script, runs its world in this order of turns, and writes a picture of it: a heading with each actor's root and
-/// how its calls ended, and a column for each actor, in which its steps stand at their moments.
+/// how its calls ended, and a column for each actor, in which its steps stand at their moments, those that close a handle
+/// only where they are asked for. As SVG it is well-formed XML, whatever names the script has.
 ///
 /// Errors, in this order: those of `read_scenario`; `BookFull` where the script gives its book fewer lines than it has
-/// actors; `TooManyActors` over 4; `TooManyLines` where the picture has more than 2,000 lines; `NoMemory`, where room for
+/// actors; `TooManyActors` over 4; `TooManyLines` where the run has more than 2,000 events or the picture more than 2,000 lines; `NoMemory`, where room for
 /// the world or the picture was refused, in place of any of the last three too; `WriteFailed`. Nothing is written before the
 /// picture is whole.
 pub fn draw<R: Read, W: Write>(
@@ -140,12 +156,12 @@ pub fn draw<R: Read, W: Write>(
     reader: &mut R,
     writer: &mut W,
     order: &TurnOrder,
-    form: Form,
+    style: Style,
 ) -> Result<(), DrawFault>
-    ensures run { IsDraw order.now form (R.remaining reader.old) (W.contents writer.old) (W.contents writer.new) result }
+    ensures run { IsDraw order.now style (R.remaining reader.old) (W.contents writer.old) (W.contents writer.new) result }
 {
     let (scenario, tree) = read_scene(alloc, reader, order)?;
-    let text = drawing_of(alloc, scenario, tree, form)?;
+    let text = drawing_of(alloc, scenario, tree, style)?;
     match writer.write_all(text.as_slice()) {
         Ok(()) => Ok(()),
         Err(_) => Err(DrawFault::Run(RunFault::WriteFailed)),

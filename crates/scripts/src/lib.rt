@@ -33,7 +33,7 @@ mod words;
 pub use actors::ACTORS_MAX;
 pub use calls::CALLS_MAX;
 pub use detail::Detail;
-pub use drawing::{DrawFault, Form, draw};
+pub use drawing::{DrawFault, Form, Style, draw};
 pub use fault::{Cause, JsonFault, RunFault, ScriptFault};
 pub use input::SCRIPT_MAX;
 pub use jobs::{JobsFault, ServiceFault, run_jobs};

@@ -1,8 +1,9 @@
 //! Scripts drawn: both forms, and what ends a drawing before.
 use super::{BASE, Closed};
-use crate::drawing::{DrawFault, Form, draw};
+use crate::drawing::{DrawFault, Form, Style, draw};
 use crate::fault::RunFault;
 use crate::turns::TurnOrder;
+use drawings::Closes;
 use std::alloc::{AllocError, Global};
 use std::test::Fail;
 
@@ -10,27 +11,42 @@ const RACE: &str = r#"{"version":1,"tree":[["dir","/e"]],"actors":[
 {"root":"/","calls":[{"op":"resolve","path":"e/.."}]},
 {"root":"/","calls":[{"op":"step","step":"remove_dir","on":"root","name":"e"}]}],"schedule":[0,1]}"#;
 
+const TEXT: Style = Style {
+    form: Form::Text,
+    closes: Closes::Hidden,
+};
+
+const ALL_AS_TEXT: Style = Style {
+    form: Form::Text,
+    closes: Closes::Shown,
+};
+
+const SVG: Style = Style {
+    form: Form::Svg,
+    closes: Closes::Hidden,
+};
+
 const ALONE: &str = r#"{"version":1,"tree":[],"actors":[{"root":"/","calls":[]}]}"#;
 
-/// What is drawn of a script in this form.
-fn drawn(alloc: Global, script: &str, form: Form) -> Result<Vec<u8>, DrawFault> {
+/// What is drawn of a script in this style.
+fn drawn(alloc: Global, script: &str, style: Style) -> Result<Vec<u8>, DrawFault> {
     let mut written = Vec::new(alloc);
     draw(
         alloc,
         &mut script.as_bytes(),
         &mut written,
         &TurnOrder::OfScript,
-        form,
+        style,
     )?;
     Ok(written)
 }
 
 #[test]
 fn draws_scripts(rt: HostRuntime) -> Result<(), Fail> {
-    for (script, form, want) in [
+    for (script, style, want) in [
         (
             RACE,
-            Form::Text,
+            ALL_AS_TEXT,
             "actor 0 below /
   resolve e/.. = fault EAGAIN
 actor 1 below /
@@ -46,7 +62,7 @@ actor 1 below /
         ),
         (
             ALONE,
-            Form::Svg,
+            SVG,
             "<svg xmlns='http://www.w3.org/2000/svg' xml:space='preserve' style='background:white' font-family='monospace' font-size='13' width='542' height='88'>
 <text x='8' y='22'>actor 0 below /</text>
 <text x='56' y='55'>actor 0</text>
@@ -55,8 +71,8 @@ actor 1 below /
 ",
         ),
     ] {
-        let picture = drawn(rt.alloc(), script, form)?;
-        assert!(rt; picture.as_slice() == want.as_bytes(), "{form:?}");
+        let picture = drawn(rt.alloc(), script, style)?;
+        assert!(rt; picture.as_slice() == want.as_bytes(), "{style:?}");
     }
     Ok(())
 }
@@ -91,7 +107,7 @@ fn ends_at_its_limits(rt: HostRuntime) -> Result<(), Fail> {
         (4, 251, Some(DrawFault::TooManyLines)),
     ] {
         let script = busy(alloc, actors, calls)?;
-        let fault = drawn(alloc, script.as_str(), Form::Text).err();
+        let fault = drawn(alloc, script.as_str(), TEXT).err();
         assert_eq!(rt; fault, want);
     }
     let unwritten = draw(
@@ -99,7 +115,7 @@ fn ends_at_its_limits(rt: HostRuntime) -> Result<(), Fail> {
         &mut BASE.as_bytes(),
         &mut Closed,
         &TurnOrder::OfScript,
-        Form::Svg,
+        SVG,
     );
     assert_eq!(rt; unwritten, Err(DrawFault::Run(RunFault::WriteFailed)));
     Ok(())

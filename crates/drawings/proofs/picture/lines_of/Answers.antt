@@ -12,6 +12,6 @@ loop-at-preserved c =
     record {
       same = c.in_ok-after.ensures;
       lines =
-          moment_more c.args.actors c.args.opening.now c.loop-at.before c.in_ok-after.after c.args.events.now.events c.loop-at.at event c.loop-at.lines.items c.add_moment.new.lines.items _
+          moment_more c.args.closes c.args.actors c.args.opening.now c.loop-at.before c.in_ok-after.after c.args.events.now.events c.loop-at.at event c.loop-at.lines.items c.add_moment.new.lines.items _
           c.in_ok-event.ensures led c.in_ok-add_moment.ensures c.loop-at.invariant.lines;
     }

@@ -6,5 +6,5 @@ use Rattle.drawings.proofs.picture.lines_of.Given as goal
 abbrev pub invariant-loop-at : goal.invariant-loop-at
 invariant-loop-at l = record {
   same : l.before ≡ l.tree;
-  lines : l.lines.items ++ lines_from l.fn.actors l.opening l.before l.at (drop l.at l.events.events) ≡ lines_from l.fn.actors l.opening l.opening 0 l.events.events;
+  lines : l.lines.items ++ lines_from l.closes l.fn.actors l.opening l.before l.at (drop l.at l.events.events) ≡ lines_from l.closes l.fn.actors l.opening l.opening 0 l.events.events;
 }

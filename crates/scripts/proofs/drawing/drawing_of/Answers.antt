@@ -20,8 +20,8 @@ returns-in-Err-clause-drawn c =
     let opened : opened_by (granted (tree_of said) 0 said.plans) ≡ Some t =
     granted_so c.args.scenario.tree c.args.tree t said.plans c.deref.result.now c.requires.same c.requires.none c.deref.ensures.value c.in_ok-grant_roots.ensures in
     let are : calls ≡ calls_of said.plans = c.deref-3.ensures.value ∙ c.in_ok-calls.ensures ∙ ap calls_of c.deref-2.ensures.value in
-    is_no_drawing said t run.tree calls run.events.events run.replies.items c.in-Err.fault c.told_of.result c.requires.playable c.in_ok-came_to.ensures opened are
-    (subst (λ (rs : List (List Outcome)). IsPictureFault (drawn_of t calls run.events.events rs) c.in-Err.fault) c.deref-4.ensures.value c.in-Err.ensures.err) c.told_of.ensures
+    is_no_drawing c.args.style.closes said t run.tree calls run.events.events run.replies.items c.in-Err.fault c.told_of.result c.requires.playable c.in_ok-came_to.ensures opened are
+    (subst (λ (rs : List (List Outcome)). IsPictureFault run.events.events (drawn_of c.args.style.closes t calls run.events.events rs) c.in-Err.fault) c.deref-4.ensures.value c.in-Err.ensures.err) c.told_of.ensures
 
 pub returns-clause-drawn : goal.returns-clause-drawn
 returns-clause-drawn c =
@@ -33,9 +33,9 @@ returns-clause-drawn c =
     let opened : opened_by (granted (tree_of said) 0 said.plans) ≡ Some t =
     granted_so c.args.scenario.tree c.args.tree t said.plans c.deref.result.now c.requires.same c.requires.none c.deref.ensures.value c.in_ok-grant_roots.ensures in
     let are : calls ≡ calls_of said.plans = c.deref-3.ensures.value ∙ c.in_ok-calls.ensures ∙ ap calls_of c.deref-2.ensures.value in
-    is_drawing c.args.form said t run.tree calls run.events.events run.replies.items picture c.add_picture.new.out c.in_ok-came_to.ensures opened are
-    (c.in-Ok.ensures.ok ∙ ap (λ (rs : List (List Outcome)). drawn_of t calls run.events.events rs) c.deref-4.ensures.value)
-    (c.in_ok-add_picture.ensures ∙ ap (λ (old : List ℕ). old ++ form_text c.args.form picture) c.new-text.ensures)
+    is_drawing c.args.style said t run.tree calls run.events.events run.replies.items picture c.add_picture.new.out c.in_ok-came_to.ensures opened are
+    (c.in-Ok.ensures.ok ∙ ap (λ (rs : List (List Outcome)). drawn_of c.args.style.closes t calls run.events.events rs) c.deref-4.ensures.value)
+    (c.in_ok-add_picture.ensures.told ∙ ap (λ (old : List ℕ). old ++ form_text c.args.style.form picture) c.new-text.ensures) c.in_ok-add_picture.ensures.well_formed
 
 pub returns-clause-some : goal.returns-clause-some
-returns-clause-some c = drawings_some c.args.form (said_by c.args.scenario) (Ok c.add_picture.new.out) (returns-clause-drawn c)
+returns-clause-some c = drawings_some c.args.style (said_by c.args.scenario) (Ok c.add_picture.new.out) (returns-clause-drawn c)

@@ -1,6 +1,4 @@
-use Rattle.std.proofs.Common.{◌≡◌, ℕ, rules, sym, ap, ◌∙◌, false}
-use Rattle.handles.specs.declared.owner.Owner.{Owner}
-use Rattle.path_text.specs.declared.flags.Flags.{Flags}
+use Rattle.std.proofs.Common.{◌≡◌, rules}
 use Rattle.root_ops.specs.declared.op.Op.TheVariants.{Release}
 use Rattle.root_ops.specs.declared.op.Request.{Request}
 use Rattle.scripts.specs.Jobs.{release_of}

@@ -1,9 +1,8 @@
-use Rattle.std.proofs.Common.{◌≡◌, ◌++◌, [], ◌∷◌, List, length, map, rules, refl, sym, subst, ap, ◌∙◌}
+use Rattle.std.proofs.Common.{◌≡◌, List, length, rules, sym, subst, ◌∙◌}
 use Rattle.std.proofs.lemmas.List.{with_items_is}
 use Rattle.root_ops.specs.declared.op.Request.{Request}
-use Rattle.sessions.specs.Session.{SessionView}
 use Rattle.workers.specs.Serve.{IsServed}
-use Rattle.scripts.specs.Jobs.{IsServiceFault, IsBegun, AreDone, jobs_text}
+use Rattle.scripts.specs.Jobs.{IsServiceFault, jobs_text}
 use Rattle.scripts.specs.Scenario.{said_by}
 use Rattle.scripts.specs.declared.jobs.ServiceFault.{ServiceFault}
 use Rattle.scripts.proofs.Releases.{can_release, done}
