@@ -1,6 +1,6 @@
 /*
  * calls.h: the proved library's two functions, and what passes between it and a driver. The numbers and bytes are those
- * of crates/wire, whose contracts say what they stand for.
+ * of crates/wire, whose contracts say what they stand for. A program that makes calls includes inroot.h, and not this.
  */
 #ifndef INROOT_CALLS_H
 #define INROOT_CALLS_H
@@ -15,8 +15,8 @@ struct inroot_kept {
 };
 
 enum inroot_op {
-    ASK_RESOLVE = 1, ASK_RESOLVE_NOFOLLOW, ASK_READLINK, ASK_MKFILE, ASK_MKDIR, ASK_SYMLINK, ASK_UNLINK, ASK_RMDIR, ASK_RENAME,
-    ASK_MKDIR_ALL, ASK_REMOVE_ALL,
+    INROOT_ASK_RESOLVE = 1, INROOT_ASK_RESOLVE_NOFOLLOW, INROOT_ASK_READLINK, INROOT_ASK_MKFILE, INROOT_ASK_MKDIR,
+    INROOT_ASK_SYMLINK, INROOT_ASK_UNLINK, INROOT_ASK_RMDIR, INROOT_ASK_RENAME, INROOT_ASK_MKDIR_ALL, INROOT_ASK_REMOVE_ALL,
 };
 
 struct inroot_asked {
@@ -26,10 +26,11 @@ struct inroot_asked {
 };
 
 enum inroot_answer {
-    ANSWER_OPENED = 1, ANSWER_TEXT, ANSWER_NAMES, ANSWER_LISTED, ANSWER_DONE, ANSWER_REFUSED,
+    INROOT_ANSWER_OPENED = 1, INROOT_ANSWER_TEXT, INROOT_ANSWER_NAMES, INROOT_ANSWER_LISTED, INROOT_ANSWER_DONE,
+    INROOT_ANSWER_REFUSED,
 };
 
-enum inroot_kind { KIND_DIR = 1, KIND_FILE, KIND_LINK };
+enum inroot_kind { INROOT_KIND_DIR = 1, INROOT_KIND_FILE, INROOT_KIND_LINK };
 
 struct inroot_answered {
     uint64_t handle, node;
@@ -37,9 +38,11 @@ struct inroot_answered {
 };
 
 enum inroot_what {
-    STEP_OPEN = 1, STEP_DUP, STEP_PARENT, STEP_READLINK, STEP_NAME_BELOW, STEP_LIST, STEP_CLOSE, STEP_MAKE_DIR, STEP_MAKE_FILE,
-    STEP_MAKE_LINK, STEP_REMOVE_FILE, STEP_REMOVE_DIR, STEP_RENAME, STEP_WITHOUT_MEMORY,
-    REPLY_OPENED = 32, REPLY_TEXT, REPLY_DONE, REPLY_COUNT, REPLY_STEPPED, REPLY_KEPT, REPLY_FAULT,
+    INROOT_STEP_OPEN = 1, INROOT_STEP_DUP, INROOT_STEP_PARENT, INROOT_STEP_READLINK, INROOT_STEP_NAME_BELOW, INROOT_STEP_LIST,
+    INROOT_STEP_CLOSE, INROOT_STEP_MAKE_DIR, INROOT_STEP_MAKE_FILE, INROOT_STEP_MAKE_LINK, INROOT_STEP_REMOVE_FILE,
+    INROOT_STEP_REMOVE_DIR, INROOT_STEP_RENAME, INROOT_STEP_WITHOUT_MEMORY,
+    INROOT_REPLY_OPENED = 32, INROOT_REPLY_TEXT, INROOT_REPLY_DONE, INROOT_REPLY_COUNT, INROOT_REPLY_STEPPED,
+    INROOT_REPLY_KEPT, INROOT_REPLY_FAULT,
 };
 
 /* A step that is due, or the reply; `whole` where its names and texts, a NUL after each, lie at the room's beginning. */

@@ -1,6 +1,7 @@
 /* inroot-all: makes all missing directories of a path below a root, or removes what it means with all that is below. */
 #define _GNU_SOURCE
 #include "inroot.h"
+#include "error_name.h"
 
 #include <fcntl.h>
 #include <stdio.h>
@@ -24,7 +25,7 @@ int main(int count, char **words)
     }
     ssize_t result = makes ? inroot_mkdir_all(root, words[3], 0) : inroot_remove_all(root, words[3], 0);
     if (result < 0)
-        printf("fault %s\n", strerrorname_np((int)-result));
+        printf("fault %s\n", error_name((int)-result));
     else if (makes)
         puts("made");
     else

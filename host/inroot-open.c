@@ -1,6 +1,7 @@
 /* inroot-open: tells which object a path means below a root. Its statuses are those of the project's program. */
 #define _GNU_SOURCE
 #include "inroot.h"
+#include "error_name.h"
 
 #include <errno.h>
 #include <fcntl.h>
@@ -67,6 +68,6 @@ int main(int count, char **words)
     int object = inroot_open(root, words[at + 1], flags);
     if (object >= 0)
         return tell(object);
-    printf("fault %s\n", strerrorname_np(-object));
+    printf("fault %s\n", error_name(-object));
     return fflush(stdout) == 0 ? 0 : FAULT;
 }

@@ -5,18 +5,32 @@
  * inside, and then acts on the directory that it found, by its open descriptor. Which step comes next, and what each
  * answer means, is decided by a proved library; the steps are system calls of this program.
  *
- * ROOT is a descriptor of the directory (O_PATH is enough) for which the file system below is asked where an object
- * stands by the links of /proc/self/fd (proc(5)). That is several moments: the calls need that nobody renames the root or
- * a directory above it meanwhile. Or ROOT is INROOT_JAIL in a thread that inroot_jail() has moved below a root: then
- * it is one answer of the kernel, and nothing need be left alone. PATH is a text of at most 4,095 bytes.
+ * ROOT is a descriptor of the directory (O_PATH is enough). Where an object stands below it is then read from the links of
+ * /proc/thread-self/fd (proc(5)), of the root, the object and the root again. That is three moments: the calls promise
+ * nothing where the root or a directory above it is renamed meanwhile. Or ROOT is INROOT_JAIL in a thread that
+ * inroot_jail() has moved below a root: then it is one answer of the kernel for a directory, wherever the root is moved.
+ * For what is no directory the thread reads one link, which of an object outside is the path from the top: an object that
+ * is moved out of the root, to just the path from the top that it had from the root, is taken for one inside.
  *
- * FLAGS: INROOT_BENEATH refuses what would lead out of the root (RESOLVE_BENEATH), INROOT_NO_LINKS every symbolic link
- * (RESOLVE_NO_SYMLINKS), and INROOT_NOFOLLOW, of inroot_open() alone, opens a link at the end of PATH itself (O_NOFOLLOW).
+ * PATH is a text of at most 4,095 bytes, and not NULL. A path text is read before the call's first step and not later.
+ *
+ * FLAGS are 0 or any of these together:
+ *
+ *   INROOT_BENEATH   refuses what would lead out of the root (RESOLVE_BENEATH)
+ *   INROOT_NO_LINKS  refuses every symbolic link on the way (RESOLVE_NO_SYMLINKS)
+ *   INROOT_NOFOLLOW  of inroot_open() alone: opens a link at the end of PATH itself (O_NOFOLLOW)
+ *   INROOT_NO_RETRY  makes one try
+ *
+ * A call that finds that others moved or removed what it had come to begins again: it makes up to INROOT_TRIES tries, the
+ * first eight one after another, and before each other one it waits, 10 microseconds at first and twice as long each time
+ * up to a millisecond, so some 20 milliseconds in all. Then it gives EAGAIN. Who renames without end can make it fail so: in
+ * the races of docs/HOST.md one to three of a hundred calls ended so with one try, and none of a million with all.
  *
  * Every call gives -errno where it fails, and then leaves no descriptor open. In this order:
  *
  *   EINVAL        a flag that is none; of a rename a mode that is none
  *   EBADF         ROOT is no descriptor; INROOT_JAIL in a thread that wasn't moved
+ *   ENOTDIR       ROOT is no directory
  *   ENOMEM        no memory for the call, here or at any step
  *   ENOENT        PATH is empty
  *   ENAMETOOLONG  PATH is longer than 4,095 bytes
@@ -24,15 +38,25 @@
  *   ENOTDIR       a slash at the end of PATH, where what is no directory is made or removed
  *   ENAMETOOLONG  the last name is longer than 255 bytes, where an entry is changed
  *   EXDEV         the path leads out of the root, under INROOT_BENEATH
- *   ENAMETOOLONG  a name on the way is longer than 255 bytes, or a link's text than 4,095
+ *   ENAMETOOLONG  a name on the way is longer than 255 bytes, or a link's text or an object's own path than 4,095
  *   ENOTDIR       what a part stands in is no directory
  *   ENOENT        a name on the way isn't there
  *   ELOOP         more than 40 links, or one under INROOT_NO_LINKS
+ *   ENOSYS        a place is to be asked for by /proc, and there is no proc(5) with thread-self
  *   EAGAIN        something was moved or removed meanwhile, so that what was found isn't known to be inside
  *   EMFILE        no descriptor is left
  *   any other     that a system call of a step gave, as EACCES, EIO, ENFILE or ESTALE
  *
- * and then those of the one step on the last name, which each call tells.
+ * and then those of the one step on the last name, which each call tells. EINTR is told only of a step that changes an
+ * entry, on a file system that lets signals interrupt one; whether the entry was changed isn't known then.
+ *
+ * EAGAIN is also what an object gives that is no directory and whose name ends in ` (deleted)`, at every try: the kernel
+ * writes just this behind the path of what is removed.
+ *
+ * The calls leave alone: what is open, signal masks and handlers, errno's meaning (it may change), umask and current
+ * directory but as inroot_jail() says. Any number of threads may make calls, on one root or several. A thread that is
+ * cancelled (pthread_cancel(3)) in a call ends after it. A call takes up to 32 kilobytes of the thread's stack. docs/HOST.md
+ * tells of signals, fork(2), vfork(2) and CLONE_FILES.
  */
 #ifndef INROOT_H
 #define INROOT_H
@@ -40,11 +64,23 @@
 #include <stddef.h>
 #include <sys/types.h>
 
+#ifdef __cplusplus
+extern "C" {
+#endif
+
+/* The version of this header; and of the library that is linked, which inroot_version() gives. */
+#define INROOT_VERSION "0.1.0"
+const char *inroot_version(void);
+
 enum {
     INROOT_BENEATH = 1,
     INROOT_NO_LINKS = 2,
     INROOT_NOFOLLOW = 4,
+    INROOT_NO_RETRY = 8,
 };
+
+/* How often a call is tried, where others are in its way. */
+enum { INROOT_TRIES = 32 };
 
 /* In place of ROOT: the directory below which inroot_jail() has moved this thread. */
 #define INROOT_JAIL (-2)
@@ -53,32 +89,54 @@ enum {
 enum { INROOT_PLAIN = 0, INROOT_NOREPLACE = 1, INROOT_EXCHANGE = 2 };
 
 /*
- * Gives the calling thread a root directory of its own (unshare(2), CLONE_FS) and changes it to ROOT (chroot(2)), so
- * that its calls may be given INROOT_JAIL. Other threads keep theirs. A thread that was moved can't be moved back, and its
- * current directory changes with each call, so that a program keeps a thread for it. Needs /proc, and CAP_SYS_CHROOT,
- * which unshare(2) with CLONE_NEWUSER gives.
+ * Has the calls ask the proc(5) whose topmost directory PROC is a descriptor of, in place of /proc. It may be called once, and
+ * before the first other call; a call that comes first opens /proc. PROC may be closed afterwards.
  *
- * Gives 0; -EBUSY in a thread that was moved already, -ENOENT without /proc, -EMFILE, -EBADF or -ENOTDIR where ROOT is no
- * directory's, -EPERM without the capability.
+ * Gives 0; -EBADF where PROC is no descriptor, -EINVAL where it is of another file system, -EMFILE, -EBUSY where there is one
+ * already. It isn't seen whether PROC is the topmost directory: calls give ENOSYS where it isn't.
+ */
+int inroot_use_proc(int proc);
+
+/*
+ * Gives the calling thread a root directory, a current directory and a umask of its own (unshare(2), CLONE_FS) and changes the
+ * first two to ROOT (chroot(2)), so that its calls may be given INROOT_JAIL. Other threads keep theirs. A thread that was
+ * moved can't be moved back. Its current directory is that root after each call. Needs CAP_SYS_CHROOT, which unshare(2) with
+ * CLONE_NEWUSER gives, and a /proc to ask for what is no directory.
+ *
+ * Leave alone in such a thread: its root directory, by chroot(2), pivot_root(2) or setns(2). A thread that it makes has the
+ * same root, and isn't a moved one.
+ *
+ * Gives 0; -EBUSY in a thread that was moved already, -EBADF or -ENOTDIR where ROOT is no directory's, -EPERM without the
+ * capability, -ENOSYS without /proc, -EMFILE, -EACCES where ROOT may not be searched. Then the thread is as before, but where
+ * chroot(2) itself was refused, as by a security module: its current directory is the same then, but its own from there on.
  */
 int inroot_jail(int root);
 
-/* Closes the two descriptors that inroot_jail() keeps for the calling thread, before it ends. It stays below the root. */
+/* Ends what inroot_jail() began: calls of this thread may not be given INROOT_JAIL then. The thread stays below the root. */
 void inroot_jail_done(void);
 
-/* Opens what PATH means, as openat2(2) does with O_PATH. Gives a descriptor (O_PATH and O_CLOEXEC). */
+/*
+ * Opens what PATH means, as openat2(2) does with O_PATH. Gives a descriptor (O_PATH and O_CLOEXEC), which shares nothing with
+ * ROOT. It isn't promised that the object stands there still: it did at a moment of the call.
+ */
 int inroot_open(int root, const char *path, int flags);
 
 /*
- * Reads the text of the link at the end of PATH (readlinkat(2)). Gives its length, and writes as much of it as fits
+ * Reads the text of the link at the end of PATH (readlinkat(2)). Gives its length in bytes, and writes as much of it as fits
  * into SIZE bytes, without a NUL. EINVAL where it is no link.
  */
 ssize_t inroot_readlink(int root, const char *path, int flags, char *text, size_t size);
 
-/* Makes an empty file (mknodat(2)). Gives 0. EEXIST where there is such an entry, and what mknodat(2) has beside it. */
+/*
+ * Makes an empty file (mknodat(2)), of mode 0666 less the umask. Gives 0. EEXIST where there is such an entry, a link too, and
+ * what mknodat(2) has beside it.
+ */
 int inroot_mkfile(int root, const char *path, int flags);
 
-/* Makes an empty directory (mkdirat(2)). Gives 0. EEXIST where there is such an entry, and what mkdirat(2) has beside it. */
+/*
+ * Makes an empty directory (mkdirat(2)), of mode 0777 less the umask. Gives 0. EEXIST where there is such an entry, and what
+ * mkdirat(2) has beside it.
+ */
 int inroot_mkdir(int root, const char *path, int flags);
 
 /* Makes a link with that text (symlinkat(2)). Gives 0. EEXIST where there is such an entry, and what symlinkat(2) has beside it. */
@@ -91,23 +149,34 @@ int inroot_unlink(int root, const char *path, int flags);
 int inroot_rmdir(int root, const char *path, int flags);
 
 /*
- * Renames the entry of OLD to NEW by MODE (renameat2(2)). A slash at the end of either demands a directory. Gives 0, or
+ * Renames the entry FROM to TO by MODE (renameat2(2)). A slash at the end of either demands a directory. Gives 0, or
  * the errors of renameat2(2); EINVAL of another MODE.
  */
-int inroot_rename(int root, const char *old, const char *new, int mode, int flags);
+int inroot_rename(int root, const char *from, const char *to, int mode, int flags);
 
 /*
- * Makes all directories of PATH that are missing (mkdirat(2)), none of them through a link, and opens the last. Gives a
- * descriptor (O_PATH and O_CLOEXEC). ENOTDIR where what stands there is no directory, ENOENT for `..` after a missing
- * name, and what mkdirat(2) has beside it. What was made before an error stays.
+ * Makes all directories of PATH that are missing (mkdirat(2)), of mode 0777 less the umask, none of them through a link, and
+ * opens the last. Gives a descriptor (O_PATH and O_CLOEXEC). ENOTDIR where what stands there is no directory, ENOENT for
+ * `..` after a missing name and for a link whose text leads to what is missing, and what mkdirat(2) has beside it. What was
+ * made before an error stays.
  */
 int inroot_mkdir_all(int root, const char *path, int flags);
 
 /*
  * Removes the entry of PATH with all that is below it (unlinkat(2)); of a link the link alone. Gives how many entries it
- * removed, 0 where there was none. EBUSY after 600,000 steps of it, and what unlinkat(2) has beside it. What was removed
- * before an error stays removed.
+ * removed, 0 where there was none. What was removed before an error stays removed.
+ *
+ * It goes to any depth, holds some 40 descriptors at most, fewer where fewer are left, and less than 64 megabytes. It goes on
+ * as long as it removes something: who makes entries without end can keep it from ending. A directory that is moved
+ * meanwhile, while the call is below it, counts as a try, and these are counted from the last removal on.
+ *
+ * EBUSY where an entry is in use, as a mount point, or after 600,000 steps without a removal; ENAMETOOLONG where a directory
+ * has a name of more than 255 bytes, as vfat and ntfs allow; and what unlinkat(2) has beside it.
  */
 ssize_t inroot_remove_all(int root, const char *path, int flags);
+
+#ifdef __cplusplus
+}
+#endif
 
 #endif

@@ -1,10 +1,10 @@
 /*
  * agree: inroot_open() beside openat2(2) on random trees that stand still, half of the cases by /proc and half in a jail.
  *
- * usage: agree DIR CASES. Exits 0 where each case agrees: the same object, or the same error. 77: no openat2(2) here.
+ * usage: agree DIR CASES. Exits 0 where each case agrees: the same object, or the same error. 77: no openat2(2)
+ * here. 78: no right to change a root.
  */
 #define _GNU_SOURCE
-#include "../inroot.h"
 #include "support.h"
 
 #include <errno.h>
@@ -16,7 +16,7 @@
 #include <sys/syscall.h>
 #include <unistd.h>
 
-enum { TREES = 40, NODES = 24, PARTS = 7, NO_OPENAT2 = 77 };
+enum { TREES = 40, NODES = 24, PARTS = 7 };
 
 static const char *const names[] = {"a", "b", "c", "d", "e.x"};
 
@@ -146,6 +146,9 @@ int main(int count, char **words)
     int base = sure(open(words[1], O_PATH | O_DIRECTORY | O_CLOEXEC), words[1]), cases = atoi(words[2]), differ = 0;
     if (by_kernel(base, ".", 0) == -ENOSYS)
         return NO_OPENAT2;
+    if (!may_jail(base))
+        return NO_RIGHT;
+    open_proc();
     int before = open_descriptors();
     for (int tree = 0; tree < TREES; tree++) {
         struct batch batch = {.root = make_tree(base, tree), .cases = cases / TREES};

@@ -5,9 +5,9 @@
  * usage: bulk DIR SECONDS. Exits 0 where that holds.
  */
 #define _GNU_SOURCE
-#include "../inroot.h"
 #include "support.h"
 
+#include <dirent.h>
 #include <errno.h>
 #include <fcntl.h>
 #include <limits.h>
@@ -116,6 +116,8 @@ int main(int count, char **words)
     if (count != 3)
         return 2;
     base = sure(open(words[1], O_PATH | O_DIRECTORY | O_CLOEXEC), words[1]);
+    if (!may_jail(base))
+        return NO_RIGHT;
     if (realpath(words[1], outside) == NULL)
         return 1;
     strcat(outside, "/out");
@@ -123,6 +125,7 @@ int main(int count, char **words)
         sure(mkdirat(base, dirs[at], 0755), dirs[at]);
     sure(mknodat(base, "out/e/keep", S_IFREG | 0600, 0), "keep");
     root = sure(openat(base, "root", O_PATH | O_DIRECTORY | O_CLOEXEC), "root");
+    open_proc();
     int before = open_descriptors();
     pthread_create(&swapper, NULL, swap, NULL);
     for (int at = 0; at < 2; at++)

@@ -2,10 +2,37 @@
 #ifndef SUPPORT_H
 #define SUPPORT_H
 
-#include <dirent.h>
+#include "../inroot.h"
+
+#include <fcntl.h>
+#include <stdarg.h>
+#include <stdbool.h>
 #include <stdint.h>
 #include <stdio.h>
 #include <stdlib.h>
+#include <sys/wait.h>
+#include <unistd.h>
+
+/* How a check ends that the machine doesn't let run: the script tells which. */
+enum { NO_OPENAT2 = 77, NO_RIGHT = 78 };
+
+/* How many times something wasn't as it is to be. */
+static int wrong;
+
+/* Tells what wasn't. */
+__attribute__((format(printf, 2, 3), unused)) static void expect(bool holds, const char *what, ...)
+{
+    va_list words;
+    if (holds)
+        return;
+    __atomic_add_fetch(&wrong, 1, __ATOMIC_RELAXED);
+    va_start(words, what);
+    fputs("not so: ", stdout);
+    vprintf(what, words);
+    putchar('\n');
+    fflush(stdout);
+    va_end(words);
+}
 
 /* A random number below a bound, from a state of one's own (xorshift64). */
 static inline unsigned pick(uint64_t *state, unsigned bound)
@@ -26,16 +53,56 @@ static inline int sure(int result, const char *what)
     return result;
 }
 
+/* Asked one by one, since below the root of a jail there is no /proc. */
 static inline int open_descriptors(void)
 {
     int count = 0;
-    DIR *all = opendir("/proc/self/fd");
-    if (all == NULL)
-        exit(1);
-    while (readdir(all) != NULL)
-        count++;
-    closedir(all);
+    for (int at = 0; at < 2048; at++)
+        count += fcntl(at, F_GETFD) >= 0;
     return count;
+}
+
+/* Has the calls ask a /proc that is open already, so that descriptors can be counted. */
+static inline void open_proc(void)
+{
+    int proc = sure(open("/proc", O_PATH | O_DIRECTORY | O_CLOEXEC), "/proc");
+    int failed = inroot_use_proc(proc);
+    close(proc);
+    if (failed)
+        exit(1);
+}
+
+/* Runs it in a process of its own, and adds up what wasn't as it is to be. */
+__attribute__((unused)) static int apart(void (*what)(void))
+{
+    int status;
+    fflush(stdout);
+    pid_t child = sure(fork(), "fork");
+    if (child == 0) {
+        wrong = 0;
+        what();
+        fflush(stdout);
+        _exit(wrong > 100 ? 100 : wrong);
+    }
+    sure(waitpid(child, &status, 0), "waitpid");
+    if (!WIFEXITED(status))
+        expect(false, "it ended by signal %d", WTERMSIG(status));
+    else if (WEXITSTATUS(status) == NO_OPENAT2 || WEXITSTATUS(status) == NO_RIGHT)
+        return WEXITSTATUS(status);
+    else
+        wrong += WEXITSTATUS(status);
+    return 0;
+}
+
+/* Whether threads may be given a root of their own here. */
+__attribute__((unused)) static bool may_jail(int root)
+{
+    int status;
+    pid_t child = sure(fork(), "fork");
+    if (child == 0)
+        _exit(inroot_jail(root) == 0 ? 0 : 1);
+    sure(waitpid(child, &status, 0), "waitpid");
+    return WIFEXITED(status) && WEXITSTATUS(status) == 0;
 }
 
 #endif

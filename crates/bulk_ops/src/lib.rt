@@ -27,6 +27,3 @@ pub use make_all_laws::{
 };
 pub use remove_all::{CLEARING_STEPS_MAX, RemoveAll, quiet_remove_all, remove_all_tells};
 pub use turn::BulkTurn;
-
-#[cfg(test)]
-mod tests;

@@ -17,8 +17,6 @@ mod frame;
 mod laws;
 mod like;
 mod phase;
-#[cfg(test)]
-mod tests;
 
 pub use clearing::CLEARING_STEPS_MAX;
 pub use laws::{quiet_remove_all, remove_all_tells};

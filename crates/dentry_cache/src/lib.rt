@@ -12,6 +12,3 @@ mod key;
 pub mod laws;
 
 pub use cache::{CAP_MAX, DentryCache};
-
-#[cfg(test)]
-mod tests;

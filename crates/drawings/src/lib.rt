@@ -15,8 +15,6 @@ mod notes;
 mod picture;
 mod places;
 mod svg;
-#[cfg(test)]
-mod tests;
 mod text;
 
 pub use calls::{CallWords, calls_of};

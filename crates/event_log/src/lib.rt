@@ -11,8 +11,6 @@ mod log;
 mod print;
 mod read;
 mod shape;
-#[cfg(test)]
-mod tests;
 mod write;
 
 pub use log::{EventLog, TEXTS_MAX};

@@ -27,8 +27,6 @@ mod scene;
 mod search;
 mod seen;
 mod tally;
-#[cfg(test)]
-mod tests;
 mod want;
 mod ways;
 

@@ -12,6 +12,3 @@ mod states;
 
 pub use owner::Owner;
 pub use states::{Reached, Standing};
-
-#[cfg(test)]
-mod tests;

@@ -1,21 +1,18 @@
 //! The program: resolves paths below a root, over the tree that a script on standard input gives, replays, draws and
 //! explores scripts of calls that race, and lets workers make a script's calls.
 //!
-//! It reads its command line, hands standard input and output to the libraries `scripts` and `surveys`, where it is stated
-//! what a run writes, and ends with the status that `ending` says of what happened.
+//! It hands the words of its command line to `command_line`, and standard input and output to `script_runs`,
+//! `script_drawings`, `script_jobs` and `surveys`, where it is stated what a run writes; it ends with the status that
+//! `command_line` says of what happened.
 #![tactic(auto)]
 
-mod command;
-mod ending;
-#[cfg(test)]
-mod tests;
 mod waiting;
 
-ghost use Rattle.inroot.specs.Ending.{IsOrder};
-
-use command::{Request, asked, command};
-use ending::{Fault, status};
-use scripts::{RunFault, TurnOrder, draw, read_turns, replay, run_jobs, walk};
+use command_line::{Fault, Request, asked, command, order_of, status};
+use script_drawings::draw;
+use script_jobs::run_jobs;
+use script_runs::{replay, walk};
+use scripts::RunFault;
 use std::alloc::Global;
 use std::process::ExitCode;
 use std::sync::Wait;
@@ -46,19 +43,6 @@ fn words(rt: &HostRuntime) -> Result<Vec<String>, Fault> {
         Ok(words) => Ok(words.collect(rt.alloc())?),
         Err(error) if error.kind() == io::ErrorKind::InvalidData => Err(Fault::NotUtf8),
         Err(_) => Err(Fault::Run(RunFault::NoMemory)),
-    }
-}
-
-/// The order of turns that a command line asks for. Errors: `Schedule` where they have another form; `NoMemory`.
-fn order_of(alloc: Global, schedule: Option<&str>) -> Result<TurnOrder, Fault>
-    ensures { IsOrder schedule.entry result }
-{
-    let Some(text) = schedule else {
-        return Ok(TurnOrder::OfScript);
-    };
-    match read_turns(alloc, text)? {
-        Some(turns) => Ok(TurnOrder::Asked(turns)),
-        None => Err(Fault::Schedule),
     }
 }
 

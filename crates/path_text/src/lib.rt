@@ -27,6 +27,3 @@ pub use name::{NAME_MAX, Name, SLASH};
 pub use names::Names;
 pub use part::{Component, Part, Parts};
 pub use path::{PARTS_MAX, Path, Rule, Split, TEXT_MAX};
-
-#[cfg(test)]
-mod tests;

@@ -25,12 +25,8 @@ mod opening;
 mod plan;
 mod report;
 mod seat;
-#[cfg(test)]
-mod tests;
 mod world;
 mod world_laws;
-#[cfg(test)]
-mod world_tests;
 
 pub use book::{Book, LINES_MAX, OpenRefusal};
 pub use laws::free_lines_never_rise;

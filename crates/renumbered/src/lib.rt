@@ -10,8 +10,6 @@
 mod copies;
 mod exchange;
 mod meeting;
-#[cfg(test)]
-mod tests;
 mod whole;
 
 pub use whole::{Renumbered, renumber};

@@ -9,8 +9,6 @@ mod history;
 mod laws;
 mod outcomes;
 mod state;
-#[cfg(test)]
-mod tests;
 mod whole;
 mod words;
 

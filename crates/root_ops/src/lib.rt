@@ -36,6 +36,3 @@ pub use like_laws::like_calls_agree;
 pub use op::{Op, Request};
 pub use quiet_laws::{operations_keep_trees, quiet_calls_mean, worked_operations, worked_rename};
 pub use reply::Reply;
-
-#[cfg(test)]
-mod tests;

@@ -4,13 +4,8 @@ pub mod Each
 pub mod Entries
 pub mod FirstRefused
 pub mod Roots
-pub mod Lines
 pub mod Opened
 pub mod Scenarios
+pub mod Scenes
 pub mod Playable
-pub mod Replays
-pub mod Shown
-pub mod Owners
-pub mod Services
-pub mod Releases
-pub mod Drawings
+pub mod Texts

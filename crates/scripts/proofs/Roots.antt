@@ -1,10 +1,11 @@
 -- A root that was granted in a tree without open handles.
-use Rattle.std.proofs.Common.{◌≡◌, ℕ, List, [], length, refl, sym, ap, ◌∙◌, subst, lit≤}
-use Rattle.std.specs.Prelude.{Option, Result, Ok, Err}
+use Rattle.std.proofs.Common.{◌≡◌, ℕ, ◌<◌, ◌≤◌, false, List, [], length, refl, sym, ap, ◌∙◌, subst, arith, lit≤}
+use Rattle.std.proofs.lemmas.List.Sums.{count_by-le-length}
+use Rattle.std.specs.Prelude.{Option, Result, Ok, Err, nat_le, ◌||◌}
 use Rattle.path_text.specs.declared.errno.Errno.{Errno}
 use Rattle.tree_model.specs.declared.inode.OpenHandle.{OpenHandle}
 use Rattle.tree_model.specs.State.{State, TOP}
-use Rattle.tree_model.specs.Steps.{directory_at, grants, grants_at, IsGrant, with_handle}
+use Rattle.tree_model.specs.Steps.{directory_at, grants, grants_at, held_count, is_full, is_held_by, IsGrant, with_handle}
 use Rattle.tree_model.specs.StepLaws.{GrantsKeepTrees}
 use Rattle.tree_model.specs.Trees.{IsState}
 use Rattle.tree_model.proofs.StepsKept.{directory_at-is_dir}
@@ -51,3 +52,14 @@ pub opened_root : GrantsKeepTrees → (s t : State) (a h : ℕ) (names : List (L
     → IsAtHand (rooted s.nodes (directory_at s.nodes TOP names)) t ACTOR h
 opened_root keep s t a h names tree g =
     opened_at s t (directory_at s.nodes TOP names) h names g.none (granted_tree keep s t a h names tree g.gave) refl (of_root s t a names (Ok h) g)
+
+-- ---- room for further handles
+
+-- so few handles fill no actor's room
+pub has_room : (s : State) (i : ℕ) → length s.handles < 64 → is_full s i ≡ false
+has_room s i few =
+    let fewer : held_count s i ≤ length s.handles = count_by-le-length (is_held_by i) s.handles in
+    by (held_count s i) (length s.handles) (omega (arith, fewer, few)) few
+  where
+    by : (held numbers : ℕ) → held < 64 → numbers < 64 → (nat_le 1024 held || nat_le 281474976710656 numbers) ≡ false
+    by held numbers few_held few_numbers = search arith

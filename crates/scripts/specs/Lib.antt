@@ -1,21 +1,11 @@
-pub use Rattle.tree_list.specs.Build
-pub use Rattle.path_text.specs.Errno
-pub use Rattle.path_text.specs.Name
-pub use Rattle.path_text.specs.Print
-pub use Rattle.path_text.specs.Reading
-pub use Rattle.path_text.specs.Text
 pub mod Actors
 pub mod Calls
 pub mod Checks
-pub mod Drawing
 pub mod Fault
 pub mod Fields
 pub mod Input
-pub mod Jobs
 pub mod Labels
 pub mod Plans
-pub mod Replay
-pub mod Run
 pub mod Scenario
 pub mod Schedule
 pub mod Script
@@ -25,3 +15,4 @@ pub mod TreeLaws
 pub mod Turns
 pub mod Version
 pub mod Words
+pub mod Writing

@@ -14,8 +14,6 @@ mod laws;
 mod open;
 mod service;
 mod session;
-#[cfg(test)]
-mod tests;
 
 pub use close::{CloseCause, CloseRefusal, Closed, Stopped};
 pub use gate::{Gate, NoGate, Pause};

@@ -34,6 +34,3 @@ pub use plain::resolve_whole;
 pub use trail_laws::{links_add_up, quiet_trails_mean, trails_append, trails_split};
 pub use walk::{Root, Turn, Walk, like_held};
 pub use walk_plan::Goal;
-
-#[cfg(test)]
-mod tests;

@@ -222,6 +222,3 @@ pub fn resolve_whole(
     let Arrived { node, .. } = text_means(&on, root, text, follow, LINKS_MAX)?;
     Ok(node)
 }
-
-#[cfg(test)]
-mod tests;

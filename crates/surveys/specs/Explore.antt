@@ -4,7 +4,7 @@ use Rattle.std.specs.Io.KnownBytes.{Keeps}
 use Rattle.scripts.specs.declared.fault.RunFault.TheVariants.{WriteFailed, NoMemory as OutOfMemory}
 use Rattle.scripts.specs.declared.fault.ScriptFault.{ScriptFault}
 use Rattle.scripts.specs.declared.turns.TurnOrder.TheVariants.{OfScript}
-use Rattle.scripts.specs.Replay.{tree_of, IsNoRun, IsWritingFaultOf, Wrote}
+use Rattle.scripts.specs.Writing.{tree_of, IsNoRun, IsWritingFaultOf, Wrote}
 use Rattle.scripts.specs.Scenario.{Said, said_for}
 use Rattle.surveys.specs.declared.script.ExploreFault.{ExploreFault}
 use Rattle.surveys.specs.declared.script.ExploreFault.TheVariants.{Run, NoSuchActor, NoSuchLine, TooManyStates, TooManyTurns}

@@ -20,8 +20,6 @@ mod search;
 mod survey;
 mod tellable;
 mod telling;
-#[cfg(test)]
-mod tests;
 
 pub use counts::COUNT_MAX;
 pub use explore::{Progress, Silent};

@@ -9,8 +9,6 @@ mod laws;
 mod lent;
 mod output;
 mod reader;
-#[cfg(test)]
-mod tests;
 mod words;
 
 pub use laws::names_are_told_apart;

@@ -16,6 +16,3 @@ pub use build::{BuildFault, Entry, New};
 pub use entries::put_at;
 pub use read::{directory_at, is_within, names_below};
 pub use tree::{ListTree, copy_nodes};
-
-#[cfg(test)]
-mod tests;

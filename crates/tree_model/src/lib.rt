@@ -13,8 +13,6 @@ mod number;
 mod row;
 mod snapshot;
 mod step;
-#[cfg(test)]
-mod tests;
 mod tree;
 
 pub use answer::{Answer, Event};

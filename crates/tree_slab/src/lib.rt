@@ -17,6 +17,3 @@ mod tree;
 
 pub use dentry_cache::CAP_MAX;
 pub use tree::SlabTree;
-
-#[cfg(test)]
-mod tests;

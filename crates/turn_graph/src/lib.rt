@@ -12,6 +12,3 @@ mod graph;
 
 pub use count::{COUNT_CAP, Count, Counts, Least};
 pub use graph::{Graph, Spot, Way};
-
-#[cfg(test)]
-mod tests;

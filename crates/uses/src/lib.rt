@@ -13,6 +13,3 @@ mod lookup;
 pub use among_others::{EachTurn, Others, resolve_among};
 pub use counting::Counting;
 pub use lookup::{look_up, node_at};
-
-#[cfg(test)]
-mod tests;

@@ -9,8 +9,6 @@
 mod goal;
 mod laws;
 mod plan;
-#[cfg(test)]
-mod tests;
 
 pub use goal::Goal;
 pub use laws::{fewer_parts_are_left, plans_keep_their_limits};

@@ -19,6 +19,3 @@ pub use kept::Kept;
 pub use laws::{conversations_are_calls, conversations_tell};
 pub use numbers::{Answered, Asked, Told};
 pub use turns::{begin, next};
-
-#[cfg(test)]
-mod tests;

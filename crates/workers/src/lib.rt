@@ -8,8 +8,6 @@
 mod room;
 mod serving;
 mod tally;
-#[cfg(test)]
-mod tests;
 mod told;
 mod worker;
 

@@ -5,7 +5,7 @@ use Rattle.serde_json.specs.View.{view}
 use Rattle.scripts.specs.declared.input.TheConstants.{SCRIPT_MAX}
 use Rattle.scripts.specs.Input.{data_of}
 use Rattle.scripts.specs.Scenario.{nodes_in, said_by, said_for, IsReadingFaultOf}
-use Rattle.scripts.proofs.Drawings.{said_so, read_before}
+use Rattle.scripts.proofs.Scenes.{said_so, read_before}
 use Rattle.scripts.proofs.scenario.read_scene.Goals as goal
 
 pub returns-in_err-tree-clause-err : goal.returns-in_err-tree-clause-err

@@ -1,0 +1,7 @@
+//! MkdirAll and RemoveAll among others' steps, by tables.
+#![tactic(auto)]
+
+#[cfg(test)]
+mod mkdir_all;
+#[cfg(test)]
+mod remove_all;

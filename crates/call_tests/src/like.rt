@@ -1,0 +1,235 @@
+//! Requests, answers and calls that differ in the numbers of their handles alone, and others that don't.
+use crate::calls::{OWN, grant, open, run, step};
+use crate::requests::request_of;
+use fixtures::{PLAIN, base_tree, root};
+use path_text::{Errno, NoMemory};
+use root_ops::{Call, CallTurn, Request, like_answers, push_answer_handles};
+use std::alloc::Global;
+use std::test::*;
+use step_resolver::Root;
+use tree_list::ListTree;
+use tree_model::{Answer, HandleNo, Kind, Node};
+
+// Two requests, whether they are alike, and the handles of the first.
+const REQUESTS: [(&str, &str, bool, &[u64]); 12] = [
+    ("resolve a", "resolve a", true, &[]),
+    ("resolve a", "resolve b", false, &[]),
+    ("resolve a", "no_follow a", false, &[]),
+    ("create_link l q", "create_link l r", false, &[]),
+    ("rename a b plain", "rename a b exchange", false, &[]),
+    ("list 3", "list 4", true, &[3]),
+    ("list 3", "close 3", false, &[3]),
+    ("below 5 6", "below 0 0", true, &[5, 6]),
+    ("make_link 2 l q", "make_link 2 l r", false, &[2]),
+    (
+        "rename 2 b 1 c plain",
+        "rename 1 b 1 c plain",
+        true,
+        &[2, 1],
+    ),
+    (
+        "rename 2 b 1 c plain",
+        "rename 2 b 1 d plain",
+        false,
+        &[2, 1],
+    ),
+    (
+        "rename 2 b 1 c plain",
+        "rename 2 b 1 c exchange",
+        false,
+        &[2, 1],
+    ),
+];
+
+// Whether these are the handles of those numbers.
+fn are(handles: &[HandleNo], numbers: &[u64]) -> bool {
+    handles.len() == numbers.len()
+        && handles
+            .iter()
+            .zip(numbers)
+            .all(|(handle, number)| handle.number() == *number)
+}
+
+// Whether the request has these handles.
+fn has_handles(alloc: Global, request: &Request, numbers: &[u64]) -> bool {
+    let mut handles = Vec::new(alloc);
+    request.push_handles(&mut handles).is_ok() && are(&handles, numbers)
+}
+
+// Whether the request of a line is like the other or not, as it is said, and has these handles.
+fn is_so(alloc: Global, line: &str, other: &str, is_like: bool, numbers: &[u64]) -> bool {
+    let request = request_of(alloc, line, PLAIN);
+    let other = request_of(alloc, other, PLAIN);
+    let is_so = request.is_like(&other) == is_like && has_handles(alloc, &request, numbers);
+    drop(request);
+    drop(other);
+    is_so
+}
+
+fn opened(handle: u64, node: u64) -> Answer {
+    Answer::Opened {
+        handle: HandleNo::new(handle),
+        node: Node::new(node),
+        kind: Kind::Dir,
+    }
+}
+
+// Whether handle 7 on that node is told like handle 8 on node 1.
+fn is_told_like(node: u64) -> bool {
+    let (answer, other) = (opened(7, node), opened(8, 1));
+    let is_like = like_answers(&answer, &other);
+    drop(answer);
+    drop(other);
+    is_like
+}
+
+// Pushes the answer's handles, and tells whether that was done.
+fn pushes(answer: Answer, handles: &mut Vec<HandleNo>) -> bool {
+    let is_pushed = push_answer_handles(&answer, handles).is_ok();
+    drop(answer);
+    is_pushed
+}
+
+// Whether two answers have the handle that the first opened.
+fn have_their_handle(alloc: Global) -> bool {
+    let mut handles = Vec::new(alloc);
+    pushes(opened(7, 1), &mut handles) && pushes(Answer::Done, &mut handles) && are(&handles, &[7])
+}
+
+// A call, another that is made on an equal tree on which each handle's number is one greater, and whether these are alike.
+const CALLS: [(&str, &str, bool); 12] = [
+    ("resolve abs/f", "resolve abs/f", true),
+    ("read_link a/../abs", "read_link a/../abs", true),
+    ("create_link a/l q", "create_link a/l q", true),
+    ("rename a/b/ z plain", "rename a/b/ z plain", true),
+    (
+        "rename abs up/none/x exchange",
+        "rename abs up/none/x exchange",
+        true,
+    ),
+    ("mkdir_all abs/n/m", "mkdir_all abs/n/m", true),
+    ("remove_all a", "remove_all a", true),
+    ("list 0", "list 1", true),
+    ("resolve a", "no_follow a", false),
+    ("create_dir n", "create_file n", false),
+    ("rename a/b x plain", "rename a/b x noreplace", false),
+    ("rename a/b c/x plain", "rename a/b c/y plain", false),
+];
+
+fn handles_of(alloc: Global, call: &Call) -> Result<Vec<HandleNo>, NoMemory> {
+    let mut handles = Vec::new(alloc);
+    call.push_handles(&mut handles)?;
+    Ok(handles)
+}
+
+// Whether each of the others is one greater.
+fn are_next(handles: &[HandleNo], others: &[HandleNo]) -> bool {
+    handles.len() == others.len()
+        && handles.iter().zip(others).all(|(handle, other)| handle.number().checked_add(1)
+            == Some(other.number()))
+}
+
+// Whether the calls are alike, and each handle of the other is one greater.
+fn are_alike(alloc: Global, call: &Call, other: &Call) -> Result<bool, NoMemory> {
+    let handles = handles_of(alloc, call)?;
+    Ok(call.is_like(other) && are_next(&handles, &handles_of(alloc, other)?))
+}
+
+// Whether nothing was due any more.
+fn was_over(alloc: Global, tree: &mut ListTree, turn: CallTurn) -> bool {
+    let (reply, steps) = run(alloc, tree, turn, 0, "");
+    drop(reply);
+    steps == 0
+}
+
+// Whether the calls are alike at each turn, of which there is one at least, and their ends both come at once.
+fn go_alike(
+    alloc: Global,
+    tree: &mut ListTree,
+    mut turn: CallTurn,
+    other_tree: &mut ListTree,
+    mut other_turn: CallTurn,
+) -> bool {
+    let mut all = true;
+    let mut any = false;
+    loop {
+        match turn {
+            CallTurn::More(call) => match other_turn {
+                CallTurn::More(other) => {
+                    all = are_alike(alloc, &call, &other) == Ok(true) && all;
+                    any = true;
+                    turn = step(alloc, tree, call);
+                    other_turn = step(alloc, other_tree, other);
+                }
+                CallTurn::Done(reply) => {
+                    drop(reply);
+                    return was_over(alloc, tree, CallTurn::More(call));
+                }
+            },
+            CallTurn::Done(reply) => {
+                drop(reply);
+                return was_over(alloc, other_tree, other_turn) && all && any;
+            }
+        }
+    }
+}
+
+// The first turn of a call by that handle on the root.
+fn started(alloc: Global, line: &str, handle: u64) -> CallTurn {
+    let owner = root(OWN).owner;
+    let handle = HandleNo::new(handle);
+    Call::start(
+        alloc,
+        request_of(alloc, line, PLAIN),
+        Root { owner, handle },
+    )
+}
+
+// Whether the call on a tree, and the other on one with a handle more, are alike to their ends.
+fn are_alike_on(
+    alloc: Global,
+    tree: &mut ListTree,
+    line: &str,
+    more: &mut ListTree,
+    other: &str,
+) -> bool {
+    let is_open = open(alloc, tree)
+        && grant(alloc, more, 1, "/secret").is_ok()
+        && open(alloc, more);
+    let turn = started(alloc, line, 0);
+    let other_turn = started(alloc, other, 1);
+    go_alike(alloc, tree, turn, more, other_turn) && is_open
+}
+
+// The same on two base trees.
+fn are_alike_on_trees(alloc: Global, line: &str, other: &str) -> Result<bool, Errno> {
+    let mut tree = base_tree(alloc)?;
+    let mut more = base_tree(alloc)?;
+    Ok(are_alike_on(alloc, &mut tree, line, &mut more, other))
+}
+
+// The first line that is alike or unlike otherwise, and of none nothing.
+fn first_wrong(alloc: Global) -> &'static str {
+    for (line, other, is_like, numbers) in REQUESTS.as_slice() {
+        if !is_so(alloc, line, other, *is_like, numbers) {
+            return line;
+        }
+    }
+    for (line, other, is_like) in CALLS.as_slice() {
+        if are_alike_on_trees(alloc, line, other) != Ok(*is_like) {
+            return line;
+        }
+    }
+    ""
+}
+
+#[test]
+fn calls_are_alike_but_for_handles(rt: HostRuntime) {
+    assert_eq!(rt; first_wrong(rt.alloc()), "");
+}
+
+#[test]
+fn answers_are_alike_but_for_handles(rt: HostRuntime) {
+    let are_alike = is_told_like(1) && !is_told_like(2);
+    assert!(rt; are_alike && have_their_handle(rt.alloc()));
+}

@@ -1,0 +1,85 @@
+-- What a command line asks for.
+use Rattle.std.specs.Borrow.{Bor}
+use Rattle.std.specs.Prelude.{◌≡◌, ◌≢◌, ◌<◌, ◌≤◌, ℕ, List, [], Bool, true, false, Option, Some, None, option_map, unwrap_or, codes}
+use Rattle.std.specs.Str.Parse.{digits_value, without_leading_plus}
+use Rattle.path_text.specs.declared.flags.Flags.{Flags}
+use Rattle.clap.specs.Matches.{found_of, first_value, matched_of, one_text, raw_values, subcommand_name_of}
+use Rattle.clap.specs.declared.parser.matches.ArgMatches.{ArgMatches}
+use Rattle.drawings.specs.declared.picture.Closes.{Closes}
+use Rattle.drawings.specs.declared.picture.Closes.TheVariants.{Shown, Hidden}
+use Rattle.command_line.specs.declared.commands.Drawing.{Drawing}
+use Rattle.command_line.specs.declared.commands.Request.{Request}
+use Rattle.command_line.specs.declared.commands.Request.TheVariants as request
+use Rattle.command_line.specs.declared.commands.Walking.{Walking}
+use Rattle.script_drawings.specs.declared.drawing.Form.{Form}
+use Rattle.script_drawings.specs.declared.drawing.Form.TheVariants.{Text, Svg}
+use Rattle.surveys.specs.declared.options.Options.{Options}
+use Rattle.surveys.specs.Options.{texts_in}
+
+-- the option's value is `true` or `false`; without one it isn't set
+pub record IsOption (matches : ArgMatches) (id : List ℕ) (set : Bool) : Type 0 where
+  pub missing : one_text (found_of matches) id ≡ None → set ≡ false
+  pub is_true : one_text (found_of matches) id ≡ Some (codes "true") → set ≡ true
+  pub is_false : one_text (found_of matches) id ≡ Some (codes "false") → set ≡ false
+
+-- the path and the restrictions that the arguments of `walk` have
+pub record IsWalk (matches : ArgMatches) (walk : Walking) : Type 0 where
+  pub path : first_value (found_of matches) (codes "PATH") ≡ Some walk.path.now
+  pub beneath : IsOption matches (codes "beneath") walk.flags.beneath
+  pub no_links : IsOption matches (codes "no-links") walk.flags.no_links
+
+-- there is a walk exactly where there is a path
+abbrev pub IsAsked : ArgMatches → Option Walking → Type 0
+IsAsked matches (Some walk) = IsWalk matches walk
+IsAsked matches None = first_value (found_of matches) (codes "PATH") ≡ None
+
+-- the turns that are asked for
+abbrev pub IsSchedule : ArgMatches → Option (Bor (List ℕ)) → Type 0
+IsSchedule matches (Some text) = first_value (found_of matches) (codes "schedule") ≡ Some text.now
+IsSchedule matches None = first_value (found_of matches) (codes "schedule") ≡ None
+
+-- `--svg` asks for SVG
+abbrev pub is_svg : Form → Bool
+is_svg Svg = true
+is_svg Text = false
+
+-- `--all` asks for what is closed, too
+abbrev pub is_all : Closes → Bool
+is_all Shown = true
+is_all Hidden = false
+
+pub record IsDrawing (matches : ArgMatches) (drawing : Drawing) : Type 0 where
+  pub schedule : IsSchedule matches drawing.schedule
+  pub form : IsOption matches (codes "svg") (is_svg drawing.style.form)
+  pub closes : IsOption matches (codes "all") (is_all drawing.style.closes)
+
+-- the number is what the text after `--workers` says in decimal digits, and there may be so many
+pub record IsWorkers (matches : ArgMatches) (workers : ℕ) : Type 0 where
+  pub given : one_text (found_of matches) (codes "workers") ≢ None
+  pub number : (text : List ℕ) → one_text (found_of matches) (codes "workers") ≡ Some text → workers ≡ digits_value 10 (without_leading_plus text)
+  pub some : 0 < workers
+  pub few : workers ≤ 8
+
+-- the texts of an option, of each time that it comes
+abbrev pub texts_given : ArgMatches → List ℕ → List (List ℕ)
+texts_given matches id = unwrap_or (option_map raw_values (matched_of (found_of matches) id)) []
+
+-- the texts are those that were given, and `--outside` asks for what acts outside
+pub record IsExploration (matches : ArgMatches) (options : Options) : Type 0 where
+  pub actors : texts_in options.actors.now ≡ texts_given matches (codes "actor")
+  pub cuts : option_map (λ text. text.now) options.cuts ≡ first_value (found_of matches) (codes "cuts")
+  pub states : option_map (λ text. text.now) options.states ≡ first_value (found_of matches) (codes "states")
+  pub outside : IsOption matches (codes "outside") options.outside
+  pub never : texts_in options.never.now ≡ texts_given matches (codes "never")
+  pub always : texts_in options.always.now ≡ texts_given matches (codes "always")
+
+-- the request is that of the command that was named
+abbrev pub IsRequest : ArgMatches → Option Request → Type 0
+IsRequest matches (Some (request.Walk walk)) = subcommand_name_of matches ≡ Some (codes "walk")
+IsRequest matches (Some (request.Replay schedule)) = subcommand_name_of matches ≡ Some (codes "replay")
+IsRequest matches (Some (request.Draw drawing)) = subcommand_name_of matches ≡ Some (codes "draw")
+IsRequest matches (Some (request.Run workers)) = (subcommand_name_of matches ≡ Some (codes "run")) × (0 < workers) × (workers ≤ 8)
+IsRequest matches (Some (request.Explore options)) = subcommand_name_of matches ≡ Some (codes "explore")
+IsRequest matches None =
+    (subcommand_name_of matches ≢ Some (codes "replay")) × (subcommand_name_of matches ≢ Some (codes "draw"))
+    × (subcommand_name_of matches ≢ Some (codes "explore"))

@@ -1,0 +1,91 @@
+-- The statuses that the program ends with: these five, and no other.
+use Rattle.std.specs.Borrow.{Bor}
+use Rattle.std.specs.Prelude.{⊤, ℕ, List, Option, Some, None, Result, Ok, Err}
+use Rattle.scripts.specs.declared.fault.RunFault.{RunFault}
+use Rattle.scripts.specs.declared.fault.RunFault.TheVariants.{Script, ReadFailed, WriteFailed, NoMemory, BookFull}
+use Rattle.command_line.specs.declared.ending.Fault.{Fault}
+use Rattle.command_line.specs.declared.ending.Fault.TheVariants.{Usage, NotUtf8, Schedule, NoRequest, Run, Options, PropertyFails, ExploreActor, ExploreProperty, ExploreStates, ExploreTurns, DrawActors, DrawLines, Service}
+use Rattle.script_drawings.specs.declared.drawing.DrawFault.{DrawFault}
+use Rattle.script_jobs.specs.declared.jobs.JobsFault.{JobsFault}
+use Rattle.script_jobs.specs.declared.jobs.JobsFault.TheVariants as jobs
+use Rattle.scripts.specs.declared.turns.TurnOrder.{TurnOrder}
+use Rattle.scripts.specs.declared.turns.TurnOrder.TheVariants.{OfScript, Asked}
+use Rattle.scripts.specs.declared.turns.Turns.{Turns}
+use Rattle.scripts.specs.Turns.{SaysTurns}
+use Rattle.script_drawings.specs.declared.drawing.DrawFault.TheVariants as drawing
+use Rattle.surveys.specs.declared.options.OptionFault.{OptionFault}
+use Rattle.surveys.specs.declared.options.OptionFault.TheVariants as option
+use Rattle.surveys.specs.declared.script.ExploreFault.{ExploreFault}
+use Rattle.surveys.specs.declared.script.ExploreFault.TheVariants as explore
+
+abbrev pub ANSWERED : ℕ
+ANSWERED = 0
+
+abbrev pub PROPERTY_FAILS : ℕ
+PROPERTY_FAILS = 1
+
+abbrev pub USAGE : ℕ
+USAGE = 2
+
+abbrev pub SCRIPT_REFUSED : ℕ
+SCRIPT_REFUSED = 3
+
+abbrev pub FAILED : ℕ
+FAILED = 4
+
+abbrev pub status_of : {T : Type 0} → Result T Fault → ℕ
+status_of (Ok answer) = ANSWERED
+status_of (Err Usage) = USAGE
+status_of (Err NotUtf8) = USAGE
+status_of (Err Schedule) = USAGE
+status_of (Err NoRequest) = FAILED
+status_of (Err (Run (Script fault))) = SCRIPT_REFUSED
+status_of (Err (Run ReadFailed)) = FAILED
+status_of (Err (Run WriteFailed)) = FAILED
+status_of (Err (Run NoMemory)) = FAILED
+status_of (Err (Run BookFull)) = FAILED
+status_of (Err PropertyFails) = PROPERTY_FAILS
+status_of (Err (Options option.NoMemory)) = FAILED
+status_of (Err (Options other)) = USAGE
+status_of (Err (ExploreActor actor)) = FAILED
+status_of (Err (ExploreProperty place)) = FAILED
+status_of (Err ExploreStates) = FAILED
+status_of (Err ExploreTurns) = FAILED
+status_of (Err DrawActors) = FAILED
+status_of (Err DrawLines) = FAILED
+status_of (Err (Service fault)) = FAILED
+
+-- how the program tells why nothing was drawn
+abbrev pub told_of : DrawFault → Fault
+told_of (drawing.Run fault) = Run fault
+told_of drawing.TooManyActors = DrawActors
+told_of drawing.TooManyLines = DrawLines
+
+-- how it tells why jobs have no replies
+abbrev pub jobs_told_of : JobsFault → Fault
+jobs_told_of (jobs.Run fault) = Run fault
+jobs_told_of (jobs.Service fault) = Service fault
+
+-- how it tells which option of an exploration is refused, or that it isn't read
+abbrev pub options_told_of : OptionFault → Fault
+options_told_of option.NoMemory = Run NoMemory
+options_told_of other = Options other
+
+-- how it tells why nothing was explored
+abbrev pub explore_told_of : ExploreFault → Fault
+explore_told_of (explore.Run fault) = Run fault
+explore_told_of (explore.NoSuchActor actor) = ExploreActor actor
+explore_told_of (explore.NoSuchLine place) = ExploreProperty place
+explore_told_of explore.TooManyStates = ExploreStates
+explore_told_of explore.TooManyTurns = ExploreTurns
+
+-- the order of the turns that a text says, or of the script where there is none; or the text says none
+abbrev pub IsOrder : Option (Bor (List ℕ)) → Result TurnOrder Fault → Type 0
+IsOrder None (Ok OfScript) = ⊤
+IsOrder None (Ok (Asked turns)) = ⊥
+IsOrder None (Err fault) = ⊥
+IsOrder (Some text) (Ok OfScript) = ⊥
+IsOrder (Some text) (Ok (Asked turns)) = SaysTurns text.now turns.items
+IsOrder (Some text) (Err Schedule) = (turns : List Turns) → SaysTurns text.now turns → ⊥
+IsOrder (Some text) (Err (Run NoMemory)) = ⊤
+IsOrder (Some text) (Err other) = ⊥

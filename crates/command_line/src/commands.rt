@@ -1,0 +1,389 @@
+//! The command line.
+ghost use Rattle.std.specs.Prelude.{◌≡◌, codes, IfSome};
+ghost use Rattle.command_line.specs.Command.{IsAsked, IsDrawing, IsExploration, IsOption, IsRequest, IsSchedule, IsWorkers, texts_given};
+ghost use Rattle.surveys.specs.Options.{texts_in};
+
+use clap::builder::ValueParser;
+use clap::{Arg, ArgAction, ArgMatches, Command};
+use drawings::Closes;
+use path_text::Flags;
+use script_drawings::{Form, Style};
+use script_jobs::WORKERS_MAX;
+use std::alloc::{AllocError, Global};
+use surveys::Options;
+
+// The names of the commands, the id of the path that `walk` takes, and the options by their ids, which are their names.
+const WALK: &str = "walk";
+
+const REPLAY: &str = "replay";
+
+const DRAW: &str = "draw";
+
+const RUN: &str = "run";
+
+const PATH: &str = "PATH";
+
+const BENEATH: &str = "beneath";
+
+const NO_LINKS: &str = "no-links";
+
+const SCHEDULE: &str = "schedule";
+
+const SVG: &str = "svg";
+
+const ALL: &str = "all";
+
+const WORKERS: &str = "workers";
+
+const EXPLORE: &str = "explore";
+
+const ACTOR: &str = "actor";
+
+const CUTS: &str = "cuts";
+
+const STATES: &str = "states";
+
+const OUTSIDE: &str = "outside";
+
+const NEVER: &str = "never";
+
+const ALWAYS: &str = "always";
+
+/// What help says of the statuses.
+const STATUSES: &str = "Statuses:
+  0  the answer was written, also where it is a fault as 'fault ENOENT'
+  1  a property of explore fails; the answer was written
+  2  a wrong command line
+  3  a script that is refused
+  4  any other fault
+
+Example:
+  inroot walk a/b/f < examples/base.json";
+
+/// What help says of `walk` beside its arguments.
+const WALKING: &str = "SCRIPT is a JSON text on standard input, as
+  {\"version\":1,\"tree\":[[\"dir\",\"/c\"],[\"file\",\"/c/f\"]],\"actors\":[{\"root\":\"/c\"}]}
+
+Example:
+  inroot walk a/b/f < examples/base.json";
+
+// An option without a value.
+fn option<'a>(alloc: Global, name: &'a str, help: &'a str) -> Arg<'a> {
+    Arg::new(alloc, name)
+        .long(name)
+        .action(ArgAction::SetTrue)
+        .help(help)
+}
+
+// The command `walk`.
+fn walk<'a>(alloc: Global) -> Result<Command<'a>, AllocError> {
+    let path = Arg::new(alloc, PATH)
+        .required(true)
+        .action(ArgAction::Set)
+        .help("The path to resolve");
+    let beneath = option(
+        alloc,
+        BENEATH,
+        "Refuse what leads out of the root, an absolute path too",
+    );
+    let no_links = option(alloc, NO_LINKS, "Follow no symbolic link");
+    Command::new(alloc, WALK)
+        .about("Resolve PATH below the first actor's root, and print what it opens")
+        .override_usage("inroot walk [OPTIONS] <PATH> < SCRIPT")
+        .after_help(WALKING)
+        .arg(beneath)?
+        .arg(no_links)?
+        .arg(path)
+}
+
+/// What help says of `replay` beside its arguments.
+const REPLAYING: &str =
+    "SCRIPT is a JSON text on standard input, with the actors' calls and a schedule of their turns.
+
+Prints a line for each event, for how each call ended, for each entry of the tree
+then, and for each actor with how many handles it has open.
+
+Example:
+  inroot replay < examples/attacks/moved-out.json";
+
+// The option with the turns that are taken in place of the script's schedule.
+fn schedule<'a>(alloc: Global) -> Arg<'a> {
+    Arg::new(alloc, SCHEDULE)
+        .long(SCHEDULE)
+        .value_name("TURNS")
+        .action(ArgAction::Set)
+        .help("Take these turns first: I or I*N between commas, for actor I, or - for none")
+}
+
+// The command `replay`.
+fn replay<'a>(alloc: Global) -> Result<Command<'a>, AllocError> {
+    Command::new(alloc, REPLAY)
+        .about("Run the actors' calls by the schedule, and print what came of them")
+        .override_usage("inroot replay [OPTIONS] < SCRIPT")
+        .after_help(REPLAYING)
+        .arg(schedule(alloc))
+}
+
+/// What help says of `draw` beside its arguments.
+const DRAWING: &str =
+    "SCRIPT is a JSON text on standard input, as for replay, with at most 4 actors.
+
+Draws what each actor calls for and how it ended, and then a column for each actor, in
+which its steps stand at their moments, but for the handles that it closes. A run that
+is drawn has at most 2000 events, and a picture 2000 lines.
+
+Example:
+  inroot draw < examples/attacks/moved-out.json";
+
+// The command `draw`.
+fn draw<'a>(alloc: Global) -> Result<Command<'a>, AllocError> {
+    let svg = option(alloc, SVG, "Draw as SVG and not as text");
+    let all = option(alloc, ALL, "Show each handle that is closed, too");
+    Command::new(alloc, DRAW)
+        .about("Run the actors' calls by the schedule, and draw who did what when")
+        .override_usage("inroot draw [OPTIONS] < SCRIPT")
+        .after_help(DRAWING)
+        .arg(svg)?
+        .arg(all)?
+        .arg(schedule(alloc))
+}
+
+/// What help says of `run` beside its arguments.
+const RUNNING: &str =
+    "SCRIPT is a JSON text on standard input. The calls of its first actor are jobs: no step and
+no release. Workers, each a thread with that actor's root, take them in any order.
+
+Prints a line for how each job ended, and one for how many events there were.
+
+Example:
+  inroot run --workers 4 < examples/jobs.json";
+
+// The command `run`.
+fn run<'a>(alloc: Global) -> Result<Command<'a>, AllocError> {
+    let workers = Arg::new(alloc, WORKERS)
+        .long(WORKERS)
+        .value_name("N")
+        .required(true)
+        .action(ArgAction::Set)
+        .value_parser(ValueParser::unsigned(1, WORKERS_MAX as u64))
+        .help("How many workers there are, 1 to 8");
+    Command::new(alloc, RUN)
+        .about("Let workers make the first actor's calls side by side, and print how they ended")
+        .override_usage("inroot run --workers <N> < SCRIPT")
+        .after_help(RUNNING)
+        .arg(workers)
+}
+
+/// What help says of `explore` beside its arguments.
+const EXPLORING: &str =
+    "SCRIPT is a JSON text on standard input, as for replay. Its schedule isn't used.
+
+Prints how many schedules there are, by how many different states they go, how many
+turns the longest has, and a block for each outcome: how many schedules lead to it,
+and one that replay takes, with how many calls it cuts. TEXT is a line's beginning, as 'reply 0 0 fault' or 'held 0 1'.
+
+Example:
+  inroot explore --actor 0 < examples/attacks/moved-out.json";
+
+// An option with a value.
+fn valued<'a>(
+    alloc: Global,
+    name: &'a str,
+    value: &'a str,
+    action: ArgAction,
+    help: &'a str,
+) -> Arg<'a> {
+    Arg::new(alloc, name)
+        .long(name)
+        .value_name(value)
+        .action(action)
+        .help(help)
+}
+
+// The command `explore`.
+fn explore<'a>(alloc: Global) -> Result<Command<'a>, AllocError> {
+    let actor = valued(
+        alloc,
+        ACTOR,
+        "I",
+        ArgAction::Append,
+        "Tell the replies of actor I alone; may be given more than once",
+    );
+    let cuts = valued(
+        alloc,
+        CUTS,
+        "K",
+        ArgAction::Set,
+        "Only schedules that cut calls at most K times",
+    );
+    let states = valued(
+        alloc,
+        STATES,
+        "N",
+        ArgAction::Set,
+        "Tell nothing past N different states: 1 to 10000000, or 100000",
+    );
+    let outside = option(
+        alloc,
+        OUTSIDE,
+        "Tell how many steps of each actor acted outside of its root",
+    );
+    let never = valued(
+        alloc,
+        NEVER,
+        "TEXT",
+        ArgAction::Append,
+        "Tell whether no report has a line that begins so",
+    );
+    let always = valued(
+        alloc,
+        ALWAYS,
+        "TEXT",
+        ArgAction::Append,
+        "Tell whether every report has a line that begins so",
+    );
+    Command::new(alloc, EXPLORE)
+        .about("Run the actors' calls by every schedule, and print what came of them")
+        .override_usage("inroot explore [OPTIONS] < SCRIPT")
+        .after_help(EXPLORING)
+        .arg(actor)?
+        .arg(cuts)?
+        .arg(states)?
+        .arg(outside)?
+        .arg(never)?
+        .arg(always)
+}
+
+/// The commands of the program.
+pub fn command<'a>(alloc: Global) -> Result<Command<'a>, AllocError> {
+    Command::new(alloc, "inroot")
+        .version("0.1.0")
+        .about(
+            "Resolve paths below a root, replay, draw and explore races, and run calls side by side, over the tree of a script on standard input",
+        )
+        .override_usage("inroot <COMMAND> < SCRIPT")
+        .after_help(STATUSES)
+        .subcommand_required(true)
+        .subcommand(walk(alloc)?)?
+        .subcommand(replay(alloc)?)?
+        .subcommand(draw(alloc)?)?
+        .subcommand(run(alloc)?)?
+        .subcommand(explore(alloc)?)
+}
+
+/// A path to walk, with these restrictions (openat2(2)).
+#[derive(Clone, Copy, Debug)]
+pub struct Walking<'a> {
+    pub path: &'a str,
+    pub flags: Flags,
+}
+
+/// A picture to draw, with the turns that are asked for in place of the script's.
+#[derive(Clone, Copy, Debug)]
+pub struct Drawing<'a> {
+    pub schedule: Option<&'a str>,
+    pub style: Style,
+}
+
+/// What a command line asks for.
+#[derive(Clone, Copy, Debug)]
+pub enum Request<'a> {
+    Walk(Walking<'a>),
+    /// With the turns that are asked for in place of the script's.
+    Replay(Option<&'a str>),
+    Draw(Drawing<'a>),
+    /// By so many workers, 1 to 8.
+    Run(usize),
+    /// With the texts of its options.
+    Explore(Options<'a>),
+}
+
+/// The walk that the arguments of `walk` ask for, if they have a path.
+fn walk_asked<'a>(matches: &ArgMatches<'a>) -> Option<Walking<'a>>
+    ensures { IsAsked matches.now result }
+{
+    let path = matches.get_str(PATH)?;
+    let flags = Flags {
+        beneath: matches.get_flag(BENEATH),
+        no_links: matches.get_flag(NO_LINKS),
+    };
+    Some(Walking { path, flags })
+}
+
+/// The turns that the arguments of `replay` or `draw` ask for.
+fn schedule_asked<'a>(matches: &ArgMatches<'a>) -> Option<&'a str>
+    ensures { IsSchedule matches.now result }
+{
+    matches.get_str(SCHEDULE)
+}
+
+/// The picture that the arguments of `draw` ask for.
+fn drawing_asked<'a>(matches: &ArgMatches<'a>) -> Drawing<'a>
+    ensures { IsDrawing matches.now result }
+{
+    let schedule = schedule_asked(matches);
+    let form = if matches.get_flag(SVG) {
+        Form::Svg
+    } else {
+        Form::Text
+    };
+    let closes = if matches.get_flag(ALL) {
+        Closes::Shown
+    } else {
+        Closes::Hidden
+    };
+    let style = Style { form, closes };
+    Drawing { schedule, style }
+}
+
+/// How many workers the arguments of `run` ask for, if it is a number that there may be.
+fn workers_asked(matches: &ArgMatches<'_>) -> Option<usize>
+    ensures { IfSome result (IsWorkers matches.now) }
+{
+    let workers = matches.get_one::<usize>(WORKERS)?;
+    if workers == 0 || workers > WORKERS_MAX {
+        return None;
+    }
+    Some(workers)
+}
+
+/// The texts of an option that may come more than once; none where it doesn't come.
+fn texts_of<'m>(matches: &'m ArgMatches<'_>, id: &str) -> &'m [&'m str]
+    ensures { texts_in result.now ≡ texts_given matches.now id.now }
+{
+    matches.get_strs(id).unwrap_or(&[])
+}
+
+/// The texts of the options that the arguments of `explore` have.
+fn exploration_asked<'m>(matches: &'m ArgMatches<'_>) -> Options<'m>
+    ensures { IsExploration matches.now result }
+{
+    Options {
+        actors: texts_of(matches, ACTOR),
+        cuts: matches.get_str(CUTS),
+        states: matches.get_str(STATES),
+        outside: matches.get_flag(OUTSIDE),
+        never: texts_of(matches, NEVER),
+        always: texts_of(matches, ALWAYS),
+    }
+}
+
+/// The request of a command line, if it has one.
+pub fn asked<'m>(matches: &'m ArgMatches<'_>) -> Option<Request<'m>>
+    ensures { IsRequest matches.now result }
+{
+    if let Some(matches) = matches.subcommand_matches(REPLAY) {
+        return Some(Request::Replay(schedule_asked(matches)));
+    }
+    if let Some(matches) = matches.subcommand_matches(DRAW) {
+        return Some(Request::Draw(drawing_asked(matches)));
+    }
+    if let Some(matches) = matches.subcommand_matches(RUN) {
+        return Some(Request::Run(workers_asked(matches)?));
+    }
+    if let Some(matches) = matches.subcommand_matches(EXPLORE) {
+        return Some(Request::Explore(exploration_asked(matches)));
+    }
+    let walk = walk_asked(matches.subcommand_matches(WALK)?)?;
+    Some(Request::Walk(walk))
+}

@@ -1,0 +1,156 @@
+//! How the program ends.
+ghost use Rattle.std.specs.Prelude.{◌≡◌};
+ghost use Rattle.command_line.specs.Ending.{status_of, told_of, jobs_told_of, options_told_of, explore_told_of};
+ghost use Rattle.command_line.specs.declared.ending.Fault.TheVariants.{Run};
+ghost use Rattle.scripts.specs.declared.fault.RunFault.TheVariants.{NoMemory as OutOfMemory};
+
+use path_text::NoMemory;
+use script_drawings::DrawFault;
+use script_jobs::{JobsFault, ServiceFault};
+use scripts::RunFault;
+use std::alloc::{AllocError, AllocFailed};
+use surveys::{ExploreFault, OptionFault};
+use thiserror::Error;
+
+/// Why the program ends without its answer.
+#[derive(Clone, Copy, Debug, PartialEq, Eq, Error)]
+pub enum Fault {
+    /// A command line that is refused. What is wrong with it was told with the usage.
+    #[error("usage")]
+    Usage,
+    #[error("an argument is not UTF-8")]
+    NotUtf8,
+    /// Turns that are asked for and have another form.
+    #[error("--schedule is I or I*N between commas, I an actor and N 1 to 100000, or - for none")]
+    Schedule,
+    /// A command line that was taken, and has no command with its path: the table of the options is wrong.
+    #[error("the command line has no request")]
+    NoRequest,
+    #[error("{0}")]
+    Run(RunFault),
+    /// An option of `explore` that has another form.
+    #[error("{0}")]
+    Options(OptionFault),
+    /// A property of `explore` fails. The answer says so.
+    #[error("a property fails")]
+    PropertyFails,
+    /// The first actor that is named and isn't there.
+    #[error("explore: actor {0}")]
+    ExploreActor(u32),
+    /// The first property that names an actor who isn't there, or a call that its actor doesn't have.
+    #[error("explore: property {0}")]
+    ExploreProperty(usize),
+    /// There are more worlds than are gone through.
+    #[error("explore: states")]
+    ExploreStates,
+    /// A schedule has more turns than are gone through.
+    #[error("explore: turns")]
+    ExploreTurns,
+    /// There are more actors than a picture has columns.
+    #[error("draw: actors")]
+    DrawActors,
+    /// The run has more events and replies than a picture has lines.
+    #[error("draw: lines")]
+    DrawLines,
+    /// Jobs weren't served, or their service wasn't closed.
+    #[error("{0}")]
+    Service(ServiceFault),
+}
+
+impl From<RunFault> for Fault {
+    ghost from_gives = { λ fault told. told ≡ Run fault };
+
+    fn from(fault: RunFault) -> Fault {
+        Fault::Run(fault)
+    }
+}
+
+impl From<DrawFault> for Fault {
+    ghost from_gives = { λ fault told. told ≡ told_of fault };
+
+    fn from(fault: DrawFault) -> Fault {
+        match fault {
+            DrawFault::Run(fault) => Fault::Run(fault),
+            DrawFault::TooManyActors => Fault::DrawActors,
+            DrawFault::TooManyLines => Fault::DrawLines,
+        }
+    }
+}
+
+impl From<JobsFault> for Fault {
+    ghost from_gives = { λ fault told. told ≡ jobs_told_of fault };
+
+    fn from(fault: JobsFault) -> Fault {
+        match fault {
+            JobsFault::Run(fault) => Fault::Run(fault),
+            JobsFault::Service(fault) => Fault::Service(fault),
+        }
+    }
+}
+
+impl From<OptionFault> for Fault {
+    ghost from_gives = { λ fault told. told ≡ options_told_of fault };
+
+    fn from(fault: OptionFault) -> Fault {
+        match fault {
+            OptionFault::NoMemory => Fault::Run(RunFault::NoMemory),
+            other => Fault::Options(other),
+        }
+    }
+}
+
+impl From<ExploreFault> for Fault {
+    ghost from_gives = { λ fault told. told ≡ explore_told_of fault };
+
+    fn from(fault: ExploreFault) -> Fault {
+        match fault {
+            ExploreFault::Run(fault) => Fault::Run(fault),
+            ExploreFault::NoSuchActor(actor) => Fault::ExploreActor(actor),
+            ExploreFault::NoSuchLine(place) => Fault::ExploreProperty(place),
+            ExploreFault::TooManyStates => Fault::ExploreStates,
+            ExploreFault::TooManyTurns => Fault::ExploreTurns,
+        }
+    }
+}
+
+impl From<NoMemory> for Fault {
+    ghost from_gives = { λ _ told. told ≡ Run OutOfMemory };
+
+    fn from(_error: NoMemory) -> Fault {
+        Fault::Run(RunFault::NoMemory)
+    }
+}
+
+impl From<AllocError> for Fault {
+    ghost from_gives = { λ _ told. told ≡ Run OutOfMemory };
+
+    fn from(_error: AllocError) -> Fault {
+        Fault::Run(RunFault::NoMemory)
+    }
+}
+
+/// The status that the program ends with: 0 with an answer, a fault of the path too, and with help or the version; 1 with
+/// an answer that says that a property fails; 2 for a command line that is refused; 3 for a script that is refused; 4 for
+/// any other fault.
+pub fn status(ended: &Result<(), Fault>) -> u8
+    ensures { result ≡ status_of ended.now }
+{
+    match ended {
+        Ok(()) => 0,
+        Err(Fault::PropertyFails) => 1,
+        Err(Fault::Run(RunFault::Script(_))) => 3,
+        Err(
+            Fault::NoRequest
+            | Fault::Run(_)
+            | Fault::Options(OptionFault::NoMemory)
+            | Fault::ExploreActor(_)
+            | Fault::ExploreProperty(_)
+            | Fault::ExploreStates
+            | Fault::ExploreTurns
+            | Fault::DrawActors
+            | Fault::DrawLines
+            | Fault::Service(_),
+        ) => 4,
+        Err(Fault::Usage | Fault::NotUtf8 | Fault::Schedule | Fault::Options(_)) => 2,
+    }
+}

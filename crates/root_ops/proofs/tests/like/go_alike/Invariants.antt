@@ -1,5 +1,0 @@
-use Rattle.root_ops.specs.TurnView.{steps_to_come}
-use Rattle.root_ops.proofs.tests.like.go_alike.Given as goal
-
-abbrev pub decreases-loop-turn : goal.decreases-loop-turn
-decreases-loop-turn g l = steps_to_come l.turn

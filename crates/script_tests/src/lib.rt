@@ -1,0 +1,7 @@
+//! Walks over both trees that no script makes, and faults that no script meets.
+#![tactic(auto)]
+
+#[cfg(test)]
+mod faults;
+#[cfg(test)]
+mod walks;

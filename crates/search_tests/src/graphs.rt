@@ -1,0 +1,220 @@
+//! Small graphs, with the counts that are wanted.
+ghost use Rattle.std.specs.Prelude.{Some, IfOk};
+ghost use Rattle.turn_graph.specs.Words.{AreApart, IsLayer, ways_from};
+
+use path_text::NoMemory;
+use std::alloc::Global;
+use std::test::Fail;
+use turn_graph::{COUNT_CAP, Count, Counts, Graph, Spot, Way};
+
+/// A spot: the ways by letters 0, 1, ..., each with its mark (1 a cut, 2 a change, 3 both) and where it leads to; or,
+/// where there are none, the class of the words that end there.
+type Drawn<'a> = (usize, &'a [(u8, usize)]);
+
+/// The number of words, the longest one's length, and the least one's cuts, changes and letters.
+type Wanted<'a> = (u64, usize, Option<(u64, u64, &'a [u32])>);
+
+/// The spots of each layer, and what they come to: of each of two classes, and of all.
+type Case<'a> = (&'a [&'a [Drawn<'a>]], Wanted<'a>, Wanted<'a>, Wanted<'a>);
+
+const END: &[(u8, usize)] = &[];
+
+const NONE: Wanted<'_> = (0, 0, None);
+
+const CASES: &[Case<'_>] = &[
+    // no layers
+    (&[], NONE, NONE, NONE),
+    // no spots
+    (&[&[]], NONE, NONE, NONE),
+    // the word of no letters
+    (
+        &[&[(1, END)]],
+        NONE,
+        (1, 0, Some((0, 0, &[]))),
+        (1, 0, Some((0, 0, &[]))),
+    ),
+    // two actors of one turn each, in either order
+    (
+        &[
+            &[(0, &[(0, 0), (0, 1)])],
+            &[(0, &[(0, 0), (2, 0)]), (0, &[(2, 0)])],
+            &[(0, END)],
+        ],
+        (3, 2, Some((0, 0, &[0, 0]))),
+        NONE,
+        (3, 2, Some((0, 0, &[0, 0]))),
+    ),
+    // fewer changes don't outweigh a cut, nor an earlier word a change
+    (
+        &[
+            &[(0, &[(0, 0), (0, 1), (0, 2)])],
+            &[(0, &[(1, 0)]), (0, &[(2, 0)]), (0, &[(2, 0), (2, 1)])],
+            &[(0, END), (1, END)],
+        ],
+        (3, 2, Some((0, 1, &[1, 0]))),
+        (1, 2, Some((0, 1, &[2, 1]))),
+        (4, 2, Some((0, 1, &[1, 0]))),
+    ),
+    // words of one class have several lengths, and the longer one is the least
+    (
+        &[
+            &[(0, &[(3, 0), (0, 1)])],
+            &[(1, END), (0, &[(2, 0)])],
+            &[(1, END)],
+        ],
+        NONE,
+        (2, 2, Some((0, 1, &[1, 0]))),
+        (2, 2, Some((0, 1, &[1, 0]))),
+    ),
+    // the lesser of two words is kept where they meet, whichever came first
+    (
+        &[
+            &[(0, &[(1, 0), (0, 1)])],
+            &[(0, &[(0, 0)]), (0, &[(0, 0)])],
+            &[(0, &[(0, 0), (1, 0)])],
+            &[(0, END)],
+        ],
+        (4, 3, Some((0, 0, &[1, 0, 0]))),
+        NONE,
+        (4, 3, Some((0, 0, &[1, 0, 0]))),
+    ),
+    // a way to no spot is of no word, and a class that isn't asked for is in none but all
+    (
+        &[&[(0, &[(0, 5), (0, 1), (0, 0)])], &[(2, END), (0, END)]],
+        (1, 1, Some((0, 0, &[1]))),
+        NONE,
+        (2, 1, Some((0, 0, &[1]))),
+    ),
+    // words that lead nowhere
+    (&[&[(0, &[(0, 0)])], &[(0, &[(0, 0)])]], NONE, NONE, NONE),
+];
+
+fn ways_of(alloc: Global, drawn: &[(u8, usize)]) -> Result<Vec<Way>, NoMemory>
+    ensures { IfOk result (λ ways. AreApart ways.items) }
+{
+    let mut ways = Vec::new(alloc);
+    for (at, (mark, to)) in drawn.iter().enumerate() {
+        let Ok(letter) = u32::try_from(at) else {
+            break;
+        };
+        ways.push(Way {
+            letter,
+            cut: *mark % 2 == 1,
+            change: *mark >= 2,
+            to: *to,
+        })?;
+    }
+    Ok(ways)
+}
+
+fn spot_of(alloc: Global, drawn: &Drawn<'_>) -> Result<Spot, NoMemory>
+    ensures { IfOk result (λ spot. AreApart (ways_from (Some spot))) }
+{
+    let (class, ways) = drawn;
+    if ways.is_empty() {
+        return Ok(Spot::Ends(*class));
+    }
+    Ok(Spot::Goes(ways_of(alloc, ways)?))
+}
+
+fn layer_of(alloc: Global, spots: &[Drawn<'_>]) -> Result<Vec<Spot>, NoMemory>
+    ensures { IfOk result (λ layer. IsLayer layer.items) }
+{
+    let mut layer = Vec::new(alloc);
+    for drawn in spots {
+        layer.push(spot_of(alloc, drawn)?)?;
+    }
+    Ok(layer)
+}
+
+fn graph_of(alloc: Global, layers: &[&[Drawn<'_>]]) -> Result<Graph, NoMemory> {
+    let mut graph = Graph::new(alloc);
+    for spots in layers {
+        graph.push_layer(layer_of(alloc, spots)?)?;
+    }
+    Ok(graph)
+}
+
+fn is_so(count: &Count, wanted: &Wanted<'_>) -> bool {
+    let (words, longest, least) = wanted;
+    let is_least = match (&count.least, least) {
+        (Some(one), Some((cuts, changes, word))) => {
+            one.cuts == *cuts && one.changes == *changes && one.word.as_slice() == *word
+        }
+        (None, None) => true,
+        _ => false,
+    };
+    count.words == *words && count.longest == *longest && is_least
+}
+
+fn comes_to(alloc: Global, case: &Case<'_>) -> Result<bool, NoMemory> {
+    let (layers, first, second, all) = case;
+    let counts = graph_of(alloc, layers)?.counted(alloc, 2)?;
+    Ok(match counts.classes.as_slice() {
+        [one, other] => is_so(one, first) && is_so(other, second) && is_so(&counts.all, all),
+        _ => false,
+    })
+}
+
+/// The place of the first case, from 0, that comes to something else.
+fn first_wrong(alloc: Global) -> Result<Option<usize>, NoMemory> {
+    for (at, case) in CASES.iter().enumerate() {
+        if !comes_to(alloc, case)? {
+            return Ok(Some(at));
+        }
+    }
+    Ok(None)
+}
+
+#[test]
+fn graphs_are_counted(rt: HostRuntime) -> Result<(), Fail> {
+    assert_eq!(rt; first_wrong(rt.alloc())?, None);
+    Ok(())
+}
+
+/// So many layers, each of one spot with two ways, the second of them a change; and the end.
+fn doubled(alloc: Global, layers: usize) -> Result<Graph, NoMemory> {
+    let mut graph = Graph::new(alloc);
+    for _ in 0..layers {
+        graph.push_layer(layer_of(alloc, &[(0, &[(2, 0), (0, 0)])])?)?;
+    }
+    graph.push_layer(layer_of(alloc, &[(0, END)])?)?;
+    Ok(graph)
+}
+
+/// Whether there are so many words, in the one class and in all, and the least is without a change.
+fn are_so_many(counts: &Counts, layers: usize, words: u64) -> bool {
+    match (counts.classes.as_slice(), &counts.all.least) {
+        ([of_class], Some(least)) => {
+            counts.all.words == words
+                && counts.all.longest == layers
+                && of_class.words == words
+                && least.changes == 0
+        }
+        _ => false,
+    }
+}
+
+const DOUBLED: [(usize, u64); 4] = [
+    (59, 1 << 59),
+    (60, COUNT_CAP),
+    (64, COUNT_CAP),
+    (70, COUNT_CAP),
+];
+
+/// The first number of layers that come to something else.
+fn wrong_layers(alloc: Global) -> Result<Option<usize>, NoMemory> {
+    for (layers, words) in DOUBLED {
+        let counts = doubled(alloc, layers)?.counted(alloc, 1)?;
+        if !are_so_many(&counts, layers, words) {
+            return Ok(Some(layers));
+        }
+    }
+    Ok(None)
+}
+
+#[test]
+fn many_words_are_counted_up_to_the_cap(rt: HostRuntime) -> Result<(), Fail> {
+    assert_eq!(rt; wrong_layers(rt.alloc())?, None);
+    Ok(())
+}

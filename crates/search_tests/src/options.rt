@@ -1,0 +1,48 @@
+//! What is asked by the texts of options. Which texts are none are command lines of `explore`.
+use std::alloc::Global;
+use std::test::Fail;
+use surveys::{OptionFault, Options, Rule, read_asked};
+
+const NONE: Options<'static> = Options {
+    actors: &[],
+    cuts: None,
+    states: None,
+    outside: false,
+    never: &[],
+    always: &[],
+};
+
+const ALL: Options<'static> = Options {
+    actors: &["1", "0"],
+    cuts: Some("1000000"),
+    states: Some("1"),
+    outside: true,
+    never: &["outside 0 1"],
+    always: &["held 1 1", "row"],
+};
+
+fn reads_all(alloc: Global) -> Result<bool, OptionFault> {
+    let asked = read_asked(alloc, ALL)?;
+    let rules = match asked.properties.as_slice() {
+        [first, second, third] => [first.rule, second.rule, third.rule],
+        _ => [Rule::Never, Rule::Never, Rule::Never],
+    };
+    Ok(
+        asked.named.as_slice() == [1, 0].as_slice()
+            && asked.cuts == Some(1_000_000)
+            && asked.most == 1
+            && asked.outside
+            && rules == [Rule::Never, Rule::Always, Rule::Always],
+    )
+}
+
+fn reads_none(alloc: Global) -> Result<bool, OptionFault> {
+    let asked = read_asked(alloc, NONE)?;
+    Ok(asked.named.is_empty() && asked.cuts.is_none() && asked.most == 100_000)
+}
+
+#[test]
+fn reads_options(rt: HostRuntime) -> Result<(), Fail> {
+    assert!(rt; reads_all(rt.alloc())? && reads_none(rt.alloc())?);
+    Ok(())
+}

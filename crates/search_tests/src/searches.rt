@@ -1,0 +1,164 @@
+//! Limits of searches, who is told how far they come, and worlds compared. What searches find are outputs of `explore`.
+use explore::{Beginnings, Limits, Progress, Scene, SearchFault, Seen, explore};
+use race_core::World;
+use scripts::{RunFault, TurnOrder, read_scene};
+use std::alloc::Global;
+use std::test::Fail;
+use tree_list::ListTree;
+
+/// An actor resolves `e/..` below `/c`, and another removes `e`.
+const REMOVED: &str = r#"{"version":1,"tree":[["dir","/c"],["dir","/c/e"]],"actors":[
+{"root":"/c","calls":[{"op":"resolve","path":"e/.."}]},
+{"root":"/c","calls":[{"op":"step","step":"remove_dir","on":"root","name":"e"}]}]}"#;
+
+/// An actor resolves `a/b/..` below `/c`, and another moves `b` out of it.
+const MOVED_OUT: &str = r#"{"version":1,
+"tree":[["dir","/c"],["dir","/c/a"],["dir","/c/a/b"],["dir","/secret"]],"actors":[
+{"root":"/c","calls":[{"op":"resolve","path":"a/b/.."}]},
+{"root":"/","calls":[{"op":"resolve","path":"c/a","as":"A"},{"op":"resolve","path":"secret","as":"S"},
+{"op":"step","step":"rename","on":"A","name":"b","to":"S","new":"b"}]}]}"#;
+
+fn scene_of(alloc: Global, script: &str) -> Result<Scene, RunFault> {
+    let (scenario, tree) = read_scene(alloc, &mut script.as_bytes(), &TurnOrder::OfScript)?;
+    Ok(Scene {
+        tree,
+        plans: scenario.plans,
+        lines: scenario.lines,
+    })
+}
+
+/// The last number of states that was told.
+#[derive(Drop)]
+struct Last(u64);
+
+impl Progress for Last {
+    fn passed(&mut self, states: u64) {
+        self.0 = states;
+    }
+}
+
+/// A script, and the most states, turns and cuts; the numbers of lists, of states, of the longest list's turns and of
+/// outcomes, or why nothing is told.
+type Search = (
+    &'static str,
+    u64,
+    u32,
+    Option<u64>,
+    Result<Found, SearchFault>,
+);
+
+type Found = (u64, u64, usize, usize);
+
+const SEARCHES: [Search; 8] = [
+    (REMOVED, 15, 6, None, Ok((6, 15, 6, 3))),
+    (REMOVED, 14, 6, None, Err(SearchFault::TooManyStates)),
+    (REMOVED, 15, 5, None, Err(SearchFault::TooManyTurns)),
+    (REMOVED, 0, 6, None, Err(SearchFault::TooManyStates)),
+    (REMOVED, 9, 6, Some(0), Ok((2, 9, 6, 2))),
+    (MOVED_OUT, 70, 14, None, Ok((3432, 70, 14, 3))),
+    (MOVED_OUT, 37, 14, Some(0), Ok((4, 37, 14, 2))),
+    (MOVED_OUT, 36, 14, Some(0), Err(SearchFault::TooManyStates)),
+];
+
+/// What is found, with 0 states where the last number that was told is another one.
+fn found(alloc: Global, scene: &Scene, limits: Limits) -> Result<Found, SearchFault> {
+    let mut last = Last(0);
+    let found = explore(alloc, scene, limits, &mut last)?;
+    let states = if last.0 == found.states { last.0 } else { 0 };
+    Ok((found.lists, states, found.turns, found.classes.len()))
+}
+
+/// The place of the first search, from 0, that finds something else.
+fn first_wrong(alloc: Global) -> Result<Option<usize>, RunFault> {
+    for (at, (script, states, turns, cuts, wanted)) in SEARCHES.iter().enumerate() {
+        let scene = scene_of(alloc, script)?;
+        let limits = Limits {
+            states: *states,
+            turns: *turns,
+            cuts: *cuts,
+        };
+        if found(alloc, &scene, limits) != *wanted {
+            return Ok(Some(at));
+        }
+    }
+    Ok(None)
+}
+
+#[test]
+fn searches_keep_to_limits(rt: HostRuntime) -> Result<(), Fail> {
+    assert_eq!(rt; first_wrong(rt.alloc())?, None);
+    Ok(())
+}
+
+/// Nothing more is asked of the world.
+fn end(alloc: Global, world: World<ListTree>) {
+    let _ = world.run(alloc, [].as_slice());
+}
+
+/// The world after the turns of these actors, a digit each, if there is room.
+fn seen(alloc: Global, scene: &Scene, turns: &str) -> Option<Seen<ListTree>> {
+    let mut world = scene.world(alloc).ok()?;
+    let mut taken = true;
+    for turn in turns.as_bytes() {
+        let actor = u32::from(turn.saturating_sub(b'0'));
+        taken = taken && world.turn(alloc, actor).is_ok();
+    }
+    if !taken {
+        end(alloc, world);
+        return None;
+    }
+    match Seen::new(alloc, world) {
+        Ok(seen) => Some(seen),
+        Err(world) => {
+            end(alloc, world);
+            None
+        }
+    }
+}
+
+fn end_seen(alloc: Global, seen: Option<Seen<ListTree>>) {
+    if let Some(seen) = seen {
+        end(alloc, seen.into_world());
+    }
+}
+
+/// Whether two lists of turns lead to alike worlds, if there is room.
+fn are_alike(alloc: Global, scene: &Scene, turns: &str, others: &str) -> Option<bool> {
+    let (one, other) = (seen(alloc, scene, turns), seen(alloc, scene, others));
+    let alike = match (&one, &other) {
+        (Some(one), Some(other)) => Some(one.is_alike(other)),
+        _ => None,
+    };
+    end_seen(alloc, one);
+    end_seen(alloc, other);
+    alike
+}
+
+/// Two lists of turns, and whether they lead to alike worlds: by 01 and by 10 each actor holds the same, by another number.
+const LIKENESSES: [(&str, &str, bool); 8] = [
+    ("", "", true),
+    ("01", "10", true),
+    ("0", "1", false),
+    ("01", "01", true),
+    ("0011", "1100", true),
+    ("0011", "0111", false),
+    ("000111111", "111111000", true),
+    ("0001111111", "1111111000", false),
+];
+
+/// The place of the first row, from 0, whose worlds are compared otherwise.
+fn first_unlike(alloc: Global) -> Result<Option<usize>, RunFault> {
+    let scene = scene_of(alloc, MOVED_OUT)?;
+    for (at, (turns, others, wanted)) in LIKENESSES.iter().enumerate() {
+        if are_alike(alloc, &scene, turns, others) != Some(*wanted) {
+            return Ok(Some(at));
+        }
+    }
+    Ok(None)
+}
+
+#[test]
+fn worlds_are_compared(rt: HostRuntime) -> Result<(), Fail> {
+    assert_eq!(rt; first_unlike(rt.alloc())?, None);
+    Ok(())
+}

@@ -1,0 +1,248 @@
+//! Sessions that aren't a service's own, which it turns away, and which don't close it.
+use crate::calling::{Base, events_closed, is_told, opened, opens_and_releases};
+use sessions::{CloseCause, CloseRefusal, Closed, NoGate, Service, Session, Stopped};
+use std::alloc::Global;
+use std::mem;
+use std::sync::Wait;
+use tree_list::ListTree;
+use tree_model::Tree;
+use tree_slab::SlabTree;
+
+/// How many events were closed, or why not.
+type Ended = Result<usize, CloseCause>;
+
+/// Which list of sessions: those with which it is tried to close, another service's, and two to put some aside.
+const OWN: usize = 0;
+
+const OTHERS: usize = 1;
+
+const ASIDE: usize = 2;
+
+const APART: usize = 3;
+
+/// A service that was stopped, until it is closed, and the lists.
+#[derive(Drop)]
+struct Closing<T: Tree> {
+    stopped: Option<Stopped<T>>,
+    lists: [Vec<Session>; 4],
+}
+
+/// Moves of the last session of one list to the end of another. Where an end is stated, it is tried to close after that.
+type Moves<'a> = &'a [(usize, usize, Option<Ended>)];
+
+fn events_of<T: Drop>(closed: Closed<T>) -> Ended {
+    let events = closed.events.len();
+    drop(closed);
+    Ok(events)
+}
+
+impl<T: Tree + Drop> Closing<T> {
+    // Takes all back that wasn't closed.
+    fn take_back(&mut self, refusal: CloseRefusal<T>) -> Ended {
+        let CloseRefusal {
+            cause,
+            stopped,
+            sessions,
+        } = refusal;
+        drop(self.stopped.replace(stopped));
+        drop(mem::replace(&mut self.lists[OWN], sessions));
+        Err(cause)
+    }
+
+    // Tries to close, where it isn't closed.
+    fn close(&mut self, alloc: Global) -> Option<Ended> {
+        let stopped = self.stopped.take()?;
+        let sessions = mem::replace(&mut self.lists[OWN], Vec::new(alloc));
+        match stopped.close(sessions) {
+            Ok(closed) => Some(events_of(closed)),
+            Err(refusal) => Some(self.take_back(refusal)),
+        }
+    }
+
+    fn make(&mut self, from: usize, to: usize) {
+        let Some(list) = self.lists.get_mut(from) else {
+            return;
+        };
+        let Some(session) = list.pop() else {
+            return;
+        };
+        match self.lists.get_mut(to) {
+            Some(list) => drop(list.push(session)),
+            None => drop(session),
+        }
+    }
+
+    // Whether it ends as it is stated, each time that it is tried.
+    fn ends_so(&mut self, alloc: Global, moves: Moves) -> bool {
+        for (from, to, end) in moves {
+            self.make(*from, *to);
+            if end.is_some() && self.close(alloc) != *end {
+                return false;
+            }
+        }
+        true
+    }
+}
+
+// The sessions of another service.
+fn sessions_of<T: Base>(alloc: Global, paths: &[&str], tag: u64, lines: u32) -> Vec<Session> {
+    match opened::<T>(alloc, paths, tag, lines) {
+        Some((service, sessions)) => {
+            drop(service);
+            sessions
+        }
+        None => Vec::new(alloc),
+    }
+}
+
+// Whether a service with these sessions, its own and others, ends as it is stated.
+fn closes_so<T: Tree + Drop>(
+    alloc: Global,
+    service: Service<T>,
+    own: Vec<Session>,
+    others: Vec<Session>,
+    moves: Moves,
+) -> bool {
+    let mut closing = Closing {
+        stopped: Some(service.stop()),
+        lists: [own, others, Vec::new(alloc), Vec::new(alloc)],
+    };
+    let is_so = closing.ends_so(alloc, moves);
+    drop(closing);
+    is_so
+}
+
+// Another's last session in the place of its own; without that; with its own.
+const WRONG: Moves = &[
+    (OWN, ASIDE, None),
+    (OTHERS, OWN, Some(Err(CloseCause::Stranger(1)))),
+    (OWN, OTHERS, Some(Err(CloseCause::Missing(1)))),
+    (ASIDE, OWN, Some(Ok(0))),
+];
+
+fn wrong_sessions<T: Base>(alloc: Global) -> bool {
+    let Some((service, own)) = opened::<T>(alloc, &["/c", "/"], 1, 9) else {
+        return false;
+    };
+    let others = sessions_of::<T>(alloc, &["/c", "/"], 2, 9);
+    closes_so(alloc, service, own, others, WRONG)
+}
+
+#[test]
+fn wrong_sessions_close_nothing(rt: HostRuntime) {
+    let alloc = rt.alloc();
+    assert!(rt; wrong_sessions::<ListTree>(alloc) && wrong_sessions::<SlabTree>(alloc));
+}
+
+// The user is the last of the others. Its own last gives way to the other's first, which has the number of its own first; comes
+// back; and gives way to the user, which comes last.
+const USER_LAST: Moves = &[
+    (OTHERS, APART, None),
+    (OWN, ASIDE, None),
+    (OTHERS, OWN, Some(Err(CloseCause::Stranger(1)))),
+    (OWN, OTHERS, None),
+    (ASIDE, OWN, Some(Err(CloseCause::Mismatch(1)))),
+    (OWN, ASIDE, None),
+    (APART, OWN, Some(Ok(3))),
+];
+
+// The same, where the user comes first in the end.
+const USER_FIRST: Moves = &[
+    (OTHERS, APART, None),
+    (OWN, ASIDE, None),
+    (OTHERS, OWN, Some(Err(CloseCause::Stranger(1)))),
+    (OWN, OTHERS, None),
+    (ASIDE, OWN, Some(Err(CloseCause::Mismatch(1)))),
+    (OWN, ASIDE, None),
+    (OWN, OTHERS, None),
+    (APART, OWN, None),
+    (OTHERS, OWN, Some(Ok(3))),
+];
+
+// Two services of one tag, of two sessions each: whether the first serves the second one's session 1, and ends as it is stated.
+fn one_tag<T: Base, R: Wait>(rt: &R, alloc: Global, moves: Moves) -> bool {
+    let Some((service, own)) = opened::<T>(alloc, &["/c", "/c"], 7, 99) else {
+        return false;
+    };
+    let mut others = sessions_of::<T>(alloc, &["/c", "/c"], 7, 99);
+    let user = others.last_mut();
+    let served = opens_and_releases(rt, alloc, &service, &service, user, "done\n");
+    let closed = closes_so(alloc, service, own, others, moves);
+    served && closed
+}
+
+/// What the tag doesn't tell apart, closing does.
+#[test]
+fn services_of_one_tag_are_told_apart(rt: HostRuntime) {
+    let alloc = rt.alloc();
+    let mut told = true;
+    for moves in [USER_LAST, USER_FIRST] {
+        told = told
+            && one_tag::<ListTree, _>(&rt, alloc, moves)
+            && one_tag::<SlabTree, _>(&rt, alloc, moves);
+    }
+    assert!(rt; told);
+}
+
+// Whether a session is of tag 7, and its root too.
+fn is_of_seven(session: &Session) -> bool {
+    let owner = session.owner();
+    owner.tag == 7 && session.root().owner == owner
+}
+
+// Whether a service turns the last of another one's sessions away, and keeps what it opened.
+fn is_turned_away<T: Tree, R: Wait>(
+    rt: &R,
+    alloc: Global,
+    service: &Service<T>,
+    own: &Service<T>,
+    sessions: &mut [Session],
+) -> bool {
+    let Some(session) = sessions.last() else {
+        return false;
+    };
+    is_of_seven(session)
+        && is_told(
+            rt,
+            alloc,
+            service,
+            sessions.last_mut(),
+            &NoGate,
+            "a",
+            "fault EINVAL\n",
+        )
+        && opens_and_releases(rt, alloc, own, service, sessions.last_mut(), "kept\n")
+}
+
+// Whether a service turns session 1 of another one away, which is of tag 7 and has three events in the end.
+fn turns_away<T: Base, R: Wait>(rt: &R, alloc: Global, service: &Service<T>) -> bool {
+    let Some((other, mut others)) = opened::<T>(alloc, &["/c", "/c"], 7, 99) else {
+        return false;
+    };
+    let told = is_turned_away(rt, alloc, service, &other, others.as_mut_slice());
+    let events = events_closed(other.stop().close(others));
+    told && events == Some(3)
+}
+
+// The same of a service of that tag at these roots, which has no events in the end.
+fn has_no_stranger<T: Base, R: Wait>(rt: &R, alloc: Global, paths: &[&str], tag: u64) -> bool {
+    let Some((service, own)) = opened::<T>(alloc, paths, tag, 99) else {
+        return false;
+    };
+    let told = turns_away(rt, alloc, &service);
+    let events = events_closed(service.stop().close(own));
+    told && events == Some(0)
+}
+
+/// A session of another tag, and one of a number that the service hasn't.
+#[test]
+fn strangers_are_turned_away(rt: HostRuntime) {
+    let alloc = rt.alloc();
+    let mut told = true;
+    for (paths, tag) in [(["/c", "/c"].as_slice(), 8), (&["/c"], 7)] {
+        told = told
+            && has_no_stranger::<ListTree, _>(&rt, alloc, paths, tag)
+            && has_no_stranger::<SlabTree, _>(&rt, alloc, paths, tag);
+    }
+    assert!(rt; told);
+}

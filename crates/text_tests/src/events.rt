@@ -1,0 +1,145 @@
+//! Logs of each step with each answer, there and back.
+use super::rows::{ANSWERS, STEPS, answer_of, step_of};
+use event_log::EventLog;
+use path_text::{Errno, NoMemory};
+use std::alloc::Global;
+use std::test::Fail;
+use transcript::Output;
+use tree_model::{Actor, Answer, Event, HandleNo};
+
+/// Each step with each answer.
+const COUNT: usize = STEPS.len() * ANSWERS.len();
+
+/// The event of that place: the answers of a step come in their order, each to an actor of its own.
+fn event_at(alloc: Global, at: usize) -> Result<Event, Errno> {
+    let actor = at % ANSWERS.len();
+    let (word, text, _) = ANSWERS[actor];
+    Ok(Event {
+        actor: Actor::new(actor as u32),
+        step: step_of(alloc, STEPS[at / ANSWERS.len() % STEPS.len()])?,
+        answer: answer_of(alloc, word, text)?,
+    })
+}
+
+fn filled(alloc: Global) -> Result<EventLog, Errno> {
+    let mut log = EventLog::new(alloc);
+    for at in 0..COUNT {
+        let event = event_at(alloc, at)?;
+        log.push(event.actor, &event.step, &event.answer)?;
+    }
+    Ok(log)
+}
+
+/// Whether the event of a place is that, read back and compared in place.
+fn holds_at(alloc: Global, log: &EventLog, at: usize, event: &Event) -> Result<bool, NoMemory> {
+    if at >= log.len() || !log.is(at, event.actor, &event.step, &event.answer) {
+        return Ok(false);
+    }
+    let read = log.event(alloc, at)?;
+    Ok(read.actor == event.actor && read.step.same(&event.step) && read.answer.same(&event.answer))
+}
+
+fn holds_all(alloc: Global, log: &EventLog) -> Result<bool, Errno> {
+    for at in 0..COUNT {
+        let event = event_at(alloc, at)?;
+        if !holds_at(alloc, log, at, &event)? {
+            return Ok(false);
+        }
+    }
+    Ok(log.len() == 209 && !log.is_empty())
+}
+
+fn reads_back(alloc: Global) -> Result<bool, Errno> {
+    let log = filled(alloc)?;
+    holds_all(alloc, &log)
+}
+
+#[test]
+fn reads_back_each_event(rt: HostRuntime) -> Result<(), Fail> {
+    assert!(rt; reads_back(rt.alloc())?);
+    Ok(())
+}
+
+/// Writes the events of a log, a line each.
+fn write_events(out: &mut Output, log: &EventLog) -> Result<(), NoMemory> {
+    for at in 0..log.len() {
+        log.write_event(out, at)?;
+        out.text("\n")?;
+    }
+    Ok(())
+}
+
+/// Writes the lines of each step with each answer.
+fn write_rows(out: &mut Output) -> Result<(), NoMemory> {
+    for step in &STEPS {
+        for (_, _, answer) in &ANSWERS {
+            out.text(step)?;
+            out.text(" = ")?;
+            out.text(answer)?;
+            out.text("\n")?;
+        }
+    }
+    Ok(())
+}
+
+fn writes(alloc: Global) -> Result<bool, Errno> {
+    let log = filled(alloc)?;
+    let mut written = Output::new(alloc);
+    write_events(&mut written, &log)?;
+    let mut wanted = Output::new(alloc);
+    write_rows(&mut wanted)?;
+    Ok(written.as_slice() == wanted.as_slice())
+}
+
+#[test]
+fn writes_each_event(rt: HostRuntime) -> Result<(), Fail> {
+    assert!(rt; writes(rt.alloc())?);
+    Ok(())
+}
+
+/// Whether two logs that were filled in the same way have equal events at equal places alone.
+fn are_same_in_place(log: &EventLog, other: &EventLog) -> bool {
+    for at in 0..log.len() {
+        for there in 0..other.len() {
+            if log.same_at(at, other, there) != (at == there) {
+                return false;
+            }
+        }
+    }
+    log.len() == other.len()
+}
+
+fn tells_apart(alloc: Global) -> Result<bool, Errno> {
+    let log = filled(alloc)?;
+    let other = filled(alloc)?;
+    Ok(are_same_in_place(&log, &log) && are_same_in_place(&log, &other))
+}
+
+#[test]
+fn tells_events_apart(rt: HostRuntime) -> Result<(), Fail> {
+    assert!(rt; tells_apart(rt.alloc())?);
+    Ok(())
+}
+
+/// Adds a step that had room for its texts beforehand, and a Close where there is room for it.
+fn add_two(alloc: Global, log: &mut EventLog) -> Result<(), Errno> {
+    let step = step_of(alloc, "make_dir 0 a")?;
+    log.reserve(2)?;
+    log.reserve_texts(&step)?;
+    log.push(Actor::new(1), &step, &Answer::Done)?;
+    log.push_close(Actor::new(1), HandleNo::new(4));
+    Ok(())
+}
+
+fn closes(alloc: Global) -> Result<bool, Errno> {
+    let mut log = EventLog::new(alloc);
+    add_two(alloc, &mut log)?;
+    let close = step_of(alloc, "close 4")?;
+    Ok(log.len() == 2 && log.is(1, Actor::new(1), &close, &Answer::Done))
+}
+
+#[test]
+fn adds_a_close(rt: HostRuntime) -> Result<(), Fail> {
+    assert!(rt; closes(rt.alloc())?);
+    Ok(())
+}

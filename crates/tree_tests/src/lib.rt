@@ -1,0 +1,11 @@
+//! Nodes, lists of entries, handles and the cache of entries, by tables. Steps and answers are the rows of `tree_rows`.
+#![tactic(auto)]
+
+#[cfg(test)]
+mod built;
+#[cfg(test)]
+mod cache;
+#[cfg(test)]
+mod nodes;
+#[cfg(test)]
+mod whole;

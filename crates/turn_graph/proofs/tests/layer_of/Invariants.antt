@@ -1,5 +1,0 @@
-use Rattle.turn_graph.specs.Words.{IsLayer}
-use Rattle.turn_graph.proofs.tests.layer_of.Given as goal
-
-abbrev pub invariant-loop-drawn : goal.invariant-loop-drawn
-invariant-loop-drawn l = IsLayer l.layer.items

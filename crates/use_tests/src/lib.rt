@@ -1,0 +1,5 @@
+//! Callers of the resolver, each called.
+#![tactic(auto)]
+
+#[cfg(test)]
+mod callers;

@@ -1,0 +1,13 @@
+//! Handles' states, plans, walks and the plain resolution, by tables of paths and answers.
+#![tactic(auto)]
+
+#[cfg(test)]
+mod plain;
+#[cfg(test)]
+mod plans;
+#[cfg(test)]
+mod states;
+#[cfg(test)]
+mod walks;
+#[cfg(test)]
+mod words;

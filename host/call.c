@@ -1,0 +1,120 @@
+/* call.c: a proved call driven to its reply, and begun again where others were in its way. */
+#define _GNU_SOURCE
+#include "driver.h"
+
+#include <errno.h>
+#include <stdlib.h>
+#include <string.h>
+#include <sys/stat.h>
+#include <time.h>
+#include <unistd.h>
+
+/* inroot.h tells the rule: so many tries, the first of them without a pause. */
+enum { TRIES = INROOT_TRIES, AT_ONCE = 8 };
+
+/* What the reply stands for. */
+static ssize_t reply_of(struct inroot_driver *d, const struct inroot_told *told)
+{
+    switch (told->what) {
+    case INROOT_REPLY_OPENED:
+        return inroot_handles_take(d, told->handle);
+    case INROOT_REPLY_TEXT:
+        return told->whole ? (ssize_t)told->first : -ENOMEM;
+    case INROOT_REPLY_DONE:
+        return 0;
+    case INROOT_REPLY_COUNT:
+        return (ssize_t)told->handle;
+    default:
+        return told->detail == EBADF && d->unknown ? -d->unknown : -told->detail;
+    }
+}
+
+/* Takes turns with the proved call. */
+static ssize_t converse(struct inroot_driver *d, int root, const struct inroot_request *asked, char *room)
+{
+    struct inroot_asked numbers = {
+        .root = inroot_handles_begin(d, root),
+        .op = (uint8_t)asked->op,
+        .mode = (uint8_t)asked->mode,
+        .beneath = asked->flags & INROOT_BENEATH,
+        .no_links = asked->flags & INROOT_NO_LINKS,
+    };
+    struct inroot_told told;
+    struct inroot_kept kept = {0};
+    unsigned char *bytes = (unsigned char *)room;
+    /* Apart from the room, which the library writes to while it reads this. */
+    char text[INROOT_TEXT_MAX + 1];
+    inroot_begin(&numbers, (const unsigned char *)asked->first, strlen(asked->first),
+                 (const unsigned char *)asked->second, strlen(asked->second), &kept, &told, bytes, INROOT_ROOM);
+    while (told.what < INROOT_REPLY_OPENED) {
+        size_t length;
+        struct inroot_answered answered = inroot_make(d, &told, room, text, &length);
+        bool lists = answered.what == INROOT_ANSWER_LISTED;
+        inroot_next(&kept, &answered, (const unsigned char *)(lists ? d->names : text), lists ? d->names_length : length, &told,
+                    bytes, INROOT_ROOM);
+    }
+    return reply_of(d, &told);
+}
+
+/* Whether the root is a directory: 0 or -errno. */
+static int check_root(int root)
+{
+    struct stat about;
+    if (fstat(root, &about) != 0)
+        return -errno;
+    return S_ISDIR(about.st_mode) ? 0 : -ENOTDIR;
+}
+
+/* Leaves the current directory as it is promised. A thread that may no longer search its root is told so. */
+static ssize_t come_home(ssize_t result, bool opens)
+{
+    if (chdir("/") == 0)
+        return result;
+    int error = errno;
+    if (result >= 0 && opens)
+        close((int)result);
+    return -error;
+}
+
+static bool opens(enum inroot_op op)
+{
+    return op == INROOT_ASK_RESOLVE || op == INROOT_ASK_RESOLVE_NOFOLLOW || op == INROOT_ASK_MKDIR_ALL;
+}
+
+ssize_t inroot_once(struct inroot_driver *d, int root, const struct inroot_request *asked, char *room)
+{
+    bool jailed = root == INROOT_JAIL;
+    *d = (struct inroot_driver){.counts = asked->op == INROOT_ASK_REMOVE_ALL, .proc = INROOT_NONE, .deepest = INROOT_NONE};
+    ssize_t result = converse(d, jailed ? INROOT_JAILED : root, asked, room);
+    inroot_handles_end(d);
+    inroot_proc_end(d);
+    free(d->names);
+    if (d->moved)
+        result = come_home(result, opens(asked->op));
+    /* A step tells of a root that is none. What comes before any step is told after that. */
+    int bad_root = result < 0 && d->steps == 0 && !jailed ? check_root(root) : 0;
+    return bad_root ? bad_root : result;
+}
+
+bool inroot_again(int tries, int flags)
+{
+    if (flags & INROOT_NO_RETRY || tries >= TRIES)
+        return false;
+    if (tries >= AT_ONCE) {
+        const long most = 1000000;
+        long pause = 10000L << (tries - AT_ONCE < 7 ? tries - AT_ONCE : 7);
+        const struct timespec time = {.tv_nsec = pause < most ? pause : most};
+        nanosleep(&time, NULL);
+    }
+    return true;
+}
+
+ssize_t inroot_call(int root, const struct inroot_request *asked, char *room)
+{
+    struct inroot_driver d;
+    for (int tries = 1;; tries++) {
+        ssize_t result = inroot_once(&d, root, asked, room);
+        if (result != -EAGAIN || !inroot_again(tries, asked->flags))
+            return result;
+    }
+}

@@ -1,0 +1,128 @@
+/* driver.h: what the files of the driver share. A program includes inroot.h alone. */
+#ifndef INROOT_DRIVER_H
+#define INROOT_DRIVER_H
+
+#include "calls.h"
+#include "inroot.h"
+
+#include <limits.h>
+#include <stdbool.h>
+#include <stddef.h>
+#include <stdint.h>
+#include <sys/types.h>
+
+/* A path and a NUL; what a step or a reply can lay out: two texts, or a name and a text. */
+enum { INROOT_TEXT_MAX = PATH_MAX, INROOT_ROOM = 2 * PATH_MAX + 2 * (NAME_MAX + 1) };
+
+/* How many descriptors a call that removes a tree holds at most, and how deep one of the proved calls goes. */
+enum { INROOT_HELD_MAX = 32, INROOT_DEPTH_MAX = 16384 };
+
+/* Which object a directory is, where no descriptor pins it; its birth is zero where the file system keeps none. */
+struct inroot_identity {
+    uint64_t device, inode;
+    int64_t born;
+    uint32_t born_part;
+};
+
+/* How a handle's object was come to. */
+enum inroot_way { INROOT_BY_ROOT, INROOT_BY_NAME, INROOT_BY_PARENT };
+
+/* In place of a descriptor: one that was let go and can be opened again; the root of a jail, which needs none; none. */
+enum { INROOT_AWAY = -2, INROOT_JAILED = -3, INROOT_NONE = -1 };
+
+/* What a handle of the proved call stands for. */
+struct inroot_slot {
+    int fd, lost;                  /* the descriptor; and the error of one that could not be opened again */
+    uint32_t serial;               /* of the handle that has this slot now */
+    int32_t above;                 /* while a tree is removed: the slot of the directory it was opened in */
+    uint32_t depth, listed;        /* below the first such directory; how many bytes of names the call holds for it */
+    uint8_t way, kind;
+    struct inroot_identity who;    /* once it was let go */
+};
+
+/* What is asked for: an operation, and its texts. */
+struct inroot_request {
+    enum inroot_op op;
+    int mode, flags;
+    const char *first, *second;
+};
+
+/* The slots that serve a call with few handles. */
+enum { INROOT_FEW = 8 };
+
+/* A call under way. */
+struct inroot_driver {
+    bool moved;                    /* the thread's current directory was changed */
+    bool counts, begun;            /* a tree is removed; and its first entry's turn has come */
+    bool busy, too_deep;           /* a step was refused by EBUSY; a directory was not entered for its depth */
+    int unknown;                   /* an error that no step of the model is refused by */
+    int proc;                      /* the /proc that was found to be one, or none yet */
+    bool proc_is_own;              /* it is closed at the call's end */
+    uint64_t steps, removed;
+    struct inroot_slot *slots, few[INROOT_FEW];
+    uint32_t used, room, serial;
+    int32_t free;                  /* the first slot that is free again; its `above` is the next one */
+    int inner;                     /* a directory that was closed last, and from which `..` leads to the slot above */
+    int32_t inner_above;
+    char *names;                   /* those of the directory that was listed last, and their length */
+    size_t names_length;
+    size_t listed;                 /* bytes of names that the call holds */
+    int deepest;                   /* where too_deep: the directory, and the entry in it */
+    char deepest_name[NAME_MAX + 1];
+};
+
+#pragma GCC visibility push(hidden)
+
+/* handles.c */
+uint64_t inroot_handles_begin(struct inroot_driver *d, int root);
+void inroot_handles_end(struct inroot_driver *d);
+/* Whether there is room for one more handle. */
+bool inroot_handles_reserve(struct inroot_driver *d);
+/* A handle on what was opened, by its name in DIR or otherwise; there is room. */
+uint64_t inroot_handles_put(struct inroot_driver *d, int fd, enum inroot_kind kind, enum inroot_way way, uint64_t dir);
+struct inroot_slot *inroot_handles_slot(struct inroot_driver *d, uint64_t handle);
+/* Its descriptor, opened again where it was let go. Gives 0 or an error's number. */
+int inroot_handles_fd(struct inroot_driver *d, uint64_t handle, int *fd);
+void inroot_handles_close(struct inroot_driver *d, uint64_t handle);
+/* Takes the descriptor out of a handle, for the caller to keep. */
+int inroot_handles_take(struct inroot_driver *d, uint64_t handle);
+/* Lets one directory above this one go, where one can be. */
+bool inroot_handles_spare(struct inroot_driver *d, uint64_t handle);
+
+/* proc.c */
+/* A /proc that serves this call, or -ENOSYS. */
+int inroot_proc_for(struct inroot_driver *d);
+void inroot_proc_end(struct inroot_driver *d);
+/* Sees to it that this thread has one that stays, and gives 0 or -errno; and lets go of what it keeps for the thread. */
+int inroot_proc_stay(void);
+void inroot_proc_leave(void);
+
+/* jail.c */
+bool inroot_is_jailed(void);
+
+/* call.c */
+/* A try: one proved call from its beginning to its reply, whose text then lies in the room. */
+ssize_t inroot_once(struct inroot_driver *d, int root, const struct inroot_request *asked, char *room);
+/* Whether another try is due after this many, for which it has waited then. */
+bool inroot_again(int tries, int flags);
+/* A call by as many tries as are due. Gives 0, what was opened, a text's length, or -errno. */
+ssize_t inroot_call(int root, const struct inroot_request *asked, char *room);
+
+/* remove.c */
+/* The same of a tree. Gives how many entries were removed, or -errno. */
+ssize_t inroot_remove_tree(int root, const struct inroot_request *asked, char *room);
+
+/* place.c */
+struct inroot_answered inroot_name_below(struct inroot_driver *d, const struct inroot_told *step, char *text, size_t *length);
+
+/* listing.c */
+struct inroot_answered inroot_list(struct inroot_driver *d, uint64_t handle);
+
+/* steps.c */
+struct inroot_answered inroot_refused(struct inroot_driver *d, int error);
+/* Makes the step that was told, whose names lie in the room. What it reads is written to `text`. */
+struct inroot_answered inroot_make(struct inroot_driver *d, const struct inroot_told *step, const char *room, char *text, size_t *length);
+
+#pragma GCC visibility pop
+
+#endif

@@ -1,0 +1,215 @@
+/*
+ * handles.c: what the handles of a proved call stand for. Each has a slot with its descriptor. While a tree is removed, the
+ * descriptor of a directory far above the one that is cleared is let go, and opened again by `..` when its turn comes.
+ */
+#define _GNU_SOURCE
+#include "driver.h"
+
+#include <errno.h>
+#include <fcntl.h>
+#include <stdlib.h>
+#include <string.h>
+#include <sys/stat.h>
+#include <unistd.h>
+
+static uint32_t index_of(uint64_t handle)
+{
+    return (uint32_t)handle;
+}
+
+struct inroot_slot *inroot_handles_slot(struct inroot_driver *d, uint64_t handle)
+{
+    return &d->slots[index_of(handle)];
+}
+
+/* Takes a slot, of which there is one. A handle's number counts up above its slot, so that none comes twice in a call. */
+static uint64_t take_slot(struct inroot_driver *d, struct inroot_slot *with)
+{
+    uint32_t at = d->used;
+    if (d->free >= 0) {
+        at = (uint32_t)d->free;
+        d->free = d->slots[at].above;
+    } else {
+        d->used++;
+    }
+    with->serial = ++d->serial;
+    d->slots[at] = *with;
+    return (uint64_t)with->serial << 32 | at;
+}
+
+uint64_t inroot_handles_begin(struct inroot_driver *d, int root)
+{
+    struct inroot_slot slot = {.fd = root, .above = -1, .way = INROOT_BY_ROOT, .kind = INROOT_KIND_DIR};
+    d->slots = d->few;
+    d->room = INROOT_FEW;
+    d->free = -1;
+    d->inner = INROOT_NONE;
+    return take_slot(d, &slot);
+}
+
+static void drop_inner(struct inroot_driver *d)
+{
+    if (d->inner >= 0)
+        close(d->inner);
+    d->inner = INROOT_NONE;
+}
+
+void inroot_handles_end(struct inroot_driver *d)
+{
+    drop_inner(d);
+    if (d->slots != d->few)
+        free(d->slots);
+}
+
+bool inroot_handles_reserve(struct inroot_driver *d)
+{
+    if (d->free >= 0 || d->used < d->room)
+        return true;
+    uint32_t room = 2 * d->room;
+    bool is_few = d->slots == d->few;
+    struct inroot_slot *more = realloc(is_few ? NULL : d->slots, room * sizeof *more);
+    if (more == NULL)
+        return false;
+    if (is_few)
+        memcpy(more, d->few, sizeof d->few);
+    d->slots = more;
+    d->room = room;
+    return true;
+}
+
+/* ---- directories that are let go */
+
+/* Birth tells a directory from one that has its number after it was removed. */
+static bool identify(int fd, struct inroot_identity *who)
+{
+    struct stat about;
+    memset(who, 0, sizeof *who);
+    if (fstat(fd, &about) != 0)
+        return false;
+    who->device = about.st_dev;
+    who->inode = about.st_ino;
+#ifdef STATX_BTIME
+    struct statx more;
+    if (statx(fd, "", AT_EMPTY_PATH, STATX_BTIME, &more) == 0 && more.stx_mask & STATX_BTIME) {
+        who->born = more.stx_btime.tv_sec;
+        who->born_part = more.stx_btime.tv_nsec;
+    }
+#endif
+    return true;
+}
+
+static bool is_same(const struct inroot_identity *a, const struct inroot_identity *b)
+{
+    return a->device == b->device && a->inode == b->inode && a->born == b->born && a->born_part == b->born_part;
+}
+
+static bool let_go(struct inroot_slot *slot)
+{
+    if (!identify(slot->fd, &slot->who))
+        return false;
+    close(slot->fd);
+    slot->fd = INROOT_AWAY;
+    return true;
+}
+
+/*
+ * The outermost directory above that has a descriptor and isn't the walk's, which stays open; and how many there are. They
+ * follow one another up to the first one that was let go.
+ */
+static struct inroot_slot *outermost(struct inroot_driver *d, uint64_t handle, int *count)
+{
+    struct inroot_slot *found = NULL;
+    *count = 0;
+    for (int32_t at = inroot_handles_slot(d, handle)->above; at >= 0; at = d->slots[at].above) {
+        struct inroot_slot *slot = &d->slots[at];
+        if (slot->fd < 0 || slot->above < 0)
+            break;
+        found = slot;
+        ++*count;
+    }
+    return found;
+}
+
+bool inroot_handles_spare(struct inroot_driver *d, uint64_t handle)
+{
+    int count;
+    struct inroot_slot *slot = outermost(d, handle, &count);
+    return slot != NULL && let_go(slot);
+}
+
+/*
+ * Opens the directory above the one that was closed last. Whoever moved that one away meanwhile made `..` lead elsewhere: then
+ * the call has lost its directory, and no step is made in another one. What the machine takes for an answer about an entry
+ * isn't told of it.
+ */
+static void come_back(struct inroot_driver *d, struct inroot_slot *slot, int32_t at)
+{
+    struct inroot_identity now;
+    int up = INROOT_NONE;
+    slot->lost = EAGAIN;
+    if (d->inner >= 0 && d->inner_above == at) {
+        up = openat(d->inner, "..", O_PATH | O_DIRECTORY | O_NOFOLLOW | O_CLOEXEC);
+        if (up < 0 && errno != ENOENT && errno != ENOTDIR)
+            slot->lost = errno;
+    }
+    drop_inner(d);
+    if (up < 0)
+        return;
+    if (!identify(up, &now) || !is_same(&now, &slot->who)) {
+        close(up);
+        return;
+    }
+    slot->fd = up;
+    slot->lost = 0;
+}
+
+/* ---- handles */
+
+uint64_t inroot_handles_put(struct inroot_driver *d, int fd, enum inroot_kind kind, enum inroot_way way, uint64_t dir)
+{
+    struct inroot_slot slot = {.fd = fd, .above = -1, .way = (uint8_t)way, .kind = (uint8_t)kind};
+    if (d->begun && kind == INROOT_KIND_DIR) {
+        slot.above = (int32_t)index_of(dir);
+        slot.depth = inroot_handles_slot(d, dir)->depth + 1;
+    }
+    uint64_t handle = take_slot(d, &slot);
+    int count;
+    struct inroot_slot *outer = d->begun ? outermost(d, handle, &count) : NULL;
+    if (outer != NULL && count > INROOT_HELD_MAX)
+        let_go(outer);
+    return handle;
+}
+
+int inroot_handles_fd(struct inroot_driver *d, uint64_t handle, int *fd)
+{
+    struct inroot_slot *slot = inroot_handles_slot(d, handle);
+    if (slot->fd == INROOT_AWAY && slot->lost == 0)
+        come_back(d, slot, (int32_t)index_of(handle));
+    *fd = slot->fd;
+    return slot->lost;
+}
+
+/* A directory by which the one above is to be found again stays open until that one's turn, or the next Close. */
+void inroot_handles_close(struct inroot_driver *d, uint64_t handle)
+{
+    struct inroot_slot *slot = inroot_handles_slot(d, handle);
+    drop_inner(d);
+    if (slot->above >= 0 && d->slots[slot->above].fd == INROOT_AWAY) {
+        d->inner = slot->fd;
+        d->inner_above = slot->above;
+    } else if (slot->fd >= 0) {
+        close(slot->fd);
+    }
+    d->listed -= slot->listed;
+    slot->fd = INROOT_NONE;
+    slot->above = d->free;
+    d->free = (int32_t)index_of(handle);
+}
+
+int inroot_handles_take(struct inroot_driver *d, uint64_t handle)
+{
+    struct inroot_slot *slot = inroot_handles_slot(d, handle);
+    int fd = slot->fd;
+    slot->fd = INROOT_NONE;
+    return fd;
+}

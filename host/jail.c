@@ -1,0 +1,97 @@
+/* jail.c: a thread with a root directory of its own. */
+#define _GNU_SOURCE
+#include "driver.h"
+
+#include <errno.h>
+#include <fcntl.h>
+#include <linux/capability.h>
+#include <pthread.h>
+#include <sched.h>
+#include <sys/stat.h>
+#include <sys/syscall.h>
+#include <unistd.h>
+
+static _Thread_local bool jailed;
+
+bool inroot_is_jailed(void)
+{
+    return jailed;
+}
+
+void inroot_jail_done(void)
+{
+    jailed = false;
+    inroot_proc_leave();
+}
+
+/* Asked before anything is changed. */
+static bool may_change_root(void)
+{
+    struct __user_cap_header_struct head = {.version = _LINUX_CAPABILITY_VERSION_3};
+    struct __user_cap_data_struct sets[_LINUX_CAPABILITY_U32S_3] = {{0}};
+    return syscall(SYS_capget, &head, sets) == 0 && sets[CAP_SYS_CHROOT / 32].effective & 1U << CAP_SYS_CHROOT % 32;
+}
+
+/* Whether the root is a directory, and the thread may have it as its root: 0 or -errno. */
+static int check(int root)
+{
+    struct stat about;
+    if (fstat(root, &about) != 0)
+        return -errno;
+    if (!S_ISDIR(about.st_mode))
+        return -ENOTDIR;
+    return may_change_root() ? 0 : -EPERM;
+}
+
+/* The current directory is the thread's own from here on, so that other threads see nothing of the rest. */
+static int move(int root, int from)
+{
+    if (unshare(CLONE_FS) != 0)
+        return -errno;
+    if (fchdir(root) == 0 && chroot(".") == 0)
+        return 0;
+    int error = errno;
+    /* It was searched to be opened, so that the thread may go back there. */
+    if (fchdir(from) != 0)
+        error = errno;
+    return -error;
+}
+
+/* The same from where the thread is, which it doesn't leave where that fails. */
+static int move_from_here(int root)
+{
+    int from = open(".", O_PATH | O_DIRECTORY | O_CLOEXEC);
+    if (from < 0)
+        return -errno;
+    /* Where the root may not be searched, this fails before anything is changed. */
+    int own = openat(root, ".", O_PATH | O_DIRECTORY | O_CLOEXEC);
+    int failed = own < 0 ? -errno : move(own, from);
+    if (own >= 0)
+        close(own);
+    close(from);
+    return failed;
+}
+
+static int move_below(int root)
+{
+    int failed = check(root);
+    if (failed == 0)
+        failed = inroot_proc_stay();
+    if (failed == 0)
+        failed = move_from_here(root);
+    if (failed)
+        inroot_proc_leave();
+    jailed = failed == 0;
+    return failed;
+}
+
+int inroot_jail(int root)
+{
+    int state;
+    if (jailed)
+        return -EBUSY;
+    pthread_setcancelstate(PTHREAD_CANCEL_DISABLE, &state);
+    int failed = move_below(root);
+    pthread_setcancelstate(state, NULL);
+    return failed;
+}

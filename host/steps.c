@@ -1,0 +1,241 @@
+/* steps.c: each step that a proved call asks for, by system calls (docs/HOST.md has the map and what is trusted). */
+#define _GNU_SOURCE
+#include "driver.h"
+
+#include <errno.h>
+#include <fcntl.h>
+#include <stdio.h>
+#include <string.h>
+#include <sys/stat.h>
+#include <sys/syscall.h>
+#include <unistd.h>
+
+/* ---- answers */
+
+struct inroot_answered inroot_refused(struct inroot_driver *d, int error)
+{
+    switch (error) {
+    case EBUSY:
+        d->busy = true;
+        break;
+    case ENOENT: case EAGAIN: case ENOMEM: case EEXIST: case EXDEV: case ENOTDIR: case EISDIR: case EINVAL: case EMFILE:
+    case ENOSPC: case ENAMETOOLONG: case ENOTEMPTY: case ELOOP:
+        break;
+    default:
+        /* The call ends by EBADF, and this is told in its place. */
+        d->unknown = error;
+    }
+    return (struct inroot_answered){.what = INROOT_ANSWER_REFUSED, .error = (uint8_t)error};
+}
+
+static struct inroot_answered done_or(struct inroot_driver *d, long failed)
+{
+    return failed ? inroot_refused(d, errno) : (struct inroot_answered){.what = INROOT_ANSWER_DONE};
+}
+
+/* What was opened, whose kind is known. No answer rests on a node's number, so that the handle's own serves as one. */
+static struct inroot_answered opened(struct inroot_driver *d, int fd, enum inroot_kind kind, enum inroot_way way, uint64_t dir)
+{
+    uint64_t handle = inroot_handles_put(d, fd, kind, way, dir);
+    return (struct inroot_answered){.what = INROOT_ANSWER_OPENED, .handle = handle, .node = handle, .kind = (uint8_t)kind};
+}
+
+/* ---- a directory and a name in it */
+
+/* As a system call takes them. The root of a jail is the thread's own, so that a name in it begins with a slash. */
+struct entry {
+    int dir;
+    const char *name;
+    char from_root[NAME_MAX + 2];
+};
+
+static int find(struct inroot_driver *d, uint64_t handle, const char *name, struct entry *entry)
+{
+    int error = inroot_handles_fd(d, handle, &entry->dir);
+    entry->name = name;
+    if (error == 0 && entry->dir == INROOT_JAILED) {
+        size_t length = strlen(name);
+        if (length > NAME_MAX)
+            return ENAMETOOLONG;
+        entry->from_root[0] = '/';
+        memcpy(entry->from_root + 1, name, length + 1);
+        entry->dir = AT_FDCWD;
+        entry->name = entry->from_root;
+    }
+    return error;
+}
+
+/* Opens it as it is. What was interrupted has opened nothing. Where no descriptor is left, a directory above is let go. */
+static int open_path(struct inroot_driver *d, uint64_t dir, const struct entry *entry, int flags)
+{
+    int fd;
+    do
+        fd = openat(entry->dir, entry->name, O_PATH | O_NOFOLLOW | O_CLOEXEC | flags);
+    while (fd < 0 && (errno == EINTR || ((errno == EMFILE || errno == ENFILE) && inroot_handles_spare(d, dir))));
+    return fd;
+}
+
+/* ---- steps that open */
+
+/* A tree that is too deep for one proved call is left at this entry, from which another call goes on. */
+static bool is_too_deep(struct inroot_driver *d, uint64_t dir, const struct entry *entry)
+{
+    if (!d->begun || inroot_handles_slot(d, dir)->depth < INROOT_DEPTH_MAX)
+        return false;
+    const struct entry itself = {.dir = entry->dir, .name = "."};
+    d->deepest = open_path(d, dir, &itself, O_DIRECTORY);
+    if (d->deepest >= 0) {
+        d->too_deep = true;
+        (void)snprintf(d->deepest_name, sizeof d->deepest_name, "%s", entry->name);
+    }
+    return true;
+}
+
+/*
+ * A directory is told by being opened as one. Anything else gives ENOTDIR, a link as well, and is opened by a second call,
+ * whose answer alone is the step's: what is neither a directory nor a link is a file.
+ */
+static struct inroot_answered open_name(struct inroot_driver *d, uint64_t dir, const struct entry *entry)
+{
+    struct stat about;
+    if (is_too_deep(d, dir, entry) || !inroot_handles_reserve(d))
+        return inroot_refused(d, ENOMEM);
+    int fd = open_path(d, dir, entry, O_DIRECTORY);
+    if (fd >= 0)
+        return opened(d, fd, INROOT_KIND_DIR, INROOT_BY_NAME, dir);
+    if (errno != ENOTDIR)
+        return inroot_refused(d, errno);
+    fd = open_path(d, dir, entry, 0);
+    if (fd < 0)
+        return inroot_refused(d, errno);
+    if (fstat(fd, &about) != 0) {
+        int error = errno;
+        close(fd);
+        return inroot_refused(d, error);
+    }
+    enum inroot_kind other = S_ISLNK(about.st_mode) ? INROOT_KIND_LINK : INROOT_KIND_FILE;
+    return opened(d, fd, S_ISDIR(about.st_mode) ? INROOT_KIND_DIR : other, INROOT_BY_NAME, dir);
+}
+
+/* A handle of its own, which shares nothing with the caller's descriptor but the directory. */
+static struct inroot_answered open_root(struct inroot_driver *d, uint64_t root)
+{
+    struct entry itself;
+    int error = find(d, root, ".", &itself);
+    if (error)
+        return inroot_refused(d, error);
+    if (!inroot_handles_reserve(d))
+        return inroot_refused(d, ENOMEM);
+    int fd = open_path(d, root, &itself, O_DIRECTORY);
+    return fd < 0 ? inroot_refused(d, errno) : opened(d, fd, INROOT_KIND_DIR, INROOT_BY_ROOT, root);
+}
+
+/* The kernel opens the old parent of a removed directory. Removal is for good, so that asking afterwards is enough. */
+static struct inroot_answered open_parent(struct inroot_driver *d, uint64_t handle)
+{
+    struct stat child;
+    struct entry above;
+    int error = find(d, handle, "..", &above);
+    if (error)
+        return inroot_refused(d, error);
+    if (!inroot_handles_reserve(d))
+        return inroot_refused(d, ENOMEM);
+    int up = open_path(d, handle, &above, O_DIRECTORY);
+    if (up < 0)
+        return inroot_refused(d, errno);
+    if (fstat(above.dir, &child) != 0 || child.st_nlink == 0) {
+        close(up);
+        return inroot_refused(d, ENOENT);
+    }
+    return opened(d, up, INROOT_KIND_DIR, INROOT_BY_PARENT, handle);
+}
+
+/* ---- other steps */
+
+/* A text as large as the room may be cut off, and is too long in either case. ENOENT is what is no link. */
+static struct inroot_answered read_link(struct inroot_driver *d, uint64_t handle, char *text, size_t *length)
+{
+    int fd;
+    int error = inroot_handles_fd(d, handle, &fd);
+    if (error)
+        return inroot_refused(d, error);
+    ssize_t got;
+    do
+        got = readlinkat(fd, "", text, INROOT_TEXT_MAX + 1);
+    while (got < 0 && errno == EINTR);
+    if (got < 0)
+        return inroot_refused(d, errno == ENOENT ? EINVAL : errno);
+    *length = (size_t)got;
+    return (struct inroot_answered){.what = INROOT_ANSWER_TEXT};
+}
+
+static struct inroot_answered removed(struct inroot_driver *d, const struct entry *entry, int flags)
+{
+    d->begun = d->counts;
+    if (unlinkat(entry->dir, entry->name, flags) != 0)
+        return inroot_refused(d, errno);
+    d->removed++;
+    return (struct inroot_answered){.what = INROOT_ANSWER_DONE};
+}
+
+static struct inroot_answered rename_entry(struct inroot_driver *d, const struct inroot_told *step, const struct entry *old, const char *name)
+{
+    struct entry new;
+    int error = find(d, step->other, name, &new);
+    if (error)
+        return inroot_refused(d, error);
+    /* The modes have the kernel's own numbers. */
+    return done_or(d, syscall(SYS_renameat2, old->dir, old->name, new.dir, new.name, (unsigned int)step->detail));
+}
+
+/* A step on an entry: a directory's handle, and a name in it. */
+static struct inroot_answered on_entry(struct inroot_driver *d, const struct inroot_told *step, const char *room)
+{
+    struct entry entry;
+    const char *second = room + step->first + 1;
+    int error = find(d, step->handle, room, &entry);
+    if (error)
+        return inroot_refused(d, error);
+    switch (step->what) {
+    case INROOT_STEP_OPEN:
+        return open_name(d, step->handle, &entry);
+    case INROOT_STEP_MAKE_DIR:
+        return done_or(d, mkdirat(entry.dir, entry.name, 0777));
+    case INROOT_STEP_MAKE_FILE:
+        return done_or(d, mknodat(entry.dir, entry.name, S_IFREG | 0666, 0));
+    case INROOT_STEP_MAKE_LINK:
+        return done_or(d, symlinkat(second, entry.dir, entry.name));
+    case INROOT_STEP_REMOVE_FILE:
+        return removed(d, &entry, 0);
+    case INROOT_STEP_REMOVE_DIR:
+        return removed(d, &entry, AT_REMOVEDIR);
+    default:
+        return rename_entry(d, step, &entry, second);
+    }
+}
+
+struct inroot_answered inroot_make(struct inroot_driver *d, const struct inroot_told *step, const char *room, char *text, size_t *length)
+{
+    *length = 0;
+    d->steps++;
+    /* Only a link's text can be too long for the room. */
+    if (!step->whole)
+        return inroot_refused(d, step->second >= INROOT_TEXT_MAX ? ENAMETOOLONG : ENOMEM);
+    switch (step->what) {
+    case INROOT_STEP_DUP:
+        return open_root(d, step->handle);
+    case INROOT_STEP_PARENT:
+        return open_parent(d, step->handle);
+    case INROOT_STEP_READLINK:
+        return read_link(d, step->handle, text, length);
+    case INROOT_STEP_NAME_BELOW:
+        return inroot_name_below(d, step, text, length);
+    case INROOT_STEP_LIST:
+        return inroot_list(d, step->handle);
+    case INROOT_STEP_CLOSE:
+        inroot_handles_close(d, step->handle);
+        return (struct inroot_answered){.what = INROOT_ANSWER_DONE};
+    default:
+        return on_entry(d, step, room);
+    }
+}

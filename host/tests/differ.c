@@ -1,0 +1,116 @@
+/*
+ * differ: where the calls answer otherwise than openat2(2) on a real file system, as docs/LINUX.md lists it, and the kernel.
+ *
+ * usage: differ DIR. Exits 0 where both are as listed. 77: no openat2(2) here. 78: no right to mount here.
+ */
+#define _GNU_SOURCE
+#include "support.h"
+
+#include <errno.h>
+#include <linux/openat2.h>
+#include <sched.h>
+#include <string.h>
+#include <sys/mount.h>
+#include <sys/stat.h>
+#include <sys/syscall.h>
+
+static const char *where;
+
+static int by_kernel(int root, const char *path, int flags)
+{
+    struct open_how how = {.flags = (unsigned)flags, .mode = flags & O_CREAT ? 0600 : 0, .resolve = RESOLVE_IN_ROOT};
+    long fd = syscall(SYS_openat2, root, path, &how, sizeof how);
+    return fd < 0 ? -errno : (int)fd;
+}
+
+/* What both give: an error, or 0 where something was opened. */
+static void both(int root, const char *path, int kernel, int here)
+{
+    int one = by_kernel(root, path, O_PATH), other = inroot_open(root, path, 0);
+    expect((one < 0 ? one : 0) == kernel, "%s: openat2 %d", path, one);
+    expect((other < 0 ? other : 0) == here, "%s: inroot_open %d", path, other);
+}
+
+static void links(void)
+{
+    int root = sure(open(where, O_PATH | O_DIRECTORY | O_CLOEXEC), where);
+    if (by_kernel(root, ".", O_PATH) == -ENOSYS)
+        _exit(NO_OPENAT2);
+    sure(symlinkat("nowhere", root, "dangling"), "dangling");
+    sure(mkdirat(root, "made", 0755), "made");
+    sure(mknodat(root, "g (deleted)", S_IFREG | 0600, 0), "g");
+    both(root, "g (deleted)", 0, -EAGAIN);
+    both(root, "dangling", -ENOENT, -ENOENT);
+    expect(inroot_mkfile(root, "dangling", 0) == -EEXIST, "a file at a dangling link");
+    expect(by_kernel(root, "dangling", O_CREAT | O_EXCL | O_WRONLY) == -EEXIST, "the kernel's O_EXCL at a dangling link");
+    expect(inroot_mkdir_all(root, "dangling", 0) == -ENOENT, "directories at a dangling link");
+    expect(inroot_mkdir_all(root, "made/../dangling/x", 0) == -ENOENT, "directories below a dangling link");
+    expect(faccessat(root, "nowhere", F_OK, 0) != 0, "something was made through a dangling link");
+    expect(by_kernel(root, "dangling", O_CREAT | O_WRONLY) >= 0, "the kernel's O_CREAT at a dangling link");
+    expect(faccessat(root, "nowhere", F_OK, 0) == 0, "the kernel made nothing through a dangling link");
+}
+
+/* As nobody: the kernel opens a root that may not be searched. */
+static void shut_root(void)
+{
+    int root = sure(open(where, O_PATH | O_DIRECTORY | O_CLOEXEC), where);
+    if (geteuid() != 0 || by_kernel(root, ".", O_PATH) == -ENOSYS)
+        return;
+    sure(chmod(where, 0), where);
+    sure(setresuid(65534, 65534, 65534), "setresuid");
+    both(root, "/", 0, -EACCES);
+}
+
+static void magic_links(void)
+{
+    if (unshare(CLONE_NEWNS) != 0 || mount(NULL, "/", NULL, MS_REC | MS_PRIVATE, NULL) != 0)
+        _exit(NO_RIGHT);
+    int base = sure(open(where, O_PATH | O_DIRECTORY | O_CLOEXEC), where);
+    sure(fchdir(base), where);
+    sure(mkdir("proc", 0755), "proc");
+    if (mount("proc", "proc", "proc", 0, NULL) != 0)
+        _exit(NO_RIGHT);
+    both(base, "proc/self/exe", -EXDEV, -ENOENT);
+    both(base, "proc/self/root/x", -EXDEV, -ENOENT);
+    both(base, "proc/self/status", 0, 0);
+    both(base, "proc/thread-self", 0, 0);
+}
+
+/* Deeper than a path is long. */
+static void deep(void)
+{
+    int root = sure(open(where, O_PATH | O_DIRECTORY | O_CLOEXEC), where);
+    int dir = fcntl(root, F_DUPFD_CLOEXEC, 0);
+    char name[201] = "", path[4000] = "";
+    memset(name, 'n', 200);
+    for (int at = 0; at < 30; at++) {
+        sure(mkdirat(dir, name, 0755), name);
+        int next = sure(openat(dir, name, O_PATH | O_DIRECTORY | O_CLOEXEC), name);
+        close(dir);
+        dir = next;
+        if (at == 15)
+            sure(symlinkat("..", dir, "up"), "up");
+    }
+    for (int at = 0; at < 15; at++)
+        strcat(strcat(path, at > 0 ? "/" : ""), name);
+    int half = sure(inroot_open(root, path, 0), "half of the way");
+    both(half, path, 0, -ENAMETOOLONG);
+    expect(inroot_remove_all(root, name, 0) == 31, "what is deeper than a path is long");
+}
+
+int main(int count, char **words)
+{
+    static void (*const parts[])(void) = {links, deep, magic_links, shut_root};
+    int skipped = 0;
+    if (count != 2)
+        return 2;
+    where = words[1];
+    sure(chmod(where, 0755), where);
+    for (size_t at = 0; at < sizeof parts / sizeof *parts; at++) {
+        int status = apart(parts[at]);
+        skipped = status ? status : skipped;
+    }
+    sure(chmod(where, 0755), where);
+    printf("differ: %d not as they are to be\n", wrong);
+    return wrong ? 1 : skipped;
+}

@@ -1,0 +1,65 @@
+/* each.h: each kind of call once, on a small tree, for checks in which something is refused to it. */
+#ifndef EACH_H
+#define EACH_H
+
+#include "support.h"
+
+#include <errno.h>
+#include <fcntl.h>
+#include <sys/stat.h>
+
+/* A call by its number, and what undoes it. */
+static int call(int root, int number)
+{
+    char text[64];
+    switch (number) {
+    case 0: return inroot_open(root, "a/link/../b/./f", 0);
+    case 1: return inroot_open(root, "a/b/none", 0);
+    case 2: return (int)inroot_readlink(root, "a/link", 0, text, sizeof text);
+    case 3: return inroot_mkfile(root, "a/link/new", 0);
+    case 4: return inroot_mkdir(root, "a/link/newdir/", 0);
+    case 5: return inroot_symlink(root, "some/text", "a/newlink", 0);
+    case 6: return inroot_rename(root, "a/b/f", "/a/g", INROOT_NOREPLACE, 0);
+    case 7: return inroot_unlink(root, "a/b/g", 0);
+    case 8: return inroot_rmdir(root, "a/b/e", 0);
+    case 9: return inroot_mkdir_all(root, "a/link/new/er", 0);
+    default: return (int)inroot_remove_all(root, "a/b", 0);
+    }
+}
+
+enum { CALLS = 11 };
+
+static void restore(int root, int result, int number)
+{
+    if ((number < 2 || number == 9) && result >= 0)
+        close(result);
+    mkdirat(root, "a/b", 0755);
+    mknodat(root, "a/b/f", S_IFREG | 0600, 0);
+    unlinkat(root, "a/b/new/er", AT_REMOVEDIR);
+    unlinkat(root, "a/b/new", AT_REMOVEDIR);
+    unlinkat(root, "a/b/new", 0);
+    unlinkat(root, "a/b/newdir", AT_REMOVEDIR);
+    unlinkat(root, "a/newlink", 0);
+    renameat(root, "a/g", root, "a/b/f");
+    mknodat(root, "a/b/g", S_IFREG | 0600, 0);
+    mkdirat(root, "a/b/e", 0755);
+}
+
+/* The same outcome: what was opened has a number that doesn't matter. */
+static bool same(int a, int b)
+{
+    return a == b || (a >= 0 && b >= 0);
+}
+
+/* The tree below the root. */
+static void make_tree(int root)
+{
+    open_proc();
+    sure(mkdirat(root, "a", 0755), "a");
+    sure(mkdirat(root, "a/b", 0755), "a/b");
+    sure(mknodat(root, "a/b/f", S_IFREG | 0600, 0), "a/b/f");
+    sure(symlinkat("/a/../a/b", root, "a/link"), "a/link");
+    restore(root, -1, CALLS);
+}
+
+#endif

@@ -1,0 +1,170 @@
+/*
+ * errors: what a call gives for a bad root before anything else, what it opens, and what the kernel's words for what is
+ * removed are taken for; and how often a call is tried.
+ *
+ * usage: errors DIR. Exits 0 where each is as inroot.h says.
+ */
+#define _GNU_SOURCE
+#include "support.h"
+
+#include <errno.h>
+#include <fcntl.h>
+#include <string.h>
+#include <sys/stat.h>
+#include <time.h>
+
+static int base;
+
+/* What a call gave, which is closed. */
+static int closed(int result)
+{
+    if (result < 0)
+        return result;
+    close(result);
+    return 0;
+}
+
+static void bad_roots(void)
+{
+    static const char *const paths[] = {"", "/", "a", "..", "a/..", "a/b/c"};
+    char text[8];
+    int file = sure(openat(base, "file", O_PATH | O_CLOEXEC), "file");
+    for (size_t at = 0; at < sizeof paths / sizeof *paths; at++) {
+        const char *path = paths[at];
+        expect(closed(inroot_open(999, path, 0)) == -EBADF, "a root that isn't open, %s", path);
+        expect(closed(inroot_open(INROOT_JAIL, path, 0)) == -EBADF, "no jail, %s", path);
+        expect(closed(inroot_open(file, path, 0)) == -ENOTDIR, "a root that is a file, %s", path);
+        expect(closed(inroot_open(file, path, INROOT_BENEATH)) == -ENOTDIR, "a root that is a file, beneath, %s", path);
+        expect(closed(inroot_open(999, path, 64)) == -EINVAL, "a flag that is none, %s", path);
+        expect(inroot_mkfile(999, path, 0) == -EBADF, "a file below what isn't open, %s", path);
+        expect(inroot_rename(file, path, path, 0, 0) == -ENOTDIR, "a rename below a file, %s", path);
+        expect(inroot_remove_all(file, path, 0) == -ENOTDIR, "a tree below a file, %s", path);
+        expect(inroot_readlink(file, path, 0, text, sizeof text) == -ENOTDIR, "a link below a file, %s", path);
+    }
+    close(file);
+    int root = sure(openat(base, ".", O_PATH | O_DIRECTORY | O_CLOEXEC), ".");
+    expect(closed(inroot_open(root, "", 0)) == -ENOENT, "no path");
+    expect(inroot_rename(root, "a", "b", 3, 0) == -EINVAL, "a mode that is none");
+    close(root);
+}
+
+/* What is opened by a path without names is a descriptor of its own, by which nothing can be read. */
+static void opened_alone(void)
+{
+    static const char *const paths[] = {"/", ".", "..", "link"};
+    int root = sure(openat(base, ".", O_RDONLY | O_DIRECTORY | O_CLOEXEC), ".");
+    for (size_t at = 0; at < sizeof paths / sizeof *paths; at++) {
+        int fd = inroot_open(root, paths[at], 0);
+        expect(fd >= 0, "%s: %d", paths[at], fd);
+        expect((fcntl(fd, F_GETFL) & O_PATH) != 0, "%s is opened by O_PATH", paths[at]);
+        expect(fcntl(fd, F_GETFD) == FD_CLOEXEC, "%s is closed by exec", paths[at]);
+        expect(lseek(fd, 0, SEEK_CUR) == -1 && errno == EBADF, "%s has a place to read from", paths[at]);
+        close(fd);
+    }
+    close(root);
+}
+
+/* Names that end as the kernel writes of what is removed. */
+static void deleted_names(void)
+{
+    sure(mkdirat(base, "r (deleted)", 0755), "mkdirat");
+    int root = sure(openat(base, "r (deleted)", O_PATH | O_DIRECTORY | O_CLOEXEC), "openat");
+    sure(mkdirat(root, "d", 0755), "mkdirat");
+    sure(mkdirat(root, "e (deleted)", 0755), "mkdirat");
+    sure(mkdirat(root, "d/f", 0755), "mkdirat");
+    sure(mknodat(root, "g (deleted)", S_IFREG | 0600, 0), "mknodat");
+    expect(closed(inroot_open(root, "d/f", 0)) == 0, "below a root that is called so");
+    expect(closed(inroot_open(root, "d/..", 0)) == 0, "up to a root that is called so");
+    expect(closed(inroot_open(root, "e (deleted)", 0)) == 0, "a directory that is called so");
+    expect(inroot_mkdir(root, "e (deleted)/x", 0) == 0, "in a directory that is called so");
+    expect(closed(inroot_open(root, "g (deleted)", INROOT_NO_RETRY)) == -EAGAIN, "a file that is called so");
+    expect(inroot_remove_all(root, "e (deleted)", 0) == 2, "a tree that is called so");
+    /* A root that is gone is below itself still, and has no names below it. */
+    int gone = sure(openat(root, "d/f", O_PATH | O_DIRECTORY | O_CLOEXEC), "openat");
+    sure(unlinkat(root, "d/f", AT_REMOVEDIR), "unlinkat");
+    expect(closed(inroot_open(gone, "/", 0)) == 0, "a root that is gone, itself");
+    expect(closed(inroot_open(gone, "x", 0)) == -ENOENT, "a name in a root that is gone");
+    expect(inroot_mkdir(gone, "x", 0) == -ENOENT, "a directory in a root that is gone");
+    close(gone);
+    close(root);
+}
+
+/* An EAGAIN that comes at every try is told after the last, for which the call has waited; with one try it is told at once. */
+static void tries(void)
+{
+    struct timespec from, middle, to;
+    int root = sure(openat(base, "r (deleted)", O_PATH | O_DIRECTORY | O_CLOEXEC), "openat");
+    clock_gettime(CLOCK_MONOTONIC, &from);
+    for (int at = 0; at < 100; at++)
+        expect(closed(inroot_open(root, "g (deleted)", INROOT_NO_RETRY)) == -EAGAIN, "one try");
+    clock_gettime(CLOCK_MONOTONIC, &middle);
+    expect(closed(inroot_open(root, "g (deleted)", 0)) == -EAGAIN, "all tries");
+    clock_gettime(CLOCK_MONOTONIC, &to);
+    long one = (middle.tv_sec - from.tv_sec) * 1000000 + (middle.tv_nsec - from.tv_nsec) / 1000;
+    long all = (to.tv_sec - middle.tv_sec) * 1000000 + (to.tv_nsec - middle.tv_nsec) / 1000;
+    expect(all >= 17000, "all tries took %ld microseconds", all);
+    expect(one / 100 < all, "one try took %ld microseconds, and all %ld", one / 100, all);
+    close(root);
+}
+
+/* As nobody: a directory that may not be searched is opened where the path ends, and leads nowhere. */
+static void *shut_directories(void *in_jail)
+{
+    int root = sure(openat(base, "open", O_PATH | O_DIRECTORY | O_CLOEXEC), "open"), at = root;
+    if (in_jail != NULL) {
+        int failed = inroot_jail(root);
+        if (failed == -EPERM)
+            return in_jail;
+        errno = -failed;
+        sure(failed, "inroot_jail");
+        at = INROOT_JAIL;
+    }
+    if (setresuid(65534, 65534, 65534) != 0)
+        exit(1);
+    expect(closed(inroot_open(at, "shut", 0)) == 0, "a directory that may not be searched");
+    expect(closed(inroot_open(at, "sub/shut", 0)) == 0, "the same, deeper");
+    expect(closed(inroot_open(at, "shut/x", 0)) == -EACCES, "what is in it");
+    expect(closed(inroot_open(at, "shut/..", 0)) == -EACCES, "what is above it");
+    expect(closed(inroot_open(at, "sub/../sub", 0)) == 0, "what may be searched");
+    close(root);
+    return NULL;
+}
+
+static void shut_by_proc(void)
+{
+    shut_directories(NULL);
+}
+
+static void shut_in_jail(void)
+{
+    if (shut_directories(&base) != NULL)
+        _exit(NO_RIGHT);
+}
+
+int main(int count, char **words)
+{
+    if (count != 2)
+        return 2;
+    base = sure(open(words[1], O_PATH | O_DIRECTORY | O_CLOEXEC), words[1]);
+    sure(fchmodat(base, ".", 0755, 0), "chmod");
+    sure(mknodat(base, "file", S_IFREG | 0600, 0), "file");
+    sure(symlinkat("/", base, "link"), "link");
+    sure(mkdirat(base, "open", 0755), "open");
+    sure(mkdirat(base, "open/sub", 0755), "sub");
+    sure(mkdirat(base, "open/shut", 0), "shut");
+    sure(mkdirat(base, "open/sub/shut", 0), "shut");
+    open_proc();
+    int before = open_descriptors();
+    bad_roots();
+    opened_alone();
+    deleted_names();
+    tries();
+    if (geteuid() == 0) {
+        apart(shut_by_proc);
+        if (apart(shut_in_jail) == NO_RIGHT)
+            puts("errors: no right to change a root here");
+    }
+    int left = open_descriptors() - before;
+    printf("errors: %d not as they are to be, %d descriptors left open\n", wrong, left);
+    return wrong != 0 || left != 0;
+}

@@ -1,0 +1,358 @@
+/*
+ * fuzz_driver: the driver with system calls that fail by plan, and with others' changes between any two of them. Whatever comes,
+ * no descriptor is left open, what is opened was inside once, and what is outside stays as it is.
+ *
+ * For libFuzzer, or with fuzz_main.c for stored cases. A case is bytes: who calls, the operation, flags, two paths by their
+ * parts, and then one byte for each system call. To be linked with --wrap of each function that is wrapped here. Its tree is
+ * in INROOT_FUZZ_DIR, or in a new directory of /tmp.
+ */
+#define _GNU_SOURCE
+#include "../inroot.h"
+
+#include <dirent.h>
+#include <errno.h>
+#include <fcntl.h>
+#include <pthread.h>
+#include <semaphore.h>
+#include <stdarg.h>
+#include <stdbool.h>
+#include <stdint.h>
+#include <stdio.h>
+#include <stdlib.h>
+#include <string.h>
+#include <sys/stat.h>
+#include <sys/syscall.h>
+#include <sys/vfs.h>
+#include <unistd.h>
+
+int LLVMFuzzerTestOneInput(const uint8_t *data, size_t size);
+
+#define MUST(holds) ((holds) ? (void)0 : (fprintf(stderr, "not so: %s\n", #holds), abort()))
+
+static int base, root, out;
+static struct stat secret;
+
+/* The plan: a byte for each system call of the call under way, and none once they are used up. */
+static struct {
+    const uint8_t *at;
+    size_t left;
+    bool armed;
+} plan;
+
+static int opened_by_call;
+
+/* ---- what others do in between */
+
+static void change(unsigned which)
+{
+    plan.armed = false;
+    switch (which % 8) {
+    case 0: renameat(root, "a/b", out, "b"); break;
+    case 1: renameat(out, "b", root, "a/b"); break;
+    case 2: renameat(root, "a/b/c", out, "c"); break;
+    case 3: renameat(out, "c", root, "a/b/c"); break;
+    case 4: syscall(SYS_renameat2, root, "a/b", out, "d", 2); break;
+    case 5: syscall(SYS_renameat2, root, "a/b", root, "up", 2); break;
+    case 6: unlinkat(root, "a/b/f", 0); break;
+    default: unlinkat(root, "a/b/c/e", AT_REMOVEDIR);
+    }
+    plan.armed = true;
+}
+
+/* The error by which the next system call fails, or 0. */
+static int fails(void)
+{
+    static const int errors[] = {EACCES, EINTR, EMFILE, ENOMEM, EIO, ENOENT, ENOTDIR, EBUSY, ENFILE, EPERM, ESTALE, EROFS, ENOSPC,
+                                 ELOOP, EEXIST, EAGAIN};
+    if (!plan.armed || plan.left == 0)
+        return 0;
+    uint8_t byte = *plan.at++;
+    plan.left--;
+    if (byte >= 0xe0) {
+        change(byte);
+        return 0;
+    }
+    return byte >= 0xd0 ? errors[byte % 16] : 0;
+}
+
+#define WRAP(type, name, parameters, arguments)                  \
+    type __real_##name parameters;                               \
+    type __wrap_##name parameters;                               \
+    type __wrap_##name parameters                                \
+    {                                                            \
+        int error = fails();                                     \
+        if (error != 0) {                                        \
+            errno = error;                                       \
+            return -1;                                           \
+        }                                                        \
+        return __real_##name arguments;                          \
+    }
+
+WRAP(int, fstat, (int fd, struct stat *about), (fd, about))
+WRAP(int, fstatfs, (int fd, struct statfs *about), (fd, about))
+WRAP(int, fchdir, (int fd), (fd))
+WRAP(int, chdir, (const char *path), (path))
+WRAP(int, unshare, (int what), (what))
+WRAP(ssize_t, readlinkat, (int dir, const char *name, char *text, size_t size), (dir, name, text, size))
+WRAP(int, mkdirat, (int dir, const char *name, mode_t mode), (dir, name, mode))
+WRAP(int, mknodat, (int dir, const char *name, mode_t mode, dev_t dev), (dir, name, mode, dev))
+WRAP(int, symlinkat, (const char *text, int dir, const char *name), (text, dir, name))
+WRAP(int, unlinkat, (int dir, const char *name, int flags), (dir, name, flags))
+
+int __real_openat(int dir, const char *name, int flags, ...);
+int __wrap_openat(int dir, const char *name, int flags, ...);
+int __real_open(const char *name, int flags, ...);
+int __wrap_open(const char *name, int flags, ...);
+int __real_close(int fd);
+int __wrap_close(int fd);
+long __real_syscall(long number, ...);
+long __wrap_syscall(long number, ...);
+
+static int counted(int fd)
+{
+    opened_by_call += plan.armed && fd >= 0;
+    return fd;
+}
+
+int __wrap_openat(int dir, const char *name, int flags, ...)
+{
+    va_list more;
+    va_start(more, flags);
+    mode_t mode = flags & O_CREAT ? va_arg(more, mode_t) : 0;
+    va_end(more);
+    int error = fails();
+    if (error == 0)
+        return counted(__real_openat(dir, name, flags, mode));
+    errno = error;
+    return -1;
+}
+
+int __wrap_open(const char *name, int flags, ...)
+{
+    va_list more;
+    va_start(more, flags);
+    mode_t mode = flags & O_CREAT ? va_arg(more, mode_t) : 0;
+    va_end(more);
+    int error = fails();
+    if (error == 0)
+        return counted(__real_open(name, flags, mode));
+    errno = error;
+    return -1;
+}
+
+int __wrap_close(int fd)
+{
+    int closed = __real_close(fd);
+    if (plan.armed) {
+        MUST(closed == 0);
+        opened_by_call--;
+    }
+    return closed;
+}
+
+/* Of getdents64(2) a name of more than 255 bytes, now and then, as some file systems have. */
+static long long_name(char *records)
+{
+    const unsigned short length = 19 + 301 + 4;
+    memset(records, 0, length);
+    memcpy(records + 16, &length, sizeof length);
+    memset(records + 19, 'n', 300);
+    return length;
+}
+
+/* Takes more words than were handed in, as the function in its place does. */
+__attribute__((no_sanitize("address"))) long __wrap_syscall(long number, ...)
+{
+    long with[6];
+    va_list more;
+    va_start(more, number);
+    for (int at = 0; at < 6; at++)
+        with[at] = va_arg(more, long);
+    va_end(more);
+    if (number == SYS_getdents64 && plan.armed && plan.left > 0 && *plan.at == 0xcf)
+        return long_name((char *)with[1]);
+    int error = fails();
+    if (error == 0)
+        return __real_syscall(number, with[0], with[1], with[2], with[3], with[4], with[5]);
+    errno = error;
+    return -1;
+}
+
+/* ---- the tree */
+
+static void clear(int dir, const char *name)
+{
+    int fd = openat(dir, name, O_RDONLY | O_DIRECTORY | O_NOFOLLOW | O_CLOEXEC);
+    if (fd >= 0) {
+        DIR *all = fdopendir(fd);
+        MUST(all != NULL);
+        for (struct dirent *one; (one = readdir(all)) != NULL;)
+            if (strcmp(one->d_name, ".") != 0 && strcmp(one->d_name, "..") != 0)
+                clear(dirfd(all), one->d_name);
+        closedir(all);
+    }
+    unlinkat(dir, name, fd >= 0 ? AT_REMOVEDIR : 0);
+}
+
+static void make_tree(void)
+{
+    clear(root, "a");
+    clear(root, "up");
+    clear(root, "n");
+    clear(root, "in");
+    clear(out, "b");
+    clear(out, "c");
+    clear(out, "d");
+    mkdirat(root, "a", 0755);
+    mkdirat(root, "a/b", 0755);
+    mkdirat(root, "a/b/c", 0755);
+    mkdirat(root, "a/b/c/e", 0755);
+    mknodat(root, "a/b/f", S_IFREG | 0600, 0);
+    symlinkat("../../out", root, "up");
+    symlinkat("/a/../a/b", root, "in");
+    mkdirat(out, "d", 0755);
+    mknodat(out, "d/keep", S_IFREG | 0600, 0);
+}
+
+static void begin(void)
+{
+    const char *given = getenv("INROOT_FUZZ_DIR");
+    char name[64] = "/tmp/inroot-fuzz-XXXXXX";
+    base = open(given != NULL ? given : mkdtemp(name), O_PATH | O_DIRECTORY | O_CLOEXEC);
+    MUST(base >= 0);
+    mkdirat(base, "root", 0755);
+    mkdirat(base, "out", 0755);
+    root = openat(base, "root", O_PATH | O_DIRECTORY | O_CLOEXEC);
+    out = openat(base, "out", O_PATH | O_DIRECTORY | O_CLOEXEC);
+    mknodat(out, "secret", S_IFREG | 0600, 0);
+    MUST(fstatat(out, "secret", &secret, 0) == 0);
+    int proc = open("/proc", O_PATH | O_DIRECTORY | O_CLOEXEC);
+    MUST(inroot_use_proc(proc) == 0);
+    close(proc);
+}
+
+/* ---- one case */
+
+static struct {
+    unsigned op, flags, mode;
+    char first[256], second[256];
+    ssize_t result;
+    int root;
+} asked;
+
+static unsigned char byte(const uint8_t **at, size_t *left)
+{
+    if (*left == 0)
+        return 0;
+    --*left;
+    return *(*at)++;
+}
+
+/* A path of up to eight parts; the long one is too long for a name. */
+static void path(char *text, const uint8_t **at, size_t *left)
+{
+    static const char *const parts[] = {"a", "b", "c", "e", "f", "n", "..", ".", "up", "in", "", "secret", "keep", "d", "m", "a"};
+    unsigned count = byte(at, left) % 9;
+    *text = 0;
+    for (unsigned part = 0; part < count; part++) {
+        strcat(text, parts[byte(at, left) % 16]);
+        if (part + 1 < count)
+            strcat(text, "/");
+    }
+}
+
+static void call(void)
+{
+    char text[64];
+    int at = asked.root;
+    unsigned flags = asked.flags & 3;
+    plan.armed = true;
+    switch (asked.op) {
+    case 0: asked.result = inroot_open(at, asked.first, (int)(flags | (asked.flags & 4))); break;
+    case 1: asked.result = inroot_readlink(at, asked.first, (int)flags, text, sizeof text); break;
+    case 2: asked.result = inroot_mkfile(at, asked.first, (int)flags); break;
+    case 3: asked.result = inroot_mkdir(at, asked.first, (int)flags); break;
+    case 4: asked.result = inroot_symlink(at, asked.second, asked.first, (int)flags); break;
+    case 5: asked.result = inroot_unlink(at, asked.first, (int)flags); break;
+    case 6: asked.result = inroot_rmdir(at, asked.first, (int)flags); break;
+    case 7: asked.result = inroot_rename(at, asked.first, asked.second, (int)asked.mode % 3, (int)flags); break;
+    case 8: asked.result = inroot_mkdir_all(at, asked.first, (int)flags); break;
+    default: asked.result = inroot_remove_all(at, asked.first, (int)flags);
+    }
+    plan.armed = false;
+}
+
+/* A thread in a jail that makes the calls it is handed. */
+static sem_t handed, made;
+static bool has_jail;
+
+static void await(sem_t *turn)
+{
+    while (sem_wait(turn) != 0)
+        ;
+}
+
+static void *in_jail(void *unused)
+{
+    has_jail = inroot_jail(root) == 0;
+    sem_post(&made);
+    while (has_jail) {
+        await(&handed);
+        call();
+        sem_post(&made);
+    }
+    return unused;
+}
+
+static void begin_jail(void)
+{
+    pthread_t thread;
+    sem_init(&handed, 0, 0);
+    sem_init(&made, 0, 0);
+    MUST(pthread_create(&thread, NULL, in_jail, NULL) == 0);
+    await(&made);
+}
+
+/* What is outside was made or removed by nobody. */
+static void look_outside(void)
+{
+    struct stat about;
+    MUST(fstatat(out, "secret", &about, 0) == 0 && about.st_ino == secret.st_ino);
+    MUST(faccessat(out, "n", F_OK, AT_SYMLINK_NOFOLLOW) != 0 && faccessat(out, "m", F_OK, AT_SYMLINK_NOFOLLOW) != 0);
+}
+
+int LLVMFuzzerTestOneInput(const uint8_t *data, size_t size)
+{
+    static bool begun;
+    struct stat about;
+    if (!begun) {
+        begin();
+        begin_jail();
+        begun = true;
+    }
+    make_tree();
+    unsigned who = byte(&data, &size);
+    asked.op = byte(&data, &size) % 10;
+    asked.flags = byte(&data, &size);
+    asked.mode = asked.flags / 8;
+    path(asked.first, &data, &size);
+    path(asked.second, &data, &size);
+    plan.at = data;
+    plan.left = size;
+    opened_by_call = 0;
+    asked.root = who % 2 && has_jail ? INROOT_JAIL : root;
+    if (asked.root == INROOT_JAIL) {
+        sem_post(&handed);
+        await(&made);
+    } else {
+        call();
+    }
+    bool opens = (asked.op == 0 || asked.op == 8) && asked.result >= 0;
+    MUST(opened_by_call == opens);
+    if (opens) {
+        MUST(fstat((int)asked.result, &about) == 0 && about.st_ino != secret.st_ino);
+        close((int)asked.result);
+    }
+    look_outside();
+    return 0;
+}

@@ -1,0 +1,420 @@
+/*
+ * peers: races as other libraries' tests have them. Directories are made beside renames and beside deletion, paths are looked up
+ * beside exchanges of a directory for one outside and for a link, 2 to 128 threads make the same at once, and 16 threads, half
+ * of them in jails, do everything. With `storm` all of it under a storm of signals, with `overlay` or `bind` on such a mount.
+ *
+ * usage: peers DIR SECONDS RACE [storm|overlay|bind]. RACE is rename, delete, exchange, create or all. Exits 0 where nothing that
+ * was always outside was found or changed, no descriptor is left, and an unchecked walk was fooled. 78: no right to do so here.
+ */
+#define _GNU_SOURCE
+#include "support.h"
+
+#include <dirent.h>
+#include <errno.h>
+#include <fcntl.h>
+#include <limits.h>
+#include <pthread.h>
+#include <sched.h>
+#include <signal.h>
+#include <stdatomic.h>
+#include <string.h>
+#include <sys/mount.h>
+#include <sys/stat.h>
+#include <sys/syscall.h>
+#include <sys/time.h>
+#include <time.h>
+
+static int base, root, out;
+static atomic_bool stop;
+static atomic_ulong moves;
+static char outside_path[PATH_MAX + 8];
+static struct stat outside[3];
+
+/* Who makes calls of one kind, and what came of them. */
+struct worker {
+    const char *name;
+    int (*work)(int at, int flags, uint64_t *state);
+    int flags;
+    bool jailed, control;
+    unsigned long done, raced, failed, escaped;
+};
+
+static bool is_outside(int fd)
+{
+    struct stat about;
+    if (fstat(fd, &about) != 0)
+        return false;
+    for (size_t at = 0; at < sizeof outside / sizeof *outside; at++)
+        if (about.st_ino == outside[at].st_ino && about.st_dev == outside[at].st_dev)
+            return true;
+    return false;
+}
+
+/* ---- what workers do: a descriptor, or -errno */
+
+static int make_all(int at, int flags, uint64_t *state)
+{
+    static const char *const paths[] = {"x/d/e/f", "x/d/e/g", "x/d/../d/h"};
+    return inroot_mkdir_all(at, paths[pick(state, 3)], flags);
+}
+
+static const char *const looked_up[] = {"a/b/c/../../secret", "a/b/../secret", "a/b/c/../../..", "a/b/secret", "a/b/c/../f", "a/b/c"};
+
+static int look_up(int at, int flags, uint64_t *state)
+{
+    return inroot_open(at, looked_up[pick(state, 6)], flags);
+}
+
+/* Each part opened in the one before, without a question. */
+static int unchecked(int at, int flags, uint64_t *state)
+{
+    char text[64], *rest = text, *part;
+    int dir = fcntl(root, F_DUPFD_CLOEXEC, 0);
+    (void)at;
+    (void)flags;
+    snprintf(text, sizeof text, "%s", looked_up[pick(state, 6)]);
+    while (dir >= 0 && (part = strsep(&rest, "/")) != NULL) {
+        int next = openat(dir, part, O_PATH | O_NOFOLLOW | O_CLOEXEC), error = errno;
+        close(dir);
+        dir = next;
+        errno = error;
+    }
+    return dir < 0 ? -errno : dir;
+}
+
+static int everything(int at, int flags, uint64_t *state)
+{
+    static const char *const names[] = {"x/d/n", "x/d/e/n", "a/b/n", "a/b/c/../n", "x/d/../n"};
+    const char *name = names[pick(state, 5)];
+    ssize_t removed;
+    char text[64];
+    switch (pick(state, 8)) {
+    case 0: return inroot_mkfile(at, name, flags);
+    case 1: return inroot_mkdir(at, name, flags);
+    case 2: return inroot_symlink(at, outside_path, name, flags);
+    case 3: return inroot_unlink(at, name, flags);
+    case 4: return inroot_rmdir(at, name, flags);
+    case 5: return inroot_rename(at, name, names[pick(state, 5)], (int)pick(state, 3), flags);
+    case 6: return (int)inroot_readlink(at, name, flags, text, sizeof text) < 0 ? -ENOENT : 0;
+    default:
+        removed = inroot_remove_all(at, name, flags);
+        return removed < 0 ? (int)removed : 0;
+    }
+}
+
+static int all_kinds(int at, int flags, uint64_t *state)
+{
+    int which = (int)pick(state, 3);
+    return which == 0 ? make_all(at, flags, state) : which == 1 ? look_up(at, flags, state) : everything(at, flags, state);
+}
+
+static bool gives_zero(const struct worker *me)
+{
+    return me->work == all_kinds;
+}
+
+static void *work(void *self)
+{
+    struct worker *me = self;
+    uint64_t state = 88172645463325252u + (uintptr_t)self;
+    int at = root;
+    if (me->jailed) {
+        int failed = inroot_jail(root);
+        errno = -failed;
+        sure(failed, "inroot_jail");
+        at = INROOT_JAIL;
+    }
+    while (!stop) {
+        int got = me->work(at, me->flags, &state);
+        me->done += got >= 0;
+        me->raced += got == -EAGAIN;
+        me->failed += got < 0;
+        if (got > 0 || (got == 0 && !gives_zero(me))) {
+            me->escaped += is_outside(got);
+            close(got);
+        }
+    }
+    return NULL;
+}
+
+/* ---- who is in their way */
+
+static void rename_about(uint64_t *state)
+{
+    static const char *const there[] = {"x/d", "x/d/e", "y", "z"};
+    const char *from = there[pick(state, 2)], *to = there[2 + pick(state, 2)];
+    if (renameat(root, from, root, to) == 0)
+        renameat(root, to, root, from);
+    inroot_remove_all(root, to, 0);
+}
+
+static void delete_about(uint64_t *state)
+{
+    static const char *const there[] = {"x/d/e/f", "x/d/e/g", "x/d/e", "x/d/h", "x/d"};
+    unlinkat(root, there[pick(state, 5)], AT_REMOVEDIR);
+}
+
+/* A directory for the one outside, out of the root and back, and for a link that leads there. */
+static void exchange_about(uint64_t *state)
+{
+    static const char *const there[] = {"a/b", "a/b/c"};
+    const char *one = there[pick(state, 2)];
+    unsigned how = pick(state, 3);
+    if (how == 2) {
+        renameat(root, one, out, "away");
+        renameat(out, "away", root, one);
+        return;
+    }
+    int dir = how == 0 ? out : root;
+    const char *other = how == 0 ? "dir" : "link";
+    if (syscall(SYS_renameat2, root, one, dir, other, 2) == 0)
+        syscall(SYS_renameat2, root, one, dir, other, 2);
+}
+
+static void all_about(uint64_t *state)
+{
+    switch (pick(state, 3)) {
+    case 0: rename_about(state); break;
+    case 1: delete_about(state); break;
+    default: exchange_about(state);
+    }
+}
+
+static void *in_the_way(void *what)
+{
+    void (*const *about)(uint64_t *) = what;
+    uint64_t state = 0x2545f4914f6cdd1d;
+    while (!stop) {
+        (*about)(&state);
+        moves++;
+    }
+    return NULL;
+}
+
+/* ---- the tree */
+
+static void make_dirs(void)
+{
+    static const char *const dirs[] = {"root", "out", "out/dir", "out/dir/c", "root/a", "root/a/b", "root/a/b/c", "root/x"};
+    for (size_t at = 0; at < sizeof dirs / sizeof *dirs; at++)
+        sure(mkdirat(base, dirs[at], 0755), dirs[at]);
+    root = sure(openat(base, "root", O_PATH | O_DIRECTORY | O_CLOEXEC), "root");
+    out = sure(openat(base, "out", O_PATH | O_DIRECTORY | O_CLOEXEC), "out");
+    sure(mknodat(out, "secret", S_IFREG | 0600, 0), "secret");
+    sure(mknodat(root, "a/b/f", S_IFREG | 0600, 0), "f");
+    sure(symlinkat(outside_path, root, "link"), "link");
+    sure(fstat(base, &outside[0]), "fstat");
+    sure(fstat(out, &outside[1]), "fstat");
+    sure(fstatat(out, "secret", &outside[2], 0), "secret");
+}
+
+/* Nothing was made or removed where nobody but the mover was: the secret stands there, beside one directory. */
+static bool is_untouched(void)
+{
+    struct stat about;
+    int count = 0;
+    DIR *all = fdopendir(sure(openat(base, "out", O_RDONLY | O_DIRECTORY | O_CLOEXEC), "out"));
+    while (readdir(all) != NULL)
+        count++;
+    closedir(all);
+    return count == 4 && fstatat(out, "secret", &about, AT_SYMLINK_NOFOLLOW) == 0 && fstatat(out, "dir", &about, AT_SYMLINK_NOFOLLOW) == 0;
+}
+
+/* ---- races */
+
+/* However many signals come. */
+static void wait_for(unsigned seconds)
+{
+    struct timespec from, now;
+    const struct timespec short_time = {.tv_nsec = 20000000};
+    clock_gettime(CLOCK_MONOTONIC, &from);
+    do {
+        nanosleep(&short_time, NULL);
+        clock_gettime(CLOCK_MONOTONIC, &now);
+    } while (now.tv_sec - from.tv_sec < (long)seconds);
+}
+
+static void race(const char *name, struct worker *workers, int count, void (*about)(uint64_t *), unsigned seconds)
+{
+    pthread_t mover, threads[16];
+    int before = open_descriptors();
+    bool fooled = true;
+    pthread_create(&mover, NULL, in_the_way, &about);
+    for (int at = 0; at < count; at++)
+        pthread_create(&threads[at], NULL, work, &workers[at]);
+    wait_for(seconds);
+    stop = true;
+    pthread_join(mover, NULL);
+    for (int at = 0; at < count; at++) {
+        struct worker *w = &workers[at];
+        pthread_join(threads[at], NULL);
+        double all = (double)(w->done + w->failed);
+        printf("peers: %s: %s: %lu done, %lu escaped, %lu EAGAIN (%.4f %%), %lu failed\n", name, w->name, w->done, w->escaped,
+               w->raced, all > 0 ? 100 * (double)w->raced / all : 0, w->failed);
+        if (w->control)
+            fooled = w->escaped > 0;
+        else
+            expect(w->escaped == 0 && w->done > 0, "%s: %s: %lu escaped, %lu done", name, w->name, w->escaped, w->done);
+    }
+    int left = open_descriptors() - before;
+    expect(fooled, "%s: the walk without checks wasn't fooled", name);
+    expect(left == 0, "%s: %d descriptors left open", name, left);
+    expect(is_untouched(), "%s: something outside was changed", name);
+    printf("peers: %s: %lu moves, %d descriptors left open\n", name, (unsigned long)moves, left);
+}
+
+static void race_of_four(const char *name, int (*what)(int, int, uint64_t *), void (*about)(uint64_t *), bool jails, unsigned seconds)
+{
+    struct worker workers[] = {
+        {.name = "by /proc, one try", .work = what, .flags = INROOT_NO_RETRY},
+        {.name = "by /proc", .work = what},
+        {.name = "in a jail, one try", .work = what, .flags = INROOT_NO_RETRY, .jailed = true},
+        {.name = "in a jail", .work = what, .jailed = true},
+        {.name = "a walk without a check", .work = unchecked, .control = true},
+    };
+    if (!jails) {
+        workers[2] = workers[4];
+        race(name, workers, what == look_up ? 3 : 2, about, seconds);
+    } else {
+        race(name, workers, what == look_up ? 5 : 4, about, seconds);
+    }
+}
+
+static void race_of_all(bool jails, unsigned seconds)
+{
+    struct worker workers[16];
+    for (int at = 0; at < 16; at++)
+        workers[at] = (struct worker){.name = at % 2 && jails ? "in a jail" : "by /proc", .work = all_kinds, .jailed = at % 2 && jails};
+    race("16 threads", workers, 16, all_about, seconds);
+}
+
+/* ---- create beside create */
+
+struct maker {
+    pthread_barrier_t *together;
+    bool jailed;
+    int dir, file;
+};
+
+static void *make_same(void *self)
+{
+    struct maker *me = self;
+    int at = root;
+    if (me->jailed) {
+        int failed = inroot_jail(root);
+        errno = -failed;
+        sure(failed, "inroot_jail");
+        at = INROOT_JAIL;
+    }
+    pthread_barrier_wait(me->together);
+    me->dir = inroot_mkdir_all(at, "same/b/c/d/e/f", 0);
+    me->file = inroot_mkfile(at, "same/file", 0);
+    if (me->dir >= 0)
+        close(me->dir);
+    return NULL;
+}
+
+/* All find the directories made, and one has made the file. */
+static void make_together(int count, bool jails)
+{
+    pthread_barrier_t together;
+    pthread_t threads[128];
+    struct maker makers[128];
+    int made = 0;
+    pthread_barrier_init(&together, NULL, (unsigned)count);
+    for (int at = 0; at < count; at++) {
+        makers[at] = (struct maker){.together = &together, .jailed = jails && at % 2};
+        pthread_create(&threads[at], NULL, make_same, &makers[at]);
+    }
+    for (int at = 0; at < count; at++) {
+        pthread_join(threads[at], NULL);
+        expect(makers[at].dir >= 0, "%d threads: directories: %d", count, makers[at].dir);
+        expect(makers[at].file == 0 || makers[at].file == -EEXIST, "%d threads: a file: %d", count, makers[at].file);
+        made += makers[at].file == 0;
+    }
+    expect(made == 1, "%d threads: %d made the file", count, made);
+    expect(inroot_remove_all(root, "same", 0) == 7, "%d threads: what they made", count);
+    pthread_barrier_destroy(&together);
+}
+
+static void create(bool jails, unsigned seconds)
+{
+    struct timeval from, now;
+    unsigned long rounds = 0;
+    gettimeofday(&from, NULL);
+    do {
+        for (int count = 2; count <= 128; count *= 2)
+            make_together(count, jails);
+        rounds++;
+        gettimeofday(&now, NULL);
+    } while (now.tv_sec - from.tv_sec < (long)seconds);
+    printf("peers: create: %lu rounds of 2 to 128 threads, %d not as they are to be\n", rounds, wrong);
+}
+
+/* ---- signals and mounts */
+
+static void ignore(int signal)
+{
+    (void)signal;
+}
+
+static void storm(void)
+{
+    struct sigaction action = {.sa_handler = ignore};
+    const struct itimerval often = {.it_interval = {.tv_usec = 100}, .it_value = {.tv_usec = 100}};
+    sure(sigaction(SIGALRM, &action, NULL), "sigaction");
+    sure(setitimer(ITIMER_REAL, &often, NULL), "setitimer");
+}
+
+/* Moves the check to a mount of its own below DIR. */
+static void mount_here(const char *dir, bool overlay)
+{
+    char target[PATH_MAX], options[4 * PATH_MAX];
+    static const char *const dirs[] = {"lower", "upper", "work", "mount"};
+    for (size_t at = 0; at < sizeof dirs / sizeof *dirs; at++)
+        sure(mkdirat(base, dirs[at], 0755), dirs[at]);
+    snprintf(target, sizeof target, "%.4000s/mount", dir);
+    snprintf(options, sizeof options, "lowerdir=%s/lower,upperdir=%s/upper,workdir=%s/work", dir, dir, dir);
+    if (unshare(CLONE_NEWNS) != 0 || mount(NULL, "/", NULL, MS_REC | MS_PRIVATE, NULL) != 0)
+        exit(NO_RIGHT);
+    char lower[PATH_MAX];
+    snprintf(lower, sizeof lower, "%.4000s/lower", dir);
+    if (overlay ? mount("overlay", target, "overlay", 0, options) != 0 : mount(lower, target, NULL, MS_BIND, NULL) != 0)
+        exit(NO_RIGHT);
+    close(base);
+    base = sure(open(target, O_PATH | O_DIRECTORY | O_CLOEXEC), target);
+    snprintf(outside_path, sizeof outside_path, "%s/out", target);
+}
+
+int main(int count, char **words)
+{
+    if (count < 4 || count > 5)
+        return 2;
+    const char *what = words[3], *on = count == 5 ? words[4] : "";
+    unsigned seconds = (unsigned)atoi(words[2]);
+    char dir[PATH_MAX];
+    if (realpath(words[1], dir) == NULL)
+        return 1;
+    base = sure(open(dir, O_PATH | O_DIRECTORY | O_CLOEXEC), dir);
+    snprintf(outside_path, sizeof outside_path, "%s/out", dir);
+    if (strcmp(on, "overlay") == 0 || strcmp(on, "bind") == 0)
+        mount_here(dir, strcmp(on, "overlay") == 0);
+    make_dirs();
+    open_proc();
+    bool jails = may_jail(root);
+    if (strcmp(on, "storm") == 0)
+        storm();
+    if (strcmp(what, "rename") == 0)
+        race_of_four("directories made beside renames", make_all, rename_about, jails, seconds);
+    else if (strcmp(what, "delete") == 0)
+        race_of_four("directories made beside deletion", make_all, delete_about, jails, seconds);
+    else if (strcmp(what, "exchange") == 0)
+        race_of_four("lookups beside exchange", look_up, exchange_about, jails, seconds);
+    else if (strcmp(what, "create") == 0)
+        create(jails, seconds);
+    else if (strcmp(what, "all") == 0)
+        race_of_all(jails, seconds);
+    else
+        return 2;
+    return wrong != 0;
+}

@@ -1,0 +1,77 @@
+/*
+ * short: each kind of call with so many descriptors left, from none on. It ends by EMFILE or as it does else, and leaves none
+ * open.
+ *
+ * usage: short DIR. Exits 0 where that holds.
+ */
+#define _GNU_SOURCE
+#include "each.h"
+
+#include <sys/resource.h>
+
+enum { MOST = 20 };
+
+static int root, jailed;
+
+/* Takes the numbers between those that are in use. Gives the next one, so that a limit of it leaves none. */
+static int take_gaps(void)
+{
+    int top = 255;
+    while (top >= 0 && fcntl(top, F_GETFD) < 0)
+        top--;
+    int fd = sure(dup(root), "dup");
+    while (fd < top)
+        fd = sure(dup(root), "dup");
+    close(fd);
+    return fd;
+}
+
+static void allow(int count)
+{
+    struct rlimit limit;
+    sure(getrlimit(RLIMIT_NOFILE, &limit), "getrlimit");
+    limit.rlim_cur = (rlim_t)count;
+    sure(setrlimit(RLIMIT_NOFILE, &limit), "setrlimit");
+}
+
+static void each_call(void)
+{
+    int at = root, ran_short = 0;
+    if (jailed) {
+        errno = -inroot_jail(root);
+        sure(-errno, "inroot_jail");
+        at = INROOT_JAIL;
+    }
+    int none = take_gaps();
+    for (int number = 0; number < CALLS; number++) {
+        allow(256);
+        int wanted = call(at, number);
+        restore(root, wanted, number);
+        int before = open_descriptors();
+        for (int left = 0; left < MOST; left++) {
+            allow(none + left);
+            int got = call(at, number);
+            allow(256);
+            ran_short += got == -EMFILE;
+            expect(got == -EMFILE || same(got, wanted), "call %d with %d descriptors left: %d, and %d else", number, left, got, wanted);
+            expect(left < 8 || got != -EMFILE, "call %d doesn't do with %d descriptors", number, left);
+            restore(root, got, number);
+        }
+        expect(open_descriptors() == before, "call %d left descriptors open", number);
+    }
+    expect(ran_short > CALLS, "only %d calls ran short", ran_short);
+}
+
+int main(int count, char **words)
+{
+    if (count != 2)
+        return 2;
+    root = sure(open(words[1], O_PATH | O_DIRECTORY | O_CLOEXEC), words[1]);
+    make_tree(root);
+    apart(each_call);
+    jailed = 1;
+    if (may_jail(root))
+        apart(each_call);
+    printf("short: %d not as they are to be\n", wrong);
+    return wrong != 0;
+}

@@ -1,0 +1,260 @@
+/*
+ * tree: entries removed with all that is below them, however deep and however many, with few descriptors and in bounded
+ * memory; and a directory that is moved away while what is below it is removed. To be linked with --wrap=unlinkat and
+ * --wrap=syscall.
+ *
+ * usage: tree DIR ENTRIES. Exits 0 where each is removed by one call, and nothing else is.
+ */
+#define _GNU_SOURCE
+#include "support.h"
+
+#include <errno.h>
+#include <fcntl.h>
+#include <string.h>
+#include <sys/resource.h>
+#include <sys/stat.h>
+#include <sys/syscall.h>
+
+/* A sanitizer takes memory of its own, and time. One proved call goes 16,384 directories deep. */
+#if defined(__has_feature)
+#if __has_feature(address_sanitizer)
+#define MEGABYTES 4096
+#define DEEPER 17000
+#endif
+#endif
+#ifndef MEGABYTES
+#define MEGABYTES 64
+#define DEEPER 40000
+#endif
+
+enum { DESCRIPTORS = 64 };
+
+static int base, root;
+static long entries;
+
+/* ---- what happens in the midst of a call */
+
+static void (*before_directory)(void);
+
+int __real_unlinkat(int dir, const char *name, int flags);
+int __wrap_unlinkat(int dir, const char *name, int flags);
+
+int __wrap_unlinkat(int dir, const char *name, int flags)
+{
+    if (flags == AT_REMOVEDIR && before_directory != NULL) {
+        void (*now)(void) = before_directory;
+        before_directory = NULL;
+        now();
+    }
+    return __real_unlinkat(dir, name, flags);
+}
+
+static bool has_long_name;
+
+long __real_syscall(long number, ...);
+long __wrap_syscall(long number, ...);
+
+/* Once, a name of 300 bytes in a directory, as some file systems have. Takes more words than were handed in. */
+__attribute__((no_sanitize("address"))) long __wrap_syscall(long number, ...)
+{
+    long with[6];
+    va_list more;
+    va_start(more, number);
+    for (int at = 0; at < 6; at++)
+        with[at] = va_arg(more, long);
+    va_end(more);
+    if (number != SYS_getdents64 || !has_long_name)
+        return __real_syscall(number, with[0], with[1], with[2], with[3], with[4], with[5]);
+    const unsigned short length = 19 + 301;
+    char *record = (char *)with[1];
+    has_long_name = false;
+    memset(record, 0, length);
+    memcpy(record + 16, &length, sizeof length);
+    memset(record + 19, 'n', 300);
+    return length;
+}
+
+/* ---- trees */
+
+static int make_in(int dir, const char *name)
+{
+    sure(mkdirat(dir, name, 0755), name);
+    return sure(openat(dir, name, O_PATH | O_DIRECTORY | O_CLOEXEC), name);
+}
+
+/* A chain of so many directories, called `t` at the top, with a file beside every hundredth. Gives how many entries. */
+static long make_chain(long depth)
+{
+    long count = 0;
+    int dir = fcntl(root, F_DUPFD_CLOEXEC, 0);
+    for (long at = 0; at < depth; at++) {
+        if (at > 0 && at % 100 == 0) {
+            sure(mknodat(dir, "f", S_IFREG | 0600, 0), "f");
+            count++;
+        }
+        int next = make_in(dir, at == 0 ? "t" : "d");
+        count++;
+        close(dir);
+        dir = next;
+    }
+    close(dir);
+    return count;
+}
+
+static void make_files(int dir, long count)
+{
+    char name[32];
+    for (long at = 0; at < count; at++) {
+        snprintf(name, sizeof name, "file%ld", at);
+        sure(mknodat(dir, name, S_IFREG | 0600, 0), name);
+    }
+}
+
+/* Removes `t`, and looks at what that took. */
+static void remove_it(const char *what, long count)
+{
+    struct rlimit few = {.rlim_cur = DESCRIPTORS, .rlim_max = DESCRIPTORS};
+    struct rusage used;
+    int before = open_descriptors();
+    sure(setrlimit(RLIMIT_NOFILE, &few), "setrlimit");
+    ssize_t removed = inroot_remove_all(root, "t", 0);
+    expect(removed == count, "%s: %zd removed, of %ld", what, removed, count);
+    sure(getrusage(RUSAGE_SELF, &used), "getrusage");
+    expect(used.ru_maxrss < MEGABYTES * 1024, "%s: %ld kilobytes", what, used.ru_maxrss);
+    expect(open_descriptors() - before <= 1, "%s: descriptors left open", what);
+    expect(faccessat(root, "t", F_OK, AT_SYMLINK_NOFOLLOW) != 0 && errno == ENOENT, "%s: it is there still", what);
+    printf("tree: %s: %ld entries, %ld kilobytes\n", what, count, used.ru_maxrss);
+}
+
+static void deep(void)
+{
+    remove_it("5,000 directories, each in the one before", make_chain(5000));
+}
+
+/* Deeper than one proved call goes. */
+static void deeper(void)
+{
+    remove_it("more directories, each in the one before", make_chain(DEEPER));
+}
+
+static void many(void)
+{
+    int dir = make_in(root, "t");
+    make_files(dir, entries);
+    close(dir);
+    remove_it("files in one directory", entries + 1);
+}
+
+/* At each of many levels more names than a part of them has. */
+static void many_and_deep(void)
+{
+    long count = 0;
+    int dir = make_in(root, "t");
+    for (int at = 0; at < 60; at++) {
+        make_files(dir, 1000);
+        int next = make_in(dir, "d");
+        count += 1001;
+        close(dir);
+        dir = next;
+    }
+    close(dir);
+    remove_it("1,000 files beside each of 60 directories", count + 1);
+}
+
+/* The longest names, at each level. */
+static void long_names(void)
+{
+    char name[256];
+    memset(name, 'x', 255);
+    name[255] = 0;
+    int dir = make_in(root, "t");
+    for (int at = 0; at < 300; at++) {
+        name[0] = 'y';
+        sure(mknodat(dir, name, S_IFREG | 0600, 0), "long");
+        name[0] = 'x';
+        int next = make_in(dir, name);
+        close(dir);
+        dir = next;
+    }
+    close(dir);
+    remove_it("names of 255 bytes", 601);
+}
+
+/* A name that is none elsewhere can't be asked for, and is told as such. */
+static void too_long_name(void)
+{
+    close(make_in(root, "t"));
+    has_long_name = true;
+    ssize_t removed = inroot_remove_all(root, "t", 0);
+    expect(removed == -ENAMETOOLONG, "a name of 300 bytes: %zd", removed);
+    removed = inroot_remove_all(root, "t", 0);
+    expect(removed == 1, "the same without it: %zd", removed);
+}
+
+/* ---- a directory that is moved */
+
+static int out;
+
+/* As the deepest directory is about to be removed: the fiftieth goes to where entries have the names of those that are due. */
+static void move_out(void)
+{
+    char path[256] = "t";
+    for (int at = 0; at < 49; at++)
+        strcat(path, "/d");
+    sure(renameat(root, path, out, "d"), "renameat");
+}
+
+static bool has(int dir, const char *name)
+{
+    return faccessat(dir, name, F_OK, AT_SYMLINK_NOFOLLOW) == 0;
+}
+
+static void moved(void)
+{
+    out = make_in(base, "out");
+    make_files(out, 10);
+    int dir = make_in(root, "t");
+    for (int at = 0; at < 100; at++) {
+        make_files(dir, 10);
+        int next = make_in(dir, "d");
+        close(dir);
+        dir = next;
+    }
+    close(dir);
+    before_directory = move_out;
+    ssize_t removed = inroot_remove_all(root, "t", 0);
+    /* What was below the directory that was moved is the call's, too, as long as it is there. */
+    expect(removed > 49 * 11, "a directory is moved: %zd", removed);
+    expect(!has(root, "t"), "a directory is moved: the others are there still");
+    expect(has(out, "file0") && has(out, "file9") && has(out, "d"), "a directory is moved: something outside was removed");
+    /* With one try the call ends where it lost its directory. */
+    expect(inroot_remove_all(base, "out/d", 0) >= 0, "out/d");
+    dir = make_in(root, "t");
+    for (int at = 0; at < 100; at++) {
+        int next = make_in(dir, "d");
+        close(dir);
+        dir = next;
+    }
+    close(dir);
+    before_directory = move_out;
+    removed = inroot_remove_all(root, "t", INROOT_NO_RETRY);
+    expect(removed == -EAGAIN, "a directory is moved, and one try: %zd", removed);
+    expect(has(out, "file0") && has(out, "d"), "a directory is moved, and one try: something outside was removed");
+}
+
+int main(int count, char **words)
+{
+    static void (*const parts[])(void) = {deep, deeper, many, many_and_deep, long_names, too_long_name, moved};
+    if (count != 3)
+        return 2;
+    base = sure(open(words[1], O_PATH | O_DIRECTORY | O_CLOEXEC), words[1]);
+    entries = atol(words[2]);
+    for (size_t at = 0; at < sizeof parts / sizeof *parts; at++) {
+        const char name[] = {'r', (char)('0' + at), 0};
+        root = make_in(base, name);
+        apart(parts[at]);
+        close(root);
+    }
+    printf("tree: %d not as they are to be\n", wrong);
+    return wrong != 0;
+}
