@@ -154,12 +154,19 @@ fn show_split(out: &mut Output, split: &Split) -> Result<(), NoMemory> {
     out.text(if split.slash { " /" } else { "" })
 }
 
-fn splits(alloc: Global, text: &[u8], rule: Rule, wanted: &str) -> Result<bool, Errno> {
-    let path = Path::parse(alloc, text)?;
+/// Whether a path is split so, or is refused so: an error that a row wants is that of the split.
+fn splits_to(alloc: Global, path: Path, rule: Rule, wanted: &str) -> Result<bool, Errno> {
     let split = path.split_last(rule)?;
     let mut out = Output::new(alloc);
     show_split(&mut out, &split)?;
     Ok(out.as_slice() == wanted.as_bytes())
+}
+
+fn splits(alloc: Global, text: &[u8], rule: Rule, wanted: &str) -> Result<bool, Errno> {
+    match Path::parse(alloc, text) {
+        Ok(path) => splits_to(alloc, path, rule, wanted),
+        Err(_) => Ok(false),
+    }
 }
 
 /// How a name stands to another, where both tests say the same.
