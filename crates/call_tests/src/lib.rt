@@ -1,4 +1,4 @@
-//! Calls on both trees, calls that differ in their handles' numbers alone, and conversations by numbers, by tables.
+//! Calls on both trees, and calls that differ in their handles' numbers alone, by tables.
 #![tactic(auto)]
 
 #[cfg(test)]

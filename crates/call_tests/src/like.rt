@@ -74,9 +74,9 @@ fn opened(handle: u64, node: u64) -> Answer {
     }
 }
 
-// Whether handle 7 on that node is told like handle 8 on node 1.
-fn is_told_like(node: u64) -> bool {
-    let (answer, other) = (opened(7, node), opened(8, 1));
+// Whether handle 7 on node 1 is told like that handle on that node.
+fn is_told_like(handle: u64, node: u64) -> bool {
+    let (answer, other) = (opened(7, 1), opened(handle, node));
     let is_like = like_answers(&answer, &other);
     drop(answer);
     drop(other);
@@ -230,6 +230,6 @@ fn calls_are_alike_but_for_handles(rt: HostRuntime) {
 
 #[test]
 fn answers_are_alike_but_for_handles(rt: HostRuntime) {
-    let are_alike = is_told_like(1) && !is_told_like(2);
+    let are_alike = is_told_like(8, 1) && !is_told_like(7, 2);
     assert!(rt; are_alike && have_their_handle(rt.alloc()));
 }
