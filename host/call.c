@@ -21,7 +21,7 @@ static ssize_t reply_of(struct inroot_driver *d, const struct inroot_told *told)
     case INROOT_REPLY_TEXT:
         return told->whole ? (ssize_t)told->first : -ENOMEM;
     case INROOT_REPLY_DONE:
-        return 0;
+        return d->asked->makes == INROOT_MAKES_OPEN ? d->made : 0;
     case INROOT_REPLY_COUNT:
         return (ssize_t)told->handle;
     default:
@@ -76,21 +76,34 @@ static ssize_t come_home(ssize_t result, bool opens)
     return -error;
 }
 
-static bool opens(enum inroot_op op)
+static bool opens(const struct inroot_request *asked)
 {
-    return op == INROOT_ASK_RESOLVE || op == INROOT_ASK_RESOLVE_NOFOLLOW || op == INROOT_ASK_MKDIR_ALL;
+    return asked->op == INROOT_ASK_RESOLVE || asked->op == INROOT_ASK_RESOLVE_NOFOLLOW || asked->op == INROOT_ASK_MKDIR_ALL ||
+           asked->makes == INROOT_MAKES_OPEN;
+}
+
+static void begin(struct inroot_driver *d, const struct inroot_request *asked)
+{
+    memset(d, 0, offsetof(struct inroot_driver, deepest_name));
+    d->asked = asked;
+    d->counts = asked->op == INROOT_ASK_REMOVE_ALL;
+    d->proc = d->deepest = d->made = INROOT_NONE;
+    d->step_name[0] = 0;
+    inroot_ahead_begin(&d->ahead, asked);
 }
 
 ssize_t inroot_once(struct inroot_driver *d, int root, const struct inroot_request *asked, char *room)
 {
     bool jailed = root == INROOT_JAIL;
-    *d = (struct inroot_driver){.counts = asked->op == INROOT_ASK_REMOVE_ALL, .proc = INROOT_NONE, .deepest = INROOT_NONE};
+    begin(d, asked);
     ssize_t result = converse(d, jailed ? INROOT_JAILED : root, asked, room);
     inroot_handles_end(d);
     inroot_proc_end(d);
     free(d->names);
+    if (result < 0 && d->made >= 0)
+        close(d->made);
     if (d->moved)
-        result = come_home(result, opens(asked->op));
+        result = come_home(result, opens(asked));
     /* A step tells of a root that is none. What comes before any step is told after that. */
     int bad_root = result < 0 && d->steps == 0 && !jailed ? check_root(root) : 0;
     return bad_root ? bad_root : result;
@@ -114,7 +127,10 @@ ssize_t inroot_call(int root, const struct inroot_request *asked, char *room)
     struct inroot_driver d;
     for (int tries = 1;; tries++) {
         ssize_t result = inroot_once(&d, root, asked, room);
-        if (result != -EAGAIN || !inroot_again(tries, asked->flags))
-            return result;
+        if (result == -EAGAIN && inroot_again(tries, asked->flags))
+            continue;
+        if (result < 0)
+            inroot_error_of(&d, (int)-result);
+        return result;
     }
 }

@@ -40,11 +40,26 @@ struct inroot_slot {
     struct inroot_identity who;    /* once it was let go */
 };
 
-/* What is asked for: an operation, and its texts. */
+/* What the last step of a call that makes an entry makes. */
+enum inroot_makes { INROOT_MAKES_NEW, INROOT_MAKES_OPEN, INROOT_MAKES_LINKED };
+
+/* What is asked for: an operation, and its texts; and what the proved call knows nothing of. */
 struct inroot_request {
     enum inroot_op op;
     int mode, flags;
     const char *first, *second;
+    enum inroot_makes makes;
+    mode_t bits;                   /* of what is made, with its kind where a file is */
+    dev_t device;
+    int open_flags;                /* by which the new file is opened */
+    int object;                    /* a descriptor of what gets another name */
+};
+
+/* What of a path is still to be walked: from `at` to `end`; beyond `until` is the last name, which no step opens. */
+struct inroot_ahead {
+    bool known;
+    size_t at, end, until;
+    char text[2 * PATH_MAX];
 };
 
 /* The slots that serve a call with few handles. */
@@ -52,6 +67,7 @@ enum { INROOT_FEW = 8 };
 
 /* A call under way. */
 struct inroot_driver {
+    const struct inroot_request *asked;
     bool moved;                    /* the thread's current directory was changed */
     bool counts, begun;            /* a tree is removed; and its first entry's turn has come */
     bool busy, too_deep;           /* a step was refused by EBUSY; a directory was not entered for its depth */
@@ -59,7 +75,7 @@ struct inroot_driver {
     int proc;                      /* the /proc that was found to be one, or none yet */
     bool proc_is_own;              /* it is closed at the call's end */
     uint64_t steps, removed;
-    struct inroot_slot *slots, few[INROOT_FEW];
+    struct inroot_slot *slots;
     uint32_t used, room, serial;
     int32_t free;                  /* the first slot that is free again; its `above` is the next one */
     int inner;                     /* a directory that was closed last, and from which `..` leads to the slot above */
@@ -67,8 +83,13 @@ struct inroot_driver {
     char *names;                   /* those of the directory that was listed last, and their length */
     size_t names_length;
     size_t listed;                 /* bytes of names that the call holds */
+    int made;                      /* the file that was made and opened, or none */
+    uint8_t step;                  /* the last one that was told, but for Close, or none; and the name it was about */
     int deepest;                   /* where too_deep: the directory, and the entry in it */
-    char deepest_name[NAME_MAX + 1];
+    /* What follows isn't cleared as a call begins. */
+    char deepest_name[NAME_MAX + 1], step_name[NAME_MAX + 1];
+    struct inroot_slot few[INROOT_FEW];
+    struct inroot_ahead ahead;
 };
 
 #pragma GCC visibility push(hidden)
@@ -89,10 +110,32 @@ int inroot_handles_take(struct inroot_driver *d, uint64_t handle);
 /* Lets one directory above this one go, where one can be. */
 bool inroot_handles_spare(struct inroot_driver *d, uint64_t handle);
 
+/* ahead.c */
+void inroot_ahead_begin(struct inroot_ahead *a, const struct inroot_request *asked);
+/* Whether the next name is this one; and goes behind it. */
+bool inroot_ahead_is(struct inroot_ahead *a, const char *name);
+void inroot_ahead_pass(struct inroot_ahead *a);
+/* Puts a link's text before what is left. */
+void inroot_ahead_put(struct inroot_ahead *a, const char *text, size_t length);
+/* What is left, and how long it is. */
+size_t inroot_ahead_rest(const struct inroot_ahead *a, const char **rest);
+
+/* error.c */
+/* Keeps why a call failed: in this driver; or by itself, where it gives -error. */
+void inroot_error_of(const struct inroot_driver *d, int error);
+int inroot_error_alone(int error, const char *step, const char *rest);
+
 /* proc.c */
-/* A /proc that serves this call, or -ENOSYS. */
+enum { INROOT_PROC_NAME = 48 };
+/* A /proc that is one, or -ENOSYS; IS_OWN where the caller is to close it. */
+int inroot_proc_open(bool *is_own);
+/* The same, for a call. */
 int inroot_proc_for(struct inroot_driver *d);
 void inroot_proc_end(struct inroot_driver *d);
+/* The name in /proc of a descriptor of this thread. */
+void inroot_proc_name(int fd, char *name);
+/* The error of a system call on such a name: where there is no such link at all, there is no such /proc. */
+int inroot_proc_error(int proc, const char *name, int error);
 /* Sees to it that this thread has one that stays, and gives 0 or -errno; and lets go of what it keeps for the thread. */
 int inroot_proc_stay(void);
 void inroot_proc_leave(void);
@@ -107,6 +150,14 @@ ssize_t inroot_once(struct inroot_driver *d, int root, const struct inroot_reque
 bool inroot_again(int tries, int flags);
 /* A call by as many tries as are due. Gives 0, what was opened, a text's length, or -errno. */
 ssize_t inroot_call(int root, const struct inroot_request *asked, char *room);
+
+/* inroot.c */
+/* Whether the root is one to be asked with these flags: 0 or -errno. */
+int inroot_check(int root, int flags);
+/* A call from its first check on. A thread that is cancelled meanwhile goes on to its end. */
+ssize_t inroot_run(int root, const struct inroot_request *asked, char *room);
+/* The same of a call whose reply has no text. */
+int inroot_run_alone(int root, const struct inroot_request *asked);
 
 /* remove.c */
 /* The same of a tree. Gives how many entries were removed, or -errno. */

@@ -23,7 +23,7 @@ int main(int count, char **words)
         perror("inroot-all: the root");
         return FAULT;
     }
-    ssize_t result = makes ? inroot_mkdir_all(root, words[3], 0) : inroot_remove_all(root, words[3], 0);
+    ssize_t result = makes ? inroot_mkdir_all(root, words[3], 0777, 0) : inroot_remove_all(root, words[3], 0);
     if (result < 0)
         printf("fault %s\n", error_name((int)-result));
     else if (makes)

@@ -1,4 +1,4 @@
-/* inroot.c: the calls of inroot.h. */
+/* inroot.c: the calls of inroot.h that are one proved call each. */
 #define _GNU_SOURCE
 #include "driver.h"
 
@@ -6,21 +6,22 @@
 #include <pthread.h>
 #include <string.h>
 
-/* Whether the root is one to be asked: 0 or -errno. */
-static int check(int root, int flags)
+/* The bits that are no kind of file. */
+enum { MODE_BITS = 07777 };
+
+int inroot_check(int root, int flags)
 {
     if (flags & ~(INROOT_BENEATH | INROOT_NO_LINKS | INROOT_NO_RETRY))
         return -EINVAL;
     return root == INROOT_JAIL ? (inroot_is_jailed() ? 0 : -EBADF) : root < 0 ? -EBADF : 0;
 }
 
-/* A thread that is cancelled meanwhile goes on to the call's end, which leaves nothing open. */
-static ssize_t run(int root, const struct inroot_request *asked, char *room)
+ssize_t inroot_run(int root, const struct inroot_request *asked, char *room)
 {
     int state;
-    int failed = check(root, asked->flags);
+    int failed = inroot_check(root, asked->flags);
     if (failed)
-        return failed;
+        return inroot_error_alone(-failed, "", asked->first);
     pthread_setcancelstate(PTHREAD_CANCEL_DISABLE, &state);
     bool removes = asked->op == INROOT_ASK_REMOVE_ALL;
     ssize_t result = removes ? inroot_remove_tree(root, asked, room) : inroot_call(root, asked, room);
@@ -28,11 +29,29 @@ static ssize_t run(int root, const struct inroot_request *asked, char *room)
     return result;
 }
 
-static int on_path(int root, enum inroot_op op, const char *path, const char *text, int flags)
+int inroot_run_alone(int root, const struct inroot_request *asked)
 {
     char room[INROOT_ROOM];
-    struct inroot_request asked = {.op = op, .flags = flags, .first = path, .second = text};
-    return (int)run(root, &asked, room);
+    return (int)inroot_run(root, asked, room);
+}
+
+static int on_path(int root, enum inroot_op op, const char *path, const char *text, int flags)
+{
+    const struct inroot_request asked = {.op = op, .flags = flags, .first = path, .second = text};
+    return inroot_run_alone(root, &asked);
+}
+
+static int make(int root, enum inroot_op op, const char *path, mode_t kind, mode_t mode, dev_t device, int flags)
+{
+    const struct inroot_request asked = {
+        .op = op, .flags = flags, .first = path, .second = "", .bits = kind | mode, .device = device,
+    };
+    return mode & ~(mode_t)MODE_BITS ? inroot_error_alone(EINVAL, "", path) : inroot_run_alone(root, &asked);
+}
+
+const char *inroot_version(void)
+{
+    return INROOT_VERSION;
 }
 
 int inroot_open(int root, const char *path, int flags)
@@ -44,26 +63,35 @@ int inroot_open(int root, const char *path, int flags)
 ssize_t inroot_readlink(int root, const char *path, int flags, char *text, size_t size)
 {
     char room[INROOT_ROOM];
-    struct inroot_request asked = {.op = INROOT_ASK_READLINK, .flags = flags, .first = path, .second = ""};
-    ssize_t length = run(root, &asked, room);
+    const struct inroot_request asked = {.op = INROOT_ASK_READLINK, .flags = flags, .first = path, .second = ""};
+    ssize_t length = inroot_run(root, &asked, room);
     if (length > 0 && size > 0)
         memcpy(text, room, (size_t)length < size ? (size_t)length : size);
     return length;
 }
 
-const char *inroot_version(void)
+int inroot_mkfile(int root, const char *path, mode_t mode, int flags)
 {
-    return INROOT_VERSION;
+    return make(root, INROOT_ASK_MKFILE, path, S_IFREG, mode, 0, flags);
 }
 
-int inroot_mkfile(int root, const char *path, int flags)
+int inroot_mkdir(int root, const char *path, mode_t mode, int flags)
 {
-    return on_path(root, INROOT_ASK_MKFILE, path, "", flags);
+    return make(root, INROOT_ASK_MKDIR, path, 0, mode, 0, flags);
 }
 
-int inroot_mkdir(int root, const char *path, int flags)
+int inroot_mkdir_all(int root, const char *path, mode_t mode, int flags)
 {
-    return on_path(root, INROOT_ASK_MKDIR, path, "", flags);
+    return make(root, INROOT_ASK_MKDIR_ALL, path, 0, mode, 0, flags);
+}
+
+int inroot_mknod(int root, const char *path, mode_t mode, dev_t dev, int flags)
+{
+    mode_t kind = mode & S_IFMT;
+    bool is_device = kind == S_IFCHR || kind == S_IFBLK;
+    if (!is_device && (dev != 0 || (kind != S_IFREG && kind != S_IFIFO && kind != S_IFSOCK)))
+        return inroot_error_alone(EINVAL, "", path);
+    return make(root, INROOT_ASK_MKFILE, path, kind, mode & ~(mode_t)S_IFMT, dev, flags);
 }
 
 int inroot_symlink(int root, const char *text, const char *path, int flags)
@@ -83,21 +111,17 @@ int inroot_rmdir(int root, const char *path, int flags)
 
 int inroot_rename(int root, const char *from, const char *to, int mode, int flags)
 {
-    char room[INROOT_ROOM];
-    struct inroot_request asked = {.op = INROOT_ASK_RENAME, .mode = mode, .flags = flags, .first = from, .second = to};
+    const struct inroot_request asked = {
+        .op = INROOT_ASK_RENAME, .mode = mode, .flags = flags, .first = from, .second = to,
+    };
     if (mode < INROOT_PLAIN || mode > INROOT_EXCHANGE)
-        return -EINVAL;
-    return (int)run(root, &asked, room);
-}
-
-int inroot_mkdir_all(int root, const char *path, int flags)
-{
-    return on_path(root, INROOT_ASK_MKDIR_ALL, path, "", flags);
+        return inroot_error_alone(EINVAL, "", "");
+    return inroot_run_alone(root, &asked);
 }
 
 ssize_t inroot_remove_all(int root, const char *path, int flags)
 {
     char room[INROOT_ROOM];
-    struct inroot_request asked = {.op = INROOT_ASK_REMOVE_ALL, .flags = flags, .first = path, .second = ""};
-    return run(root, &asked, room);
+    const struct inroot_request asked = {.op = INROOT_ASK_REMOVE_ALL, .flags = flags, .first = path, .second = ""};
+    return inroot_run(root, &asked, room);
 }

@@ -5,12 +5,13 @@
  * inside, and then acts on the directory that it found, by its open descriptor. Which step comes next, and what each
  * answer means, is decided by a proved library; the steps are system calls of this program.
  *
- * ROOT is a descriptor of the directory (O_PATH is enough). Where an object stands below it is then read from the links of
- * /proc/thread-self/fd (proc(5)), of the root, the object and the root again. That is three moments: the calls promise
- * nothing where the root or a directory above it is renamed meanwhile. Or ROOT is INROOT_JAIL in a thread that
- * inroot_jail() has moved below a root: then it is one answer of the kernel for a directory, wherever the root is moved.
- * For what is no directory the thread reads one link, which of an object outside is the path from the top: an object that
- * is moved out of the root, to just the path from the top that it had from the root, is taken for one inside.
+ * ROOT is a descriptor of the directory (O_PATH is enough). Where an object stands below it is then read from the
+ * links of /proc/thread-self/fd (proc(5)), of the root, the object and the root again. That is three moments: the
+ * calls promise nothing where the root or a directory above it is renamed meanwhile. Or ROOT is INROOT_JAIL in a
+ * thread that inroot_jail() has moved below a root: then it is one answer of the kernel for a directory, wherever the
+ * root is moved. For what is no directory the thread reads one link, which of an object outside is the path from the
+ * top: an object that is moved out of the root, to just the path from the top that it had from the root, is taken for
+ * one inside.
  *
  * PATH is a text of at most 4,095 bytes, and not NULL. A path text is read before the call's first step and not later.
  *
@@ -18,17 +19,22 @@
  *
  *   INROOT_BENEATH   refuses what would lead out of the root (RESOLVE_BENEATH)
  *   INROOT_NO_LINKS  refuses every symbolic link on the way (RESOLVE_NO_SYMLINKS)
- *   INROOT_NOFOLLOW  of inroot_open() alone: opens a link at the end of PATH itself (O_NOFOLLOW)
  *   INROOT_NO_RETRY  makes one try
+ *   INROOT_NOFOLLOW  of inroot_open() and inroot_stat() alone: a link at the end of PATH is what is meant (O_NOFOLLOW)
+ *   INROOT_FOLLOW    of inroot_link() alone: a link at the end of EXISTING is followed (AT_SYMLINK_FOLLOW)
  *
- * A call that finds that others moved or removed what it had come to begins again: it makes up to INROOT_TRIES tries, the
- * first eight one after another, and before each other one it waits, 10 microseconds at first and twice as long each time
- * up to a millisecond, so some 20 milliseconds in all. Then it gives EAGAIN. Who renames without end can make it fail so: in
- * the races of docs/HOST.md one to three of a hundred calls ended so with one try, and none of a million with all.
+ * MODE is what the kernel takes for a new entry, less the umask: bits of 07777. The kernel may drop some, as
+ * mkdirat(2) does with those for set-user-ID.
+ *
+ * A call that finds that others moved or removed what it had come to begins again: it makes up to INROOT_TRIES tries,
+ * the first eight one after another, and before each other one it waits, 10 microseconds at first and twice as long
+ * each time up to a millisecond, so some 20 milliseconds in all. Then it gives EAGAIN. Who renames without end can
+ * make it fail so: in the races of docs/HOST.md one to three of a hundred calls ended so with one try, and none of a
+ * million with all.
  *
  * Every call gives -errno where it fails, and then leaves no descriptor open. In this order:
  *
- *   EINVAL        a flag that is none; of a rename a mode that is none
+ *   EINVAL        a flag that is none, or that the call doesn't have; a MODE that is none
  *   EBADF         ROOT is no descriptor; INROOT_JAIL in a thread that wasn't moved
  *   ENOTDIR       ROOT is no directory
  *   ENOMEM        no memory for the call, here or at any step
@@ -48,20 +54,22 @@
  *   any other     that a system call of a step gave, as EACCES, EIO, ENFILE or ESTALE
  *
  * and then those of the one step on the last name, which each call tells. EINTR is told only of a step that changes an
- * entry, on a file system that lets signals interrupt one; whether the entry was changed isn't known then.
+ * entry, on a file system that lets signals interrupt one, where it isn't known then whether the entry was changed;
+ * and of one that opens for use, as a FIFO.
  *
- * EAGAIN is also what an object gives that is no directory and whose name ends in ` (deleted)`, at every try: the kernel
- * writes just this behind the path of what is removed.
+ * EAGAIN is also what an object gives that is no directory and whose name ends in ` (deleted)`, at every try: the
+ * kernel writes just this behind the path of what is removed.
  *
  * The calls leave alone: what is open, signal masks and handlers, errno's meaning (it may change), umask and current
  * directory but as inroot_jail() says. Any number of threads may make calls, on one root or several. A thread that is
- * cancelled (pthread_cancel(3)) in a call ends after it. A call takes up to 32 kilobytes of the thread's stack. docs/HOST.md
- * tells of signals, fork(2), vfork(2) and CLONE_FILES.
+ * cancelled (pthread_cancel(3)) in a call ends after it. A call takes up to 48 kilobytes of the thread's stack.
+ * docs/HOST.md tells of signals, fork(2), vfork(2) and CLONE_FILES.
  */
 #ifndef INROOT_H
 #define INROOT_H
 
 #include <stddef.h>
+#include <sys/stat.h>
 #include <sys/types.h>
 
 #ifdef __cplusplus
@@ -69,7 +77,7 @@ extern "C" {
 #endif
 
 /* The version of this header; and of the library that is linked, which inroot_version() gives. */
-#define INROOT_VERSION "0.1.0"
+#define INROOT_VERSION "0.2.0"
 const char *inroot_version(void);
 
 enum {
@@ -77,6 +85,7 @@ enum {
     INROOT_NO_LINKS = 2,
     INROOT_NOFOLLOW = 4,
     INROOT_NO_RETRY = 8,
+    INROOT_FOLLOW = 16,
 };
 
 /* How often a call is tried, where others are in its way. */
@@ -89,58 +98,169 @@ enum { INROOT_TRIES = 32 };
 enum { INROOT_PLAIN = 0, INROOT_NOREPLACE = 1, INROOT_EXCHANGE = 2 };
 
 /*
- * Has the calls ask the proc(5) whose topmost directory PROC is a descriptor of, in place of /proc. It may be called once, and
- * before the first other call; a call that comes first opens /proc. PROC may be closed afterwards.
+ * Has the calls ask the proc(5) whose topmost directory PROC is a descriptor of, in place of /proc. It may be called
+ * once, and before the first other call; a call that comes first opens /proc. PROC may be closed afterwards.
  *
- * Gives 0; -EBADF where PROC is no descriptor, -EINVAL where it is of another file system, -EMFILE, -EBUSY where there is one
- * already. It isn't seen whether PROC is the topmost directory: calls give ENOSYS where it isn't.
+ * Gives 0; -EBADF where PROC is no descriptor, -EINVAL where it is of another file system, -EMFILE, -EBUSY where there
+ * is one already. It isn't seen whether PROC is the topmost directory: calls give ENOSYS where it isn't.
  */
 int inroot_use_proc(int proc);
 
 /*
- * Gives the calling thread a root directory, a current directory and a umask of its own (unshare(2), CLONE_FS) and changes the
- * first two to ROOT (chroot(2)), so that its calls may be given INROOT_JAIL. Other threads keep theirs. A thread that was
- * moved can't be moved back. Its current directory is that root after each call. Needs CAP_SYS_CHROOT, which unshare(2) with
- * CLONE_NEWUSER gives, and a /proc to ask for what is no directory.
+ * Gives the calling thread a root directory, a current directory and a umask of its own (unshare(2), CLONE_FS) and
+ * changes the first two to ROOT (chroot(2)), so that its calls may be given INROOT_JAIL. Other threads keep theirs. A
+ * thread that was moved can't be moved back. Its current directory is that root after each call. Needs CAP_SYS_CHROOT,
+ * which unshare(2) with CLONE_NEWUSER gives, and a /proc to ask for what is no directory.
  *
- * Leave alone in such a thread: its root directory, by chroot(2), pivot_root(2) or setns(2). A thread that it makes has the
- * same root, and isn't a moved one.
+ * Leave alone in such a thread: its root directory, by chroot(2), pivot_root(2) or setns(2). A thread that it makes
+ * has the same root, and isn't a moved one.
  *
- * Gives 0; -EBUSY in a thread that was moved already, -EBADF or -ENOTDIR where ROOT is no directory's, -EPERM without the
- * capability, -ENOSYS without /proc, -EMFILE, -EACCES where ROOT may not be searched. Then the thread is as before, but where
- * chroot(2) itself was refused, as by a security module: its current directory is the same then, but its own from there on.
+ * Gives 0; -EBUSY in a thread that was moved already, -EBADF or -ENOTDIR where ROOT is no directory's, -EPERM without
+ * the capability, -ENOSYS without /proc, -EMFILE, -EACCES where ROOT may not be searched. Then the thread is as
+ * before, but where chroot(2) itself was refused, as by a security module: its current directory is the same then, but
+ * its own from there on.
  */
 int inroot_jail(int root);
 
-/* Ends what inroot_jail() began: calls of this thread may not be given INROOT_JAIL then. The thread stays below the root. */
+/*
+ * Ends what inroot_jail() began: calls of this thread may not be given INROOT_JAIL then. The thread stays below the
+ * root.
+ */
 void inroot_jail_done(void);
 
 /*
- * Opens what PATH means, as openat2(2) does with O_PATH. Gives a descriptor (O_PATH and O_CLOEXEC), which shares nothing with
- * ROOT. It isn't promised that the object stands there still: it did at a moment of the call.
+ * A root for as long as a program needs one: it holds a descriptor of DIRECTORY, and has seen that there is a /proc,
+ * which is open from here on. FLAGS are 0. inroot_root_fd() gives the descriptor, which each call takes as ROOT, in
+ * any thread that has the table of descriptors in which it was opened. It is the root's own: leave it open.
+ *
+ * inroot_root_open() walks DIRECTORY as open(2) does, links and all, so it is to be a path that nobody else can
+ * change. It gives 0 and the root; -EINVAL of a flag, -ENOMEM, what open(2) has with O_PATH and O_DIRECTORY, -ENOSYS
+ * where there is no proc(5). Then *ROOT is NULL. inroot_root_close() closes it, where it isn't NULL, after all calls
+ * that were given its descriptor.
+ */
+struct inroot_root;
+int inroot_root_open(const char *directory, int flags, struct inroot_root **root);
+int inroot_root_fd(const struct inroot_root *root);
+void inroot_root_close(struct inroot_root *root);
+
+/*
+ * Why the thread's last call failed. STEP is the last step that it made, by its name in docs/HOST.md, or empty where
+ * it failed before the first; to its steps come `Reopen`, which opens for use, and `Stat`. NAME is the name that the step
+ * was about, or empty. REST is what was left of PATH then, where links were replaced by their texts: it begins with
+ * NAME where that could not be opened or made. Of a rename, and of a tree that is removed, it is empty. The texts end
+ * with a NUL, and are cut off where they don't fit.
+ */
+struct inroot_error {
+    int error;          /* its number, as ENOENT */
+    const char *step;   /* stays as long as the program */
+    char name[256];
+    char rest[4096];
+};
+
+/*
+ * Tells it. Gives 0, or -ENODATA where no call of this thread has failed. As of errno, nothing is said of what it
+ * tells after a call that succeeded.
+ */
+int inroot_last_error(struct inroot_error *error);
+
+/*
+ * Opens what PATH means, as openat2(2) does with O_PATH. Gives a descriptor (O_PATH and O_CLOEXEC), which shares
+ * nothing with ROOT. It isn't promised that the object stands there still: it did at a moment of the call.
  */
 int inroot_open(int root, const char *path, int flags);
 
 /*
- * Reads the text of the link at the end of PATH (readlinkat(2)). Gives its length in bytes, and writes as much of it as fits
- * into SIZE bytes, without a NUL. EINVAL where it is no link.
+ * Opens what PATH means to be used, by OPEN_FLAGS as open(2) has them: O_RDONLY, O_WRONLY or O_RDWR, and O_CREAT,
+ * O_EXCL, O_TRUNC, O_APPEND, O_DIRECTORY, O_NOFOLLOW, O_TMPFILE, O_NONBLOCK, O_SYNC, O_DSYNC, O_DIRECT, O_NOATIME,
+ * O_LARGEFILE, O_NOCTTY, O_CLOEXEC. The last two are always set. Or O_PATH, with O_DIRECTORY and O_NOFOLLOW alone.
+ * MODE counts with O_CREAT and O_TMPFILE, and is 0 without. Gives a descriptor.
+ *
+ * What is there already is found as inroot_open() does, and then opened by the descriptor that was found and never by
+ * its path again: what is opened is what stood below the root. A file that is made (O_CREAT) is made and opened by one
+ * open(2) with O_EXCL, in the directory that was found. With O_TMPFILE the file has no name, in the file system of the
+ * directory that PATH means; inroot_link_fd() gives it one. Without O_EXCL a link at the end of PATH whose target is
+ * missing is followed, and the target is made, below the root.
+ *
+ * EINVAL of other flags, of O_CREAT with O_DIRECTORY or O_TMPFILE, of O_EXCL without O_CREAT or O_TMPFILE, of
+ * O_TMPFILE without writing, of a MODE without both; and then, behind the errors of every call: EEXIST under O_CREAT
+ * with O_EXCL where there is such an entry, a link too; EISDIR of a directory that is opened for writing or by
+ * O_CREAT; ELOOP of a link under O_NOFOLLOW without O_PATH; ENOTDIR of what is no directory under O_DIRECTORY; ENXIO
+ * of a socket; ENOSYS where there is no proc(5) to open by; EAGAIN under O_CREAT where others make and remove the
+ * entry at each try; and what open(2) has beside it.
+ *
+ * It isn't promised that the file stands below the root when it is opened: it did when it was found. A FIFO and a
+ * device are opened as open(2) does, which may wait for others or change the device: inroot_stat() tells first. What
+ * is there already is opened without the protection that fs.protected_regular and fs.protected_fifos give to O_CREAT
+ * in a directory that all may write to (proc_sys_fs(5)): use O_EXCL there.
+ */
+int inroot_openat(int root, const char *path, int open_flags, mode_t mode, int flags);
+
+/*
+ * Opens what FD is open on once more, for another use: a file that inroot_open() found, for reading or writing.
+ * OPEN_FLAGS as above, but for O_CREAT, O_EXCL, O_TMPFILE and O_NOFOLLOW. It asks the /proc of the program, also in a
+ * jail. Gives a descriptor, with a place and flags of its own.
+ *
+ * EINVAL of other flags; EBADF where FD is none; ENOSYS where there is no proc(5) to open by; EMFILE; ELOOP where FD
+ * is open on a link; EISDIR of a directory that is opened for writing; ENOTDIR under O_DIRECTORY; ENXIO of a socket;
+ * EACCES, EPERM, EROFS, ETXTBSY and what open(2) has beside it. Where the object stands isn't asked.
+ */
+int inroot_reopen(int fd, int open_flags);
+
+/*
+ * Tells what stands at PATH (fstat(2)), of a link at the end what it leads to, or with INROOT_NOFOLLOW the link. Gives
+ * 0. What is told is of the object that stood there at a moment of the call.
+ */
+int inroot_stat(int root, const char *path, struct stat *about, int flags);
+
+/*
+ * Reads the text of the link at the end of PATH (readlinkat(2)). Gives its length in bytes, and writes as much of it
+ * as fits into SIZE bytes, without a NUL. EINVAL where it is no link.
  */
 ssize_t inroot_readlink(int root, const char *path, int flags, char *text, size_t size);
 
 /*
- * Makes an empty file (mknodat(2)), of mode 0666 less the umask. Gives 0. EEXIST where there is such an entry, a link too, and
- * what mknodat(2) has beside it.
+ * Makes an empty file (mknodat(2)). Gives 0. EEXIST where there is such an entry, a link too, and what mknodat(2) has
+ * beside it.
  */
-int inroot_mkfile(int root, const char *path, int flags);
+int inroot_mkfile(int root, const char *path, mode_t mode, int flags);
 
 /*
- * Makes an empty directory (mkdirat(2)), of mode 0777 less the umask. Gives 0. EEXIST where there is such an entry, and what
- * mkdirat(2) has beside it.
+ * Makes a file that is none of contents (mknodat(2)): MODE has S_IFREG, S_IFIFO, S_IFSOCK, S_IFCHR or S_IFBLK beside
+ * it, and the last two make a node of the device DEV, which is 0 otherwise. Gives 0. EINVAL of another kind, and of a
+ * DEV that isn't asked for; EEXIST where there is such an entry, a link too; EPERM without the right to make devices,
+ * and what mknodat(2) has beside it.
  */
-int inroot_mkdir(int root, const char *path, int flags);
+int inroot_mknod(int root, const char *path, mode_t mode, dev_t dev, int flags);
 
-/* Makes a link with that text (symlinkat(2)). Gives 0. EEXIST where there is such an entry, and what symlinkat(2) has beside it. */
+/*
+ * Makes an empty directory (mkdirat(2)). Gives 0. EEXIST where there is such an entry, and what mkdirat(2) has beside
+ * it.
+ */
+int inroot_mkdir(int root, const char *path, mode_t mode, int flags);
+
+/*
+ * Makes a link with that text (symlinkat(2)). Gives 0. EEXIST where there is such an entry, and what symlinkat(2) has
+ * beside it.
+ */
 int inroot_symlink(int root, const char *text, const char *path, int flags);
+
+/*
+ * Gives what EXISTING means a second name, PATH (linkat(2)). Of a link at the end of EXISTING it is the link itself
+ * that gets it, or under INROOT_FOLLOW what the link leads to. Gives 0. The errors of EXISTING come before those of
+ * PATH; then EEXIST where there is such an entry, EXDEV where it is on another mount, EPERM of a directory, ENOENT
+ * where the object is gone meanwhile, ENOSYS where there is no proc(5), and what linkat(2) has beside it.
+ *
+ * The object is the one that stood at EXISTING at a moment of the call. Others may have moved or removed that name
+ * since.
+ */
+int inroot_link(int root, const char *existing, const char *path, int flags);
+
+/*
+ * The same of what FD is open on, wherever that is: a file that inroot_openat() has made with O_TMPFILE, or one that
+ * was found. Gives 0. EBADF where FD is none comes behind the first two of every call; then the errors of
+ * inroot_link() from ROOT's on.
+ */
+int inroot_link_fd(int root, int fd, const char *path, int flags);
 
 /* Removes what is no directory (unlinkat(2)). Gives 0. ENOENT where there is no such entry, EISDIR of a directory. */
 int inroot_unlink(int root, const char *path, int flags);
@@ -155,23 +275,23 @@ int inroot_rmdir(int root, const char *path, int flags);
 int inroot_rename(int root, const char *from, const char *to, int mode, int flags);
 
 /*
- * Makes all directories of PATH that are missing (mkdirat(2)), of mode 0777 less the umask, none of them through a link, and
- * opens the last. Gives a descriptor (O_PATH and O_CLOEXEC). ENOTDIR where what stands there is no directory, ENOENT for
- * `..` after a missing name and for a link whose text leads to what is missing, and what mkdirat(2) has beside it. What was
- * made before an error stays.
+ * Makes all directories of PATH that are missing (mkdirat(2)), each of MODE, none of them through a link, and opens
+ * the last. A directory that is there already keeps its mode. Gives a descriptor (O_PATH and O_CLOEXEC). ENOTDIR where
+ * what stands there is no directory, ENOENT for `..` after a missing name and for a link whose text leads to what is
+ * missing, and what mkdirat(2) has beside it. What was made before an error stays.
  */
-int inroot_mkdir_all(int root, const char *path, int flags);
+int inroot_mkdir_all(int root, const char *path, mode_t mode, int flags);
 
 /*
- * Removes the entry of PATH with all that is below it (unlinkat(2)); of a link the link alone. Gives how many entries it
- * removed, 0 where there was none. What was removed before an error stays removed.
+ * Removes the entry of PATH with all that is below it (unlinkat(2)); of a link the link alone. Gives how many entries
+ * it removed, 0 where there was none. What was removed before an error stays removed.
  *
- * It goes to any depth, holds some 40 descriptors at most, fewer where fewer are left, and less than 64 megabytes. It goes on
- * as long as it removes something: who makes entries without end can keep it from ending. A directory that is moved
- * meanwhile, while the call is below it, counts as a try, and these are counted from the last removal on.
+ * It goes to any depth, holds some 40 descriptors at most, fewer where fewer are left, and less than 64 megabytes. It
+ * goes on as long as it removes something: who makes entries without end can keep it from ending. A directory that is
+ * moved meanwhile, while the call is below it, counts as a try, and these are counted from the last removal on.
  *
- * EBUSY where an entry is in use, as a mount point, or after 600,000 steps without a removal; ENAMETOOLONG where a directory
- * has a name of more than 255 bytes, as vfat and ntfs allow; and what unlinkat(2) has beside it.
+ * EBUSY where an entry is in use, as a mount point, or after 600,000 steps without a removal; ENAMETOOLONG where a
+ * directory has a name of more than 255 bytes, as vfat and ntfs allow; and what unlinkat(2) has beside it.
  */
 ssize_t inroot_remove_all(int root, const char *path, int flags);
 

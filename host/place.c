@@ -4,7 +4,6 @@
 
 #include <errno.h>
 #include <sched.h>
-#include <stdio.h>
 #include <string.h>
 #include <sys/stat.h>
 #include <sys/syscall.h>
@@ -33,8 +32,8 @@ static ssize_t link_of(int proc, int fd, char *text)
 {
     static const char deleted[] = " (deleted)";
     const size_t tail = sizeof deleted - 1;
-    char name[48];
-    (void)snprintf(name, sizeof name, "thread-self/fd/%d", fd);
+    char name[INROOT_PROC_NAME];
+    inroot_proc_name(fd, name);
     ssize_t length = readlinkat(proc, name, text, INROOT_TEXT_MAX);
     if (length < 0 && errno == ENOENT)
         errno = ENOSYS;

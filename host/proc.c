@@ -10,6 +10,7 @@
 #include <fcntl.h>
 #include <linux/magic.h>
 #include <stdatomic.h>
+#include <stdio.h>
 #include <sys/vfs.h>
 #include <unistd.h>
 
@@ -51,25 +52,42 @@ static int at_hand(void)
     return is_proc(of_thread) ? of_thread : INROOT_NONE;
 }
 
+int inroot_proc_open(bool *is_own)
+{
+    int fd = at_hand();
+    *is_own = false;
+    if (fd >= 0)
+        return fd;
+    /* Below the root of a jail what is called /proc is anybody's. */
+    fd = inroot_is_jailed() ? -ENOSYS : open_proc();
+    if (fd >= 0)
+        *is_own = !keep(fd);
+    return fd;
+}
+
 int inroot_proc_for(struct inroot_driver *d)
 {
-    if (d->proc >= 0)
-        return d->proc;
-    int fd = at_hand();
-    if (fd < 0) {
-        /* Below the root of a jail what is called /proc is anybody's. */
-        fd = inroot_is_jailed() ? -ENOSYS : open_proc();
-        if (fd < 0)
-            return fd;
-        d->proc_is_own = !keep(fd);
-    }
-    return d->proc = fd;
+    int fd = d->proc >= 0 ? d->proc : inroot_proc_open(&d->proc_is_own);
+    if (fd >= 0)
+        d->proc = fd;
+    return fd;
 }
 
 void inroot_proc_end(struct inroot_driver *d)
 {
     if (d->proc_is_own)
         close(d->proc);
+}
+
+void inroot_proc_name(int fd, char *name)
+{
+    (void)snprintf(name, INROOT_PROC_NAME, "thread-self/fd/%d", fd);
+}
+
+int inroot_proc_error(int proc, const char *name, int error)
+{
+    char text[1];
+    return error == ENOENT && readlinkat(proc, name, text, sizeof text) < 0 && errno == ENOENT ? ENOSYS : error;
 }
 
 int inroot_proc_stay(void)

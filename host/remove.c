@@ -58,7 +58,9 @@ ssize_t inroot_remove_tree(int root, const struct inroot_request *asked, char *r
         /* What others removed meanwhile isn't this call's. */
         if (result >= 0 && removed == 0)
             result = -EAGAIN;
-        if (result < 0 && (result != -EAGAIN || !inroot_again(tries, asked->flags)))
+        if (result < 0 && (result != -EAGAIN || !inroot_again(tries, asked->flags))) {
+            inroot_error_of(&d, (int)-result);
             return result;
+        }
     }
 }

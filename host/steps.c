@@ -117,6 +117,15 @@ static struct inroot_answered open_name(struct inroot_driver *d, uint64_t dir, c
     return opened(d, fd, S_ISDIR(about.st_mode) ? INROOT_KIND_DIR : other, INROOT_BY_NAME, dir);
 }
 
+static struct inroot_answered open_next(struct inroot_driver *d, uint64_t dir, const char *name, const struct entry *entry)
+{
+    bool foreseen = inroot_ahead_is(&d->ahead, name);
+    struct inroot_answered answered = open_name(d, dir, entry);
+    if (foreseen && answered.what == INROOT_ANSWER_OPENED)
+        inroot_ahead_pass(&d->ahead);
+    return answered;
+}
+
 /* A handle of its own, which shares nothing with the caller's descriptor but the directory. */
 static struct inroot_answered open_root(struct inroot_driver *d, uint64_t root)
 {
@@ -166,7 +175,39 @@ static struct inroot_answered read_link(struct inroot_driver *d, uint64_t handle
     if (got < 0)
         return inroot_refused(d, errno == ENOENT ? EINVAL : errno);
     *length = (size_t)got;
+    inroot_ahead_put(&d->ahead, text, *length);
     return (struct inroot_answered){.what = INROOT_ANSWER_TEXT};
+}
+
+/* Gives the object another name. Its link in /proc leads to it, a link as well, which isn't followed then. */
+static struct inroot_answered link_object(struct inroot_driver *d, const struct entry *entry)
+{
+    char name[INROOT_PROC_NAME];
+    int proc = inroot_proc_for(d);
+    if (proc < 0)
+        return inroot_refused(d, -proc);
+    inroot_proc_name(d->asked->object, name);
+    if (linkat(proc, name, entry->dir, entry->name, AT_SYMLINK_FOLLOW) == 0)
+        return (struct inroot_answered){.what = INROOT_ANSWER_DONE};
+    return inroot_refused(d, inroot_proc_error(proc, name, errno));
+}
+
+static struct inroot_answered make_file(struct inroot_driver *d, const struct entry *entry)
+{
+    const struct inroot_request *asked = d->asked;
+    if (asked->makes == INROOT_MAKES_LINKED)
+        return link_object(d, entry);
+    if (asked->makes == INROOT_MAKES_NEW)
+        return done_or(d, mknodat(entry->dir, entry->name, asked->bits, asked->device));
+    d->made = openat(entry->dir, entry->name, asked->open_flags, asked->bits);
+    return done_or(d, d->made < 0);
+}
+
+static struct inroot_answered make_link(struct inroot_driver *d, const struct entry *entry, const char *text)
+{
+    if (d->asked->makes == INROOT_MAKES_LINKED)
+        return link_object(d, entry);
+    return done_or(d, symlinkat(text, entry->dir, entry->name));
 }
 
 static struct inroot_answered removed(struct inroot_driver *d, const struct entry *entry, int flags)
@@ -198,13 +239,13 @@ static struct inroot_answered on_entry(struct inroot_driver *d, const struct inr
         return inroot_refused(d, error);
     switch (step->what) {
     case INROOT_STEP_OPEN:
-        return open_name(d, step->handle, &entry);
+        return open_next(d, step->handle, room, &entry);
     case INROOT_STEP_MAKE_DIR:
-        return done_or(d, mkdirat(entry.dir, entry.name, 0777));
+        return done_or(d, mkdirat(entry.dir, entry.name, d->asked->bits));
     case INROOT_STEP_MAKE_FILE:
-        return done_or(d, mknodat(entry.dir, entry.name, S_IFREG | 0666, 0));
+        return make_file(d, &entry);
     case INROOT_STEP_MAKE_LINK:
-        return done_or(d, symlinkat(second, entry.dir, entry.name));
+        return make_link(d, &entry, second);
     case INROOT_STEP_REMOVE_FILE:
         return removed(d, &entry, 0);
     case INROOT_STEP_REMOVE_DIR:
@@ -214,10 +255,23 @@ static struct inroot_answered on_entry(struct inroot_driver *d, const struct inr
     }
 }
 
+/* Keeps which step this is, and the name it is about, of which there may be as much as fits. */
+static void note(struct inroot_driver *d, const struct inroot_told *step, const char *room)
+{
+    bool on_name = step->what == INROOT_STEP_OPEN || step->what >= INROOT_STEP_MAKE_DIR;
+    size_t length = on_name ? step->first : 0;
+    d->step = step->what;
+    length = length < sizeof d->step_name ? length : sizeof d->step_name - 1;
+    memcpy(d->step_name, room, length);
+    d->step_name[length] = 0;
+}
+
 struct inroot_answered inroot_make(struct inroot_driver *d, const struct inroot_told *step, const char *room, char *text, size_t *length)
 {
     *length = 0;
     d->steps++;
+    if (step->what != INROOT_STEP_CLOSE && step->whole)
+        note(d, step, room);
     /* Only a link's text can be too long for the room. */
     if (!step->whole)
         return inroot_refused(d, step->second >= INROOT_TEXT_MAX ? ENAMETOOLONG : ENOMEM);

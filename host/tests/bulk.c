@@ -42,7 +42,7 @@ static void *work(void *self)
         at = INROOT_JAIL;
     }
     while (!stop) {
-        int fd = inroot_mkdir_all(at, "x/d/e/f", 0);
+        int fd = inroot_mkdir_all(at, "x/d/e/f", 0755, 0);
         me->made += fd >= 0;
         if (fd >= 0)
             close(fd);

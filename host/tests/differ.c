@@ -41,10 +41,10 @@ static void links(void)
     sure(mknodat(root, "g (deleted)", S_IFREG | 0600, 0), "g");
     both(root, "g (deleted)", 0, -EAGAIN);
     both(root, "dangling", -ENOENT, -ENOENT);
-    expect(inroot_mkfile(root, "dangling", 0) == -EEXIST, "a file at a dangling link");
+    expect(inroot_mkfile(root, "dangling", 0644, 0) == -EEXIST, "a file at a dangling link");
     expect(by_kernel(root, "dangling", O_CREAT | O_EXCL | O_WRONLY) == -EEXIST, "the kernel's O_EXCL at a dangling link");
-    expect(inroot_mkdir_all(root, "dangling", 0) == -ENOENT, "directories at a dangling link");
-    expect(inroot_mkdir_all(root, "made/../dangling/x", 0) == -ENOENT, "directories below a dangling link");
+    expect(inroot_mkdir_all(root, "dangling", 0755, 0) == -ENOENT, "directories at a dangling link");
+    expect(inroot_mkdir_all(root, "made/../dangling/x", 0755, 0) == -ENOENT, "directories below a dangling link");
     expect(faccessat(root, "nowhere", F_OK, 0) != 0, "something was made through a dangling link");
     expect(by_kernel(root, "dangling", O_CREAT | O_WRONLY) >= 0, "the kernel's O_CREAT at a dangling link");
     expect(faccessat(root, "nowhere", F_OK, 0) == 0, "the kernel made nothing through a dangling link");

@@ -16,13 +16,13 @@ static int call(int root, int number)
     case 0: return inroot_open(root, "a/link/../b/./f", 0);
     case 1: return inroot_open(root, "a/b/none", 0);
     case 2: return (int)inroot_readlink(root, "a/link", 0, text, sizeof text);
-    case 3: return inroot_mkfile(root, "a/link/new", 0);
-    case 4: return inroot_mkdir(root, "a/link/newdir/", 0);
+    case 3: return inroot_mkfile(root, "a/link/new", 0644, 0);
+    case 4: return inroot_mkdir(root, "a/link/newdir/", 0755, 0);
     case 5: return inroot_symlink(root, "some/text", "a/newlink", 0);
     case 6: return inroot_rename(root, "a/b/f", "/a/g", INROOT_NOREPLACE, 0);
     case 7: return inroot_unlink(root, "a/b/g", 0);
     case 8: return inroot_rmdir(root, "a/b/e", 0);
-    case 9: return inroot_mkdir_all(root, "a/link/new/er", 0);
+    case 9: return inroot_mkdir_all(root, "a/link/new/er", 0755, 0);
     default: return (int)inroot_remove_all(root, "a/b", 0);
     }
 }

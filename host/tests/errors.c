@@ -36,7 +36,7 @@ static void bad_roots(void)
         expect(closed(inroot_open(file, path, 0)) == -ENOTDIR, "a root that is a file, %s", path);
         expect(closed(inroot_open(file, path, INROOT_BENEATH)) == -ENOTDIR, "a root that is a file, beneath, %s", path);
         expect(closed(inroot_open(999, path, 64)) == -EINVAL, "a flag that is none, %s", path);
-        expect(inroot_mkfile(999, path, 0) == -EBADF, "a file below what isn't open, %s", path);
+        expect(inroot_mkfile(999, path, 0644, 0) == -EBADF, "a file below what isn't open, %s", path);
         expect(inroot_rename(file, path, path, 0, 0) == -ENOTDIR, "a rename below a file, %s", path);
         expect(inroot_remove_all(file, path, 0) == -ENOTDIR, "a tree below a file, %s", path);
         expect(inroot_readlink(file, path, 0, text, sizeof text) == -ENOTDIR, "a link below a file, %s", path);
@@ -76,7 +76,7 @@ static void deleted_names(void)
     expect(closed(inroot_open(root, "d/f", 0)) == 0, "below a root that is called so");
     expect(closed(inroot_open(root, "d/..", 0)) == 0, "up to a root that is called so");
     expect(closed(inroot_open(root, "e (deleted)", 0)) == 0, "a directory that is called so");
-    expect(inroot_mkdir(root, "e (deleted)/x", 0) == 0, "in a directory that is called so");
+    expect(inroot_mkdir(root, "e (deleted)/x", 0755, 0) == 0, "in a directory that is called so");
     expect(closed(inroot_open(root, "g (deleted)", INROOT_NO_RETRY)) == -EAGAIN, "a file that is called so");
     expect(inroot_remove_all(root, "e (deleted)", 0) == 2, "a tree that is called so");
     /* A root that is gone is below itself still, and has no names below it. */
@@ -84,7 +84,7 @@ static void deleted_names(void)
     sure(unlinkat(root, "d/f", AT_REMOVEDIR), "unlinkat");
     expect(closed(inroot_open(gone, "/", 0)) == 0, "a root that is gone, itself");
     expect(closed(inroot_open(gone, "x", 0)) == -ENOENT, "a name in a root that is gone");
-    expect(inroot_mkdir(gone, "x", 0) == -ENOENT, "a directory in a root that is gone");
+    expect(inroot_mkdir(gone, "x", 0755, 0) == -ENOENT, "a directory in a root that is gone");
     close(gone);
     close(root);
 }

@@ -270,13 +270,13 @@ static void call(void)
     switch (asked.op) {
     case 0: asked.result = inroot_open(at, asked.first, (int)(flags | (asked.flags & 4))); break;
     case 1: asked.result = inroot_readlink(at, asked.first, (int)flags, text, sizeof text); break;
-    case 2: asked.result = inroot_mkfile(at, asked.first, (int)flags); break;
-    case 3: asked.result = inroot_mkdir(at, asked.first, (int)flags); break;
+    case 2: asked.result = inroot_mkfile(at, asked.first, 0644, (int)flags); break;
+    case 3: asked.result = inroot_mkdir(at, asked.first, 0755, (int)flags); break;
     case 4: asked.result = inroot_symlink(at, asked.second, asked.first, (int)flags); break;
     case 5: asked.result = inroot_unlink(at, asked.first, (int)flags); break;
     case 6: asked.result = inroot_rmdir(at, asked.first, (int)flags); break;
     case 7: asked.result = inroot_rename(at, asked.first, asked.second, (int)asked.mode % 3, (int)flags); break;
-    case 8: asked.result = inroot_mkdir_all(at, asked.first, (int)flags); break;
+    case 8: asked.result = inroot_mkdir_all(at, asked.first, 0755, (int)flags); break;
     default: asked.result = inroot_remove_all(at, asked.first, (int)flags);
     }
     plan.armed = false;

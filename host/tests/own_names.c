@@ -43,7 +43,7 @@ void *rattle_realloc(void *block, size_t size, size_t align, size_t more)
 int main(int count, char **words)
 {
     int root = count == 2 ? open(words[1], O_RDONLY | O_DIRECTORY) : -1;
-    int made = inroot_mkdir_all(root, "x/y", 0);
+    int made = inroot_mkdir_all(root, "x/y", 0755, 0);
     printf("own_names: %d\n", made);
     return made < 0;
 }

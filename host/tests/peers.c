@@ -55,7 +55,7 @@ static bool is_outside(int fd)
 static int make_all(int at, int flags, uint64_t *state)
 {
     static const char *const paths[] = {"x/d/e/f", "x/d/e/g", "x/d/../d/h"};
-    return inroot_mkdir_all(at, paths[pick(state, 3)], flags);
+    return inroot_mkdir_all(at, paths[pick(state, 3)], 0755, flags);
 }
 
 static const char *const looked_up[] = {"a/b/c/../../secret", "a/b/../secret", "a/b/c/../../..", "a/b/secret", "a/b/c/../f", "a/b/c"};
@@ -89,8 +89,8 @@ static int everything(int at, int flags, uint64_t *state)
     ssize_t removed;
     char text[64];
     switch (pick(state, 8)) {
-    case 0: return inroot_mkfile(at, name, flags);
-    case 1: return inroot_mkdir(at, name, flags);
+    case 0: return inroot_mkfile(at, name, 0644, flags);
+    case 1: return inroot_mkdir(at, name, 0755, flags);
     case 2: return inroot_symlink(at, outside_path, name, flags);
     case 3: return inroot_unlink(at, name, flags);
     case 4: return inroot_rmdir(at, name, flags);
@@ -307,8 +307,8 @@ static void *make_same(void *self)
         at = INROOT_JAIL;
     }
     pthread_barrier_wait(me->together);
-    me->dir = inroot_mkdir_all(at, "same/b/c/d/e/f", 0);
-    me->file = inroot_mkfile(at, "same/file", 0);
+    me->dir = inroot_mkdir_all(at, "same/b/c/d/e/f", 0755, 0);
+    me->file = inroot_mkfile(at, "same/file", 0644, 0);
     if (me->dir >= 0)
         close(me->dir);
     return NULL;

@@ -41,7 +41,7 @@ static void no_proc(void)
 {
     cover(false);
     expect(inroot_open(root, "f", 0) == -ENOSYS, "a file without /proc");
-    expect(inroot_mkdir(root, "a/x", 0) == -ENOSYS, "a directory without /proc");
+    expect(inroot_mkdir(root, "a/x", 0755, 0) == -ENOSYS, "a directory without /proc");
     expect(inroot_jail(root) == -ENOSYS, "a jail without /proc");
     expect(inroot_open(root, "none", 0) == -ENOENT, "what isn't there, without /proc");
 }

@@ -324,7 +324,7 @@ static void *never_ends(void *jailed)
     }
     for (;; pthread_testcancel()) {
         close_calmly(inroot_open(at, "a/b/../b/../b/../../a/b", 0));
-        close_calmly(inroot_mkdir_all(at, "n/e/w", 0));
+        close_calmly(inroot_mkdir_all(at, "n/e/w", 0755, 0));
         inroot_remove_all(at, "n", 0);
     }
     return NULL;
@@ -387,7 +387,7 @@ static void storm(void)
             close(fd);
         if (at % 10 != 0)
             continue;
-        fd = inroot_mkdir_all(root, "s/t/u", 0);
+        fd = inroot_mkdir_all(root, "s/t/u", 0755, 0);
         failed += fd < 0;
         if (fd >= 0)
             close(fd);

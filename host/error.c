@@ -1,0 +1,50 @@
+/* error.c: why a thread's last call failed, for whoever wants to print it. */
+#define _GNU_SOURCE
+#include "driver.h"
+
+#include <errno.h>
+#include <string.h>
+
+static _Thread_local struct inroot_error last = {.step = ""};
+
+static const char *const steps[] = {
+    "", "Open", "Dup", "Parent", "ReadLink", "NameBelow", "List", "Close", "MakeDir", "MakeFile", "MakeLink", "RemoveFile",
+    "RemoveDir", "Rename",
+};
+
+_Static_assert(sizeof steps / sizeof *steps == INROOT_STEP_RENAME + 1, "each step has its name");
+
+/* As much of it as fits. */
+static void keep(char *to, size_t size, const char *text, size_t length)
+{
+    length = length < size ? length : size - 1;
+    memcpy(to, text, length);
+    to[length] = 0;
+}
+
+int inroot_error_alone(int error, const char *step, const char *rest)
+{
+    last.error = error;
+    last.step = step;
+    last.name[0] = 0;
+    keep(last.rest, sizeof last.rest, rest, strlen(rest));
+    return -error;
+}
+
+void inroot_error_of(const struct inroot_driver *d, int error)
+{
+    const char *rest;
+    size_t length = inroot_ahead_rest(&d->ahead, &rest);
+    last.error = error;
+    last.step = steps[d->step <= INROOT_STEP_RENAME ? d->step : 0];
+    keep(last.name, sizeof last.name, d->step_name, strlen(d->step_name));
+    keep(last.rest, sizeof last.rest, rest, length);
+}
+
+int inroot_last_error(struct inroot_error *error)
+{
+    if (last.error == 0)
+        return -ENODATA;
+    *error = last;
+    return 0;
+}

@@ -1,0 +1,62 @@
+/* link.c: what was found gets another name. */
+#define _GNU_SOURCE
+#include "driver.h"
+
+#include <errno.h>
+#include <fcntl.h>
+#include <pthread.h>
+#include <sys/stat.h>
+#include <unistd.h>
+
+/* A link's new name is made as a link is, with its text, and any other object's as a file is. */
+static int link_object(int root, int fd, const char *path, int flags)
+{
+    struct stat about;
+    char text[INROOT_TEXT_MAX + 1] = "";
+    struct inroot_request asked = {
+        .op = INROOT_ASK_MKFILE, .flags = flags, .first = path, .second = text, .makes = INROOT_MAKES_LINKED, .object = fd,
+    };
+    int failed = inroot_check(root, flags);
+    if (failed)
+        return inroot_error_alone(-failed, "", path);
+    if (fstat(fd, &about) != 0)
+        return inroot_error_alone(errno, "", path);
+    if (S_ISLNK(about.st_mode)) {
+        ssize_t length = readlinkat(fd, "", text, INROOT_TEXT_MAX);
+        if (length < 0)
+            return inroot_error_alone(errno, "", path);
+        text[length] = 0;
+        asked.op = INROOT_ASK_SYMLINK;
+    }
+    return inroot_run_alone(root, &asked);
+}
+
+int inroot_link_fd(int root, int fd, const char *path, int flags)
+{
+    int state;
+    pthread_setcancelstate(PTHREAD_CANCEL_DISABLE, &state);
+    int result = link_object(root, fd, path, flags);
+    pthread_setcancelstate(state, NULL);
+    return result;
+}
+
+int inroot_link(int root, const char *existing, const char *path, int flags)
+{
+    int state;
+    bool follows = flags & INROOT_FOLLOW;
+    const struct inroot_request asked = {
+        .op = follows ? INROOT_ASK_RESOLVE : INROOT_ASK_RESOLVE_NOFOLLOW,
+        .flags = flags & ~INROOT_FOLLOW,
+        .first = existing,
+        .second = "",
+    };
+    pthread_setcancelstate(PTHREAD_CANCEL_DISABLE, &state);
+    int fd = inroot_run_alone(root, &asked);
+    int result = fd;
+    if (fd >= 0) {
+        result = link_object(root, fd, path, asked.flags);
+        close(fd);
+    }
+    pthread_setcancelstate(state, NULL);
+    return result;
+}

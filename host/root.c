@@ -1,0 +1,69 @@
+/* root.c: a root that a program keeps. */
+#define _GNU_SOURCE
+#include "driver.h"
+
+#include <errno.h>
+#include <fcntl.h>
+#include <pthread.h>
+#include <stdlib.h>
+#include <unistd.h>
+
+struct inroot_root {
+    int fd;
+};
+
+/* Whether there is a /proc to ask, which stays open then: 0 or -errno. */
+static int has_proc(void)
+{
+    bool is_own;
+    int proc = inroot_proc_open(&is_own);
+    if (is_own)
+        close(proc);
+    return proc < 0 ? proc : 0;
+}
+
+static int open_root(const char *directory, struct inroot_root *root)
+{
+    do
+        root->fd = open(directory, O_PATH | O_DIRECTORY | O_CLOEXEC);
+    while (root->fd < 0 && errno == EINTR);
+    if (root->fd < 0)
+        return -errno;
+    int failed = has_proc();
+    if (failed)
+        close(root->fd);
+    return failed;
+}
+
+int inroot_root_open(const char *directory, int flags, struct inroot_root **root)
+{
+    int state;
+    *root = NULL;
+    if (flags != 0)
+        return inroot_error_alone(EINVAL, "", directory);
+    struct inroot_root *new = malloc(sizeof *new);
+    if (new == NULL)
+        return inroot_error_alone(ENOMEM, "", directory);
+    pthread_setcancelstate(PTHREAD_CANCEL_DISABLE, &state);
+    int failed = open_root(directory, new);
+    pthread_setcancelstate(state, NULL);
+    if (failed) {
+        free(new);
+        return inroot_error_alone(-failed, "", directory);
+    }
+    *root = new;
+    return 0;
+}
+
+int inroot_root_fd(const struct inroot_root *root)
+{
+    return root->fd;
+}
+
+void inroot_root_close(struct inroot_root *root)
+{
+    if (root == NULL)
+        return;
+    close(root->fd);
+    free(root);
+}

@@ -1,0 +1,243 @@
+/* use.c: what was found is opened to be read and written, and files are made and opened, or are told of. */
+#define _GNU_SOURCE
+#include "driver.h"
+
+#include <errno.h>
+#include <fcntl.h>
+#include <pthread.h>
+#include <string.h>
+#include <sys/stat.h>
+#include <unistd.h>
+
+enum {
+    ALWAYS = O_CLOEXEC | O_NOCTTY,
+    ACCESS = O_RDONLY | O_WRONLY | O_RDWR,
+    FOR_USE = ACCESS | O_TRUNC | O_APPEND | O_DIRECTORY | O_NONBLOCK | O_SYNC | O_DSYNC | O_DIRECT | O_NOATIME | O_LARGEFILE |
+              ALWAYS,
+    FOR_PATH = O_PATH | O_DIRECTORY | ALWAYS,
+    MODE_BITS = 07777,
+    LINKS = 40,
+};
+
+/* What is to be opened, and how; FLAGS are the call's. */
+struct use {
+    const char *path;
+    int how, flags;
+    mode_t mode;
+};
+
+static bool is_nameless(int how)
+{
+    return (how & O_TMPFILE) == O_TMPFILE;
+}
+
+/* Whether what is open may be opened so once more. */
+static bool reopens(int how)
+{
+    if (how & O_PATH)
+        return !(how & ~FOR_PATH);
+    return !(how & ~FOR_USE) && (how & ACCESS) != (O_WRONLY | O_RDWR);
+}
+
+static bool opens(int how, mode_t mode)
+{
+    bool creates = how & O_CREAT, is_new = creates || is_nameless(how);
+    int rest = how & ~(O_CREAT | O_EXCL | O_NOFOLLOW);
+    if (is_nameless(how))
+        rest &= ~(O_TMPFILE & ~O_DIRECTORY);
+    if (!reopens(rest) || (is_new && how & O_PATH) || (how & O_EXCL && !is_new))
+        return false;
+    if (creates && how & O_DIRECTORY)
+        return false;
+    if (is_nameless(how) && (how & ACCESS) == O_RDONLY)
+        return false;
+    return mode == 0 || (is_new && !(mode & ~(mode_t)MODE_BITS));
+}
+
+/* ---- what is found */
+
+static int find(int root, const struct use *use)
+{
+    const struct inroot_request asked = {
+        .op = use->how & O_NOFOLLOW ? INROOT_ASK_RESOLVE_NOFOLLOW : INROOT_ASK_RESOLVE,
+        .flags = use->flags,
+        .first = use->path,
+        .second = "",
+    };
+    return inroot_run_alone(root, &asked);
+}
+
+static int reopened(int fd, int how)
+{
+    char name[INROOT_PROC_NAME];
+    bool is_own;
+    int proc = inroot_proc_open(&is_own);
+    if (proc < 0)
+        return proc;
+    inroot_proc_name(fd, name);
+    int used = openat(proc, name, how | ALWAYS);
+    if (used < 0)
+        used = -inroot_proc_error(proc, name, errno);
+    if (is_own)
+        close(proc);
+    return used;
+}
+
+/* Whether an object of that kind may be opened so, where opening doesn't tell: 0 or -errno. */
+static int fits(int fd, int how)
+{
+    struct stat about;
+    if (!(how & O_CREAT) && !(how & O_PATH && how & O_DIRECTORY))
+        return 0;
+    if (fstat(fd, &about) != 0)
+        return -errno;
+    if (how & O_CREAT)
+        return S_ISDIR(about.st_mode) ? -EISDIR : 0;
+    return S_ISDIR(about.st_mode) ? 0 : -ENOTDIR;
+}
+
+/* Opens by the descriptor that was found; it is that one where nothing is to be read or written. */
+static int use_found(int fd, const struct use *use)
+{
+    int failed = fits(fd, use->how);
+    if (failed)
+        return failed;
+    if (use->how & O_PATH)
+        return fd;
+    if (!is_nameless(use->how))
+        return reopened(fd, use->how & ~(O_CREAT | O_NOFOLLOW));
+    int made = openat(fd, ".", (use->how & ~O_NOFOLLOW) | ALWAYS, use->mode);
+    return made < 0 ? -errno : made;
+}
+
+static int open_found(int root, const struct use *use)
+{
+    int fd = find(root, use);
+    if (fd < 0)
+        return fd;
+    int used = use_found(fd, use);
+    if (used != fd)
+        close(fd);
+    return used < 0 ? inroot_error_alone(-used, "Reopen", "") : used;
+}
+
+/* ---- what is made */
+
+static int create(int root, const struct use *use)
+{
+    const struct inroot_request asked = {
+        .op = INROOT_ASK_MKFILE,
+        .flags = use->flags,
+        .first = use->path,
+        .second = "",
+        .makes = INROOT_MAKES_OPEN,
+        .bits = use->mode,
+        .open_flags = use->how | O_CREAT | O_EXCL | O_NOFOLLOW | ALWAYS,
+    };
+    return inroot_run_alone(root, &asked);
+}
+
+/*
+ * Writes the path to which the link at the end of this one leads: its directory's, and the link's text. Gives how long the text
+ * is, or -errno; -EINVAL where it is no link, and -ENOENT where it is gone.
+ */
+static ssize_t follow(int root, const struct use *use, char *path)
+{
+    char text[INROOT_ROOM];
+    const struct inroot_request asked = {
+        .op = INROOT_ASK_READLINK, .flags = use->flags, .first = use->path, .second = "",
+    };
+    ssize_t length = inroot_run(root, &asked, text);
+    if (length <= 0)
+        return length < 0 ? length : -ENOENT;
+    const char *slash = strrchr(use->path, '/');
+    size_t kept = text[0] == '/' || slash == NULL ? 0 : (size_t)(slash - use->path) + 1;
+    if (kept + (size_t)length >= INROOT_TEXT_MAX)
+        return inroot_error_alone(ENAMETOOLONG, "ReadLink", use->path);
+    memmove(path, use->path, kept);
+    memcpy(path + kept, text, (size_t)length);
+    path[kept + (size_t)length] = 0;
+    return length;
+}
+
+/* Whether what came in between is to be tried again: it was made, or removed. */
+static bool in_between(ssize_t followed)
+{
+    return followed == -EINVAL || followed == -ENOENT;
+}
+
+/* Opens what is there, or makes it where nothing is, at the end of a link as well, until one or the other holds. */
+static int open_or_create(int root, struct use use)
+{
+    char path[INROOT_TEXT_MAX];
+    for (int tries = 1, links = 0;;) {
+        int fd = open_found(root, &use);
+        if (fd != -ENOENT)
+            return fd;
+        fd = create(root, &use);
+        if (fd != -EEXIST)
+            return fd;
+        ssize_t followed = use.how & O_NOFOLLOW ? -EINVAL : follow(root, &use, path);
+        if (followed < 0 && !in_between(followed))
+            return (int)followed;
+        if (followed > 0 && ++links > LINKS)
+            return inroot_error_alone(ELOOP, "ReadLink", use.path);
+        if (followed > 0)
+            use.path = path;
+        else if (!inroot_again(tries++, use.flags))
+            return inroot_error_alone(EAGAIN, "MakeFile", use.path);
+    }
+}
+
+/* ---- the calls */
+
+static int open_by(int root, const struct use *use)
+{
+    if (!(use->how & O_CREAT))
+        return open_found(root, use);
+    return use->how & O_EXCL ? create(root, use) : open_or_create(root, *use);
+}
+
+int inroot_openat(int root, const char *path, int open_flags, mode_t mode, int flags)
+{
+    int state;
+    const struct use use = {.path = path, .how = open_flags, .flags = flags, .mode = mode};
+    if (!opens(open_flags, mode))
+        return inroot_error_alone(EINVAL, "", path);
+    pthread_setcancelstate(PTHREAD_CANCEL_DISABLE, &state);
+    int result = open_by(root, &use);
+    pthread_setcancelstate(state, NULL);
+    return result;
+}
+
+int inroot_reopen(int fd, int open_flags)
+{
+    int state;
+    if (!reopens(open_flags))
+        return inroot_error_alone(EINVAL, "", "");
+    if (fcntl(fd, F_GETFD) < 0)
+        return inroot_error_alone(EBADF, "", "");
+    pthread_setcancelstate(PTHREAD_CANCEL_DISABLE, &state);
+    int result = reopened(fd, open_flags);
+    pthread_setcancelstate(state, NULL);
+    return result < 0 ? inroot_error_alone(-result, "Reopen", "") : result;
+}
+
+int inroot_stat(int root, const char *path, struct stat *about, int flags)
+{
+    int state;
+    const struct use use = {
+        .path = path,
+        .how = flags & INROOT_NOFOLLOW ? O_NOFOLLOW : 0,
+        .flags = flags & ~INROOT_NOFOLLOW,
+    };
+    pthread_setcancelstate(PTHREAD_CANCEL_DISABLE, &state);
+    int fd = find(root, &use);
+    int result = fd;
+    if (fd >= 0) {
+        result = fstat(fd, about) == 0 ? 0 : inroot_error_alone(errno, "Stat", "");
+        close(fd);
+    }
+    pthread_setcancelstate(state, NULL);
+    return result;
+}
