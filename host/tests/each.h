@@ -8,10 +8,39 @@
 #include <fcntl.h>
 #include <sys/stat.h>
 
+/* Opened once more, for use. */
+static int open_again(int root)
+{
+    int fd = inroot_open(root, "a/link/f", 0);
+    int again = fd < 0 ? fd : inroot_reopen(fd, O_RDWR);
+    if (fd >= 0)
+        close(fd);
+    return again;
+}
+
+/* A file without a name, which gets one. */
+static int publish(int root)
+{
+    int fd = inroot_openat(root, "a/link", O_WRONLY | O_TMPFILE, 0600, 0);
+    int failed = fd < 0 ? fd : inroot_link_fd(root, fd, "a/link/new", 0);
+    if (fd >= 0)
+        close(fd);
+    return failed;
+}
+
+static int keep_root(void)
+{
+    struct inroot_root *kept;
+    int failed = inroot_root_open("/", 0, &kept);
+    inroot_root_close(kept);
+    return failed;
+}
+
 /* A call by its number, and what undoes it. */
 static int call(int root, int number)
 {
     char text[64];
+    struct stat about;
     switch (number) {
     case 0: return inroot_open(root, "a/link/../b/./f", 0);
     case 1: return inroot_open(root, "a/b/none", 0);
@@ -23,21 +52,38 @@ static int call(int root, int number)
     case 7: return inroot_unlink(root, "a/b/g", 0);
     case 8: return inroot_rmdir(root, "a/b/e", 0);
     case 9: return inroot_mkdir_all(root, "a/link/new/er", 0755, 0);
+    case 10: return inroot_openat(root, "a/link/f", O_RDWR | O_TRUNC, 0, 0);
+    case 11: return inroot_openat(root, "a/link/new", O_WRONLY | O_CREAT, 0600, 0);
+    case 12: return inroot_openat(root, "a/link/new", O_WRONLY | O_CREAT | O_EXCL, 0600, 0);
+    case 13: return inroot_openat(root, "a/dangling", O_WRONLY | O_CREAT, 0600, 0);
+    case 14: return open_again(root);
+    case 15: return inroot_mknod(root, "a/link/new", S_IFIFO | 0600, 0, 0);
+    case 16: return inroot_link(root, "a/link/f", "a/newlink", 0);
+    case 17: return inroot_link(root, "a/link", "a/newlink", 0);
+    case 18: return inroot_stat(root, "a/link/f", &about, 0);
+    case 19: return publish(root);
+    case 20: return keep_root();
     default: return (int)inroot_remove_all(root, "a/b", 0);
     }
 }
 
-enum { CALLS = 11 };
+enum { CALLS = 22 };
+
+static bool opens(int number)
+{
+    return number < 2 || (number >= 9 && number <= 14);
+}
 
 static void restore(int root, int result, int number)
 {
-    if ((number < 2 || number == 9) && result >= 0)
+    if (opens(number) && result >= 0)
         close(result);
     mkdirat(root, "a/b", 0755);
     mknodat(root, "a/b/f", S_IFREG | 0600, 0);
     unlinkat(root, "a/b/new/er", AT_REMOVEDIR);
     unlinkat(root, "a/b/new", AT_REMOVEDIR);
     unlinkat(root, "a/b/new", 0);
+    unlinkat(root, "a/b/gone", 0);
     unlinkat(root, "a/b/newdir", AT_REMOVEDIR);
     unlinkat(root, "a/newlink", 0);
     renameat(root, "a/g", root, "a/b/f");
@@ -59,6 +105,7 @@ static void make_tree(int root)
     sure(mkdirat(root, "a/b", 0755), "a/b");
     sure(mknodat(root, "a/b/f", S_IFREG | 0600, 0), "a/b/f");
     sure(symlinkat("/a/../a/b", root, "a/link"), "a/link");
+    sure(symlinkat("../a/b/gone", root, "a/dangling"), "a/dangling");
     restore(root, -1, CALLS);
 }
 

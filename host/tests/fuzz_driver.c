@@ -98,6 +98,7 @@ WRAP(int, mkdirat, (int dir, const char *name, mode_t mode), (dir, name, mode))
 WRAP(int, mknodat, (int dir, const char *name, mode_t mode, dev_t dev), (dir, name, mode, dev))
 WRAP(int, symlinkat, (const char *text, int dir, const char *name), (text, dir, name))
 WRAP(int, unlinkat, (int dir, const char *name, int flags), (dir, name, flags))
+WRAP(int, linkat, (int from, const char *old, int to, const char *new, int flags), (from, old, to, new, flags))
 
 int __real_openat(int dir, const char *name, int flags, ...);
 int __wrap_openat(int dir, const char *name, int flags, ...);
@@ -118,7 +119,7 @@ int __wrap_openat(int dir, const char *name, int flags, ...)
 {
     va_list more;
     va_start(more, flags);
-    mode_t mode = flags & O_CREAT ? va_arg(more, mode_t) : 0;
+    mode_t mode = flags & O_CREAT || (flags & O_TMPFILE) == O_TMPFILE ? va_arg(more, mode_t) : 0;
     va_end(more);
     int error = fails();
     if (error == 0)
@@ -261,9 +262,20 @@ static void path(char *text, const uint8_t **at, size_t *left)
     }
 }
 
+/* What is opened for use: of a FIFO there is none here, which could make it wait. */
+static int open_for_use(int at, unsigned how, int flags)
+{
+    static const int ways[] = {O_RDONLY, O_RDWR, O_WRONLY | O_CREAT, O_RDWR | O_CREAT | O_EXCL, O_RDWR | O_CREAT | O_NOFOLLOW,
+                               O_RDWR | O_TMPFILE, O_PATH | O_NOFOLLOW, O_RDONLY | O_DIRECTORY};
+    int way = ways[how % 8];
+    bool makes = way & O_CREAT || (way & O_TMPFILE) == O_TMPFILE;
+    return inroot_openat(at, asked.first, way | (makes ? O_NONBLOCK : 0), makes ? 0600 : 0, flags);
+}
+
 static void call(void)
 {
     char text[64];
+    struct stat about;
     int at = asked.root;
     unsigned flags = asked.flags & 3;
     plan.armed = true;
@@ -277,7 +289,11 @@ static void call(void)
     case 6: asked.result = inroot_rmdir(at, asked.first, (int)flags); break;
     case 7: asked.result = inroot_rename(at, asked.first, asked.second, (int)asked.mode % 3, (int)flags); break;
     case 8: asked.result = inroot_mkdir_all(at, asked.first, 0755, (int)flags); break;
-    default: asked.result = inroot_remove_all(at, asked.first, (int)flags);
+    case 9: asked.result = inroot_remove_all(at, asked.first, (int)flags); break;
+    case 10: asked.result = open_for_use(at, asked.mode, (int)flags); break;
+    case 11: asked.result = inroot_mknod(at, asked.first, S_IFREG | 0600, 0, (int)flags); break;
+    case 12: asked.result = inroot_link(at, asked.first, asked.second, (int)(flags | (asked.flags & 4 ? INROOT_FOLLOW : 0))); break;
+    default: asked.result = inroot_stat(at, asked.first, &about, (int)(flags | (asked.flags & 4)));
     }
     plan.armed = false;
 }
@@ -332,7 +348,8 @@ int LLVMFuzzerTestOneInput(const uint8_t *data, size_t size)
     }
     make_tree();
     unsigned who = byte(&data, &size);
-    asked.op = byte(&data, &size) % 10;
+    unsigned op = byte(&data, &size);
+    asked.op = op < 200 ? op % 10 : 10 + op % 4;
     asked.flags = byte(&data, &size);
     asked.mode = asked.flags / 8;
     path(asked.first, &data, &size);
@@ -347,7 +364,7 @@ int LLVMFuzzerTestOneInput(const uint8_t *data, size_t size)
     } else {
         call();
     }
-    bool opens = (asked.op == 0 || asked.op == 8) && asked.result >= 0;
+    bool opens = (asked.op == 0 || asked.op == 8 || asked.op == 10) && asked.result >= 0;
     MUST(opened_by_call == opens);
     if (opens) {
         MUST(fstat((int)asked.result, &about) == 0 && about.st_ino != secret.st_ino);

@@ -1,0 +1,232 @@
+/*
+ * use_race: files are opened, made, linked and told of below a directory that another thread exchanges for a link that leads out
+ * of the root. What is read is never what is outside, and nothing outside is made, written or linked.
+ *
+ * usage: use_race DIR SECONDS. Exits 0 where that holds, and a walk without checks was led out. 78: no right to change a root.
+ */
+#define _GNU_SOURCE
+#include "support.h"
+
+#include <errno.h>
+#include <limits.h>
+#include <pthread.h>
+#include <stdatomic.h>
+#include <string.h>
+#include <sys/stat.h>
+#include <sys/syscall.h>
+
+static int base, root;
+static char outside[PATH_MAX + 8];
+static atomic_bool stop;
+static atomic_ulong swaps;
+static struct stat secret;
+
+enum { DOINGS = 7 };
+
+struct worker {
+    const char *name;
+    bool jailed;
+    unsigned long done[DOINGS], failed, escaped;
+};
+
+static bool is_secret(int fd)
+{
+    struct stat about;
+    return fstat(fd, &about) == 0 && about.st_ino == secret.st_ino && about.st_dev == secret.st_dev;
+}
+
+static int read_it(int at, struct worker *me)
+{
+    char text[16];
+    int fd = inroot_openat(at, "x/d/f", O_RDONLY, 0, 0);
+    if (fd < 0)
+        return fd;
+    ssize_t length = read(fd, text, sizeof text);
+    me->escaped += length != 6 || memcmp(text, "inside", 6) != 0;
+    return fd;
+}
+
+static int write_it(int at, struct worker *me, int how)
+{
+    int fd = inroot_openat(at, "x/d/new", O_WRONLY | O_CREAT | how, 0600, 0);
+    if (fd == -EEXIST)
+        inroot_unlink(at, "x/d/new", 0);
+    if (fd < 0)
+        return fd;
+    me->escaped += is_secret(fd) || write(fd, "new", 3) != 3;
+    inroot_unlink(at, "x/d/new", 0);
+    return fd;
+}
+
+static int publish(int at)
+{
+    int fd = inroot_openat(at, "x/d", O_WRONLY | O_TMPFILE, 0600, 0);
+    int failed = fd < 0 ? fd : inroot_link_fd(at, fd, "x/d/whole", 0);
+    if (fd >= 0)
+        close(fd);
+    if (failed == 0 || failed == -EEXIST)
+        inroot_unlink(at, "x/d/whole", 0);
+    return failed;
+}
+
+static int link_it(int at, struct worker *me)
+{
+    struct stat about;
+    int failed = inroot_link(at, "x/d/f", "x/second", 0);
+    if (failed == -EEXIST)
+        inroot_unlink(at, "x/second", 0);
+    if (failed == 0) {
+        me->escaped += inroot_stat(at, "x/second", &about, 0) == 0 && about.st_ino == secret.st_ino;
+        inroot_unlink(at, "x/second", 0);
+    }
+    return failed;
+}
+
+static int tell(int at, struct worker *me)
+{
+    struct stat about;
+    int failed = inroot_stat(at, "x/d/f", &about, 0);
+    me->escaped += failed == 0 && about.st_ino == secret.st_ino;
+    return failed;
+}
+
+static int make_node(int at)
+{
+    int failed = inroot_mknod(at, "x/d/node", S_IFIFO | 0600, 0, 0);
+    if (failed == 0 || failed == -EEXIST)
+        inroot_unlink(at, "x/d/node", 0);
+    return failed;
+}
+
+static int doing(int which, int at, struct worker *me)
+{
+    switch (which) {
+    case 0: return read_it(at, me);
+    case 1: return write_it(at, me, 0);
+    case 2: return write_it(at, me, O_EXCL);
+    case 3: return publish(at);
+    case 4: return link_it(at, me);
+    case 5: return tell(at, me);
+    default: return make_node(at);
+    }
+}
+
+static void *work(void *self)
+{
+    struct worker *me = self;
+    int at = root;
+    if (me->jailed) {
+        errno = -inroot_jail(root);
+        sure(-errno, "inroot_jail");
+        at = INROOT_JAIL;
+    }
+    for (int which = 0; !stop; which = (which + 1) % DOINGS) {
+        int result = doing(which, at, me);
+        me->done[which] += result >= 0;
+        me->failed += result < 0;
+        if (result > 0)
+            close(result);
+    }
+    inroot_jail_done();
+    return NULL;
+}
+
+/* Puts a link that leads out in the place of the directory, and back. It follows no link itself. */
+static void *swap(void *self)
+{
+    int dir = sure(openat(root, "x", O_PATH | O_DIRECTORY | O_CLOEXEC), "x");
+    while (!stop) {
+        syscall(SYS_renameat2, dir, "d", root, "link", RENAME_EXCHANGE);
+        syscall(SYS_renameat2, dir, "d", root, "link", RENAME_EXCHANGE);
+        swaps++;
+    }
+    close(dir);
+    return self;
+}
+
+/* What leads a program out that checks nothing. */
+static void *walk_unchecked(void *count)
+{
+    while (!stop) {
+        int fd = openat(root, "x/d/f", O_RDONLY | O_CLOEXEC);
+        if (fd >= 0) {
+            *(unsigned long *)count += is_secret(fd);
+            close(fd);
+        }
+    }
+    return NULL;
+}
+
+static void write_file(const char *name, const char *text)
+{
+    int fd = sure(openat(base, name, O_WRONLY | O_CREAT | O_CLOEXEC, 0600), name);
+    sure((int)write(fd, text, strlen(text)), name);
+    close(fd);
+}
+
+/* Everything outside is as it was: a directory with one file, which has its text and no second name. */
+static bool is_untouched(void)
+{
+    struct stat about, file;
+    char text[16];
+    int fd = sure(openat(base, "out/f", O_RDONLY | O_CLOEXEC), "out/f");
+    bool same = read(fd, text, sizeof text) == 7 && memcmp(text, "outside", 7) == 0;
+    sure(fstat(fd, &file), "out/f");
+    close(fd);
+    sure(fstatat(base, "out", &about, 0), "out");
+    return same && file.st_nlink == 1 && file.st_ino == secret.st_ino && unlinkat(base, "out/f", 0) == 0 &&
+           unlinkat(base, "out", AT_REMOVEDIR) == 0;
+}
+
+static void begin(const char *dir)
+{
+    static const char *const dirs[] = {"root", "root/x", "root/x/d", "out"};
+    base = sure(open(dir, O_PATH | O_DIRECTORY | O_CLOEXEC), dir);
+    if (!may_jail(base))
+        exit(NO_RIGHT);
+    if (realpath(dir, outside) == NULL)
+        exit(1);
+    strcat(outside, "/out");
+    for (size_t one = 0; one < sizeof dirs / sizeof *dirs; one++)
+        sure(mkdirat(base, dirs[one], 0755), dirs[one]);
+    write_file("root/x/d/f", "inside");
+    write_file("out/f", "outside");
+    sure(fstatat(base, "out/f", &secret, 0), "out/f");
+    root = sure(openat(base, "root", O_PATH | O_DIRECTORY | O_CLOEXEC), "root");
+    sure(symlinkat(outside, root, "link"), "link");
+    open_proc();
+}
+
+int main(int count, char **words)
+{
+    struct worker workers[] = {{.name = "in a jail", .jailed = true}, {.name = "by /proc"}};
+    pthread_t swapper, threads[2], unchecked;
+    unsigned long led_out = 0;
+    if (count != 3)
+        return 2;
+    begin(words[1]);
+    int before = open_descriptors();
+    pthread_create(&swapper, NULL, swap, NULL);
+    pthread_create(&unchecked, NULL, walk_unchecked, &led_out);
+    for (int one = 0; one < 2; one++)
+        pthread_create(&threads[one], NULL, work, &workers[one]);
+    sleep((unsigned)atoi(words[2]));
+    stop = true;
+    pthread_join(swapper, NULL);
+    pthread_join(unchecked, NULL);
+    for (int one = 0; one < 2; one++) {
+        struct worker *me = &workers[one];
+        pthread_join(threads[one], NULL);
+        printf("use_race: %s: read %lu, wrote %lu and %lu, named %lu, linked %lu, told %lu, nodes %lu, failed %lu; escaped %lu\n",
+               me->name, me->done[0], me->done[1], me->done[2], me->done[3], me->done[4], me->done[5], me->done[6], me->failed,
+               me->escaped);
+        expect(me->escaped == 0, "nothing escapes");
+        for (int which = 0; which < DOINGS; which++)
+            expect(me->done[which] > 0, "doing %d succeeded sometimes", which);
+    }
+    int left = open_descriptors() - before;
+    bool untouched = is_untouched();
+    printf("use_race: %lu swaps, a walk without checks was led out %lu times, what is outside is %s, %d descriptors left open\n",
+           (unsigned long)swaps, led_out, untouched ? "untouched" : "CHANGED", left);
+    return wrong != 0 || !untouched || left != 0 || led_out == 0;
+}
