@@ -1,6 +1,7 @@
 /*
  * ahead.c: the text of the path that is still to be walked, where each link that was followed is replaced by its text. It
- * is kept beside the proved call, which has its own: what is thought here decides nothing that the call tells.
+ * is kept beside the proved call, which has its own. What is thought here tells which names may be passed by one system call
+ * (runs.c), and what was left where a call failed. It decides nothing that the call tells.
  */
 #include "driver.h"
 
@@ -17,33 +18,63 @@ static size_t directory_part(const char *path)
     return length;
 }
 
-void inroot_ahead_begin(struct inroot_ahead *a, const struct inroot_request *asked)
+static bool walks_whole(enum inroot_op op)
 {
-    size_t length = strlen(asked->first);
-    a->at = a->end = a->until = 0;
-    a->known = length < INROOT_TEXT_MAX && asked->op != INROOT_ASK_RENAME && asked->op != INROOT_ASK_REMOVE_ALL;
-    if (!a->known)
-        return;
-    memcpy(a->text, asked->first, length);
-    a->end = a->until = length;
-    if (asked->op != INROOT_ASK_RESOLVE && asked->op != INROOT_ASK_RESOLVE_NOFOLLOW && asked->op != INROOT_ASK_READLINK &&
-        asked->op != INROOT_ASK_MKDIR_ALL)
-        a->until = directory_part(asked->first);
+    return op == INROOT_ASK_RESOLVE || op == INROOT_ASK_RESOLVE_NOFOLLOW || op == INROOT_ASK_READLINK ||
+           op == INROOT_ASK_MKDIR_ALL;
 }
 
-/* How long the part is that begins there. */
-static size_t part_at(const struct inroot_ahead *a, size_t at)
+static void take(struct inroot_ahead *a, const char *path)
+{
+    size_t length = strlen(path);
+    a->at = a->end = a->until = 0;
+    a->bad = 0;
+    a->known = length < INROOT_TEXT_MAX;
+    if (!a->known)
+        return;
+    memcpy(a->text, path, length);
+    a->end = length;
+    a->until = a->whole ? length : directory_part(path);
+}
+
+void inroot_ahead_begin(struct inroot_ahead *a, const struct inroot_request *asked)
+{
+    a->whole = walks_whole(asked->op);
+    a->directory = asked->op == INROOT_ASK_MKDIR_ALL;
+    a->link_may_end = asked->op == INROOT_ASK_RESOLVE_NOFOLLOW || asked->op == INROOT_ASK_READLINK;
+    a->begun = a->from_top = a->makes = false;
+    a->has_second = asked->op == INROOT_ASK_RENAME && strlen(asked->second) < sizeof a->second;
+    if (a->has_second)
+        memcpy(a->second, asked->second, strlen(asked->second) + 1);
+    take(a, asked->first);
+}
+
+void inroot_ahead_dup(struct inroot_ahead *a)
+{
+    bool walks_again = a->begun && !a->from_top;
+    a->begun = true;
+    a->from_top = false;
+    if (!walks_again)
+        return;
+    if (a->has_second)
+        take(a, a->second);
+    else
+        a->known = false;
+    a->has_second = false;
+}
+
+size_t inroot_ahead_part(const struct inroot_ahead *a, size_t at)
 {
     const char *slash = memchr(a->text + at, '/', a->end - at);
     return slash == NULL ? a->end - at : (size_t)(slash - a->text) - at;
 }
 
-static bool is_plain(const char *name, size_t length)
+bool inroot_ahead_dots(const struct inroot_ahead *a, size_t at, size_t length)
 {
-    return length > 0 && !(name[0] == '.' && (length == 1 || (length == 2 && name[1] == '.')));
+    return length > 0 && length <= 2 && memcmp(a->text + at, "..", length) == 0;
 }
 
-static size_t skip_slashes(const struct inroot_ahead *a, size_t at)
+size_t inroot_ahead_skip(const struct inroot_ahead *a, size_t at)
 {
     while (at < a->end && a->text[at] == '/')
         at++;
@@ -53,17 +84,22 @@ static size_t skip_slashes(const struct inroot_ahead *a, size_t at)
 /* Where the next name begins that is neither `.` nor `..`, or the end. */
 static size_t next_name(const struct inroot_ahead *a)
 {
-    size_t at = skip_slashes(a, a->at);
-    for (size_t length; (length = part_at(a, at)) > 0 && !is_plain(a->text + at, length);)
-        at = skip_slashes(a, at + length);
+    size_t at = inroot_ahead_skip(a, a->at);
+    for (size_t length; (length = inroot_ahead_part(a, at)) > 0 && inroot_ahead_dots(a, at, length);)
+        at = inroot_ahead_skip(a, at + length);
     return at;
+}
+
+bool inroot_ahead_has_name(const struct inroot_ahead *a)
+{
+    return a->known && (!a->whole || next_name(a) < a->until);
 }
 
 bool inroot_ahead_is(struct inroot_ahead *a, const char *name)
 {
     if (!a->known)
         return false;
-    size_t at = next_name(a), length = part_at(a, at);
+    size_t at = next_name(a), length = inroot_ahead_part(a, at);
     a->known = length > 0 && strlen(name) == length && memcmp(a->text + at, name, length) == 0;
     if (a->known)
         a->at = at;
@@ -72,13 +108,33 @@ bool inroot_ahead_is(struct inroot_ahead *a, const char *name)
 
 void inroot_ahead_pass(struct inroot_ahead *a)
 {
-    if (a->known)
-        a->at += part_at(a, a->at);
+    if (!a->known)
+        return;
+    a->at += inroot_ahead_part(a, a->at);
+    a->bad -= a->bad > 0;
+}
+
+/* Goes behind `..`, where it comes next. */
+void inroot_ahead_pass_up(struct inroot_ahead *a)
+{
+    size_t at = inroot_ahead_skip(a, a->at);
+    while (a->known && inroot_ahead_part(a, at) == 1 && a->text[at] == '.')
+        at = inroot_ahead_skip(a, at + 1);
+    if (a->known && inroot_ahead_part(a, at) == 2 && inroot_ahead_dots(a, at, 2))
+        a->at = at + 2;
+}
+
+void inroot_ahead_make(struct inroot_ahead *a)
+{
+    a->makes = true;
+    a->bad = 0;
 }
 
 void inroot_ahead_put(struct inroot_ahead *a, const char *text, size_t length)
 {
     size_t left = a->end - a->at, until = a->until > a->at ? a->until - a->at : 0;
+    a->bad = 0;
+    a->from_top = length > 0 && text[0] == '/';
     if (!a->known || length + left > sizeof a->text) {
         a->known = false;
         return;
@@ -90,9 +146,14 @@ void inroot_ahead_put(struct inroot_ahead *a, const char *text, size_t length)
     a->until = length + until;
 }
 
+bool inroot_ahead_is_end(const struct inroot_ahead *a, size_t at)
+{
+    return a->whole && at == a->end;
+}
+
 size_t inroot_ahead_rest(const struct inroot_ahead *a, const char **rest)
 {
-    size_t at = a->known ? skip_slashes(a, a->at) : a->end;
+    size_t at = a->known ? inroot_ahead_skip(a, a->at) : a->end;
     *rest = a->text + at;
     return a->end - at;
 }

@@ -87,7 +87,7 @@ static void begin(struct inroot_driver *d, const struct inroot_request *asked)
     memset(d, 0, offsetof(struct inroot_driver, deepest_name));
     d->asked = asked;
     d->counts = asked->op == INROOT_ASK_REMOVE_ALL;
-    d->proc = d->deepest = d->made = INROOT_NONE;
+    d->proc = d->deepest = d->made = d->run.fd = INROOT_NONE;
     d->step_name[0] = 0;
     inroot_ahead_begin(&d->ahead, asked);
 }
@@ -97,6 +97,7 @@ ssize_t inroot_once(struct inroot_driver *d, int root, const struct inroot_reque
     bool jailed = root == INROOT_JAIL;
     begin(d, asked);
     ssize_t result = converse(d, jailed ? INROOT_JAILED : root, asked, room);
+    inroot_run_drop(d);
     inroot_handles_end(d);
     inroot_proc_end(d);
     free(d->names);

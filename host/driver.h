@@ -27,8 +27,11 @@ struct inroot_identity {
 /* How a handle's object was come to. */
 enum inroot_way { INROOT_BY_ROOT, INROOT_BY_NAME, INROOT_BY_PARENT };
 
-/* In place of a descriptor: one that was let go and can be opened again; the root of a jail, which needs none; none. */
-enum { INROOT_AWAY = -2, INROOT_JAILED = -3, INROOT_NONE = -1 };
+/*
+ * In place of a descriptor: one that was let go and can be opened again; the root of a jail, which needs none; a directory that
+ * was passed with others by one system call; none.
+ */
+enum { INROOT_AWAY = -2, INROOT_JAILED = -3, INROOT_PASSED = -4, INROOT_NONE = -1 };
 
 /* What a handle of the proved call stands for. */
 struct inroot_slot {
@@ -37,6 +40,7 @@ struct inroot_slot {
     int32_t above;                 /* while a tree is removed: the slot of the directory it was opened in */
     uint32_t depth, listed;        /* below the first such directory; how many bytes of names the call holds for it */
     uint8_t way, kind;
+    bool is_shared;                /* the descriptor is the caller's */
     struct inroot_identity who;    /* once it was let go */
 };
 
@@ -57,9 +61,22 @@ struct inroot_request {
 
 /* What of a path is still to be walked: from `at` to `end`; beyond `until` is the last name, which no step opens. */
 struct inroot_ahead {
-    bool known;
+    bool known, whole;             /* `until` is the end */
+    bool directory, link_may_end;  /* what the path means is a directory; is a link, where it ends in one */
+    bool begun, from_top;          /* the first walk is under way; a link's text begins with a slash */
+    bool makes;                    /* what is left is being made */
+    int bad;                       /* so many names were not passed by one system call, where it isn't zero */
+    bool has_second;               /* another walk is to come, of a path of its own */
     size_t at, end, until;
-    char text[2 * PATH_MAX];
+    char text[2 * PATH_MAX], second[PATH_MAX];
+};
+
+/* Names that one system call passed: its descriptor, of the last of them or of the directory above, and what is to be told. */
+struct inroot_run {
+    int fd, left;
+    bool up;
+    enum inroot_kind kind;
+    uint64_t at;                   /* the handle from which it goes on */
 };
 
 /* The slots that serve a call with few handles. */
@@ -84,6 +101,7 @@ struct inroot_driver {
     size_t names_length;
     size_t listed;                 /* bytes of names that the call holds */
     int made;                      /* the file that was made and opened, or none */
+    struct inroot_run run;
     uint8_t step;                  /* the last one that was told, but for Close, or none; and the name it was about */
     int deepest;                   /* where too_deep: the directory, and the entry in it */
     /* What follows isn't cleared as a call begins. */
@@ -105,20 +123,46 @@ struct inroot_slot *inroot_handles_slot(struct inroot_driver *d, uint64_t handle
 /* Its descriptor, opened again where it was let go. Gives 0 or an error's number. */
 int inroot_handles_fd(struct inroot_driver *d, uint64_t handle, int *fd);
 void inroot_handles_close(struct inroot_driver *d, uint64_t handle);
-/* Takes the descriptor out of a handle, for the caller to keep. */
+/* A second handle on the root, by the same descriptor. */
+uint64_t inroot_handles_share(struct inroot_driver *d, uint64_t root);
+/* Takes the descriptor out of a handle, for the caller to keep. Gives it or -errno. */
 int inroot_handles_take(struct inroot_driver *d, uint64_t handle);
 /* Lets one directory above this one go, where one can be. */
 bool inroot_handles_spare(struct inroot_driver *d, uint64_t handle);
 
 /* ahead.c */
 void inroot_ahead_begin(struct inroot_ahead *a, const struct inroot_request *asked);
-/* Whether the next name is this one; and goes behind it. */
+/* A walk begins at the root, or goes on there. */
+void inroot_ahead_dup(struct inroot_ahead *a);
+/* Whether the next name is this one; and goes behind it; and behind `..`, where that is next. */
 bool inroot_ahead_is(struct inroot_ahead *a, const char *name);
 void inroot_ahead_pass(struct inroot_ahead *a);
+void inroot_ahead_pass_up(struct inroot_ahead *a);
+/* A directory is made: what is behind it isn't there. */
+void inroot_ahead_make(struct inroot_ahead *a);
+/* Whether the walk doesn't end where it stands: at the root, if that is where it stands. */
+bool inroot_ahead_has_name(const struct inroot_ahead *a);
+/* The length of the part that begins there; where the next one begins; whether it is `.` or `..`; whether the path ends there. */
+size_t inroot_ahead_part(const struct inroot_ahead *a, size_t at);
+size_t inroot_ahead_skip(const struct inroot_ahead *a, size_t at);
+bool inroot_ahead_dots(const struct inroot_ahead *a, size_t at, size_t length);
+bool inroot_ahead_is_end(const struct inroot_ahead *a, size_t at);
 /* Puts a link's text before what is left. */
 void inroot_ahead_put(struct inroot_ahead *a, const char *text, size_t length);
 /* What is left, and how long it is. */
 size_t inroot_ahead_rest(const struct inroot_ahead *a, const char **rest);
+
+/* runs.c */
+/*
+ * Answers the Open of the next name of the path, with names behind it if it can: of the run that is under way, or from this
+ * directory. False where a single open is to be made.
+ */
+bool inroot_run_name(struct inroot_driver *d, uint64_t handle, int dir, bool from_root, struct inroot_answered *answered);
+/* Whether this is the step that comes next in the run under way, but for its name. */
+bool inroot_run_goes_on(const struct inroot_driver *d, const struct inroot_told *step);
+/* Answers the Parent with which it ends. */
+struct inroot_answered inroot_run_up(struct inroot_driver *d, uint64_t child);
+void inroot_run_drop(struct inroot_driver *d);
 
 /* error.c */
 /* Keeps why a call failed: in this driver; or by itself, where it gives -error. */

@@ -34,11 +34,12 @@ int inroot_error_alone(int error, const char *step, const char *rest)
 void inroot_error_of(const struct inroot_driver *d, int error)
 {
     const char *rest;
+    bool is_one = d->asked->op != INROOT_ASK_RENAME && d->asked->op != INROOT_ASK_REMOVE_ALL;
     size_t length = inroot_ahead_rest(&d->ahead, &rest);
     last.error = error;
     last.step = steps[d->step <= INROOT_STEP_RENAME ? d->step : 0];
     keep(last.name, sizeof last.name, d->step_name, strlen(d->step_name));
-    keep(last.rest, sizeof last.rest, rest, length);
+    keep(last.rest, sizeof last.rest, rest, is_one ? length : 0);
 }
 
 int inroot_last_error(struct inroot_error *error)

@@ -186,7 +186,8 @@ int inroot_handles_fd(struct inroot_driver *d, uint64_t handle, int *fd)
     if (slot->fd == INROOT_AWAY && slot->lost == 0)
         come_back(d, slot, (int32_t)index_of(handle));
     *fd = slot->fd;
-    return slot->lost;
+    /* To open it by its name could give another directory, so that the step isn't made, as if there were no memory for it. */
+    return slot->fd == INROOT_PASSED ? ENOMEM : slot->lost;
 }
 
 /* A directory by which the one above is to be found again stays open until that one's turn, or the next Close. */
@@ -194,6 +195,8 @@ void inroot_handles_close(struct inroot_driver *d, uint64_t handle)
 {
     struct inroot_slot *slot = inroot_handles_slot(d, handle);
     drop_inner(d);
+    if (slot->is_shared)
+        slot->fd = INROOT_NONE;
     if (slot->above >= 0 && d->slots[slot->above].fd == INROOT_AWAY) {
         d->inner = slot->fd;
         d->inner_above = slot->above;
@@ -206,10 +209,30 @@ void inroot_handles_close(struct inroot_driver *d, uint64_t handle)
     d->free = (int32_t)index_of(handle);
 }
 
+uint64_t inroot_handles_share(struct inroot_driver *d, uint64_t root)
+{
+    int fd = inroot_handles_slot(d, root)->fd;
+    uint64_t handle = inroot_handles_put(d, fd, INROOT_KIND_DIR, INROOT_BY_ROOT, root);
+    inroot_handles_slot(d, handle)->is_shared = true;
+    return handle;
+}
+
+/* A descriptor of the root's directory that shares nothing with the caller's. */
+static int open_shared(int root)
+{
+    int fd;
+    do
+        fd = openat(root, root == INROOT_JAILED ? "/" : ".", O_PATH | O_DIRECTORY | O_CLOEXEC);
+    while (fd < 0 && errno == EINTR);
+    return fd < 0 ? -errno : fd;
+}
+
 int inroot_handles_take(struct inroot_driver *d, uint64_t handle)
 {
     struct inroot_slot *slot = inroot_handles_slot(d, handle);
     int fd = slot->fd;
     slot->fd = INROOT_NONE;
-    return fd;
+    if (slot->is_shared)
+        return open_shared(fd);
+    return fd >= 0 ? fd : -ENOMEM;
 }

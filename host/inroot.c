@@ -11,7 +11,7 @@ enum { MODE_BITS = 07777 };
 
 int inroot_check(int root, int flags)
 {
-    if (flags & ~(INROOT_BENEATH | INROOT_NO_LINKS | INROOT_NO_RETRY))
+    if (flags & ~(INROOT_BENEATH | INROOT_NO_LINKS | INROOT_NO_RETRY | INROOT_ONE_BY_ONE))
         return -EINVAL;
     return root == INROOT_JAIL ? (inroot_is_jailed() ? 0 : -EBADF) : root < 0 ? -EBADF : 0;
 }

@@ -17,11 +17,12 @@
  *
  * FLAGS are 0 or any of these together:
  *
- *   INROOT_BENEATH   refuses what would lead out of the root (RESOLVE_BENEATH)
- *   INROOT_NO_LINKS  refuses every symbolic link on the way (RESOLVE_NO_SYMLINKS)
- *   INROOT_NO_RETRY  makes one try
- *   INROOT_NOFOLLOW  of inroot_open() and inroot_stat() alone: a link at the end of PATH is what is meant (O_NOFOLLOW)
- *   INROOT_FOLLOW    of inroot_link() alone: a link at the end of EXISTING is followed (AT_SYMLINK_FOLLOW)
+ *   INROOT_BENEATH     refuses what would lead out of the root (RESOLVE_BENEATH)
+ *   INROOT_NO_LINKS    refuses every symbolic link on the way (RESOLVE_NO_SYMLINKS)
+ *   INROOT_NO_RETRY    makes one try
+ *   INROOT_ONE_BY_ONE  looks up each name by a system call of its own, and not several by one openat2(2)
+ *   INROOT_NOFOLLOW    of inroot_open() and inroot_stat() alone: a link at the end of PATH is what is meant
+ *   INROOT_FOLLOW      of inroot_link() alone: a link at the end of EXISTING is followed (AT_SYMLINK_FOLLOW)
  *
  * MODE is what the kernel takes for a new entry, less the umask: bits of 07777. The kernel may drop some, as
  * mkdirat(2) does with those for set-user-ID.
@@ -86,6 +87,7 @@ enum {
     INROOT_NOFOLLOW = 4,
     INROOT_NO_RETRY = 8,
     INROOT_FOLLOW = 16,
+    INROOT_ONE_BY_ONE = 32,
 };
 
 /* How often a call is tried, where others are in its way. */

@@ -91,21 +91,11 @@ static bool is_too_deep(struct inroot_driver *d, uint64_t dir, const struct entr
     return true;
 }
 
-/*
- * A directory is told by being opened as one. Anything else gives ENOTDIR, a link as well, and is opened by a second call,
- * whose answer alone is the step's: what is neither a directory nor a link is a file.
- */
-static struct inroot_answered open_name(struct inroot_driver *d, uint64_t dir, const struct entry *entry)
+/* What is opened as it is; what is neither a directory nor a link is a file. */
+static struct inroot_answered open_any(struct inroot_driver *d, uint64_t dir, const struct entry *entry)
 {
     struct stat about;
-    if (is_too_deep(d, dir, entry) || !inroot_handles_reserve(d))
-        return inroot_refused(d, ENOMEM);
-    int fd = open_path(d, dir, entry, O_DIRECTORY);
-    if (fd >= 0)
-        return opened(d, fd, INROOT_KIND_DIR, INROOT_BY_NAME, dir);
-    if (errno != ENOTDIR)
-        return inroot_refused(d, errno);
-    fd = open_path(d, dir, entry, 0);
+    int fd = open_path(d, dir, entry, 0);
     if (fd < 0)
         return inroot_refused(d, errno);
     if (fstat(fd, &about) != 0) {
@@ -117,16 +107,49 @@ static struct inroot_answered open_name(struct inroot_driver *d, uint64_t dir, c
     return opened(d, fd, S_ISDIR(about.st_mode) ? INROOT_KIND_DIR : other, INROOT_BY_NAME, dir);
 }
 
+/*
+ * A directory is told by being opened as one. Anything else gives ENOTDIR, a link as well, and is opened by a second call,
+ * whose answer alone is the step's.
+ */
+static struct inroot_answered open_name(struct inroot_driver *d, uint64_t dir, const struct entry *entry, bool is_expected)
+{
+    if (is_too_deep(d, dir, entry) || !inroot_handles_reserve(d))
+        return inroot_refused(d, ENOMEM);
+    if (!is_expected)
+        return open_any(d, dir, entry);
+    int fd = open_path(d, dir, entry, O_DIRECTORY);
+    if (fd >= 0)
+        return opened(d, fd, INROOT_KIND_DIR, INROOT_BY_NAME, dir);
+    return errno == ENOTDIR ? open_any(d, dir, entry) : inroot_refused(d, errno);
+}
+
+/* Whether a directory is expected there: not where the path ends, nor where one was not. */
+static bool expects_directory(const struct inroot_ahead *a)
+{
+    if (!a->known)
+        return true;
+    return a->bad != 1 && (a->directory || !inroot_ahead_is_end(a, a->at + inroot_ahead_part(a, a->at)));
+}
+
+/* The next name of the path, by a run of names or alone; or another one. */
 static struct inroot_answered open_next(struct inroot_driver *d, uint64_t dir, const char *name, const struct entry *entry)
 {
+    struct inroot_answered answered;
     bool foreseen = inroot_ahead_is(&d->ahead, name);
-    struct inroot_answered answered = open_name(d, dir, entry);
+    if (!foreseen)
+        inroot_run_drop(d);
+    else if (inroot_run_name(d, dir, entry->dir, entry->name == entry->from_root, &answered))
+        return answered;
+    answered = open_name(d, dir, entry, expects_directory(&d->ahead));
     if (foreseen && answered.what == INROOT_ANSWER_OPENED)
         inroot_ahead_pass(&d->ahead);
     return answered;
 }
 
-/* A handle of its own, which shares nothing with the caller's descriptor but the directory. */
+/*
+ * Where the walk goes on from the root, by the caller's own descriptor. Else by one that shares nothing with it but the
+ * directory, as the call's end gives one that is handed out.
+ */
 static struct inroot_answered open_root(struct inroot_driver *d, uint64_t root)
 {
     struct entry itself;
@@ -135,6 +158,15 @@ static struct inroot_answered open_root(struct inroot_driver *d, uint64_t root)
         return inroot_refused(d, error);
     if (!inroot_handles_reserve(d))
         return inroot_refused(d, ENOMEM);
+    inroot_ahead_dup(&d->ahead);
+    if (inroot_ahead_has_name(&d->ahead)) {
+        uint64_t handle = inroot_handles_share(d, root);
+        /* No system call has seen whether the root is one. */
+        d->steps--;
+        return (struct inroot_answered){
+            .what = INROOT_ANSWER_OPENED, .handle = handle, .node = handle, .kind = INROOT_KIND_DIR,
+        };
+    }
     int fd = open_path(d, root, &itself, O_DIRECTORY);
     return fd < 0 ? inroot_refused(d, errno) : opened(d, fd, INROOT_KIND_DIR, INROOT_BY_ROOT, root);
 }
@@ -152,11 +184,33 @@ static struct inroot_answered open_parent(struct inroot_driver *d, uint64_t hand
     int up = open_path(d, handle, &above, O_DIRECTORY);
     if (up < 0)
         return inroot_refused(d, errno);
+    inroot_ahead_pass_up(&d->ahead);
     if (fstat(above.dir, &child) != 0 || child.st_nlink == 0) {
         close(up);
         return inroot_refused(d, ENOENT);
     }
     return opened(d, up, INROOT_KIND_DIR, INROOT_BY_PARENT, handle);
+}
+
+/* The next name of a run, or what isn't foreseen, which can't be opened from a directory that was only passed. */
+static struct inroot_answered open_foreseen(struct inroot_driver *d, uint64_t dir, const char *name)
+{
+    struct inroot_answered answered;
+    if (inroot_ahead_is(&d->ahead, name) && inroot_run_name(d, dir, INROOT_NONE, false, &answered))
+        return answered;
+    inroot_run_drop(d);
+    return inroot_refused(d, ENOMEM);
+}
+
+/* The directory above the last name of a run, with which it ends. */
+static struct inroot_answered go_up(struct inroot_driver *d, uint64_t child)
+{
+    if (!inroot_handles_reserve(d)) {
+        inroot_run_drop(d);
+        return inroot_refused(d, ENOMEM);
+    }
+    inroot_ahead_pass_up(&d->ahead);
+    return inroot_run_up(d, child);
 }
 
 /* ---- other steps */
@@ -241,6 +295,7 @@ static struct inroot_answered on_entry(struct inroot_driver *d, const struct inr
     case INROOT_STEP_OPEN:
         return open_next(d, step->handle, room, &entry);
     case INROOT_STEP_MAKE_DIR:
+        inroot_ahead_make(&d->ahead);
         return done_or(d, mkdirat(entry.dir, entry.name, d->asked->bits));
     case INROOT_STEP_MAKE_FILE:
         return make_file(d, &entry);
@@ -275,11 +330,16 @@ struct inroot_answered inroot_make(struct inroot_driver *d, const struct inroot_
     /* Only a link's text can be too long for the room. */
     if (!step->whole)
         return inroot_refused(d, step->second >= INROOT_TEXT_MAX ? ENAMETOOLONG : ENOMEM);
+    bool goes_on = d->run.fd >= 0 && inroot_run_goes_on(d, step);
+    if (goes_on && step->what == INROOT_STEP_OPEN)
+        return open_foreseen(d, step->handle, room);
+    if (!goes_on && step->what != INROOT_STEP_CLOSE)
+        inroot_run_drop(d);
     switch (step->what) {
     case INROOT_STEP_DUP:
         return open_root(d, step->handle);
     case INROOT_STEP_PARENT:
-        return open_parent(d, step->handle);
+        return goes_on ? go_up(d, step->handle) : open_parent(d, step->handle);
     case INROOT_STEP_READLINK:
         return read_link(d, step->handle, text, length);
     case INROOT_STEP_NAME_BELOW:

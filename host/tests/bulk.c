@@ -41,12 +41,12 @@ static void *work(void *self)
         sure(-errno, "inroot_jail");
         at = INROOT_JAIL;
     }
-    while (!stop) {
-        int fd = inroot_mkdir_all(at, "x/d/e/f", 0755, 0);
+    for (int flags = 0; !stop; flags ^= INROOT_ONE_BY_ONE) {
+        int fd = inroot_mkdir_all(at, "x/d/e/f", 0755, flags);
         me->made += fd >= 0;
         if (fd >= 0)
             close(fd);
-        ssize_t count = inroot_remove_all(at, "x/d", 0);
+        ssize_t count = inroot_remove_all(at, "x/d", flags);
         me->removed += count > 0 ? (unsigned long)count : 0;
         me->failed += (fd < 0) + (count < 0);
     }

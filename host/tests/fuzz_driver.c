@@ -173,9 +173,12 @@ __attribute__((no_sanitize("address"))) long __wrap_syscall(long number, ...)
     if (number == SYS_getdents64 && plan.armed && plan.left > 0 && *plan.at == 0xcf)
         return long_name((char *)with[1]);
     int error = fails();
-    if (error == 0)
-        return __real_syscall(number, with[0], with[1], with[2], with[3], with[4], with[5]);
-    errno = error;
+    if (error == 0) {
+        long result = __real_syscall(number, with[0], with[1], with[2], with[3], with[4], with[5]);
+        return number == SYS_openat2 ? counted((int)result) : result;
+    }
+    /* Else the program would go on without openat2(2) from here on. */
+    errno = number == SYS_openat2 && error == EPERM ? EIO : error;
     return -1;
 }
 
@@ -277,7 +280,7 @@ static void call(void)
     char text[64];
     struct stat about;
     int at = asked.root;
-    unsigned flags = asked.flags & 3;
+    unsigned flags = (asked.flags & 3) | (asked.flags & 0x80 ? INROOT_ONE_BY_ONE : 0);
     plan.armed = true;
     switch (asked.op) {
     case 0: asked.result = inroot_open(at, asked.first, (int)(flags | (asked.flags & 4))); break;

@@ -125,7 +125,8 @@ static void *work(void *self)
         at = INROOT_JAIL;
     }
     while (!stop) {
-        int got = me->work(at, me->flags, &state);
+        /* Both ways of walking, by turns. */
+        int got = me->work(at, me->flags | (pick(&state, 2) ? INROOT_ONE_BY_ONE : 0), &state);
         me->done += got >= 0;
         me->raced += got == -EAGAIN;
         me->failed += got < 0;

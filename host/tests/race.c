@@ -61,6 +61,16 @@ static int by_jail(const char *path)
     return inroot_open(INROOT_JAIL, path, 0);
 }
 
+static int by_proc_singly(const char *path)
+{
+    return inroot_open(root, path, INROOT_ONE_BY_ONE);
+}
+
+static int by_jail_singly(const char *path)
+{
+    return inroot_open(INROOT_JAIL, path, INROOT_ONE_BY_ONE);
+}
+
 static int by_kernel(const char *path)
 {
     struct open_how how = {.flags = O_PATH | O_CLOEXEC, .resolve = RESOLVE_IN_ROOT};
@@ -141,10 +151,12 @@ int main(int count, char **words)
     struct resolver resolvers[] = {
         {.name = "inroot_open in a jail", .resolve = by_jail, .jailed = true},
         {.name = "inroot_open by /proc", .resolve = by_proc},
+        {.name = "inroot_open in a jail, name by name", .resolve = by_jail_singly, .jailed = true},
+        {.name = "inroot_open by /proc, name by name", .resolve = by_proc_singly},
         {.name = "openat2", .resolve = by_kernel},
         {.name = "a walk without a check", .resolve = unchecked},
     };
-    enum { THREADS = sizeof resolvers / sizeof *resolvers };
+    enum { THREADS = sizeof resolvers / sizeof *resolvers, OURS = 4 };
     pthread_t mover, threads[THREADS];
     if (count < 3 || count > 4)
         return 2;
@@ -168,6 +180,8 @@ int main(int count, char **words)
     }
     int left = open_descriptors() - before;
     printf("race: %lu renames, %d descriptors left open\n", (unsigned long)renames, left);
-    bool fooled = resolvers[0].escaped || (resolvers[1].escaped && !swaps);
-    return fooled || resolvers[0].opened == 0 || resolvers[1].opened == 0 || resolvers[3].escaped == 0 || left != 0;
+    bool fooled = false;
+    for (int at = 0; at < OURS; at++)
+        fooled |= resolvers[at].opened == 0 || (resolvers[at].escaped && (resolvers[at].jailed || !swaps));
+    return fooled || resolvers[THREADS - 1].escaped == 0 || left != 0;
 }

@@ -1,6 +1,6 @@
 /*
  * times: how long one resolution takes, by openat2(2), by a plain walk of single openat(2) calls that asks the same
- * questions, and by inroot_open(), in a jail and by /proc. These ways take turns batch by batch, on one processor, so that
+ * questions, and by inroot_open(), in a jail and by /proc, with runs of names and name by name. These ways take turns batch by batch, on one processor, so that
  * what the machine does beside weighs on all of them, and the least of many batches counts. The jail has a thread of its
  * own. One of the two threads waits while the other works, since in a process of several each use of a descriptor costs more.
  *
@@ -47,6 +47,16 @@ static int by_jail(const char *path)
     return inroot_open(INROOT_JAIL, path, 0);
 }
 
+static int by_proc_singly(const char *path)
+{
+    return inroot_open(root, path, INROOT_ONE_BY_ONE);
+}
+
+static int by_jail_singly(const char *path)
+{
+    return inroot_open(INROOT_JAIL, path, INROOT_ONE_BY_ONE);
+}
+
 /* Of names and `..` alone: opens each part, asks for its kind, and after each `..` and at the end where it stands. */
 static int plainly(const char *path)
 {
@@ -90,6 +100,7 @@ static double microseconds(int (*resolve)(const char *), const char *path)
 static struct {
     sem_t asked, answered;
     const char *path;
+    int (*resolve)(const char *path);
     double taken;
 } jail;
 
@@ -105,16 +116,17 @@ static void *stay_in_jail(void *unused)
     sure(-errno, "inroot_jail");
     sem_post(&jail.answered);
     for (await(&jail.asked); jail.path != NULL; await(&jail.asked)) {
-        jail.taken = microseconds(by_jail, jail.path);
+        jail.taken = microseconds(jail.resolve, jail.path);
         sem_post(&jail.answered);
     }
     inroot_jail_done();
     return unused;
 }
 
-static double microseconds_in_jail(const char *path)
+static double microseconds_in_jail(int (*resolve)(const char *), const char *path)
 {
     jail.path = path;
+    jail.resolve = resolve;
     sem_post(&jail.asked);
     await(&jail.answered);
     return jail.taken;
@@ -127,15 +139,17 @@ static void keep_least(double *least, double taken)
 
 static void time_path(const char *path)
 {
-    double open = 1e9, plain = 1e9, jailed = 1e9, proc = 1e9;
+    double open = 1e9, plain = 1e9, jailed = 1e9, proc = 1e9, jailed_singly = 1e9, proc_singly = 1e9;
     for (int batch = 0; batch < BATCHES; batch++) {
         keep_least(&open, microseconds(by_kernel, path));
         keep_least(&plain, microseconds(plainly, path));
-        keep_least(&jailed, microseconds_in_jail(path));
+        keep_least(&jailed, microseconds_in_jail(by_jail, path));
         keep_least(&proc, microseconds(by_proc, path));
+        keep_least(&jailed_singly, microseconds_in_jail(by_jail_singly, path));
+        keep_least(&proc_singly, microseconds(by_proc_singly, path));
     }
-    printf("times: %.24s%s: openat2 %.2f, a plain walk %.2f, in a jail %.2f (%.2f times), by /proc %.2f us\n", path,
-           strlen(path) > 24 ? ".." : "", open, plain, jailed, jailed / plain, proc);
+    printf("times: %.24s%s: openat2 %.2f, a plain walk %.2f, in a jail %.2f (%.2f times), by /proc %.2f; name by name %.2f and %.2f us\n",
+           path, strlen(path) > 24 ? ".." : "", open, plain, jailed, jailed / plain, proc, jailed_singly, proc_singly);
 }
 
 /* This thread and those that it makes, where the system allows it: another processor may be faster or busier. */

@@ -27,6 +27,7 @@ struct worker {
     const char *name;
     bool jailed;
     unsigned long done[DOINGS], failed, escaped;
+    int flags;
 };
 
 static bool is_secret(int fd)
@@ -38,7 +39,7 @@ static bool is_secret(int fd)
 static int read_it(int at, struct worker *me)
 {
     char text[16];
-    int fd = inroot_openat(at, "x/d/f", O_RDONLY, 0, 0);
+    int fd = inroot_openat(at, "x/d/f", O_RDONLY, 0, me->flags);
     if (fd < 0)
         return fd;
     ssize_t length = read(fd, text, sizeof text);
@@ -48,7 +49,7 @@ static int read_it(int at, struct worker *me)
 
 static int write_it(int at, struct worker *me, int how)
 {
-    int fd = inroot_openat(at, "x/d/new", O_WRONLY | O_CREAT | how, 0600, 0);
+    int fd = inroot_openat(at, "x/d/new", O_WRONLY | O_CREAT | how, 0600, me->flags);
     if (fd == -EEXIST)
         inroot_unlink(at, "x/d/new", 0);
     if (fd < 0)
@@ -58,10 +59,10 @@ static int write_it(int at, struct worker *me, int how)
     return fd;
 }
 
-static int publish(int at)
+static int publish(int at, const struct worker *me)
 {
-    int fd = inroot_openat(at, "x/d", O_WRONLY | O_TMPFILE, 0600, 0);
-    int failed = fd < 0 ? fd : inroot_link_fd(at, fd, "x/d/whole", 0);
+    int fd = inroot_openat(at, "x/d", O_WRONLY | O_TMPFILE, 0600, me->flags);
+    int failed = fd < 0 ? fd : inroot_link_fd(at, fd, "x/d/whole", me->flags);
     if (fd >= 0)
         close(fd);
     if (failed == 0 || failed == -EEXIST)
@@ -72,7 +73,7 @@ static int publish(int at)
 static int link_it(int at, struct worker *me)
 {
     struct stat about;
-    int failed = inroot_link(at, "x/d/f", "x/second", 0);
+    int failed = inroot_link(at, "x/d/f", "x/second", me->flags);
     if (failed == -EEXIST)
         inroot_unlink(at, "x/second", 0);
     if (failed == 0) {
@@ -85,14 +86,14 @@ static int link_it(int at, struct worker *me)
 static int tell(int at, struct worker *me)
 {
     struct stat about;
-    int failed = inroot_stat(at, "x/d/f", &about, 0);
+    int failed = inroot_stat(at, "x/d/f", &about, me->flags);
     me->escaped += failed == 0 && about.st_ino == secret.st_ino;
     return failed;
 }
 
-static int make_node(int at)
+static int make_node(int at, const struct worker *me)
 {
-    int failed = inroot_mknod(at, "x/d/node", S_IFIFO | 0600, 0, 0);
+    int failed = inroot_mknod(at, "x/d/node", S_IFIFO | 0600, 0, me->flags);
     if (failed == 0 || failed == -EEXIST)
         inroot_unlink(at, "x/d/node", 0);
     return failed;
@@ -104,10 +105,10 @@ static int doing(int which, int at, struct worker *me)
     case 0: return read_it(at, me);
     case 1: return write_it(at, me, 0);
     case 2: return write_it(at, me, O_EXCL);
-    case 3: return publish(at);
+    case 3: return publish(at, me);
     case 4: return link_it(at, me);
     case 5: return tell(at, me);
-    default: return make_node(at);
+    default: return make_node(at, me);
     }
 }
 
@@ -121,6 +122,8 @@ static void *work(void *self)
         at = INROOT_JAIL;
     }
     for (int which = 0; !stop; which = (which + 1) % DOINGS) {
+        /* Both ways of walking, by turns. */
+        me->flags ^= which == 0 ? INROOT_ONE_BY_ONE : 0;
         int result = doing(which, at, me);
         me->done[which] += result >= 0;
         me->failed += result < 0;

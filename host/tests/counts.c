@@ -1,0 +1,170 @@
+/*
+ * counts: how many system calls a call makes, in a jail and by /proc, with runs of names and name by name. What is opened is
+ * closed by the program, which isn't counted. It is no more than docs/HOST.md has.
+ *
+ * usage: counts DIR. Exits 0 where that holds. 77: no openat2(2) here. 78: no right to change a root. To be linked with --wrap
+ * of each function that is wrapped here.
+ */
+#define _GNU_SOURCE
+#include "support.h"
+
+#include <errno.h>
+#include <linux/openat2.h>
+#include <stdarg.h>
+#include <string.h>
+#include <sys/stat.h>
+#include <sys/syscall.h>
+#include <sys/vfs.h>
+
+static unsigned made;
+
+#define COUNTED(type, name, parameters, arguments)               \
+    type __real_##name parameters;                               \
+    type __wrap_##name parameters;                               \
+    type __wrap_##name parameters                                \
+    {                                                            \
+        made++;                                                  \
+        return __real_##name arguments;                          \
+    }
+
+COUNTED(int, fstat, (int fd, struct stat *about), (fd, about))
+COUNTED(int, fstatfs, (int fd, struct statfs *about), (fd, about))
+COUNTED(int, fchdir, (int fd), (fd))
+COUNTED(int, chdir, (const char *path), (path))
+COUNTED(int, unshare, (int what), (what))
+COUNTED(int, close, (int fd), (fd))
+COUNTED(ssize_t, readlinkat, (int dir, const char *name, char *text, size_t size), (dir, name, text, size))
+COUNTED(int, mkdirat, (int dir, const char *name, mode_t mode), (dir, name, mode))
+COUNTED(int, mknodat, (int dir, const char *name, mode_t mode, dev_t dev), (dir, name, mode, dev))
+COUNTED(int, unlinkat, (int dir, const char *name, int flags), (dir, name, flags))
+
+int __real_openat(int dir, const char *name, int flags, ...);
+int __wrap_openat(int dir, const char *name, int flags, ...);
+long __real_syscall(long number, ...);
+long __wrap_syscall(long number, ...);
+
+int __wrap_openat(int dir, const char *name, int flags, ...)
+{
+    va_list more;
+    va_start(more, flags);
+    mode_t mode = flags & O_CREAT ? va_arg(more, mode_t) : 0;
+    va_end(more);
+    made++;
+    return __real_openat(dir, name, flags, mode);
+}
+
+long __wrap_syscall(long number, ...)
+{
+    long with[5];
+    va_list more;
+    va_start(more, number);
+    for (int at = 0; at < 5; at++)
+        with[at] = va_arg(more, long);
+    va_end(more);
+    made++;
+    return __real_syscall(number, with[0], with[1], with[2], with[3], with[4]);
+}
+
+static int root, at;
+static char deep[128] = "d";
+
+static int open_it(const char *path, int flags)
+{
+    return inroot_open(at, path, flags);
+}
+
+static int read_it(const char *path, int flags)
+{
+    return inroot_openat(at, path, O_RDONLY, 0, flags);
+}
+
+static int create(const char *path, int flags)
+{
+    int fd = inroot_openat(at, path, O_WRONLY | O_CREAT | O_EXCL, 0600, flags);
+    unsigned kept = made;
+    unlinkat(root, path, 0);
+    made = kept;
+    return fd;
+}
+
+static int make_all(const char *path, int flags)
+{
+    return inroot_mkdir_all(at, path, 0755, flags);
+}
+
+/* At most so many system calls: in a jail, in the same name by name, by /proc, and by /proc name by name. */
+static const struct {
+    const char *what, *path;
+    int (*call)(const char *path, int flags);
+    unsigned most[4];
+} rows[] = {
+    {"open a/b", "a/b", open_it, {6, 8, 6, 8}},
+    {"open a/b/f, a file", "a/b/f", open_it, {4, 8, 6, 10}},
+    {"open four times b/..", "a/b/../b/../b/../b/..", open_it, {19, 33, 23, 37}},
+    {"open 32 directories", deep, open_it, {6, 68, 6, 68}},
+    {"open d/l/f, l a link to ../a/b", "d/l/f", open_it, {19, 22, 20, 23}},
+    {"open a/b/none", "a/b/none", open_it, {4, 5, 4, 5}},
+    {"read a/b/f", "a/b/f", read_it, {7, 11, 9, 13}},
+    {"create a/b/new", "a/b/new", create, {8, 10, 8, 10}},
+    {"make n/e/w/s", "n/e/w/s", make_all, {18, 16, 18, 16}},
+};
+
+enum { ROWS = sizeof rows / sizeof *rows };
+
+static unsigned counted[ROWS][4];
+
+static unsigned count_one(int row, int flags)
+{
+    made = 0;
+    int fd = rows[row].call(rows[row].path, flags);
+    unsigned count = made;
+    expect(fd >= 0 || strstr(rows[row].path, "none") != NULL, "%s: %d", rows[row].what, fd);
+    if (fd >= 0)
+        close(fd);
+    if (rows[row].call == make_all)
+        inroot_remove_all(at, "n", 0);
+    return count;
+}
+
+static void count_all(int column)
+{
+    for (int row = 0; row < ROWS; row++)
+        for (int way = 0; way < 2; way++) {
+            unsigned count = counted[row][column + way] = count_one(row, way ? INROOT_ONE_BY_ONE : 0);
+            unsigned most = rows[row].most[column + way];
+            expect(count <= most, "%s makes %u system calls, and %u are told of", rows[row].what, count, most);
+        }
+}
+
+static void make_tree(void)
+{
+    static const char *const dirs[] = {"a", "a/b", "d"};
+    for (size_t one = 0; one < sizeof dirs / sizeof *dirs; one++)
+        sure(mkdirat(root, dirs[one], 0755), dirs[one]);
+    sure(mknodat(root, "a/b/f", S_IFREG | 0600, 0), "a/b/f");
+    sure(symlinkat("../a/b", root, "d/l"), "d/l");
+    for (int one = 1; one < 32; one++)
+        sure(mkdirat(root, strcat(deep, "/d"), 0755), deep);
+}
+
+int main(int count, char **words)
+{
+    struct open_how how = {.flags = O_PATH | O_CLOEXEC};
+    if (count != 2)
+        return 2;
+    root = sure(open(words[1], O_PATH | O_DIRECTORY | O_CLOEXEC), words[1]);
+    if (syscall(SYS_openat2, root, ".", &how, sizeof how) < 0)
+        return NO_OPENAT2;
+    make_tree();
+    open_proc();
+    at = root;
+    count_all(2);
+    if (inroot_jail(root) != 0)
+        return NO_RIGHT;
+    at = INROOT_JAIL;
+    count_all(0);
+    for (int row = 0; row < ROWS; row++)
+        printf("counts: %s: in a jail %u, name by name %u; by /proc %u, name by name %u\n", rows[row].what, counted[row][0],
+               counted[row][1], counted[row][2], counted[row][3]);
+    return wrong != 0;
+}

@@ -1,0 +1,265 @@
+/*
+ * ways: both ways of walking, with runs of names and name by name, beside one another on random trees that stand still but for
+ * the calls themselves: each call gives the same, what it opened has the same path, and then the trees are the same.
+ *
+ * usage: ways DIR CASES. Exits 0 where that holds. 77: no openat2(2) here, so that there is one way alone. 78: no right to change
+ * a root. To be linked with --wrap=syscall.
+ */
+#define _GNU_SOURCE
+#include "support.h"
+
+#include <dirent.h>
+#include <errno.h>
+#include <limits.h>
+#include <linux/openat2.h>
+#include <pthread.h>
+#include <stdarg.h>
+#include <string.h>
+#include <sys/stat.h>
+#include <sys/syscall.h>
+
+enum { TREES = 40, NODES = 40, DEPTH = 12, OPERATIONS = 24 };
+
+static const char *const names[] = {"a", "b", "c", "d", "e.x"};
+
+static int base, proc;
+
+/* One way on one tree: the outcomes of its cases as one number each, and at last the tree as one. */
+struct side {
+    int root, asked, flags, cases;
+    bool jailed;
+    uint64_t state, tree;
+    uint64_t *outcomes;
+    unsigned long opened, changed;
+};
+
+static uint64_t mix(uint64_t sum, const char *text, size_t length)
+{
+    for (size_t at = 0; at < length; at++)
+        sum = (sum ^ (unsigned char)text[at]) * 0x100000001b3;
+    return sum;
+}
+
+/* How many runs were tried, and how many succeeded. */
+static unsigned long tried, passed;
+
+long __real_syscall(long number, ...);
+long __wrap_syscall(long number, ...);
+
+long __wrap_syscall(long number, ...)
+{
+    long with[5];
+    va_list more;
+    va_start(more, number);
+    for (int at = 0; at < 5; at++)
+        with[at] = va_arg(more, long);
+    va_end(more);
+    long result = __real_syscall(number, with[0], with[1], with[2], with[3], with[4]);
+    tried += number == SYS_openat2;
+    passed += number == SYS_openat2 && result >= 0;
+    return result;
+}
+
+/* ---- random paths and trees */
+
+/* A path of names, `.`, `..` and slashes; now and then one that leads down far. */
+static void random_path(uint64_t *state, char *text, unsigned most)
+{
+    unsigned parts = 1 + pick(state, most), mood = pick(state, 4);
+    *text = 0;
+    if (pick(state, 6) == 0)
+        strcat(text, "/");
+    for (unsigned at = 0; at < parts; at++) {
+        unsigned kind = pick(state, 12);
+        const char *name = names[mood == 0 ? pick(state, 5) : pick(state, 2)];
+        strcat(text, kind == 0 ? "." : kind < 2 + mood ? ".." : name);
+        if (at + 1 < parts || pick(state, 8) == 0)
+            strcat(text, pick(state, 10) == 0 ? "//" : "/");
+    }
+}
+
+static void add_entry(uint64_t *state, int *dirs, int *count)
+{
+    char text[256];
+    /* Rather in one of the last, so that it grows deep. */
+    unsigned last = (unsigned)*count < 3 ? (unsigned)*count : 3;
+    int dir = dirs[pick(state, 2) ? pick(state, (unsigned)*count) : (unsigned)*count - 1 - pick(state, last)];
+    const char *name = names[pick(state, 3) ? pick(state, 2) : pick(state, 5)];
+    switch (pick(state, 10)) {
+    case 0: case 1: case 2: case 3: case 4: case 5:
+        if (mkdirat(dir, name, 0755) == 0)
+            dirs[(*count)++] = sure(openat(dir, name, O_PATH | O_DIRECTORY | O_CLOEXEC), "openat");
+        break;
+    case 6: case 7:
+        random_path(state, text, 4);
+        symlinkat(text, dir, name);
+        break;
+    default:
+        mknodat(dir, name, S_IFREG | 0600, 0);
+    }
+}
+
+static int make_tree(const char *name, uint64_t *state)
+{
+    int dirs[NODES + 1], count = 1;
+    sure(mkdirat(base, name, 0755), "mkdirat");
+    int root = dirs[0] = sure(openat(base, name, O_PATH | O_DIRECTORY | O_CLOEXEC), "openat");
+    for (int at = 0; at < NODES; at++)
+        add_entry(state, dirs, &count);
+    while (count > 1)
+        close(dirs[--count]);
+    return root;
+}
+
+/* All below a directory: paths, kinds and links' texts, in whichever order. */
+static uint64_t sum_of(int dir, uint64_t path)
+{
+    uint64_t sum = 0;
+    DIR *all = fdopendir(sure(openat(dir, ".", O_RDONLY | O_DIRECTORY | O_CLOEXEC), "openat"));
+    for (struct dirent *one; (one = readdir(all)) != NULL;) {
+        char text[PATH_MAX];
+        uint64_t here = mix(path, one->d_name, strlen(one->d_name) + 1);
+        if (strcmp(one->d_name, ".") == 0 || strcmp(one->d_name, "..") == 0)
+            continue;
+        ssize_t length = readlinkat(dir, one->d_name, text, sizeof text);
+        sum += mix(here, length > 0 ? text : "", length > 0 ? (size_t)length : 0);
+        int below = openat(dir, one->d_name, O_PATH | O_DIRECTORY | O_NOFOLLOW | O_CLOEXEC);
+        if (below >= 0) {
+            sum += 1 + sum_of(below, here);
+            close(below);
+        }
+    }
+    closedir(all);
+    return sum;
+}
+
+/* ---- the cases */
+
+/* What was opened, by its path below the root and its kind. */
+static uint64_t told(const struct side *me, int fd)
+{
+    char name[32], path[PATH_MAX], root[PATH_MAX];
+    struct stat about;
+    if (fd < 0)
+        return (uint64_t)fd;
+    snprintf(name, sizeof name, "thread-self/fd/%d", fd);
+    ssize_t length = sure((int)readlinkat(proc, name, path, sizeof path), name);
+    snprintf(name, sizeof name, "thread-self/fd/%d", me->root);
+    ssize_t above = me->jailed ? 0 : sure((int)readlinkat(proc, name, root, sizeof root), name);
+    sure(fstat(fd, &about), "fstat");
+    bool is_root = me->jailed ? length == 1 : length == above;
+    uint64_t sum = is_root ? 1 : mix(1, path + above, (size_t)(length - above));
+    close(fd);
+    return sum * 4 + (S_ISDIR(about.st_mode) ? 1 : S_ISLNK(about.st_mode) ? 2 : 3);
+}
+
+static uint64_t told_text(ssize_t length, const char *text)
+{
+    return length < 0 ? (uint64_t)length : mix(5, text, (size_t)length);
+}
+
+/* An operation by its number: more than a half of them open. */
+static uint64_t call(struct side *me, unsigned which, const char *path, const char *other, int flags)
+{
+    char text[PATH_MAX];
+    struct stat about;
+    int at = me->asked;
+    switch (which) {
+    case 0: return (uint64_t)inroot_mkfile(at, path, 0600, flags);
+    case 1: return (uint64_t)inroot_mkdir(at, path, 0700, flags);
+    case 2: return (uint64_t)inroot_symlink(at, other, path, flags);
+    case 3: return (uint64_t)inroot_unlink(at, path, flags);
+    case 4: return (uint64_t)inroot_rmdir(at, path, flags);
+    case 5: return (uint64_t)inroot_rename(at, path, other, (int)pick(&me->state, 3), flags);
+    case 6: return told(me, inroot_mkdir_all(at, path, 0700, flags));
+    case 7: return pick(&me->state, 40) ? 0 : (uint64_t)inroot_remove_all(at, path, flags);
+    case 8: return told_text(inroot_readlink(at, path, flags, text, sizeof text), text);
+    case 9: return told(me, inroot_openat(at, path, O_RDWR | O_CREAT, 0600, flags));
+    case 10: return (uint64_t)inroot_stat(at, path, &about, flags);
+    default: return told(me, inroot_open(at, path, flags | (pick(&me->state, 4) ? 0 : INROOT_NOFOLLOW)));
+    }
+}
+
+static void *make_calls(void *self)
+{
+    struct side *me = self;
+    char path[256], other[256];
+    me->asked = me->root;
+    if (me->jailed) {
+        errno = -inroot_jail(me->root);
+        sure(-errno, "inroot_jail");
+        me->asked = INROOT_JAIL;
+    }
+    for (int at = 0; at < me->cases; at++) {
+        unsigned which = pick(&me->state, OPERATIONS);
+        int flags = me->flags | (pick(&me->state, 4) ? 0 : (int)pick(&me->state, 4));
+        random_path(&me->state, path, DEPTH);
+        random_path(&me->state, other, 5);
+        me->outcomes[at] = call(me, which, path, other, flags);
+        bool holds = (int64_t)me->outcomes[at] >= 0 || (int64_t)me->outcomes[at] < -4095;
+        me->opened += holds && which > 10;
+        me->changed += holds && which < 8;
+    }
+    inroot_jail_done();
+    return NULL;
+}
+
+/* A side on a tree of its own, made and asked by the same random numbers. */
+static void run(struct side *side, const char *name, uint64_t seed)
+{
+    pthread_t thread;
+    side->state = seed;
+    side->root = make_tree(name, &side->state);
+    pthread_create(&thread, NULL, make_calls, side);
+    pthread_join(thread, NULL);
+    side->tree = sum_of(side->root, 7);
+    close(side->root);
+}
+
+static bool has_openat2(void)
+{
+    struct open_how how = {.flags = O_PATH | O_CLOEXEC};
+    long fd = syscall(SYS_openat2, base, ".", &how, sizeof how);
+    if (fd >= 0)
+        close((int)fd);
+    return fd >= 0;
+}
+
+int main(int count, char **words)
+{
+    unsigned long opened = 0, changed = 0, differ = 0;
+    if (count != 3)
+        return 2;
+    base = sure(open(words[1], O_PATH | O_DIRECTORY | O_CLOEXEC), words[1]);
+    proc = sure(open("/proc", O_PATH | O_DIRECTORY | O_CLOEXEC), "/proc");
+    if (!has_openat2())
+        return NO_OPENAT2;
+    if (!may_jail(base))
+        return NO_RIGHT;
+    open_proc();
+    int cases = atoi(words[2]) / TREES, before = open_descriptors();
+    uint64_t *outcomes = calloc((size_t)cases * 2, sizeof *outcomes);
+    for (int tree = 0; tree < TREES && outcomes != NULL; tree++) {
+        char name[32];
+        struct side sides[2] = {{.flags = 0}, {.flags = INROOT_ONE_BY_ONE}};
+        for (int way = 0; way < 2; way++) {
+            sides[way].outcomes = outcomes + way * cases;
+            sides[way].cases = cases;
+            sides[way].jailed = tree % 2;
+            snprintf(name, sizeof name, "tree%d.%d", tree, way);
+            unsigned long before_it = tried;
+            run(&sides[way], name, 0x9e3779b97f4a7c15 + (uint64_t)tree);
+            expect((tried > before_it) == (way == 0), "runs on one side of tree %d, and none on the other", tree);
+        }
+        for (int at = 0; at < cases; at++)
+            differ += outcomes[at] != outcomes[cases + at];
+        expect(sides[0].tree == sides[1].tree, "the trees %d are not the same", tree);
+        opened += sides[0].opened;
+        changed += sides[0].changed;
+    }
+    free(outcomes);
+    int left = open_descriptors() - before;
+    printf("ways: %d cases on %d trees, %lu opened, %lu changed something, %lu runs of %lu passed, %lu differ, %d descriptors left open\n",
+           cases * TREES, TREES, opened, changed, passed, tried, differ, left);
+    return wrong != 0 || differ != 0 || left != 0 || opened == 0 || changed == 0;
+}
