@@ -100,6 +100,8 @@ struct inroot_driver {
     char *names;                   /* those of the directory that was listed last, and their length */
     size_t names_length;
     size_t listed;                 /* bytes of names that the call holds */
+    uint64_t placed;               /* the handle that was asked about right before, or zero; and its answer's length */
+    size_t placed_length;
     int made;                      /* the file that was made and opened, or none */
     struct inroot_run run;
     uint8_t step;                  /* the last one that was told, but for Close, or none; and the name it was about */

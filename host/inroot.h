@@ -63,7 +63,7 @@
  *
  * The calls leave alone: what is open, signal masks and handlers, errno's meaning (it may change), umask and current
  * directory but as inroot_jail() says. Any number of threads may make calls, on one root or several. A thread that is
- * cancelled (pthread_cancel(3)) in a call ends after it. A call takes up to 48 kilobytes of the thread's stack.
+ * cancelled (pthread_cancel(3)) in a call ends after it. A call takes up to 64 kilobytes of the thread's stack.
  * docs/HOST.md tells of signals, fork(2), vfork(2) and CLONE_FILES.
  */
 #ifndef INROOT_H
@@ -147,8 +147,8 @@ void inroot_root_close(struct inroot_root *root);
 
 /*
  * Why the thread's last call failed. STEP is the last step that it made, by its name in docs/HOST.md, or empty where
- * it failed before the first; to its steps come `Reopen`, which opens for use, and `Stat`. NAME is the name that the step
- * was about, or empty. REST is what was left of PATH then, where links were replaced by their texts: it begins with
+ * it failed before the first; to its steps come `Reopen`, which opens for use, and `Stat`. NAME is the name that the
+ * step was about, or empty. REST is what was left of PATH then, where links were replaced by their texts: it begins with
  * NAME where that could not be opened or made. Of a rename, and of a tree that is removed, it is empty. The texts end
  * with a NUL, and are cut off where they don't fit.
  */

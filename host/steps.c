@@ -321,6 +321,19 @@ static void note(struct inroot_driver *d, const struct inroot_told *step, const 
     d->step_name[length] = 0;
 }
 
+/* Asked twice in a row, it stands where it did right after the first time, and its names are in the text still. */
+static struct inroot_answered name_below(struct inroot_driver *d, const struct inroot_told *step, char *text, size_t *length)
+{
+    if (step->handle == d->placed) {
+        *length = d->placed_length;
+        return (struct inroot_answered){.what = INROOT_ANSWER_NAMES};
+    }
+    struct inroot_answered answered = inroot_name_below(d, step, text, length);
+    d->placed = answered.what == INROOT_ANSWER_NAMES ? step->handle : 0;
+    d->placed_length = *length;
+    return answered;
+}
+
 struct inroot_answered inroot_make(struct inroot_driver *d, const struct inroot_told *step, const char *room, char *text, size_t *length)
 {
     *length = 0;
@@ -330,6 +343,8 @@ struct inroot_answered inroot_make(struct inroot_driver *d, const struct inroot_
     /* Only a link's text can be too long for the room. */
     if (!step->whole)
         return inroot_refused(d, step->second >= INROOT_TEXT_MAX ? ENAMETOOLONG : ENOMEM);
+    if (step->what != INROOT_STEP_CLOSE && step->what != INROOT_STEP_NAME_BELOW)
+        d->placed = 0;
     bool goes_on = d->run.fd >= 0 && inroot_run_goes_on(d, step);
     if (goes_on && step->what == INROOT_STEP_OPEN)
         return open_foreseen(d, step->handle, room);
@@ -343,7 +358,7 @@ struct inroot_answered inroot_make(struct inroot_driver *d, const struct inroot_
     case INROOT_STEP_READLINK:
         return read_link(d, step->handle, text, length);
     case INROOT_STEP_NAME_BELOW:
-        return inroot_name_below(d, step, text, length);
+        return name_below(d, step, text, length);
     case INROOT_STEP_LIST:
         return inroot_list(d, step->handle);
     case INROOT_STEP_CLOSE:

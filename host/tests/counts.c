@@ -1,6 +1,6 @@
 /*
  * counts: how many system calls a call makes, in a jail and by /proc, with runs of names and name by name. What is opened is
- * closed by the program, which isn't counted. It is no more than docs/HOST.md has.
+ * closed by the program, which isn't counted. It is no more than docs/HOST.md has. And how often inroot_openat() tries to create.
  *
  * usage: counts DIR. Exits 0 where that holds. 77: no openat2(2) here. 78: no right to change a root. To be linked with --wrap
  * of each function that is wrapped here.
@@ -16,7 +16,9 @@
 #include <sys/syscall.h>
 #include <sys/vfs.h>
 
-static unsigned made;
+/* Whoever calls a function of the C library, for the compiler, changes none of these. */
+static volatile unsigned made, created;
+static bool is_taken;
 
 #define COUNTED(type, name, parameters, arguments)               \
     type __real_##name parameters;                               \
@@ -50,7 +52,11 @@ int __wrap_openat(int dir, const char *name, int flags, ...)
     mode_t mode = flags & O_CREAT ? va_arg(more, mode_t) : 0;
     va_end(more);
     made++;
-    return __real_openat(dir, name, flags, mode);
+    created += (flags & O_EXCL) != 0;
+    if (!is_taken || !(flags & O_EXCL))
+        return __real_openat(dir, name, flags, mode);
+    errno = EEXIST;
+    return -1;
 }
 
 long __wrap_syscall(long number, ...)
@@ -100,12 +106,12 @@ static const struct {
 } rows[] = {
     {"open a/b", "a/b", open_it, {6, 8, 6, 8}},
     {"open a/b/f, a file", "a/b/f", open_it, {4, 8, 6, 10}},
-    {"open four times b/..", "a/b/../b/../b/../b/..", open_it, {19, 33, 23, 37}},
+    {"open four times b/..", "a/b/../b/../b/../b/..", open_it, {17, 31, 20, 34}},
     {"open 32 directories", deep, open_it, {6, 68, 6, 68}},
     {"open d/l/f, l a link to ../a/b", "d/l/f", open_it, {19, 22, 20, 23}},
     {"open a/b/none", "a/b/none", open_it, {4, 5, 4, 5}},
     {"read a/b/f", "a/b/f", read_it, {7, 11, 9, 13}},
-    {"create a/b/new", "a/b/new", create, {8, 10, 8, 10}},
+    {"create a/b/new", "a/b/new", create, {7, 9, 7, 9}},
     {"make n/e/w/s", "n/e/w/s", make_all, {18, 16, 18, 16}},
 };
 
@@ -136,6 +142,19 @@ static void count_all(int column)
         }
 }
 
+/* Where others put an entry in place and take it away each time: so many tries, or one. */
+static void tries(void)
+{
+    is_taken = true;
+    created = 0;
+    expect(inroot_openat(at, "a/taken", O_WRONLY | O_CREAT, 0600, INROOT_NO_RETRY) == -EAGAIN, "one try");
+    expect(created == 1, "%u tries, and not one", created);
+    expect(inroot_openat(at, "a/taken", O_WRONLY | O_CREAT, 0600, 0) == -EAGAIN, "all tries");
+    expect(created == 1 + INROOT_TRIES, "%u tries, and not all", created - 1);
+    expect(inroot_openat(at, "a/taken", O_WRONLY | O_CREAT | O_EXCL, 0600, 0) == -EEXIST, "what is there");
+    is_taken = false;
+}
+
 static void make_tree(void)
 {
     static const char *const dirs[] = {"a", "a/b", "d"};
@@ -158,6 +177,7 @@ int main(int count, char **words)
     make_tree();
     open_proc();
     at = root;
+    tries();
     count_all(2);
     if (inroot_jail(root) != 0)
         return NO_RIGHT;
