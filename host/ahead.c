@@ -1,7 +1,7 @@
 /*
- * ahead.c: the text of the path that is still to be walked, where each link that was followed is replaced by its text. It
- * is kept beside the proved call, which has its own. What is thought here tells which names may be passed by one system call
- * (runs.c), and what was left where a call failed. It decides nothing that the call tells.
+ * ahead.c: the text of the path that is still to be walked, where each link that was followed is replaced by its
+ * text. It is kept beside the proved call, which has its own. What is thought here tells which names may be passed
+ * by one system call (runs.c), and what was left where a call failed. It decides nothing that the call tells.
  */
 #include "driver.h"
 

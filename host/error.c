@@ -8,8 +8,8 @@
 static _Thread_local struct inroot_error last = {.step = ""};
 
 static const char *const steps[] = {
-    "", "Open", "Dup", "Parent", "ReadLink", "NameBelow", "List", "Close", "MakeDir", "MakeFile", "MakeLink", "RemoveFile",
-    "RemoveDir", "Rename",
+    "",      "Open",    "Dup",      "Parent",   "ReadLink",   "NameBelow", "List",
+    "Close", "MakeDir", "MakeFile", "MakeLink", "RemoveFile", "RemoveDir", "Rename",
 };
 
 _Static_assert(sizeof steps / sizeof *steps == INROOT_STEP_RENAME + 1, "each step has its name");

@@ -148,9 +148,9 @@ void inroot_root_close(struct inroot_root *root);
 /*
  * Why the thread's last call failed. STEP is the last step that it made, by its name in docs/HOST.md, or empty where
  * it failed before the first; to its steps come `Reopen`, which opens for use, and `Stat`. NAME is the name that the
- * step was about, or empty. REST is what was left of PATH then, where links were replaced by their texts: it begins with
- * NAME where that could not be opened or made. Of a rename, and of a tree that is removed, it is empty. The texts end
- * with a NUL, and are cut off where they don't fit.
+ * step was about, or empty. REST is what was left of PATH then, where links were replaced by their texts: it begins
+ * with NAME where that could not be opened or made. Of a rename, and of a tree that is removed, it is empty. The texts
+ * end with a NUL, and are cut off where they don't fit.
  */
 struct inroot_error {
     int error;          /* its number, as ENOENT */

@@ -14,7 +14,12 @@ static int link_object(int root, int fd, const char *path, int flags)
     struct stat about;
     char text[INROOT_TEXT_MAX + 1] = "";
     struct inroot_request asked = {
-        .op = INROOT_ASK_MKFILE, .flags = flags, .first = path, .second = text, .makes = INROOT_MAKES_LINKED, .object = fd,
+        .op = INROOT_ASK_MKFILE,
+        .flags = flags,
+        .first = path,
+        .second = text,
+        .makes = INROOT_MAKES_LINKED,
+        .object = fd,
     };
     int failed = inroot_check(root, flags);
     if (failed)

@@ -1,7 +1,8 @@
 /*
- * runs.c: names of a path that follow one another are passed by one openat2(2), which follows no link. Where it succeeds, each
- * of them stood in the one before it, at moments in their order; so the single opens that the proved call asks for one after
- * another are answered by it. All but the last are told as directories without a descriptor. docs/HOST.md has the argument.
+ * runs.c: names of a path that follow one another are passed by one openat2(2), which follows no link. Where it
+ * succeeds, each of them stood in the one before it, at moments in their order; so the single opens that the proved
+ * call asks for one after another are answered by it. All but the last are told as directories without a
+ * descriptor. docs/HOST.md has the argument.
  */
 #define _GNU_SOURCE
 #include "driver.h"
@@ -61,8 +62,8 @@ static void spell(const struct inroot_ahead *a, int most, bool from_root, struct
 }
 
 /*
- * What openat2(2) is to open at the end: a directory where the path goes on; what it is where the path ends, a link as well
- * only where it isn't followed.
+ * What openat2(2) is to open at the end: a directory where the path goes on; what it is where the path ends, a link
+ * as well only where it isn't followed.
  */
 static uint64_t flags_of(const struct inroot_ahead *a, const struct spelled *run)
 {
@@ -119,7 +120,10 @@ static bool pass(struct inroot_driver *d, uint64_t handle, int dir, const struct
     return false;
 }
 
-/* How many names to try after so many were not passed: all but the last, then half of them. None where it isn't for a name. */
+/*
+ * How many names to try after so many were not passed: all but the last, then half of them. None where it isn't for
+ * a name.
+ */
 static int fewer(struct inroot_ahead *a, int count, int error)
 {
     bool first = a->bad == 0;
@@ -159,10 +163,12 @@ static struct inroot_answered tell(struct inroot_driver *d, uint64_t dir)
     }
     uint64_t handle = inroot_handles_put(d, fd, kind, INROOT_BY_NAME, dir);
     d->run.at = handle;
-    return (struct inroot_answered){.what = INROOT_ANSWER_OPENED, .handle = handle, .node = handle, .kind = (uint8_t)kind};
+    return (struct inroot_answered){
+        .what = INROOT_ANSWER_OPENED, .handle = handle, .node = handle, .kind = (uint8_t)kind};
 }
 
-bool inroot_run_name(struct inroot_driver *d, uint64_t handle, int dir, bool from_root, struct inroot_answered *answered)
+bool inroot_run_name(struct inroot_driver *d, uint64_t handle, int dir, bool from_root,
+                     struct inroot_answered *answered)
 {
     if (!inroot_handles_reserve(d))
         return false;
@@ -184,7 +190,8 @@ struct inroot_answered inroot_run_up(struct inroot_driver *d, uint64_t child)
 {
     uint64_t handle = inroot_handles_put(d, d->run.fd, INROOT_KIND_DIR, INROOT_BY_PARENT, child);
     d->run.fd = INROOT_NONE;
-    return (struct inroot_answered){.what = INROOT_ANSWER_OPENED, .handle = handle, .node = handle, .kind = INROOT_KIND_DIR};
+    return (struct inroot_answered){
+        .what = INROOT_ANSWER_OPENED, .handle = handle, .node = handle, .kind = INROOT_KIND_DIR};
 }
 
 void inroot_run_drop(struct inroot_driver *d)

@@ -12,8 +12,8 @@
 enum {
     ALWAYS = O_CLOEXEC | O_NOCTTY,
     ACCESS = O_RDONLY | O_WRONLY | O_RDWR,
-    FOR_USE = ACCESS | O_TRUNC | O_APPEND | O_DIRECTORY | O_NONBLOCK | O_SYNC | O_DSYNC | O_DIRECT | O_NOATIME | O_LARGEFILE |
-              ALWAYS,
+    FOR_USE = ACCESS | O_TRUNC | O_APPEND | O_DIRECTORY | O_NONBLOCK | O_SYNC | O_DSYNC | O_DIRECT | O_NOATIME |
+              O_LARGEFILE | ALWAYS,
     FOR_PATH = O_PATH | O_DIRECTORY | ALWAYS,
     MODE_BITS = 07777,
     LINKS = 40,
@@ -138,8 +138,8 @@ static int create(int root, const struct use *use)
 }
 
 /*
- * Writes the path to which the link at the end of this one leads: its directory's, and the link's text. Gives how long the text
- * is, or -errno; -EINVAL where it is no link, and -ENOENT where it is gone.
+ * Writes the path to which the link at the end of this one leads: its directory's, and the link's text. Gives how
+ * long the text is, or -errno; -EINVAL where it is no link, and -ENOENT where it is gone.
  */
 static ssize_t follow(int root, const struct use *use, char *path)
 {

@@ -1,6 +1,6 @@
 /*
- * calls: what inroot.h says of modes, of opening once more, of nodes, second names, stat, a root that is kept, and of why a call
- * failed. By /proc, and in a jail.
+ * calls: what inroot.h says of modes, of opening once more, of nodes, second names, stat, a root that is kept, and
+ * of why a call failed. By /proc, and in a jail.
  *
  * usage: calls DIR. Exits 0 where each is as it says. 78: no right to change a root, so that a half is left out.
  */
@@ -37,20 +37,29 @@ static mode_t mode_of(const char *path)
 static void modes(void)
 {
     umask(027);
-    expect(inroot_mkfile(at, "m1", 0666, 0) == 0 && mode_of("m1") == (S_IFREG | 0640), "a file's mode less the umask: %o", mode_of("m1"));
-    expect(inroot_mkfile(at, "m2", 0600, 0) == 0 && mode_of("m2") == (S_IFREG | 0600), "a file's mode: %o", mode_of("m2"));
+    expect(inroot_mkfile(at, "m1", 0666, 0) == 0 && mode_of("m1") == (S_IFREG | 0640),
+           "a file's mode less the umask: %o", mode_of("m1"));
+    expect(inroot_mkfile(at, "m2", 0600, 0) == 0 && mode_of("m2") == (S_IFREG | 0600), "a file's mode: %o",
+           mode_of("m2"));
     expect(inroot_mkfile(at, "m3", 0, 0) == 0 && mode_of("m3") == S_IFREG, "no mode: %o", mode_of("m3"));
-    expect(inroot_mkdir(at, "d1", 0777, 0) == 0 && mode_of("d1") == (S_IFDIR | 0750), "a directory's: %o", mode_of("d1"));
-    expect(inroot_mkdir(at, "d2/", 01700, 0) == 0 && mode_of("d2") == (S_IFDIR | 01700), "and its sticky bit: %o", mode_of("d2"));
+    expect(inroot_mkdir(at, "d1", 0777, 0) == 0 && mode_of("d1") == (S_IFDIR | 0750), "a directory's: %o",
+           mode_of("d1"));
+    expect(inroot_mkdir(at, "d2/", 01700, 0) == 0 && mode_of("d2") == (S_IFDIR | 01700), "and its sticky bit: %o",
+           mode_of("d2"));
     expect(closed(inroot_mkdir_all(at, "d1/x/y", 0711, 0)) == 0, "directories");
     expect(mode_of("d1") == (S_IFDIR | 0750), "one that was there: %o", mode_of("d1"));
-    expect(mode_of("d1/x") == (S_IFDIR | 0710) && mode_of("d1/x/y") == (S_IFDIR | 0710), "new ones: %o", mode_of("d1/x"));
-    expect(closed(inroot_openat(at, "m4", O_WRONLY | O_CREAT, 0666, 0)) == 0 && mode_of("m4") == (S_IFREG | 0640), "an open one");
-    expect(closed(inroot_openat(at, "m5", O_RDWR | O_CREAT | O_EXCL, 0400, 0)) == 0 && mode_of("m5") == (S_IFREG | 0400), "for writing");
+    expect(mode_of("d1/x") == (S_IFDIR | 0710) && mode_of("d1/x/y") == (S_IFDIR | 0710), "new ones: %o",
+           mode_of("d1/x"));
+    expect(closed(inroot_openat(at, "m4", O_WRONLY | O_CREAT, 0666, 0)) == 0 && mode_of("m4") == (S_IFREG | 0640),
+           "an open one");
+    expect(closed(inroot_openat(at, "m5", O_RDWR | O_CREAT | O_EXCL, 0400, 0)) == 0 &&
+               mode_of("m5") == (S_IFREG | 0400),
+           "for writing");
     expect(inroot_mkfile(at, "m6", 010000, 0) == -EINVAL, "a mode that is none, of a file");
     expect(inroot_mkdir(at, "m6", S_IFDIR | 0700, 0) == -EINVAL, "a mode that is none, of a directory");
     expect(closed(inroot_mkdir_all(at, "m6", (mode_t)-1, 0)) == -EINVAL, "a mode that is none, of directories");
-    expect(closed(inroot_openat(at, "m6", O_RDWR | O_CREAT, 010000, 0)) == -EINVAL, "a mode that is none, of an open file");
+    expect(closed(inroot_openat(at, "m6", O_RDWR | O_CREAT, 010000, 0)) == -EINVAL,
+           "a mode that is none, of an open file");
     expect(closed(inroot_openat(at, "m1", O_RDONLY, 0600, 0)) == -EINVAL, "a mode where nothing is made");
     expect(mode_of("m6") == 0, "something was made by a mode that is none");
     umask(0);
@@ -62,24 +71,32 @@ static void flags(void)
         O_ASYNC, O_WRONLY | O_RDWR, O_PATH | O_RDWR, O_PATH | O_TRUNC, O_PATH | O_CREAT, O_EXCL, O_CREAT | O_DIRECTORY,
         O_TMPFILE, O_TMPFILE | O_CREAT | O_RDWR, O_TMPFILE & ~O_DIRECTORY, O_PATH | O_TMPFILE | O_RDWR, 1 << 30,
     };
-    static const int not_again[] = {O_CREAT, O_EXCL, O_TMPFILE | O_RDWR, O_NOFOLLOW, O_ASYNC, O_WRONLY | O_RDWR, O_PATH | O_APPEND};
+    static const int not_again[] = {O_CREAT,           O_EXCL,           O_TMPFILE | O_RDWR, O_NOFOLLOW, O_ASYNC,
+                                    O_WRONLY | O_RDWR, O_PATH | O_APPEND};
     for (size_t one = 0; one < sizeof none / sizeof *none; one++) {
         expect(closed(inroot_openat(at, "f", none[one], 0, 0)) == -EINVAL, "open flags %o", (unsigned)none[one]);
-        expect(closed(inroot_openat(999, "", none[one], 0, 0)) == -EINVAL, "open flags %o of a bad root", (unsigned)none[one]);
+        expect(closed(inroot_openat(999, "", none[one], 0, 0)) == -EINVAL, "open flags %o of a bad root",
+               (unsigned)none[one]);
     }
     for (size_t one = 0; one < sizeof not_again / sizeof *not_again; one++)
-        expect(closed(inroot_reopen(root, not_again[one])) == -EINVAL, "open flags %o once more", (unsigned)not_again[one]);
+        expect(closed(inroot_reopen(root, not_again[one])) == -EINVAL, "open flags %o once more",
+               (unsigned)not_again[one]);
     expect(closed(inroot_openat(at, "f", O_RDONLY, 0, INROOT_NOFOLLOW)) == -EINVAL, "a flag of another call");
     expect(closed(inroot_open(at, "f", INROOT_FOLLOW)) == -EINVAL, "a flag of another call");
     expect(closed(inroot_openat(999, "f", O_RDONLY, 0, 0)) == -EBADF, "a root that isn't open");
     expect(closed(inroot_openat(999, "f", O_RDWR | O_CREAT, 0600, 0)) == -EBADF, "a root that isn't open, to create");
     expect(closed(inroot_openat(at, "in/up/../f", O_RDONLY, 0, INROOT_BENEATH)) == -EXDEV, "beneath");
     expect(closed(inroot_openat(at, "in", O_RDWR | O_CREAT, 0600, INROOT_NO_LINKS)) == -ELOOP, "no links");
-    expect(closed(inroot_openat(at, "dangling", O_RDWR | O_CREAT, 0600, INROOT_NO_LINKS)) == -ELOOP, "no links, and none there");
-    expect(closed(inroot_openat(at, "absent", O_RDWR | O_CREAT, 0600, INROOT_BENEATH)) == -EXDEV, "a target beneath the root");
+    expect(closed(inroot_openat(at, "dangling", O_RDWR | O_CREAT, 0600, INROOT_NO_LINKS)) == -ELOOP,
+           "no links, and none there");
+    expect(closed(inroot_openat(at, "absent", O_RDWR | O_CREAT, 0600, INROOT_BENEATH)) == -EXDEV,
+           "a target beneath the root");
 }
 
-/* What was found is opened for use by its descriptor: by nobody's path, after it was renamed, and after it was removed. */
+/*
+ * What was found is opened for use by its descriptor, and by nobody's path: after it was renamed, and after it was
+ * removed.
+ */
 static void again(void)
 {
     char text[16];
@@ -88,7 +105,8 @@ static void again(void)
     sure(renameat(root, "a/f", root, "a/g"), "renameat");
     sure(mknodat(root, "a/f", S_IFREG | 0600, 0), "mknodat");
     int use = inroot_reopen(fd, O_RDWR);
-    expect(use >= 0 && read(use, text, sizeof text) == 6 && memcmp(text, "inside", 6) == 0, "a renamed one is opened once more: %d", use);
+    expect(use >= 0 && read(use, text, sizeof text) == 6 && memcmp(text, "inside", 6) == 0,
+           "a renamed one is opened once more: %d", use);
     expect(fcntl(use, F_GETFD) == FD_CLOEXEC, "it isn't closed by exec");
     expect(write(use, "!", 1) == 1, "it is written");
     close(use);
@@ -99,6 +117,11 @@ static void again(void)
     expect(closed(inroot_reopen(fd, O_RDONLY | O_DIRECTORY)) == -ENOTDIR, "it is no directory");
     sure(renameat(root, "a/g", root, "a/f"), "renameat");
     expect(closed(inroot_reopen(999, O_RDONLY)) == -EBADF, "a descriptor that is none");
+    close(fd);
+    expect(inroot_mkfile(at, "gone", 0600, 0) == 0, "a file");
+    fd = inroot_open(at, "gone", 0);
+    sure(unlinkat(root, "gone", 0), "unlinkat");
+    expect(closed(inroot_reopen(fd, O_RDWR)) == 0, "a removed one is opened once more");
     close(fd);
     fd = inroot_open(at, "in", INROOT_NOFOLLOW);
     expect(closed(inroot_reopen(fd, O_RDONLY)) == -ELOOP, "a link");
@@ -121,7 +144,8 @@ static void rights(void)
     expect(closed(inroot_open(at, "a/f", 0)) == 0, "what may not be read is found");
     expect(closed(inroot_openat(at, "a/f", O_RDONLY, 0, 0)) == -EACCES, "what may not be read");
     expect(closed(inroot_openat(at, "a/f", O_WRONLY | O_TRUNC, 0, 0)) == -EACCES, "what may not be written");
-    expect(closed(inroot_openat(at, "a/new", O_WRONLY | O_CREAT, 0600, 0)) == -EACCES, "a directory that may not be written");
+    expect(closed(inroot_openat(at, "a/new", O_WRONLY | O_CREAT, 0600, 0)) == -EACCES,
+           "a directory that may not be written");
     setfsuid(0);
     sure(fchmodat(root, "a/f", 0600, 0), "chmod");
 }
@@ -130,7 +154,8 @@ static void nodes(void)
 {
     struct stat about;
     expect(inroot_mknod(at, "n/fifo", S_IFIFO | 0610, 0, 0) == 0 && mode_of("n/fifo") == (S_IFIFO | 0610), "a FIFO");
-    expect(inroot_mknod(at, "n/sock", S_IFSOCK | 0600, 0, 0) == 0 && mode_of("n/sock") == (S_IFSOCK | 0600), "a socket");
+    expect(inroot_mknod(at, "n/sock", S_IFSOCK | 0600, 0, 0) == 0 && mode_of("n/sock") == (S_IFSOCK | 0600),
+           "a socket");
     expect(inroot_mknod(at, "n/file", S_IFREG | 0604, 0, 0) == 0 && mode_of("n/file") == (S_IFREG | 0604), "a file");
     expect(inroot_mknod(at, "n/fifo", S_IFIFO | 0600, 0, 0) == -EEXIST, "a second FIFO");
     expect(inroot_mknod(at, "n/x", S_IFDIR | 0600, 0, 0) == -EINVAL, "a directory as a node");
@@ -142,7 +167,8 @@ static void nodes(void)
     if (device == -EPERM)
         puts("calls: no right to make a device here");
     else
-        expect(device == 0 && fstatat(root, "n/null", &about, 0) == 0 && about.st_rdev == makedev(1, 3), "a device: %d", device);
+        expect(device == 0 && fstatat(root, "n/null", &about, 0) == 0 && about.st_rdev == makedev(1, 3),
+               "a device: %d", device);
 }
 
 static ino_t number_of(const char *path)
@@ -156,9 +182,12 @@ static void second_names(void)
     char text[8] = "";
     expect(inroot_link(at, "in/f", "l1", 0) == 0 && number_of("l1") == number_of("a/f"), "a file's second name");
     expect(inroot_link(at, "in", "l2", 0) == 0 && number_of("l2") == number_of("in"), "a link's second name");
-    expect(inroot_link(at, "dangling", "l3", 0) == 0 && number_of("l3") == number_of("dangling"), "that of a link to nothing");
-    expect(inroot_link(at, "tofile", "l4", INROOT_FOLLOW) == 0 && number_of("l4") == number_of("a/f"), "that of what a link leads to");
-    expect(inroot_link(at, "../../tofile", "up/../l5", 0) == 0 && number_of("l5") == number_of("tofile"), "both below the root");
+    expect(inroot_link(at, "dangling", "l3", 0) == 0 && number_of("l3") == number_of("dangling"),
+           "that of a link to nothing");
+    expect(inroot_link(at, "tofile", "l4", INROOT_FOLLOW) == 0 && number_of("l4") == number_of("a/f"),
+           "that of what a link leads to");
+    expect(inroot_link(at, "../../tofile", "up/../l5", 0) == 0 && number_of("l5") == number_of("tofile"),
+           "both below the root");
     expect(inroot_link(at, "a", "l6", 0) == -EPERM, "a directory's");
     expect(inroot_link(at, "a/f", "l1", 0) == -EEXIST, "an entry that is there");
     expect(inroot_link(at, "a/f", "dangling", 0) == -EEXIST, "a link that is there");
@@ -192,7 +221,8 @@ static void second_names(void)
 static void told(void)
 {
     struct stat about;
-    expect(inroot_stat(at, "in/f", &about, 0) == 0 && about.st_ino == number_of("a/f") && S_ISREG(about.st_mode), "a file");
+    expect(inroot_stat(at, "in/f", &about, 0) == 0 && about.st_ino == number_of("a/f") && S_ISREG(about.st_mode),
+           "a file");
     expect(inroot_stat(at, "in", &about, 0) == 0 && about.st_ino == number_of("a"), "what a link leads to");
     expect(inroot_stat(at, "in", &about, INROOT_NOFOLLOW) == 0 && S_ISLNK(about.st_mode), "a link");
     expect(inroot_stat(at, "/", &about, 0) == 0 && about.st_ino == number_of("."), "the root");
@@ -223,17 +253,22 @@ static void why(void)
     struct inroot_error error;
     for (size_t one = 0; one < sizeof cases / sizeof *cases; one++) {
         expect(inroot_open(at, cases[one].path, cases[one].flags) == -cases[one].error, "%s fails", cases[one].path);
-        expect(inroot_last_error(&error) == 0 && error.error == cases[one].error, "%s: %d", cases[one].path, error.error);
+        expect(inroot_last_error(&error) == 0 && error.error == cases[one].error, "%s: %d", cases[one].path,
+               error.error);
         bool same = strcmp(error.step, cases[one].step) == 0 && strcmp(error.name, cases[one].name) == 0 &&
                     strcmp(error.rest, cases[one].rest) == 0;
         expect(same, "%s: %s of '%s', left '%s'", cases[one].path, error.step, error.name, error.rest);
     }
-    expect(inroot_mkdir(at, "in/f", 0700, 0) == -EEXIST && inroot_last_error(&error) == 0, "a directory where a file is");
-    expect(strcmp(error.step, "MakeDir") == 0 && strcmp(error.name, "f") == 0 && strcmp(error.rest, "f") == 0, "%s", error.step);
-    expect(closed(inroot_openat(at, "a", O_WRONLY, 0, 0)) == -EISDIR && inroot_last_error(&error) == 0, "a directory to be written");
+    expect(inroot_mkdir(at, "in/f", 0700, 0) == -EEXIST && inroot_last_error(&error) == 0,
+           "a directory where a file is");
+    expect(strcmp(error.step, "MakeDir") == 0 && strcmp(error.name, "f") == 0 && strcmp(error.rest, "f") == 0, "%s",
+           error.step);
+    expect(closed(inroot_openat(at, "a", O_WRONLY, 0, 0)) == -EISDIR && inroot_last_error(&error) == 0,
+           "a directory to be written");
     expect(error.error == EISDIR && strcmp(error.step, "Reopen") == 0, "%s", error.step);
     expect(inroot_rename(at, "a/f", "none/x", 0, 0) == -ENOENT && inroot_last_error(&error) == 0, "a rename");
-    expect(strcmp(error.step, "Open") == 0 && strcmp(error.name, "none") == 0 && error.rest[0] == 0, "of a rename: %s", error.rest);
+    expect(strcmp(error.step, "Open") == 0 && strcmp(error.name, "none") == 0 && error.rest[0] == 0, "of a rename: %s",
+           error.rest);
 }
 
 static void *untold(void *unused)
@@ -273,7 +308,10 @@ static void kept_roots(void)
 
 static void make_tree(void)
 {
-    static const char *const links[][2] = {{"in", "/a"}, {"dangling", "nowhere"}, {"absent", "/../a/absent"}, {"tofile", "in/f"},
+    static const char *const links[][2] = {{"in", "/a"},
+                                           {"dangling", "nowhere"},
+                                           {"absent", "/../a/absent"},
+                                           {"tofile", "in/f"},
                                            {"tonone", "a/../nothere/b"}};
     sure(mkdirat(root, "a", 0755), "a");
     sure(mkdirat(root, "n", 0755), "n");

@@ -1,9 +1,10 @@
 /*
- * counts: how many system calls a call makes, in a jail and by /proc, with runs of names and name by name. What is opened is
- * closed by the program, which isn't counted. It is no more than docs/HOST.md has. And how often inroot_openat() tries to create.
+ * counts: how many system calls a call makes, in a jail and by /proc, with runs of names and name by name. What is
+ * opened is closed by the program, which isn't counted. It is no more than docs/HOST.md has. And how often
+ * inroot_openat() tries to create.
  *
- * usage: counts DIR. Exits 0 where that holds. 77: no openat2(2) here. 78: no right to change a root. To be linked with --wrap
- * of each function that is wrapped here.
+ * usage: counts DIR. Exits 0 where that holds. 77: no openat2(2) here. 78: no right to change a root. To be linked
+ * with --wrap of each function that is wrapped here.
  */
 #define _GNU_SOURCE
 #include "support.h"
@@ -184,7 +185,7 @@ int main(int count, char **words)
     at = INROOT_JAIL;
     count_all(0);
     for (int row = 0; row < ROWS; row++)
-        printf("counts: %s: in a jail %u, name by name %u; by /proc %u, name by name %u\n", rows[row].what, counted[row][0],
-               counted[row][1], counted[row][2], counted[row][3]);
+        printf("counts: %s: in a jail %u, name by name %u; by /proc %u, name by name %u\n", rows[row].what,
+               counted[row][0], counted[row][1], counted[row][2], counted[row][3]);
     return wrong != 0;
 }

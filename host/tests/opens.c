@@ -1,9 +1,9 @@
 /*
- * opens: inroot_openat() beside openat2(2) with RESOLVE_IN_ROOT, each on a tree of its own: the same error, or the same object
- * opened in the same way, and then the same trees. By /proc, and in a jail.
+ * opens: inroot_openat() beside openat2(2) with RESOLVE_IN_ROOT, each on a tree of its own: the same error, or the
+ * same object opened in the same way, and then the same trees. By /proc, and in a jail.
  *
- * usage: opens DIR. Exits 0 where each case agrees. 77: no openat2(2) here. 78: no right to change a root, so that a half is
- * left out.
+ * usage: opens DIR. Exits 0 where each case agrees. 77: no openat2(2) here. 78: no right to change a root, so that
+ * a half is left out.
  */
 #define _GNU_SOURCE
 #include "support.h"
@@ -21,17 +21,62 @@ static int base, ours, theirs, asked, cases, opened;
 static char at[PATH_MAX];
 
 static const char *const paths[] = {
-    "a/b/f", "a/l/f", "/a/../a/l/./f", "tof", "a/b", "a/l", "/", ".", "a/..", "fifo", "shut", "none", "a/b/none", "a/l/none",
-    "none/x", "a/b/f/x", "dangling", "a/dangling", "/a/l/../dangling", "absolute", "chain", "out", "loop", "deepdangling", "a/b/f/",
-    "", "tosock", "socket",
+    "a/b/f",
+    "a/l/f",
+    "/a/../a/l/./f",
+    "tof",
+    "a/b",
+    "a/l",
+    "/",
+    ".",
+    "a/..",
+    "fifo",
+    "shut",
+    "none",
+    "a/b/none",
+    "a/l/none",
+    "none/x",
+    "a/b/f/x",
+    "dangling",
+    "a/dangling",
+    "/a/l/../dangling",
+    "absolute",
+    "chain",
+    "out",
+    "loop",
+    "deepdangling",
+    "a/b/f/",
+    "",
+    "tosock",
+    "socket",
 };
 
 static const int ways[] = {
-    O_RDONLY, O_WRONLY, O_RDWR, O_RDWR | O_TRUNC, O_WRONLY | O_APPEND, O_RDONLY | O_DIRECTORY, O_RDONLY | O_NOFOLLOW,
-    O_WRONLY | O_NOFOLLOW | O_TRUNC, O_PATH, O_PATH | O_NOFOLLOW, O_PATH | O_DIRECTORY, O_PATH | O_NOFOLLOW | O_DIRECTORY,
-    O_RDONLY | O_CREAT, O_WRONLY | O_CREAT, O_RDWR | O_CREAT | O_TRUNC, O_WRONLY | O_CREAT | O_APPEND, O_RDWR | O_CREAT | O_EXCL,
-    O_RDONLY | O_CREAT | O_EXCL | O_NOFOLLOW, O_RDWR | O_CREAT | O_NOFOLLOW, O_RDWR | O_TMPFILE, O_WRONLY | O_TMPFILE | O_EXCL,
-    O_RDWR | O_TMPFILE | O_NOFOLLOW, O_RDWR | O_SYNC, O_RDONLY | O_CREAT | O_DIRECTORY, O_RDONLY | O_TMPFILE,
+    O_RDONLY,
+    O_WRONLY,
+    O_RDWR,
+    O_RDWR | O_TRUNC,
+    O_WRONLY | O_APPEND,
+    O_RDONLY | O_DIRECTORY,
+    O_RDONLY | O_NOFOLLOW,
+    O_WRONLY | O_NOFOLLOW | O_TRUNC,
+    O_PATH,
+    O_PATH | O_NOFOLLOW,
+    O_PATH | O_DIRECTORY,
+    O_PATH | O_NOFOLLOW | O_DIRECTORY,
+    O_RDONLY | O_CREAT,
+    O_WRONLY | O_CREAT,
+    O_RDWR | O_CREAT | O_TRUNC,
+    O_WRONLY | O_CREAT | O_APPEND,
+    O_RDWR | O_CREAT | O_EXCL,
+    O_RDONLY | O_CREAT | O_EXCL | O_NOFOLLOW,
+    O_RDWR | O_CREAT | O_NOFOLLOW,
+    O_RDWR | O_TMPFILE,
+    O_WRONLY | O_TMPFILE | O_EXCL,
+    O_RDWR | O_TMPFILE | O_NOFOLLOW,
+    O_RDWR | O_SYNC,
+    O_RDONLY | O_CREAT | O_DIRECTORY,
+    O_RDONLY | O_TMPFILE,
     O_RDONLY | O_DIRECTORY | O_NOFOLLOW,
 };
 
@@ -57,8 +102,16 @@ static int make_tree(const char *name)
     sure(mknodat(root, "fifo", S_IFIFO | 0600, 0), "fifo");
     sure(mknodat(root, "socket", S_IFSOCK | 0600, 0), "socket");
     static const char *const links[][2] = {
-        {"a/l", "/a/b"}, {"tof", "a/l/f"}, {"dangling", "nowhere"}, {"a/dangling", "../a/b/nowhere"}, {"absolute", "/../a/nowhere"},
-        {"chain", "a/dangling"}, {"out", "../../../../outside"}, {"loop", "loop"}, {"deepdangling", "none/none"}, {"tosock", "socket"},
+        {"a/l", "/a/b"},
+        {"tof", "a/l/f"},
+        {"dangling", "nowhere"},
+        {"a/dangling", "../a/b/nowhere"},
+        {"absolute", "/../a/nowhere"},
+        {"chain", "a/dangling"},
+        {"out", "../../../../outside"},
+        {"loop", "loop"},
+        {"deepdangling", "none/none"},
+        {"tosock", "socket"},
     };
     for (size_t one = 0; one < sizeof links / sizeof *links; one++)
         sure(symlinkat(links[one][1], root, links[one][0]), links[one][0]);
@@ -109,7 +162,10 @@ static int by_kernel(const char *path, int way, mode_t mode)
     return fd < 0 ? -errno : (int)fd;
 }
 
-/* docs/LINUX.md tells of other errors for a last part that is no name, and for a slash at the end, where a file is made. */
+/*
+ * docs/LINUX.md tells of other errors for a last part that is no name, and for a slash at the end, where a file is
+ * made.
+ */
 static int as_told_here(const char *path, int way, int wanted)
 {
     size_t length = strlen(path);
@@ -127,7 +183,8 @@ static bool same_use(int one, int other)
     struct stat a, b;
     sure(fstat(one, &a), "fstat");
     sure(fstat(other, &b), "fstat");
-    if (fcntl(other, F_GETFD) != FD_CLOEXEC || a.st_mode != b.st_mode || a.st_size != b.st_size || a.st_nlink != b.st_nlink)
+    if (fcntl(other, F_GETFD) != FD_CLOEXEC || a.st_mode != b.st_mode || a.st_size != b.st_size ||
+        a.st_nlink != b.st_nlink)
         return false;
     int left = fcntl(one, F_GETFL) & kept, right = fcntl(other, F_GETFL) & kept;
     return (left | O_DIRECTORY) == (right | O_DIRECTORY);
@@ -138,7 +195,8 @@ static void compare_trees(const char *path, int way)
     char left[8192], right[8192];
     list("theirs", left);
     list("ours", right);
-    expect(strcmp(left, right) == 0, "%s, %o: the kernel left\n%sand inroot_openat\n%s", path, (unsigned)way, left, right);
+    expect(strcmp(left, right) == 0, "%s, %o: the kernel left\n%sand inroot_openat\n%s", path, (unsigned)way, left,
+           right);
 }
 
 static void compare(const char *path, int way)
@@ -149,7 +207,8 @@ static void compare(const char *path, int way)
     int wanted = as_told_here(path, way, by_kernel(path, how, mode)), got = inroot_openat(asked, path, how, mode, 0);
     cases++;
     opened += got >= 0;
-    expect((wanted < 0 ? wanted : 0) == (got < 0 ? got : 0), "%s, %o: openat2 %d, inroot_openat %d", path, (unsigned)way, wanted, got);
+    expect((wanted < 0 ? wanted : 0) == (got < 0 ? got : 0), "%s, %o: openat2 %d, inroot_openat %d", path,
+           (unsigned)way, wanted, got);
     if (wanted >= 0 && got >= 0)
         expect(same_use(wanted, got), "%s, %o: opened otherwise", path, (unsigned)way);
     if (wanted >= 0)

@@ -1,8 +1,10 @@
 /*
- * use_race: files are opened, made, linked and told of below a directory that another thread exchanges for a link that leads out
- * of the root. What is read is never what is outside, and nothing outside is made, written or linked.
+ * use_race: files are opened, made, linked and told of below a directory that another thread exchanges for a link
+ * that leads out of the root. What is read is never what is outside, and nothing outside is made, written or
+ * linked.
  *
- * usage: use_race DIR SECONDS. Exits 0 where that holds, and a walk without checks was led out. 78: no right to change a root.
+ * usage: use_race DIR SECONDS. Exits 0 where that holds, and a walk without checks was led out. 78: no right to
+ * change a root.
  */
 #define _GNU_SOURCE
 #include "support.h"
@@ -220,16 +222,20 @@ int main(int count, char **words)
     for (int one = 0; one < 2; one++) {
         struct worker *me = &workers[one];
         pthread_join(threads[one], NULL);
-        printf("use_race: %s: read %lu, wrote %lu and %lu, named %lu, linked %lu, told %lu, nodes %lu, failed %lu; escaped %lu\n",
-               me->name, me->done[0], me->done[1], me->done[2], me->done[3], me->done[4], me->done[5], me->done[6], me->failed,
-               me->escaped);
+        printf(
+            "use_race: %s: read %lu, wrote %lu and %lu, named %lu, linked %lu, told %lu, nodes %lu, failed %lu; "
+            "escaped %lu\n",
+            me->name, me->done[0], me->done[1], me->done[2], me->done[3], me->done[4], me->done[5], me->done[6],
+            me->failed, me->escaped);
         expect(me->escaped == 0, "nothing escapes");
         for (int which = 0; which < DOINGS; which++)
             expect(me->done[which] > 0, "doing %d succeeded sometimes", which);
     }
     int left = open_descriptors() - before;
     bool untouched = is_untouched();
-    printf("use_race: %lu swaps, a walk without checks was led out %lu times, what is outside is %s, %d descriptors left open\n",
-           (unsigned long)swaps, led_out, untouched ? "untouched" : "CHANGED", left);
+    printf(
+        "use_race: %lu swaps, a walk without checks was led out %lu times, what is outside is %s, %d descriptors "
+        "left open\n",
+        (unsigned long)swaps, led_out, untouched ? "untouched" : "CHANGED", left);
     return wrong != 0 || !untouched || left != 0 || led_out == 0;
 }

@@ -1,9 +1,10 @@
 /*
- * ways: both ways of walking, with runs of names and name by name, beside one another on random trees that stand still but for
- * the calls themselves: each call gives the same, what it opened has the same path, and then the trees are the same.
+ * ways: both ways of walking, with runs of names and name by name, beside one another on random trees that stand
+ * still but for the calls themselves: each call gives the same, what it opened has the same path, and then the
+ * trees are the same.
  *
- * usage: ways DIR CASES. Exits 0 where that holds. 77: no openat2(2) here, so that there is one way alone. 78: no right to change
- * a root. To be linked with --wrap=syscall.
+ * usage: ways DIR CASES. Exits 0 where that holds. 77: no openat2(2) here, so that there is one way alone. 78: no
+ * right to change a root. To be linked with --wrap=syscall.
  */
 #define _GNU_SOURCE
 #include "support.h"
@@ -259,7 +260,9 @@ int main(int count, char **words)
     }
     free(outcomes);
     int left = open_descriptors() - before;
-    printf("ways: %d cases on %d trees, %lu opened, %lu changed something, %lu runs of %lu passed, %lu differ, %d descriptors left open\n",
-           cases * TREES, TREES, opened, changed, passed, tried, differ, left);
+    printf(
+        "ways: %d cases on %d trees, %lu opened, %lu changed something, %lu runs of %lu passed, %lu differ, "
+        "%d descriptors left open\n",
+        cases * TREES, TREES, opened, changed, passed, tried, differ, left);
     return wrong != 0 || differ != 0 || left != 0 || opened == 0 || changed == 0;
 }
