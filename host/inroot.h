@@ -30,7 +30,7 @@
  * A call that finds that others moved or removed what it had come to begins again: it makes up to INROOT_TRIES tries,
  * the first eight one after another, and before each other one it waits, 10 microseconds at first and twice as long
  * each time up to a millisecond, so some 20 milliseconds in all. Then it gives EAGAIN. Who renames without end can
- * make it fail so: in the races of docs/HOST.md one to three of a hundred calls ended so with one try, and none of a
+ * make it fail so: in the races of docs/HOST.md up to four of a hundred calls ended so with one try, and none of a
  * million with all.
  *
  * Every call gives -errno where it fails, and then leaves no descriptor open. In this order:

@@ -1,7 +1,7 @@
 /*
  * counts: how many system calls a call makes, in a jail and by /proc, with runs of names and name by name. What is
  * opened is closed by the program, which isn't counted. It is no more than docs/HOST.md has. And how often
- * inroot_openat() tries to create.
+ * inroot_openat() tries to create, and what the calls give where openat2(2) is missing or fails.
  *
  * usage: counts DIR. Exits 0 where that holds. 77: no openat2(2) here. 78: no right to change a root. To be linked
  * with --wrap of each function that is wrapped here.
@@ -11,6 +11,7 @@
 
 #include <errno.h>
 #include <linux/openat2.h>
+#include <pthread.h>
 #include <stdarg.h>
 #include <string.h>
 #include <sys/stat.h>
@@ -18,8 +19,11 @@
 #include <sys/vfs.h>
 
 /* Whoever calls a function of the C library, for the compiler, changes none of these. */
-static volatile unsigned made, created;
+static volatile unsigned made, created, runs;
 static bool is_taken;
+
+/* The error by which each openat2(2) fails, or 0. */
+static int refusal;
 
 #define COUNTED(type, name, parameters, arguments)               \
     type __real_##name parameters;                               \
@@ -69,6 +73,11 @@ long __wrap_syscall(long number, ...)
         with[at] = va_arg(more, long);
     va_end(more);
     made++;
+    runs += number == SYS_openat2;
+    if (number == SYS_openat2 && refusal != 0) {
+        errno = refusal;
+        return -1;
+    }
     return __real_syscall(number, with[0], with[1], with[2], with[3], with[4]);
 }
 
@@ -156,6 +165,35 @@ static void tries(void)
     is_taken = false;
 }
 
+/* Where openat2(2) is missing, or refused, a thread tries it once, and the calls give what they give with it. */
+static void *without_openat2(void *unused)
+{
+    struct stat about;
+    runs = 0;
+    for (int turn = 0; turn < 3; turn++) {
+        expect(inroot_stat(at, "a/b/../b/f", &about, 0) == 0 && S_ISREG(about.st_mode), "a file");
+        expect(inroot_stat(at, "d/l/f", &about, 0) == 0 && S_ISREG(about.st_mode), "a file behind a link");
+        expect(inroot_stat(at, "a/b/none", &about, 0) == -ENOENT, "what isn't there");
+        expect(inroot_stat(at, "a/b/f/x", &about, 0) == -ENOTDIR, "what is below a file");
+        expect(inroot_stat(at, deep, &about, 0) == 0 && S_ISDIR(about.st_mode), "many directories");
+    }
+    bool is_missing = refusal == ENOSYS || refusal == EPERM;
+    expect(is_missing ? runs == 1 : runs > 1, "%u runs of names were tried", runs);
+    return unused;
+}
+
+static void refused_openat2(void)
+{
+    static const int errors[] = {ENOSYS, EPERM, EIO, EMFILE};
+    for (size_t one = 0; one < sizeof errors / sizeof *errors; one++) {
+        pthread_t thread;
+        refusal = errors[one];
+        pthread_create(&thread, NULL, without_openat2, NULL);
+        pthread_join(thread, NULL);
+    }
+    refusal = 0;
+}
+
 static void make_tree(void)
 {
     static const char *const dirs[] = {"a", "a/b", "d"};
@@ -179,6 +217,7 @@ int main(int count, char **words)
     open_proc();
     at = root;
     tries();
+    refused_openat2();
     count_all(2);
     if (inroot_jail(root) != 0)
         return NO_RIGHT;
