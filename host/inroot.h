@@ -78,7 +78,7 @@ extern "C" {
 #endif
 
 /* The version of this header; and of the library that is linked, which inroot_version() gives. */
-#define INROOT_VERSION "0.2.0"
+#define INROOT_VERSION "0.1.0"
 const char *inroot_version(void);
 
 enum {

@@ -1,0 +1,3 @@
+module inroot
+
+go 1.19

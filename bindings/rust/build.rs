@@ -1,0 +1,37 @@
+//! Finds libinroot: in `INROOT_LIB_DIR` where that is set, else where `pkg-config` (or `PKG_CONFIG`) says.
+//! With `INROOT_STATIC` set it is linked statically.
+
+use std::env;
+use std::process::Command;
+
+fn main() {
+    for name in ["INROOT_LIB_DIR", "INROOT_STATIC", "PKG_CONFIG", "PKG_CONFIG_PATH", "PKG_CONFIG_LIBDIR"] {
+        println!("cargo:rerun-if-env-changed={name}");
+    }
+    for directory in directories() {
+        println!("cargo:rustc-link-search=native={directory}");
+    }
+    let kind = if env::var_os("INROOT_STATIC").is_some() { "static" } else { "dylib" };
+    println!("cargo:rustc-link-lib={kind}=inroot");
+}
+
+fn directories() -> Vec<String> {
+    if let Ok(directory) = env::var("INROOT_LIB_DIR") {
+        return vec![directory];
+    }
+    let command = env::var_os("PKG_CONFIG").unwrap_or_else(|| "pkg-config".into());
+    // A static library is looked for in the directories that are named alone, so that those of the system are named too.
+    let asked =
+        Command::new(&command).args(["--libs-only-L", "inroot"]).env("PKG_CONFIG_ALLOW_SYSTEM_LIBS", "1").output();
+    match asked {
+        Ok(told) if told.status.success() => {
+            let text = String::from_utf8_lossy(&told.stdout).into_owned();
+            text.split_whitespace().filter_map(|word| word.strip_prefix("-L")).map(str::to_owned).collect()
+        }
+        Ok(told) => panic!(
+            "libinroot isn't found. Install it (make -C host install), or set PKG_CONFIG_PATH or INROOT_LIB_DIR. {}",
+            String::from_utf8_lossy(&told.stderr)
+        ),
+        Err(error) => panic!("{command:?} can't be run: {error}. Set INROOT_LIB_DIR to the directory of libinroot."),
+    }
+}

@@ -1,0 +1,70 @@
+//! Errors: each call gives the error's number, as an [`io::Error`].
+
+use crate::ffi;
+use std::ffi::{CStr, CString, OsString};
+use std::io;
+use std::mem::MaybeUninit;
+use std::os::fd::{FromRawFd, OwnedFd};
+use std::os::raw::{c_char, c_int};
+use std::os::unix::ffi::{OsStrExt, OsStringExt};
+use std::path::Path;
+
+/// Why a call failed, for whoever wants to print it.
+#[derive(Clone, Debug, PartialEq, Eq)]
+pub struct Cause {
+    /// The error's number.
+    pub error: i32,
+    /// The last step that the call made, as `Open`; empty where it failed before the first.
+    pub step: String,
+    /// The name that the step was about, or empty.
+    pub name: OsString,
+    /// What was left of the path then, where links were replaced by their texts.
+    pub rest: OsString,
+}
+
+/// Why the thread's last call failed, where one has. After a call that succeeded it says nothing of that call.
+pub fn last_error() -> Option<Cause> {
+    let mut told = MaybeUninit::<ffi::Error>::uninit();
+    // SAFETY: the library writes the whole structure where it gives 0, and its texts end with a NUL.
+    unsafe {
+        if ffi::inroot_last_error(told.as_mut_ptr()) != 0 {
+            return None;
+        }
+        let told = &*told.as_ptr();
+        Some(Cause {
+            error: told.error,
+            step: CStr::from_ptr(told.step).to_string_lossy().into_owned(),
+            name: text_of(told.name.as_ptr()),
+            rest: text_of(told.rest.as_ptr()),
+        })
+    }
+}
+
+/// # Safety
+/// The bytes end with a NUL.
+unsafe fn text_of(bytes: *const c_char) -> OsString {
+    OsString::from_vec(CStr::from_ptr(bytes).to_bytes().to_vec())
+}
+
+/// A path as C has it. One with a NUL in it names nothing: EINVAL.
+pub(crate) fn c_path(path: &Path) -> io::Result<CString> {
+    const EINVAL: i32 = 22;
+    CString::new(path.as_os_str().as_bytes()).map_err(|_| io::Error::from_raw_os_error(EINVAL))
+}
+
+/// What a call gave that gives a number.
+pub(crate) fn count_of(result: isize) -> io::Result<usize> {
+    usize::try_from(result).map_err(|_| io::Error::from_raw_os_error(-result as i32))
+}
+
+/// What a call gave that gives nothing.
+pub(crate) fn done(result: c_int) -> io::Result<()> {
+    count_of(result as isize).map(|_| ())
+}
+
+/// What a call gave that gives a descriptor.
+pub(crate) fn opened(result: c_int) -> io::Result<OwnedFd> {
+    count_of(result as isize)?;
+    // SAFETY: the call has just opened it, and nobody else knows it.
+    Ok(unsafe { OwnedFd::from_raw_fd(result) })
+}

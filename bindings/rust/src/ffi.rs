@@ -1,0 +1,32 @@
+//! The calls of inroot.h that the binding makes. Types are those of Linux on x86-64.
+
+use std::os::raw::{c_char, c_int, c_uint};
+
+/// `struct inroot_error`.
+#[repr(C)]
+pub struct Error {
+    pub error: c_int,
+    pub step: *const c_char,
+    pub name: [c_char; 256],
+    pub rest: [c_char; 4096],
+}
+
+extern "C" {
+    pub fn inroot_version() -> *const c_char;
+    pub fn inroot_last_error(error: *mut Error) -> c_int;
+    pub fn inroot_open(root: c_int, path: *const c_char, flags: c_int) -> c_int;
+    pub fn inroot_openat(root: c_int, path: *const c_char, open_flags: c_int, mode: c_uint, flags: c_int) -> c_int;
+    pub fn inroot_reopen(fd: c_int, open_flags: c_int) -> c_int;
+    pub fn inroot_readlink(root: c_int, path: *const c_char, flags: c_int, text: *mut c_char, size: usize) -> isize;
+    pub fn inroot_mkfile(root: c_int, path: *const c_char, mode: c_uint, flags: c_int) -> c_int;
+    pub fn inroot_mknod(root: c_int, path: *const c_char, mode: c_uint, dev: u64, flags: c_int) -> c_int;
+    pub fn inroot_mkdir(root: c_int, path: *const c_char, mode: c_uint, flags: c_int) -> c_int;
+    pub fn inroot_symlink(root: c_int, text: *const c_char, path: *const c_char, flags: c_int) -> c_int;
+    pub fn inroot_link(root: c_int, existing: *const c_char, path: *const c_char, flags: c_int) -> c_int;
+    pub fn inroot_link_fd(root: c_int, fd: c_int, path: *const c_char, flags: c_int) -> c_int;
+    pub fn inroot_unlink(root: c_int, path: *const c_char, flags: c_int) -> c_int;
+    pub fn inroot_rmdir(root: c_int, path: *const c_char, flags: c_int) -> c_int;
+    pub fn inroot_rename(root: c_int, from: *const c_char, to: *const c_char, mode: c_int, flags: c_int) -> c_int;
+    pub fn inroot_mkdir_all(root: c_int, path: *const c_char, mode: c_uint, flags: c_int) -> c_int;
+    pub fn inroot_remove_all(root: c_int, path: *const c_char, flags: c_int) -> isize;
+}

@@ -1,0 +1,45 @@
+//! Paths below a directory, resolved by single directory steps: a binding to libinroot.
+//!
+//! A [`Root`] is a directory. Each call takes a path below it, as openat2(2) does with `RESOLVE_IN_ROOT`: an absolute
+//! path and an absolute link begin at the root, and `..` at the root is the root, whoever renames directories
+//! meanwhile. What is promised, and the order of the errors, is that of libinroot(7).
+//!
+//! ```no_run
+//! use inroot::{OpenFlags, Root};
+//! use std::io::Read;
+//!
+//! # fn main() -> std::io::Result<()> {
+//! let root = Root::open("/srv/box")?;
+//! let mut text = String::new();
+//! root.open_subpath("etc/passwd", OpenFlags::O_RDONLY)?.read_to_string(&mut text)?;
+//!
+//! let found = root.resolve("var/log")?;
+//! let directory = found.reopen(OpenFlags::O_RDONLY | OpenFlags::O_DIRECTORY)?;
+//! # drop(directory);
+//! # Ok(())
+//! # }
+//! ```
+//!
+//! Types and functions are named as those of libpathrs. Nothing is promised where the root itself, or a directory
+//! above it, is renamed meanwhile.
+
+#[cfg(not(all(target_os = "linux", target_arch = "x86_64")))]
+compile_error!("libinroot is there for Linux on x86-64 alone");
+
+mod error;
+mod ffi;
+mod flags;
+mod handle;
+mod root;
+
+pub use error::{last_error, Cause};
+pub use flags::{OpenFlags, RenameFlags, ResolverFlags};
+pub use handle::Handle;
+pub use root::{InodeType, Root};
+
+/// The version of the library that is linked.
+pub fn version() -> String {
+    // SAFETY: the library gives a text that ends with a NUL and stays as long as the program.
+    let text = unsafe { std::ffi::CStr::from_ptr(ffi::inroot_version()) };
+    text.to_string_lossy().into_owned()
+}

@@ -1,0 +1,46 @@
+# Completion of inroot-fs(1) for bash.
+_inroot_fs_options() {
+    local own=
+    case $1 in
+    resolve | stat) own='--nofollow' ;;
+    ls | readlink) own='--zero' ;;
+    write) own='--mode --append --exclusive' ;;
+    mkdir) own='--parents --mode' ;;
+    rm) own='--recursive' ;;
+    mv) own='--no-replace --exchange' ;;
+    ln) own='--symbolic' ;;
+    esac
+    echo "--beneath --no-links --help $own"
+}
+
+# The names below ROOT that begin with the word. They are asked of inroot-fs itself, so that no link of ROOT leads out of it.
+_inroot_fs_paths() {
+    local root=$1 word=$2 above='' name
+    case $word in
+    */*) above=${word%/*}/ ;;
+    esac
+    while IFS= read -r -d '' name; do
+        [[ $above$name != "$word"* ]] || printf '%s\n' "$above$name"
+    done < <(inroot-fs "$root" ls --zero -- "${above:-.}" 2>/dev/null)
+}
+
+_inroot_fs() {
+    local word=${COMP_WORDS[COMP_CWORD]} root
+    case $COMP_CWORD in
+    1)
+        compopt -o filenames
+        mapfile -t COMPREPLY < <(compgen -d -- "$word"; compgen -W '--help --version' -- "$word")
+        ;;
+    2) mapfile -t COMPREPLY < <(compgen -W 'resolve cat ls readlink stat write mkdir rm rmdir mv ln' -- "$word") ;;
+    *)
+        if [[ $word == -* ]]; then
+            mapfile -t COMPREPLY < <(compgen -W "$(_inroot_fs_options "${COMP_WORDS[2]}")" -- "$word")
+        else
+            root=${COMP_WORDS[1]/#\~\//$HOME/}
+            compopt -o nospace
+            mapfile -t COMPREPLY < <(_inroot_fs_paths "$root" "$word")
+        fi
+        ;;
+    esac
+}
+complete -F _inroot_fs inroot-fs

@@ -1,0 +1,18 @@
+# Completion of inroot(1) for bash.
+_inroot() {
+    local word=${COMP_WORDS[COMP_CWORD]} words=
+    if [ "$COMP_CWORD" -eq 1 ]; then
+        words='walk replay draw run explore help --help --version'
+    else
+        case ${COMP_WORDS[1]} in
+        walk) words='--beneath --no-links --help' ;;
+        replay) words='--schedule --help' ;;
+        draw) words='--svg --all --schedule --help' ;;
+        run) words='--workers --help' ;;
+        explore) words='--actor --cuts --states --outside --never --always --help' ;;
+        esac
+    fi
+    mapfile -t COMPREPLY < <(compgen -W "$words" -- "$word")
+}
+# A script is given by a redirection, whose file the shell completes.
+complete -o default -F _inroot inroot

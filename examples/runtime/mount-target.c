@@ -1,0 +1,110 @@
+/*
+ * mount-target: makes a mount's target below a directory, as a container runtime does before it mounts there.
+ *
+ * usage: mount-target ROOT PATH dir|file [SOURCE]
+ *
+ * It makes the directory, or the file with the directories above it, below ROOT, and has it open from then on: its
+ * path is never walked again. Without SOURCE it prints where the target stands and `/proc/self/fd/N`, by which mount(2)
+ * takes it as its target in this process. With SOURCE it mounts that directory or file there (open_tree(2),
+ * move_mount(2)), which takes the right to mount, and prints what can be read there then. Statuses: 0, 1 where the
+ * target can't be made, 2 a wrong command line, 4 any other fault.
+ */
+#define _GNU_SOURCE
+#include <errno.h>
+#include <fcntl.h>
+#include <inroot.h>
+#include <limits.h>
+#include <stdbool.h>
+#include <stdio.h>
+#include <string.h>
+#include <sys/stat.h>
+#include <sys/syscall.h>
+#include <unistd.h>
+
+/* Those of linux/mount.h, which older C libraries don't have. */
+enum { TREE_CLONE = 1, TREE_CLOEXEC = O_CLOEXEC, TREE_RECURSIVE = 0x8000, FROM_EMPTY_PATH = 0x4, TO_EMPTY_PATH = 0x40 };
+
+/* Opens the directory, which is made with all above it. Gives a descriptor or -errno. */
+static int make_directory(int root, const char *path)
+{
+    return inroot_mkdir_all(root, path, 0755, 0);
+}
+
+/* Opens the file, which is made, empty, with the directories above it. Gives a descriptor or -errno. */
+static int make_file(int root, const char *path)
+{
+    char above[PATH_MAX];
+    const char *slash = strrchr(path, '/');
+    if (slash != NULL && slash != path) {
+        if ((size_t)(slash - path) >= sizeof above)
+            return -ENAMETOOLONG;
+        snprintf(above, sizeof above, "%.*s", (int)(slash - path), path);
+        int opened = inroot_mkdir_all(root, above, 0755, 0);
+        if (opened < 0)
+            return opened;
+        close(opened);
+    }
+    int failed = inroot_mkfile(root, path, 0644, 0);
+    if (failed < 0 && failed != -EEXIST)
+        return failed;
+    /* Whatever stands there now, stands below the root: the file, or what somebody has put in its place. */
+    int target = inroot_open(root, path, 0);
+    struct stat about;
+    if (target >= 0 && (fstat(target, &about) != 0 || !S_ISREG(about.st_mode))) {
+        close(target);
+        return -EINVAL;
+    }
+    return target;
+}
+
+/* Prints where the target stands, and by which path this process has it. */
+static int tell_target(int target)
+{
+    char link[32], place[PATH_MAX];
+    snprintf(link, sizeof link, "/proc/self/fd/%d", target);
+    ssize_t length = readlink(link, place, sizeof place);
+    if (length < 0) {
+        perror("mount-target: /proc");
+        return 4;
+    }
+    printf("%.*s %s\n", (int)length, place, link);
+    return fflush(stdout) == 0 ? 0 : 4;
+}
+
+/* Mounts the source on the target, by two descriptors and no path. */
+static int mount_there(const char *source, int target)
+{
+    int tree = (int)syscall(SYS_open_tree, AT_FDCWD, source, TREE_CLONE | TREE_CLOEXEC | TREE_RECURSIVE);
+    if (tree < 0 || syscall(SYS_move_mount, tree, "", target, "", FROM_EMPTY_PATH | TO_EMPTY_PATH) != 0) {
+        fprintf(stderr, "mount-target: %s: %s\n", source, strerror(errno));
+        return 4;
+    }
+    close(tree);
+    return 0;
+}
+
+int main(int count, char **words)
+{
+    struct inroot_root *root;
+    bool is_file = count >= 4 && strcmp(words[3], "file") == 0;
+    if (count < 4 || count > 5 || (!is_file && strcmp(words[3], "dir") != 0)) {
+        fputs("usage: mount-target ROOT PATH dir|file [SOURCE]\n", stderr);
+        return 2;
+    }
+    int failed = inroot_root_open(words[1], 0, &root);
+    if (failed < 0) {
+        fprintf(stderr, "mount-target: %s: %s\n", words[1], strerror(-failed));
+        return 4;
+    }
+    int target = is_file ? make_file(inroot_root_fd(root), words[2]) : make_directory(inroot_root_fd(root), words[2]);
+    inroot_root_close(root);
+    if (target < 0) {
+        fprintf(stderr, "mount-target: %s: %s\n", words[2], strerror(-target));
+        return 1;
+    }
+    int status = count == 5 ? mount_there(words[4], target) : 0;
+    if (status == 0)
+        status = tell_target(target);
+    close(target);
+    return status;
+}
