@@ -17,9 +17,12 @@ static int has_proc(void)
 {
     bool is_own;
     int proc = inroot_proc_open(&is_own);
+    if (proc < 0)
+        return proc;
+    bool has_threads = faccessat(proc, "thread-self", F_OK, AT_SYMLINK_NOFOLLOW) == 0;
     if (is_own)
         close(proc);
-    return proc < 0 ? proc : 0;
+    return has_threads ? 0 : -ENOSYS;
 }
 
 static int open_root(const char *directory, struct inroot_root *root)

@@ -11,11 +11,12 @@
 #include <fcntl.h>
 #include <limits.h>
 #include <pthread.h>
+#include <signal.h>
 #include <string.h>
 #include <sys/fsuid.h>
 #include <sys/stat.h>
 #include <sys/sysmacros.h>
-#include <sys/syscall.h>
+#include <sys/time.h>
 
 static int root, at;
 static char where[PATH_MAX];
@@ -132,6 +133,25 @@ static void again(void)
     close(fd);
     expect(inroot_mknod(at, "sock", S_IFSOCK | 0600, 0, 0) == 0, "a socket's name");
     expect(closed(inroot_openat(at, "sock", O_RDWR, 0, 0)) == -ENXIO, "a socket");
+}
+
+static void ring(int number)
+{
+    (void)number;
+}
+
+/* A FIFO that nobody writes to is waited for, until a signal comes whose handler doesn't have the call go on. */
+static void interrupted(void)
+{
+    const struct sigaction rings = {.sa_handler = ring};
+    const struct itimerval soon = {.it_value = {.tv_usec = 20000}}, never = {{0, 0}, {0, 0}};
+    expect(inroot_mknod(at, "waits", S_IFIFO | 0600, 0, 0) == 0, "a FIFO");
+    expect(closed(inroot_openat(at, "waits", O_RDONLY | O_NONBLOCK, 0, 0)) == 0, "a FIFO that isn't waited for");
+    expect(closed(inroot_openat(at, "waits", O_WRONLY | O_NONBLOCK, 0, 0)) == -ENXIO, "a FIFO without a reader");
+    sigaction(SIGALRM, &rings, NULL);
+    setitimer(ITIMER_REAL, &soon, NULL);
+    expect(closed(inroot_openat(at, "waits", O_RDONLY, 0, 0)) == -EINTR, "a FIFO that is waited for");
+    setitimer(ITIMER_REAL, &never, NULL);
 }
 
 /* As nobody: a file that may not be read is found, and not opened. */
@@ -325,7 +345,7 @@ static void make_tree(void)
 
 static void each(void)
 {
-    static void (*const parts[])(void) = {flags, again, rights, nodes, told, why, modes, second_names};
+    static void (*const parts[])(void) = {flags, again, interrupted, rights, nodes, told, why, modes, second_names};
     int before = open_descriptors();
     untold(NULL);
     for (size_t part = 0; part < sizeof parts / sizeof *parts; part++) {

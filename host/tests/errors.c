@@ -27,6 +27,7 @@ static int closed(int result)
 static void bad_roots(void)
 {
     static const char *const paths[] = {"", "/", "a", "..", "a/..", "a/b/c"};
+    struct stat about;
     char text[8];
     int file = sure(openat(base, "file", O_PATH | O_CLOEXEC), "file");
     for (size_t at = 0; at < sizeof paths / sizeof *paths; at++) {
@@ -40,6 +41,12 @@ static void bad_roots(void)
         expect(inroot_rename(file, path, path, 0, 0) == -ENOTDIR, "a rename below a file, %s", path);
         expect(inroot_remove_all(file, path, 0) == -ENOTDIR, "a tree below a file, %s", path);
         expect(inroot_readlink(file, path, 0, text, sizeof text) == -ENOTDIR, "a link below a file, %s", path);
+        expect(closed(inroot_openat(file, path, O_RDONLY, 0, 0)) == -ENOTDIR, "to be read below a file, %s", path);
+        expect(closed(inroot_openat(file, path, O_RDWR | O_CREAT, 0600, 0)) == -ENOTDIR, "created below a file, %s", path);
+        expect(inroot_stat(file, path, &about, 0) == -ENOTDIR, "told of below a file, %s", path);
+        expect(inroot_mknod(file, path, S_IFIFO | 0600, 0, 0) == -ENOTDIR, "a node below a file, %s", path);
+        expect(inroot_link(file, path, path, 0) == -ENOTDIR, "a second name below a file, %s", path);
+        expect(inroot_link_fd(file, base, path, 0) == -ENOTDIR, "a second name of what is open below a file, %s", path);
     }
     close(file);
     int root = sure(openat(base, ".", O_PATH | O_DIRECTORY | O_CLOEXEC), ".");

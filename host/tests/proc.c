@@ -13,6 +13,8 @@
 #include <sched.h>
 #include <string.h>
 #include <sys/mount.h>
+#include <sys/vfs.h>
+#include <linux/magic.h>
 #include <sys/stat.h>
 
 static int root, good;
@@ -37,9 +39,38 @@ static void cover(bool lies)
     }
 }
 
+/* What asks /proc to open for use and to give second names gives ENOSYS, and has made nothing. */
+static void no_use(const char *why)
+{
+    struct inroot_root *kept;
+    struct stat about;
+    int fd = sure(openat(root, "f", O_PATH | O_CLOEXEC), "f");
+    expect(inroot_reopen(fd, O_RDONLY) == -ENOSYS, "a file once more %s", why);
+    expect(inroot_openat(root, "f", O_RDONLY, 0, 0) == -ENOSYS, "a file to be read %s", why);
+    expect(inroot_openat(root, "new", O_RDWR | O_CREAT, 0600, 0) >= 0, "a new file in the root itself %s", why);
+    expect(inroot_openat(root, "a/new", O_RDWR | O_CREAT, 0600, 0) == -ENOSYS, "a new file %s", why);
+    expect(inroot_link_fd(root, fd, "g", 0) == -ENOSYS, "a second name %s", why);
+    expect(inroot_link(root, "f", "g", 0) == -ENOSYS, "a second name of what is found %s", why);
+    expect(inroot_stat(root, "f", &about, 0) == -ENOSYS, "what stands there %s", why);
+    expect(inroot_root_open(where, 0, &kept) == -ENOSYS && kept == NULL, "a root that is kept %s", why);
+    expect(faccessat(root, "g", F_OK, 0) != 0 && faccessat(root, "a/new", F_OK, 0) != 0, "something was made %s", why);
+    sure(unlinkat(root, "new", 0), "new");
+    close(fd);
+}
+
+/* A program that closes what it didn't open closes /proc, too. */
+static void close_proc(void)
+{
+    struct statfs about;
+    for (int fd = 3; fd < 64; fd++)
+        if (fstatfs(fd, &about) == 0 && about.f_type == PROC_SUPER_MAGIC)
+            close(fd);
+}
+
 static void no_proc(void)
 {
     cover(false);
+    no_use("without /proc");
     expect(inroot_open(root, "f", 0) == -ENOSYS, "a file without /proc");
     expect(inroot_mkdir(root, "a/x", 0755, 0) == -ENOSYS, "a directory without /proc");
     expect(inroot_jail(root) == -ENOSYS, "a jail without /proc");
@@ -49,6 +80,7 @@ static void no_proc(void)
 static void forged(void)
 {
     cover(true);
+    no_use("by a /proc that is none");
     expect(inroot_open(root, "f", 0) == -ENOSYS, "a file by a /proc that is none");
     expect(inroot_open(root, "a/../f", 0) == -ENOSYS, "a file after `..` by a /proc that is none");
     expect(inroot_jail(root) == -ENOSYS, "a jail by a /proc that is none");
@@ -63,8 +95,14 @@ static void handed_in(void)
     expect(inroot_use_proc(good) == -EBUSY, "a second /proc");
     close(good);
     expect(inroot_open(root, "f", 0) >= 0, "a file by the /proc that was handed in");
+    expect(inroot_openat(root, "f", O_RDWR, 0, 0) >= 0, "a file to be used by the /proc that was handed in");
     expect(inroot_jail(root) == 0, "a jail by the /proc that was handed in");
     expect(inroot_open(INROOT_JAIL, "f", 0) >= 0, "a file in a jail by the /proc that was handed in");
+    expect(inroot_openat(INROOT_JAIL, "f", O_RDWR, 0, 0) >= 0, "a file to be used in a jail by that /proc");
+    close_proc();
+    expect(inroot_open(INROOT_JAIL, "a", 0) >= 0, "a directory in a jail whose /proc was closed");
+    expect(inroot_openat(INROOT_JAIL, "a", O_RDONLY, 0, 0) == -ENOSYS, "the same, to be read");
+    expect(inroot_reopen(root, O_RDONLY) == -ENOSYS, "a directory once more in a jail whose /proc was closed");
 }
 
 /* Opened while it was one, and covered later: what is open stays what it is. */
@@ -80,6 +118,7 @@ static void not_its_top(void)
 {
     int below = sure(open("/proc/sys", O_PATH | O_DIRECTORY | O_CLOEXEC), "/proc/sys");
     expect(inroot_use_proc(below) == 0, "a directory of /proc");
+    no_use("by a directory of /proc");
     expect(inroot_open(root, "f", 0) == -ENOSYS, "a file by a directory of /proc");
 }
 
