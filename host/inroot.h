@@ -13,7 +13,8 @@
  * top: an object that is moved out of the root, to just the path from the top that it had from the root, is taken for
  * one inside.
  *
- * PATH is a text of at most 4,095 bytes, and not NULL. A path text is read before the call's first step and not later.
+ * ROOT stays open until the call ends. PATH is a text of at most 4,095 bytes, and not NULL. A path text is read before
+ * the call's first step and not later.
  *
  * FLAGS are 0 or any of these together:
  *
