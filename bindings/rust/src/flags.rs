@@ -74,6 +74,8 @@ impl ResolverFlags {
     pub const NO_SYMLINKS: ResolverFlags = ResolverFlags(2);
     /// Makes one try, where others are in the way.
     pub const NO_RETRY: ResolverFlags = ResolverFlags(8);
+    /// Looks up each name by a system call of its own, and not several by one openat2(2).
+    pub const ONE_BY_ONE: ResolverFlags = ResolverFlags(32);
 }
 
 joined!(ResolverFlags);

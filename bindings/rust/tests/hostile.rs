@@ -121,6 +121,9 @@ fn restrictions_are_kept() {
     let plain = tree.root().with_resolver_flags(ResolverFlags::BENEATH | ResolverFlags::NO_SYMLINKS);
     assert_eq!(number(plain.try_clone().unwrap().resolve("a/../in")), Some(ELOOP));
     assert_eq!(text(&plain, "a/../a/b/f"), "inside");
+    let slow = tree.root().with_resolver_flags(ResolverFlags::ONE_BY_ONE | ResolverFlags::NO_RETRY);
+    assert_eq!(text(&slow, "in/f"), "inside");
+    assert_eq!(number(tree.root().with_resolver_flags(ResolverFlags::from_bits(1 << 20)).resolve("a")), Some(EINVAL));
 }
 
 #[test]
