@@ -13,7 +13,7 @@ _inroot_fs_options() {
     echo "--beneath --no-links --help $own"
 }
 
-# The names below ROOT that begin with the word. They are asked of inroot-fs itself, so that no link of ROOT leads out of it.
+# The names below ROOT that begin with the word. They are asked of inroot-fs itself, so that no link leads out of it.
 _inroot_fs_paths() {
     local root=$1 word=$2 above='' name
     case $word in

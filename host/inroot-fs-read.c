@@ -81,7 +81,8 @@ static enum fs_status cat_one(const struct fs_call *call, const char *path)
         return fs_refused(call, path, -found);
     bool is_known = fstat(found, &about) == 0;
     bool is_other = is_known && !S_ISREG(about.st_mode) && !S_ISDIR(about.st_mode);
-    int file = !is_known ? -errno : S_ISDIR(about.st_mode) ? -EISDIR : is_other ? -EINVAL : inroot_reopen(found, O_RDONLY);
+    int file = !is_known ? -errno : S_ISDIR(about.st_mode) ? -EISDIR : is_other ? -EINVAL
+        : inroot_reopen(found, O_RDONLY);
     close(found);
     if (is_other)
         return fs_not_regular(call, path);

@@ -216,7 +216,8 @@ static enum fs_status read_options(const struct command *command, int count, cha
         if (option == ':')
             return wrong_call("no value stands after", words[optind - 1]);
         if (option == '?')
-            return wrong_call("there is no option", optopt != 0 ? (char[]){'-', (char)optopt, '\0'} : words[optind - 1]);
+            return wrong_call("there is no option",
+                              optopt != 0 ? (char[]){'-', (char)optopt, '\0'} : words[optind - 1]);
         if (option == 'h')
             exit((int)print_help());
         if (strchr("bL", option) == NULL && strchr(command->options, option) == NULL) {

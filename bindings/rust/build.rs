@@ -20,7 +20,7 @@ fn directories() -> Vec<String> {
         return vec![directory];
     }
     let command = env::var_os("PKG_CONFIG").unwrap_or_else(|| "pkg-config".into());
-    // A static library is looked for in the directories that are named alone, so that those of the system are named too.
+    // A static library is looked for in the directories that are named alone, so those of the system are named too.
     let asked =
         Command::new(&command).args(["--libs-only-L", "inroot"]).env("PKG_CONFIG_ALLOW_SYSTEM_LIBS", "1").output();
     match asked {

@@ -124,7 +124,8 @@ static int read_pax(struct tar_reader *reader, struct pax *pax)
         char *end;
         unsigned long length = strtoul(records + at, &end, 10);
         size_t digits = (size_t)(end - (records + at));
-        if (digits == 0 || *end != ' ' || length > whole - at || length < digits + 2 || records[at + length - 1] != '\n')
+        bool is_long_enough = digits > 0 && length >= digits + 2 && length <= whole - at;
+        if (!is_long_enough || *end != ' ' || records[at + length - 1] != '\n')
             return wrong(reader, "a pax record has a wrong length");
         if (take_record(reader, end + 1, length - digits - 2, pax) < 0)
             return -1;
@@ -151,11 +152,13 @@ static int read_header(struct tar_reader *reader, struct header *header, uint64_
     return 1;
 }
 
-/* Fills in the entry. */
-static int take_entry(struct tar_reader *reader, const struct header *header, const struct pax *pax, struct tar_entry *entry)
+/* Fills in the entry. Gives 1 or -1. */
+static int take_entry(struct tar_reader *reader, const struct header *header, const struct pax *pax,
+                      struct tar_entry *entry)
 {
     uint64_t mode, major, minor;
-    if (!read_number(header->mode, sizeof header->mode, &mode) || !read_number(header->major, sizeof header->major, &major) ||
+    if (!read_number(header->mode, sizeof header->mode, &mode) ||
+        !read_number(header->major, sizeof header->major, &major) ||
         !read_number(header->minor, sizeof header->minor, &minor))
         return wrong(reader, "a mode or a device is no octal number");
     entry->type = header->type == '\0' || header->type == '7' ? '0' : header->type;
@@ -165,7 +168,8 @@ static int take_entry(struct tar_reader *reader, const struct header *header, co
     if (pax->name[0] != '\0')
         memcpy(entry->name, pax->name, sizeof entry->name);
     else
-        snprintf(entry->name, sizeof entry->name, "%.155s%s%.100s", header->prefix, header->prefix[0] == '\0' ? "" : "/", header->name);
+        snprintf(entry->name, sizeof entry->name, "%.155s%s%.100s", header->prefix,
+                 header->prefix[0] == '\0' ? "" : "/", header->name);
     if (pax->link[0] != '\0')
         memcpy(entry->link, pax->link, sizeof entry->link);
     else

@@ -47,7 +47,8 @@ pub struct Root {
 }
 
 impl Root {
-    /// Opens a directory as the root. Its path is walked as open(2) does, so it should be one that nobody else can change.
+    /// Opens a directory as the root. Its path is walked as open(2) does, so it should be one that nobody else can
+    /// change.
     pub fn open(path: impl AsRef<Path>) -> io::Result<Root> {
         let flags = OpenFlags::O_PATH | OpenFlags::O_DIRECTORY;
         let file = OpenOptions::new().read(true).custom_flags(flags.bits()).open(path)?;

@@ -1,4 +1,4 @@
-//! No call leaves a descriptor open, whether it succeeds or fails. In a program of its own, so that no other test opens any.
+//! No call leaves a descriptor open, whether it succeeds or fails. In a program of its own: no other test opens any.
 
 use inroot::{OpenFlags, Root};
 use std::fs::{self, Permissions};

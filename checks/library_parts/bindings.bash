@@ -1,0 +1,56 @@
+# shellcheck shell=bash disable=SC2154
+# The tests of the bindings, and programs over them. checks/library reads this file.
+
+if ! lacks cargo 'bindings/rust is not tested'; then
+    export CARGO_TARGET_DIR=$work/target
+    lacks rustfmt 'the form of bindings/rust is not checked' ||
+        has 'rustfmt' rustfmt --check --edition 2021 --config-path bindings/rust bindings/rust/src/lib.rs \
+            bindings/rust/tests/*.rs bindings/rust/build.rs
+    has 'the tests of bindings/rust' cargo test -q --offline --locked --manifest-path bindings/rust/Cargo.toml
+    mkdir -p "$work/rust/src"
+    cat >"$work/rust/Cargo.toml" <<END
+[package]
+name = "used"
+version = "0.0.0"
+edition = "2021"
+[dependencies]
+inroot = { path = "$top/bindings/rust" }
+END
+    cat >"$work/rust/src/main.rs" <<'END'
+use std::io::Read;
+fn main() {
+    let root = inroot::Root::open(std::env::args_os().nth(1).unwrap()).unwrap();
+    let mut text = String::new();
+    let found = root.resolve("in/f").unwrap();
+    found.reopen(inroot::OpenFlags::O_RDONLY).unwrap().read_to_string(&mut text).unwrap();
+    assert_eq!((text.as_str(), root.resolve("abs/secret").is_err()), ("inside\n", true));
+}
+END
+    for kind in '' 1; do
+        [ -z "$kind" ] || export INROOT_STATIC=$kind
+        has "a Rust program, static: '$kind'" cargo build -q --offline --manifest-path "$work/rust/Cargo.toml"
+        cp "$CARGO_TARGET_DIR/debug/used" "$work/used"
+        has "a Rust program runs, static: '$kind'" "$work/used" "$box"
+        [ "$(is_shared; echo $?)" -eq "${kind:-0}" ]
+        verdict $? "a Rust program has the wrong library, static: '$kind'"
+    done
+    unset INROOT_STATIC
+fi
+has_go=
+if ! lacks go 'bindings/go and the example in Go are not tested'; then
+    export GOFLAGS=-mod=mod GOPROXY=off GOTOOLCHAIN=local CGO_ENABLED=1
+    # Of its own: the cache keeps what pkg-config said, and doesn't see where the library went.
+    export GOCACHE=$work/gocache
+    [ -z "$(gofmt -l bindings/go examples/runtime)" ]
+    verdict $? "gofmt -l: $(gofmt -l bindings/go examples/runtime)"
+    has 'go vet of bindings/go' env -C bindings/go go vet ./...
+    has 'the tests of bindings/go' env -C bindings/go go test -count=1 ./...
+    has 'a Go program' env -C examples/runtime/unpack-go go build -o "$work/unpack-go" . && has_go=yes
+    cp "$work/unpack-go" "$work/used" && has 'a Go program takes the shared library' is_shared
+    if [ -e "$work/static" ]; then
+        has 'a Go program, static' env -C examples/runtime/unpack-go \
+            go build -ldflags '-linkmode external -extldflags -static' -o "$work/unpack-go-static" .
+        cp "$work/unpack-go-static" "$work/used" && ! is_shared
+        verdict $? 'a static Go program takes the shared library'
+    fi
+fi

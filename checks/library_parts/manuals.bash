@@ -1,0 +1,75 @@
+# shellcheck shell=bash disable=SC2154
+# Man pages and completions. checks/library reads this file.
+
+# Each call's page has its prototype, word for word.
+prototypes() {
+    awk '/^[a-z].*inroot_[a-z_]*\(/, /;$/' host/inroot.h | tr '\n' ' ' | sed 's/; */;\n/g; s/  */ /g' |
+        grep -v '^struct' | LC_ALL=C sort
+}
+documented() {
+    local page
+    for page in man/*.3; do
+        [ -L "$page" ] || awk '
+            /^[.]Ft / { type = substr($0, 5); gsub(/"/, "", type); next }
+            /^[.]Fn / && type != "" {
+                line = substr($0, 5); name = line; sub(/ .*/, "", name); sub(/^[^ ]* */, "", line)
+                gsub(/" "/, ", ", line); gsub(/"/, "", line)
+                print type (type ~ /\*$/ ? "" : " ") name "(" line ");"; type = ""
+            }' "$page"
+    done | LC_ALL=C sort
+}
+[ "$(documented)" = "$(prototypes)" ]
+verdict $? "the man pages have other prototypes: $(diff <(documented) <(prototypes))"
+for name in $wanted; do
+    grep -q "^[.]Nm $name\( ,\)*$" "$prefix/share/man/man3/$name.3"
+    verdict $? "there is no man page of $name"
+done
+# Each flag of the header is told, and how much of the stack a call takes is told alike.
+flags_told=$(grep -o '^    INROOT_[A-Z_]* = ' host/inroot.h | sed 's/ = //')
+for name in $flags_told INROOT_NOREPLACE INROOT_EXCHANGE INROOT_JAIL; do
+    grep -q "^[.]It Dv $name$\|^[.]Dv $name\b" man/*.[37]
+    verdict $? "no man page tells of $name"
+done
+[ "$(grep -o 'up to [0-9]* kilobytes' man/libinroot.7)" = "$(grep -o 'up to [0-9]* kilobytes' host/inroot.h)" ]
+verdict $? 'man/libinroot.7 and inroot.h tell of another size of the stack'
+for name in $(sed -n 's/^[.]Xr \(inroot[a-z_-]*\|libinroot\) \([1357]\).*/\1.\2/p' man/* | sort -u); do
+    [ -f "man/$name" ]
+    verdict $? "a man page names $name, and there is none"
+done
+if ! lacks mandoc 'the man pages are not checked'; then
+    # Which pages of others are installed here is no matter.
+    told=$(mandoc -T lint man/*.[1-8] 2>/dev/null | grep -v 'referenced manual not found')
+    [ -z "$told" ]
+    verdict $? "mandoc -T lint: $told"
+fi
+# The example of inroot-script(5), where the program is there.
+if [ -x "${INROOT_PROGRAM-}" ]; then
+    awk '/^[.]Sh EXAMPLES/ { on = 1 } on && /^[{ ]/' man/inroot-script.5 >"$work/script"
+    told=$("$INROOT_PROGRAM" walk up <"$work/script" 2>&1)
+    [ "$told" = "$(sed -n 's/^[.]Dl \(opened .*\)/\1/p' man/inroot-script.5)" ]
+    verdict $? "the example of man/inroot-script.5: $told"
+else
+    echo 'library: no program inroot is given (INROOT_PROGRAM): the example of inroot-script(5) was not run'
+fi
+for option in $("$fs" --help | grep -o -- '--[a-z-]*' | sort -u); do
+    name=${option#--}
+    case $name in version) continue ;; esac
+    grep -qF -- "Fl Fl $name" man/inroot-fs.1 && grep -qF -- "$option" completions/inroot-fs.bash &&
+        { [ "$name" = help ] || grep -qF -- "$option" completions/_inroot-fs; } &&
+        grep -qF -- "-l $name" completions/inroot-fs.fish
+    verdict $? "$option is missing in the man page or a completion of inroot-fs"
+done
+has 'completions for bash' bash -n completions/*.bash
+# What bash completes: the commands, and names below the root that no link leads out of.
+completed() {
+    PATH=$prefix/bin:$PATH bash -c 'source completions/inroot-fs.bash; compopt() { :; }
+        COMP_WORDS=("$@") COMP_CWORD=$(($# - 1)); _inroot_fs; printf "%s\n" "${COMPREPLY[@]}"' - inroot-fs "$@" |
+        LC_ALL=C sort | xargs -d '\n'
+}
+[ "$(completed "$box" r)" = 'readlink resolve rm rmdir' ] && [ "$(completed "$box" cat in/)" = 'in/f in/new' ] &&
+    [ "$(completed "$box" cat abs/)" = '' ] && [ "$(completed "$box" rm --r)" = --recursive ]
+verdict $? "bash completes: $(completed "$box" r), $(completed "$box" cat in/), $(completed "$box" cat abs/)"
+lacks zsh 'its completions are not checked' ||
+    has 'completions for zsh' zsh -n completions/_inroot completions/_inroot-fs
+lacks fish 'its completions are not checked' ||
+    has 'completions for fish' fish -n completions/inroot.fish completions/inroot-fs.fish

@@ -1,0 +1,79 @@
+# shellcheck shell=bash disable=SC2154
+# inroot-fs as a user runs it. checks/library reads this file.
+
+fs=$prefix/bin/inroot-fs
+# expect STATUS STDOUT STDERR ARGS..: below the box; STDERR is the first line, or empty. Standard input is the case's.
+expect() {
+    local status=$1 out=$2 err=$3 got said
+    shift 3
+    said=$("$fs" "$box" "$@" 2>"$work/err")
+    got=$?
+    [ "$got" -eq "$status" ] && [ "$said" = "$out" ] && [ "$(head -n 1 "$work/err")" = "$err" ]
+    verdict $? "inroot-fs $*: status $got, '$said', '$(cat "$work/err")'"
+}
+expect 0 "opened file $box/a/b/f" '' resolve in/f
+expect 0 "opened dir $box" '' resolve ../../..
+expect 0 "opened link $box/in" '' resolve --nofollow in
+expect 0 'fault ENOENT' '' resolve up/secret
+expect 0 'fault EXDEV' '' resolve --beneath in/f
+expect 0 'fault ELOOP' '' resolve --no-links in/f
+expect 0 'fault ENOTDIR' '' resolve a/b/f/x
+expect 0 inside '' cat in/f
+expect 1 inside "inroot-fs: cat 'up/secret': ENOENT: No such file or directory, at 'outside'" cat up/secret in/f
+expect 1 '' "inroot-fs: cat 'a': EISDIR: Is a directory" cat a
+expect 0 $'a\nabs\nin\nup' '' ls
+expect 0 f '' ls in
+expect 1 '' "inroot-fs: ls 'in/f': ENOTDIR: Not a directory" ls in/f
+expect 0 /a/../../a/b '' readlink in
+expect 1 '' "inroot-fs: readlink 'a': EINVAL: Invalid argument" readlink a
+expect 0 '' '' mkdir --parents --mode 711 in/x/y
+expect 1 '' "inroot-fs: mkdir 'up/x': ENOENT: No such file or directory, at 'outside'" mkdir --parents up/x
+expect 1 '' "inroot-fs: mkdir 'a': EEXIST: File exists" mkdir a
+expect 0 '' '' write --mode 600 in/x/new <<<data
+expect 0 '' '' write --append in/x/new <<<more
+expect 0 $'data\nmore' '' cat a/b/x/new
+expect 1 '' "inroot-fs: write 'in/x/new': EEXIST: File exists, at 'new'" write --exclusive in/x/new <<<lost
+expect 0 '' '' write in/x/new <<<again
+expect 0 again '' cat in/x/new
+[ "$(stat -c %a "$box/a/b/x" "$box/a/b/x/new" | xargs)" = '711 600' ]
+verdict $? 'inroot-fs made other modes'
+[ "$("$fs" "$box" stat in/x/new | sed -n '1,2p;6p' | xargs)" = 'kind file mode 0600 size 6' ]
+verdict $? "inroot-fs stat: $("$fs" "$box" stat in/x/new)"
+mkfifo "$box/fifo"
+expect 1 '' "inroot-fs: cat 'fifo': EINVAL: it is no regular file" cat fifo
+expect 1 '' "inroot-fs: write 'fifo': EINVAL: it is no regular file" write fifo <<<lost
+expect 0 '' '' ln -s /a/b/f link
+expect 0 '' '' ln in/f second
+expect 0 '' '' mv --exchange link second
+expect 0 inside '' cat second
+expect 1 '' "inroot-fs: mv 'second': EEXIST: File exists" mv --no-replace link second
+expect 0 '' '' mv link third
+expect 0 '' '' rm third
+expect 1 '' "inroot-fs: rm 'a': EISDIR: Is a directory" rm a
+expect 1 '' "inroot-fs: rmdir 'a': ENOTEMPTY: Directory not empty" rmdir a
+expect 0 '' '' rmdir in/x/y
+expect 0 'removed 2' '' rm -r in/x
+expect 0 'removed 0' '' rm -r in/x
+expect 0 'removed 1' '' rm -r up
+expect 2 '' "inroot-fs: there is no command 'frob'" frob
+expect 2 '' "inroot-fs: there is no option '--frob'" rm --frob a
+expect 2 '' 'inroot-fs: rm has no option -p' rm -p a
+expect 2 '' "inroot-fs: an argument is missing to 'rm'" rm
+expect 2 '' "inroot-fs: there is an argument too many: 'b'" rm a b
+expect 2 '' "inroot-fs: a mode is octal digits, at most 7777, and not '8'" mkdir -m 8 x
+expect 2 '' "inroot-fs: no value stands after '-m'" mkdir -m
+expect 2 '' 'inroot-fs: --no-replace and --exchange exclude each other' mv -nX a b
+touch "$box/"$'odd\n\e[2J\\name'
+expect 0 $'a\nabs\nfifo\nin\nodd\\x0a\\x1b[2J\\x5cname\nsecond' '' ls
+[ "$("$fs" "$box" ls --zero | tr '\0' '/')" = $'a/abs/fifo/in/odd\n\e[2J\\name/second/' ]
+verdict $? 'inroot-fs ls --zero'
+"$fs" "$box" ls >/dev/full 2>"$work/err"
+[ $? -eq 4 ] && [ "$(cat "$work/err")" = 'inroot-fs: write failed' ]
+verdict $? "inroot-fs to a full device: $(cat "$work/err")"
+"$fs" "$work/none" ls 2>"$work/err"
+[ $? -eq 4 ] && grep -q "the root can't be opened: ENOENT" "$work/err"
+verdict $? "inroot-fs below a root that isn't there: $(cat "$work/err")"
+[ "$("$fs" --version)" = "inroot-fs $version" ]
+verdict $? "inroot-fs --version: $("$fs" --version)"
+[ "$(outside)" = "$before" ]
+verdict $? "inroot-fs changed what is outside: $(diff <(echo "$before") <(outside))"
