@@ -1,6 +1,6 @@
 # Completion of inroot(1) for fish.
 set -l commands walk replay draw run explore help
-complete -c inroot -n "not __fish_seen_subcommand_from $commands" -f -a walk -d 'Resolve a path over the tree of a script'
+complete -c inroot -n "not __fish_seen_subcommand_from $commands" -f -a walk -d 'Resolve a path over a script'
 complete -c inroot -n "not __fish_seen_subcommand_from $commands" -f -a replay -d 'Play a script, and print each event'
 complete -c inroot -n "not __fish_seen_subcommand_from $commands" -f -a draw -d 'Play a script, and draw it'
 complete -c inroot -n "not __fish_seen_subcommand_from $commands" -f -a run -d 'Let threads make the calls'

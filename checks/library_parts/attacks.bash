@@ -48,7 +48,8 @@ if [ -e "$work/static" ] && unshare -rm true 2>/dev/null; then
     examples/runtime/make-attacks /outside >"$trap_box/attacks.tar"
     unshare -rm bash -c "mount --rbind /proc '$trap_box/proc' && chroot '$trap_box' /naive /box" \
         <"$trap_box/attacks.tar" 2>/dev/null
-    [ "$(cat "$trap_box/outside/secret")" != secret ] && [ -e "$trap_box/outside/by-link" ] && [ -e "$trap_box/escaped-too" ]
+    [ "$(cat "$trap_box/outside/secret")" != secret ] && [ -e "$trap_box/outside/by-link" ] &&
+        [ -e "$trap_box/escaped-too" ]
     verdict $? 'the attacks do nothing to a naive unpacker'
 else
     echo 'library: no right to unshare, or no static C library here: the attacks were not tried on a naive unpacker'
