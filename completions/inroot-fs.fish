@@ -19,7 +19,7 @@ function __inroot_fs_paths
     set -l above (string match -r '^.*/' -- (commandline -ct))
     set -l asked $above .
     inroot-fs $words[2] ls --zero -- $asked[1] 2>/dev/null | while read -lz name
-        echo $above$name
+        echo "$above$name"
     end
 end
 

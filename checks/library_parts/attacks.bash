@@ -55,9 +55,10 @@ else
     echo 'library: no right to unshare, or no static C library here: the attacks were not tried on a naive unpacker'
 fi
 
-# Cut off anywhere, or with a byte changed, the archive is refused or makes less; and nothing outside is changed.
-sanitized=-fsanitize=address,undefined
-echo 'int main(void) { return 0; }' | cc $sanitized -x c -o "$work/static" - 2>/dev/null || sanitized=
+# Cut off, or with a byte changed, the archive is refused or makes something else; and nothing outside is changed.
+sanitized='-fsanitize=address,undefined -fno-sanitize-recover=all'
+# shellcheck disable=SC2086
+echo 'int main(void) { return 0; }' | cc $sanitized -x c -o "$work/sanitized" - 2>/dev/null || sanitized=
 # shellcheck disable=SC2086
 has 'unpack with sanitizers' cc -std=gnu11 -g $sanitized -o "$work/watched" examples/runtime/unpack.c \
     examples/runtime/tar.c "${flags[@]}"
@@ -70,6 +71,20 @@ for at in 0 100 512 700 1024 5000 9000 15000 20000 24000; do
 done
 [ "$statuses" = ' 4 4 4 4 4 4 4 4 4 4' ]
 verdict $? "an archive that is cut off: statuses$statuses"
+# Of a pax header no checksum covers the contents: each byte of the first records is changed in turn.
+at=$(grep -abo ' path=ok/' "$work/attacks.tar" | head -n 1 | cut -d : -f 1)
+wrong=
+for ((i = at - 4; i < at + 12; i++)); do
+    cp "$work/attacks.tar" "$work/changed.tar"
+    printf '\377' | dd of="$work/changed.tar" bs=1 seek="$i" conv=notrunc status=none
+    mkdir "$work/cut"
+    ASAN_OPTIONS=exitcode=99 "$work/watched" "$work/cut" <"$work/changed.tar" >/dev/null 2>"$work/err"
+    status=$?
+    [ "$status" -eq 1 ] || [ "$status" -eq 4 ] || wrong="$wrong $i: $status"
+    chmod -R u+rwx "$work/cut"; rm -rf "$work/cut"
+done
+[ -n "$at" ] && [ -z "$wrong" ]
+verdict $? "an archive with a byte changed:$wrong $(tail -n 3 "$work/err")"
 printf 'x%.0s' {1..2000} | "$work/watched" "$box" 2>"$work/err"
 [ $? -eq 4 ] && grep -q 'wrong checksum' "$work/err"
 verdict $? "no archive: $(cat "$work/err")"

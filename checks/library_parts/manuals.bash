@@ -73,3 +73,13 @@ lacks zsh 'its completions are not checked' ||
     has 'completions for zsh' zsh -n completions/_inroot completions/_inroot-fs
 lacks fish 'its completions are not checked' ||
     has 'completions for fish' fish -n completions/inroot.fish completions/inroot-fs.fish
+if command -v fish >/dev/null; then
+    # What fish completes of the first line, with a comma after each.
+    fished() {
+        PATH=$prefix/bin:$PATH HOME=$work fish -c "source completions/inroot-fs.fish; complete -C 'inroot-fs $*'" |
+            cut -f 1 | LC_ALL=C sort | tr '\n' ,
+    }
+    [ "$(fished "$box" r)" = readlink,resolve,rm,rmdir, ] && [ "$(fished "$box" ls ab)" = abs, ] &&
+        [ "$(fished "$box" cat in/f)" = in/f, ] && [ "$(fished "$box" cat abs/)" = '' ]
+    verdict $? "fish completes: $(fished "$box" r) $(fished "$box" ls ab) $(fished "$box" cat in/f)"
+fi

@@ -2,11 +2,18 @@
 # inroot-fs as a user runs it. checks/library reads this file.
 
 fs=$prefix/bin/inroot-fs
+# What is expected below is watched by sanitizers where the compiler has them.
+watched_fs=$work/watched-fs
+cc -std=gnu11 -g -fsanitize=address,undefined -fno-sanitize-recover=all -Ihost -o "$watched_fs" host/inroot-fs*.c \
+    "$prefix/lib/libinroot.a" -pthread 2>/dev/null || {
+    echo 'library: the compiler has no sanitizers: inroot-fs is run without'
+    watched_fs=$fs
+}
 # expect STATUS STDOUT STDERR ARGS..: below the box; STDERR is the first line, or empty. Standard input is the case's.
 expect() {
     local status=$1 out=$2 err=$3 got said
     shift 3
-    said=$("$fs" "$box" "$@" 2>"$work/err")
+    said=$("$watched_fs" "$box" "$@" 2>"$work/err")
     got=$?
     [ "$got" -eq "$status" ] && [ "$said" = "$out" ] && [ "$(head -n 1 "$work/err")" = "$err" ]
     verdict $? "inroot-fs $*: status $got, '$said', '$(cat "$work/err")'"
