@@ -13,7 +13,7 @@ cc -std=gnu11 -g -fsanitize=address,undefined -fno-sanitize-recover=all -Ihost -
 expect() {
     local status=$1 out=$2 err=$3 got said
     shift 3
-    said=$("$watched_fs" "$box" "$@" 2>"$work/err")
+    said=$(timeout 60 "$watched_fs" "$box" "$@" 2>"$work/err")
     got=$?
     [ "$got" -eq "$status" ] && [ "$said" = "$out" ] && [ "$(head -n 1 "$work/err")" = "$err" ]
     verdict $? "inroot-fs $*: status $got, '$said', '$(cat "$work/err")'"
