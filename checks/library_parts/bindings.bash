@@ -38,7 +38,7 @@ END
 fi
 has_go=
 if ! lacks go 'bindings/go and the example in Go are not tested'; then
-    export GOFLAGS=-mod=mod GOPROXY=off GOTOOLCHAIN=local CGO_ENABLED=1
+    export GOFLAGS=-mod=readonly GOWORK=off GOPROXY=off GOTOOLCHAIN=local CGO_ENABLED=1
     # Of its own: the cache keeps what pkg-config said, and doesn't see where the library went.
     export GOCACHE=$work/gocache
     [ -z "$(gofmt -l bindings/go examples/runtime)" ]
