@@ -118,8 +118,11 @@ static bool add_name(struct names *names, const char *name)
         names->at = more;
         names->room = room;
     }
-    names->at[names->count] = strdup(name);
-    return names->at[names->count] != NULL && ++names->count != 0;
+    char *kept = strdup(name);
+    if (kept == NULL)
+        return false;
+    names->at[names->count++] = kept;
+    return true;
 }
 
 /* Reads all names of a directory but `.` and `..`. Gives 0 or an error. */
