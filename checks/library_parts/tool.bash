@@ -36,6 +36,9 @@ expect 1 '' "inroot-fs: readlink 'a': EINVAL: Invalid argument" readlink a
 expect 0 '' '' mkdir --parents --mode 711 in/x/y
 expect 1 '' "inroot-fs: mkdir 'up/x': ENOENT: No such file or directory, at 'outside'" mkdir --parents up/x
 expect 1 '' "inroot-fs: mkdir 'a': EEXIST: File exists" mkdir a
+expect 1 '' "inroot-fs: mkdir 'none/../y': ENOENT: No such file or directory" mkdir -p none/../y
+expect 1 '' "inroot-fs: mkdir 'in/f/y': ENOTDIR: Not a directory, at 'f'" mkdir -p in/f/y
+expect 1 '' "inroot-fs: rm 'a/..': EINVAL: Invalid argument" rm -r a/..
 expect 0 '' '' write --mode 600 in/x/new <<<data
 expect 0 '' '' write --append in/x/new <<<more
 expect 0 $'data\nmore' '' cat a/b/x/new
