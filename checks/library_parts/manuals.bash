@@ -9,7 +9,7 @@ prototypes() {
 documented() {
     local page
     for page in man/*.3; do
-        [ -L "$page" ] || awk '
+        awk '
             /^[.]Ft / { type = substr($0, 5); gsub(/"/, "", type); next }
             /^[.]Fn / && type != "" {
                 line = substr($0, 5); name = line; sub(/ .*/, "", name); sub(/^[^ ]* */, "", line)
@@ -33,7 +33,7 @@ done
 [ "$(grep -o 'up to [0-9]* kilobytes' man/libinroot.7)" = "$(grep -o 'up to [0-9]* kilobytes' host/inroot.h)" ]
 verdict $? 'man/libinroot.7 and inroot.h tell of another size of the stack'
 for name in $(sed -n 's/^[.]Xr \(inroot[a-z_-]*\|libinroot\) \([1357]\).*/\1.\2/p' man/* | sort -u); do
-    [ -f "man/$name" ]
+    [ -f "$prefix/share/man/man${name##*.}/$name" ]
     verdict $? "a man page names $name, and there is none"
 done
 if ! lacks mandoc 'the man pages are not checked'; then
