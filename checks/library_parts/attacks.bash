@@ -46,7 +46,7 @@ if [ -e "$work/static" ] && unshare -rm true 2>/dev/null; then
     has 'a naive unpacker' cc -std=gnu11 -static -Iexamples/runtime -o "$trap_box/naive" "$work/naive.c" \
         examples/runtime/tar.c "${static_flags[@]}"
     examples/runtime/make-attacks /outside >"$trap_box/attacks.tar"
-    unshare -rm bash -c "mount --rbind /proc '$trap_box/proc' && chroot '$trap_box' /naive /box" \
+    unshare -rm bash -c "PATH=$PATH:/usr/sbin:/sbin; mount --rbind /proc '$trap_box/proc' && chroot '$trap_box' /naive /box" \
         <"$trap_box/attacks.tar" 2>/dev/null
     [ "$(cat "$trap_box/outside/secret")" != secret ] && [ -e "$trap_box/outside/by-link" ] &&
         [ -e "$trap_box/escaped-too" ]
