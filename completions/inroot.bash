@@ -5,11 +5,11 @@ _inroot() {
         words='walk replay draw run explore help --help --version'
     else
         case ${COMP_WORDS[1]} in
-        walk) words='--beneath --no-links --help' ;;
-        replay) words='--schedule --help' ;;
-        draw) words='--svg --all --schedule --help' ;;
-        run) words='--workers --help' ;;
-        explore) words='--actor --cuts --states --outside --never --always --help' ;;
+        walk) words='--beneath --no-links --strict --help' ;;
+        replay) words='--schedule --strict --help' ;;
+        draw) words='--svg --all --schedule --strict --help' ;;
+        run) words='--workers --strict --help' ;;
+        explore) words='--actor --cuts --states --outside --never --always --strict --help' ;;
         esac
     fi
     mapfile -t COMPREPLY < <(compgen -W "$words" -- "$word")

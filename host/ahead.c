@@ -40,7 +40,7 @@ static void take(struct inroot_ahead *a, const char *path)
 void inroot_ahead_begin(struct inroot_ahead *a, const struct inroot_request *asked)
 {
     a->whole = walks_whole(asked->op);
-    a->directory = asked->op == INROOT_ASK_MKDIR_ALL;
+    a->directory = asked->op == INROOT_ASK_MKDIR_ALL || asked->directory;
     a->link_may_end = asked->op == INROOT_ASK_RESOLVE_NOFOLLOW || asked->op == INROOT_ASK_READLINK;
     a->begun = a->from_top = a->makes = false;
     a->has_second = asked->op == INROOT_ASK_RENAME && strlen(asked->second) < sizeof a->second;

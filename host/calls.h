@@ -53,13 +53,13 @@ struct inroot_told {
     bool whole;
 };
 
-/* Begins a call, where `kept` is zero or what an ended call left. It holds a call then exactly where a step was told. */
+/* Begins a call, where `kept` is zero or what an ended call left. It then holds a call exactly if `told` has a step. */
 void inroot_begin(const struct inroot_asked *asked, const unsigned char *first, size_t first_length,
                   const unsigned char *second, size_t second_length, struct inroot_kept *kept, struct inroot_told *told,
                   unsigned char *room, size_t size);
 
 /*
- * Takes the answer to the step that was told. `kept` holds a call: the one that the last turn left there. The bytes, the
+ * Takes the answer to the last step. `kept` holds a call: the one that the last turn left there. The bytes, the
  * room and what is pointed to otherwise are apart from one another, here and above.
  */
 void inroot_next(struct inroot_kept *kept, const struct inroot_answered *answered, const unsigned char *bytes,

@@ -57,6 +57,8 @@ struct inroot_request {
     dev_t device;
     int open_flags;                /* by which the new file is opened */
     int object;                    /* a descriptor of what gets another name */
+    bool directory;                /* what is opened is of use only where it is one */
+    enum inroot_kind *opened;      /* where the kind of what was opened is told, or NULL */
 };
 
 /* What of a path is still to be walked: from `at` to `end`; beyond `until` is the last name, which no step opens. */
@@ -127,7 +129,7 @@ int inroot_handles_fd(struct inroot_driver *d, uint64_t handle, int *fd);
 void inroot_handles_close(struct inroot_driver *d, uint64_t handle);
 /* A second handle on the root, by the same descriptor. */
 uint64_t inroot_handles_share(struct inroot_driver *d, uint64_t root);
-/* Takes the descriptor out of a handle, for the caller to keep. Gives it or -errno. */
+/* Takes the descriptor out of a handle, for the caller to keep, and tells its kind. Gives it or -errno. */
 int inroot_handles_take(struct inroot_driver *d, uint64_t handle);
 /* Lets one directory above this one go, where one can be. */
 bool inroot_handles_spare(struct inroot_driver *d, uint64_t handle);

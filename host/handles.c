@@ -148,7 +148,9 @@ static void come_back(struct inroot_driver *d, struct inroot_slot *slot, int32_t
     int up = INROOT_NONE;
     slot->lost = EAGAIN;
     if (d->inner >= 0 && d->inner_above == at) {
-        up = openat(d->inner, "..", O_PATH | O_DIRECTORY | O_NOFOLLOW | O_CLOEXEC);
+        do
+            up = openat(d->inner, "..", O_PATH | O_DIRECTORY | O_NOFOLLOW | O_CLOEXEC);
+        while (up < 0 && errno == EINTR);
         if (up < 0 && errno != ENOENT && errno != ENOTDIR)
             slot->lost = errno;
     }
@@ -232,6 +234,8 @@ int inroot_handles_take(struct inroot_driver *d, uint64_t handle)
     struct inroot_slot *slot = inroot_handles_slot(d, handle);
     int fd = slot->fd;
     slot->fd = INROOT_NONE;
+    if (d->asked->opened != NULL)
+        *d->asked->opened = (enum inroot_kind)slot->kind;
     if (slot->is_shared)
         return open_shared(fd);
     return fd >= 0 ? fd : -ENOMEM;

@@ -31,7 +31,7 @@
  * A call that finds that others moved or removed what it had come to begins again: it makes up to INROOT_TRIES tries,
  * the first eight one after another, and before each other one it waits, 10 microseconds at first and twice as long
  * each time up to a millisecond, so some 20 milliseconds in all. Then it gives EAGAIN. Who renames without end can
- * make it fail so: in the races of docs/HOST.md up to four of a hundred calls ended so with one try, and none of a
+ * make it fail so: in the races of docs/HOST.md up to four of a hundred calls ended so with one try, and none of six
  * million with all.
  *
  * Every call gives -errno where it fails, and then leaves no descriptor open. In this order:
@@ -55,9 +55,9 @@
  *   EMFILE        no descriptor is left
  *   any other     that a system call of a step gave, as EACCES, EIO, ENFILE or ESTALE
  *
- * and then those of the one step on the last name, which each call tells. EINTR is told only of a step that changes an
+ * and then those of the one step on the last name, which each call lists. EINTR comes only from a step that changes an
  * entry, on a file system that lets signals interrupt one, where it isn't known then whether the entry was changed;
- * and of one that opens for use, as a FIFO.
+ * and from one that opens for use, as a FIFO.
  *
  * EAGAIN is also what an object gives that is no directory and whose name ends in ` (deleted)`, at every try: the
  * kernel writes just this behind the path of what is removed.
@@ -65,7 +65,7 @@
  * The calls leave alone: what is open, signal masks and handlers, errno's meaning (it may change), umask and current
  * directory but as inroot_jail() says. Any number of threads may make calls, on one root or several. A thread that is
  * cancelled (pthread_cancel(3)) in a call ends after it. A call takes up to 64 kilobytes of the thread's stack.
- * docs/HOST.md tells of signals, fork(2), vfork(2) and CLONE_FILES.
+ * docs/HOST.md explains signals, fork(2), vfork(2) and CLONE_FILES.
  */
 #ifndef INROOT_H
 #define INROOT_H
@@ -115,11 +115,11 @@ int inroot_use_proc(int proc);
  * thread that was moved can't be moved back. Its current directory is that root after each call. Needs CAP_SYS_CHROOT,
  * which unshare(2) with CLONE_NEWUSER gives, and a /proc to ask for what is no directory.
  *
- * Leave alone in such a thread: its root directory, by chroot(2), pivot_root(2) or setns(2). A thread that it makes
- * has the same root, and isn't a moved one.
+ * Leave alone in such a thread, and in each that it makes: the root directory, by chroot(2), pivot_root(2) or setns(2).
+ * A thread that it makes shares that with it, and isn't a moved one.
  *
  * Gives 0; -EBUSY in a thread that was moved already, -EBADF or -ENOTDIR where ROOT is no directory's, -EPERM without
- * the capability, -ENOSYS without /proc, -EMFILE, -EACCES where ROOT may not be searched. Then the thread is as
+ * the capability, -ENOSYS without /proc, -EMFILE, -ENOMEM, -EACCES where ROOT may not be searched. Then the thread is as
  * before, but where chroot(2) itself was refused, as by a security module: its current directory is the same then, but
  * its own from there on.
  */
@@ -161,8 +161,8 @@ struct inroot_error {
 };
 
 /*
- * Tells it. Gives 0, or -ENODATA where no call of this thread has failed. As of errno, nothing is said of what it
- * tells after a call that succeeded.
+ * Gets it. Gives 0, or -ENODATA where no call of this thread has failed. As with errno, the result after a call that
+ * succeeded is unspecified.
  */
 int inroot_last_error(struct inroot_error *error);
 
@@ -192,7 +192,7 @@ int inroot_open(int root, const char *path, int flags);
  * entry at each try; and what open(2) has beside it.
  *
  * It isn't promised that the file stands below the root when it is opened: it did when it was found. A FIFO and a
- * device are opened as open(2) does, which may wait for others or change the device: inroot_stat() tells first. What
+ * device are opened as open(2) does, which may wait for others or change the device: ask inroot_stat() first. What
  * is there already is opened without the protection that fs.protected_regular and fs.protected_fifos give to O_CREAT
  * in a directory that all may write to (proc_sys_fs(5)): use O_EXCL there.
  */
@@ -210,8 +210,8 @@ int inroot_openat(int root, const char *path, int open_flags, mode_t mode, int f
 int inroot_reopen(int fd, int open_flags);
 
 /*
- * Tells what stands at PATH (fstat(2)), of a link at the end what it leads to, or with INROOT_NOFOLLOW the link. Gives
- * 0. What is told is of the object that stood there at a moment of the call.
+ * Gets the status of what stands at PATH (fstat(2)): of a link at the end what it leads to, or with INROOT_NOFOLLOW
+ * the link. Gives 0. It is that of the object that stood there at a moment of the call.
  */
 int inroot_stat(int root, const char *path, struct stat *about, int flags);
 

@@ -20,8 +20,11 @@ bool inroot_is_jailed(void)
 
 void inroot_jail_done(void)
 {
+    int state;
+    pthread_setcancelstate(PTHREAD_CANCEL_DISABLE, &state);
     jailed = false;
     inroot_proc_leave();
+    pthread_setcancelstate(state, NULL);
 }
 
 /* Asked before anything is changed. */

@@ -9,14 +9,20 @@
 #include <errno.h>
 #include <fcntl.h>
 #include <linux/magic.h>
+#include <pthread.h>
 #include <stdatomic.h>
-#include <stdio.h>
+#include <string.h>
 #include <sys/vfs.h>
 #include <unistd.h>
 
 /* The program's; and that of a thread whose table of descriptors has not the program's one, and which can open none later. */
 static atomic_int kept = INROOT_NONE;
 static _Thread_local int of_thread = INROOT_NONE;
+
+/* By which a thread's own is closed as it ends. */
+static pthread_once_t key_once = PTHREAD_ONCE_INIT;
+static pthread_key_t key;
+static bool has_key;
 
 static bool is_proc(int fd)
 {
@@ -81,7 +87,15 @@ void inroot_proc_end(struct inroot_driver *d)
 
 void inroot_proc_name(int fd, char *name)
 {
-    (void)snprintf(name, INROOT_PROC_NAME, "thread-self/fd/%d", fd);
+    static const char above[] = "thread-self/fd/";
+    char digits[3 * sizeof fd], *first = digits + sizeof digits;
+    do
+        *--first = (char)('0' + fd % 10);
+    while ((fd /= 10) > 0);
+    size_t count = (size_t)(digits + sizeof digits - first);
+    memcpy(name, above, sizeof above - 1);
+    memcpy(name + sizeof above - 1, first, count);
+    name[sizeof above - 1 + count] = 0;
 }
 
 int inroot_proc_error(int proc, const char *name, int error)
@@ -90,15 +104,39 @@ int inroot_proc_error(int proc, const char *name, int error)
     return error == ENOENT && readlinkat(proc, name, text, sizeof text) < 0 && errno == ENOENT ? ENOSYS : error;
 }
 
+/* ---- what a thread keeps */
+
+static void end_thread(void *unused)
+{
+    (void)unused;
+    inroot_proc_leave();
+}
+
+static void make_key(void)
+{
+    has_key = pthread_key_create(&key, end_thread) == 0;
+}
+
+/* A library that is unloaded leaves no function behind for a thread to call. */
+__attribute__((destructor)) static void drop_key(void)
+{
+    if (has_key)
+        pthread_key_delete(key);
+}
+
 int inroot_proc_stay(void)
 {
     if (at_hand() >= 0)
         return 0;
     int fd = open_proc();
-    if (fd < 0)
-        return fd;
-    if (!keep(fd))
-        of_thread = fd;
+    if (fd < 0 || keep(fd))
+        return fd < 0 ? fd : 0;
+    pthread_once(&key_once, make_key);
+    if (!has_key || pthread_setspecific(key, &of_thread) != 0) {
+        close(fd);
+        return -ENOMEM;
+    }
+    of_thread = fd;
     return 0;
 }
 
@@ -109,7 +147,9 @@ void inroot_proc_leave(void)
     of_thread = INROOT_NONE;
 }
 
-int inroot_use_proc(int proc)
+/* ---- what a program hands in */
+
+static int take_over(int proc)
 {
     struct statfs about;
     if (fstatfs(proc, &about) != 0)
@@ -123,4 +163,13 @@ int inroot_use_proc(int proc)
         return 0;
     close(fd);
     return -EBUSY;
+}
+
+int inroot_use_proc(int proc)
+{
+    int state;
+    pthread_setcancelstate(PTHREAD_CANCEL_DISABLE, &state);
+    int failed = take_over(proc);
+    pthread_setcancelstate(state, NULL);
+    return failed;
 }

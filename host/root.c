@@ -65,8 +65,11 @@ int inroot_root_fd(const struct inroot_root *root)
 
 void inroot_root_close(struct inroot_root *root)
 {
+    int state;
     if (root == NULL)
         return;
+    pthread_setcancelstate(PTHREAD_CANCEL_DISABLE, &state);
     close(root->fd);
     free(root);
+    pthread_setcancelstate(state, NULL);
 }

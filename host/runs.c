@@ -6,10 +6,10 @@
  */
 #define _GNU_SOURCE
 #include "driver.h"
+#include "openat2.h"
 
 #include <errno.h>
 #include <fcntl.h>
-#include <linux/openat2.h>
 #include <string.h>
 #include <sys/stat.h>
 #include <sys/syscall.h>

@@ -4,7 +4,6 @@
 
 #include <errno.h>
 #include <fcntl.h>
-#include <stdio.h>
 #include <string.h>
 #include <sys/stat.h>
 #include <sys/syscall.h>
@@ -77,18 +76,24 @@ static int open_path(struct inroot_driver *d, uint64_t dir, const struct entry *
 
 /* ---- steps that open */
 
-/* A tree that is too deep for one proved call is left at this entry, from which another call goes on. */
-static bool is_too_deep(struct inroot_driver *d, uint64_t dir, const struct entry *entry)
+static bool is_too_deep(struct inroot_driver *d, uint64_t dir)
 {
-    if (!d->begun || inroot_handles_slot(d, dir)->depth < INROOT_DEPTH_MAX)
-        return false;
+    return d->begun && inroot_handles_slot(d, dir)->depth >= INROOT_DEPTH_MAX;
+}
+
+/* A tree that is too deep for one proved call, which ends, is left at this entry, from which another call goes on. */
+static struct inroot_answered leave_here(struct inroot_driver *d, uint64_t dir, const struct entry *entry)
+{
     const struct entry itself = {.dir = entry->dir, .name = "."};
+    size_t length = strlen(entry->name);
+    if (length >= sizeof d->deepest_name)
+        return inroot_refused(d, ENAMETOOLONG);
     d->deepest = open_path(d, dir, &itself, O_DIRECTORY);
-    if (d->deepest >= 0) {
-        d->too_deep = true;
-        (void)snprintf(d->deepest_name, sizeof d->deepest_name, "%s", entry->name);
-    }
-    return true;
+    if (d->deepest < 0)
+        return inroot_refused(d, errno);
+    d->too_deep = true;
+    memcpy(d->deepest_name, entry->name, length + 1);
+    return inroot_refused(d, ENOMEM);
 }
 
 /* What is opened as it is; what is neither a directory nor a link is a file. */
@@ -113,7 +118,9 @@ static struct inroot_answered open_any(struct inroot_driver *d, uint64_t dir, co
  */
 static struct inroot_answered open_name(struct inroot_driver *d, uint64_t dir, const struct entry *entry, bool is_expected)
 {
-    if (is_too_deep(d, dir, entry) || !inroot_handles_reserve(d))
+    if (is_too_deep(d, dir))
+        return leave_here(d, dir, entry);
+    if (!inroot_handles_reserve(d))
         return inroot_refused(d, ENOMEM);
     if (!is_expected)
         return open_any(d, dir, entry);

@@ -56,13 +56,15 @@ static bool opens(int how, mode_t mode)
 
 /* ---- what is found */
 
-static int find(int root, const struct use *use)
+static int find(int root, const struct use *use, enum inroot_kind *kind)
 {
     const struct inroot_request asked = {
         .op = use->how & O_NOFOLLOW ? INROOT_ASK_RESOLVE_NOFOLLOW : INROOT_ASK_RESOLVE,
         .flags = use->flags,
         .first = use->path,
         .second = "",
+        .directory = use->how & O_DIRECTORY,
+        .opened = kind,
     };
     return inroot_run_alone(root, &asked);
 }
@@ -84,22 +86,17 @@ static int reopened(int fd, int how)
 }
 
 /* Whether an object of that kind may be opened so, where opening doesn't tell: 0 or -errno. */
-static int fits(int fd, int how)
+static int fits(enum inroot_kind kind, int how)
 {
-    struct stat about;
-    if (!(how & O_CREAT) && !(how & O_PATH && how & O_DIRECTORY))
-        return 0;
-    if (fstat(fd, &about) != 0)
-        return -errno;
     if (how & O_CREAT)
-        return S_ISDIR(about.st_mode) ? -EISDIR : 0;
-    return S_ISDIR(about.st_mode) ? 0 : -ENOTDIR;
+        return kind == INROOT_KIND_DIR ? -EISDIR : 0;
+    return how & O_PATH && how & O_DIRECTORY && kind != INROOT_KIND_DIR ? -ENOTDIR : 0;
 }
 
 /* Opens by the descriptor that was found; it is that one where nothing is to be read or written. */
-static int use_found(int fd, const struct use *use)
+static int use_found(int fd, enum inroot_kind kind, const struct use *use)
 {
-    int failed = fits(fd, use->how);
+    int failed = fits(kind, use->how);
     if (failed)
         return failed;
     if (use->how & O_PATH)
@@ -112,10 +109,11 @@ static int use_found(int fd, const struct use *use)
 
 static int open_found(int root, const struct use *use)
 {
-    int fd = find(root, use);
+    enum inroot_kind kind;
+    int fd = find(root, use, &kind);
     if (fd < 0)
         return fd;
-    int used = use_found(fd, use);
+    int used = use_found(fd, kind, use);
     if (used != fd)
         close(fd);
     return used < 0 ? inroot_error_alone(-used, "Reopen", "") : used;
@@ -232,7 +230,7 @@ int inroot_stat(int root, const char *path, struct stat *about, int flags)
         .flags = flags & ~INROOT_NOFOLLOW,
     };
     pthread_setcancelstate(PTHREAD_CANCEL_DISABLE, &state);
-    int fd = find(root, &use);
+    int fd = find(root, &use, NULL);
     int result = fd;
     if (fd >= 0) {
         result = fstat(fd, about) == 0 ? 0 : inroot_error_alone(errno, "Stat", "");

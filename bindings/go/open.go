@@ -68,7 +68,7 @@ func ReadlinkInRoot(root *os.File, unsafePath string) (string, error) {
 	return C.GoStringN(&text[0], C.int(length)), nil
 }
 
-// StatInRoot tells what stands at unsafePath.
+// StatInRoot returns the status of what stands at unsafePath.
 func StatInRoot(root *os.File, unsafePath string) (fs.FileInfo, error) {
 	found, err := OpenatInRoot(root, unsafePath)
 	if err != nil {

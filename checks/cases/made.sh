@@ -37,7 +37,32 @@ done <<'END'
 512|,7|{"root":"/","calls":[{"op":"remove_file","path":"a"}|]}]}|actor 0|an actor has at most 512 calls
 99999|,0|{"root":"/","calls":[]}],"schedule":[0|]}||
 100000|,7|{"root":"/","calls":[]}],"schedule":[0|]}|schedule|a schedule has at most 100000 turns
+512|,{"op":"remove_file","path":"a"}|{"root":"/","calls":[{"op":"remove_file","path":"a"}|]}]}|actor 0|an actor has at most 512 calls
+100000|,0|{"root":"/","calls":[]}],"schedule":[0|]}|schedule|a schedule has at most 100000 turns
 END
+
+# entries COUNT: a script with so many directories, each an entry of the top.
+entries() {
+    printf '{"version":1,"tree":[["dir","/0"]'
+    seq -f ',["dir","/%.0f"]' "$(($1 - 1))" | tr -d '\n'
+    printf '],"actors":[{"root":"/","calls":[]}]}'
+}
+comes_to 'as many entries as there may be' 0 $'opened dir 10000 /9999\n' '' walk 9999 < <(entries 10000)
+has 0 'as many entries as there may be, in a replay' refuses '' replay < <(entries 10000)
+for command in 'walk 9999' replay 'run --workers 1'; do
+    # shellcheck disable=SC2086
+    comes_to "an entry more: $command" 3 '' $'inroot: script: tree\ninroot: a tree has at most 10000 entries\n' $command < <(entries 10001)
+done
+
+# Turns in place of the schedule.
+turns='{"version":1,"tree":[],"actors":[{"root":"/","calls":[]}]}'
+for schedule in '0*100000' '0*99999,0'; do
+    has 0 "as many turns as there may be: $schedule" "$program" replay --schedule "$schedule" <<<"$turns" >"$room/out"
+done
+comes_to 'a turn more' 3 '' $'inroot: script: schedule\ninroot: a schedule has at most 100000 turns\n' \
+    replay --schedule '0*100000,0' <<<"$turns"
+comes_to 'a number of turns that is too large' 2 '' \
+    $'inroot: --schedule is I or I*N between commas, I an actor and N 1 to 100000, or - for none\n' replay --schedule '0*100001' <<<"$turns"
 
 # busy ACTORS CALLS..: so many actors with each so many look-ups, and one with each further number of them.
 busy() {
@@ -87,20 +112,17 @@ changed() {
 }
 
 # One change of the attack is told at its place.
-no_call='a call has an "op" with its fields, gives a label of its own, and uses labels that calls before it give'
 while IFS='|' read -r old new told wanted; do
-    [ "$wanted" = - ] && wanted=$no_call
     comes_to "changed to $new" 3 '' "inroot: script: $told"$'\ninroot: '"$wanted"$'\n' replay < <(changed "$attack" "$old" "$new")
 done <<'END'
 "version":1|"version":true|version|"version" is 1 or 2
 "version":1|"version":1,"lines":0|lines|"lines" is 1 to 1000000
 "root":"/c"|"root":"/c/abs"|actor 0|ENOTDIR: its root is no directory
-,"path":"a/b/.."||call 0 0|-
-"path":"a/b/.."|"way":7|call 0 0|-
-"path":"a/b/.."|"path":"a/b/..","as":"root"|call 0 0|-
-"path":"a/b/.."|"path":"a","as":"root"|call 0 0|-
-"name":"b"|"name":".."|call 1 2|-
-"new":"b"|"new":".."|call 1 2|-
+,"path":"a/b/.."||call 0 0|"path" is missing
+"path":"a/b/.."|"way":7|call 0 0|"path" is missing
+"path":"a/b/.."|"path":"a/b/..","as":"root"|call 0 0|"as" is root, or a label that a call before it gives
+"name":"b"|"name":".."|call 1 2|"name" is no name of an entry
+"new":"b"|"new":".."|call 1 2|"new" is no name of an entry
 [1,1,1,1,1,1,0,0,0,1]|[2]|schedule 0|a turn is an actor's number, counted from 0
 END
 comes_to 'a line for two actors' 4 '' $'inroot: book full\n' replay < <(changed "$attack" '"version":1' '"version":1,"lines":1')

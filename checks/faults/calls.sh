@@ -1,5 +1,5 @@
-# Refuses each request for memory of the calls that timing/refusals makes, on both trees, and of two sessions of one
-# service. checks/refusals reads it, whose functions it uses.
+# Refuses each request for memory of the calls that timing/refusals makes, on both trees, of two sessions of one service,
+# and of the copies of a world that timing/copies makes. checks/refusals reads it, whose functions it uses.
 
 if ! calls=$(timing/build refusals 2>"$room/build"); then
     verdict 1 "timing/refusals is not built: $(tail -n 5 "$room/build")"
@@ -141,7 +141,6 @@ call_of() {
         return 0
     fi
     wants=$((wants + 1))
-    wanting=$wanting$1
     next_is "session $1 $reply"
 }
 
@@ -175,16 +174,9 @@ replies_agree() {
     fi
 }
 
-# Whether the service closed with the events that were made and each session has its root alone; or tells the session
-# whose log had no memory for an answer.
+# Whether the service closed with the events that were made and each session has its root alone.
 closes_as_it_must() {
-    local all above under number
-    for number in 0 1; do
-        if next_is "close mismatch $number"; then
-            [[ $wanting == *$number* ]] && [ "$status" -eq 0 ] && [ -z "$left" ]
-            return
-        fi
-    done
+    local all above under
     all=$(sed -n 's/^closed //p' <<<"$left")
     under=$(sed -n 's/^session 0 held 1 events //p' <<<"$left")
     above=$(sed -n 's/^session 1 held 1 events //p' <<<"$left")
@@ -200,7 +192,7 @@ closes_as_it_must() {
 
 # Which of the ends that a refusal may have the sessions' run has, as `kind`: outside of the calls, absorbed, or refused.
 end_of_sessions() {
-    local wants=0 wanting='' reopened=no
+    local wants=0 reopened=no
     kind=
     left=$out
     [ "$live" -eq 0 ] || return
@@ -238,3 +230,46 @@ for kind_of_tree in plain indexed; do
 done
 how_it_ended=end_of
 echo "refusals: $((all_refused - calls_refused)) requests for memory of two sessions refused, $((all_in_calls - calls_met)) of them met by a call"
+
+# ---- each request for memory of a world that is copied before each of its turns
+
+if ! copies=$(timing/build copies 2>"$room/build"); then
+    verdict 1 "timing/copies is not built: $(tail -n 5 "$room/build")"
+    end
+fi
+run "$copies"
+ample=$out
+[ "$status" -eq 0 ] && [ "$live" -eq 0 ] && cmp -s "$room/out" timing/copies/stdout
+verdict $? 'timing/copies does not print what it is to print'
+
+# Which of the ends that a refusal may have the run has, as `kind`: outside of the copies, or refused; else nothing. Where
+# a copy was refused, nothing is left of it, and the world goes on as if it had not been made.
+end_of_copies() {
+    kind=
+    [ "$live" -eq 0 ] || return
+    if [ "$status" -eq 0 ] && [ -z "$err" ]; then
+        case $out in
+        *$'\nrefused\n'*) [ "${out/$'refused\n'/}" = "$ample" ] && kind=refused ;;
+        *) kind=outside ;;
+        esac
+    elif [ "$status" -eq 4 ] && [[ $err == 'copies: '* ]]; then
+        kind=outside
+    fi
+}
+
+copies_refused=0
+for ((number = 1; ; number++)); do
+    export FAULT_MEMORY=$number
+    run "$copies"
+    [ "$met" -eq 0 ] && [ "$live" -ge 0 ] && break
+    end_of_copies
+    if [ -z "$kind" ]; then
+        verdict 1 "copies: request $number refused: status $status, $live blocks left, told '$err', printed:"$'\n'"$out"
+        break
+    fi
+    [ "$kind" != refused ] || copies_refused=$((copies_refused + 1))
+done
+unset FAULT_MEMORY
+[ "$met" -eq 0 ] && [ "$out" = "$ample" ] && [ "$copies_refused" -gt 0 ]
+verdict $? 'copies: no refusal was met by a copy'
+echo "refusals: $((number - 1)) requests for memory of a world and its copies refused, $copies_refused of them met by a copy"

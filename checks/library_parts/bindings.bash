@@ -26,6 +26,8 @@ fn main() {
     assert_eq!((text.as_str(), root.resolve("abs/secret").is_err()), ("inside\n", true));
 }
 END
+    mkdir "$work/rust/src/bin"
+    of_readme Rust 'use inroot::{OpenFlags, Root};\nfn main() -> Result<(), Box<dyn std::error::Error>> {\n' 'drop(file);\nOk(())\n}\n' >"$work/rust/src/bin/readme.rs"
     for kind in '' 1; do
         [ -z "$kind" ] || export INROOT_STATIC=$kind
         has "a Rust program, static: '$kind'" cargo build -q --offline --manifest-path "$work/rust/Cargo.toml"
@@ -35,6 +37,8 @@ END
         verdict $? "a Rust program has the wrong library, static: '$kind'"
     done
     unset INROOT_STATIC
+    echo text >"$box/a/readme"
+    has "README's lines of Rust run" "$CARGO_TARGET_DIR/debug/readme"
 fi
 has_go=
 if ! lacks go 'bindings/go and the example in Go are not tested'; then
@@ -45,6 +49,12 @@ if ! lacks go 'bindings/go and the example in Go are not tested'; then
     verdict $? "gofmt -l: $(gofmt -l bindings/go examples/runtime)"
     has 'go vet of bindings/go' env -C bindings/go go vet ./...
     has 'the tests of bindings/go' env -C bindings/go go test -count=1 ./...
+    mkdir "$work/go"
+    of_readme Go 'package main\nimport (\n"inroot"\n"os"\n)\nfunc main() {\n' 'if err != nil {\npanic(err)\n}\nfile.Close()\n}\n' >"$work/go/main.go"
+    sed "s|^module .*|module readme|; s|=> .*|=> $top/bindings/go|" examples/runtime/unpack-go/go.mod >"$work/go/go.mod"
+    echo text >"$box/a/readme"
+    has "README's lines of Go run" env -C "$work/go" go run .
+    rm -f "$box/a/readme"
     has 'a Go program' env -C examples/runtime/unpack-go go build -o "$work/unpack-go" . && has_go=yes
     cp "$work/unpack-go" "$work/used" && has 'a Go program takes the shared library' is_shared
     if [ -e "$work/static" ]; then

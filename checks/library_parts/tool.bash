@@ -19,6 +19,11 @@ expect() {
     verdict $? "inroot-fs $*: status $got, '$said', '$(cat "$work/err")'"
 }
 expect 0 "opened file $box/a/b/f" '' resolve in/f
+# What docs/HOST.md shows: the command, and the line below it.
+shown=$(grep -A 1 '^    \$ inroot-fs ' docs/HOST.md | sed "s|/srv/box|$box|g; s/^ *//; s/^\$ inroot-fs //")
+# shellcheck disable=SC2046
+[ -n "$shown" ] && [ "$("$fs" $(head -n 1 <<<"$shown"))" = "$(tail -n 1 <<<"$shown")" ]
+verdict $? "docs/HOST.md shows another answer: $shown"
 expect 0 "opened dir $box" '' resolve ../../..
 expect 0 "opened link $box/in" '' resolve --nofollow in
 expect 0 'fault ENOENT' '' resolve up/secret
@@ -83,6 +88,30 @@ verdict $? "inroot-fs to a full device: $(cat "$work/err")"
 "$fs" "$work/none" ls 2>"$work/err"
 [ $? -eq 4 ] && grep -q "the root can't be opened: ENOENT" "$work/err"
 verdict $? "inroot-fs below a root that isn't there: $(cat "$work/err")"
+# A removal that takes long is told of on a terminal, and nowhere else.
+cat >"$work/slow.c" <<'END'
+#define _GNU_SOURCE
+#include <sys/syscall.h>
+#include <unistd.h>
+
+int unlinkat(int dir, const char *name, int flags)
+{
+    static int calls;
+    if (calls++ == 0)
+        sleep(2);
+    return (int)syscall(SYS_unlinkat, dir, name, flags);
+}
+END
+if ! lacks script 'what a terminal is told was not tried'; then
+    has 'a slow unlinkat' cc -shared -fPIC -o "$work/slow.so" "$work/slow.c"
+    mkdir -p "$box/slow/x"
+    told=$(script -qec "env 'LD_PRELOAD=$work/slow.so' '$fs' '$box' rm -r slow" /dev/null </dev/null | tr -d '\r')
+    [[ $told == 'inroot-fs: rm: 1 s'*$'\e[Kremoved 2' ]] && [ ! -e "$box/slow" ]
+    verdict $? "a removal that takes long tells a terminal: '$told'"
+    mkdir -p "$box/slow/x"
+    [ "$(LD_PRELOAD=$work/slow.so "$fs" "$box" rm -r slow 2>&1)" = 'removed 2' ]
+    verdict $? 'a removal that takes long tells what is no terminal'
+fi
 [ "$("$fs" --version)" = "inroot-fs $version" ]
 verdict $? "inroot-fs --version: $("$fs" --version)"
 [ "$(outside)" = "$before" ]

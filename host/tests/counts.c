@@ -7,10 +7,10 @@
  * with --wrap of each function that is wrapped here.
  */
 #define _GNU_SOURCE
+#include "../openat2.h"
 #include "support.h"
 
 #include <errno.h>
-#include <linux/openat2.h>
 #include <pthread.h>
 #include <stdarg.h>
 #include <string.h>
@@ -94,6 +94,11 @@ static int read_it(const char *path, int flags)
     return inroot_openat(at, path, O_RDONLY, 0, flags);
 }
 
+static int open_directory(const char *path, int flags)
+{
+    return inroot_openat(at, path, O_PATH | O_DIRECTORY, 0, flags);
+}
+
 static int create(const char *path, int flags)
 {
     int fd = inroot_openat(at, path, O_WRONLY | O_CREAT | O_EXCL, 0600, flags);
@@ -118,6 +123,7 @@ static const struct {
     {"open a/b/f, a file", "a/b/f", open_it, {4, 8, 6, 10}},
     {"open four times b/..", "a/b/../b/../b/../b/..", open_it, {17, 31, 20, 34}},
     {"open 32 directories", deep, open_it, {6, 68, 6, 68}},
+    {"open 32, O_PATH | O_DIRECTORY", deep, open_directory, {5, 67, 5, 67}},
     {"open d/l/f, l a link to ../a/b", "d/l/f", open_it, {19, 22, 20, 23}},
     {"open a/b/none", "a/b/none", open_it, {4, 5, 4, 5}},
     {"read a/b/f", "a/b/f", read_it, {7, 11, 9, 13}},

@@ -4,10 +4,10 @@
  * usage: differ DIR. Exits 0 where both are as listed. 77: no openat2(2) here. 78: no right to mount here.
  */
 #define _GNU_SOURCE
+#include "../openat2.h"
 #include "support.h"
 
 #include <errno.h>
-#include <linux/openat2.h>
 #include <sched.h>
 #include <string.h>
 #include <sys/mount.h>

@@ -92,7 +92,7 @@ static void restore(int root, int result, int number)
 }
 
 /* The same outcome: what was opened has a number that doesn't matter. */
-static bool same(int a, int b)
+__attribute__((unused)) static bool same(int a, int b)
 {
     return a == b || (a >= 0 && b >= 0);
 }

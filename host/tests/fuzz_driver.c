@@ -8,6 +8,7 @@
  */
 #define _GNU_SOURCE
 #include "../inroot.h"
+#include "../openat2.h"
 
 #include <dirent.h>
 #include <errno.h>

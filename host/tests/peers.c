@@ -25,7 +25,7 @@
 #include <time.h>
 
 static int base, root, out;
-static atomic_bool stop;
+static atomic_bool stop, fooled;
 static atomic_ulong moves;
 static char outside_path[PATH_MAX + 8];
 static struct stat outside[3];
@@ -131,7 +131,10 @@ static void *work(void *self)
         me->raced += got == -EAGAIN;
         me->failed += got < 0;
         if (got > 0 || (got == 0 && !gives_zero(me))) {
-            me->escaped += is_outside(got);
+            bool escaped = is_outside(got);
+            me->escaped += escaped;
+            if (escaped && me->control)
+                fooled = true;
             close(got);
         }
     }
@@ -223,6 +226,9 @@ static bool is_untouched(void)
 
 /* ---- races */
 
+/* How many times as long a race goes on at most, where no race was met. */
+enum { MOST_TIMES = 20 };
+
 /* However many signals come. */
 static void wait_for(unsigned seconds)
 {
@@ -239,11 +245,16 @@ static void race(const char *name, struct worker *workers, int count, void (*abo
 {
     pthread_t mover, threads[16];
     int before = open_descriptors();
-    bool fooled = true;
+    bool has_control = false;
     pthread_create(&mover, NULL, in_the_way, &about);
-    for (int at = 0; at < count; at++)
+    for (int at = 0; at < count; at++) {
+        has_control |= workers[at].control;
         pthread_create(&threads[at], NULL, work, &workers[at]);
+    }
     wait_for(seconds);
+    /* On a machine that has much other work it takes longer until a race is met at all. */
+    for (unsigned more = 0; has_control && !fooled && more < MOST_TIMES * seconds; more++)
+        wait_for(1);
     stop = true;
     pthread_join(mover, NULL);
     for (int at = 0; at < count; at++) {
@@ -252,13 +263,11 @@ static void race(const char *name, struct worker *workers, int count, void (*abo
         double all = (double)(w->done + w->failed);
         printf("peers: %s: %s: %lu done, %lu escaped, %lu EAGAIN (%.4f %%), %lu failed\n", name, w->name, w->done, w->escaped,
                w->raced, all > 0 ? 100 * (double)w->raced / all : 0, w->failed);
-        if (w->control)
-            fooled = w->escaped > 0;
-        else
+        if (!w->control)
             expect(w->escaped == 0 && w->done > 0, "%s: %s: %lu escaped, %lu done", name, w->name, w->escaped, w->done);
     }
     int left = open_descriptors() - before;
-    expect(fooled, "%s: the walk without checks wasn't fooled", name);
+    expect(fooled || !has_control, "%s: the walk without checks wasn't fooled", name);
     expect(left == 0, "%s: %d descriptors left open", name, left);
     expect(is_untouched(), "%s: something outside was changed", name);
     printf("peers: %s: %lu moves, %d descriptors left open\n", name, (unsigned long)moves, left);

@@ -6,11 +6,11 @@
  * root's own directory is exchanged with the one outside and back, too; then the form by /proc claims nothing.
  */
 #define _GNU_SOURCE
+#include "../openat2.h"
 #include "support.h"
 
 #include <errno.h>
 #include <fcntl.h>
-#include <linux/openat2.h>
 #include <pthread.h>
 #include <stdatomic.h>
 #include <stdbool.h>
@@ -22,7 +22,7 @@
 
 static int base, root, out;
 static bool swaps;
-static atomic_bool stop;
+static atomic_bool stop, fooled;
 
 /* What is outside, whatever its name is by now. */
 static struct stat outside[3];
@@ -32,7 +32,7 @@ static atomic_ulong renames;
 struct resolver {
     const char *name;
     int (*resolve)(const char *path);
-    bool jailed;
+    bool jailed, control;
     unsigned long opened, escaped, raced, failed;
 };
 
@@ -107,7 +107,10 @@ static void *resolve(void *self)
             continue;
         }
         me->opened++;
-        me->escaped += is_outside(fd);
+        bool escaped = is_outside(fd);
+        me->escaped += escaped;
+        if (escaped && me->control)
+            fooled = true;
         close(fd);
     }
     inroot_jail_done();
@@ -154,7 +157,7 @@ int main(int count, char **words)
         {.name = "inroot_open in a jail, name by name", .resolve = by_jail_singly, .jailed = true},
         {.name = "inroot_open by /proc, name by name", .resolve = by_proc_singly},
         {.name = "openat2", .resolve = by_kernel},
-        {.name = "a walk without a check", .resolve = unchecked},
+        {.name = "a walk without a check", .resolve = unchecked, .control = true},
     };
     enum { THREADS = sizeof resolvers / sizeof *resolvers, OURS = 4 };
     pthread_t mover, threads[THREADS];
@@ -170,7 +173,11 @@ int main(int count, char **words)
     pthread_create(&mover, NULL, move, NULL);
     for (int at = 0; at < THREADS; at++)
         pthread_create(&threads[at], NULL, resolve, &resolvers[at]);
-    sleep((unsigned)atoi(words[2]));
+    unsigned seconds = (unsigned)atoi(words[2]);
+    sleep(seconds);
+    /* On a machine that has much other work it takes longer until a race is met at all. */
+    for (unsigned more = 0; !fooled && more < 20 * seconds; more++)
+        sleep(1);
     stop = true;
     pthread_join(mover, NULL);
     for (int at = 0; at < THREADS; at++) {
@@ -180,8 +187,8 @@ int main(int count, char **words)
     }
     int left = open_descriptors() - before;
     printf("race: %lu renames, %d descriptors left open\n", (unsigned long)renames, left);
-    bool fooled = false;
+    bool failed = !fooled || left != 0;
     for (int at = 0; at < OURS; at++)
-        fooled |= resolvers[at].opened == 0 || (resolvers[at].escaped && (resolvers[at].jailed || !swaps));
-    return fooled || resolvers[THREADS - 1].escaped == 0 || left != 0;
+        failed |= resolvers[at].opened == 0 || (resolvers[at].escaped && (resolvers[at].jailed || !swaps));
+    return failed;
 }

@@ -1,30 +1,39 @@
 /*
- * times: how long one resolution takes, by openat2(2), by a plain walk of single openat(2) calls that asks the same
- * questions, and by inroot_open(), in a jail and by /proc, with runs of names and name by name. These ways take turns batch by batch, on one processor, so that
- * what the machine does beside weighs on all of them, and the least of many batches counts. The jail has a thread of its
- * own. One of the two threads waits while the other works, since in a process of several each use of a descriptor costs more.
+ * times: how long calls take beside others. One resolution: by openat2(2); by a plain walk of single openat(2) calls that
+ * asks the same questions; by a join of the path as text, part by part, that is then opened, and that no race may meet; and
+ * by inroot_open(), in a jail and by /proc, with runs of names and name by name. Four directories of a path made: by
+ * mkdirat(2) from the root, by the calls of mkdir(1) with -p, and by inroot_mkdir_all(). And many files in a directory
+ * removed, by rm(1) and by inroot_remove_all().
  *
- * usage: times DIR. Prints a line for each path, in microseconds. 77: no openat2(2) here. 78: no right to change a root.
+ * The ways take turns batch by batch, on one processor, so that what the machine does beside weighs on all of them, and the
+ * least of many batches counts. The jail has a thread of its own. One of the two threads waits while the other works, since in
+ * a process of several each use of a descriptor costs more.
+ *
+ * usage: times DIR [FILES]. Prints a line for each. 77: no openat2(2) here. 78: no right to change a root.
  */
 #define _GNU_SOURCE
+#include "../openat2.h"
 #include "support.h"
 
 #include <errno.h>
 #include <fcntl.h>
 #include <limits.h>
-#include <linux/openat2.h>
 #include <pthread.h>
 #include <sched.h>
 #include <semaphore.h>
+#include <spawn.h>
 #include <string.h>
 #include <sys/stat.h>
 #include <sys/syscall.h>
 #include <time.h>
 #include <unistd.h>
 
-enum { BATCHES = 400, BATCH = 50, DEPTH = 32 };
+enum { BATCHES = 200, BATCH = 50, DEPTH = 32, FILES = 20000, REMOVALS = 3 };
 
 static int root;
+static char where[PATH_MAX];
+
+/* ---- one resolution: a descriptor */
 
 static int by_kernel(const char *path)
 {
@@ -35,26 +44,6 @@ static int by_kernel(const char *path)
         fd = (int)syscall(SYS_openat2, root, path, &how, sizeof how);
     while (fd < 0 && errno == EAGAIN);
     return fd;
-}
-
-static int by_proc(const char *path)
-{
-    return inroot_open(root, path, 0);
-}
-
-static int by_jail(const char *path)
-{
-    return inroot_open(INROOT_JAIL, path, 0);
-}
-
-static int by_proc_singly(const char *path)
-{
-    return inroot_open(root, path, INROOT_ONE_BY_ONE);
-}
-
-static int by_jail_singly(const char *path)
-{
-    return inroot_open(INROOT_JAIL, path, INROOT_ONE_BY_ONE);
 }
 
 /* Of names and `..` alone: opens each part, asks for its kind, and after each `..` and at the end where it stands. */
@@ -84,23 +73,138 @@ static int plainly(const char *path)
     return at;
 }
 
-/* Of one batch, after a first resolution that isn't counted, since another way had the turn before. */
-static double microseconds(int (*resolve)(const char *), const char *path)
+/* Of names and `..` alone, as SecureJoin of Go's filepath-securejoin: each part is looked at, and the text is opened. */
+static int by_join(const char *path)
 {
-    struct timespec from, to;
-    close(sure(resolve(path), path));
-    clock_gettime(CLOCK_MONOTONIC, &from);
-    for (int at = 0; at < BATCH; at++)
-        close(sure(resolve(path), path));
-    clock_gettime(CLOCK_MONOTONIC, &to);
-    return ((double)(to.tv_sec - from.tv_sec) * 1e6 + (double)(to.tv_nsec - from.tv_nsec) / 1e3) / BATCH;
+    char text[256], joined[PATH_MAX + 256], *rest = text, *part;
+    struct stat about;
+    size_t top = strlen(where), length = top;
+    strcpy(joined, where);
+    strcpy(text, path);
+    while ((part = strsep(&rest, "/")) != NULL) {
+        if (strcmp(part, "..") == 0) {
+            while (length > top && joined[--length] != '/')
+                ;
+            joined[length] = 0;
+        } else {
+            joined[length] = '/';
+            strcpy(joined + length + 1, part);
+            length += 1 + strlen(part);
+        }
+        lstat(joined, &about);
+    }
+    return open(joined, O_PATH | O_CLOEXEC);
 }
 
-/* What is handed to the thread in the jail, a path or none for its end, and what it hands back. */
+static int by_proc(const char *path)
+{
+    return inroot_open(root, path, 0);
+}
+
+static int by_jail(const char *path)
+{
+    return inroot_open(INROOT_JAIL, path, 0);
+}
+
+static int by_proc_singly(const char *path)
+{
+    return inroot_open(root, path, INROOT_ONE_BY_ONE);
+}
+
+static int by_jail_singly(const char *path)
+{
+    return inroot_open(INROOT_JAIL, path, INROOT_ONE_BY_ONE);
+}
+
+/* ---- four directories made: a descriptor */
+
+/* By paths from the root, which follow links. */
+static int make_by_paths(const char *path)
+{
+    char text[64];
+    for (const char *end = path; *end != 0; end++) {
+        end += strcspn(end, "/");
+        snprintf(text, sizeof text, "%.*s", (int)(end - path), path);
+        sure(mkdirat(root, text, 0755), text);
+        if (*end == 0)
+            break;
+    }
+    return openat(root, path, O_PATH | O_CLOEXEC);
+}
+
+/* As mkdir(1) does: it goes into each directory that it made. */
+static int make_as_mkdir(const char *path)
+{
+    char text[64], *rest = text, *part;
+    int at = -1;
+    sure(fchdir(root), "fchdir");
+    strcpy(text, path);
+    while ((part = strsep(&rest, "/")) != NULL) {
+        sure(mkdir(part, 0755), part);
+        at = sure(open(part, O_RDONLY | O_NOCTTY | O_NONBLOCK | O_NOFOLLOW | O_DIRECTORY | O_CLOEXEC), part);
+        if (rest != NULL) {
+            sure(fchdir(at), part);
+            close(at);
+        }
+    }
+    return at;
+}
+
+static int make_by_proc(const char *path)
+{
+    return inroot_mkdir_all(root, path, 0755, 0);
+}
+
+static int make_by_jail(const char *path)
+{
+    return inroot_mkdir_all(INROOT_JAIL, path, 0755, 0);
+}
+
+static void remove_made(const char *path)
+{
+    char text[64];
+    for (strcpy(text, path); text[0] != 0;) {
+        sure(unlinkat(root, text, AT_REMOVEDIR), text);
+        char *slash = strrchr(text, '/');
+        *(slash == NULL ? text : slash) = 0;
+    }
+}
+
+/* ---- batches */
+
+static double now(void)
+{
+    struct timespec time;
+    clock_gettime(CLOCK_MONOTONIC, &time);
+    return (double)time.tv_sec * 1e6 + (double)time.tv_nsec / 1e3;
+}
+
+/* What is to be timed, and what undoes it, if anything does. */
+struct task {
+    const char *path;
+    int (*go)(const char *path);
+    void (*undo)(const char *path);
+};
+
+/* Of one batch, after a first call that isn't counted, since another way had the turn before. */
+static double microseconds(const struct task *task)
+{
+    double taken = 0;
+    for (int at = -1; at < BATCH; at++) {
+        double from = now();
+        close(sure(task->go(task->path), task->path));
+        if (at >= 0)
+            taken += now() - from;
+        if (task->undo != NULL)
+            task->undo(task->path);
+    }
+    return taken / BATCH;
+}
+
+/* What is handed to the thread in the jail, a task or none for its end, and what it hands back. */
 static struct {
     sem_t asked, answered;
-    const char *path;
-    int (*resolve)(const char *path);
+    const struct task *task;
     double taken;
 } jail;
 
@@ -115,42 +219,100 @@ static void *stay_in_jail(void *unused)
     errno = -inroot_jail(root);
     sure(-errno, "inroot_jail");
     sem_post(&jail.answered);
-    for (await(&jail.asked); jail.path != NULL; await(&jail.asked)) {
-        jail.taken = microseconds(jail.resolve, jail.path);
+    for (await(&jail.asked); jail.task != NULL; await(&jail.asked)) {
+        jail.taken = microseconds(jail.task);
         sem_post(&jail.answered);
     }
     inroot_jail_done();
     return unused;
 }
 
-static double microseconds_in_jail(int (*resolve)(const char *), const char *path)
+static double microseconds_in_jail(const struct task *task)
 {
-    jail.path = path;
-    jail.resolve = resolve;
+    jail.task = task;
     sem_post(&jail.asked);
     await(&jail.answered);
     return jail.taken;
 }
 
-static void keep_least(double *least, double taken)
+struct way {
+    const char *name;
+    int (*go)(const char *path);
+    bool jailed;
+};
+
+enum { MOST_WAYS = 8 };
+
+static void time_ways(const char *what, const char *path, const struct way *ways, int count, void (*undo)(const char *))
 {
-    *least = taken < *least ? taken : *least;
+    double least[MOST_WAYS];
+    for (int batch = 0; batch < BATCHES; batch++)
+        for (int way = 0; way < count; way++) {
+            const struct task task = {.path = path, .go = ways[way].go, .undo = undo};
+            double taken = ways[way].jailed ? microseconds_in_jail(&task) : microseconds(&task);
+            if (batch == 0 || taken < least[way])
+                least[way] = taken;
+        }
+    printf("times: %s:", what);
+    for (int way = 0; way < count; way++)
+        printf("%s %s %.2f", way == 0 ? "" : ",", ways[way].name, least[way]);
+    puts(" us");
 }
 
-static void time_path(const char *path)
+/* ---- many files */
+
+static void make_files(const char *name, long files)
 {
-    double open = 1e9, plain = 1e9, jailed = 1e9, proc = 1e9, jailed_singly = 1e9, proc_singly = 1e9;
-    for (int batch = 0; batch < BATCHES; batch++) {
-        keep_least(&open, microseconds(by_kernel, path));
-        keep_least(&plain, microseconds(plainly, path));
-        keep_least(&jailed, microseconds_in_jail(by_jail, path));
-        keep_least(&proc, microseconds(by_proc, path));
-        keep_least(&jailed_singly, microseconds_in_jail(by_jail_singly, path));
-        keep_least(&proc_singly, microseconds(by_proc_singly, path));
+    char file[32];
+    sure(mkdirat(root, name, 0755), name);
+    int dir = sure(openat(root, name, O_PATH | O_DIRECTORY | O_CLOEXEC), name);
+    for (long at = 0; at < files; at++) {
+        snprintf(file, sizeof file, "file%ld", at);
+        sure(mknodat(dir, file, S_IFREG | 0600, 0), file);
     }
-    printf("times: %.24s%s: openat2 %.2f, a plain walk %.2f, in a jail %.2f (%.2f times), by /proc %.2f; name by name %.2f and %.2f us\n",
-           path, strlen(path) > 24 ? ".." : "", open, plain, jailed, jailed / plain, proc, jailed_singly, proc_singly);
+    close(dir);
 }
+
+static double removed_by_rm(const char *name)
+{
+    extern char **environ;
+    char path[PATH_MAX + 16];
+    int status;
+    pid_t child;
+    snprintf(path, sizeof path, "%s/%s", where, name);
+    char *words[] = {(char[]){"rm"}, (char[]){"-rf"}, path, NULL};
+    double from = now();
+    errno = posix_spawnp(&child, "rm", NULL, NULL, words, environ);
+    sure(-errno, "rm");
+    sure(waitpid(child, &status, 0), "waitpid");
+    return now() - from;
+}
+
+static double removed_here(const char *name, long files)
+{
+    double from = now();
+    ssize_t removed = inroot_remove_all(root, name, 0);
+    double taken = now() - from;
+    expect(removed == files + 1, "%zd entries removed", removed);
+    return taken;
+}
+
+static void time_removals(long files)
+{
+    double by_rm = 0, here = 0;
+    for (int turn = 0; turn < REMOVALS; turn++) {
+        make_files("many", files);
+        double taken = removed_by_rm("many");
+        by_rm = turn == 0 || taken < by_rm ? taken : by_rm;
+        make_files("many", files);
+        taken = removed_here("many", files);
+        here = turn == 0 || taken < here ? taken : here;
+    }
+    printf("times: %ld files removed: rm -rf %.3f s, by /proc %.3f s (%.2f times)\n", files, by_rm / 1e6, here / 1e6,
+           here / by_rm);
+}
+
+/* ---- */
 
 /* This thread and those that it makes, where the system allows it: another processor may be faster or busier. */
 static void stay_on_one_processor(void)
@@ -162,17 +324,39 @@ static void stay_on_one_processor(void)
     sched_setaffinity(0, sizeof one, &one);
 }
 
-static const char *paths[] = {"a/b/f", "a/b", "a/b/../b/../b/../b/..", NULL};
-
-enum { PATHS = sizeof paths / sizeof *paths };
+static void time_all(const char *deep, long files)
+{
+    static const struct way found[] = {
+        {"openat2", by_kernel, false},
+        {"a plain walk", plainly, false},
+        {"a join of text", by_join, false},
+        {"in a jail", by_jail, true},
+        {"by /proc", by_proc, false},
+        {"name by name in a jail", by_jail_singly, true},
+        {"name by name by /proc", by_proc_singly, false},
+    };
+    static const struct way made[] = {
+        {"mkdirat(2) from the root", make_by_paths, false},
+        {"as mkdir -p", make_as_mkdir, false},
+        {"in a jail", make_by_jail, true},
+        {"by /proc", make_by_proc, false},
+    };
+    const char *const paths[][2] = {
+        {"a/b", "a/b"}, {"a/b/f", "a/b/f"}, {"four b/..", "a/b/../b/../b/../b/.."}, {"32 directories", deep},
+    };
+    for (size_t at = 0; at < sizeof paths / sizeof *paths; at++)
+        time_ways(paths[at][0], paths[at][1], found, sizeof found / sizeof *found, NULL);
+    time_ways("four directories made", "n/e/w/s", made, sizeof made / sizeof *made, remove_made);
+    time_removals(files);
+}
 
 int main(int count, char **words)
 {
     static char deep[2 * DEPTH + 1];
     pthread_t thread;
-    if (count != 2)
+    if (count < 2 || count > 3 || realpath(words[1], where) == NULL)
         return 2;
-    root = sure(open(words[1], O_PATH | O_DIRECTORY | O_CLOEXEC), words[1]);
+    root = sure(open(where, O_PATH | O_DIRECTORY | O_CLOEXEC), where);
     if (by_kernel(".") < 0 && errno == ENOSYS)
         return NO_OPENAT2;
     if (!may_jail(root))
@@ -184,16 +368,14 @@ int main(int count, char **words)
         strcat(deep, at == 0 ? "d" : "/d");
         sure(mkdirat(root, deep, 0755), deep);
     }
-    paths[PATHS - 1] = deep;
     stay_on_one_processor();
     sem_init(&jail.asked, 0, 0);
     sem_init(&jail.answered, 0, 0);
     pthread_create(&thread, NULL, stay_in_jail, NULL);
     await(&jail.answered);
-    for (int at = 0; at < PATHS; at++)
-        time_path(paths[at]);
-    jail.path = NULL;
+    time_all(deep, count == 3 ? atol(words[2]) : FILES);
+    jail.task = NULL;
     sem_post(&jail.asked);
     pthread_join(thread, NULL);
-    return 0;
+    return wrong != 0;
 }

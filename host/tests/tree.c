@@ -35,12 +35,17 @@ static long entries;
 /* ---- what happens in the midst of a call */
 
 static void (*before_directory)(void);
+static int refusal;
 
 int __real_unlinkat(int dir, const char *name, int flags);
 int __wrap_unlinkat(int dir, const char *name, int flags);
 
 int __wrap_unlinkat(int dir, const char *name, int flags)
 {
+    if (refusal != 0 && flags == AT_REMOVEDIR) {
+        errno = refusal;
+        return -1;
+    }
     if (flags == AT_REMOVEDIR && before_directory != NULL) {
         void (*now)(void) = before_directory;
         before_directory = NULL;
@@ -135,6 +140,22 @@ static void deep(void)
 static void deeper(void)
 {
     remove_it("more directories, each in the one before", make_chain(DEEPER));
+}
+
+/* What is refused below where one proved call goes is told as anywhere. */
+static void refused_deeper(void)
+{
+    struct inroot_error why;
+    make_chain(DEEPER);
+    refusal = EIO;
+    ssize_t removed = inroot_remove_all(root, "t", 0);
+    expect(removed == -EIO, "a removal that is refused far below: %zd", removed);
+    expect(inroot_last_error(&why) == 0 && why.error == EIO, "what is told of it: %d", why.error);
+    bool is_told = strcmp(why.step, "RemoveDir") == 0 && strcmp(why.name, "d") == 0 && why.rest[0] == 0;
+    expect(is_told, "of the last step: %s '%s', left '%s'", why.step, why.name, why.rest);
+    refusal = 0;
+    removed = inroot_remove_all(root, "t", 0);
+    expect(removed == DEEPER + (DEEPER - 1) / 100, "the same, and not refused: %zd", removed);
 }
 
 static void many(void)
@@ -244,7 +265,7 @@ static void moved(void)
 
 int main(int count, char **words)
 {
-    static void (*const parts[])(void) = {deep, deeper, many, many_and_deep, long_names, too_long_name, moved};
+    static void (*const parts[])(void) = {deep, deeper, refused_deeper, many, many_and_deep, long_names, too_long_name, moved};
     if (count != 3)
         return 2;
     base = sure(open(words[1], O_PATH | O_DIRECTORY | O_CLOEXEC), words[1]);

@@ -7,12 +7,12 @@
  * right to change a root. To be linked with --wrap=syscall.
  */
 #define _GNU_SOURCE
+#include "../openat2.h"
 #include "support.h"
 
 #include <dirent.h>
 #include <errno.h>
 #include <limits.h>
-#include <linux/openat2.h>
 #include <pthread.h>
 #include <stdarg.h>
 #include <string.h>
@@ -177,6 +177,7 @@ static uint64_t call(struct side *me, unsigned which, const char *path, const ch
     case 8: return told_text(inroot_readlink(at, path, flags, text, sizeof text), text);
     case 9: return told(me, inroot_openat(at, path, O_RDWR | O_CREAT, 0600, flags));
     case 10: return (uint64_t)inroot_stat(at, path, &about, flags);
+    case 11: return told(me, inroot_openat(at, path, O_PATH | O_DIRECTORY, 0, flags));
     default: return told(me, inroot_open(at, path, flags | (pick(&me->state, 4) ? 0 : INROOT_NOFOLLOW)));
     }
 }

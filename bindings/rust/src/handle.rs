@@ -24,7 +24,7 @@ impl Handle {
         opened(unsafe { ffi::inroot_reopen(self.fd.as_raw_fd(), flags.bits()) }).map(File::from)
     }
 
-    /// What fstat(2) tells of the object.
+    /// What fstat(2) says of the object.
     pub fn metadata(&self) -> io::Result<Metadata> {
         File::from(self.fd.try_clone()?).metadata()
     }

@@ -205,7 +205,7 @@ impl Root {
         Ok(PathBuf::from(OsString::from_vec(text)))
     }
 
-    /// What fstat(2) tells of what the path means.
+    /// What fstat(2) says of the object that the path means.
     pub fn metadata(&self, path: impl AsRef<Path>) -> io::Result<Metadata> {
         self.resolve(path)?.metadata()
     }

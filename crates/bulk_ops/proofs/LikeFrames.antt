@@ -150,3 +150,9 @@ pub next_dir : (frames : List Frame) (below : ℕ) (f : Frame) → below < lengt
 next_dir frames below f lt is =
     let within : below < length (reverse frames) = omega (arith, length-reverse frames) in
     taken_dirs frames (below + 1) ∙ (more dir_of (reverse frames) below f within (is ∙ sym (get_or-reverse frames below f lt)) ∙ ap (λ (ns : List ℕ). ns ++ dir_of f ∷ []) (sym (taken_dirs frames below)))
+
+-- directories of which the first so many are copied, and that are no more, are the same from the innermost on
+pub levels_copied : (copies frames : List Frame) (i : ℕ) → map level_of copies ≡ map level_of (take i frames) → i ≡ length frames → levels_of copies ≡ levels_of frames
+levels_copied copies frames i same all =
+    let each = same ∙ ap (map level_of) (subst (λ (n : ℕ). take n frames ≡ frames) (sym all) (take-length frames)) in
+    onto_reverse level_of copies ∙ (ap reverse each ∙ sym (onto_reverse level_of frames))

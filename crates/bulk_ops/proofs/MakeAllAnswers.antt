@@ -3,7 +3,7 @@ use Rattle.std.specs.Prelude.{◌≡◌, ℕ, suc, ◌≤◌, List, [], ◌∷�
 use Rattle.std.proofs.Common.{sym, ap, subst, ◌∙◌, le_refl, le_trans, append-nil, append_assoc, inl, inr}
 use Rattle.std.proofs.Math.Nat.{le-suc}
 use Rattle.std.proofs.lemmas.List.{reverse-append}
-use Rattle.std.proofs.lemmas.Bool.{false≢true}
+use Rattle.std.proofs.lemmas.Bool.{false≢true, leb-true}
 use Rattle.path_text.specs.declared.errno.Errno.{Errno}
 use Rattle.path_text.specs.declared.errno.Errno.TheVariants.{NotFound, Raced, Exists, NotDir, TooMany, TooLong}
 use Rattle.tree_model.specs.declared.answer.Answer.{Answer}
@@ -12,6 +12,7 @@ use Rattle.tree_model.specs.declared.inode.Object.{Object}
 use Rattle.tree_model.specs.declared.inode.Object.TheVariants.{Dir}
 use Rattle.tree_model.specs.declared.step.StepOf.{StepOf}
 use Rattle.tree_model.specs.declared.step.StepOf.TheVariants.{Open, NameBelow, Close, MakeDir}
+use Rattle.tree_model.specs.declared.tree.TheConstants.{NUMBERS_MAX}
 use Rattle.tree_model.specs.State.{State, Stands, object_at, child, is_dir, is_directory, is_gone}
 use Rattle.tree_model.specs.Entries.{makes}
 use Rattle.tree_model.specs.Steps.{outcome, opens, kind_of}
@@ -19,13 +20,14 @@ use Rattle.tree_model.specs.Steps.{held as holding}
 use Rattle.step_resolver.specs.Asked.{AskedPart, Cur, Up, Named}
 use Rattle.step_resolver.specs.Meaning.{is_too_long}
 use Rattle.step_resolver.specs.Trail.{down_to}
-use Rattle.step_resolver.specs.Order.{Handle, is_dir_kind}
+use Rattle.step_resolver.specs.Order.{Handle, holds, is_dir_kind}
 use Rattle.step_resolver.specs.WalkHistory.{WalkInHistory, state_at, timeline}
 use Rattle.tree_model.proofs.Children.{entry, place_at-child}
 use Rattle.step_resolver.proofs.Meaning.NodesAtEntries.{object_at-place}
 use Rattle.step_resolver.proofs.Trail.Joined.{own_earlier}
 use Rattle.step_resolver.proofs.Underway.StepOutcomes.{IsMore, IsLess, Close-is_less, Opening, too_many, no_object, is_opened, opening_of, OpenCase, no_dir, no_child, at_child, open_case}
 use Rattle.step_resolver.proofs.Underway.WalkInvariant.{Lived, StepAt, held_at, HandlesAre, handles_kept, handles_more, handles_less, root_open, IsHeld, held_kept, held_less, old_is_other, dir_at}
+use Rattle.step_resolver.proofs.Underway.HandleCount.{few_held}
 use Rattle.step_resolver.proofs.Underway.HandlesHeld.{handles_swapped, kept_on, more_on}
 use Rattle.step_resolver.proofs.Underway.LegalHistory.{TreeLaws}
 use Rattle.bulk_ops.specs.MakeAllOrder.{making, opening, leaving, ending, closing, MakeTurn, more, made, rest_fault, rest_names, gives_up, take, enters}
@@ -112,9 +114,9 @@ module _ {w : WalkInHistory} (lived : Lived w) (now t : ℕ) (held : Handle) (na
         (gone c.to n t (at_name (MakeDir held.number n) is) (ap (is_gone s.nodes) c.node ∙ g)))
     on_case (is_there o) = made_as (Refused Exists) (is.told ∙ ap (λ r. r.answer) o)
         (to_opening (kept_on is (ap (λ r. r.after) o)) (inl (nodes_left (ap (λ r. r.after) o))))
-    on_case (no_number o) = made_as (Refused TooMany) (is.told ∙ ap (λ r. r.answer) o)
+    on_case (no_number many o) = made_as (Refused TooMany) (is.told ∙ ap (λ r. r.answer) o)
         (fails_here TooMany (kept_on is (ap (λ r. r.after) o)) (inl (nodes_left (ap (λ r. r.after) o)))
-        (full t (MakeDir held.number n) (is.event ∙ ap (λ v. Some (record { actor = w.actor; step = MakeDir held.number n; answer = v })) (is.told ∙ ap (λ r. r.answer) o)) (ap (λ r. r.answer) o)))
+        (full t (MakeDir held.number n) (is.event ∙ ap (λ v. Some (record { actor = w.actor; step = MakeDir held.number n; answer = v })) (is.told ∙ ap (λ r. r.answer) o)) (ap (λ r. r.answer) o) (inr (leb-true NUMBERS_MAX (length s.nodes) many))))
     on_case (is_made nodes e o) = made_as Done (is.told ∙ ap (λ r. r.answer) o)
         (to_opening (λ h. ap (λ x. holding x w.actor h) (is.after ∙ ap (λ r. r.after) o) ∙ is.kept h)
         (inr (record {
@@ -202,7 +204,7 @@ module _ {w : WalkInHistory} (lived : Lived w) (now t : ℕ) (held : Handle) (na
         → Opening s w.actor x (opens s w.actor x) → GoodTurn w (suc t) (take w.way room (opening held names n left) answer)
     on_opening x e o (too_many f q) = opened_as (Refused TooMany) (is.told ∙ ap (λ r. r.answer) (o ∙ q))
         (fails_here TooMany (kept_on is (ap (λ r. r.after) (o ∙ q))) (inl (same_nodes s (ap (λ r. r.after) (o ∙ q)) refl))
-        (full t (Open held.number n) (is.event ∙ ap (λ v. Some (record { actor = w.actor; step = Open held.number n; answer = v })) (is.told ∙ ap (λ r. r.answer) (o ∙ q))) (ap (λ r. r.answer) (o ∙ q))))
+        (full t (Open held.number n) (is.event ∙ ap (λ v. Some (record { actor = w.actor; step = Open held.number n; answer = v })) (is.told ∙ ap (λ r. r.answer) (o ∙ q))) (ap (λ r. r.answer) (o ∙ q)) (inl (f, few_held w t (holds held names) (handles_kept is.kept way.handles)))))
     on_opening x e o (no_object z q) =
         absurd (object_at-place s.nodes x (entry held.node n) (place_at-child s.nodes held.node n x e) z)
     on_opening x e o (is_opened what z q) = opened_as (Opened (length s.handles) x (kind_of what)) (is.told ∙ ap (λ r. r.answer) (o ∙ q))

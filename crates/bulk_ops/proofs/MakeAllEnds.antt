@@ -27,7 +27,7 @@ use Rattle.step_resolver.proofs.Underway.AfterDupAndClose.{not_made_good}
 use Rattle.step_resolver.proofs.Underway.LegalHistory.{lived}
 use Rattle.step_resolver.proofs.Ends.EachEnd.{take_good}
 use Rattle.step_resolver.proofs.Ends.EveryWalk.{tree_laws}
-use Rattle.bulk_ops.specs.MakeAllOrder.{Making, walking, making, opening, leaving, ending, closing, MakeTurn, more, made, failed, begins, rest_fault, rest_names, gives_up, begins_to_make, after_walk, own_left, take, due, is_closing, LeadsTo}
+use Rattle.bulk_ops.specs.MakeAllOrder.{Making, walking, making, opening, leaving, ending, closing, MakeTurn, more, made, failed, begins, rest_fault, rest_names, gives_up, begins_to_make, after_walk, take, due, is_closing, LeadsTo}
 use Rattle.bulk_ops.specs.MakeAllTells.{stays, DeepestAt, start_of, Reach, not_begun, begun, MayDo, Did, of_walk, no_directory, of_rest, for_want, MadeEnd, MakeTells, MakesTell}
 use Rattle.bulk_ops.proofs.MakeAllHappens.{NoneFrom, before_or_from, Happen, lines_happen}
 use Rattle.bulk_ops.proofs.MakeAllGood.{DidUntil, OnWay, Failing, MadeBy, GoodCall, GoodTurn, did_further, goes_down_good, kind_of_dir, no_dir_of_kind, BelowCase, stands_there, stands_elsewhere, stands_nowhere, below_case, below_kept}

@@ -152,7 +152,7 @@ chained_later le kept c = record {
 pub data MakeCase (s : State) (d : ℕ) (n : List ℕ) (o : Outcome) : Type 0 where
   dir_gone : is_gone s.nodes d ≡ true → o ≡ refused s NotFound → MakeCase s d n o
   is_there : o ≡ refused s Exists → MakeCase s d n o
-  no_number : o ≡ refused s TooMany → MakeCase s d n o
+  no_number : nat_le NUMBERS_MAX (length s.nodes) ≡ true → o ≡ refused s TooMany → MakeCase s d n o
   is_made : (nodes : List Inode) → makes s.nodes d n Dir ≡ Ok nodes → o ≡ record { answer = Done; after = record { nodes = nodes; handles = s.handles } } → MakeCase s d n o
 
 module _ (s : State) (d : ℕ) (n : List ℕ) where
@@ -176,7 +176,7 @@ module _ (s : State) (d : ℕ) (n : List ℕ) where
 
       on_number : makes s.nodes d n Dir ≡ with_number (nat_le NUMBERS_MAX (length s.nodes)) → (b : Bool) → nat_le NUMBERS_MAX (length s.nodes) ≡ b
           → MakeCase s d n (changes s (makes s.nodes d n Dir))
-      on_number q true e = no_number (ap (changes s) (q ∙ ap with_number e))
+      on_number q true e = no_number e (ap (changes s) (q ∙ ap with_number e))
       on_number q false e = is_made _ (q ∙ ap with_number e) (ap (changes s) (q ∙ ap with_number e))
 
       on_name : makes s.nodes d n Dir ≡ with_name (is_some (child s.nodes d n)) → (b : Bool) → is_some (child s.nodes d n) ≡ b

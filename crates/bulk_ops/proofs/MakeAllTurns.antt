@@ -2,18 +2,15 @@
 use Rattle.std.specs.Prelude.{◌≡◌, ℕ, List, [], ◌∷◌, ◌++◌, Bool, true, false, refl}
 use Rattle.std.proofs.Common.{sym, ap, subst, ◌∙◌}
 use Rattle.path_text.specs.declared.errno.Errno.{Errno}
-use Rattle.path_text.specs.declared.errno.Errno.TheVariants.{NoMemory, BookFull}
 use Rattle.path_text.specs.Reading.{Reading}
 use Rattle.tree_model.specs.declared.answer.Answer.{Answer}
 use Rattle.tree_model.specs.declared.answer.Answer.TheVariants.{Refused}
 use Rattle.step_resolver.specs.Order.{Way, Walking, Line, answered, no_room, not_made, IsWant, for_walk}
 use Rattle.step_resolver.specs.Order as walk
 use Rattle.step_resolver.specs.TurnsTell.{first_lines}
-use Rattle.step_resolver.specs.WalkHistory.{WalkInHistory}
 use Rattle.step_resolver.proofs.FirstTurns.{first_lines_lead}
 use Rattle.bulk_ops.specs.MakeAllOrder.{Making, walking, making, opening, leaving, ending, closing, MakeTurn, more, made, failed, after_walk, begins, starts, take, LeadsTo}
 use Rattle.bulk_ops.specs.MakeAllTurnsTell.{IsLineOf, TellsTaken, TellsBegun}
-use Rattle.bulk_ops.specs.MakeAllTells.{MakeTells}
 use Rattle.bulk_ops.specs.MakeAllView.{MakingView, TakesTo, StartsTo}
 use Rattle.bulk_ops.specs.declared.turn.BulkTurn.{BulkTurn}
 use Rattle.bulk_ops.proofs.MakeAllSteps.{GoesOnWithin, begun_within, refused_within, needs_no_room}

@@ -8,6 +8,7 @@ pub mod StepAnswers
 pub mod Underway
 pub mod AfterAnswers
 pub mod Parts
+pub mod Bounded
 pub mod EachEnd
 pub mod TurnsTell
 pub mod Quiet

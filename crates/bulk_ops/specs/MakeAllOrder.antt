@@ -72,7 +72,8 @@ begins_to_make false held names rest None = gives_up (held.number ∷ []) NoMemo
 -- what the walk's turn makes of the call: a directory that is there is its end
 abbrev pub after_walk : Bool → walk.Turn → MakeTurn
 after_walk room (walk.more walker) = more (walking walker)
-after_walk room (walk.found handle names) = if is_dir_kind handle.kind then made handle names else gives_up (handle.number ∷ []) NotDir
+after_walk room (walk.found handle names) =
+    if is_dir_kind handle.kind then made handle names else gives_up (handle.number ∷ []) NotDir
 after_walk room (walk.partial handle names rest) = begins_to_make room handle names rest (rest_fault rest)
 after_walk room (walk.failed error) = failed error
 
@@ -110,7 +111,8 @@ abbrev pub take : Way → Bool → Making → Answer → MakeTurn
 take way room (walking walker) answer = after_walk room (walk.take way room walker answer)
 take way room (making held names n left) Done = more (opening held names n left)
 take way room (making held names n left) answer = refused_make held names n left (refusal_of answer)
-take way room (opening held names n left) (Opened h x kind) = enters held names n left (record { number = h; node = x; kind = kind })
+take way room (opening held names n left) (Opened h x kind) =
+    enters held names n left (record { number = h; node = x; kind = kind })
 take way room (opening held names n left) answer = gives_up (held.number ∷ []) (raced_if_missing (refusal_of answer))
 take way room (leaving old new names left) answer = goes_down new names left
 take way room (ending held names) (Names told) = judged held names told

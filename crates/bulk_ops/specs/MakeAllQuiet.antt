@@ -1,5 +1,5 @@
--- What a path means to MkdirAll in one tree that nobody else changes meanwhile: its end, and the nodes after it. It knows no
--- steps and no handles. mkdir(2), path_resolution(7).
+-- What a path means to MkdirAll in one tree that nobody else changes meanwhile: its end, and the nodes after it. It
+-- knows no steps and no handles. mkdir(2), path_resolution(7).
 use Rattle.std.specs.Prelude.{◌≡◌, ◌⊎◌, ℕ, suc, List, [], ◌∷◌, ◌++◌, true, if◌then◌else◌, length, Option, Some, None}
 use Rattle.path_text.specs.declared.errno.Errno.{Errno}
 use Rattle.path_text.specs.declared.errno.Errno.TheVariants.{Raced, NotDir}
@@ -18,7 +18,8 @@ use Rattle.bulk_ops.specs.MakeAllOrder.{MakeTurn, more, made, failed, begins, re
 -- directories of these names, the first in d and each other one in that before it; k is the number of the first
 abbrev pub chain_of : ℕ → ℕ → List (List ℕ) → List Inode
 chain_of k d [] = []
-chain_of k d (n ∷ names) = record { object = Dir; place = Some (record { parent = d; name = n }) } ∷ chain_of (suc k) k names
+chain_of k d (n ∷ names) =
+    record { object = Dir; place = Some (record { parent = d; name = n }) } ∷ chain_of (suc k) k names
 
 -- the number of the last of them; with no names it is d
 abbrev pub last_of : ℕ → ℕ → List (List ℕ) → ℕ
@@ -49,7 +50,8 @@ make_means nodes (none error reads) = refuses error
 
 -- From these nodes to those, below r, a call's end is what is meant; the directory stands at the names that are told.
 abbrev pub IsMeantEnd : List Inode → List Inode → ℕ → MakeMeant → MakeTurn → Type 0
-IsMeantEnd before after r (gives x nodes) (made handle names) = (handle.node ≡ x) × ((after ≡ nodes) × Stands after r x names)
+IsMeantEnd before after r (gives x nodes) (made handle names) =
+    (handle.node ≡ x) × ((after ≡ nodes) × Stands after r x names)
 IsMeantEnd before after r (refuses error) (failed told) = (told ≡ error) × (after ≡ before)
 IsMeantEnd before after r _ _ = ⊥
 
@@ -78,9 +80,11 @@ IsOver (more call) = ⊥
 IsOver (made handle names) = Unit {0}
 IsOver (failed error) = Unit {0}
 
--- Where no other actor acts in the window, the end is what the path means in the tree as the window begins, and the nodes
--- after it are those that are meant; or something ran short.
+-- Where no other actor acts in the window, the end is what the path means in the tree as the window begins, and the
+-- nodes after it are those that are meant; or something ran short.
 abbrev pub QuietMakesMean : Type 0
-QuietMakesMean = (w : WalkInHistory) (end : MakeTurn) → IsWalkInHistory w → w.way.goal ≡ Deepest → LeadsTo w.way (begins w.way w.path) w.lines end
+QuietMakesMean = (w : WalkInHistory) (end : MakeTurn) → IsWalkInHistory w → w.way.goal ≡ Deepest
+    → LeadsTo w.way (begins w.way w.path) w.lines end
     → IsOver end → IsQuiet w
-    → ComesTo (begin_of w).nodes (end_of w).nodes w.root (make_means (begin_of w).nodes (reading_deepest (ground w) w.path)) end
+    → ComesTo (begin_of w).nodes (end_of w).nodes w.root
+    (make_means (begin_of w).nodes (reading_deepest (ground w) w.path)) end

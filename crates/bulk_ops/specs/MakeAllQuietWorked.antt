@@ -21,7 +21,8 @@ use Rattle.bulk_ops.specs.MakeAllWorked.{meant}
 abbrev pub CALLER : ℕ
 CALLER = 7
 
--- `a` is walked to, and `x` is missing there; then each name is made, opened and gone into, and the last place is asked
+-- `a` is walked to, and `x` is missing there; then each name is made, opened and gone into, and the last place is
+-- asked
 abbrev pub make_lines : List Line
 make_lines =
     answered (Open 0 (codes "a")) (Opened 1 2 kind.Dir)
@@ -54,7 +55,8 @@ make_end = made (record { number = 3; node = 12; kind = kind.Dir }) (codes "y" �
 abbrev pub chain_made : List Inode
 chain_made = base_nodes ++ standing Dir 2 (codes "x") ∷ standing Dir 11 (codes "y") ∷ []
 
--- It is a call in a legal history in which nobody else acts, and its lines lead to this end, which is what its path means.
+-- It is a call in a legal history in which nobody else acts, and its lines lead to this end, which is what its path
+-- means.
 pub record MakeIsWorked : Type 0 where
   pub called : IsWalkInHistory make_call
   pub led : LeadsTo make_call.way (begins make_call.way make_call.path) make_lines make_end

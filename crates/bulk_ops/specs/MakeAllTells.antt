@@ -1,5 +1,6 @@
--- What a call to MkdirAll did and what its end tells, in every legal history. mkdir(2), path_resolution(7), openat2(2).
-use Rattle.std.specs.Prelude.{◌≡◌, ℕ, suc, ◌<◌, ◌≤◌, ◌⊎◌, List, [], ◌∷◌, ◌++◌, Bool, true, false, reverse, Some, None, Ok, slice_get}
+-- What a call to MkdirAll did and what its end tells, in every legal history. mkdir(2), path_resolution(7),
+-- openat2(2).
+use Rattle.std.specs.Prelude.{◌≡◌, ℕ, suc, ◌<◌, ◌≤◌, ◌⊎◌, List, [], ◌∷◌, ◌++◌, Bool, true, false, length, reverse, Some, None, Ok, slice_get}
 use Rattle.path_text.specs.declared.errno.Errno.{Errno}
 use Rattle.path_text.specs.declared.errno.Errno.TheVariants.{Raced, NotDir, TooMany}
 use Rattle.tree_model.specs.declared.answer.Answer.TheVariants.{Refused}
@@ -8,11 +9,12 @@ use Rattle.tree_model.specs.declared.inode.Object.TheVariants.{Dir}
 use Rattle.tree_model.specs.declared.step.StepOf.{StepOf}
 use Rattle.tree_model.specs.State.{Stands, child, is_directory, is_gone}
 use Rattle.tree_model.specs.Entries.{makes}
-use Rattle.tree_model.specs.Steps.{outcome}
+use Rattle.tree_model.specs.declared.tree.TheConstants.{NUMBERS_MAX}
+use Rattle.tree_model.specs.Steps.{outcome, held_count, is_full}
 use Rattle.step_resolver.specs.Asked.{AskedPart, Named}
 use Rattle.step_resolver.specs.Trail.{Timeline, Spot, later, down_to, IsOwnFrom, IsChildAt}
 use Rattle.step_resolver.specs.Order.{Handle, IsWant, is_dir_kind}
-use Rattle.step_resolver.specs.WalkHistory.{WalkInHistory, IsWalkInHistory, state_at, timeline, parts_of_walk, IsTrailTo}
+use Rattle.step_resolver.specs.WalkHistory.{WalkInHistory, IsWalkInHistory, begin_of, state_at, timeline, parts_of_walk, IsTrailTo}
 use Rattle.step_resolver.specs.Failures.{IsMissingAt, HandlesStay, TellsError, TellsWant}
 use Rattle.step_resolver.specs.Headline.{Opens, StoodAt, IsNewHandle}
 use Rattle.bulk_ops.specs.MakeAllOrder.{MakeTurn, more, made, failed, begins, rest_fault, rest_names, LeadsTo}
@@ -23,13 +25,14 @@ use Rattle.bulk_ops.specs.MakeAllOrder.{MakeTurn, more, made, failed, begins, re
 -- link. Names the innermost first.
 pub data Down (timeline : Timeline) (from : Spot) : List (List ℕ) → Spot → Type 0 where
   stays : Down timeline from [] from
-  into : {names : List (List ℕ)} {d : Spot} (n : List ℕ) (t c : ℕ) → Down timeline from names d → IsChildAt timeline d n t c
+  into : {names : List (List ℕ)} {d : Spot} (n : List ℕ) (t c : ℕ) → Down timeline from names d
+      → IsChildAt timeline d n t c
       → is_directory (timeline.object_of c) ≡ true → Down timeline from (n ∷ names) (down_to d c n (suc t))
 
 -- ---- where the call begins to make
 
--- The deepest directory on the way: the parts before the rest were passed, the first name of the rest was missing then, and
--- afterwards, at the own event `when`, the directory stood under the root at the names passed.
+-- The deepest directory on the way: the parts before the rest were passed, the first name of the rest was missing
+-- then, and afterwards, at the own event `when`, the directory stood under the root at the names passed.
 pub record DeepestAt (w : WalkInHistory) : Type 0 where
   pub front : List AskedPart
   pub rest : List AskedPart
@@ -85,8 +88,8 @@ Did w reach = (t : ℕ) → (timeline w).is_own t ≡ true → MayDo w reach t
 
 -- ---- its ends
 
--- The last directory was reached by all names of the rest, and afterwards, at the last own event, it stood under the root
--- at the names of the deepest directory followed by those. It is open.
+-- The last directory was reached by all names of the rest, and afterwards, at the last own event, it stood under the
+-- root at the names of the deepest directory followed by those. It is open.
 pub record MadeLast (w : WalkInHistory) (p : DeepestAt w) (handle : Handle) (names : List (List ℕ)) : Type 0 where
   pub whole : rest_fault p.rest ≡ None
   pub passed : List (List ℕ)
@@ -110,22 +113,37 @@ MadeEnd w (begun p) handle names = MadeLast w p handle names
 -- why nothing was made: the walk's own failure; all parts led to what is no directory; or what the rest has in it
 pub data UnbegunCause (w : WalkInHistory) : Errno → Type 0 where
   of_walk : {error : Errno} → TellsError w error → UnbegunCause w error
-  no_directory : (to : Spot) (what : Object) → IsTrailTo w (parts_of_walk w) to → (timeline w).object_of to.node ≡ Some what
+  no_directory : (to : Spot) (what : Object) → IsTrailTo w (parts_of_walk w) to
+      → (timeline w).object_of to.node ≡ Some what
       → is_directory (Some what) ≡ false → UnbegunCause w NotDir
   of_rest : {error : Errno} (p : DeepestAt w) → rest_fault p.rest ≡ Some error → UnbegunCause w error
 
--- why making ended: a want; the step table refused a step for its limits; the directory in which a name was to be made was
--- gone; the name that was made was missing; or something else stood there; or the last directory stood elsewhere
+-- A limit was reached at moment t: the actor, which then held one handle more than before at most, could open no
+-- more, or the numbers of handles were used up; or those of nodes were.
+abbrev pub IsAtLimit : WalkInHistory → ℕ → Type 0
+IsAtLimit w t = ((is_full (state_at w t) w.actor ≡ true)
+    × (held_count (state_at w t) w.actor ≤ suc (held_count (begin_of w) w.actor)))
+    ⊎ (NUMBERS_MAX ≤ length ((timeline w).nodes_at t))
+
+-- why making ended: a want; the step table refused a step for its limits; the directory in which a name was to be
+-- made was gone; the name that was made was missing; or something else stood there; or the last directory stood
+-- elsewhere
 pub data MakingCause (w : WalkInHistory) (p : DeepestAt w) : Errno → Type 0 where
   for_want : {error : Errno} → IsWant error → TellsWant error w.lines → MakingCause w p error
-  full : (t : ℕ) (step : StepOf ℕ) → slice_get w.window t ≡ Some (record { actor = w.actor; step = step; answer = Refused TooMany })
-      → (outcome (state_at w t) w.actor step).answer ≡ Refused TooMany → MakingCause w p TooMany
-  gone : (dir : Spot) (name : List ℕ) (t : ℕ) → AtName w p dir name t → is_gone ((timeline w).nodes_at t) dir.node ≡ true → MakingCause w p Raced
-  missing : (dir : Spot) (name : List ℕ) (t : ℕ) → AtName w p dir name t → child ((timeline w).nodes_at t) dir.node name ≡ None → MakingCause w p Raced
-  not_directory : (dir : Spot) (name : List ℕ) (t c : ℕ) → AtName w p dir name t → child ((timeline w).nodes_at t) dir.node name ≡ Some c
+  full : (t : ℕ) (step : StepOf ℕ)
+      → slice_get w.window t ≡ Some (record { actor = w.actor; step = step; answer = Refused TooMany })
+      → (outcome (state_at w t) w.actor step).answer ≡ Refused TooMany → IsAtLimit w t → MakingCause w p TooMany
+  gone : (dir : Spot) (name : List ℕ) (t : ℕ) → AtName w p dir name t
+      → is_gone ((timeline w).nodes_at t) dir.node ≡ true → MakingCause w p Raced
+  missing : (dir : Spot) (name : List ℕ) (t : ℕ) → AtName w p dir name t
+      → child ((timeline w).nodes_at t) dir.node name ≡ None → MakingCause w p Raced
+  not_directory : (dir : Spot) (name : List ℕ) (t c : ℕ) → AtName w p dir name t
+      → child ((timeline w).nodes_at t) dir.node name ≡ Some c
       → is_directory ((timeline w).object_of c) ≡ false → MakingCause w p NotDir
-  astray : (passed : List (List ℕ)) (to : Spot) (t : ℕ) → rest_names p.rest ≡ reverse passed → Down (timeline w) (start_of p) passed to
-      → IsOwnFrom (timeline w) to.moment t → (Stands ((timeline w).nodes_at t) w.root to.node to.names → ⊥) → MakingCause w p Raced
+  astray : (passed : List (List ℕ)) (to : Spot) (t : ℕ) → rest_names p.rest ≡ reverse passed
+      → Down (timeline w) (start_of p) passed to
+      → IsOwnFrom (timeline w) to.moment t → (Stands ((timeline w).nodes_at t) w.root to.node to.names → ⊥)
+      → MakingCause w p Raced
 
 abbrev pub Cause : (w : WalkInHistory) → Reach w → Errno → Type 0
 Cause w not_begun error = UnbegunCause w error

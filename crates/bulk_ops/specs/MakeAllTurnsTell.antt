@@ -12,8 +12,8 @@ use Rattle.bulk_ops.specs.MakeAllTells.{MakeTells}
 use Rattle.bulk_ops.specs.MakeAllView.{MakingView, IsTurn}
 use Rattle.bulk_ops.specs.declared.turn.BulkTurn.{BulkTurn}
 
--- The line that the answer to the due step is: the step was made, with room for what the answer brings or without; or it
--- wasn't made, for a want that is handed in as its refusal. A Close is always made.
+-- The line that the answer to the due step is: the step was made, with room for what the answer brings or without;
+-- or it wasn't made, for a want that is handed in as its refusal. A Close is always made.
 abbrev pub IsLineOf : Way → Bool → Making → Answer → Line → Type 0
 IsLineOf way room call answer (answered step told) = (room ≡ true) × (step ≡ due way call) × (told ≡ answer)
 IsLineOf way room call answer (no_room step told) = (room ≡ false) × (step ≡ due way call) × (told ≡ answer)
@@ -29,15 +29,15 @@ pub record IsTaken (way : Way) (room : Bool) (call : Making) (answer : Answer) (
   pub led_here : LeadsTo way (begins way w.path) before (more call)
   pub is_last : IsLineOf way room call answer last
 
--- The turn is what the order of steps makes of the answer, with room or without; and it tells this of each history in which
--- the call was led here and then told this answer.
+-- The turn is what the order of steps makes of the answer, with room or without; and it tells this of each history
+-- in which the call was led here and then told this answer.
 pub record TellsTaken (way : Way) (call : Making) (answer : Answer) (result : BulkTurn MakingView) : Type 0 where
   pub room : Bool
   pub is_turn : IsTurn result (take way room call answer)
   pub tells : (w : WalkInHistory) → IsTaken way room call answer w → MakeTells w (take way room call answer)
 
--- A call on this way, along this path, in a legal history was told no more than that its first step wasn't made, where a walk
--- that would go on found no memory.
+-- A call on this way, along this path, in a legal history was told no more than that its first step wasn't made,
+-- where a walk that would go on found no memory.
 pub record IsBegun (way : Way) (room : Bool) (path : Reading) (w : WalkInHistory) : Type 0 where
   pub walked : IsWalkInHistory w
   pub same_way : w.way ≡ way

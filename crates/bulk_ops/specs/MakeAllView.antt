@@ -47,8 +47,10 @@ at_next due held names (n ∷ left) = due n left
 
 abbrev pub making_of : Stage → Making
 making_of (Walking walker) = walking walker.walking
-making_of (MakingIn held chain) = at_next (making (handle_of held) (passed chain.value)) (handle_of held) (passed chain.value) (to_come chain.value)
-making_of (Opening held chain) = at_next (opening (handle_of held) (passed chain.value)) (handle_of held) (passed chain.value) (to_come chain.value)
+making_of (MakingIn held chain) = at_next (making (handle_of held) (passed chain.value)) (handle_of held)
+    (passed chain.value) (to_come chain.value)
+making_of (Opening held chain) = at_next (opening (handle_of held) (passed chain.value)) (handle_of held)
+    (passed chain.value) (to_come chain.value)
 making_of (Leaving old new chain) = leaving old.handle (handle_of new) (passed chain.value) (to_come chain.value)
 making_of (Ending held chain) = ending (handle_of held) (reverse chain.value.names)
 making_of (Closing first second error) = closing first.handle (numbers_of second) error
@@ -58,7 +60,8 @@ view_of call stage = record { owner = call.root.owner; way = way_of call; making
 
 -- the next name is passed, and the directory above is to be closed
 abbrev pub gone_into : ReachedObject → ReachedObject → Chain → Making
-gone_into old new chain = leaving old.handle (handle_of new) (reverse (take (suc chain.done) chain.names)) (drop (suc chain.done) chain.names)
+gone_into old new chain = leaving old.handle (handle_of new) (reverse (take (suc chain.done) chain.names))
+    (drop (suc chain.done) chain.names)
 
 -- ---- what every call keeps
 

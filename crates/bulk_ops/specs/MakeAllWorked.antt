@@ -12,7 +12,8 @@ use Rattle.bulk_ops.specs.MakeAllQuiet.{MakeMeant, refuses, gives, make_means}
 
 -- what a path text means in these nodes, below the directory r
 abbrev pub meant_in : List Inode → ℕ → List ℕ → MakeMeant
-meant_in nodes r text = make_means nodes (reading_deepest (record { nodes = nodes; root = r; flags = plain }) (reading_of text))
+meant_in nodes r text =
+    make_means nodes (reading_deepest (record { nodes = nodes; root = r; flags = plain }) (reading_of text))
 
 -- below /c in the base tree
 abbrev pub meant : List ℕ → MakeMeant
@@ -22,8 +23,10 @@ meant text = meant_in base_nodes ROOT text
 pub record MakesAreWorked : Type 0 where
   pub there : meant (codes "a/b") ≡ gives 3 base_nodes
   pub last_missing : meant (codes "a/x") ≡ gives 11 (base_nodes ++ standing Dir 2 (codes "x") ∷ [])
-  pub both_missing : meant (codes "a/b/x/y") ≡ gives 12 (base_nodes ++ standing Dir 3 (codes "x") ∷ standing Dir 11 (codes "y") ∷ [])
-  pub slashes_and_dots : meant (codes "/x/./y/") ≡ gives 12 (base_nodes ++ standing Dir 1 (codes "x") ∷ standing Dir 11 (codes "y") ∷ [])
+  pub both_missing : meant (codes "a/b/x/y")
+      ≡ gives 12 (base_nodes ++ standing Dir 3 (codes "x") ∷ standing Dir 11 (codes "y") ∷ [])
+  pub slashes_and_dots : meant (codes "/x/./y/")
+      ≡ gives 12 (base_nodes ++ standing Dir 1 (codes "x") ∷ standing Dir 11 (codes "y") ∷ [])
   pub through_link : meant (codes "abs/x") ≡ gives 11 (base_nodes ++ standing Dir 3 (codes "x") ∷ [])
   pub over_file : meant (codes "a/b/f") ≡ refuses NotDir
   pub below_file : meant (codes "a/b/f/x") ≡ refuses NotDir

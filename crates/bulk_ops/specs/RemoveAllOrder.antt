@@ -1,7 +1,7 @@
--- The order of RemoveAll's steps: which step is due, and what its answer makes of the call. The directory part of the path is
--- walked; then the target in it is cleared: an entry is removed as what is no directory, and where a directory stands there
--- that is opened by its name, listed, its own entries are cleared, and then it is removed. unlink(2), rmdir(2), openat(2)
--- with O_PATH and O_NOFOLLOW.
+-- The order of RemoveAll's steps: which step is due, and what its answer makes of the call. The directory part of
+-- the path is walked; then the target in it is cleared: an entry is removed as what is no directory, and where a
+-- directory stands there that is opened by its name, listed, its own entries are cleared, and then it is removed.
+-- unlink(2), rmdir(2), openat(2) with O_PATH and O_NOFOLLOW.
 use Rattle.std.specs.Prelude.{◌≡◌, ℕ, suc, zero, ◌+◌, ◌*◌, List, [], ◌∷◌, Bool, true, false, length, map}
 use Rattle.path_text.specs.declared.errno.Errno.{Errno}
 use Rattle.path_text.specs.declared.errno.Errno.TheVariants.{NotFound, NoMemory, Busy, NotDir, IsDir, NotEmpty}
@@ -16,8 +16,8 @@ use Rattle.step_resolver.specs.Order.{Way, Walking, refusal_of, Line, answered, 
 use Rattle.step_resolver.specs.Order as walk
 use Rattle.bulk_ops.specs.declared.remove_all.clearing.TheConstants.{CLEARING_STEPS_MAX}
 
--- a directory that is held by its handle, and what is to be cleared in it: the entry under way, and then the others. The
--- outermost is the directory of the walk, with the target alone.
+-- a directory that is held by its handle, and what is to be cleared in it: the entry under way, and then the others.
+-- The outermost is the directory of the walk, with the target alone.
 pub record Level : Type 0 where
   pub dir : ℕ
   pub name : List ℕ
@@ -47,7 +47,8 @@ pub data End : Type 0 where
 pub data Removing : Type 0 where
   -- the walk's, on this way, to the directory in which this is the target
   walking : Way → List ℕ → Walking → Removing
-  -- one of clearing: in the innermost directory, below those; so many are removed, and so many steps of clearing are left after it
+  -- one of clearing: in the innermost directory, below those; so many are removed, and so many steps of clearing are
+  -- left after it
   clearing : Stage → Level → List Level → ℕ → ℕ → Removing
   -- Close of this handle and then of these
   closing : ℕ → List ℕ → End → Removing
@@ -102,7 +103,8 @@ gives_up stage level above error = closes (before stage (dirs (level ∷ above))
 
 -- the entry under way is cleared: the next one's turn; or the directory's own removal, once it is closed; or the end
 abbrev pub next_entry : ℕ → List (List ℕ) → List Level → ℕ → ℕ → Turn
-next_entry d (m ∷ others) above count left = is_due removes_file (record { dir = d; name = m; others = others }) above count left
+next_entry d (m ∷ others) above count left =
+    is_due removes_file (record { dir = d; name = m; others = others }) above count left
 next_entry d [] (level ∷ above) count left = is_due (leaves d) level above count left
 next_entry d [] [] count left = closes (d ∷ []) (removes count)
 
@@ -169,7 +171,8 @@ dir_removed level above count left (Refused NotEmpty) = is_due opens level above
 dir_removed level above count left (Refused NotDir) = is_due removes_file level above count left
 dir_removed level above count left answer = gives_up removes_dir level above (refusal_of answer)
 
--- What an answer makes of a call; `room` is false where what it brings found no memory. The answer to a Close isn't looked at.
+-- What an answer makes of a call; `room` is false where what it brings found no memory. The answer to a Close isn't
+-- looked at.
 abbrev pub take : Bool → Removing → Answer → Turn
 take room (walking way target w) answer = walked way target (walk.take way room w answer)
 take room (clearing removes_file level above count left) answer = file_removed level above count left answer

@@ -1,5 +1,5 @@
--- What a RemoveAll call means while no other actor takes a step: from the nodes before it to the nodes after it, without a
--- step. unlink(2), rmdir(2); openat2(2).
+-- What a RemoveAll call means while no other actor takes a step: from the nodes before it to the nodes after it,
+-- without a step. unlink(2), rmdir(2); openat2(2).
 use Rattle.std.specs.Prelude.{◌≡◌, ◌⊎◌, ℕ, suc, List, [], ◌∷◌, Bool, true, false, if◌then◌else◌, Option, Some, None}
 use Rattle.path_text.specs.declared.errno.Errno.{Errno}
 use Rattle.path_text.specs.declared.errno.Errno.TheVariants.{NotDir, Busy}
@@ -51,8 +51,8 @@ pub record IsFoundAt (w : WalkInHistory) (dir : ℕ) : Type 0 where
   pub reads : List Place
   pub means : directory_means w ≡ object dir links reads
 
--- It is a directory; the target in it went with every row below it, nothing else was changed, and the count is the number of
--- these rows.
+-- It is a directory; the target in it went with every row below it, nothing else was changed, and the count is the
+-- number of these rows.
 pub record QuietRemoved (w : WalkInHistory) (target : List ℕ) (count : ℕ) : Type 0 where
   pub dir : ℕ
   pub found : IsFoundAt w dir
@@ -87,8 +87,8 @@ IsQuietEnd w target (more call) = Unit {0}
 IsQuietEnd w target (removed count) = QuietRemoved w target count
 IsQuietEnd w target (failed error) = is_short error ≡ false → QuietFailed w error
 
--- Where no other actor's event stands in the window, a call's end is that. As for a walk, the actor's own events in the
--- window are those of the call, and the root's handle is open, its own, and on a directory.
+-- Where no other actor's event stands in the window, a call's end is that. As for a walk, the actor's own events in
+-- the window are those of the call, and the root's handle is open, its own, and on a directory.
 abbrev pub QuietRemoveAll : Type 0
 QuietRemoveAll = (w : WalkInHistory) (target : List ℕ) (end : Turn) → IsWalkInHistory w → is_deepest w.way.goal ≡ false
     → LeadsTo (begins w.way target w.path) w.lines end → IsQuiet w → IsQuietEnd w target end

@@ -1,5 +1,6 @@
--- What the end of a RemoveAll call tells, for every interleaving of actors' single steps. unlink(2), rmdir(2); openat2(2).
-use Rattle.std.specs.Prelude.{◌≡◌, ◌≢◌, ℕ, suc, ◌≤◌, ◌⊎◌, List, [], ◌∷◌, ◌++◌, Bool, true, false, drop, length, slice_get, Some, None}
+-- What the end of a RemoveAll call tells, for every interleaving of actors' single steps. unlink(2), rmdir(2);
+-- openat2(2).
+use Rattle.std.specs.Prelude.{◌≡◌, ℕ, suc, ◌≤◌, ◌⊎◌, List, [], ◌∷◌, ◌++◌, Bool, true, false, drop, length, slice_get, Some, None}
 use Rattle.path_text.specs.declared.errno.Errno.{Errno}
 use Rattle.path_text.specs.declared.errno.Errno.TheVariants.{NotFound, BadHandle, Raced, NoMemory, Busy, Exists, CrossRoot, NotDir, IsDir, Invalid, TooMany, BookFull, TooLong, NotEmpty, Loop}
 use Rattle.tree_model.specs.declared.answer.Answer.{Answer}
@@ -12,7 +13,7 @@ use Rattle.tree_model.specs.Steps.{held, is_full}
 use Rattle.step_resolver.specs.Trail.{Timeline, IsOwnFrom}
 use Rattle.step_resolver.specs.Order.{Handle, Line, answered, no_room, not_made}
 use Rattle.step_resolver.specs.Order as walk
-use Rattle.step_resolver.specs.WalkHistory.{WalkInHistory, IsWalkInHistory, begin_of, end_of, state_at, timeline}
+use Rattle.step_resolver.specs.WalkHistory.{WalkInHistory, IsWalkInHistory, state_at, timeline}
 use Rattle.step_resolver.specs.Failures.{HandlesStay, TellsError, TellsWant}
 use Rattle.step_resolver.specs.Headline.{Opens}
 use Rattle.step_resolver.specs.Asked.{is_deepest}
@@ -21,11 +22,12 @@ use Rattle.bulk_ops.specs.RemoveAllOrder.{Turn, more, removed, failed, begins, L
 
 -- ---- the directories that are reached
 
--- From a directory down to one by names alone, the innermost first: each is a directory that stood at its name at an own
--- moment, and not a link; the moments rise, the last is before m.
+-- From a directory down to one by names alone, the innermost first: each is a directory that stood at its name at an
+-- own moment, and not a link; the moments rise, the last is before m.
 pub data Down (timeline : Timeline) (from : ℕ) : List (List ℕ) → ℕ → ℕ → Type 0 where
   here : (m : ℕ) → Down timeline from [] from m
-  under : {names : List (List ℕ)} {d since : ℕ} (name : List ℕ) (t c m : ℕ) → Down timeline from names d since → IsOwnFrom timeline since t
+  under : {names : List (List ℕ)} {d since : ℕ} (name : List ℕ) (t c m : ℕ) → Down timeline from names d since
+      → IsOwnFrom timeline since t
       → child (timeline.nodes_at t) d name ≡ Some c → is_directory (timeline.object_of c) ≡ true → suc t ≤ m
       → Down timeline from (name ∷ names) c m
 
@@ -56,8 +58,8 @@ removals (not_made error ∷ lines) = removals lines
 abbrev pub event_at : WalkInHistory → ℕ → StepOf ℕ → Answer → Type 0
 event_at w t step answer = slice_get w.window t ≡ Some (record { actor = w.actor; step = step; answer = answer })
 
--- the own event t takes one entry away: the target in that directory, or one of a directory that was reached from the target by
--- names alone
+-- the own event t takes one entry away: the target in that directory, or one of a directory that was reached from
+-- the target by names alone
 pub record TakesAway (w : WalkInHistory) (dir : ℕ) (target : List ℕ) (t : ℕ) : Type 0 where
   pub names : List (List ℕ)
   pub inner : ℕ
@@ -76,6 +78,10 @@ pub record TakesAway (w : WalkInHistory) (dir : ℕ) (target : List ℕ) (t : �
 abbrev pub LeavesEntries : WalkInHistory → ℕ → Type 0
 LeavesEntries w t = (timeline w).nodes_at (suc t) ≡ (timeline w).nodes_at t
 
+-- each own event leaves all entries
+abbrev pub AllLeaveEntries : WalkInHistory → Type 0
+AllLeaveEntries w = (t : ℕ) → (timeline w).is_own t ≡ true → LeavesEntries w t
+
 -- each own event leaves all entries, or takes one away so
 abbrev pub OnlyTakesAway : WalkInHistory → ℕ → List ℕ → Type 0
 OnlyTakesAway w dir target = (t : ℕ) → (timeline w).is_own t ≡ true → LeavesEntries w t ⊎ TakesAway w dir target t
@@ -90,8 +96,8 @@ IsOn h n step = (step ≡ RemoveFile h n) ⊎ ((step ≡ Open h n) ⊎ (step ≡
 abbrev pub ClosesAt : WalkInHistory → ℕ → Type 0
 ClosesAt w t = (h : ℕ) × ((answer : Answer) × event_at w t (Close h) answer)
 
--- The last own event but for closings was on the target through a handle of the directory; it took the target away, or it
--- found none.
+-- The last own event but for closings was on the target through a handle of the directory; it took the target away,
+-- or it found none.
 pub record IsLastOnTarget (w : WalkInHistory) (dir : ℕ) (target : List ℕ) : Type 0 where
   pub when : ℕ
   pub own : (timeline w).is_own when ≡ true
@@ -156,7 +162,8 @@ first_part w window lines = record w { window = window; lines = lines }
 abbrev pub second_part : WalkInHistory → List Event → List Event → List Line → WalkInHistory
 second_part w first window lines = record w { before = w.before ++ first; window = window; lines = lines }
 
--- The walk found an object, by this handle, in the first part of the window; and the call cleared in the second.
+-- The walk found an object, by this handle, in the first part of the window, and left all entries; and the call
+-- cleared in the second.
 pub record Parts (w : WalkInHistory) : Type 0 where
   pub walk_window : List Event
   pub window : List Event
@@ -169,16 +176,22 @@ pub record Parts (w : WalkInHistory) : Type 0 where
   pub walked : walk.LeadsTo w.way (walk.begins w.way w.path) walk_lines (walk.found handle names)
   pub is_walk : IsWalkInHistory (first_part w walk_window walk_lines)
   pub opens : Opens (first_part w walk_window walk_lines) handle names
+  pub leaves : AllLeaveEntries (first_part w walk_window walk_lines)
 
 abbrev pub clears : (w : WalkInHistory) → Parts w → WalkInHistory
 clears w parts = second_part w parts.walk_window parts.window parts.lines
 
 -- ---- the whole
 
+-- after so many steps of clearing all that is held is closed, and nothing else is done
+abbrev pub IsBounded : List Line → Type 0
+IsBounded lines = AllClose (drop CLEARING_STEPS_MAX lines)
+
 -- So many entries were removed, and the target at last.
 pub record TellsRemoved (w : WalkInHistory) (target : List ℕ) (count : ℕ) : Type 0 where
   pub parts : Parts w
   pub entries : OnlyTakesAway (clears w parts) parts.handle.node target
+  pub bounded : IsBounded (clears w parts).lines
   pub counted : count ≡ removals w.lines
   pub last : IsLastOnTarget (clears w parts) parts.handle.node target
   pub handles : HandlesStay w
@@ -187,12 +200,14 @@ pub record TellsRemoved (w : WalkInHistory) (target : List ℕ) (count : ℕ) : 
 pub record TellsGivenUp (w : WalkInHistory) (target : List ℕ) (error : Errno) : Type 0 where
   pub parts : Parts w
   pub entries : OnlyTakesAway (clears w parts) parts.handle.node target
+  pub bounded : IsBounded (clears w parts).lines
   pub fault : TellsFault (clears w parts) parts.handle.node error
 
--- the walk's, which fails in this way, and is all that the call did
+-- the walk's, which fails in this way, and is all that the call did; it left all entries
 pub record TellsWalkFailed (w : WalkInHistory) (error : Errno) : Type 0 where
   pub walked : walk.LeadsTo w.way (walk.begins w.way w.path) w.lines (walk.failed error)
   pub true_once : TellsError w error
+  pub leaves : AllLeaveEntries w
 
 pub record TellsFailed (w : WalkInHistory) (target : List ℕ) (error : Errno) : Type 0 where
   pub why : TellsWalkFailed w error ⊎ TellsGivenUp w target error
@@ -204,8 +219,9 @@ Tells w target (more call) = Unit {0}
 Tells w target (removed count) = TellsRemoved w target count
 Tells w target (failed error) = TellsFailed w target error
 
--- Each call in each legal history ends so: where the lines that it was told lead it to this end. As for a walk, the actor's
--- own events in the window are those of the call, and the root's handle is open, its own, and on a directory.
+-- Each call in each legal history ends so: where the lines that it was told lead it to this end. As for a walk, the
+-- actor's own events in the window are those of the call, and the root's handle is open, its own, and on a
+-- directory.
 abbrev pub RemoveAllTells : Type 0
 RemoveAllTells = (w : WalkInHistory) (target : List ℕ) (end : Turn) → IsWalkInHistory w → is_deepest w.way.goal ≡ false
     → LeadsTo (begins w.way target w.path) w.lines end → Tells w target end

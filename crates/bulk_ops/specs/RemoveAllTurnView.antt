@@ -25,7 +25,8 @@ StartsTo way target path outcome = (room : Bool) × IsTurn outcome (starts way r
 
 -- the same of a call at a step of its walk
 abbrev pub BeginsTo : Way → List ℕ → Walking → BulkTurn Removing → Type 0
-BeginsTo way target walking_at outcome = (room : Bool) × IsTurn outcome (for_call room (more (walking way target walking_at)))
+BeginsTo way target walking_at outcome =
+    (room : Bool) × IsTurn outcome (for_call room (more (walking way target walking_at)))
 
 -- the outcome is what the answer makes of the call, with room for what it brings or without
 abbrev pub TakesTo : Removing → Answer → BulkTurn Removing → Type 0

@@ -77,7 +77,8 @@ to_close c = numbers_of c.second ++ dirs_of c.above.items
 
 abbrev pub clearing_of : Clearing → Removing
 clearing_of c =
-    clearing (stage_of c.stage) (level_of c.progress.here) (levels_of c.progress.above.items) c.progress.removed (c.progress.left - 1)
+    clearing (stage_of c.stage) (level_of c.progress.here)
+    (levels_of c.progress.above.items) c.progress.removed (c.progress.left - 1)
 
 abbrev pub closing_of : Closing → Removing
 closing_of c = closing c.first.handle (to_close c) (end_of c.end)

@@ -34,7 +34,8 @@ stage_by f remove.removes_dir = remove.removes_dir
 
 abbrev pub removing_by : (ℕ → ℕ) → remove.Removing → remove.Removing
 removing_by f (remove.walking way target w) = remove.walking (way_by f way) target (walking_by f w)
-removing_by f (remove.clearing stage level above count left) = remove.clearing (stage_by f stage) (level_by f level) (levels_by f above) count left
+removing_by f (remove.clearing stage level above count left) =
+    remove.clearing (stage_by f stage) (level_by f level) (levels_by f above) count left
 removing_by f (remove.closing h hs end) = remove.closing (f h) (numbers_by f hs) end
 
 abbrev pub remove_turn_by : (ℕ → ℕ) → remove.Turn → remove.Turn
@@ -66,7 +67,8 @@ levels_handles (level ∷ levels) = level.dir ∷ levels_handles levels
 
 abbrev pub removing_handles : remove.Removing → List ℕ
 removing_handles (remove.walking way target w) = way.root ∷ walking_handles w
-removing_handles (remove.clearing stage level above count left) = stage_handles stage ++ level.dir ∷ levels_handles above
+removing_handles (remove.clearing stage level above count left) =
+    stage_handles stage ++ level.dir ∷ levels_handles above
 removing_handles (remove.closing h hs end) = h ∷ hs
 
 -- ---- the same but for the numbers of handles
@@ -77,11 +79,14 @@ LikeMaking m n = making_by (λ h. 0) m ≡ making_by (λ h. 0) n
 abbrev pub LikeRemoving : remove.Removing → remove.Removing → Type 0
 LikeRemoving r s = removing_by (λ h. 0) r ≡ removing_by (λ h. 0) s
 
--- Calls that are the same but for their handles, each of which gets one number in both, are the same with these numbers.
+-- Calls that are the same but for their handles, each of which gets one number in both, are the same with these
+-- numbers.
 abbrev pub LikeMakingAgrees : Type 0
-LikeMakingAgrees = (f g : ℕ → ℕ) (m n : make.Making) → LikeMaking m n → numbers_by f (making_handles m) ≡ numbers_by g (making_handles n)
+LikeMakingAgrees = (f g : ℕ → ℕ) (m n : make.Making) → LikeMaking m n
+    → numbers_by f (making_handles m) ≡ numbers_by g (making_handles n)
     → making_by f m ≡ making_by g n
 
 abbrev pub LikeRemovingAgrees : Type 0
-LikeRemovingAgrees = (f g : ℕ → ℕ) (r s : remove.Removing) → LikeRemoving r s → numbers_by f (removing_handles r) ≡ numbers_by g (removing_handles s)
+LikeRemovingAgrees = (f g : ℕ → ℕ) (r s : remove.Removing) → LikeRemoving r s
+    → numbers_by f (removing_handles r) ≡ numbers_by g (removing_handles s)
     → removing_by f r ≡ removing_by g s

@@ -13,11 +13,12 @@ use std::marker::Model;
 use step_resolver::{Goal, Root, Turn, Walk};
 use tree_model::{Answer, Kind, Step, StepOf};
 
+mod copy;
 mod like;
 
-/// A call that is under way. It can't be let go: each `due` step is to be made, and its answer taken, until the call
-/// ends. One to be given up has each Close made that is due, and is told `Refused(NoMemory)` at every other step.
-/// Contracts see it as a `MakingView`: whose it is, what stays the same for its walk, and the step that is due.
+/// A call that is under way. You can't drop it: make each step that is `due`, and `take` its answer, until the call
+/// ends. To give it up, make each Close that is due, and answer `Refused(NoMemory)` to every other step. Contracts
+/// see it as a `MakingView`: whose it is, what stays the same for its walk, and the step that is due.
 #[derive(Debug)]
 pub struct MkdirAll {
     call: Call,
@@ -43,8 +44,8 @@ struct Call {
     flags: Flags,
 }
 
-// The names that are expected at the end, from the root down. So many of them are passed: those of the deepest directory
-// that was there, and of each that was entered since.
+// The names that are expected at the end, from the root down. So many of them are passed: those of the deepest
+// directory that was there, and of each that was entered since.
 #[derive(Debug, Drop)]
 struct Chain {
     names: Names,
@@ -86,8 +87,7 @@ impl MkdirAll {
     /// Begins to make all that is missing of the path below the root, each a directory (mkdir(2); the walk to what is
     /// there is that of openat2(2), RESOLVE_IN_ROOT, for `Goal::Deepest`).
     ///
-    /// Errors that come before any step: those of `Walk::start`. Such an end tells the truth of every history in which it
-    /// comes, as those of `take` do.
+    /// It may fail before any step, with the errors of `Walk::start`. What `take` says of an end holds of these, too.
     pub fn start(alloc: Global, root: Root, path: Path, flags: Flags) -> BulkTurn<MkdirAll>
         ensures turn { StartsTo (way_from root Deepest flags) path result }
         ensures kept { Keeps root.owner (way_from root Deepest flags) result }
@@ -128,22 +128,23 @@ impl MkdirAll {
         }
     }
 
-    /// What the answer to the due step makes of the call. A driver that couldn't make the step, for want of memory or
-    /// of room in its book, hands in that refusal; the answer to a Close isn't looked at. A refused growth counts as
-    /// NoMemory. Before the call fails all that it opened is closed, just opened first, which takes no memory. What
-    /// it made stays.
+    /// Takes the answer to the due step, and gives the call's next turn. A driver that couldn't make the step, for
+    /// want of memory or of room in its book, hands in that refusal. The answer to a Close isn't looked at. A
+    /// refused growth counts as NoMemory. Before the call fails it closes everything that it opened, the newest
+    /// first, which takes no memory. What it made stays.
     ///
-    /// It is `Made` with the last directory of the path: the one that was there, or the last that was made, standing at
-    /// the names that were expected. A directory that somebody else made meanwhile is entered as one that was made.
+    /// It is `Made` with the last directory of the path: the one that was there, or the last that was made, standing
+    /// at the names that were expected. A directory that somebody else made meanwhile is entered as one that was
+    /// made.
     ///
-    /// It fails with what its walk fails with (`Walk::take`); NotDir (ENOTDIR) where the whole path leads to what is no
-    /// directory, or what stands at a name that was made is none, a link too; NotFound (ENOENT) where `..` comes after
-    /// a missing name, and TooLong (ENAMETOOLONG) for a name of more than 255 bytes there, whichever comes first: then
-    /// nothing is made; Raced (EAGAIN) where what was held or made is gone, or the last directory isn't at the names
-    /// expected; BadHandle for an answer that doesn't fit the step; and any other refusal of a step.
+    /// It fails with what its walk fails with (`Walk::take`); NotDir (ENOTDIR) where the whole path leads to what is
+    /// no directory, or what stands at a name that was made is none, a link too; NotFound (ENOENT) where `..` comes
+    /// after a missing name, and TooLong (ENAMETOOLONG) for a name of more than 255 bytes there, whichever comes
+    /// first: then nothing is made; Raced (EAGAIN) where what was held or made is gone, or the last directory isn't
+    /// at the names expected; BadHandle for an answer that doesn't fit the step; and any other refusal of a step.
     ///
-    /// Where the call ends here, the end tells the truth of every legal history whose steps of this call led to it,
-    /// whatever others changed in between: what it made, where, and why it failed (`specs/MakeAllTells.antt`).
+    /// If the call ends here, `specs/MakeAllTells.antt` says of every legal history whose steps of this call led to
+    /// the end, whatever others changed in between, what it made, where, and why it failed.
     pub fn take(self, alloc: Global, answer: Answer) -> BulkTurn<MkdirAll>
         ensures turn { TakesTo self.way self.making answer result }
         ensures kept { Keeps self.owner self.way result }
@@ -262,7 +263,9 @@ impl Call {
 
     // The deepest directory is held: the rest of the path is looked through, before anything is made.
     fn begins_to_make(&self, alloc: Global, deepest: Standing, rest: &Parts) -> BulkTurn<MkdirAll>
-        ensures turn { (room : Bool) × IsTurn result (begins_to_make room (standing_handle deepest) (reverse deepest.names) (asked true rest.now) (rest_fault (asked true rest.now))) }
+        ensures turn { (room : Bool) × IsTurn result
+            (begins_to_make room (standing_handle deepest) (reverse deepest.names) (asked true rest.now)
+            (rest_fault (asked true rest.now))) }
         ensures kept { Keeps self.now.root.owner (way_of self.now) result }
     {
         if let Some(fault) = fault_in(rest) {

@@ -13,6 +13,7 @@ use step_resolver::{Goal, Root, Turn, Walk};
 use tree_model::{Answer, Step};
 
 mod clearing;
+mod copy;
 mod frame;
 mod laws;
 mod like;
@@ -21,11 +22,11 @@ mod phase;
 pub use clearing::CLEARING_STEPS_MAX;
 pub use laws::{quiet_remove_all, remove_all_tells};
 
-/// A call that is under way: it removes an entry with all that is below it, by single steps, and follows no link below
-/// the target. It can't be let go: each `due` step is to be made, and its answer taken, until the call ends. One to be
-/// given up has each Close made that is due, and is told `Refused(NoMemory)` at every other step.
-/// It lies in one box, and moving it moves a pointer. Contracts see it as a `Removing`: the step that is due, and what
-/// the call has come to.
+/// A call that is under way: it removes an entry with all that is below it, by single steps, and follows no link
+/// below the target. You can't drop it: make each step that is `due`, and `take` its answer, until the call ends. To
+/// give it up, make each Close that is due, and answer `Refused(NoMemory)` to every other step. It lies in one box,
+/// and moving it moves a pointer. Contracts see it as a `Removing`: the step that is due, and what the call has come
+/// to.
 #[derive(Debug)]
 pub struct RemoveAll {
     state: Box<State>,
@@ -61,9 +62,8 @@ impl RemoveAll {
     /// (unlink(2), rmdir(2); openat2(2), RESOLVE_IN_ROOT). The flags are those of the walk to the directory. One that
     /// goes on takes memory.
     ///
-    /// Errors that come before any step: those of `Walk::start`, and where none of them comes, NoMemory, which counts as
-    /// a first step that wasn't made for want of it. Such an end tells the truth of every history in which it comes, as
-    /// those of `take` do.
+    /// It may fail before any step: with the errors of `Walk::start`, or else with NoMemory, as if the first step
+    /// couldn't be made for want of it. What `take` says of an end holds of these, too.
     pub fn start(
         alloc: Global,
         root: Root,
@@ -127,17 +127,17 @@ impl RemoveAll {
         self.state.phase.due(alloc)
     }
 
-    /// What the answer to the due step makes of the call. A driver that couldn't make the step, for want of memory or of
-    /// room in its book, hands in that refusal; the answer to a Close isn't looked at. A refused growth counts as
-    /// NoMemory. Before the call fails all that it opened is closed, just opened first, which takes no memory. What was
-    /// removed stays removed.
+    /// Takes the answer to the due step, and gives the call's next turn. A driver that couldn't make the step, for
+    /// want of memory or of room in its book, hands in that refusal. The answer to a Close isn't looked at. A
+    /// refused growth counts as NoMemory. Before the call fails it closes everything that it opened, the newest
+    /// first, which takes no memory. What was removed stays removed.
     ///
-    /// It fails with what its walk fails with; NotDir where the walk's object is no directory; TooMany where the actor
-    /// can open no more handles; Busy where a step of clearing would come after `CLEARING_STEPS_MAX` of them; BadHandle
-    /// for an answer that doesn't fit the step; and any other refusal of a step.
+    /// It fails with what its walk fails with; NotDir where the walk's object is no directory; TooMany where the
+    /// actor can open no more handles; Busy where a step of clearing would come after `CLEARING_STEPS_MAX` of them;
+    /// BadHandle for an answer that doesn't fit the step; and any other refusal of a step.
     ///
-    /// Where the call ends here, the end tells the truth of every legal history whose steps of this call led to it,
-    /// whatever others changed in between: what it took away, from where, and why it failed (`specs/RemoveAllTells.antt`).
+    /// If the call ends here, `specs/RemoveAllTells.antt` says of every legal history whose steps of this call led to
+    /// the end, whatever others changed in between, what it took away, from where, and why it failed.
     pub fn take(self, alloc: Global, answer: Answer) -> BulkTurn<RemoveAll>
         ensures turn { TakesTo self answer result }
         ensures fewer { steps_to_come result < steps_left self }

@@ -1,7 +1,7 @@
 //! The functions by which a C program makes calls: a static library of two exports, over `wire`.
 //!
-//! Each export is the function of that name of `wire`, with its clauses. What a C program owes is said in `host/calls.h`: a
-//! what is kept is empty (zero) before the first call, and is left alone between two turns.
+//! Each export is the function of that name of `wire`, with its clauses. What a C program owes is said in
+//! `host/calls.h`: a what is kept is empty (zero) before the first call, and is left alone between two turns.
 #![tactic(auto)]
 
 ghost use Rattle.std.specs.Prelude.{IfSome, IsSome};
@@ -22,7 +22,8 @@ pub extern "C" fn inroot_begin(
     told: &mut Told,
     room: &mut [u8],
 )
-    ensures { (turn : CallTurn) × IsBegun asked.now first.now second.now turn × IsTold turn kept.new.held told.new room.old room.new }
+    ensures { (turn : CallTurn) × IsBegun asked.now first.now second.now turn
+        × IsTold turn kept.new.held told.new room.old room.new }
 {
     wire::begin(alloc, asked, first, second, kept, told, room);
 }
@@ -38,7 +39,9 @@ pub extern "C" fn inroot_next(
     room: &mut [u8],
 )
     requires { IsSome (call_of kept.old.held) }
-    ensures { IfSome (call_of kept.old.held) (λ call. (turn : CallTurn) × IsNext call answered.now bytes.now turn × IsTold turn kept.new.held told.new room.old room.new) }
+    ensures { IfSome (call_of kept.old.held)
+        (λ call. (turn : CallTurn) × IsNext call answered.now bytes.now turn
+        × IsTold turn kept.new.held told.new room.old room.new) }
 {
     wire::next(alloc, kept, answered, bytes, told, room);
 }

@@ -5,6 +5,7 @@ ghost use Rattle.std.specs.Prelude.{◌<◌};
 ghost use Rattle.root_ops.specs.Order.{steps_left};
 ghost use Rattle.root_ops.specs.TurnView.{steps_to_come};
 
+use crate::copies::run_copies;
 use crate::requests::asked;
 use fixtures::{BENEATH, BOTH, NO_LINKS, PLAIN, answered, base_tree, names_of, root};
 use handles::Standing;
@@ -83,7 +84,7 @@ remove_all abs/f -> * fault ELOOP, remove_all abs -> 4 count 1, mkdir_all up/n -
 const WITH_BOTH: &str = "resolve abs -> * fault ELOOP
 resolve /a -> 0 fault EXDEV";
 
-// With copies of the requests.
+// With copies of the requests and of the calls.
 const COPIES: &str = "resolve abs -> * fault EXDEV
 create_link l q -> * done
 rename a/b x plain -> * done
@@ -97,7 +98,7 @@ const OPENED: &str = "resolve a -> * opened dir 2 /a";
 struct Table<'a> {
     lines: &'a str,
     flags: Flags,
-    /// Whether it is a copy of the request that is asked.
+    /// Whether it is a copy of the request that is asked, and each step a copy of the call that makes it.
     is_copied: bool,
     /// Others make these steps after so many of each call. Their handles are 1 on `/c`, 2 on `/c/a` and 3 on `/secret`.
     after: u32,
@@ -122,7 +123,7 @@ const QUIET: Table<'static> = Table {
     held: 1,
 };
 
-const TABLES: [Table<'static>; 14] = [
+const TABLES: [Table<'static>; 17] = [
     Table {
         lines: RENAMES,
         ..QUIET
@@ -157,6 +158,21 @@ const TABLES: [Table<'static>; 14] = [
     Table {
         lines: COPIES,
         flags: BENEATH,
+        is_copied: true,
+        ..QUIET
+    },
+    Table {
+        lines: RENAMES,
+        is_copied: true,
+        ..QUIET
+    },
+    Table {
+        lines: CHANGES,
+        is_copied: true,
+        ..QUIET
+    },
+    Table {
+        lines: BULK,
         is_copied: true,
         ..QUIET
     },
@@ -330,7 +346,11 @@ fn ends<T: Tree>(alloc: Global, tree: &mut T, call: &str, table: &Table) -> bool
     let (words, wanted) = call.split_once(" -> ").unwrap_or((call, ""));
     let request = asked(alloc, words, table.flags, table.is_copied);
     let turn = Call::start(alloc, request, root(OWN));
-    let (reply, steps) = run(alloc, tree, turn, table.after, table.others);
+    let (reply, steps) = if table.is_copied {
+        run_copies(alloc, tree, turn)
+    } else {
+        run(alloc, tree, turn, table.after, table.others)
+    };
     let is_right = is_end(alloc, &reply, steps, wanted);
     releases(alloc, tree, reply, table) && is_right
 }

@@ -1,9 +1,11 @@
 -- What a command line asks for.
 use Rattle.std.specs.Borrow.{Bor}
-use Rattle.std.specs.Prelude.{◌≡◌, ◌≢◌, ◌<◌, ◌≤◌, ℕ, List, [], Bool, true, false, Option, Some, None, option_map, unwrap_or, codes}
+use Rattle.std.specs.Prelude.{◌≡◌, ◌≢◌, ◌<◌, ◌≤◌, ◌⊎◌, ℕ, List, [], Bool, true, false, Option, Some, None, option_map, unwrap_or, codes}
 use Rattle.std.specs.Str.Parse.{digits_value, without_leading_plus}
 use Rattle.path_text.specs.declared.flags.Flags.{Flags}
-use Rattle.clap.specs.Matches.{found_of, first_value, matched_of, one_text, raw_values, subcommand_name_of}
+use Rattle.clap.specs.Matches.{found_of, first_value, has_subcommand, matched_of, one_text, raw_values, subcommand_name_of}
+use Rattle.clap.specs.Simple.{subcommand_rows_of}
+use Rattle.clap.specs.Walk.{rows_of}
 use Rattle.clap.specs.declared.parser.matches.ArgMatches.{ArgMatches}
 use Rattle.drawings.specs.declared.picture.Closes.{Closes}
 use Rattle.drawings.specs.declared.picture.Closes.TheVariants.{Shown, Hidden}
@@ -56,7 +58,8 @@ pub record IsDrawing (matches : ArgMatches) (drawing : Drawing) : Type 0 where
 -- the number is what the text after `--workers` says in decimal digits, and there may be so many
 pub record IsWorkers (matches : ArgMatches) (workers : ℕ) : Type 0 where
   pub given : one_text (found_of matches) (codes "workers") ≢ None
-  pub number : (text : List ℕ) → one_text (found_of matches) (codes "workers") ≡ Some text → workers ≡ digits_value 10 (without_leading_plus text)
+  pub number : (text : List ℕ) → one_text (found_of matches) (codes "workers") ≡ Some text
+      → workers ≡ digits_value 10 (without_leading_plus text)
   pub some : 0 < workers
   pub few : workers ≤ 8
 
@@ -73,13 +76,36 @@ pub record IsExploration (matches : ArgMatches) (options : Options) : Type 0 whe
   pub never : texts_in options.never.now ≡ texts_given matches (codes "never")
   pub always : texts_in options.always.now ≡ texts_given matches (codes "always")
 
--- the request is that of the command that was named
+-- ---- the command that was named
+
+-- These are the arguments that the named command was given: the parse entered their rows for it, each with its id
+-- and values.
+abbrev pub AreGiven : ArgMatches → ArgMatches → Type 0
+AreGiven matches own = option_map (λ p. p.1) (subcommand_rows_of matches) ≡ Some (rows_of (found_of own))
+
+-- the command of this name was named, and these are its own arguments
+pub record AreOf (matches : ArgMatches) (name : List ℕ) (own : ArgMatches) : Type 0 where
+  pub named : subcommand_name_of matches ≡ Some name
+  pub given : AreGiven matches own
+
+-- The request is that of the command that was named, with the options that it was given.
 abbrev pub IsRequest : ArgMatches → Option Request → Type 0
-IsRequest matches (Some (request.Walk walk)) = subcommand_name_of matches ≡ Some (codes "walk")
-IsRequest matches (Some (request.Replay schedule)) = subcommand_name_of matches ≡ Some (codes "replay")
-IsRequest matches (Some (request.Draw drawing)) = subcommand_name_of matches ≡ Some (codes "draw")
-IsRequest matches (Some (request.Run workers)) = (subcommand_name_of matches ≡ Some (codes "run")) × (0 < workers) × (workers ≤ 8)
-IsRequest matches (Some (request.Explore options)) = subcommand_name_of matches ≡ Some (codes "explore")
+IsRequest matches (Some (request.Walk walk)) =
+    (own : ArgMatches) × (AreOf matches (codes "walk") own × IsWalk own walk)
+IsRequest matches (Some (request.Replay schedule)) =
+    (own : ArgMatches) × (AreOf matches (codes "replay") own × IsSchedule own schedule)
+IsRequest matches (Some (request.Draw drawing)) =
+    (own : ArgMatches) × (AreOf matches (codes "draw") own × IsDrawing own drawing)
+IsRequest matches (Some (request.Run workers)) =
+    (own : ArgMatches) × (AreOf matches (codes "run") own × IsWorkers own workers)
+IsRequest matches (Some (request.Explore options)) =
+    (own : ArgMatches) × (AreOf matches (codes "explore") own × IsExploration own options)
 IsRequest matches None =
     (subcommand_name_of matches ≢ Some (codes "replay")) × (subcommand_name_of matches ≢ Some (codes "draw"))
     × (subcommand_name_of matches ≢ Some (codes "explore"))
+
+-- whether the command that was named was given `--strict`; where none was named, it is false
+abbrev pub IsStrict : ArgMatches → Bool → Type 0
+IsStrict matches strict =
+    ((own : ArgMatches) × (AreGiven matches own × IsOption own (codes "strict") strict))
+    ⊎ ((has_subcommand matches ≡ false) × (strict ≡ false))

@@ -1,6 +1,6 @@
 //! The command line.
 ghost use Rattle.std.specs.Prelude.{◌≡◌, codes, IfSome};
-ghost use Rattle.command_line.specs.Command.{IsAsked, IsDrawing, IsExploration, IsOption, IsRequest, IsSchedule, IsWorkers, texts_given};
+ghost use Rattle.command_line.specs.Command.{IsAsked, IsDrawing, IsExploration, IsOption, IsRequest, IsSchedule, IsStrict, IsWorkers, texts_given};
 ghost use Rattle.surveys.specs.Options.{texts_in};
 
 use clap::builder::ValueParser;
@@ -12,7 +12,8 @@ use script_jobs::WORKERS_MAX;
 use std::alloc::{AllocError, Global};
 use surveys::Options;
 
-// The names of the commands, the id of the path that `walk` takes, and the options by their ids, which are their names.
+// The names of the commands, the id of the path that `walk` takes, and the options by their ids, which are their
+// names.
 const WALK: &str = "walk";
 
 const REPLAY: &str = "replay";
@@ -49,6 +50,8 @@ const NEVER: &str = "never";
 
 const ALWAYS: &str = "always";
 
+const STRICT: &str = "strict";
+
 /// What help says of the statuses.
 const STATUSES: &str = "Statuses:
   0  the answer was written, also where it is a fault as 'fault ENOENT'
@@ -75,6 +78,15 @@ fn option<'a>(alloc: Global, name: &'a str, help: &'a str) -> Arg<'a> {
         .help(help)
 }
 
+// The option of every command by which its script is read strictly.
+fn strict<'a>(alloc: Global) -> Arg<'a> {
+    option(
+        alloc,
+        STRICT,
+        "Refuse unknown keys, restrictions in version 1 and unused labels",
+    )
+}
+
 // The command `walk`.
 fn walk<'a>(alloc: Global) -> Result<Command<'a>, AllocError> {
     let path = Arg::new(alloc, PATH)
@@ -93,6 +105,7 @@ fn walk<'a>(alloc: Global) -> Result<Command<'a>, AllocError> {
         .after_help(WALKING)
         .arg(beneath)?
         .arg(no_links)?
+        .arg(strict(alloc))?
         .arg(path)
 }
 
@@ -121,7 +134,8 @@ fn replay<'a>(alloc: Global) -> Result<Command<'a>, AllocError> {
         .about("Run the actors' calls by the schedule, and print what came of them")
         .override_usage("inroot replay [OPTIONS] < SCRIPT")
         .after_help(REPLAYING)
-        .arg(schedule(alloc))
+        .arg(schedule(alloc))?
+        .arg(strict(alloc))
 }
 
 /// What help says of `draw` beside its arguments.
@@ -145,7 +159,8 @@ fn draw<'a>(alloc: Global) -> Result<Command<'a>, AllocError> {
         .after_help(DRAWING)
         .arg(svg)?
         .arg(all)?
-        .arg(schedule(alloc))
+        .arg(schedule(alloc))?
+        .arg(strict(alloc))
 }
 
 /// What help says of `run` beside its arguments.
@@ -171,7 +186,8 @@ fn run<'a>(alloc: Global) -> Result<Command<'a>, AllocError> {
         .about("Let workers make the first actor's calls side by side, and print how they ended")
         .override_usage("inroot run --workers <N> < SCRIPT")
         .after_help(RUNNING)
-        .arg(workers)
+        .arg(workers)?
+        .arg(strict(alloc))
 }
 
 /// What help says of `explore` beside its arguments.
@@ -251,7 +267,8 @@ fn explore<'a>(alloc: Global) -> Result<Command<'a>, AllocError> {
         .arg(states)?
         .arg(outside)?
         .arg(never)?
-        .arg(always)
+        .arg(always)?
+        .arg(strict(alloc))
 }
 
 /// The commands of the program.
@@ -368,7 +385,17 @@ fn exploration_asked<'m>(matches: &'m ArgMatches<'_>) -> Options<'m>
     }
 }
 
-/// The request of a command line, if it has one.
+/// Whether the command that was named is to read its script strictly.
+pub fn is_strict(matches: &ArgMatches<'_>) -> bool
+    ensures { IsStrict matches.now result }
+{
+    match matches.subcommand() {
+        Some((_name, own)) => own.get_flag(STRICT),
+        None => false,
+    }
+}
+
+/// The request of a command line, with the options of the command that was named, if it has one.
 pub fn asked<'m>(matches: &'m ArgMatches<'_>) -> Option<Request<'m>>
     ensures { IsRequest matches.now result }
 {

@@ -129,9 +129,9 @@ impl From<AllocError> for Fault {
     }
 }
 
-/// The status that the program ends with: 0 with an answer, a fault of the path too, and with help or the version; 1 with
-/// an answer that says that a property fails; 2 for a command line that is refused; 3 for a script that is refused; 4 for
-/// any other fault.
+/// The status that the program ends with: 0 with an answer, a fault of the path too, and with help or the version; 1
+/// with an answer that says that a property fails; 2 for a command line that is refused; 3 for a script that is
+/// refused; 4 for any other fault.
 pub fn status(ended: &Result<(), Fault>) -> u8
     ensures { result ≡ status_of ended.now }
 {

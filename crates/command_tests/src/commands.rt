@@ -1,5 +1,5 @@
 //! The statuses, and what a command line asks for.
-use command_line::{Fault, Request, asked, command, order_of, status};
+use command_line::{Fault, Request, asked, command, is_strict, order_of, status};
 use drawings::Closes;
 use script_drawings::Form;
 use script_jobs::ServiceFault;
@@ -191,5 +191,30 @@ fn reads_how_many_workers(rt: HostRuntime) {
         (["inroot", "run"].as_slice(), None),
     ] {
         assert!(rt; asks_workers(rt.alloc(), words) == want, "{words:?}");
+    }
+}
+
+/// Whether a command line asks that its script is read strictly.
+fn asks_strictly(alloc: Global, words: &[&str]) -> Option<bool> {
+    let matches = command(alloc).ok()?.try_get_matches_from(words).ok()?;
+    Some(is_strict(&matches))
+}
+
+#[test]
+fn reads_whether_it_is_strict(rt: HostRuntime) {
+    for (words, want) in [
+        (["inroot", "walk", "a", "--strict"].as_slice(), Some(true)),
+        (&["inroot", "walk", "--no-links", "a"], Some(false)),
+        (&["inroot", "replay", "--strict"], Some(true)),
+        (&["inroot", "draw", "--all", "--strict"], Some(true)),
+        (&["inroot", "run", "--workers", "1", "--strict"], Some(true)),
+        (
+            &["inroot", "explore", "--strict", "--cuts", "1"],
+            Some(true),
+        ),
+        (&["inroot", "explore"], Some(false)),
+        (&["inroot", "--strict", "replay"], None),
+    ] {
+        assert!(rt; asks_strictly(rt.alloc(), words) == want, "{words:?}");
     }
 }

@@ -8,7 +8,8 @@ use Rattle.path_text.specs.declared.errno.Errno.{Errno}
 use Rattle.path_text.specs.declared.errno.Errno.TheVariants.{Invalid}
 use Rattle.dentry_cache.specs.declared.cache.TheConstants.{CAP_MAX}
 
--- what is remembered, the most recently used first: an entry, which is a directory and a name in it, with the node to which it leads, or None where there is no such entry. And how many may be remembered
+-- what is remembered, the most recently used first: an entry, which is a directory and a name in it, with the node
+-- to which it leads, or None where there is no such entry. And how many may be remembered
 pub record Cache : Type 0 where
   pub entries : List ((ℕ × List ℕ) × Option ℕ)
   pub cap : ℕ

@@ -27,7 +27,8 @@ last_noted d n (ForgetDir e ∷ before) = if nat_eq d e then None else last_note
 
 -- whatever is found was noted last
 abbrev pub HitsAreNotedLast : Type 0
-HitsAreNotedLast = (cap : ℕ) (calls : List Call) (d : ℕ) (n : List ℕ) (x : Option ℕ) → found (cache_after cap calls) d n ≡ Some x → last_noted d n calls ≡ Some x
+HitsAreNotedLast = (cap : ℕ) (calls : List Call) (d : ℕ) (n : List ℕ) (x : Option ℕ)
+    → found (cache_after cap calls) d n ≡ Some x → last_noted d n calls ≡ Some x
 
 -- what was just noted is found
 abbrev pub NotesAreFound : Type 0
@@ -46,4 +47,6 @@ changes (ForgetDir e) d n = nat_eq d e
 
 -- what was noted is found while fewer calls than the cap follow, none of which may change it
 abbrev pub NotesAreKept : Type 0
-NotesAreKept = (cap : ℕ) (since before : List Call) (d : ℕ) (n : List ℕ) (x : Option ℕ) → AllByRecursion (λ call. changes call d n ≡ false) since → length since < cap → found (cache_after cap (since ++ Note d n x ∷ before)) d n ≡ Some x
+NotesAreKept = (cap : ℕ) (since before : List Call) (d : ℕ) (n : List ℕ) (x : Option ℕ)
+    → AllByRecursion (λ call. changes call d n ≡ false) since → length since < cap
+    → found (cache_after cap (since ++ Note d n x ∷ before)) d n ≡ Some x

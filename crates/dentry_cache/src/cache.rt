@@ -31,7 +31,8 @@ impl Model for DentryCache {
 
 // The cap as a number that isn't 0, where it can be one.
 fn checked_cap(cap: usize) -> Result<NonZeroUsize, Errno>
-    ensures { MatchOption (cap_fault cap) (IsOkAnd result (λ checked. non_zero_usize_get checked ≡ cap)) (λ fault. result ≡ Err fault) }
+    ensures { MatchOption (cap_fault cap) (IsOkAnd result (λ checked. non_zero_usize_get checked ≡ cap))
+        (λ fault. result ≡ Err fault) }
 {
     match NonZeroUsize::new(cap) {
         Some(checked) if cap <= CAP_MAX => Ok(checked),
@@ -41,7 +42,8 @@ fn checked_cap(cap: usize) -> Result<NonZeroUsize, Errno>
 
 // Takes the least recently used entry away where it is of that directory, and else makes it the first.
 fn turn_last(inner: &mut LruCache<Key, Option<Node>>, dir: Node)
-    ensures turned { (es : List ((ℕ × List ℕ) × Option ℕ)) (e : (ℕ × List ℕ) × Option ℕ) → inner.old.entries ≡ es ++ e ∷ []
+    ensures turned { (es : List ((ℕ × List ℕ) × Option ℕ)) (e : (ℕ × List ℕ) × Option ℕ)
+        → inner.old.entries ≡ es ++ e ∷ []
         → inner.new.entries ≡ (if nat_eq e.0.0 dir then es else e ∷ es) }
     ensures cap { inner.new.cap ≡ inner.old.cap }
 {
@@ -74,7 +76,9 @@ impl DentryCache {
     ///
     /// Errors, in this order: Invalid for a cap of 0 or over 65,536, NoMemory.
     pub fn new(alloc: Global, cap: usize) -> Result<DentryCache, Errno>
-        ensures { MatchOption (cap_fault cap) (MatchResult result (λ cache. cache ≡ empty cap) (λ error. error ≡ Errno.NoMemory)) (λ fault. result ≡ Err fault) }
+        ensures { MatchOption (cap_fault cap)
+            (MatchResult result (λ cache. cache ≡ empty cap) (λ error. error ≡ Errno.NoMemory))
+            (λ fault. result ≡ Err fault) }
     {
         let cap = checked_cap(cap)?;
         let inner = LruCache::sparse(alloc, cap).map_err(|_refused| Errno::NoMemory)?;

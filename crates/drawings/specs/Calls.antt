@@ -39,7 +39,8 @@ single_words (MakeFile dir name) = with_name (codes "make_file ") name dir
 single_words (MakeLink dir name text) = with_name (codes "make_link ") name dir ++ (codes " to " ++ escaped text)
 single_words (RemoveFile dir name) = with_name (codes "remove_file ") name dir
 single_words (RemoveDir dir name) = with_name (codes "remove_dir ") name dir
-single_words (Rename from old to new mode) = with_name (codes "rename ") old from ++ (with_name (codes " to ") new to ++ mode_words mode)
+single_words (Rename from old to new mode) =
+    with_name (codes "rename ") old from ++ (with_name (codes " to ") new to ++ mode_words mode)
 
 -- a text, after a word
 abbrev pub with_text : List ℕ → List ℕ → List ℕ
@@ -55,7 +56,8 @@ op_words (op.CreateDir path) = with_text (codes "create_dir ") path
 op_words (op.CreateLink path text) = with_text (codes "create_link ") path ++ with_text (codes " to ") text
 op_words (op.RemoveFile path) = with_text (codes "remove_file ") path
 op_words (op.RemoveDir path) = with_text (codes "remove_dir ") path
-op_words (op.Rename old new mode) = with_text (codes "rename ") old ++ (with_text (codes " to ") new ++ mode_words mode)
+op_words (op.Rename old new mode) =
+    with_text (codes "rename ") old ++ (with_text (codes " to ") new ++ mode_words mode)
 op_words (op.MkdirAll path) = with_text (codes "mkdir_all ") path
 op_words (op.RemoveAll path) = with_text (codes "remove_all ") path
 op_words (op.Single step) = codes "step"
@@ -68,7 +70,8 @@ word_if holds word = if holds then word else []
 -- a planned call, with the restrictions of an operation
 abbrev pub call_words : Planned → List ℕ
 call_words (CallPlan request) =
-    op_words request.op ++ (word_if request.flags.beneath (codes " beneath") ++ word_if request.flags.no_links (codes " no_links"))
+    op_words request.op
+    ++ (word_if request.flags.beneath (codes " beneath") ++ word_if request.flags.no_links (codes " no_links"))
 call_words (SinglePlan step) = single_words step
 call_words (ReleasePlan number) = codes "release call " ++ decimal number
 

@@ -29,7 +29,8 @@ pub record IsOfBytes (picture : Drawn) : Type 0 where
 
 -- whatever a picture shows, as SVG it is one well-formed element of that name
 abbrev pub SvgIsWellFormed : Type 0
-SvgIsWellFormed = (picture : Drawn) → CanBeDrawn picture → IsOfBytes picture → IsDocument (codes "svg") (svg_of picture)
+SvgIsWellFormed = (picture : Drawn) → CanBeDrawn picture → IsOfBytes picture
+    → IsDocument (codes "svg") (svg_of picture)
 
 -- a moment below a million has room at the beginning of a line
 abbrev pub MarksFit : Type 0
@@ -37,7 +38,8 @@ MarksFit = (moment : ℕ) → moment < 10 ^ 6 → length (mark_of (Some moment))
 
 -- no line of the table is wider than 100 columns, whatever is shown; one byte more is the newline
 abbrev pub RowsFit : Type 0
-RowsFit = (actors : ℕ) → 0 < actors → actors ≤ ACTORS_MAX → (mark : List ℕ) → length mark ≤ MARK_COLUMNS → (shown : ℕ → List ℕ)
+RowsFit = (actors : ℕ) → 0 < actors → actors ≤ ACTORS_MAX → (mark : List ℕ) → length mark ≤ MARK_COLUMNS
+    → (shown : ℕ → List ℕ)
     → length (row actors mark shown) ≤ LINE_COLUMNS + 1
 
 -- nor is a line of the heading

@@ -34,7 +34,8 @@ step_text s i (Open dir name) = codes "open " ++ (escaped name ++ with_place s i
 step_text s i (Dup handle) = with_place s i (codes "open ") handle ++ codes " again"
 step_text s i (Parent handle) = with_place s i (codes "open .. of ") handle
 step_text s i (ReadLink handle) = with_place s i (codes "read_link ") handle
-step_text s i (NameBelow root handle) = with_place s i (codes "CHECK ") handle ++ (with_place s i (codes " below ") root ++ codes "?")
+step_text s i (NameBelow root handle) =
+    with_place s i (codes "CHECK ") handle ++ (with_place s i (codes " below ") root ++ codes "?")
 step_text s i (ListNames handle) = with_place s i (codes "list ") handle
 step_text s i (Close handle) = with_place s i (codes "close ") handle
 step_text s i (MakeDir dir name) = with_entry s i (codes "make_dir ") dir name
@@ -42,7 +43,8 @@ step_text s i (MakeFile dir name) = with_entry s i (codes "make_file ") dir name
 step_text s i (MakeLink dir name text) = with_entry s i (codes "make_link ") dir name ++ (codes " to " ++ escaped text)
 step_text s i (RemoveFile dir name) = with_entry s i (codes "remove_file ") dir name
 step_text s i (RemoveDir dir name) = with_entry s i (codes "remove_dir ") dir name
-step_text s i (Rename from old to new mode) = with_entry s i (codes "rename ") from old ++ (with_entry s i (codes " to ") to new ++ mode_words mode)
+step_text s i (Rename from old to new mode) =
+    with_entry s i (codes "rename ") from old ++ (with_entry s i (codes " to ") to new ++ mode_words mode)
 
 -- a name after a blank
 abbrev pub spaced : List ℕ → List ℕ

@@ -35,7 +35,8 @@ now_words (Some names) = codes "now at " ++ place_words (Some names)
 
 -- and of which root that is outside
 abbrev pub outside_words : List Inode → ℕ → ℕ → List ℕ
-outside_words nodes root x = if is_outside nodes root x then codes ", OUTSIDE " ++ place_words (way_to nodes root) else []
+outside_words nodes root x =
+    if is_outside nodes root x then codes ", OUTSIDE " ++ place_words (way_to nodes root) else []
 
 abbrev pub note_line : List Inode → ℕ → ℕ → ℕ → Line
 note_line nodes actor root x =
@@ -49,7 +50,8 @@ note_line nodes actor root x =
 -- a note where another place is told of the node than before
 abbrev pub note_if_moved : List Inode → List Inode → ℕ → ℕ → ℕ → List Line
 note_if_moved before after actor root x =
-    if same_bytes (place_words (way_to before x)) (place_words (way_to after x)) then [] else note_line after actor root x ∷ []
+    if same_bytes (place_words (way_to before x)) (place_words (way_to after x)) then []
+    else note_line after actor root x ∷ []
 
 -- the note of an actor after an event of actor `by`, whose own column tells it
 abbrev pub note_of : State → State → State → ℕ → ℕ → List Line
@@ -61,4 +63,5 @@ note_of opening before after by actor =
 -- those of the actors below that number
 abbrev pub notes_below : State → State → State → ℕ → ℕ → List Line
 notes_below opening before after by zero = []
-notes_below opening before after by (suc actor) = notes_below opening before after by actor ++ note_of opening before after by actor
+notes_below opening before after by (suc actor) =
+    notes_below opening before after by actor ++ note_of opening before after by actor

@@ -1,4 +1,5 @@
--- What a picture shows of a run: a heading with each actor's root and how its calls ended, and a line for each event and each note.
+-- What a picture shows of a run: a heading with each actor's root and how its calls ended, and a line for each event
+-- and each note.
 use Rattle.std.specs.Prelude.{◌<◌, ◌≤◌, ◌+◌, ◌⊎◌, ℕ, suc, List, [], ◌∷◌, ◌++◌, Bool, true, false, not, if◌then◌else◌, length, slice_get, unwrap_or, Option, Some, None, codes, decimal}
 use Rattle.race_core.specs.declared.report.Outcome.{Outcome}
 use Rattle.race_core.specs.declared.report.Outcome.TheVariants as ended
@@ -39,7 +40,8 @@ answer_tone other = Plain
 
 -- an event at its moment, told in the tree just before it
 abbrev pub moment_line : State → ℕ → Event → Line
-moment_line s k event = record { moment = Some k; actor = event.actor; tone = answer_tone event.answer; text = event_text s event }
+moment_line s k event =
+    record { moment = Some k; actor = event.actor; tone = answer_tone event.answer; text = event_text s event }
 
 -- a handle was closed, which changes nothing that is drawn
 abbrev pub is_plain_close : StepOf ℕ → Answer → Bool
@@ -58,20 +60,25 @@ line_if shown line = if shown then line ∷ [] else []
 -- and then the notes of the other actors
 abbrev pub moment_lines : Closes → ℕ → State → State → ℕ → Event → List Line
 moment_lines closes actors opening s k event =
-    line_if (is_shown closes event) (moment_line s k event) ++ notes_below opening s (after_event s event) event.actor actors
+    line_if (is_shown closes event) (moment_line s k event)
+    ++ notes_below opening s (after_event s event) event.actor actors
 
 -- those of all events from a tree on, their moments counted from k
 abbrev pub lines_from : Closes → ℕ → State → State → ℕ → List Event → List Line
 lines_from closes actors opening s k [] = []
 lines_from closes actors opening s k (event ∷ events) =
-    moment_lines closes actors opening s k event ++ lines_from closes actors opening (after_event s event) (suc k) events
+    moment_lines closes actors opening s k event
+    ++ lines_from closes actors opening (after_event s event) (suc k) events
 
 -- ---- the heading
 
 -- an actor's root, which its handle of its own number was granted on
 abbrev pub root_head : State → ℕ → Head
 root_head opening actor =
-    record { tone = Plain; text = codes "actor " ++ (decimal actor ++ (codes " below " ++ place_words (way_of opening actor actor))) }
+    record {
+      tone = Plain;
+      text = codes "actor " ++ (decimal actor ++ (codes " below " ++ place_words (way_of opening actor actor)));
+    }
 
 abbrev pub reply_tone : Option Outcome → Tone
 reply_tone None = Plain
@@ -106,7 +113,11 @@ heads_of opening calls replies = numbered (actor_heads opening replies) 0 calls
 -- the picture of the events that a tree with its roots granted led to; an actor for each list of calls
 abbrev pub drawn_of : Closes → State → List (List (List ℕ)) → List Event → List (List Outcome) → Drawn
 drawn_of closes opening calls events replies =
-    record { actors = length calls; heads = heads_of opening calls replies; lines = lines_from closes (length calls) opening opening 0 events }
+    record {
+      actors = length calls;
+      heads = heads_of opening calls replies;
+      lines = lines_from closes (length calls) opening opening 0 events;
+    }
 
 -- the lines with those of the heading
 abbrev pub line_count : Drawn → ℕ

@@ -11,8 +11,8 @@ use Rattle.drawings.specs.declared.svg.TheConstants.{SHOWN_MAX}
 use Rattle.drawings.specs.Cells.{cut, mark_of, actor_name}
 use Rattle.drawings.specs.Picture.{Drawn, line_count}
 
--- What XML takes for markup is an entity (XML 1.0, section 4.6); a blank and a backslash stand for themselves, and any other
--- byte for what it is escaped as.
+-- What XML takes for markup is an entity (XML 1.0, section 4.6); a blank and a backslash stand for themselves, and
+-- any other byte for what it is escaped as.
 abbrev pub xml_byte : ℕ → List ℕ
 xml_byte b =
     if b == 0x26 then codes "&amp;" else (
@@ -38,13 +38,15 @@ tone_end Bad = codes "' fill='#c0182b'>"
 
 -- a text that begins at a place
 unfoldable pub text_at : ℕ → ℕ → Tone → List ℕ → List ℕ
-text_at x y tone text = tag (codes "<text x='") x (codes "' y='") y (tone_end tone) ++ (xml_text text ++ codes "</text>\n")
+text_at x y tone text =
+    tag (codes "<text x='") x (codes "' y='") y (tone_end tone) ++ (xml_text text ++ codes "</text>\n")
 
 -- where the column of an actor begins
 abbrev pub column_x : ℕ → ℕ
 column_x actor = 56 + 494 * actor
 
--- where the names of the columns stand, below so many lines of a heading, and where the text of a line of the heading does
+-- where the names of the columns stand, below so many lines of a heading, and where the text of a line of the
+-- heading does
 abbrev pub names_y : ℕ → ℕ
 names_y heads = 33 + 22 * heads
 
@@ -64,12 +66,14 @@ svg_headings heads = numbered svg_heading 0 heads
 
 -- a line down from below the columns' names
 unfoldable pub life_line : ℕ → ℕ → ℕ → List ℕ
-life_line x start end = tag (codes "<path stroke='#8a93a5' d='M") x (codes " ") start (codes "V") ++ (decimal end ++ codes "'/>\n")
+life_line x start end =
+    tag (codes "<path stroke='#8a93a5' d='M") x (codes " ") start (codes "V") ++ (decimal end ++ codes "'/>\n")
 
 -- an actor's name, and its life line down to the end
 abbrev pub svg_column : ℕ → ℕ → ℕ → List ℕ
 svg_column heads end actor =
-    text_at (column_x actor) (names_y heads) Plain (actor_name actor) ++ life_line (column_x actor + 8) (names_y heads + 11) end
+    text_at (column_x actor) (names_y heads) Plain (actor_name actor)
+    ++ life_line (column_x actor + 8) (names_y heads + 11) end
 
 -- those of the actors below that number
 abbrev pub svg_columns : ℕ → ℕ → ℕ → List ℕ
@@ -88,7 +92,8 @@ dot_if dotted x y = if dotted then svg_dot x y else []
 abbrev pub svg_place : ℕ → ℕ → Line → List ℕ
 svg_place actors y line =
     if nat_lt line.actor actors
-    then dot_if (is_some line.moment) (column_x line.actor + 8) (y - 5) ++ text_at (column_x line.actor + 26) y line.tone (cut SHOWN_MAX line.text)
+    then dot_if (is_some line.moment) (column_x line.actor + 8) (y - 5)
+    ++ text_at (column_x line.actor + 26) y line.tone (cut SHOWN_MAX line.text)
     else []
 
 -- a line by its place in the picture

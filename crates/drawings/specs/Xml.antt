@@ -1,5 +1,5 @@
--- What is well formed in XML (Extensible Markup Language 1.0, fifth edition, W3C), of the forms that a picture has: elements, attributes
--- in apostrophes, and text.
+-- What is well formed in XML (Extensible Markup Language 1.0, fifth edition, W3C), of the forms that a picture has:
+-- elements, attributes in apostrophes, and text.
 use Rattle.std.specs.Prelude.{◌≡◌, ◌≢◌, ◌≤◌, ◌==◌, ◌&&◌, ◌||◌, Bool, true, false, ℕ, List, [], ◌∷◌, ◌++◌, nat_le, codes}
 use Rattle.std.specs.List.{list_all, list_any}
 use Rattle.path_text.specs.Name.{same_bytes}
@@ -47,12 +47,14 @@ attribute name value others = codes " " ++ (name ++ (codes "='" ++ (value ++ (co
 -- attributes of these names; no name stands twice (section 3.1)
 pub data IsAttributes : List (List ℕ) → List ℕ → Type 0 where
   none : IsAttributes [] []
-  more : (names : List (List ℕ)) (name value others : List ℕ) → is_name name ≡ true → list_any (same_bytes name) names ≡ false → IsXmlText value → IsAttributes names others
+  more : (names : List (List ℕ)) (name value others : List ℕ) → is_name name ≡ true
+      → list_any (same_bytes name) names ≡ false → IsXmlText value → IsAttributes names others
       → IsAttributes (name ∷ names) (attribute name value others)
 
 -- an element with what it holds, which its own name closes
 abbrev pub element_text : List ℕ → List ℕ → List ℕ → List ℕ
-element_text name attributes content = codes "<" ++ (name ++ (attributes ++ (codes ">" ++ (content ++ (codes "</" ++ (name ++ codes ">"))))))
+element_text name attributes content =
+    codes "<" ++ (name ++ (attributes ++ (codes ">" ++ (content ++ (codes "</" ++ (name ++ codes ">"))))))
 
 -- an element that holds nothing
 abbrev pub empty_element_text : List ℕ → List ℕ → List ℕ
@@ -63,9 +65,11 @@ pub data IsContent : List ℕ → Type 0 where
   done : IsContent []
   shown : (told others : List ℕ) → IsXmlText told → IsContent others → IsContent (told ++ others)
   line_end : (others : List ℕ) → IsContent others → IsContent (0xa ∷ others)
-  element : (names : List (List ℕ)) (name attributes content others : List ℕ) → is_name name ≡ true → IsAttributes names attributes → IsContent content → IsContent others
+  element : (names : List (List ℕ)) (name attributes content others : List ℕ) → is_name name ≡ true
+      → IsAttributes names attributes → IsContent content → IsContent others
       → IsContent (element_text name attributes content ++ others)
-  empty : (names : List (List ℕ)) (name attributes others : List ℕ) → is_name name ≡ true → IsAttributes names attributes → IsContent others
+  empty : (names : List (List ℕ)) (name attributes others : List ℕ) → is_name name ≡ true
+      → IsAttributes names attributes → IsContent others
       → IsContent (empty_element_text name attributes ++ others)
 
 -- a document: one element of that name, and a line end (section 2.1)

@@ -7,8 +7,8 @@ pub fn xml_text_is_plain()
     ensures { XmlTextIsPlain }
 {}
 
-/// As SVG a picture is well-formed XML, whatever its texts are: one element, in which each element that is opened is closed
-/// by its own name, no attribute stands twice, and all else is text in which no byte stands as markup.
+/// As SVG a picture is well-formed XML, whatever its texts are: one element, in which each element that is opened is
+/// closed by its own name, no attribute stands twice, and all else is text in which no byte stands as markup.
 pub fn svg_is_well_formed()
     ensures { SvgIsWellFormed }
 {}

@@ -1,9 +1,9 @@
-//! Drawings of a run: a heading with each actor's root and how its calls ended, and a column for each actor, in which its
-//! steps stand at their moments, told by where things stood just before.
+//! Drawings of a run: a heading with each actor's root and how its calls ended, and a column for each actor, in
+//! which its steps are shown at their moments, by where things stood just before.
 //!
-//! A `Picture` is a stated function of the tree at the opening, of what the actors call for, of the events and of how the
-//! calls ended. It is drawn as text of at most 100 columns, or as SVG, in which no byte of a name can be taken for markup. The
-//! layers above use `calls_of`, `Picture::of`, `Picture::text` and `Picture::svg`.
+//! A `Picture` is a stated function of the tree at the opening, of what the actors call for, of the events and of
+//! how the calls ended. It is drawn as text of at most 100 columns, or as SVG, in which no byte of a name can be
+//! taken for markup. The layers above use `calls_of`, `Picture::of`, `Picture::text` and `Picture::svg`.
 #![tactic(auto)]
 
 mod calls;

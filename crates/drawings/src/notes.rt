@@ -165,7 +165,8 @@ pub(crate) fn add_notes(
     actors: u64,
 ) -> Result<(), NoMemory>
     requires { actors ≤ ACTORS_MAX }
-    ensures { OnOk result (lines.new.items ≡ lines.old.items ++ notes_below opening.now before.now after.now by actors) }
+    ensures { OnOk result (lines.new.items
+        ≡ lines.old.items ++ notes_below opening.now before.now after.now by actors) }
 {
     for actor in 0..actors {
         add_note(alloc, lines, opening, before, after, by, actor as u32)?;

@@ -34,8 +34,8 @@ pub enum Tone {
     Bad,
 }
 
-/// Whether a picture shows that handles were closed, which changes nothing that is drawn. A Close that is refused is shown
-/// anyway.
+/// Whether a picture shows that handles were closed, which changes nothing that is drawn. A Close that is refused is
+/// shown anyway.
 #[derive(Clone, Copy, Debug, PartialEq, Eq)]
 pub enum Closes {
     Hidden,
@@ -143,7 +143,8 @@ fn add_line(
     moment: u64,
     event: &Event,
 ) -> Result<(), NoMemory>
-    ensures { OnOk result (lines.new.items ≡ lines.old.items ++ line_if (is_shown closes event.now) (moment_line before.now moment event.now)) }
+    ensures { OnOk result (lines.new.items
+        ≡ lines.old.items ++ line_if (is_shown closes event.now) (moment_line before.now moment event.now)) }
 {
     if is_shown(closes, event) {
         let line = moment_line(alloc, before, moment, event)?;
@@ -166,7 +167,8 @@ fn add_moment(
 ) -> Result<(), NoMemory>
     requires few { actors ≤ ACTORS_MAX }
     requires led { after.now ≡ after_event before.now event.now }
-    ensures { OnOk result (lines.new.items ≡ lines.old.items ++ moment_lines closes actors opening.now before.now moment event.now) }
+    ensures { OnOk result (lines.new.items
+        ≡ lines.old.items ++ moment_lines closes actors opening.now before.now moment event.now) }
 {
     add_line(alloc, lines, closes, before, moment, event)?;
     add_notes(alloc, lines, opening, before, after, event.actor, actors)
@@ -183,7 +185,8 @@ fn lines_of(
 ) -> Result<Vec<Line>, NoMemory>
     requires few { actors ≤ ACTORS_MAX }
     requires same { opening.now ≡ tree }
-    ensures { IfOk result (λ lines. lines.items ≡ lines_from closes actors opening.now opening.now 0 events.now.events) }
+    ensures { IfOk result (λ lines. lines.items
+        ≡ lines_from closes actors opening.now opening.now 0 events.now.events) }
 {
     let mut lines = Vec::new(alloc);
     let mut before = tree.snapshot(alloc)?;
@@ -201,14 +204,14 @@ fn lines_of(
 }
 
 impl Picture {
-    /// The picture of the events that a tree with its actors' roots granted led to, each root by the handle of its actor's
-    /// number; `calls` has what each actor calls for. The heading has a line for each root, and for each call
-    /// `CALL = REPLY`. Then each event has a line, told by where things stood just before it, but for closes that are to be
-    /// hidden; and after an event each other actor whose newest open handle's object was moved has a note. Events of actors
-    /// that aren't there have a line and no column.
+    /// The picture of a run from a tree in which the actors' roots are granted, each by the handle of its actor's
+    /// number; `calls` has what each actor calls for. The heading has a line for each root, and for each call `CALL
+    /// = REPLY`. Then comes a line for each event, which shows where things stood just before it; `closes` says
+    /// whether the closes that are done have one. After an event, each other actor whose newest open handle's object
+    /// was moved gets a note. An event of an actor that isn't there has a line and no column.
     ///
-    /// Errors, in this order: `Actors` where there is no actor or there are more than 4; `Lines` over 2,000 events, shown or
-    /// not; `NoMemory` where room was refused; `Lines` over 2,000 lines.
+    /// Errors, in this order: `Actors` where there is no actor or there are more than 4; `Lines` over 2,000 events,
+    /// shown or not; `NoMemory` where room was refused; `Lines` over 2,000 lines.
     pub fn of(
         alloc: Global,
         tree: ListTree,
@@ -219,7 +222,8 @@ impl Picture {
     ) -> Result<Picture, PictureFault>
         ensures ok { IfOk result (λ picture. picture ≡ drawn_of closes tree calls.now events.now.events replies.now) }
         ensures fits { IfOk result CanBeDrawn }
-        ensures err { IfErr result (IsPictureFault events.now.events (drawn_of closes tree calls.now events.now.events replies.now)) }
+        ensures err { IfErr result (IsPictureFault events.now.events
+            (drawn_of closes tree calls.now events.now.events replies.now)) }
     {
         let actors = calls.len() as u64;
         if actors == 0 || actors > ACTORS_MAX {

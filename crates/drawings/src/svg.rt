@@ -15,8 +15,8 @@ use transcript::Output;
 /// How many bytes of a text are shown.
 pub const SHOWN_MAX: usize = 55;
 
-// Adds one byte of a text: what XML takes for markup as its entity (XML 1.0, section 4.6), a blank and any other printed
-// byte as it is, and the rest as `\x` and two hexadecimal digits.
+// Adds one byte of a text: what XML takes for markup as its entity (XML 1.0, section 4.6), a blank and any other
+// printed byte as it is, and the rest as `\x` and two hexadecimal digits.
 fn xml_byte(out: &mut Output, byte: u8) -> Result<(), NoMemory>
     ensures { Gains out.old out.new (xml_byte byte) result }
 {
@@ -273,10 +273,10 @@ fn head(out: &mut Output, width: u64, height: u64) -> Result<(), NoMemory>
 }
 
 impl Picture {
-    /// Adds the picture as SVG, in ASCII: the heading's lines, for each actor its name and a life line, and each line's
-    /// moment, dot and text. A text over 55 bytes is cut, and ends in a tilde. What is well is green, and what isn't is red.
-    /// No byte of a text stands as markup: `&`, `<`, `>` and the quotation marks are entities. NoMemory where its room was
-    /// refused.
+    /// Adds the picture as SVG, in ASCII: the heading's lines, for each actor its name and a life line, and each
+    /// line's moment, dot and text. A text over 55 bytes is cut, and ends in a tilde. What is well is green, and
+    /// what isn't is red. No byte of a text stands as markup: `&`, `<`, `>` and the quotation marks are entities.
+    /// NoMemory where its room was refused.
     pub fn svg(&self, alloc: Global, out: &mut Output) -> Result<(), NoMemory>
         ensures told { Gains out.old out.new (svg_of self.now) result }
         ensures xml { OnOk result (IsDocument (codes "svg") (svg_of self.now)) }

@@ -132,9 +132,9 @@ impl Picture {
         line_rows(alloc, out, self.actors, &self.lines)
     }
 
-    /// Adds the picture as text: its heading, an empty line, and a table: the columns' names, and then each line, with its
-    /// moment and a column for each actor. No line is wider than 100 columns: a text that is too wide is cut, and ends in a
-    /// tilde. NoMemory where its room was refused.
+    /// Adds the picture as text: its heading, an empty line, and a table: the columns' names, and then each line,
+    /// with its moment and a column for each actor. No line is wider than 100 columns: a text that is too wide is
+    /// cut, and ends in a tilde. NoMemory where its room was refused.
     pub fn text(&self, alloc: Global, out: &mut Output) -> Result<(), NoMemory>
         ensures { Gains out.old out.new (text_of self.now) result }
     {

@@ -1,4 +1,4 @@
-pub mod Growth
+pub mod Room
 pub mod Again
 pub mod Pieces
 pub mod Placed

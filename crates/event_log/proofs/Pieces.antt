@@ -2,7 +2,7 @@
 use Rattle.std.proofs.Common.{◌≡◌, Bool, true, false, ℕ, zero, suc, ◌+◌, ◌-◌, ◌≤◌, ◌<◌, List, [], ◌∷◌, ◌++◌, length, take, drop, refl, sym, ap, ◌∙◌, arith, add-one}
 use Rattle.std.specs.Prelude.{Some, None, slice_get, not, nat_eq}
 use Rattle.std.specs.Cmp.Lexicographic.{pointwise, bytes_decides}
-use Rattle.std.proofs.lemmas.List.{append_assoc, at_drop_more, take_all, take_more}
+use Rattle.std.proofs.lemmas.List.{append_assoc, length-append, at_drop_more, take_all, take_more}
 use Rattle.std.proofs.lemmas.List.Elements.{All-get_or}
 use Rattle.std.proofs.lemmas.Option.{slice_get_within, get_or_from_slice_get}
 use Rattle.path_text.specs.Name.{name_fault}
@@ -54,15 +54,26 @@ pieces_left count at bytes rest within left = ap (λ n. drop n (pieces_read coun
 pub all_pieces : (count at : ℕ) (bytes : List ℕ) → count ≤ at → take at (pieces_read count bytes) ≡ pieces_read count bytes
 all_pieces count at bytes h = take_all at (pieces_read count bytes) (omega (arith, h, length_pieces count bytes))
 
+-- the pieces from a place on are the name's there and those behind it
+pub piece_at : (names : List (List ℕ)) (at : ℕ) (name : List ℕ) → slice_get names at ≡ Some name
+    → pieces_of (drop at names) ≡ length name ∷ (name ++ pieces_of (drop (at + 1) names))
+piece_at names at name found =
+    at_drop_more pieces_of names at name (slice_get_within names at name found)
+    ∙ ap (λ n. length n ∷ (n ++ pieces_of (drop (at + 1) names))) (get_or_from_slice_get names at name name found)
+
+pub piece_len : (names : List (List ℕ)) (at : ℕ) (name : List ℕ) → slice_get names at ≡ Some name
+    → length (pieces_of (drop at names)) ≡ length name + 1 + length (pieces_of (drop (at + 1) names))
+piece_len names at name found =
+    omega (arith, ap length (piece_at names at name found), length-append name (pieces_of (drop (at + 1) names)))
+
 -- one more name is written
 pub name_written : (names : List (List ℕ)) (at : ℕ) (name old before sized after : List ℕ) → slice_get names at ≡ Some name → sized ≡ before ++ length name ∷ [] → after ≡ sized ++ name
     → before ++ pieces_of (drop at names) ≡ old ++ pieces_of names → after ++ pieces_of (drop (at + 1) names) ≡ old ++ pieces_of names
 name_written names at name old before sized after found is_sized is_after h =
     let rest = pieces_of (drop (at + 1) names) in
-    let one : pieces_of (drop at names) ≡ length name ∷ (name ++ rest) =
-    at_drop_more pieces_of names at name (slice_get_within names at name found) ∙ ap (λ n. length n ∷ (n ++ rest)) (get_or_from_slice_get names at name name found) in
     ap (λ bs. bs ++ rest) (is_after ∙ ap (λ bs. bs ++ name) is_sized)
-    ∙ append_assoc (before ++ length name ∷ []) name rest ∙ append_assoc before (length name ∷ []) (name ++ rest) ∙ ap (λ bs. before ++ bs) (sym one) ∙ h
+    ∙ append_assoc (before ++ length name ∷ []) name rest ∙ append_assoc before (length name ∷ []) (name ++ rest)
+    ∙ ap (λ bs. before ++ bs) (sym (piece_at names at name found)) ∙ h
 
 -- ---- names that are compared one by one
 

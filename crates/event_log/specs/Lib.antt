@@ -1,5 +1,4 @@
 pub mod Shapes
 pub mod Records
 pub mod Log
-pub mod Written
 pub mod Printed

@@ -55,7 +55,8 @@ step_read (step.List h) bytes = ListNames h
 step_read (step.Close h) bytes = Close h
 step_read (step.MakeDir size h) bytes = MakeDir h (take size bytes)
 step_read (step.MakeFile size h) bytes = MakeFile h (take size bytes)
-step_read (step.MakeLink size h size_of_text) bytes = MakeLink h (take size bytes) (take size_of_text (drop size bytes))
+step_read (step.MakeLink size h size_of_text) bytes =
+    MakeLink h (take size bytes) (take size_of_text (drop size bytes))
 step_read (step.RemoveFile size h) bytes = RemoveFile h (take size bytes)
 step_read (step.RemoveDir size h) bytes = RemoveDir h (take size bytes)
 step_read (step.Rename size other mode h k) bytes = Rename h (take size bytes) k (take other (drop size bytes)) mode

@@ -4,20 +4,21 @@ ghost use Rattle.tree_model.specs.declared.answer.Answer.TheVariants.{Done as Do
 ghost use Rattle.tree_model.specs.declared.step.StepOf.TheVariants.{Close as CloseStep};
 ghost use Rattle.transcript.specs.Output.{Gains};
 ghost use Rattle.transcript.specs.Words.{event_words};
-ghost use Rattle.event_log.specs.Log.{is_bare};
 ghost use Rattle.event_log.specs.Records.{event_with, event_texts, events_read, texts_of, IsLog};
-ghost use Rattle.event_log.specs.Shapes.{step_texts};
+ghost use Rattle.event_log.specs.Shapes.{step_texts, answer_texts};
 
 use crate::compare::{is_answer, is_step};
 use crate::print::{write_answer, write_step};
 use crate::read::{after_step, back, read_answer, read_step};
 use crate::shape::{AnswerShape, Record, StepShape};
-use crate::write::{add_event, texts_len};
+use crate::write::{add_event, answer_len, step_len};
 use path_text::NoMemory;
 use std::alloc::Global;
 use std::marker::Model;
 use transcript::Output;
 use tree_model::{Actor, Answer, Event, HandleNo, Step};
+
+mod copy;
 
 /// The most bytes that the names and texts of a log's events have together.
 pub const TEXTS_MAX: usize = 0x0200_0000;
@@ -96,7 +97,7 @@ impl EventLog {
         ensures room { self.old.room ≤ self.new.room }
         ensures text_room { self.old.text_room ≤ self.new.text_room }
     {
-        let size = texts_len(step);
+        let size = step_len(step);
         if size > TEXTS_MAX - self.bytes.len() {
             return Err(NoMemory);
         }
@@ -104,27 +105,55 @@ impl EventLog {
         Ok(())
     }
 
-    /// Adds an event at the end. NoMemory where room was refused, or where the log would have more than
-    /// 33,554,432 bytes of names and texts; the events are then unchanged. It takes no memory where there is
-    /// room for the event and for the names and the text of its step, and its answer has neither names nor a text.
-    pub fn push(&mut self, actor: Actor, step: &Step, answer: &Answer) -> Result<(), NoMemory>
-        ensures ok { OnOk result (self.new.events ≡ self.old.events ++ event_with actor step.now answer.now ∷ []) }
-        ensures err { OnErr result ((self.new.events ≡ self.old.events) × (self.old.room ≤ self.new.room)) }
-        ensures room { self.old.room ≤ suc self.new.room }
-        ensures fits { 0 < self.old.room → length (step_texts step.now) ≤ self.old.text_room → is_bare answer.now ≡ true → IsOk result }
+    /// Gets room for an event, and for its names and texts. NoMemory where it was refused, or where the log would have
+    /// more than 33,554,432 bytes of them; no room is lost then. It takes no memory where there is that room.
+    pub fn reserve_event(&mut self, step: &Step, answer: &Answer) -> Result<(), NoMemory>
+        ensures events { self.new.events ≡ self.old.events }
+        ensures ok { OnOk result ((0 < self.new.room)
+            × (length (step_texts step.now ++ answer_texts answer.now) ≤ self.new.text_room)) }
+        ensures room { self.old.room ≤ self.new.room }
+        ensures text_room { self.old.text_room ≤ self.new.text_room }
+        ensures fits { 0 < self.old.room
+            → length (step_texts step.now ++ answer_texts answer.now) ≤ self.old.text_room → IsOk result }
     {
-        self.records.reserve(1)?;
-        let start = self.bytes.len();
-        if add_event(&mut self.bytes, step, answer).is_err() {
-            self.bytes.truncate(start);
+        let left = TEXTS_MAX - self.bytes.len();
+        let size = step_len(step);
+        if size > left {
             return Err(NoMemory);
         }
+        let Some(more) = answer_len(answer, left - size) else {
+            return Err(NoMemory);
+        };
+        self.records.reserve(1)?;
+        self.bytes.reserve(size + more)?;
+        Ok(())
+    }
+
+    /// Adds an event at the end, for which there is room. Takes no memory.
+    pub fn push_reserved(&mut self, actor: Actor, step: &Step, answer: &Answer)
+        requires room { 0 < self.old.room }
+        requires text_room { length (step_texts step.now ++ answer_texts answer.now) ≤ self.old.text_room }
+        ensures events { self.new.events ≡ self.old.events ++ event_with actor step.now answer.now ∷ [] }
+        ensures room { self.old.room ≡ suc self.new.room }
+    {
+        let start = self.bytes.len();
+        add_event(&mut self.bytes, step, answer);
         self.records.push_reserved(Record {
             start: start as u32,
             actor,
             step: StepShape::of(step),
             answer: AnswerShape::of(answer),
         });
+    }
+
+    /// Adds an event at the end. NoMemory where room was refused, or where the log would have more than
+    /// 33,554,432 bytes of names and texts; the events are then unchanged.
+    pub fn push(&mut self, actor: Actor, step: &Step, answer: &Answer) -> Result<(), NoMemory>
+        ensures ok { OnOk result (self.new.events ≡ self.old.events ++ event_with actor step.now answer.now ∷ []) }
+        ensures err { OnErr result (self.new.events ≡ self.old.events) }
+    {
+        self.reserve_event(step, answer)?;
+        self.push_reserved(actor, step, answer);
         Ok(())
     }
 
@@ -172,8 +201,8 @@ impl EventLog {
         })
     }
 
-    /// Adds what the event at a place, counted from 0, did, with no newline: `STEP = ANSWER`. It is written from where it
-    /// is kept, and takes no memory but for the text. NoMemory where the text's room was refused.
+    /// Adds what the event at a place, counted from 0, did, with no newline: `STEP = ANSWER`. It is written from
+    /// where it is kept, and takes no memory but for the text. NoMemory where the text's room was refused.
     pub fn write_event(&self, out: &mut Output, at: usize) -> Result<(), NoMemory>
         requires { at < length self.now.events }
         ensures { IfSome (slice_get self.now.events at) (λ event. Gains out.old out.new (event_words event) result) }

@@ -226,22 +226,22 @@ count_none before book latest tally at event counted e there none =
           counted.counts_are
           ∙ sym (counted_more before latest.actor latest.step 0 latest.actor tally.roots (omega arith)
           ∙ ap (λ b. bumped b latest.actor (outside_from before 0 tally.roots)) (no_change (slice_index_or tally.roots latest.actor None) (tree_now before) last none'));
-      nodes_are = counted.nodes_are ∙ sym (nodes_stay before latest.actor latest.step none');
+      nodes_are = λ told. counted.nodes_are told ∙ sym (nodes_stay before latest.actor latest.step none');
     })
 
 pub count_change : (before book : BookedHistory) (latest : IsLatest before book) (tally new : TallyView) (at : ℕ) (event : Event) (after : State) (outside : Bool)
-    → IsCounted before tally → at ≡ length before.events → slice_get book.events at ≡ Some event → (is_done event.answer && is_on_entries event.step) ≡ true
-    → after ≡ tree_now book
+    → tally.told ≡ true → IsCounted before tally → at ≡ length before.events → slice_get book.events at ≡ Some event
+    → (is_done event.answer && is_on_entries event.step) ≡ true → after ≡ tree_now book
     → outside ≡ any_outside (record { nodes = tally.nodes; handles = after.handles }) (slice_index_or tally.roots event.actor None) event.actor (changed_by event.step)
     → new.roots ≡ tally.roots → new.counts ≡ bumped outside event.actor tally.counts → new.nodes ≡ after.nodes → IsCounted book new
-count_change before book latest tally new at event after outside counted e there change is_after is_outside roots counts nodes =
+count_change before book latest tally new at event after outside told counted e there change is_after is_outside roots counts nodes =
     record {
       counts_are =
           counts
           ∙ (λ i. bumped (all_outside i) (is_actor i) (counted.counts_are i))
           ∙ sym (counted_more before latest.actor latest.step 0 latest.actor tally.roots (omega arith))
           ∙ (let books = sym latest.is in let same = sym roots in λ i. outside_from (books i) 0 (same i));
-      nodes_are = nodes ∙ ap (λ (s : State). s.nodes) is_after;
+      nodes_are = λ _. nodes ∙ ap (λ (s : State). s.nodes) is_after;
     }
   where
     last : Event
@@ -264,7 +264,7 @@ count_change before book latest tally new at event after outside counted e there
     all_outside : outside ≡ acts_outside (slice_index_or tally.roots latest.actor None) (tree_now before) last
     all_outside =
         is_outside
-        ∙ (λ i. any_outside (record { nodes = counted.nodes_are i; handles = handles i }) (slice_index_or tally.roots (is i).actor None) (is i).actor (changed_by (is i).step))
+        ∙ (λ i. any_outside (record { nodes = counted.nodes_are told i; handles = handles i }) (slice_index_or tally.roots (is i).actor None) (is i).actor (changed_by (is i).step))
         ∙ ap (λ b. b && any_outside (tree_now before) (slice_index_or tally.roots latest.actor None) latest.actor (changed_by latest.step))
         (sym (and_first (is_done last.answer) (is_on_entries last.step) change'))
 
@@ -275,7 +275,7 @@ pub follow_same : (before after : WorldView) (luck : Luck) (i : ℕ) (tally : Ta
     → length after.book.events ≡ length before.book.events → IsTally after tally
 follow_same before after luck i tally is turned same =
     subst (λ (w : WorldView). IsTally w tally) (sym turned) (record {
-      roots_are = is.roots_are ∙ sym (roots_stay luck before i);
+      roots_are = is.roots_are ∙ sym (roots_stay tally.told luck before i);
       counted = subst (λ (b : BookedHistory). IsCounted b tally) (sym (by (turn luck before i).book (turn_books luck before i)
           (ap (λ (w : WorldView). length w.book.events) (sym turned) ∙ same))) is.counted;
     })
@@ -300,16 +300,29 @@ follow_one before after luck i turned other =
         (record { actor = a; step = step; is = refl }, length_push before.book.events (record { actor = a; step = step; answer = answer_now before.book a step }))
 
 pub follow_tally : (before after : WorldView) (luck : Luck) (i : ℕ) (old new : TallyView) → IsTally before old → after ≡ turn luck before i
-    → new.roots ≡ old.roots → IsCounted after.book new → IsTally after new
-follow_tally before after luck i old new is turned roots counted = record {
-  roots_are = roots ∙ is.roots_are ∙ sym (roots_stay luck before i) ∙ ap roots_of (sym turned);
+    → new.told ≡ old.told → new.roots ≡ old.roots → IsCounted after.book new → IsTally after new
+follow_tally before after luck i old new is turned told roots counted = record {
+  roots_are = roots ∙ is.roots_are ∙ sym (roots_stay old.told luck before i) ∙ (λ i. roots_of (sym told i) (sym turned i));
   counted = counted;
 }
+
+-- where changes aren't told there is nothing to be counted
+pub untold : (before after : WorldView) (luck : Luck) (i : ℕ) (tally : TallyView) → IsTally before tally → after ≡ turn luck before i → tally.told ≡ false → IsTally after tally
+untold before after luck i tally is turned none = record {
+  roots_are = is.roots_are ∙ sym (roots_stay tally.told luck before i) ∙ ap (roots_of tally.told) (sym turned);
+  counted = record {
+    counts_are = is.counted.counts_are ∙ (λ i. outside_from before.book 0 (no_roots i)) ∙ (λ i. outside_from after.book 0 (sym no_roots i));
+    nodes_are = λ told. absurd (true≢false (sym told ∙ none));
+  };
+}
+  where
+    no_roots : tally.roots ≡ []
+    no_roots = is.roots_are ∙ ap (λ (told : Bool). roots_of told before) none
 
 -- ---- a tally
 
 -- the counts of a world's tally are the world's
-pub counts_there : (w : WorldView) (tally : TallyView) (counts : List ℕ) → IsTally w tally → counts ≡ tally.counts → counts ≡ outside_of w
+pub counts_there : (w : WorldView) (tally : TallyView) (counts : List ℕ) → IsTally w tally → counts ≡ tally.counts → counts ≡ outside_of tally.told w
 counts_there w tally counts is e = e ∙ is.counted.counts_are ∙ ap (λ roots. outside_from w.book 0 roots) is.roots_are
 
 take_push : {X : Type 0} (xs : List X) (n : ℕ) (x : X) → slice_get xs n ≡ Some x → take (n + 1) xs ≡ take n xs ++ x ∷ []

@@ -50,7 +50,7 @@ module _ (live : LiveView) (tree : State) (events : List Event) (replies : List 
       let all = reported live.world [] tree events replies kept ran none in
       join ran.end (after_turns live.world ([] ++ all.0)) live.world all.1.0 (over_rests live.world ([] ++ all.0) over)
 
-  pub is_report : (outside : List ℕ) → outside ≡ outside_of live.world → IsOver live.world
+  pub is_report : (outside : List ℕ) → outside ≡ outside_of live.told live.world → IsOver live.world
       → IsReportOf live (record { turns = live.turns; cuts = live.marks.cuts; changes = live.marks.changes; tree = tree; events = events; replies = replies; kept = kept; outside = outside })
   is_report outside counted over = record {
     over = over;
@@ -72,12 +72,12 @@ module _ (live : LiveView) (tree : State) (events : List Event) (replies : List 
 -- ---- its place among others
 
 -- that of one like it
-pub leads_like : (w : WorldView) (live other : LiveView) (worlds : List LiveView) (at : ℕ) → slice_get worlds at ≡ Some other → IsSame live.world other.world
-    → IsSure w live → Leads w live.turns worlds at
+pub leads_like : (w : WorldView) (live other : LiveView) (worlds : List LiveView) (at : ℕ) → slice_get worlds at ≡ Some other → IsSame live.told live.world other.world
+    → IsSure w live → Leads live.told w live.turns worlds at
 leads_like w live other worlds at there alike sure = record {
   live = other;
   there = there;
-  by = inr (subst (λ (u : WorldView). IsSame u other.world)
+  by = inr (subst (λ (u : WorldView). IsSame live.told u other.world)
       (join live.world (along (start w) live.turns).world (after_turns w live.turns) (ap_at (λ (p : Point). p.world) (point_of live) (along (start w) live.turns) sure)
       (along_world (start w) live.turns)) alike);
 }
@@ -91,7 +91,7 @@ module _ (worlds new : List LiveView) (live : LiveView) (is : new ≡ worlds ++ 
   push_new k born there =
       ⊎_elim (λ was. inl was) (λ last. inr last.1) (get_push worlds live k born (ap (λ (xs : List LiveView). slice_get xs k) (sym is) ∙ there))
 
-  pub push_leads : (w : WorldView) (at : ℕ) → at ≡ length worlds → Leads w live.turns new at
+  pub push_leads : (w : WorldView) (at : ℕ) → at ≡ length worlds → Leads live.told w live.turns new at
   push_leads w at e = record {
     live = live;
     there = ap (λ (k : ℕ). slice_get new k) e ∙ (ap (λ (xs : List LiveView). slice_get xs (length worlds)) is ∙ get_last worlds live);

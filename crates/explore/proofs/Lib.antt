@@ -14,6 +14,7 @@ pub mod WantCalls
 pub mod WantWorlds
 pub mod SearchLaws
 pub mod Lucky
+pub mod JustOne
 pub mod Along
 pub mod Ranks
 pub mod Told

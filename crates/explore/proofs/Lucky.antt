@@ -21,7 +21,7 @@ pub record EndsWell (u : WorldView) : Type 0 where
 no_want : (u : WorldView) → EndsWell u → seats_want u.seats ≡ true → ⊥
 no_want u well wants = true≢false (sym (told_at_end well.end.seats well.over (run_stays u well.end well.turns well.run wants)) ∙ well.none)
 
-full_turn : (luck : Luck) (w : WorldView) (i : ℕ) → EndsWell (turn luck w i) → turn luck w i ≡ turn full w i
+pub full_turn : (luck : Luck) (w : WorldView) (i : ℕ) → EndsWell (turn luck w i) → turn luck w i ≡ turn full w i
 full_turn luck w i well = ⊎_elim (λ same. same) (λ wants. absurd (no_want (turn luck w i) well wants)) (turn_tells luck w i)
 
 full_onward : (luck : Luck) (p : Point) (i : ℕ) → EndsWell (onward luck p i).world → onward luck p i ≡ onward full p i

@@ -236,10 +236,11 @@ roots_set s a (first ∷ seats) zero seat new e r =
     λ i. held s a (root i).handle ∷ roots_from s (suc a) seats
 roots_set s a (first ∷ seats) (suc i) seat new e r = ap (λ rest. held s a first.ledger.root.handle ∷ rest) (roots_set s (suc a) seats i seat new e r)
 
-pub roots_stay : (luck : Luck) (w : WorldView) (i : ℕ) → roots_of (turn luck w i) ≡ roots_of w
-roots_stay luck w i = by (slice_get w.seats i) refl
+pub roots_stay : (told : Bool) (luck : Luck) (w : WorldView) (i : ℕ) → roots_of told (turn luck w i) ≡ roots_of told w
+roots_stay false luck w i = refl
+roots_stay true luck w i = by (slice_get w.seats i) refl
   where
-    by : (seat : Option Seat) → slice_get w.seats i ≡ seat → roots_of (turn_of luck w i seat) ≡ roots_of w
+    by : (seat : Option Seat) → slice_get w.seats i ≡ seat → roots_of true (turn_of luck w i seat) ≡ roots_of true w
     by None e = refl
     by (Some seat) e =
         let after = turned luck w.book seat.ledger seat.doing in
@@ -250,13 +251,13 @@ roots_stay luck w i = by (slice_get w.seats i) refl
 -- ---- the law
 
 pub same_turns : AlikeWorldsActOutsideAlike
-same_turns w v luck i same = record {
+same_turns told w v luck i same = record {
   alike = alike_turns w v luck i same.alike;
-  roots = roots_stay luck w i ∙ same.roots ∙ sym (roots_stay luck v i);
+  roots = roots_stay told luck w i ∙ same.roots ∙ sym (roots_stay told luck v i);
   outside =
-      ap (λ roots. outside_from (turn luck w i).book 0 roots) (roots_stay luck w i)
+      ap (λ roots. outside_from (turn luck w i).book 0 roots) (roots_stay told luck w i)
       ∙ turn_of_outside luck w v i same.alike.0 same.alike.1 (slice_get w.seats i) (slice_get v.seats i)
-      (get_alike same.alike.0 w.seats v.seats i same.alike.1.seats) (roots_of w)
+      (get_alike same.alike.0 w.seats v.seats i same.alike.1.seats) (roots_of told w)
       (same.outside ∙ ap (λ roots. outside_from v.book 0 roots) (sym same.roots))
-      ∙ ap (λ roots. outside_from (turn luck v i).book 0 roots) (same.roots ∙ sym (roots_stay luck v i));
+      ∙ ap (λ roots. outside_from (turn luck v i).book 0 roots) (same.roots ∙ sym (roots_stay told luck v i));
 }

@@ -7,6 +7,7 @@ use Rattle.race_core.specs.declared.opening.TheConstants.{ACTORS_MAX}
 use Rattle.race_core.specs.Worlds.{WorldView}
 use Rattle.turn_graph.specs.declared.graph.Spot.{Spot}
 use Rattle.turn_graph.specs.declared.graph.Spot.TheVariants.{Ends, Goes}
+use Rattle.explore.specs.declared.limits.Scope.{Scope}
 use Rattle.explore.specs.declared.layer.Stand.{Stand}
 use Rattle.explore.specs.declared.marks.Marks.{Marks}
 use Rattle.explore.specs.Explored.{ClassView, IsTooLong}
@@ -28,23 +29,23 @@ less_or_same (suc m) (suc n) lt = ⊎_elim (λ h. inl (omega arith)) (λ e. inr 
 
 -- ---- spots stay what they are as classes are added
 
-spot_kept : (w : WorldView) (most : Option ℕ) (layer next : LayerView) (old new : List ClassView) → Keeps old new
-    → (stand : Stand) (live : LiveView) (spot : Spot) → IsSpot w most layer next old stand live spot → IsSpot w most layer next new stand live spot
-spot_kept w most layer next old new keeps stand live (Ends class) h =
+spot_kept : (w : WorldView) (scope : Scope) (layer next : LayerView) (old new : List ClassView) → Keeps old new
+    → (stand : Stand) (live : LiveView) (spot : Spot) → IsSpot w scope layer next old stand live spot → IsSpot w scope layer next new stand live spot
+spot_kept w scope layer next old new keeps stand live (Ends class) h =
     record { ending = h.ending; is = h.is; class = h.class; there = keeps class h.class h.there; same = h.same }
-spot_kept w most layer next old new keeps stand live (Goes ways) h = h
+spot_kept w scope layer next old new keeps stand live (Goes ways) h = h
 
-spots_kept : (w : WorldView) (most : Option ℕ) (layer next : LayerView) (old new : List ClassView) → Keeps old new
-    → (spots : List Spot) → AreSpots w most layer next old spots → AreSpots w most layer next new spots
-spots_kept w most layer next old new keeps spots are = record {
+spots_kept : (w : WorldView) (scope : Scope) (layer next : LayerView) (old new : List ClassView) → Keeps old new
+    → (spots : List Spot) → AreSpots w scope layer next old spots → AreSpots w scope layer next new spots
+spots_kept w scope layer next old new keeps spots are = record {
   many = are.many;
-  each = λ s stand live spot on at there. spot_kept w most layer next old new keeps stand live spot (are.each s stand live spot on at there);
+  each = λ s stand live spot on at there. spot_kept w scope layer next old new keeps stand live spot (are.each s stand live spot on at there);
 }
 
 -- ---- one layer more
 
-module _ (w : WorldView) (most : Option ℕ) (layer next : LayerView) (graph : List (Vec Spot)) (spots : Vec Spot) (old new : List ClassView)
-    (so_far : HasSearched w most layer graph old) (passed : IsPassed w most (length graph) layer next spots.items old new) where
+module _ (w : WorldView) (scope : Scope) (layer next : LayerView) (graph : List (Vec Spot)) (spots : Vec Spot) (old new : List ClassView)
+    (so_far : HasSearched w scope layer graph old) (passed : IsPassed w scope (length graph) layer next spots.items old new) where
   abbrev layers : List LayerView
   layers = so_far.layers
 
@@ -76,15 +77,15 @@ module _ (w : WorldView) (most : Option ℕ) (layer next : LayerView) (graph : L
       (λ h. subst (λ (b : LayerView). AreOn k b) (sym h.1) (subst (λ n. AreOn n next) (sym (h.0 ∙ many)) passed.on))
       (get_push layers next k a e)
 
-  joined : (k : ℕ) (a b : LayerView) → slice_get (layers ++ next ∷ []) k ≡ Some a → slice_get (layers ++ next ∷ []) (suc k) ≡ Some b → AreJoined w most a b
+  joined : (k : ℕ) (a b : LayerView) → slice_get (layers ++ next ∷ []) k ≡ Some a → slice_get (layers ++ next ∷ []) (suc k) ≡ Some b → AreJoined w scope a b
   joined k a b here there =
       ⊎_elim
       (λ h. let lt = slice_get_within layers (suc k) b h in
       let m = many in so_far.searched.joined k a b (before k a (omega arith) here) h)
       (λ h. let m = many in
       let q : k ≡ length graph = last k h.0 m in
-      subst (λ (c : LayerView). AreJoined w most a c) (sym h.1)
-      (subst (λ (c : LayerView). AreJoined w most c next) (sym (last_before k a q here)) passed.joined))
+      subst (λ (c : LayerView). AreJoined w scope a c) (sym h.1)
+      (subst (λ (c : LayerView). AreJoined w scope c next) (sym (last_before k a q here)) passed.joined))
       (get_push layers next (suc k) b there)
     where
       last : (k : ℕ) → suc k ≡ length layers → length layers ≡ suc (length graph) → k ≡ length graph
@@ -98,15 +99,15 @@ module _ (w : WorldView) (most : Option ℕ) (layer next : LayerView) (graph : L
       by (inr q) = subst (λ (b : LayerView). AreSure w b.worlds) (sym (last_before k a q e)) passed.sure
 
   all_spots : (k : ℕ) (a b : LayerView) (s : Vec Spot) → slice_get (layers ++ next ∷ []) k ≡ Some a → slice_get (layers ++ next ∷ []) (suc k) ≡ Some b
-      → slice_get (graph ++ spots ∷ []) k ≡ Some s → AreSpots w most a b new s.items
+      → slice_get (graph ++ spots ∷ []) k ≡ Some s → AreSpots w scope a b new s.items
   all_spots k a b s here there e =
       ⊎_elim
       (λ h. let lt = slice_get_within graph k s h in
-      spots_kept w most a b old new passed.keeps s.items
+      spots_kept w scope a b old new passed.keeps s.items
       (so_far.searched.spots k a b s (before k a (omega arith) here) (before (suc k) b (omega arith) there) h))
-      (λ h. subst (λ (c : LayerView). AreSpots w most c b new s.items) (sym (last_before k a h.0 here))
-      (subst (λ (c : LayerView). AreSpots w most layer c new s.items) (sym (newest (suc k) b (ap suc h.0) there))
-      (subst (λ (v : Vec Spot). AreSpots w most layer next new v.items) (sym h.1) passed.spots)))
+      (λ h. subst (λ (c : LayerView). AreSpots w scope c b new s.items) (sym (last_before k a h.0 here))
+      (subst (λ (c : LayerView). AreSpots w scope layer c new s.items) (sym (newest (suc k) b (ap suc h.0) there))
+      (subst (λ (v : Vec Spot). AreSpots w scope layer next new v.items) (sym h.1) passed.spots)))
       (get_push graph spots k s e)
 
   found : (c : ℕ) (class : ClassView) → slice_get new c ≡ Some class
@@ -121,7 +122,7 @@ module _ (w : WorldView) (most : Option ℕ) (layer next : LayerView) (graph : L
       longer : (k : ℕ) → k < length graph → k < length (graph ++ spots ∷ [])
       longer k lt = subst (λ n. k < n) (sym (length_push graph spots)) (omega arith)
 
-  pub passes : HasSearched w most next (graph ++ spots ∷ []) new
+  pub passes : HasSearched w scope next (graph ++ spots ∷ []) new
   passes = record {
     layers = layers ++ next ∷ [];
     searched = record {
@@ -145,8 +146,8 @@ only_one : {A : Type 0} (x : A) (k : ℕ) (y : A) → slice_get (x ∷ []) k ≡
 only_one x zero y e = (refl, sym (same_Some x y e))
 only_one x (suc k) y e = absurd (none-some y e)
 
-module _ (w : WorldView) (most : Option ℕ) (layer : LayerView) (first : IsFirst w layer) (on : AreOn 0 layer) where
-  pub begun : HasSearched w most layer [] []
+module _ (w : WorldView) (scope : Scope) (layer : LayerView) (first : IsFirst w scope layer) (on : AreOn 0 layer) where
+  pub begun : HasSearched w scope layer [] []
   begun = record {
     layers = layer ∷ [];
     searched = record {
@@ -167,26 +168,26 @@ module _ (w : WorldView) (most : Option ℕ) (layer : LayerView) (first : IsFirs
 
   pub first_led : AreLed w layer.worlds
   first_led k live e =
-      let one = only_one (record { world = w; marks = no_marks; turns = [] }) k live (ap (λ (xs : List LiveView). slice_get xs k) (sym first.worlds) ∙ e) in
+      let one = only_one (record { told = scope.outside; world = w; marks = no_marks; turns = [] }) k live (ap (λ (xs : List LiveView). slice_get xs k) (sym first.worlds) ∙ e) in
       subst (λ (l : LiveView). IsLed w l) (sym one.1) refl
 
-pub last_on : (w : WorldView) (most : Option ℕ) (last : LayerView) (graph : List (Vec Spot)) (classes : List ClassView)
-    → HasSearched w most last graph classes → AreOn (length graph) last
-last_on w most last graph classes so_far = so_far.searched.on (length graph) last so_far.is_last
+pub last_on : (w : WorldView) (scope : Scope) (last : LayerView) (graph : List (Vec Spot)) (classes : List ClassView)
+    → HasSearched w scope last graph classes → AreOn (length graph) last
+last_on w scope last graph classes so_far = so_far.searched.on (length graph) last so_far.is_last
 
 pub none_left : {A : Type 0} (xs : List A) → length xs ≡ 0 → xs ≡ []
 none_left [] e = refl
 none_left (x ∷ xs) e = absurd (omega arith)
 
 -- a stand that is left after so many layers has too many turns
-pub left_long : (w : WorldView) (most : Option ℕ) (last : LayerView) (graph : List (Vec Spot)) (classes : List ClassView) → HasSearched w most last graph classes
-    → (turns : ℕ) → turns < length graph → 0 < length last.stands → (is : List ℕ) × IsTooLong w most turns is
-left_long w most last graph classes so_far turns more some =
+pub left_long : (w : WorldView) (scope : Scope) (last : LayerView) (graph : List (Vec Spot)) (classes : List ClassView) → HasSearched w scope last graph classes
+    → (turns : ℕ) → turns < length graph → 0 < length last.stands → (is : List ℕ) × IsTooLong w scope turns is
+left_long w scope last graph classes so_far turns more some =
     let stand = within_some last.stands 0 some in
-    (stand.0.turns.items, too_long w most so_far.layers graph classes so_far.searched (length graph) 0 turns last stand.0 (omega arith) so_far.is_last stand.1 more)
+    (stand.0.turns.items, too_long w scope so_far.layers graph classes so_far.searched (length graph) 0 turns last stand.0 (omega arith) so_far.is_last stand.1 more)
 
-pub first_on : (w : WorldView) (layer : LayerView) → IsFirst w layer → length w.seats ≤ ACTORS_MAX → AreOn 0 layer
-first_on w layer first few = record { stands = stands; actors = actors }
+pub first_on : (w : WorldView) (scope : Scope) (layer : LayerView) → IsFirst w scope layer → length w.seats ≤ ACTORS_MAX → AreOn 0 layer
+first_on w scope layer first few = record { stands = stands; actors = actors }
   where
     own : IsOn 0 layer.worlds first.stand
     own = record {
@@ -202,5 +203,5 @@ first_on w layer first few = record { stands = stands; actors = actors }
 
     actors : (m : ℕ) (live : LiveView) → slice_get layer.worlds m ≡ Some live → length live.world.seats ≤ ACTORS_MAX
     actors m live e =
-        let one = only_one (record { world = w; marks = no_marks; turns = [] }) m live (ap (λ (xs : List LiveView). slice_get xs m) (sym first.worlds) ∙ e) in
+        let one = only_one (record { told = scope.outside; world = w; marks = no_marks; turns = [] }) m live (ap (λ (xs : List LiveView). slice_get xs m) (sym first.worlds) ∙ e) in
         subst (λ (l : LiveView). length l.world.seats ≤ ACTORS_MAX) (sym one.1) few

@@ -11,6 +11,7 @@ use Rattle.race_core.specs.Worlds.{WorldView, is_busy_in, is_busy_at, is_within_
 use Rattle.turn_graph.specs.declared.graph.Spot.{Spot}
 use Rattle.turn_graph.specs.declared.graph.Spot.TheVariants.{Ends, Goes}
 use Rattle.turn_graph.specs.Words.{spot_in, spot_at, ways_from, way_of, IsWord, IsSomeWord}
+use Rattle.explore.specs.declared.limits.Scope.{Scope}
 use Rattle.explore.specs.Lists.{is_another, is_cut, plus}
 use Rattle.explore.specs.Explored.{IsWithin, ClassView}
 use Rattle.explore.specs.Merged.{Place, Places, cuts_with, MayFollow, IsWay, IsFit}
@@ -26,20 +27,20 @@ own_turn : (j : ℕ) → is_another (Some j) j ≡ false
 own_turn j = grind (arith, nat_tests)
 
 -- where somebody has something left to do, somebody may have the next turn
-may_some : (most : Option ℕ) (p : Place) → IsWithin most p.cuts → (i : ℕ) × (is_busy_at p.world.seats i ≡ true) → (i : ℕ) × MayFollow most p i
-may_some most p few somebody = by p.last refl
+may_some : (scope : Scope) (p : Place) → IsWithin scope.cuts p.cuts → (i : ℕ) × (is_busy_at p.world.seats i ≡ true) → (i : ℕ) × MayFollow scope p i
+may_some scope p few somebody = by p.last refl
   where
-    uncut : (i : ℕ) → is_busy_at p.world.seats i ≡ true → is_cut p.world.seats p.last i ≡ false → (i : ℕ) × MayFollow most p i
-    uncut i busy e = (i, record { busy = busy; few = subst (λ (b : Bool). IsWithin most (plus b p.cuts)) (sym e) few })
+    uncut : (i : ℕ) → is_busy_at p.world.seats i ≡ true → is_cut p.world.seats p.last i ≡ false → (i : ℕ) × MayFollow scope p i
+    uncut i busy e = (i, record { busy = busy; few = subst (λ (b : Bool). IsWithin scope.cuts (plus b p.cuts)) (sym e) few })
 
-    after : (j : ℕ) (b : Bool) → p.last ≡ Some j → is_busy_at p.world.seats j ≡ b → (i : ℕ) × MayFollow most p i
+    after : (j : ℕ) (b : Bool) → p.last ≡ Some j → is_busy_at p.world.seats j ≡ b → (i : ℕ) × MayFollow scope p i
     after j true e busy =
         uncut j busy (ap (λ (last : Option ℕ). is_cut p.world.seats last j) e ∙ ap (λ (b : Bool). b && is_within_at p.world.seats j) (own_turn j))
     after j false e idle =
         uncut somebody.0 somebody.1 (ap (λ (last : Option ℕ). is_cut p.world.seats last somebody.0) e
         ∙ and_right (is_another (Some j) somebody.0) (is_within_at p.world.seats j) (idle_outside (slice_get p.world.seats j) idle))
 
-    by : (last : Option ℕ) → p.last ≡ last → (i : ℕ) × MayFollow most p i
+    by : (last : Option ℕ) → p.last ≡ last → (i : ℕ) × MayFollow scope p i
     by None e = uncut somebody.0 somebody.1 (ap (λ (last : Option ℕ). is_cut p.world.seats last somebody.0) e)
     by (Some j) e = after j (is_busy_at p.world.seats j) e refl
 
@@ -52,20 +53,20 @@ spot_within layers k s spot there = by (slice_get layers k) refl there
     by None e there = absurd (none-some spot there)
     by (Some layer) e there = slice_get_within layers k layer e
 
-module _ (w : WorldView) (most : Option ℕ) (layers : List (Vec Spot)) (classes : List ClassView) (at : Places) (fit : IsFit w most layers classes at) where
-  some_rest : (n k s : ℕ) (spot : Spot) → length layers ≤ k + n → spot_at layers k s ≡ Some spot → IsWithin most (at k s).cuts
+module _ (w : WorldView) (scope : Scope) (layers : List (Vec Spot)) (classes : List ClassView) (at : Places) (fit : IsFit w scope layers classes at) where
+  some_rest : (n k s : ℕ) (spot : Spot) → length layers ≤ k + n → spot_at layers k s ≡ Some spot → IsWithin scope.cuts (at k s).cuts
       → (is : List ℕ) × ((class : ℕ) × IsWord layers k s is class)
   some_rest zero k s spot le there few = let lt = spot_within layers k s spot there in absurd (omega arith)
   some_rest (suc n) k s (Ends class) le there few = ([], (class, there))
   some_rest (suc n) k s (Goes ways) le there few =
       let here = fit.goes k s ways there in
-      let next = may_some most (at k s) few here.busy in
+      let next = may_some scope (at k s) few here.busy in
       let way = here.all next.0 next.1 in
-      let goes : IsWay most layers at k s next.0 way.0 = here.each next.0 way.0 way.1 in
-      let then : IsWithin most (at (suc k) way.0.to).cuts =
-      subst (λ m. IsWithin most m) (sym goes.next.cuts) (bounded_within most (cuts_with (at k s) next.0) goes.may.few) in
+      let goes : IsWay scope layers at k s next.0 way.0 = here.each next.0 way.0 way.1 in
+      let then : IsWithin scope.cuts (at (suc k) way.0.to).cuts =
+      subst (λ m. IsWithin scope.cuts m) (sym goes.next.cuts) (bounded_within scope.cuts (cuts_with (at k s) next.0) goes.may.few) in
       let rest = some_rest n (suc k) way.0.to goes.spot (omega arith) goes.there then in
       (next.0 ∷ rest.0, (rest.1.0, (way.0, (ap (λ (spot : Option Spot). way_of (ways_from spot) next.0) there ∙ way.1, rest.1.1))))
 
   pub some_word : (is : List ℕ) × IsSomeWord layers is
-  some_word = some_rest (length layers) 0 0 fit.spot (omega arith) fit.there (begin_within w most layers classes at fit)
+  some_word = some_rest (length layers) 0 0 fit.spot (omega arith) fit.there (begin_within w scope layers classes at fit)

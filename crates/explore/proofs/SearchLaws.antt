@@ -35,46 +35,47 @@ runs_append w u v (i ∷ is) js run more = (run.0, runs_append (turn run.0 w i) 
 
 -- ---- worlds like one another
 
-pub like_turns : {w v : WorldView} (i : ℕ) → IsLike w v → IsLike (turn full w i) (turn full v i)
+pub like_turns : {told : Bool} {w v : WorldView} (i : ℕ) → IsLike told w v → IsLike told (turn full w i) (turn full v i)
 like_turns i (same u) = same (turn full u i)
-like_turns i (onward w u v alike like) = onward (turn full w i) (turn full u i) (turn full v i) (same_turns w u full i alike) (like_turns {w = u} {v = v} i like)
+like_turns {told} i (onward w u v alike like) =
+    onward (turn full w i) (turn full u i) (turn full v i) (same_turns told w u full i alike) (like_turns {w = u} {v = v} i like)
 
-pub like_trans : {w u v : WorldView} → IsLike w u → IsLike u v → IsLike w v
+pub like_trans : {told : Bool} {w u v : WorldView} → IsLike told w u → IsLike told u v → IsLike told w v
 like_trans (same x) more = more
-like_trans {w} {u} {v} (onward a b c alike like) more = onward a b v alike (like_trans {w = b} {u = c} {v = v} like more)
+like_trans {told} {w} {u} {v} (onward a b c alike like) more = onward a b v alike (like_trans {w = b} {u = c} {v = v} like more)
 
-pub like_busy : {w v : WorldView} (i : ℕ) → IsLike w v → is_busy_at w.seats i ≡ is_busy_at v.seats i
+pub like_busy : {told : Bool} {w v : WorldView} (i : ℕ) → IsLike told w v → is_busy_at w.seats i ≡ is_busy_at v.seats i
 like_busy i (same u) = refl
 like_busy i (onward w u v alike like) =
     join (is_busy_at w.seats i) (is_busy_at u.seats i) (is_busy_at v.seats i) (busy_alike w u i alike.alike) (like_busy {w = u} {v = v} i like)
 
-pub like_tells : {w v : WorldView} → IsLike w v → TellTheSame w v
+pub like_tells : {told : Bool} {w v : WorldView} → IsLike told w v → TellTheSame w v
 like_tells (same u) = record { replies = refl; nodes = refl; held = λ a. refl }
 like_tells (onward w u v alike like) =
     let first : TellTheSame w u = tell_alike w u alike.alike in
     let rest : TellTheSame u v = like_tells {w = u} {v = v} like in
     record { replies = first.replies ∙ rest.replies; nodes = first.nodes ∙ rest.nodes; held = λ a. first.held a ∙ rest.held a }
 
-pub like_outside : {w v : WorldView} → IsLike w v → outside_of w ≡ outside_of v
+pub like_outside : {told : Bool} {w v : WorldView} → IsLike told w v → outside_of told w ≡ outside_of told v
 like_outside (same u) = refl
-like_outside (onward w u v alike like) = join (outside_of w) (outside_of u) (outside_of v) alike.outside (like_outside {w = u} {v = v} like)
+like_outside {told} (onward w u v alike like) = join (outside_of told w) (outside_of told u) (outside_of told v) alike.outside (like_outside {w = u} {v = v} like)
 
-module _ (w : WorldView) (chosen : List ℕ → Bool) (closed : IsClosed w chosen) where
-  stands : (u : WorldView) (is js : List ℕ) → chosen js ≡ true → IsLike u (after_turns w js) → IsFull u is
+module _ (told : Bool) (w : WorldView) (chosen : List ℕ → Bool) (closed : IsClosed told w chosen) where
+  stands : (u : WorldView) (is js : List ℕ) → chosen js ≡ true → IsLike told u (after_turns w js) → IsFull u is
       → (ks : List ℕ) × ((chosen ks ≡ true) × (IsOver (after_turns w ks) × TellTheSame (after_turns u is) (after_turns w ks)))
   stands u [] js e like over =
       (js, (e, ((λ i. sym (like_busy {w = u} {v = after_turns w js} i like) ∙ over i), like_tells {w = u} {v = after_turns w js} like)))
   stands u (i ∷ is) js e like rest =
       let next = closed.goes_on js i e (sym (like_busy {w = u} {v = after_turns w js} i like) ∙ rest.0) in
-      let moved : IsLike (turn full u i) (turn full (after_turns w js) i) = like_turns {w = u} {v = after_turns w js} i like in
-      let here : IsLike (turn full u i) (after_turns w (js ++ i ∷ [])) =
-      subst (λ x. IsLike (turn full u i) x) (sym (after_append w js (i ∷ []))) moved in
-      let there : IsLike (turn full u i) (after_turns w next.0) =
+      let moved : IsLike told (turn full u i) (turn full (after_turns w js) i) = like_turns {w = u} {v = after_turns w js} i like in
+      let here : IsLike told (turn full u i) (after_turns w (js ++ i ∷ [])) =
+      subst (λ x. IsLike told (turn full u i) x) (sym (after_append w js (i ∷ []))) moved in
+      let there : IsLike told (turn full u i) (after_turns w next.0) =
       like_trans {w = turn full u i} {u = after_turns w (js ++ i ∷ [])} {v = after_turns w next.0} here next.1.1 in
       stands (turn full u i) is next.0 next.1.0 there rest.1
 
 pub chosen_lists_stand : ChosenListsStandForAll
-chosen_lists_stand w chosen closed is whole = stands w chosen closed w is [] closed.begins (same w) whole
+chosen_lists_stand told w chosen closed is whole = stands told w chosen closed w is [] closed.begins (same w) whole
 
 -- ---- idle turns
 

@@ -6,6 +6,7 @@ use Rattle.tree_model.specs.Steps.{held_count}
 use Rattle.race_core.specs.declared.seat.Seat.{Seat}
 use Rattle.race_core.specs.Worlds.{WorldView, turn, turn_of, ledgers_in, replies_in}
 use Rattle.race_core.specs.Turns.{turned}
+use Rattle.explore.specs.declared.limits.Scope.{Scope}
 use Rattle.explore.specs.Renamed.{replies_by}
 use Rattle.explore.specs.Alike.{full, after_turns}
 use Rattle.explore.specs.Explored.{AgreeIn, EndingView, IsEnding}
@@ -33,50 +34,50 @@ pub replies_of_seats : (seats : List Seat) → length (replies_in (ledgers_in se
 replies_of_seats [] = refl
 replies_of_seats (seat ∷ seats) = ap suc (replies_of_seats seats)
 
-pub replies_of_all : (w : WorldView) (most : Option ℕ) (e : EndingView) → IsEnding w most e → length e.replies ≡ length w.seats
-replies_of_all w most e is =
+pub replies_of_all : (w : WorldView) (scope : Scope) (e : EndingView) → IsEnding w scope e → length e.replies ≡ length w.seats
+replies_of_all w scope e is =
     ap length is.report.are_replies ∙ replies_of_seats (after_turns w e.turns).seats ∙ actors_stay w e.turns
 
 -- ---- the same outcome
 
-pub agree_same : (w : WorldView) (is : List ℕ) → AgreeIn w is is
-agree_same w is = record { replies = refl; nodes = refl; held = λ a lt. refl; outside = refl }
+pub agree_same : (w : WorldView) (scope : Scope) (is : List ℕ) → AgreeIn w scope is is
+agree_same w scope is = record { replies = refl; nodes = refl; held = λ a lt. refl; outside = refl }
 
-pub agree_turned : (w : WorldView) (is js : List ℕ) → AgreeIn w is js → AgreeIn w js is
-agree_turned w is js h = record {
+pub agree_turned : (w : WorldView) (scope : Scope) (is js : List ℕ) → AgreeIn w scope is js → AgreeIn w scope js is
+agree_turned w scope is js h = record {
   replies = sym h.replies;
   nodes = sym h.nodes;
   held = λ a lt. sym (h.held a (subst (λ n. a < n) (actors_stay w js ∙ sym (actors_stay w is)) lt));
   outside = sym h.outside;
 }
 
-pub agree_on : (w : WorldView) (is js ks : List ℕ) → AgreeIn w is js → AgreeIn w js ks → AgreeIn w is ks
-agree_on w is js ks h k = record {
+pub agree_on : (w : WorldView) (scope : Scope) (is js ks : List ℕ) → AgreeIn w scope is js → AgreeIn w scope js ks → AgreeIn w scope is ks
+agree_on w scope is js ks h k = record {
   replies = h.replies ∙ k.replies;
   nodes = h.nodes ∙ k.nodes;
   held = λ a lt. h.held a lt ∙ k.held a (subst (λ n. a < n) (actors_stay w is ∙ sym (actors_stay w js)) lt);
   outside = h.outside ∙ k.outside;
 }
 
-module _ (w : WorldView) (most : Option ℕ) where
-  pub same_agrees : (e d : EndingView) → IsEnding w most e → IsEnding w most d → SameOutcome e d → AgreeIn w e.turns d.turns
+module _ (w : WorldView) (scope : Scope) where
+  pub same_agrees : (e d : EndingView) → IsEnding w scope e → IsEnding w scope d → SameOutcome e d → AgreeIn w scope e.turns d.turns
   same_agrees e d is js h = record {
     replies = ap (replies_by (λ h. 0)) (sym is.report.are_replies) ∙ h.replies ∙ ap (replies_by (λ h. 0)) js.report.are_replies;
     nodes = ap (λ s. s.nodes) (sym is.report.is_tree) ∙ h.nodes ∙ ap (λ s. s.nodes) js.report.is_tree;
     held = λ a lt.
         ap (λ s. held_count s a) (sym is.report.is_tree)
-        ∙ h.held a (subst (λ n. a < n) (actors_stay w e.turns ∙ sym (replies_of_all w most d js)) lt)
+        ∙ h.held a (subst (λ n. a < n) (actors_stay w e.turns ∙ sym (replies_of_all w scope d js)) lt)
         ∙ ap (λ s. held_count s a) js.report.is_tree;
     outside = sym is.outside ∙ h.outside ∙ js.outside;
   }
 
-  pub agrees_same : (e d : EndingView) → IsEnding w most e → IsEnding w most d → AgreeIn w e.turns d.turns → SameOutcome e d
+  pub agrees_same : (e d : EndingView) → IsEnding w scope e → IsEnding w scope d → AgreeIn w scope e.turns d.turns → SameOutcome e d
   agrees_same e d is js h = record {
     replies = ap (replies_by (λ h. 0)) is.report.are_replies ∙ h.replies ∙ ap (replies_by (λ h. 0)) (sym js.report.are_replies);
     nodes = ap (λ s. s.nodes) is.report.is_tree ∙ h.nodes ∙ ap (λ s. s.nodes) (sym js.report.is_tree);
     held = λ a lt.
         ap (λ s. held_count s a) is.report.is_tree
-        ∙ h.held a (subst (λ n. a < n) (replies_of_all w most d js ∙ sym (actors_stay w e.turns)) lt)
+        ∙ h.held a (subst (λ n. a < n) (replies_of_all w scope d js ∙ sym (actors_stay w e.turns)) lt)
         ∙ ap (λ s. held_count s a) (sym js.report.is_tree);
     outside = is.outside ∙ h.outside ∙ sym js.outside;
   }

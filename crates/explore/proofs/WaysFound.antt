@@ -11,6 +11,7 @@ use Rattle.race_core.specs.Worlds.{WorldView, is_busy_in, is_busy_at}
 use Rattle.turn_graph.specs.declared.graph.Way.{Way}
 use Rattle.turn_graph.specs.Words.{way_of}
 use Rattle.turn_graph.proofs.Leading.{own_way}
+use Rattle.explore.specs.declared.limits.Scope.{Scope}
 use Rattle.explore.specs.declared.layer.Stand.{Stand}
 use Rattle.explore.specs.declared.marks.Marks.{Marks}
 use Rattle.explore.specs.Alike.{full}
@@ -27,8 +28,8 @@ use Rattle.explore.proofs.WaysGrown.{keeps_push, keeps_within, move_on, born_on,
 nothing : {A : Type 0} (k : ℕ) (x : A) → slice_get [] k ≡ Some x → ⊥
 nothing k x e = none-some x e
 
-pub next_none : (w : WorldView) (most : Option ℕ) (layer next : LayerView) → next.worlds ≡ [] → next.stands ≡ [] → IsNext w most layer next
-next_none w most layer next worlds stands = record {
+pub next_none : (w : WorldView) (scope : Scope) (layer next : LayerView) → next.worlds ≡ [] → next.stands ≡ [] → IsNext w scope layer next
+next_none w scope layer next worlds stands = record {
   joined = record { worlds = λ k born there. absurd (no_world k born there); stands = λ t born there. absurd (no_stand t born there) };
   on = λ n on. record { stands = λ t born there. absurd (no_stand t born there); actors = λ k born there. absurd (no_world k born there) };
 }
@@ -41,8 +42,8 @@ next_none w most layer next worlds stands = record {
 
 -- ---- a stand that is put last
 
-pub pushed_there : (most : Option ℕ) (stand : Stand) (old new : List Stand) (t : ℕ) → new ≡ old ++ stand ∷ [] → t ≡ length old → IsThere most stand new t
-pushed_there most stand old new t e q = record {
+pub pushed_there : (scope : Scope) (stand : Stand) (old new : List Stand) (t : ℕ) → new ≡ old ++ stand ∷ [] → t ≡ length old → IsThere scope stand new t
+pushed_there scope stand old new t e q = record {
   other = stand;
   there = ap (λ stands. slice_get stands t) e ∙ (ap (slice_get (old ++ stand ∷ [])) q ∙ slice_get-last old stand);
   world = refl;
@@ -67,10 +68,10 @@ is_more true n = by (suc n == n) refl
     by true e = let q : suc n ≡ n = eqb-true (suc n) n e in absurd (omega (arith, q))
     by false e = refl
 
-pub way_is : (most : Option ℕ) (stand : Stand) (live : LiveView) (i world : ℕ) (next : List Stand) (to : ℕ) (born : Stand)
-    → IsStandAfter stand live i world born → IsThere most born next to
-    → IsWayTo most stand live i world next (record { letter = i; cut = not (born.marks.cuts == stand.marks.cuts); change = not (born.marks.changes == stand.marks.changes); to = to })
-way_is most stand live i world next to born after there = record {
+pub way_is : (scope : Scope) (stand : Stand) (live : LiveView) (i world : ℕ) (next : List Stand) (to : ℕ) (born : Stand)
+    → IsStandAfter stand live i world born → IsThere scope born next to
+    → IsWayTo scope stand live i world next (record { letter = i; cut = not (born.marks.cuts == stand.marks.cuts); change = not (born.marks.changes == stand.marks.changes); to = to })
+way_is scope stand live i world next to born after there = record {
   letter = refl;
   cut = ap (λ (marks : Marks). not (marks.cuts == stand.marks.cuts)) after.marks ∙ is_more (is_cut live.world.seats stand.marks.last i) stand.marks.cuts;
   change = ap (λ (marks : Marks). not (marks.changes == stand.marks.changes)) after.marks ∙ is_more (is_another stand.marks.last i) stand.marks.changes;
@@ -81,43 +82,43 @@ way_is most stand live i world next to born after there = record {
 
 -- ---- one actor's turn from a stand
 
-module _ (w : WorldView) (most : Option ℕ) (layer : LayerView) (stand : Stand) (live : LiveView) (i : ℕ) (onward_from : IsOnward most layer stand live i) where
+module _ (w : WorldView) (scope : Scope) (layer : LayerView) (stand : Stand) (live : LiveView) (i : ℕ) (onward_from : IsOnward scope layer stand live i) where
   -- an earlier stand's move from the same world, or the world that was put there
-  pub move_there : (old : LayerView) (new : List LiveView) (all : List (Vec Way)) (k : ℕ) → Keeps old.worlds new → AreFirstWays w most layer old all
-      → IsKnown layer.stands all old.stands stand.world i k ⊎ Leads w (stand.turns.items ++ i ∷ []) new k → IsMove w most layer stand.world i new k
+  pub move_there : (old : LayerView) (new : List LiveView) (all : List (Vec Way)) (k : ℕ) → Keeps old.worlds new → AreFirstWays w scope layer old all
+      → IsKnown layer.stands all old.stands stand.world i k ⊎ Leads scope.outside w (stand.turns.items ++ i ∷ []) new k → IsMove w scope layer stand.world i new k
   move_there old new all k keeps first (inr leads) = record { stand = stand; live = live; onward = onward_from; same = refl; leads = leads }
   move_there old new all k keeps first (inl known) =
       let on : slice_get layer.worlds known.stand.world ≡ Some live = ap (slice_get layer.worlds) known.same ∙ onward_from.on in
       let by = (first known.s known.stand live known.ways known.there on known.ways_there).each known.at known.way known.way_there in
       let same : by.after.after ≡ known.after = same_Some by.after.after known.after (sym by.after.there ∙ known.after_there) in
-      move_on w most layer stand.world i old.worlds new k keeps
-      (subst (λ m. IsMove w most layer m i old.worlds k) known.same
-      (subst (λ j. IsMove w most layer known.stand.world j old.worlds k) known.letter
-      (subst (λ j. IsMove w most layer known.stand.world known.way.letter old.worlds j) (ap (λ (s : Stand). s.world) same ∙ known.leads) by.after.move)))
+      move_on w scope layer stand.world i old.worlds new k keeps
+      (subst (λ m. IsMove w scope layer m i old.worlds k) known.same
+      (subst (λ j. IsMove w scope layer known.stand.world j old.worlds k) known.letter
+      (subst (λ j. IsMove w scope layer known.stand.world known.way.letter old.worlds j) (ap (λ (s : Stand). s.world) same ∙ known.leads) by.after.move)))
 
   -- the worlds have grown
-  pub next_worlds : (old new : LayerView) → new.stands ≡ old.stands → Keeps old.worlds new.worlds → AreWorldsAfter w (stand.turns.items ++ i ∷ []) old.worlds new.worlds
-      → length w.seats ≤ ACTORS_MAX → IsNext w most layer old → IsNext w most layer new
+  pub next_worlds : (old new : LayerView) → new.stands ≡ old.stands → Keeps old.worlds new.worlds → AreWorldsAfter w scope.outside (stand.turns.items ++ i ∷ []) old.worlds new.worlds
+      → length w.seats ≤ ACTORS_MAX → IsNext w scope layer old → IsNext w scope layer new
   next_worlds old new same keeps are few is = record {
-    joined = record { worlds = worlds; stands = λ t born there. born_on w most layer old.worlds new.worlds born keeps (is.joined.stands t born (was t born there)) };
+    joined = record { worlds = worlds; stands = λ t born there. born_on w scope layer old.worlds new.worlds born keeps (is.joined.stands t born (was t born there)) };
     on = λ n on. record {
       stands = λ t born there. let old_on = (is.on n on).stands t born (was t born there) in
           record { on = keeps_within old.worlds new.worlds born.world keeps old_on.on; long = old_on.long; few = old_on.few };
-      actors = λ k born there. ⊎_elim (λ before. (is.on n on).actors k born before) (λ after. subst (λ m. m ≤ ACTORS_MAX) (sym after.1.1) few) (are k born there);
+      actors = λ k born there. ⊎_elim (λ before. (is.on n on).actors k born before) (λ after. subst (λ m. m ≤ ACTORS_MAX) (sym after.1.1.0) few) (are k born there);
     };
   }
     where
       was : (t : ℕ) (born : Stand) → slice_get new.stands t ≡ Some born → slice_get old.stands t ≡ Some born
       was t born there = ap (λ stands. slice_get stands t) (sym same) ∙ there
 
-      worlds : (k : ℕ) (born : LiveView) → slice_get new.worlds k ≡ Some born → IsBornWorld w most layer born
+      worlds : (k : ℕ) (born : LiveView) → slice_get new.worlds k ≡ Some born → IsBornWorld w scope layer born
       worlds k born there = ⊎_elim (λ before. is.joined.worlds k born before)
-          (λ after. record { stand = stand; live = live; i = i; onward = onward_from; turns = after.0; led = after.1.0 }) (are k born there)
+          (λ after. record { stand = stand; live = live; i = i; onward = onward_from; turns = after.0; told = after.1.1.1; led = after.1.0 }) (are k born there)
 
   -- the stands have grown
-  module _ (k : ℕ) (old new : LayerView) (worlds : new.worlds ≡ old.worlds) (move : IsMove w most layer stand.world i old.worlds k) where
-    new_move : (m : ℕ) → m ≡ k → IsMove w most layer stand.world i new.worlds m
-    new_move m e = subst (λ lives. IsMove w most layer stand.world i lives m) (sym worlds) (subst (λ n. IsMove w most layer stand.world i old.worlds n) (sym e) move)
+  module _ (k : ℕ) (old new : LayerView) (worlds : new.worlds ≡ old.worlds) (move : IsMove w scope layer stand.world i old.worlds k) where
+    new_move : (m : ℕ) → m ≡ k → IsMove w scope layer stand.world i new.worlds m
+    new_move m e = subst (λ lives. IsMove w scope layer stand.world i lives m) (sym worlds) (subst (λ n. IsMove w scope layer stand.world i old.worlds n) (sym e) move)
 
     within : (m : ℕ) → m ≡ k → m < length new.worlds
     within m e = let is = new_move m e in slice_get_within new.worlds m is.leads.live is.leads.there
@@ -125,7 +126,7 @@ module _ (w : WorldView) (most : Option ℕ) (layer : LayerView) (stand : Stand)
     keeps : Keeps old.worlds new.worlds
     keeps m live there = ap (λ lives. slice_get lives m) worlds ∙ there
 
-    born_stand : (born : Stand) → IsStandAfter stand live i k born → IsBornStand w most layer new.worlds born
+    born_stand : (born : Stand) → IsStandAfter stand live i k born → IsBornStand w scope layer new.worlds born
     born_stand born after = record {
       stand = stand;
       live = live;
@@ -148,11 +149,11 @@ module _ (w : WorldView) (most : Option ℕ) (layer : LayerView) (stand : Stand)
               (turn_within (point_at live stand) (onward full (point_at live stand) i) i n (full, refl) before.few));
         }
 
-    pub next_stands : AreStandsAfter stand live i k old.stands new.stands → IsNext w most layer old → IsNext w most layer new
+    pub next_stands : AreStandsAfter stand live i k old.stands new.stands → IsNext w scope layer old → IsNext w scope layer new
     next_stands are is = record {
       joined = record {
         worlds = λ m born there. is.joined.worlds m born (ap (λ lives. slice_get lives m) (sym worlds) ∙ there);
-        stands = λ t born there. ⊎_elim (λ before. born_on w most layer old.worlds new.worlds born keeps (is.joined.stands t born before)) (born_stand born) (are t born there);
+        stands = λ t born there. ⊎_elim (λ before. born_on w scope layer old.worlds new.worlds born keeps (is.joined.stands t born before)) (born_stand born) (are t born there);
       };
       on = λ n on. record {
         stands = λ t born there. ⊎_elim
@@ -163,7 +164,7 @@ module _ (w : WorldView) (most : Option ℕ) (layer : LayerView) (stand : Stand)
       };
     }
 
-    pub way_there : (way : Way) → IsWayTo most stand live i k new.stands way → IsWayBy w most layer new stand live i way
+    pub way_there : (way : Way) → IsWayTo scope stand live i k new.stands way → IsWayBy w scope layer new stand live i way
     way_there way to = record {
       may = onward_from.may;
       letter = to.letter;
@@ -173,15 +174,15 @@ module _ (w : WorldView) (most : Option ℕ) (layer : LayerView) (stand : Stand)
         after = to.there.other;
         there = to.there.there;
         last = to.there.last ∙ ap (λ (m : Marks). m.last) to.after.marks;
-        cuts = to.there.cuts ∙ ap (λ (m : Marks). bounded_cuts most m.cuts) to.after.marks;
+        cuts = to.there.cuts ∙ ap (λ (m : Marks). bounded_cuts scope.cuts m.cuts) to.after.marks;
         move = new_move to.there.other.world (to.there.world ∙ to.after.on);
       };
     }
 
 -- ---- the ways from a stand
 
-module _ (w : WorldView) (most : Option ℕ) (layer next : LayerView) (stand : Stand) (live : LiveView) where
-  pub below_none : AreWaysBelow w most layer next stand live 0 []
+module _ (w : WorldView) (scope : Scope) (layer next : LayerView) (stand : Stand) (live : LiveView) where
+  pub below_none : AreWaysBelow w scope layer next stand live 0 []
   below_none = record {
     all = λ i lt may. absurd (omega (arith, lt));
     each = λ k way there. absurd (nothing k way there);
@@ -189,30 +190,30 @@ module _ (w : WorldView) (most : Option ℕ) (layer next : LayerView) (stand : S
     apart = λ k l v u there. absurd (nothing k v there);
   }
 
-  module _ (n : ℕ) (ways : List Way) (are : AreWaysBelow w most layer next stand live n ways) where
+  module _ (n : ℕ) (ways : List Way) (are : AreWaysBelow w scope layer next stand live n ways) where
     less : (k : ℕ) (way : Way) → slice_get ways k ≡ Some way → way.letter < n + 1
     less k way there = let lt : way.letter < n = are.below k way there in omega arith
 
     -- that actor may not have the next turn
-    pub below_other : (MayGo most (point_at live stand) n → ⊥) → AreWaysBelow w most layer next stand live (n + 1) ways
+    pub below_other : (MayGo scope (point_at live stand) n → ⊥) → AreWaysBelow w scope layer next stand live (n + 1) ways
     below_other not_so = record {
-      all = λ i lt may. ⊎_elim (λ l. are.all i l may) (λ e. absurd (not_so (subst (λ j. MayGo most (point_at live stand) j) e may))) (at_or_below i n lt);
+      all = λ i lt may. ⊎_elim (λ l. are.all i l may) (λ e. absurd (not_so (subst (λ j. MayGo scope (point_at live stand) j) e may))) (at_or_below i n lt);
       each = are.each;
       below = less;
       apart = are.apart;
     }
 
     -- it may, and this is its way
-    module _ (way : Way) (by : IsWayBy w most layer next stand live n way) where
+    module _ (way : Way) (by : IsWayBy w scope layer next stand live n way) where
       own : IsOneBy (ways ++ way ∷ []) n way
       own = (length ways, (slice_get-last ways way, by.letter))
 
       later : (i : ℕ) → (v : Way) × IsOneBy ways i v → (v : Way) × IsOneBy (ways ++ way ∷ []) i v
       later i found = (found.0, (found.1.0, (keeps_push ways way found.1.0 found.0 found.1.1.0, found.1.1.1)))
 
-      is_by : (v : Way) → v ≡ way → IsWayBy w most layer next stand live v.letter v
+      is_by : (v : Way) → v ≡ way → IsWayBy w scope layer next stand live v.letter v
       is_by v e =
-          subst (λ (u : Way). IsWayBy w most layer next stand live u.letter u) (sym e) (subst (λ j. IsWayBy w most layer next stand live j way) (sym by.letter) by)
+          subst (λ (u : Way). IsWayBy w scope layer next stand live u.letter u) (sym e) (subst (λ j. IsWayBy w scope layer next stand live j way) (sym by.letter) by)
 
       last_is : (v : Way) → v ≡ way → v.letter ≡ n
       last_is v e = ap (λ (u : Way). u.letter) e ∙ by.letter
@@ -223,7 +224,7 @@ module _ (w : WorldView) (most : Option ℕ) (layer next : LayerView) (stand : S
           let same : v.letter ≡ n = q ∙ last_is u e in
           absurd (omega (arith, lt, same))
 
-      pub below_more : AreWaysBelow w most layer next stand live (n + 1) (ways ++ way ∷ [])
+      pub below_more : AreWaysBelow w scope layer next stand live (n + 1) (ways ++ way ∷ [])
       below_more = record {
         all = λ i lt may. ⊎_elim (λ l. later i (are.all i l may)) (λ e. subst (λ j. (v : Way) × IsOneBy (ways ++ way ∷ []) j v) (sym e) (way, own)) (at_or_below i n lt);
         each = λ k v there. ⊎_elim (are.each k v) (λ last. is_by v last.1) (get_push ways way k v there);
@@ -243,7 +244,7 @@ module _ (w : WorldView) (most : Option ℕ) (layer next : LayerView) (stand : S
       by (Some seat) e b = slice_get_within seats i seat e
 
   -- all actors have been asked
-  pub below_all : (n : ℕ) (ways : List Way) → n ≡ length live.world.seats → AreWaysBelow w most layer next stand live n ways → AreWaysBy w most layer next stand live ways
+  pub below_all : (n : ℕ) (ways : List Way) → n ≡ length live.world.seats → AreWaysBelow w scope layer next stand live n ways → AreWaysBy w scope layer next stand live ways
   below_all n ways e are = record {
     all = λ i may.
         let lt : i < n = subst (λ m. i < m) (sym e) (busy_within live.world.seats i may.busy) in
@@ -255,11 +256,11 @@ module _ (w : WorldView) (most : Option ℕ) (layer next : LayerView) (stand : S
 
 -- ---- the ways from all stands
 
-pub first_more : (w : WorldView) (most : Option ℕ) (layer next : LayerView) (all : List (Vec Way)) (ways : Vec Way)
-    → AreFirstWays w most layer next all → AreWaysAt w most layer next (length all) ways.items → AreFirstWays w most layer next (all ++ ways ∷ [])
-first_more w most layer next all ways are own s stand live these there on at =
+pub first_more : (w : WorldView) (scope : Scope) (layer next : LayerView) (all : List (Vec Way)) (ways : Vec Way)
+    → AreFirstWays w scope layer next all → AreWaysAt w scope layer next (length all) ways.items → AreFirstWays w scope layer next (all ++ ways ∷ [])
+first_more w scope layer next all ways are own s stand live these there on at =
     ⊎_elim (are s stand live these there on)
-    (λ last. subst (λ (vs : Vec Way). AreWaysBy w most layer next stand live vs.items) (sym last.1) (own stand live (ap (slice_get layer.stands) (sym last.0) ∙ there) on))
+    (λ last. subst (λ (vs : Vec Way). AreWaysBy w scope layer next stand live vs.items) (sym last.1) (own stand live (ap (slice_get layer.stands) (sym last.0) ∙ there) on))
     (get_push all ways s these at)
 
 -- ---- the stand that is gone on from, and one actor after another
@@ -273,14 +274,14 @@ few_marks marks n lt within =
     let b : marks.changes ≤ n = within.changes in
     record { cuts = omega (arith, a, lt); changes = omega (arith, b, lt) }
 
-pub ways_at : (w : WorldView) (most : Option ℕ) (layer next : LayerView) (s : ℕ) (stand : Stand) (live : LiveView) (ways : List Way)
-    → slice_get layer.stands s ≡ Some stand → slice_get layer.worlds stand.world ≡ Some live → AreWaysBy w most layer next stand live ways → AreWaysAt w most layer next s ways
-ways_at w most layer next s stand live ways here on are stand' live' there on' =
+pub ways_at : (w : WorldView) (scope : Scope) (layer next : LayerView) (s : ℕ) (stand : Stand) (live : LiveView) (ways : List Way)
+    → slice_get layer.stands s ≡ Some stand → slice_get layer.worlds stand.world ≡ Some live → AreWaysBy w scope layer next stand live ways → AreWaysAt w scope layer next s ways
+ways_at w scope layer next s stand live ways here on are stand' live' there on' =
     let same : stand ≡ stand' = same_Some stand stand' (sym here ∙ there) in
     let alive : live ≡ live' = same_Some live live' (sym on ∙ (ap (λ (st : Stand). slice_get layer.worlds st.world) same ∙ on')) in
-    subst (λ (st : Stand). AreWaysBy w most layer next st live' ways) same (subst (λ (l : LiveView). AreWaysBy w most layer next stand l ways) alive are)
+    subst (λ (st : Stand). AreWaysBy w scope layer next st live' ways) same (subst (λ (l : LiveView). AreWaysBy w scope layer next stand l ways) alive are)
 
-module _ (w : WorldView) (most : Option ℕ) (layer : LayerView) (stand : Stand) (live : LiveView) (i k : ℕ) (from : IsOnward most layer stand live i)
+module _ (w : WorldView) (scope : Scope) (layer : LayerView) (stand : Stand) (live : LiveView) (i k : ℕ) (from : IsOnward scope layer stand live i)
     (old mid new : LayerView) (stands_same : mid.stands ≡ old.stands) (worlds_same : new.worlds ≡ mid.worlds)
     (keeps_worlds : Keeps old.worlds mid.worlds) (keeps_stands : Keeps mid.stands new.stands) where
   pub grown : Grows old new
@@ -289,18 +290,18 @@ module _ (w : WorldView) (most : Option ℕ) (layer : LayerView) (stand : Stand)
     stands = λ t x e. keeps_stands t x (ap (λ xs. slice_get xs t) stands_same ∙ e);
   }
 
-  module _ (all : List (Vec Way)) (first : AreFirstWays w most layer old all)
-      (leads : IsKnown layer.stands all old.stands stand.world i k ⊎ Leads w (stand.turns.items ++ i ∷ []) mid.worlds k) where
-    moved : IsMove w most layer stand.world i mid.worlds k
-    moved = move_there w most layer stand live i from old mid.worlds all k keeps_worlds first leads
+  module _ (all : List (Vec Way)) (first : AreFirstWays w scope layer old all)
+      (leads : IsKnown layer.stands all old.stands stand.world i k ⊎ Leads scope.outside w (stand.turns.items ++ i ∷ []) mid.worlds k) where
+    moved : IsMove w scope layer stand.world i mid.worlds k
+    moved = move_there w scope layer stand live i from old mid.worlds all k keeps_worlds first leads
 
-    pub turned : AreWorldsAfter w (stand.turns.items ++ i ∷ []) old.worlds mid.worlds → AreStandsAfter stand live i k mid.stands new.stands
-        → length w.seats ≤ ACTORS_MAX → IsNext w most layer old → IsNext w most layer new
+    pub turned : AreWorldsAfter w scope.outside (stand.turns.items ++ i ∷ []) old.worlds mid.worlds → AreStandsAfter stand live i k mid.stands new.stands
+        → length w.seats ≤ ACTORS_MAX → IsNext w scope layer old → IsNext w scope layer new
     turned worlds stands few is =
-        next_stands w most layer stand live i from k mid new worlds_same moved stands (next_worlds w most layer stand live i from old mid stands_same keeps_worlds worlds few is)
+        next_stands w scope layer stand live i from k mid new worlds_same moved stands (next_worlds w scope layer stand live i from old mid stands_same keeps_worlds worlds few is)
 
-    pub taken : (way : Way) → IsWayTo most stand live i k new.stands way → (ways : List Way)
-        → AreWaysBelow w most layer old stand live i ways → AreWaysBelow w most layer new stand live (i + 1) (ways ++ way ∷ [])
+    pub taken : (way : Way) → IsWayTo scope stand live i k new.stands way → (ways : List Way)
+        → AreWaysBelow w scope layer old stand live i ways → AreWaysBelow w scope layer new stand live (i + 1) (ways ++ way ∷ [])
     taken way to ways are =
-        below_more w most layer new stand live i ways (below_on w most layer old new grown stand live i ways are)
-        way (way_there w most layer stand live i from k mid new worlds_same moved way to)
+        below_more w scope layer new stand live i ways (below_on w scope layer old new grown stand live i ways are)
+        way (way_there w scope layer stand live i from k mid new worlds_same moved way to)

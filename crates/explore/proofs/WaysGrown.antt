@@ -5,6 +5,7 @@ use Rattle.std.proofs.Common.{arith}
 use Rattle.std.proofs.lemmas.Option.{none-some, slice_get_within}
 use Rattle.race_core.specs.Worlds.{WorldView}
 use Rattle.turn_graph.specs.declared.graph.Way.{Way}
+use Rattle.explore.specs.declared.limits.Scope.{Scope}
 use Rattle.explore.specs.declared.layer.Stand.{Stand}
 use Rattle.explore.specs.Layers.{LiveView, LayerView, Keeps, Leads, IsMove, IsBornStand, IsWayBy, AreWaysBy}
 use Rattle.explore.specs.Spreading.{AreWaysBelow, AreFirstWays, Grows}
@@ -38,11 +39,11 @@ grows_on old mid new first then = record {
   stands = keeps_on old.stands mid.stands new.stands first.stands then.stands;
 }
 
-module _ (w : WorldView) (most : Option ℕ) (layer : LayerView) where
-  leads_on : (turns : List ℕ) (old new : List LiveView) (k : ℕ) → Keeps old new → Leads w turns old k → Leads w turns new k
+module _ (w : WorldView) (scope : Scope) (layer : LayerView) where
+  leads_on : (turns : List ℕ) (old new : List LiveView) (k : ℕ) → Keeps old new → Leads scope.outside w turns old k → Leads scope.outside w turns new k
   leads_on turns old new k keeps leads = record { live = leads.live; there = keeps k leads.live leads.there; by = leads.by }
 
-  pub move_on : (m i : ℕ) (old new : List LiveView) (k : ℕ) → Keeps old new → IsMove w most layer m i old k → IsMove w most layer m i new k
+  pub move_on : (m i : ℕ) (old new : List LiveView) (k : ℕ) → Keeps old new → IsMove w scope layer m i old k → IsMove w scope layer m i new k
   move_on m i old new k keeps move = record {
     stand = move.stand;
     live = move.live;
@@ -51,7 +52,7 @@ module _ (w : WorldView) (most : Option ℕ) (layer : LayerView) where
     leads = leads_on (move.stand.turns.items ++ i ∷ []) old new k keeps move.leads;
   }
 
-  pub born_on : (old new : List LiveView) (born : Stand) → Keeps old new → IsBornStand w most layer old born → IsBornStand w most layer new born
+  pub born_on : (old new : List LiveView) (born : Stand) → Keeps old new → IsBornStand w scope layer old born → IsBornStand w scope layer new born
   born_on old new born keeps is = record {
     stand = is.stand;
     live = is.live;
@@ -63,7 +64,7 @@ module _ (w : WorldView) (most : Option ℕ) (layer : LayerView) where
   }
 
   module _ (old new : LayerView) (grows : Grows old new) where
-    way_on : (stand : Stand) (live : LiveView) (i : ℕ) (way : Way) → IsWayBy w most layer old stand live i way → IsWayBy w most layer new stand live i way
+    way_on : (stand : Stand) (live : LiveView) (i : ℕ) (way : Way) → IsWayBy w scope layer old stand live i way → IsWayBy w scope layer new stand live i way
     way_on stand live i way by = let after = by.after in record {
       may = by.may;
       letter = by.letter;
@@ -78,14 +79,14 @@ module _ (w : WorldView) (most : Option ℕ) (layer : LayerView) where
       };
     }
 
-    ways_on : (stand : Stand) (live : LiveView) (ways : List Way) → AreWaysBy w most layer old stand live ways → AreWaysBy w most layer new stand live ways
+    ways_on : (stand : Stand) (live : LiveView) (ways : List Way) → AreWaysBy w scope layer old stand live ways → AreWaysBy w scope layer new stand live ways
     ways_on stand live ways are = record {
       all = are.all;
       each = λ k way there. way_on stand live way.letter way (are.each k way there);
       apart = are.apart;
     }
 
-    pub below_on : (stand : Stand) (live : LiveView) (n : ℕ) (ways : List Way) → AreWaysBelow w most layer old stand live n ways → AreWaysBelow w most layer new stand live n ways
+    pub below_on : (stand : Stand) (live : LiveView) (n : ℕ) (ways : List Way) → AreWaysBelow w scope layer old stand live n ways → AreWaysBelow w scope layer new stand live n ways
     below_on stand live n ways are = record {
       all = are.all;
       each = λ k way there. way_on stand live way.letter way (are.each k way there);
@@ -93,5 +94,5 @@ module _ (w : WorldView) (most : Option ℕ) (layer : LayerView) where
       apart = are.apart;
     }
 
-    pub first_on : (all : List (Vec Way)) → AreFirstWays w most layer old all → AreFirstWays w most layer new all
+    pub first_on : (all : List (Vec Way)) → AreFirstWays w scope layer old all → AreFirstWays w scope layer new all
     first_on all are s stand live ways there on at = ways_on stand live ways.items (are s stand live ways there on at)

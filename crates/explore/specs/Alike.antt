@@ -22,7 +22,8 @@ Pairs = ℕ → ℕ → Bool
 abbrev pub Agree : Pairs → (ℕ → ℕ) → (ℕ → ℕ) → Type 0
 Agree pairs f g = (h k : ℕ) → pairs h k ≡ true → f h ≡ g k
 
--- Two things are the same but for handles that are paired: whatever replacements give pairs one number make them equal.
+-- Two things are the same but for handles that are paired: whatever replacements give pairs one number make them
+-- equal.
 abbrev pub SameSteps : Pairs → StepOf ℕ → StepOf ℕ → Type 0
 SameSteps pairs s t = (f g : ℕ → ℕ) → Agree pairs f g → step_by f s ≡ step_by g t
 
@@ -79,9 +80,11 @@ abbrev pub after_turns : WorldView → List ℕ → WorldView
 after_turns w [] = w
 after_turns w (i ∷ is) = after_turns (turn full w i) is
 
--- what two worlds tell is the same: the replies of their actors but for numbers of handles, the nodes, the counts of handles
+-- what two worlds tell is the same: the replies of their actors but for numbers of handles, the nodes, the counts of
+-- handles
 pub record TellTheSame (w v : WorldView) : Type 0 where
-  pub replies : replies_by (λ h. 0) (replies_in (ledgers_in w.seats)) ≡ replies_by (λ h. 0) (replies_in (ledgers_in v.seats))
+  pub replies : replies_by (λ h. 0) (replies_in (ledgers_in w.seats))
+      ≡ replies_by (λ h. 0) (replies_in (ledgers_in v.seats))
   pub nodes : (tree_now w.book).nodes ≡ (tree_now v.book).nodes
   pub held : (a : ℕ) → held_count (tree_now w.book) a ≡ held_count (tree_now v.book) a
 

@@ -6,8 +6,10 @@ use Rattle.race_core.specs.Book.{BookedHistory, tree_now, booked}
 use Rattle.race_core.specs.Worlds.{WorldView}
 use Rattle.explore.specs.Outside.{outside_from, roots_of}
 
--- the directories that are actors' roots, how many changes each actor has made outside of its own, and the nodes as they are
+-- whether changes are told; the directories that are the roots of those whose are, how many changes each of them has
+-- made outside of its own, and, where there is one, the nodes as they are
 pub record TallyView : Type 0 where
+  pub told : Bool
   pub roots : List (Option ℕ)
   pub counts : List ℕ
   pub nodes : List Inode
@@ -15,11 +17,11 @@ pub record TallyView : Type 0 where
 -- all events of the book are counted
 pub record IsCounted (book : BookedHistory) (tally : TallyView) : Type 0 where
   pub counts_are : tally.counts ≡ outside_from book 0 tally.roots
-  pub nodes_are : tally.nodes ≡ (tree_now book).nodes
+  pub nodes_are : tally.told ≡ true → tally.nodes ≡ (tree_now book).nodes
 
--- and the roots are those of the world's actors
+-- and the roots are those of the world's actors whose changes are told
 pub record IsTally (w : WorldView) (tally : TallyView) : Type 0 where
-  pub roots_are : tally.roots ≡ roots_of w
+  pub roots_are : tally.roots ≡ roots_of tally.told w
   pub counted : IsCounted w.book tally
 
 -- one more at that place, if it is so

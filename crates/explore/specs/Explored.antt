@@ -1,5 +1,5 @@
 -- What is asked of a search of all schedules of a world, and what it tells.
-use Rattle.std.specs.Prelude.{◌≡◌, ◌<◌, ◌≤◌, ℕ, List, [], ◌∷◌, true, length, Option, Some, None, slice_get}
+use Rattle.std.specs.Prelude.{◌≡◌, ◌<◌, ◌≤◌, ℕ, List, [], ◌∷◌, Bool, true, length, Option, Some, None, slice_get}
 use Rattle.tree_model.specs.declared.answer.Event.{Event}
 use Rattle.tree_model.specs.State.{State}
 use Rattle.tree_model.specs.Steps.{held_count}
@@ -8,6 +8,7 @@ use Rattle.race_core.specs.declared.opening.TheConstants.{ACTORS_MAX}
 use Rattle.race_core.specs.declared.report.Outcome.{Outcome}
 use Rattle.race_core.specs.Book.{tree_now}
 use Rattle.race_core.specs.Worlds.{WorldView, turn, is_busy_at, ledgers_in, replies_in, Reports}
+use Rattle.explore.specs.declared.limits.Scope.{Scope}
 use Rattle.explore.specs.declared.limits.Limits.{Limits}
 use Rattle.explore.specs.declared.limits.SearchFault.{SearchFault}
 use Rattle.explore.specs.declared.limits.SearchFault.TheVariants as fault
@@ -22,33 +23,35 @@ use Rattle.explore.specs.Outside.{outside_of}
 -- at most so many, if there is a bound
 abbrev pub IsWithin : Option ℕ → ℕ → Type 0
 IsWithin None n = Unit {0}
-IsWithin (Some most) n = n ≤ most
+IsWithin (Some scope) n = n ≤ scope
 
 -- a full list with at most so many cuts
-pub record IsAsked (w : WorldView) (most : Option ℕ) (is : List ℕ) : Type 0 where
+pub record IsAsked (w : WorldView) (scope : Scope) (is : List ℕ) : Type 0 where
   pub whole : IsFull w is
-  pub few_cuts : IsWithin most (cuts w is)
+  pub few_cuts : IsWithin scope.cuts (cuts w is)
 
 -- each turn is of an actor who has something left to do then
 abbrev pub AreBusy : WorldView → List ℕ → Type 0
 AreBusy w [] = Unit {0}
 AreBusy w (i ∷ is) = (is_busy_at w.seats i ≡ true) × AreBusy (turn full w i) is
 
--- The same outcome: the replies but for the numbers of handles, the nodes of the tree, how many handles each actor has open, and
--- how many changes it has made outside of its root.
-pub record TellAlike (w v : WorldView) : Type 0 where
-  pub replies : replies_by (λ h. 0) (replies_in (ledgers_in w.seats)) ≡ replies_by (λ h. 0) (replies_in (ledgers_in v.seats))
+-- The same outcome: the replies but for the numbers of handles, the nodes of the tree, how many handles each actor
+-- has open, and, where that is told, how many changes it has made outside of its root.
+pub record TellAlike (told : Bool) (w v : WorldView) : Type 0 where
+  pub replies : replies_by (λ h. 0) (replies_in (ledgers_in w.seats))
+      ≡ replies_by (λ h. 0) (replies_in (ledgers_in v.seats))
   pub nodes : (tree_now w.book).nodes ≡ (tree_now v.book).nodes
   pub held : (a : ℕ) → a < length w.seats → held_count (tree_now w.book) a ≡ held_count (tree_now v.book) a
-  pub outside : outside_of w ≡ outside_of v
+  pub outside : outside_of told w ≡ outside_of told v
 
 -- the two lists lead to the same outcome
-abbrev pub AgreeIn : WorldView → List ℕ → List ℕ → Type 0
-AgreeIn w is js = TellAlike (after_turns w is) (after_turns w js)
+abbrev pub AgreeIn : WorldView → Scope → List ℕ → List ℕ → Type 0
+AgreeIn w scope is js = TellAlike scope.outside (after_turns w is) (after_turns w js)
 
 -- ---- what is found
 
--- a list of turns, how many cuts and changes of actor it has, its report, and how many changes each actor made outside of its root
+-- a list of turns, how many cuts and changes of actor it has, its report, and, where that is told, how many changes
+-- each actor made outside of its root
 pub record EndingView : Type 0 where
   pub turns : List ℕ
   pub cuts : ℕ
@@ -65,34 +68,36 @@ pub record ClassView : Type 0 where
   pub lists : ℕ
 
 -- that list is asked for, and this is its report
-pub record IsEnding (w : WorldView) (most : Option ℕ) (ending : EndingView) : Type 0 where
-  pub asked : IsAsked w most ending.turns
+pub record IsEnding (w : WorldView) (scope : Scope) (ending : EndingView) : Type 0 where
+  pub asked : IsAsked w scope ending.turns
   pub ranked : record { cuts = ending.cuts; changes = ending.changes; turns = ending.turns } ≡ rank w ending.turns
-  pub report : Reports (after_turns w ending.turns).book (ledgers_in (after_turns w ending.turns).seats) ending.tree ending.events ending.replies ending.kept
-  pub outside : ending.outside ≡ outside_of (after_turns w ending.turns)
+  pub report : Reports (after_turns w ending.turns).book
+      (ledgers_in (after_turns w ending.turns).seats) ending.tree ending.events ending.replies ending.kept
+  pub outside : ending.outside ≡ outside_of scope.outside (after_turns w ending.turns)
 
 -- one of the classes has this list's outcome
-pub record HasClass (w : WorldView) (classes : List ClassView) (is : List ℕ) : Type 0 where
+pub record HasClass (w : WorldView) (scope : Scope) (classes : List ClassView) (is : List ℕ) : Type 0 where
   pub at : ℕ
   pub class : ClassView
   pub there : slice_get classes at ≡ Some class
-  pub agrees : AgreeIn w is class.least.turns
+  pub agrees : AgreeIn w scope is class.least.turns
 
 -- some list that is asked for has so many turns, and none has more
-pub record IsLongest (w : WorldView) (most : Option ℕ) (turns : ℕ) : Type 0 where
-  pub reached : (is : List ℕ) × (IsAsked w most is × (length is ≡ turns))
-  pub bounded : (is : List ℕ) → IsAsked w most is → length is ≤ turns
+pub record IsLongest (w : WorldView) (scope : Scope) (turns : ℕ) : Type 0 where
+  pub reached : (is : List ℕ) × (IsAsked w scope is × (length is ≡ turns))
+  pub bounded : (is : List ℕ) → IsAsked w scope is → length is ≤ turns
 
 -- ---- why nothing is told
 
--- each turn of the list is of an actor who has something left to do then, there are few cuts, and more turns than so many
-pub record IsTooLong (w : WorldView) (most : Option ℕ) (turns : ℕ) (is : List ℕ) : Type 0 where
+-- each turn of the list is of an actor who has something left to do then, there are few cuts, and more turns than so
+-- many
+pub record IsTooLong (w : WorldView) (scope : Scope) (turns : ℕ) (is : List ℕ) : Type 0 where
   pub busy : AreBusy w is
-  pub few_cuts : IsWithin most (cuts w is)
+  pub few_cuts : IsWithin scope.cuts (cuts w is)
   pub more : turns < length is
 
 abbrev pub WhyNot : WorldView → Limits → SearchFault → Type 0
 WhyNot w limits fault.TooManyActors = ACTORS_MAX < length w.seats
-WhyNot w limits fault.TooManyTurns = (is : List ℕ) × IsTooLong w limits.cuts limits.turns is
+WhyNot w limits fault.TooManyTurns = (is : List ℕ) × IsTooLong w limits.scope limits.turns is
 WhyNot w limits fault.TooManyStates = Unit {0}
 WhyNot w limits fault.NoMemory = Unit {0}

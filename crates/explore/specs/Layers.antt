@@ -1,5 +1,5 @@
 -- Layers of worlds, one of alike worlds each, and where lists of turns stand among them.
-use Rattle.std.specs.Prelude.{◌≡◌, ◌<◌, ◌≤◌, ◌⊎◌, ℕ, suc, List, [], ◌∷◌, ◌++◌, true, length, Option, Some, None, slice_get}
+use Rattle.std.specs.Prelude.{◌≡◌, ◌<◌, ◌≤◌, ◌⊎◌, ℕ, suc, List, [], ◌∷◌, ◌++◌, Bool, true, length, Option, Some, None, slice_get}
 use Rattle.std.specs.Global.{Vec}
 use Rattle.race_core.specs.declared.opening.TheConstants.{ACTORS_MAX}
 use Rattle.race_core.specs.Worlds.{WorldView, is_busy_at, ledgers_in, Reports}
@@ -7,6 +7,7 @@ use Rattle.turn_graph.specs.declared.graph.Way.{Way}
 use Rattle.turn_graph.specs.declared.graph.Spot.{Spot}
 use Rattle.turn_graph.specs.declared.graph.Spot.TheVariants.{Ends, Goes}
 use Rattle.turn_graph.specs.Words.{way_of, AreApart}
+use Rattle.explore.specs.declared.limits.Scope.{Scope}
 use Rattle.explore.specs.declared.layer.Stand.{Stand}
 use Rattle.explore.specs.declared.marks.Marks.{Marks}
 use Rattle.explore.specs.Alike.{after_turns}
@@ -25,8 +26,9 @@ Keeps {A} old new = (k : ℕ) (x : A) → slice_get old k ≡ Some x → slice_g
 
 -- ---- worlds
 
--- a world gone through by a list of turns, and what counted in them
+-- a world gone through by a list of turns, what counted in them, and whether changes outside of roots are told
 pub record LiveView : Type 0 where
+  pub told : Bool
   pub world : WorldView
   pub marks : Marks
   pub turns : List ℕ
@@ -48,15 +50,17 @@ AreLed w lives = (k : ℕ) (live : LiveView) → slice_get lives k ≡ Some live
 abbrev pub AreSure : WorldView → List LiveView → Type 0
 AreSure w lives = (k : ℕ) (live : LiveView) → slice_get lives k ≡ Some live → IsSure w live
 
--- the list of turns is that of the world at that place, or leads to one like it, in which each actor did as much outside of its root
-pub record Leads (w : WorldView) (turns : List ℕ) (lives : List LiveView) (k : ℕ) : Type 0 where
+-- the list of turns is that of the world at that place, or leads to one like it, in which each actor whose changes
+-- are told did as much outside of its root
+pub record Leads (told : Bool) (w : WorldView) (turns : List ℕ) (lives : List LiveView) (k : ℕ) : Type 0 where
   pub live : LiveView
   pub there : slice_get lives k ≡ Some live
-  pub by : (live.turns ≡ turns) ⊎ IsSame (after_turns w turns) live.world
+  pub by : (live.turns ≡ turns) ⊎ IsSame told (after_turns w turns) live.world
 
 -- ---- layers
 
--- the worlds that lists of one length lead to, and the stands on them: where the lists differ in what counts from then on
+-- the worlds that lists of one length lead to, and the stands on them: where the lists differ in what counts from
+-- then on
 pub record LayerView : Type 0 where
   pub worlds : List LiveView
   pub stands : List Stand
@@ -73,8 +77,8 @@ pub record AreOn (n : ℕ) (layer : LayerView) : Type 0 where
   pub actors : (m : ℕ) (live : LiveView) → slice_get layer.worlds m ≡ Some live → length live.world.seats ≤ ACTORS_MAX
 
 -- the first layer: no turns
-pub record IsFirst (w : WorldView) (layer : LayerView) : Type 0 where
-  pub worlds : layer.worlds ≡ record { world = w; marks = no_marks; turns = [] } ∷ []
+pub record IsFirst (w : WorldView) (scope : Scope) (layer : LayerView) : Type 0 where
+  pub worlds : layer.worlds ≡ record { told = scope.outside; world = w; marks = no_marks; turns = [] } ∷ []
   pub stand : Stand
   pub stands : layer.stands ≡ stand ∷ []
   pub on : stand.world ≡ 0
@@ -86,80 +90,90 @@ abbrev pub point_at : LiveView → Stand → Point
 point_at live stand = record { world = live.world; marks = stand.marks }
 
 -- a stand of the layer, the world that it is on, and an actor who may have the next turn there
-pub record IsOnward (most : Option ℕ) (layer : LayerView) (stand : Stand) (live : LiveView) (i : ℕ) : Type 0 where
+pub record IsOnward (scope : Scope) (layer : LayerView) (stand : Stand) (live : LiveView) (i : ℕ) : Type 0 where
   pub at : ℕ
   pub there : slice_get layer.stands at ≡ Some stand
   pub on : slice_get layer.worlds stand.world ≡ Some live
-  pub may : MayGo most (point_at live stand) i
+  pub may : MayGo scope (point_at live stand) i
 
 -- from some stand on the world at place m the actor's turn leads to the next layer's world at place k
-pub record IsMove (w : WorldView) (most : Option ℕ) (layer : LayerView) (m i : ℕ) (next : List LiveView) (k : ℕ) : Type 0 where
+pub record IsMove (w : WorldView) (scope : Scope) (layer : LayerView) (m i : ℕ)
+    (next : List LiveView) (k : ℕ) : Type 0 where
   pub stand : Stand
   pub live : LiveView
-  pub onward : IsOnward most layer stand live i
+  pub onward : IsOnward scope layer stand live i
   pub same : stand.world ≡ m
-  pub leads : Leads w (stand.turns.items ++ i ∷ []) next k
+  pub leads : Leads scope.outside w (stand.turns.items ++ i ∷ []) next k
 
 -- ---- from one layer to the next
 
 -- the world was gone through by the list of some stand and one more turn
-pub record IsBornWorld (w : WorldView) (most : Option ℕ) (layer : LayerView) (born : LiveView) : Type 0 where
+pub record IsBornWorld (w : WorldView) (scope : Scope) (layer : LayerView) (born : LiveView) : Type 0 where
   pub stand : Stand
   pub live : LiveView
   pub i : ℕ
-  pub onward : IsOnward most layer stand live i
+  pub onward : IsOnward scope layer stand live i
   pub turns : born.turns ≡ stand.turns.items ++ i ∷ []
+  pub told : born.told ≡ scope.outside
   pub led : IsLed w born
 
-abbrev pub AreBornWorlds : WorldView → Option ℕ → LayerView → List LiveView → Type 0
-AreBornWorlds w most layer next = (k : ℕ) (born : LiveView) → slice_get next k ≡ Some born → IsBornWorld w most layer born
+abbrev pub AreBornWorlds : WorldView → Scope → LayerView → List LiveView → Type 0
+AreBornWorlds w scope layer next =
+    (k : ℕ) (born : LiveView) → slice_get next k ≡ Some born → IsBornWorld w scope layer born
 
 -- the stand is one turn after another
-pub record IsBornStand (w : WorldView) (most : Option ℕ) (layer : LayerView) (next : List LiveView) (born : Stand) : Type 0 where
+pub record IsBornStand (w : WorldView) (scope : Scope) (layer : LayerView) (next : List LiveView)
+    (born : Stand) : Type 0 where
   pub stand : Stand
   pub live : LiveView
   pub i : ℕ
-  pub onward : IsOnward most layer stand live i
+  pub onward : IsOnward scope layer stand live i
   pub turns : born.turns.items ≡ stand.turns.items ++ i ∷ []
   pub marks : born.marks ≡ marks_after live.world.seats stand.marks i
-  pub move : IsMove w most layer stand.world i next born.world
+  pub move : IsMove w scope layer stand.world i next born.world
 
-abbrev pub AreBornStands : WorldView → Option ℕ → LayerView → LayerView → Type 0
-AreBornStands w most layer next = (t : ℕ) (born : Stand) → slice_get next.stands t ≡ Some born → IsBornStand w most layer next.worlds born
+abbrev pub AreBornStands : WorldView → Scope → LayerView → LayerView → Type 0
+AreBornStands w scope layer next =
+    (t : ℕ) (born : Stand) → slice_get next.stands t ≡ Some born → IsBornStand w scope layer next.worlds born
 
-pub record AreJoined (w : WorldView) (most : Option ℕ) (layer next : LayerView) : Type 0 where
-  pub worlds : AreBornWorlds w most layer next.worlds
-  pub stands : AreBornStands w most layer next
+pub record AreJoined (w : WorldView) (scope : Scope) (layer next : LayerView) : Type 0 where
+  pub worlds : AreBornWorlds w scope layer next.worlds
+  pub stands : AreBornStands w scope layer next
 
 -- ---- ways
 
 -- the stand of the next layer after the actor's turn: on a world that it leads to, with what counts there
-pub record IsAfter (w : WorldView) (most : Option ℕ) (layer next : LayerView) (stand : Stand) (live : LiveView) (i t : ℕ) : Type 0 where
+pub record IsAfter (w : WorldView) (scope : Scope) (layer next : LayerView) (stand : Stand) (live : LiveView)
+    (i t : ℕ) : Type 0 where
   pub after : Stand
   pub there : slice_get next.stands t ≡ Some after
   pub last : after.marks.last ≡ Some i
-  pub cuts : bounded_cuts most after.marks.cuts ≡ bounded_cuts most (marks_after live.world.seats stand.marks i).cuts
-  pub move : IsMove w most layer stand.world i next.worlds after.world
+  pub cuts : bounded_cuts scope.cuts after.marks.cuts
+      ≡ bounded_cuts scope.cuts (marks_after live.world.seats stand.marks i).cuts
+  pub move : IsMove w scope layer stand.world i next.worlds after.world
 
 -- the way is the actor's turn from that stand
-pub record IsWayBy (w : WorldView) (most : Option ℕ) (layer next : LayerView) (stand : Stand) (live : LiveView) (i : ℕ) (way : Way) : Type 0 where
-  pub may : MayGo most (point_at live stand) i
+pub record IsWayBy (w : WorldView) (scope : Scope) (layer next : LayerView) (stand : Stand) (live : LiveView)
+    (i : ℕ) (way : Way) : Type 0 where
+  pub may : MayGo scope (point_at live stand) i
   pub letter : way.letter ≡ i
   pub cut : way.cut ≡ is_cut live.world.seats stand.marks.last i
   pub change : way.change ≡ is_another stand.marks.last i
-  pub after : IsAfter w most layer next stand live i way.to
+  pub after : IsAfter w scope layer next stand live i way.to
 
 -- the ways are the turns from that stand of all who may have the next one, each once
-pub record AreWaysBy (w : WorldView) (most : Option ℕ) (layer next : LayerView) (stand : Stand) (live : LiveView) (ways : List Way) : Type 0 where
-  pub all : (i : ℕ) → MayGo most (point_at live stand) i → (way : Way) × (way_of ways i ≡ Some way)
-  pub each : (k : ℕ) (way : Way) → slice_get ways k ≡ Some way → IsWayBy w most layer next stand live way.letter way
+pub record AreWaysBy (w : WorldView) (scope : Scope) (layer next : LayerView) (stand : Stand) (live : LiveView)
+    (ways : List Way) : Type 0 where
+  pub all : (i : ℕ) → MayGo scope (point_at live stand) i → (way : Way) × (way_of ways i ≡ Some way)
+  pub each : (k : ℕ) (way : Way) → slice_get ways k ≡ Some way → IsWayBy w scope layer next stand live way.letter way
   pub apart : AreApart ways
 
 -- of each stand, in order
-pub record AreAllWays (w : WorldView) (most : Option ℕ) (layer next : LayerView) (all : List (Vec Way)) : Type 0 where
+pub record AreAllWays (w : WorldView) (scope : Scope) (layer next : LayerView) (all : List (Vec Way)) : Type 0 where
   pub many : length all ≡ length layer.stands
-  pub each : (s : ℕ) (stand : Stand) (live : LiveView) (ways : Vec Way) → slice_get layer.stands s ≡ Some stand → slice_get layer.worlds stand.world ≡ Some live
-      → slice_get all s ≡ Some ways → AreWaysBy w most layer next stand live ways.items
+  pub each : (s : ℕ) (stand : Stand) (live : LiveView) (ways : Vec Way) → slice_get layer.stands s ≡ Some stand
+      → slice_get layer.worlds stand.world ≡ Some live
+      → slice_get all s ≡ Some ways → AreWaysBy w scope layer next stand live ways.items
 
 -- ---- ends
 
@@ -169,8 +183,9 @@ pub record IsReportOf (live : LiveView) (ending : EndingView) : Type 0 where
   pub turns : ending.turns ≡ live.turns
   pub cuts : ending.cuts ≡ live.marks.cuts
   pub changes : ending.changes ≡ live.marks.changes
-  pub report : Reports live.world.book (ledgers_in live.world.seats) ending.tree ending.events ending.replies ending.kept
-  pub outside : ending.outside ≡ outside_of live.world
+  pub report : Reports live.world.book
+      (ledgers_in live.world.seats) ending.tree ending.events ending.replies ending.kept
+  pub outside : ending.outside ≡ outside_of live.told live.world
 
 -- it comes to the outcome of that class
 pub record IsPlaced (classes : List ClassView) (live : LiveView) (at : ℕ) : Type 0 where
@@ -187,11 +202,13 @@ IsTop classes live (Some at) = IsPlaced classes live at
 
 pub record AreTops (classes : List ClassView) (lives : List LiveView) (tops : List (Option ℕ)) : Type 0 where
   pub many : length tops ≡ length lives
-  pub each : (m : ℕ) (live : LiveView) (top : Option ℕ) → slice_get lives m ≡ Some live → slice_get tops m ≡ Some top → IsTop classes live top
+  pub each : (m : ℕ) (live : LiveView) (top : Option ℕ) → slice_get lives m ≡ Some live
+      → slice_get tops m ≡ Some top → IsTop classes live top
 
 -- no two classes have the same outcome
 abbrev pub AreApartClasses : List ClassView → Type 0
-AreApartClasses classes = (k l : ℕ) (c d : ClassView) → slice_get classes k ≡ Some c → slice_get classes l ≡ Some d → SameOutcome c.least d.least → k ≡ l
+AreApartClasses classes = (k l : ℕ) (c d : ClassView) → slice_get classes k ≡ Some c → slice_get classes l ≡ Some d
+    → SameOutcome c.least d.least → k ≡ l
 
 -- each class was there before, or tells what one of these worlds comes to
 pub record IsFoundIn (lives : List LiveView) (class : ClassView) : Type 0 where
@@ -201,19 +218,21 @@ pub record IsFoundIn (lives : List LiveView) (class : ClassView) : Type 0 where
   pub is : IsReportOf live class.least
 
 abbrev pub AreFoundIn : List LiveView → List ClassView → List ClassView → Type 0
-AreFoundIn lives old new = (k : ℕ) (c : ClassView) → slice_get new k ≡ Some c → (slice_get old k ≡ Some c) ⊎ IsFoundIn lives c
+AreFoundIn lives old new =
+    (k : ℕ) (c : ClassView) → slice_get new k ≡ Some c → (slice_get old k ≡ Some c) ⊎ IsFoundIn lives c
 
 -- ---- stands that are the same
 
 -- whoever stands there stands as that one does: on the same world, with what counts from then on
-pub record IsThere (most : Option ℕ) (stand : Stand) (stands : List Stand) (t : ℕ) : Type 0 where
+pub record IsThere (scope : Scope) (stand : Stand) (stands : List Stand) (t : ℕ) : Type 0 where
   pub other : Stand
   pub there : slice_get stands t ≡ Some other
   pub world : other.world ≡ stand.world
   pub last : other.marks.last ≡ stand.marks.last
-  pub cuts : bounded_cuts most other.marks.cuts ≡ bounded_cuts most stand.marks.cuts
+  pub cuts : bounded_cuts scope.cuts other.marks.cuts ≡ bounded_cuts scope.cuts stand.marks.cuts
 
--- of a stand before, on that world, one of these ways is that actor's turn, and leads to a stand on the next layer's world at place k
+-- of a stand before, on that world, one of these ways is that actor's turn, and leads to a stand on the next layer's
+-- world at place k
 pub record IsKnown (stands : List Stand) (all : List (Vec Way)) (next : List Stand) (m i k : ℕ) : Type 0 where
   pub s : ℕ
   pub stand : Stand
@@ -237,45 +256,55 @@ spot_by None ways = Goes ways
 spot_by (Some class) ways = Ends class
 
 -- the stand's spot: an end of its world's class, or the ways from it
-abbrev pub IsSpot : WorldView → Option ℕ → LayerView → LayerView → List ClassView → Stand → LiveView → Spot → Type 0
-IsSpot w most layer next classes stand live (Ends class) = IsPlaced classes live class
-IsSpot w most layer next classes stand live (Goes ways) = ((i : ℕ) × (is_busy_at live.world.seats i ≡ true)) × AreWaysBy w most layer next stand live ways.items
+abbrev pub IsSpot : WorldView → Scope → LayerView → LayerView → List ClassView → Stand → LiveView → Spot → Type 0
+IsSpot w scope layer next classes stand live (Ends class) = IsPlaced classes live class
+IsSpot w scope layer next classes stand live (Goes ways) =
+    ((i : ℕ) × (is_busy_at live.world.seats i ≡ true)) × AreWaysBy w scope layer next stand live ways.items
 
-pub record AreSpots (w : WorldView) (most : Option ℕ) (layer next : LayerView) (classes : List ClassView) (spots : List Spot) : Type 0 where
+pub record AreSpots (w : WorldView) (scope : Scope) (layer next : LayerView) (classes : List ClassView)
+    (spots : List Spot) : Type 0 where
   pub many : length spots ≡ length layer.stands
-  pub each : (s : ℕ) (stand : Stand) (live : LiveView) (spot : Spot) → slice_get layer.stands s ≡ Some stand → slice_get layer.worlds stand.world ≡ Some live
-      → slice_get spots s ≡ Some spot → IsSpot w most layer next classes stand live spot
+  pub each : (s : ℕ) (stand : Stand) (live : LiveView) (spot : Spot) → slice_get layer.stands s ≡ Some stand
+      → slice_get layer.worlds stand.world ≡ Some live
+      → slice_get spots s ≡ Some spot → IsSpot w scope layer next classes stand live spot
 
 -- ---- a layer gone through
 
-pub record IsPassed (w : WorldView) (most : Option ℕ) (n : ℕ) (layer next : LayerView) (here : List Spot) (old new : List ClassView) : Type 0 where
-  pub joined : AreJoined w most layer next
+pub record IsPassed (w : WorldView) (scope : Scope) (n : ℕ) (layer next : LayerView) (here : List Spot)
+    (old new : List ClassView) : Type 0 where
+  pub joined : AreJoined w scope layer next
   pub on : AreOn (suc n) next
   pub sure : AreSure w layer.worlds
-  pub spots : AreSpots w most layer next new here
+  pub spots : AreSpots w scope layer next new here
   pub keeps : Keeps old new
   pub found : AreFoundIn layer.worlds old new
   pub apart : AreApartClasses old → AreApartClasses new
 
 -- ---- all layers so far
 
--- These are the layers, of which all but the last were gone through, with the spots of each and the classes that were found.
-pub record IsSearched (w : WorldView) (most : Option ℕ) (layers : List LayerView) (graph : List (Vec Spot)) (classes : List ClassView) : Type 0 where
+-- These are the layers, of which all but the last were gone through, with the spots of each and the classes that
+-- were found.
+pub record IsSearched (w : WorldView) (scope : Scope) (layers : List LayerView) (graph : List (Vec Spot))
+    (classes : List ClassView) : Type 0 where
   pub first : LayerView
   pub begins : slice_get layers 0 ≡ Some first
-  pub is_first : IsFirst w first
+  pub is_first : IsFirst w scope first
   pub many : length layers ≡ suc (length graph)
   pub on : (k : ℕ) (layer : LayerView) → slice_get layers k ≡ Some layer → AreOn k layer
-  pub joined : (k : ℕ) (layer next : LayerView) → slice_get layers k ≡ Some layer → slice_get layers (suc k) ≡ Some next → AreJoined w most layer next
+  pub joined : (k : ℕ) (layer next : LayerView) → slice_get layers k ≡ Some layer
+      → slice_get layers (suc k) ≡ Some next → AreJoined w scope layer next
   pub sure : (k : ℕ) (layer : LayerView) → k < length graph → slice_get layers k ≡ Some layer → AreSure w layer.worlds
-  pub spots : (k : ℕ) (layer next : LayerView) (spots : Vec Spot) → slice_get layers k ≡ Some layer → slice_get layers (suc k) ≡ Some next
-      → slice_get graph k ≡ Some spots → AreSpots w most layer next classes spots.items
+  pub spots : (k : ℕ) (layer next : LayerView) (spots : Vec Spot) → slice_get layers k ≡ Some layer
+      → slice_get layers (suc k) ≡ Some next
+      → slice_get graph k ≡ Some spots → AreSpots w scope layer next classes spots.items
   pub found : (c : ℕ) (class : ClassView) → slice_get classes c ≡ Some class
-      → (k : ℕ) × ((layer : LayerView) × ((k < length graph) × ((slice_get layers k ≡ Some layer) × IsFoundIn layer.worlds class)))
+      → (k : ℕ) × ((layer : LayerView)
+      × ((k < length graph) × ((slice_get layers k ≡ Some layer) × IsFoundIn layer.worlds class)))
   pub apart : AreApartClasses classes
 
 -- and this is the last of them
-pub record HasSearched (w : WorldView) (most : Option ℕ) (last : LayerView) (graph : List (Vec Spot)) (classes : List ClassView) : Type 0 where
+pub record HasSearched (w : WorldView) (scope : Scope) (last : LayerView) (graph : List (Vec Spot))
+    (classes : List ClassView) : Type 0 where
   pub layers : List LayerView
-  pub searched : IsSearched w most layers graph classes
+  pub searched : IsSearched w scope layers graph classes
   pub is_last : slice_get layers (length graph) ≡ Some last

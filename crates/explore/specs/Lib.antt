@@ -3,6 +3,7 @@ pub mod Laws
 pub mod Renamed
 pub mod Want
 pub mod Search
+pub mod JustOne
 pub mod Lists
 pub mod Outside
 pub mod Counting
@@ -12,6 +13,7 @@ pub mod Paired
 pub mod Opened
 pub mod Tally
 pub mod Merged
+pub mod Promise
 pub mod Concluded
 pub mod Layers
 pub mod Spreading

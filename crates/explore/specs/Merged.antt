@@ -1,4 +1,5 @@
--- When a layered graph stands for all schedules of a world: each of its spots for lists of turns that lead to alike worlds.
+-- When a layered graph stands for all schedules of a world: each of its spots for lists of turns that lead to alike
+-- worlds.
 use Rattle.std.specs.Prelude.{◌≡◌, ℕ, suc, List, true, slice_get, Option, Some, None}
 use Rattle.std.specs.Global.{Vec}
 use Rattle.race_core.specs.Worlds.{WorldView, turn, is_busy_at}
@@ -7,6 +8,7 @@ use Rattle.turn_graph.specs.declared.graph.Spot.{Spot}
 use Rattle.turn_graph.specs.declared.graph.Spot.TheVariants.{Ends, Goes}
 use Rattle.turn_graph.specs.Words.{spot_at, way_of, IsWordOf}
 use Rattle.turn_graph.specs.Words as words
+use Rattle.explore.specs.declared.limits.Scope.{Scope}
 use Rattle.explore.specs.Alike.{full, after_turns}
 use Rattle.explore.specs.Search.{IsOver, IsLike}
 use Rattle.explore.specs.Lists.{is_another, is_cut, plus, cuts, changes}
@@ -24,69 +26,73 @@ begins w = record { world = w; last = None; cuts = 0 }
 -- the cuts that are counted: without a bound none are
 abbrev pub bounded_cuts : Option ℕ → ℕ → ℕ
 bounded_cuts None n = 0
-bounded_cuts (Some most) n = n
+bounded_cuts (Some scope) n = n
 
 abbrev pub cuts_with : Place → ℕ → ℕ
 cuts_with p i = plus (is_cut p.world.seats p.last i) p.cuts
 
 -- the actor has something left to do there, and its turn leaves the cuts within the bound
-pub record MayFollow (most : Option ℕ) (p : Place) (i : ℕ) : Type 0 where
+pub record MayFollow (scope : Scope) (p : Place) (i : ℕ) : Type 0 where
   pub busy : is_busy_at p.world.seats i ≡ true
-  pub few : IsWithin most (cuts_with p i)
+  pub few : IsWithin scope.cuts (cuts_with p i)
 
 -- the place after the actor's turn: of a world like that one
-pub record IsNextPlace (most : Option ℕ) (p : Place) (i : ℕ) (q : Place) : Type 0 where
-  pub world : IsLike (turn full p.world i) q.world
+pub record IsNextPlace (scope : Scope) (p : Place) (i : ℕ) (q : Place) : Type 0 where
+  pub world : IsLike scope.outside (turn full p.world i) q.world
   pub last : q.last ≡ Some i
-  pub cuts : q.cuts ≡ bounded_cuts most (cuts_with p i)
+  pub cuts : q.cuts ≡ bounded_cuts scope.cuts (cuts_with p i)
 
 -- what each spot of a layer stands for
 abbrev pub Places : Type 0
 Places = ℕ → ℕ → Place
 
 -- the way is the actor's turn, and leads to the spot of the place after it
-pub record IsWay (most : Option ℕ) (layers : List (Vec Spot)) (at : Places) (k s i : ℕ) (way : Way) : Type 0 where
-  pub may : MayFollow most (at k s) i
+pub record IsWay (scope : Scope) (layers : List (Vec Spot)) (at : Places) (k s i : ℕ) (way : Way) : Type 0 where
+  pub may : MayFollow scope (at k s) i
   pub cut : way.cut ≡ is_cut (at k s).world.seats (at k s).last i
   pub change : way.change ≡ is_another (at k s).last i
   pub spot : Spot
   pub there : spot_at layers (suc k) way.to ≡ Some spot
-  pub next : IsNextPlace most (at k s) i (at (suc k) way.to)
+  pub next : IsNextPlace scope (at k s) i (at (suc k) way.to)
 
 -- somebody has something left to do there, and the ways are the turns of all who may have the next one
-pub record AreWays (most : Option ℕ) (layers : List (Vec Spot)) (at : Places) (k s : ℕ) (ways : List Way) : Type 0 where
+pub record AreWays (scope : Scope) (layers : List (Vec Spot)) (at : Places) (k s : ℕ) (ways : List Way) : Type 0 where
   pub busy : (i : ℕ) × (is_busy_at (at k s).world.seats i ≡ true)
-  pub all : (i : ℕ) → MayFollow most (at k s) i → (way : Way) × (way_of ways i ≡ Some way)
-  pub each : (i : ℕ) (way : Way) → way_of ways i ≡ Some way → IsWay most layers at k s i way
+  pub all : (i : ℕ) → MayFollow scope (at k s) i → (way : Way) × (way_of ways i ≡ Some way)
+  pub each : (i : ℕ) (way : Way) → way_of ways i ≡ Some way → IsWay scope layers at k s i way
 
 -- nobody has anything left to do there, and it tells what the class's list comes to
-pub record IsEndOf (w : WorldView) (classes : List ClassView) (p : Place) (class : ℕ) : Type 0 where
+pub record IsEndOf (w : WorldView) (scope : Scope) (classes : List ClassView) (p : Place) (class : ℕ) : Type 0 where
   pub over : IsOver p.world
   pub outcome : ClassView
   pub there : slice_get classes class ≡ Some outcome
-  pub tells : TellAlike p.world (after_turns w outcome.least.turns)
+  pub tells : TellAlike scope.outside p.world (after_turns w outcome.least.turns)
 
 -- The graph's spots stand for these places, from the world on.
-pub record IsFit (w : WorldView) (most : Option ℕ) (layers : List (Vec Spot)) (classes : List ClassView) (at : Places) : Type 0 where
+pub record IsFit (w : WorldView) (scope : Scope) (layers : List (Vec Spot)) (classes : List ClassView)
+    (at : Places) : Type 0 where
   pub start : at 0 0 ≡ begins w
   pub spot : Spot
   pub there : spot_at layers 0 0 ≡ Some spot
-  pub ends : (k s class : ℕ) → spot_at layers k s ≡ Some (Ends class) → IsEndOf w classes (at k s) class
-  pub goes : (k s : ℕ) (ways : Vec Way) → spot_at layers k s ≡ Some (Goes ways) → AreWays most layers at k s ways.items
+  pub ends : (k s class : ℕ) → spot_at layers k s ≡ Some (Ends class) → IsEndOf w scope classes (at k s) class
+  pub goes : (k s : ℕ) (ways : Vec Way) → spot_at layers k s ≡ Some (Goes ways)
+      → AreWays scope layers at k s ways.items
 
 -- ---- the law
 
 -- that word of the graph is asked for, leads to the outcome of its class, and counts as the list does
-pub record IsListOf (w : WorldView) (most : Option ℕ) (layers : List (Vec Spot)) (classes : List ClassView) (class : ℕ) (is : List ℕ) : Type 0 where
-  pub asked : IsAsked w most is
+pub record IsListOf (w : WorldView) (scope : Scope) (layers : List (Vec Spot)) (classes : List ClassView)
+    (class : ℕ) (is : List ℕ) : Type 0 where
+  pub asked : IsAsked w scope is
   pub outcome : ClassView
   pub there : slice_get classes class ≡ Some outcome
-  pub agrees : AgreeIn w is outcome.least.turns
+  pub agrees : AgreeIn w scope is outcome.least.turns
   pub cuts : words.cuts layers 0 0 is ≡ cuts w is
   pub changes : words.changes layers 0 0 is ≡ changes is
 
 -- The words of a graph that fits are the lists that are asked for.
 abbrev pub WordsAreLists : Type 0
-WordsAreLists = (w : WorldView) (most : Option ℕ) (layers : List (Vec Spot)) (classes : List ClassView) (at : Places) → IsFit w most layers classes at
-    → ((is : List ℕ) → IsAsked w most is → (class : ℕ) × IsWordOf layers class is)
-    × ((is : List ℕ) (class : ℕ) → IsWordOf layers class is → IsListOf w most layers classes class is)
+WordsAreLists = (w : WorldView) (scope : Scope) (layers : List (Vec Spot)) (classes : List ClassView) (at : Places)
+    → IsFit w scope layers classes at
+    → ((is : List ℕ) → IsAsked w scope is → (class : ℕ) × IsWordOf layers class is)
+    × ((is : List ℕ) (class : ℕ) → IsWordOf layers class is → IsListOf w scope layers classes class is)

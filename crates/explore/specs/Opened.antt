@@ -8,7 +8,8 @@ use Rattle.race_core.specs.Worlds.{WorldView}
 
 -- over the tree with the roots granted; where one isn't, no world is made, and this stands for none
 abbrev pub world_over : State → ℕ → Grants → WorldView
-world_over s lines (Ok granted) = record { book = opened_book granted.tree lines; seats = seats_of granted.ledgers; spent = false }
+world_over s lines (Ok granted) =
+    record { book = opened_book granted.tree lines; seats = seats_of granted.ledgers; spent = false }
 world_over s lines (Err refusal) = record { book = opened_book s lines; seats = []; spent = false }
 
 -- the world that `World::new` makes, where it makes one

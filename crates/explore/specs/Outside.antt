@@ -1,6 +1,6 @@
--- What actors change outside of their roots, which a check cannot keep from them: a directory that stood below the root at a
--- check may be moved out before the next step.
-use Rattle.std.specs.Prelude.{◌≡◌, ℕ, suc, ◌==◌, ◌&&◌, ◌||◌, List, [], ◌∷◌, Bool, false, not, Option, Some, None}
+-- What actors change outside of their roots, which a check cannot keep from them: a directory that stood below the
+-- root at a check may be moved out before the next step.
+use Rattle.std.specs.Prelude.{◌≡◌, ℕ, suc, ◌==◌, ◌&&◌, ◌||◌, List, [], ◌∷◌, Bool, true, false, not, Option, Some, None}
 use Rattle.tree_model.specs.declared.answer.Event.{Event}
 use Rattle.tree_model.specs.declared.inode.Inode.{Inode}
 use Rattle.tree_model.specs.declared.step.StepOf.{StepOf}
@@ -68,21 +68,24 @@ abbrev pub roots_from : State → ℕ → List Seat → List (Option ℕ)
 roots_from s a [] = []
 roots_from s a (seat ∷ seats) = held s a seat.ledger.root.handle ∷ roots_from s (suc a) seats
 
-abbrev pub roots_of : WorldView → List (Option ℕ)
-roots_of w = roots_from w.book.opening 0 w.seats
+-- of those whose changes are told: of all actors, or of none
+abbrev pub roots_of : Bool → WorldView → List (Option ℕ)
+roots_of false w = []
+roots_of true w = roots_from w.book.opening 0 w.seats
 
--- how many changes each actor has made outside of its root
-abbrev pub outside_of : WorldView → List ℕ
-outside_of w = outside_from w.book 0 (roots_of w)
+-- how many changes each of them has made outside of its root
+abbrev pub outside_of : Bool → WorldView → List ℕ
+outside_of told w = outside_from w.book 0 (roots_of told w)
 
--- alike, and each actor has made as many changes outside of the same root
-pub record IsSame (w v : WorldView) : Type 0 where
+-- alike, and each of them has made as many changes outside of the same root
+pub record IsSame (told : Bool) (w v : WorldView) : Type 0 where
   pub alike : Alike w v
-  pub roots : roots_of w ≡ roots_of v
-  pub outside : outside_of w ≡ outside_of v
+  pub roots : roots_of told w ≡ roots_of told v
+  pub outside : outside_of told w ≡ outside_of told v
 
 -- ---- the law
 
 -- alike worlds act outside alike: the turn of an actor leads from such worlds to such worlds, with the same luck
 abbrev pub AlikeWorldsActOutsideAlike : Type 0
-AlikeWorldsActOutsideAlike = (w v : WorldView) (luck : Luck) (i : ℕ) → IsSame w v → IsSame (turn luck w i) (turn luck v i)
+AlikeWorldsActOutsideAlike = (told : Bool) (w v : WorldView) (luck : Luck) (i : ℕ) → IsSame told w v
+    → IsSame told (turn luck w i) (turn luck v i)

@@ -40,7 +40,8 @@ OpenAlike hs ks h k = (handle : Option OpenHandle) × ((slice_get hs h ≡ Some 
 
 -- each actor that has one of the handles open has as many in the other tree
 abbrev pub HoldsAsMany : List (Option OpenHandle) → List (Option OpenHandle) → Type 0
-HoldsAsMany hs ks = (at : ℕ) (handle : OpenHandle) → slice_get hs at ≡ Some (Some handle) → count_by (is_held_by handle.actor) hs ≡ count_by (is_held_by handle.actor) ks
+HoldsAsMany hs ks = (at : ℕ) (handle : OpenHandle) → slice_get hs at ≡ Some (Some handle)
+    → count_by (is_held_by handle.actor) hs ≡ count_by (is_held_by handle.actor) ks
 
 -- the handles of the two lists, place by place: as many, on one node each, and none is paired with two
 pub record ArePaired (opened others : List (Option OpenHandle)) (hs ks : List ℕ) : Type 0 where

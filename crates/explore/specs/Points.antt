@@ -3,6 +3,7 @@ use Rattle.std.specs.Prelude.{◌≡◌, ◌≤◌, ℕ, List, [], ◌∷◌, tr
 use Rattle.race_core.specs.declared.seat.Seat.{Seat}
 use Rattle.race_core.specs.Turns.{Luck}
 use Rattle.race_core.specs.Worlds.{WorldView, turn, is_busy_at}
+use Rattle.explore.specs.declared.limits.Scope.{Scope}
 use Rattle.explore.specs.declared.marks.Marks.{Marks}
 use Rattle.explore.specs.Alike.{full}
 use Rattle.explore.specs.Lists.{is_another, is_cut, plus}
@@ -51,6 +52,6 @@ pub record AreWithin (marks : Marks) (n : ℕ) : Type 0 where
 -- ---- who may have the next turn
 
 -- has something left to do, and the turn leaves the cuts within the bound
-pub record MayGo (most : Option ℕ) (p : Point) (i : ℕ) : Type 0 where
+pub record MayGo (scope : Scope) (p : Point) (i : ℕ) : Type 0 where
   pub busy : is_busy_at p.world.seats i ≡ true
-  pub few : IsWithin most (marks_after p.world.seats p.marks i).cuts
+  pub few : IsWithin scope.cuts (marks_after p.world.seats p.marks i).cuts

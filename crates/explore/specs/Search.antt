@@ -19,33 +19,41 @@ abbrev pub IsFull : WorldView → List ℕ → Type 0
 IsFull w [] = IsOver w
 IsFull w (i ∷ is) = (is_busy_at w.seats i ≡ true) × IsFull (turn full w i) is
 
--- from one world to another by alike ones, in which each actor has made as many changes outside of its root
-pub data IsLike : WorldView → WorldView → Type 0 where
-  same : (w : WorldView) → IsLike w w
-  onward : (w u v : WorldView) → IsSame w u → IsLike u v → IsLike w v
+-- from one world to another by alike ones, in which each actor whose changes are told has made as many outside of
+-- its root
+pub data IsLike (told : Bool) : WorldView → WorldView → Type 0 where
+  same : (w : WorldView) → IsLike told w w
+  onward : (w u v : WorldView) → IsSame told w u → IsLike told u v → IsLike told w v
 
--- Some lists are chosen: the empty one, and of each chosen list and each actor who has something left to do after it, one
--- that leads to a world like that after the actor's turn.
-pub record IsClosed (w : WorldView) (chosen : List ℕ → Bool) : Type 0 where
+-- Some lists are chosen: the empty one, and of each chosen list and each actor who has something left to do after
+-- it, one that leads to a world like that after the actor's turn.
+pub record IsClosed (told : Bool) (w : WorldView) (chosen : List ℕ → Bool) : Type 0 where
   pub begins : chosen [] ≡ true
   pub goes_on : (is : List ℕ) (i : ℕ) → chosen is ≡ true → is_busy_at (after_turns w is).seats i ≡ true
-      → (js : List ℕ) × ((chosen js ≡ true) × IsLike (after_turns w (is ++ i ∷ [])) (after_turns w js))
+      → (js : List ℕ) × ((chosen js ≡ true) × IsLike told (after_turns w (is ++ i ∷ [])) (after_turns w js))
 
 -- ---- the laws
 
--- Whatever a full list of turns comes to is what some chosen list comes to, after which nobody has anything left to do.
+-- Whatever a full list of turns comes to is what some chosen list comes to, after which nobody has anything left to
+-- do.
 abbrev pub ChosenListsStandForAll : Type 0
-ChosenListsStandForAll = (w : WorldView) (chosen : List ℕ → Bool) → IsClosed w chosen → (is : List ℕ) → IsFull w is
-    → (js : List ℕ) × ((chosen js ≡ true) × (IsOver (after_turns w js) × TellTheSame (after_turns w is) (after_turns w js)))
+ChosenListsStandForAll =
+    (told : Bool) (w : WorldView) (chosen : List ℕ → Bool) → IsClosed told w chosen → (is : List ℕ) → IsFull w is
+    → (js : List ℕ) × ((chosen js ≡ true)
+    × (IsOver (after_turns w js) × TellTheSame (after_turns w is) (after_turns w js)))
 
 -- The report on a run of any schedule, in which nobody lacked memory, is that of a full list.
 abbrev pub ReportsAreOfFullLists : Type 0
-ReportsAreOfFullLists = (w : WorldView) (schedule : List ℕ) (tree : State) (events : List Event) (replies : List (List Outcome)) (kept : List StandingObject)
+ReportsAreOfFullLists = (w : WorldView) (schedule : List ℕ) (tree : State) (events : List Event)
+    (replies : List (List Outcome)) (kept : List StandingObject)
     → RunsTo w schedule tree events replies kept → replies_want replies ≡ false
-    → (is : List ℕ) × (IsFull w is × ((tree ≡ tree_now (after_turns w is).book) × (replies ≡ replies_in (ledgers_in (after_turns w is).seats))))
+    → (is : List ℕ) × (IsFull w is
+    × ((tree ≡ tree_now (after_turns w is).book)
+    × (replies ≡ replies_in (ledgers_in (after_turns w is).seats))))
 
 -- And that on a run of a full list is the list's own.
 abbrev pub FullListsAreReported : Type 0
-FullListsAreReported = (w : WorldView) (is : List ℕ) (tree : State) (events : List Event) (replies : List (List Outcome)) (kept : List StandingObject)
+FullListsAreReported = (w : WorldView) (is : List ℕ) (tree : State) (events : List Event)
+    (replies : List (List Outcome)) (kept : List StandingObject)
     → IsFull w is → RunsTo w is tree events replies kept → replies_want replies ≡ false
     → (tree ≡ tree_now (after_turns w is).book) × (replies ≡ replies_in (ledgers_in (after_turns w is).seats))

@@ -1,9 +1,10 @@
 -- How far a layer has been gone on from.
-use Rattle.std.specs.Prelude.{◌≡◌, ◌<◌, ◌⊎◌, ℕ, suc, List, [], ◌∷◌, ◌++◌, length, Option, Some, slice_get}
+use Rattle.std.specs.Prelude.{◌≡◌, ◌<◌, ◌⊎◌, ℕ, suc, List, [], ◌∷◌, ◌++◌, Bool, length, Option, Some, slice_get}
 use Rattle.std.specs.Global.{Vec}
 use Rattle.race_core.specs.Worlds.{WorldView}
 use Rattle.turn_graph.specs.declared.graph.Way.{Way}
 use Rattle.turn_graph.specs.Words.{AreApart}
+use Rattle.explore.specs.declared.limits.Scope.{Scope}
 use Rattle.explore.specs.declared.layer.Stand.{Stand}
 use Rattle.explore.specs.Lists.{is_another, is_cut}
 use Rattle.explore.specs.Merged.{bounded_cuts}
@@ -13,10 +14,10 @@ use Rattle.explore.specs.Layers.{LiveView, LayerView, Keeps, IsLed, AreOn, AreJo
 -- ---- stands
 
 -- on the same world, with what counts from then on
-pub record StandsAs (most : Option ℕ) (stand other : Stand) : Type 0 where
+pub record StandsAs (scope : Scope) (stand other : Stand) : Type 0 where
   pub world : other.world ≡ stand.world
   pub last : other.marks.last ≡ stand.marks.last
-  pub cuts : bounded_cuts most other.marks.cuts ≡ bounded_cuts most stand.marks.cuts
+  pub cuts : bounded_cuts scope.cuts other.marks.cuts ≡ bounded_cuts scope.cuts stand.marks.cuts
 
 -- the stand after the actor's turn, on that world of the next layer
 pub record IsStandAfter (stand : Stand) (live : LiveView) (i world : ℕ) (born : Stand) : Type 0 where
@@ -26,17 +27,20 @@ pub record IsStandAfter (stand : Stand) (live : LiveView) (i world : ℕ) (born 
 
 -- of the next layer's stands each was there before or is that one
 abbrev pub AreStandsAfter : Stand → LiveView → ℕ → ℕ → List Stand → List Stand → Type 0
-AreStandsAfter stand live i world old new = (t : ℕ) (born : Stand) → slice_get new t ≡ Some born → (slice_get old t ≡ Some born) ⊎ IsStandAfter stand live i world born
+AreStandsAfter stand live i world old new = (t : ℕ) (born : Stand) → slice_get new t ≡ Some born
+    → (slice_get old t ≡ Some born) ⊎ IsStandAfter stand live i world born
 
 -- ---- worlds
 
 -- the world was gone through by that list, as luck had it, and has as many actors as at first
-abbrev pub IsWorldAfter : WorldView → List ℕ → LiveView → Type 0
-IsWorldAfter w turns born = (born.turns ≡ turns) × (IsLed w born × (length born.world.seats ≡ length w.seats))
+abbrev pub IsWorldAfter : WorldView → Bool → List ℕ → LiveView → Type 0
+IsWorldAfter w told turns born =
+    (born.turns ≡ turns) × (IsLed w born × ((length born.world.seats ≡ length w.seats) × (born.told ≡ told)))
 
 -- of the next layer's worlds each was there before or is that one
-abbrev pub AreWorldsAfter : WorldView → List ℕ → List LiveView → List LiveView → Type 0
-AreWorldsAfter w turns old new = (k : ℕ) (born : LiveView) → slice_get new k ≡ Some born → (slice_get old k ≡ Some born) ⊎ IsWorldAfter w turns born
+abbrev pub AreWorldsAfter : WorldView → Bool → List ℕ → List LiveView → List LiveView → Type 0
+AreWorldsAfter w told turns old new = (k : ℕ) (born : LiveView) → slice_get new k ≡ Some born
+    → (slice_get old k ≡ Some born) ⊎ IsWorldAfter w told turns born
 
 -- ---- ways
 
@@ -45,36 +49,40 @@ abbrev pub IsOneBy : List Way → ℕ → Way → Type 0
 IsOneBy ways letter way = (at : ℕ) × ((slice_get ways at ≡ Some way) × (way.letter ≡ letter))
 
 -- the way is the actor's turn from that stand, and leads to whoever stands as the one after it
-pub record IsWayTo (most : Option ℕ) (stand : Stand) (live : LiveView) (i world : ℕ) (next : List Stand) (way : Way) : Type 0 where
+pub record IsWayTo (scope : Scope) (stand : Stand) (live : LiveView) (i world : ℕ) (next : List Stand)
+    (way : Way) : Type 0 where
   pub letter : way.letter ≡ i
   pub cut : way.cut ≡ is_cut live.world.seats stand.marks.last i
   pub change : way.change ≡ is_another stand.marks.last i
   pub to : Stand
   pub after : IsStandAfter stand live i world to
-  pub there : IsThere most to next way.to
+  pub there : IsThere scope to next way.to
 
 -- the turns from that stand of those actors below n who may have the next one
-pub record AreWaysBelow (w : WorldView) (most : Option ℕ) (layer next : LayerView) (stand : Stand) (live : LiveView) (n : ℕ) (ways : List Way) : Type 0 where
-  pub all : (i : ℕ) → i < n → MayGo most (point_at live stand) i → (way : Way) × IsOneBy ways i way
-  pub each : (k : ℕ) (way : Way) → slice_get ways k ≡ Some way → IsWayBy w most layer next stand live way.letter way
+pub record AreWaysBelow (w : WorldView) (scope : Scope) (layer next : LayerView) (stand : Stand) (live : LiveView)
+    (n : ℕ) (ways : List Way) : Type 0 where
+  pub all : (i : ℕ) → i < n → MayGo scope (point_at live stand) i → (way : Way) × IsOneBy ways i way
+  pub each : (k : ℕ) (way : Way) → slice_get ways k ≡ Some way → IsWayBy w scope layer next stand live way.letter way
   pub below : (k : ℕ) (way : Way) → slice_get ways k ≡ Some way → way.letter < n
   pub apart : AreApart ways
 
 -- of each of the first stands
-abbrev pub AreFirstWays : WorldView → Option ℕ → LayerView → LayerView → List (Vec Way) → Type 0
-AreFirstWays w most layer next all = (s : ℕ) (stand : Stand) (live : LiveView) (ways : Vec Way) → slice_get layer.stands s ≡ Some stand → slice_get layer.worlds stand.world ≡ Some live
-    → slice_get all s ≡ Some ways → AreWaysBy w most layer next stand live ways.items
+abbrev pub AreFirstWays : WorldView → Scope → LayerView → LayerView → List (Vec Way) → Type 0
+AreFirstWays w scope layer next all = (s : ℕ) (stand : Stand) (live : LiveView) (ways : Vec Way)
+    → slice_get layer.stands s ≡ Some stand → slice_get layer.worlds stand.world ≡ Some live
+    → slice_get all s ≡ Some ways → AreWaysBy w scope layer next stand live ways.items
 
 -- of that one
-abbrev pub AreWaysAt : WorldView → Option ℕ → LayerView → LayerView → ℕ → List Way → Type 0
-AreWaysAt w most layer next s ways = (stand : Stand) (live : LiveView) → slice_get layer.stands s ≡ Some stand → slice_get layer.worlds stand.world ≡ Some live
-    → AreWaysBy w most layer next stand live ways
+abbrev pub AreWaysAt : WorldView → Scope → LayerView → LayerView → ℕ → List Way → Type 0
+AreWaysAt w scope layer next s ways = (stand : Stand) (live : LiveView) → slice_get layer.stands s ≡ Some stand
+    → slice_get layer.worlds stand.world ≡ Some live
+    → AreWaysBy w scope layer next stand live ways
 
 -- ---- the next layer
 
 -- the next layer so far
-pub record IsNext (w : WorldView) (most : Option ℕ) (layer next : LayerView) : Type 0 where
-  pub joined : AreJoined w most layer next
+pub record IsNext (w : WorldView) (scope : Scope) (layer next : LayerView) : Type 0 where
+  pub joined : AreJoined w scope layer next
   pub on : (n : ℕ) → AreOn n layer → AreOn (suc n) next
 
 -- it only grew

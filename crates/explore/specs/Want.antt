@@ -126,7 +126,8 @@ WantIsTold = (luck : Luck) (book : BookedHistory) (seat : Seat)
 
 -- And it does so whatever comes.
 abbrev pub WantStays : Type 0
-WantStays = (luck : Luck) (book : BookedHistory) (seat : Seat) → seat_wants seat ≡ true → seat_wants (turned luck book seat.ledger seat.doing).seat ≡ true
+WantStays = (luck : Luck) (book : BookedHistory) (seat : Seat) → seat_wants seat ≡ true
+    → seat_wants (turned luck book seat.ledger seat.doing).seat ≡ true
 
 -- So a run to the end in which nobody tells of it had memory for all.
 abbrev pub RunsWithoutWantAreFull : Type 0

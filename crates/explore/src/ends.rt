@@ -47,8 +47,10 @@ fn class_at<T: Tree + Drop>(
 ) -> Result<usize, NoMemory>
     requires actors { length ending.replies ≤ ACTORS_MAX }
     ensures keeps { Keeps classes.old.items classes.new.items }
-    ensures there { IfOk result (λ at. (c : ClassView) × ((slice_get classes.new.items at ≡ Some c) × SameOutcome c.least ending)) }
-    ensures new { (k : ℕ) (c : ClassView) → slice_get classes.new.items k ≡ Some c → (slice_get classes.old.items k ≡ Some c) ⊎ (c.least ≡ ending) }
+    ensures there { IfOk result (λ at. (c : ClassView)
+        × ((slice_get classes.new.items at ≡ Some c) × SameOutcome c.least ending)) }
+    ensures new { (k : ℕ) (c : ClassView) → slice_get classes.new.items k ≡ Some c
+        → (slice_get classes.old.items k ≡ Some c) ⊎ (c.least ≡ ending) }
     ensures apart { AreApartClasses classes.old.items → AreApartClasses classes.new.items }
 {
     let nodes = ending.snapshot(alloc)?;
@@ -60,8 +62,8 @@ fn class_at<T: Tree + Drop>(
     Ok(at)
 }
 
-// Ends the world. The class of what it comes to, if nobody has anything left to do. NoMemory where memory ran short, on
-// the way to it too.
+// Ends the world. The class of what it comes to, if nobody has anything left to do. NoMemory where memory ran short,
+// on the way to it too.
 fn top_of<T: Tree + Drop>(
     alloc: Global,
     live: Live<T>,
@@ -71,7 +73,8 @@ fn top_of<T: Tree + Drop>(
     ensures sure { IfOk result (λ top. (w : WorldView) → IsLed w live → IsSure w live) }
     ensures top { IfOk result (λ top. IsTop classes.new.items live top) }
     ensures keeps { Keeps classes.old.items classes.new.items }
-    ensures found { IfOk result (λ top. (k : ℕ) (c : ClassView) → slice_get classes.new.items k ≡ Some c → (slice_get classes.old.items k ≡ Some c) ⊎ IsReportOf live c.least) }
+    ensures found { IfOk result (λ top. (k : ℕ) (c : ClassView) → slice_get classes.new.items k ≡ Some c
+        → (slice_get classes.old.items k ≡ Some c) ⊎ IsReportOf live c.least) }
     ensures apart { AreApartClasses classes.old.items → AreApartClasses classes.new.items }
 {
     let busy = first_busy(live.seen.world());
@@ -89,8 +92,10 @@ fn tops_of<T: Tree + Drop>(
     lives: &mut IntoIter<Live<T>>,
     classes: &mut Vec<Class<T>>,
 ) -> Result<Vec<Option<usize>>, NoMemory>
-    requires actors { (m : ℕ) (live : LiveView) → slice_get (into_iter_items lives.old) m ≡ Some live → length live.world.seats ≤ ACTORS_MAX }
-    ensures sure { IfOk result (λ tops. (w : WorldView) → AreLed w (into_iter_items lives.old) → AreSure w (into_iter_items lives.old)) }
+    requires actors { (m : ℕ) (live : LiveView) → slice_get (into_iter_items lives.old) m ≡ Some live
+        → length live.world.seats ≤ ACTORS_MAX }
+    ensures sure { IfOk result (λ tops. (w : WorldView) → AreLed w (into_iter_items lives.old)
+        → AreSure w (into_iter_items lives.old)) }
     ensures tops { IfOk result (λ tops. AreTops classes.new.items (into_iter_items lives.old) tops.items) }
     ensures keeps { Keeps classes.old.items classes.new.items }
     ensures found { IfOk result (λ tops. AreFoundIn (into_iter_items lives.old) classes.old.items classes.new.items) }
@@ -110,7 +115,8 @@ pub(crate) fn all_ended<T: Tree + Drop>(
     worlds: Vec<Live<T>>,
     classes: &mut Vec<Class<T>>,
 ) -> Result<Vec<Option<usize>>, NoMemory>
-    requires actors { (m : ℕ) (live : LiveView) → slice_get worlds.items m ≡ Some live → length live.world.seats ≤ ACTORS_MAX }
+    requires actors { (m : ℕ) (live : LiveView) → slice_get worlds.items m ≡ Some live
+        → length live.world.seats ≤ ACTORS_MAX }
     ensures sure { IfOk result (λ tops. (w : WorldView) → AreLed w worlds.items → AreSure w worlds.items) }
     ensures tops { IfOk result (λ tops. AreTops classes.new.items worlds.items tops.items) }
     ensures keeps { Keeps classes.old.items classes.new.items }
@@ -147,7 +153,9 @@ pub(crate) fn spots_of(
     requires on { (s : ℕ) (stand : Stand) → slice_get stands.now s ≡ Some stand → stand.world < length tops.now }
     requires apart { (s : ℕ) (ways : Vec Way) → slice_get all.items s ≡ Some ways → AreApart ways.items }
     ensures many { IfOk result (λ spots. length spots.items ≡ length stands.now) }
-    ensures each { IfOk result (λ spots. (s : ℕ) (stand : Stand) (ways : Vec Way) (top : Option ℕ) → slice_get stands.now s ≡ Some stand → slice_get all.items s ≡ Some ways → slice_get tops.now stand.world ≡ Some top → slice_get spots.items s ≡ Some (spot_by top ways)) }
+    ensures each { IfOk result (λ spots. (s : ℕ) (stand : Stand) (ways : Vec Way) (top : Option ℕ)
+        → slice_get stands.now s ≡ Some stand → slice_get all.items s ≡ Some ways
+        → slice_get tops.now stand.world ≡ Some top → slice_get spots.items s ≡ Some (spot_by top ways)) }
     ensures apart { IfOk result (λ spots. IsLayer spots.items) }
 {
     let mut spots = Vec::new(alloc);

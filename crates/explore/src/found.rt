@@ -38,8 +38,8 @@ impl<T: Tree> Model for Ending<T> {
 /// An outcome: what the least of its lists comes to, and how many lists lead to it. Contracts see it as a `ClassView`.
 #[derive(Drop)]
 pub struct Class<T: Tree> {
-    /// The list with the fewest cuts, of these one with the fewest changes of actor, and of these the first one as lists
-    /// of numbers go; and what it comes to.
+    /// The list with the fewest cuts, of these one with the fewest changes of actor, and of these the first one as
+    /// lists of numbers go; and what it comes to.
     pub least: Ending<T>,
     /// How many full lists lead to the outcome, exactly below `turn_graph::COUNT_CAP`.
     pub lists: u64,

@@ -7,16 +7,19 @@ ghost use Rattle.explore.specs.Explored.{WhyNot};
 ghost use Rattle.explore.specs.Outside.{IsSame};
 ghost use Rattle.explore.specs.Points.{start, no_marks, Goes, IsTurn, AreWithin};
 ghost use Rattle.explore.specs.Search.{IsOver};
+ghost use Rattle.explore.specs.Spreading.{AreWorldsAfter};
 ghost use Rattle.explore.specs.Want.{replies_want};
 ghost use Rattle.explore.specs.Layers.{LiveView, Keeps, IsLed, IsSure, Leads, IsReportOf};
 
 use crate::beginnings::Beginnings;
+use crate::fingerprint::Fingerprint;
 use crate::found::Ending;
 use crate::layer::Live;
 use crate::limits::{Limits, SearchFault};
 use crate::marks::{Marks, marks_after, no_marks};
 use crate::outside::Tally;
 use crate::seen::Seen;
+use crate::table::Table;
 use crate::want::tells_want;
 use path_text::NoMemory;
 use race_core::{ACTORS_MAX, Report, World};
@@ -62,8 +65,10 @@ fn take_turn<T: Tree>(
 ) -> Result<(), NoMemory>
     requires few { AreWithin marks.old (2 ^ 40) }
     requires tally { IsTally world.old tally.old }
-    ensures turned { OnOk result (IsTurn (record { world = world.old; marks = marks.old }) actor (record { world = world.new; marks = marks.new })) }
+    ensures turned { OnOk result (IsTurn (record { world = world.old; marks = marks.old }) actor
+        (record { world = world.new; marks = marks.new })) }
     ensures tally { OnOk result (IsTally world.new tally.new) }
+    ensures told { tally.new.told ≡ tally.old.told }
 {
     let after = marks_after(world, *marks, actor);
     let events = world.book().events().len();
@@ -88,6 +93,7 @@ fn take_turns<T: Tree>(
     requires tally { IsTally world.old tally.old }
     ensures went { OnOk result (Goes (start world.old) turns.now (record { world = world.new; marks = marks.new })) }
     ensures tally { OnOk result (IsTally world.new tally.new) }
+    ensures told { OnOk result (tally.new.told ≡ tally.old.told) }
     ensures actors { OnOk result (length world.new.seats ≡ length world.old.seats) }
 {
     for actor in turns {
@@ -107,6 +113,7 @@ fn gone<T: Tree + Drop>(
     requires tally { IsTally world tally }
     ensures led { IfOk result (λ live. IsLed world live) }
     ensures turns { IfOk result (λ live. live.turns ≡ turns.items) }
+    ensures told { IfOk result (λ live. live.told ≡ tally.told) }
     ensures actors { IfOk result (λ live. length live.world.seats ≡ length world.seats) }
 {
     let mut marks = no_marks();
@@ -125,17 +132,19 @@ fn gone<T: Tree + Drop>(
     }
 }
 
-/// A new world after these turns.
+/// A new world after these turns, in which changes outside of roots are told or not.
 ///
 /// Errors: TooManyActors over 64; NoMemory where it couldn't be made, or where memory for its report ran short.
 pub(crate) fn led<T: Tree + Drop, B: Beginnings<T>>(
     alloc: Global,
     beginnings: &B,
+    told: bool,
     turns: Vec<u32>,
 ) -> Result<Live<T>, SearchFault>
     requires few { length turns.items < 2 ^ 40 }
     ensures led { IfOk result (λ live. IsLed (B.opening beginnings.now) live) }
     ensures turns { IfOk result (λ live. live.turns ≡ turns.items) }
+    ensures told { IfOk result (λ live. live.told ≡ told) }
     ensures actors { IfOk result (λ live. length live.world.seats ≡ length (B.opening beginnings.now).seats) }
     ensures few { OnOk result (length (B.opening beginnings.now).seats ≤ ACTORS_MAX) }
     ensures err { (limits : Limits) → IfErr result (WhyNot (B.opening beginnings.now) limits) }
@@ -145,7 +154,7 @@ pub(crate) fn led<T: Tree + Drop, B: Beginnings<T>>(
         end(alloc, world);
         return Err(SearchFault::TooManyActors);
     }
-    let Ok(tally) = Tally::of(alloc, &world) else {
+    let Ok(tally) = Tally::of(alloc, &world, told) else {
         end(alloc, world);
         return Err(SearchFault::NoMemory);
     };
@@ -160,7 +169,8 @@ pub(crate) fn led<T: Tree + Drop, B: Beginnings<T>>(
 
 // The report on a world. NoMemory where memory ran short in its run, too.
 fn told<T: Tree + Drop>(alloc: Global, world: World<T>) -> Result<Report<T>, NoMemory>
-    ensures ran { IfOk result (λ report. RunsTo world [] (T.state report.tree) report.events.events report.replies.items report.kept.items) }
+    ensures ran { IfOk result (λ report.
+        RunsTo world [] (T.state report.tree) report.events.events report.replies.items report.kept.items) }
     ensures none { IfOk result (λ report. replies_want report.replies.items ≡ false) }
 {
     let Ok(report) = world.run(alloc, [].as_slice()) else {
@@ -196,32 +206,69 @@ pub(crate) fn ended<T: Tree + Drop>(alloc: Global, live: Live<T>) -> Result<Endi
 }
 
 impl<T: Tree> Live<T> {
-    // Whether the worlds are the same: alike, and each actor has made as many changes outside of its root.
+    // Whether the worlds are the same: alike, and each actor whose changes are told has made as many outside of its
+    // root.
     fn is_same(&self, other: &Live<T>) -> bool
-        ensures { IsTrue result ↔ IsSame self.now.world other.now.world }
+        ensures { IsTrue result
+            ↔ ((self.now.told ≡ other.now.told) × IsSame self.now.told self.now.world other.now.world) }
     {
         self.tally.same(&other.tally) && self.seen.is_alike(&other.seen)
     }
 }
 
-// The place of the first world that is the same as that one.
-fn same_at<T: Tree>(worlds: &[Live<T>], live: &Live<T>) -> Option<usize>
-    ensures { IfSome result (λ at. (other : LiveView) × ((slice_get worlds.now at ≡ Some other) × IsSame live.now.world other.world)) }
+// Whether the world at that place is the same as that one.
+fn is_same_at<T: Tree>(worlds: &[Live<T>], at: usize, live: &Live<T>) -> bool
+    ensures { IsTrue result → (other : LiveView)
+        × ((slice_get worlds.now at ≡ Some other) × IsSame live.now.told live.now.world other.world) }
 {
-    for (at, other) in worlds.iter().enumerate() {
-        if live.is_same(other) {
+    match worlds.get(at) {
+        Some(other) => live.is_same(other),
+        None => false,
+    }
+}
+
+// The place of a world that is the same as that one, of that fingerprint.
+fn same_at<T: Tree>(
+    worlds: &[Live<T>],
+    table: &Table,
+    print: Fingerprint,
+    live: &Live<T>,
+) -> Option<usize>
+    ensures { IfSome result (λ at. (other : LiveView)
+        × ((slice_get worlds.now at ≡ Some other) × IsSame live.now.told live.now.world other.world)) }
+{
+    let mut place = table.last(print);
+    while let Some(at) = place {
+        if is_same_at(worlds, at, live) {
             return Some(at);
         }
+        place = table.before(at);
     }
     None
 }
 
-// Whether none of the worlds is alike. It tells what is counted as a state, of which nothing is proved.
-fn is_unlike_all<T: Tree>(worlds: &[Live<T>], live: &Live<T>) -> bool {
-    for other in worlds {
-        if live.seen.is_alike(&other.seen) {
+// Whether the world at that place is alike.
+fn is_alike_at<T: Tree>(worlds: &[Live<T>], at: usize, live: &Live<T>) -> bool {
+    match worlds.get(at) {
+        Some(other) => live.seen.is_alike(&other.seen),
+        None => false,
+    }
+}
+
+// Whether none of the worlds of that fingerprint is alike. It tells what is counted as a state, of which nothing is
+// proved.
+fn is_unlike_all<T: Tree>(
+    worlds: &[Live<T>],
+    table: &Table,
+    print: Fingerprint,
+    live: &Live<T>,
+) -> bool {
+    let mut place = table.last(print);
+    while let Some(at) = place {
+        if is_alike_at(worlds, at, live) {
             return false;
         }
+        place = table.before(at);
     }
     true
 }
@@ -246,18 +293,22 @@ fn counted<T: Tree>(live: Live<T>, is_state: bool) -> Live<T>
     }
 }
 
-// The place of a world that is the same as that one; it is put after the others where none is. NoMemory where its room was
-// refused, or where memory ran short in the one that isn't kept.
+// The place of a world that is the same as that one; it is put after the others where none is. NoMemory where its
+// room was refused, or where memory ran short in the one that isn't kept.
 fn put<T: Tree + Drop>(
     alloc: Global,
     worlds: &mut Vec<Live<T>>,
+    table: &mut Table,
     live: Live<T>,
 ) -> Result<usize, NoMemory>
     ensures keeps { Keeps worlds.old.items worlds.new.items }
-    ensures leads { IfOk result (λ at. (w : WorldView) → IsLed w live → Leads w live.turns worlds.new.items at) }
-    ensures new { (k : ℕ) (born : LiveView) → slice_get worlds.new.items k ≡ Some born → (slice_get worlds.old.items k ≡ Some born) ⊎ (born ≡ live) }
+    ensures leads { IfOk result (λ at. (w : WorldView) → IsLed w live
+        → Leads live.told w live.turns worlds.new.items at) }
+    ensures new { (k : ℕ) (born : LiveView) → slice_get worlds.new.items k ≡ Some born
+        → (slice_get worlds.old.items k ≡ Some born) ⊎ (born ≡ live) }
 {
-    if let Some(at) = same_at(worlds.as_slice(), &live) {
+    let print = live.seen.fingerprint();
+    if let Some(at) = same_at(worlds.as_slice(), table, print, &live) {
         let _ending = ended(alloc, live)?;
         return Ok(at);
     }
@@ -265,36 +316,51 @@ fn put<T: Tree + Drop>(
         end(alloc, live.into_world());
         return Err(NoMemory);
     }
-    let is_state = is_unlike_all(worlds.as_slice(), &live);
+    let is_state = is_unlike_all(worlds.as_slice(), table, print, &live);
+    let Ok(()) = table.push(print) else {
+        end(alloc, live.into_world());
+        return Err(NoMemory);
+    };
     let at = worlds.len();
     worlds.push_reserved(counted(live, is_state));
     Ok(at)
 }
 
-/// How many of the worlds have none before them that is alike.
-pub(crate) fn count_states<T: Tree>(worlds: &[Live<T>]) -> u64 {
-    worlds.iter().filter(|live| live.is_state).count() as u64
+/// How many of the worlds from that place on have none before them that is alike.
+pub(crate) fn count_states<T: Tree>(worlds: &[Live<T>], from: usize) -> u64 {
+    let mut count: u64 = 0;
+    for at in from..worlds.len() {
+        let live = &worlds[at];
+        if live.is_state {
+            count = count.saturating_add(1);
+        }
+    }
+    count
 }
 
 /// The place, among the next layer's worlds, of one like that after these turns and the actor's; it is put after the
-/// others where none is. NoMemory where room was refused.
+/// others where none is. Changes outside of roots are told or not. NoMemory where room was refused.
 pub(crate) fn world_after<T: Tree + Drop, B: Beginnings<T>>(
     alloc: Global,
     beginnings: &B,
+    told: bool,
     turns: &[u32],
     actor: u32,
     next: &mut Vec<Live<T>>,
+    table: &mut Table,
 ) -> Result<usize, NoMemory>
     requires few { length turns.now + 1 < 2 ^ 40 }
     ensures keeps { Keeps next.old.items next.new.items }
-    ensures leads { IfOk result (λ at. Leads (B.opening beginnings.now) (turns.now ++ actor ∷ []) next.new.items at) }
-    ensures born { (k : ℕ) (born : LiveView) → slice_get next.new.items k ≡ Some born → (slice_get next.old.items k ≡ Some born) ⊎ ((born.turns ≡ turns.now ++ actor ∷ []) × (IsLed (B.opening beginnings.now) born × (length born.world.seats ≡ length (B.opening beginnings.now).seats))) }
+    ensures leads { IfOk result (λ at.
+        Leads told (B.opening beginnings.now) (turns.now ++ actor ∷ []) next.new.items at) }
+    ensures born { AreWorldsAfter (B.opening beginnings.now) told
+        (turns.now ++ actor ∷ []) next.old.items next.new.items }
 {
     let mut all = Vec::with_capacity(alloc, turns.len() + 1)?;
     all.extend_from_slice(turns)?;
     all.push(actor)?;
-    let Ok(live) = led(alloc, beginnings, all) else {
+    let Ok(live) = led(alloc, beginnings, told, all) else {
         return Err(NoMemory);
     };
-    put(alloc, next, live)
+    put(alloc, next, table, live)
 }

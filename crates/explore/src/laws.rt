@@ -15,9 +15,9 @@ pub fn calls_are_blind()
     ensures takes { AnswersAreTakenBlindly }
 {}
 
-/// Worlds that differ in the numbers of handles alone take alike turns, with the same luck; the same actors have something
-/// left to do in them; and they tell the same. So after the same turns of any actors they still tell the same. Where each
-/// actor has made as many changes outside of the same root, it has after such a turn, too.
+/// Worlds that differ in the numbers of handles alone take alike turns, with the same luck; the same actors have
+/// something left to do in them; and they tell the same. So after the same turns of any actors they still tell the
+/// same. Where each actor has made as many changes outside of the same root, it has after such a turn, too.
 pub fn alike_worlds_go_alike()
     ensures turns { AlikeWorldsTakeAlikeTurns }
     ensures busy { AlikeWorldsAreBusyAlike }
@@ -26,38 +26,38 @@ pub fn alike_worlds_go_alike()
     ensures outside { AlikeWorldsActOutsideAlike }
 {}
 
-/// Want of memory is told: a turn that lacked some is the turn with memory, or else its actor's call closes what it holds and
-/// fails so, whatever comes. So a run to the end without such a reply is the run with memory for all.
+/// Want of memory is told: a turn that lacked some is the turn with memory, or else its actor's call closes what it
+/// holds and fails so, whatever comes. So a run to the end without such a reply is the run with memory for all.
 pub fn want_is_told()
     ensures told { WantIsTold }
     ensures stays { WantStays }
     ensures runs { RunsWithoutWantAreFull }
 {}
 
-/// What all schedules come to. A full list of turns has only turns of actors who have something left to do, and leaves
-/// nobody any. The report on a run of any schedule is that of a full list, and that on a full list is the list's own,
-/// where nobody in it lacked memory. And where of each list that was chosen, and each actor who has something left to do
-/// after it, one was chosen that leads to a world like that after the actor's turn, the chosen ones come to all that the
-/// full lists come to.
+/// What all schedules come to. A full list of turns has only turns of actors who have something left to do, and
+/// leaves nobody any. The report on a run of any schedule is that of a full list, and that on a full list is the
+/// list's own, where nobody in it lacked memory. And where of each list that was chosen, and each actor who has
+/// something left to do after it, one was chosen that leads to a world like that after the actor's turn, the chosen
+/// ones come to all that the full lists come to.
 pub fn chosen_lists_stand_for_all()
     ensures chosen { ChosenListsStandForAll }
     ensures reports { ReportsAreOfFullLists }
     ensures lists { FullListsAreReported }
 {}
 
-/// What a layered graph stands for. Where its first spot is for the world, each spot that ends words for worlds in which
-/// nobody has anything left to do, and the ways from each other spot are the turns of all actors who may have the next one,
-/// there the graph's words are exactly the lists that are asked for: of each the class says the outcome, and the ways the
-/// cuts and the changes of actor.
+/// What a layered graph stands for. Where its first spot is for the world, each spot that ends words for worlds in
+/// which nobody has anything left to do, and the ways from each other spot are the turns of all actors who may have
+/// the next one, there the graph's words are exactly the lists that are asked for: of each the class says the
+/// outcome, and the ways the cuts and the changes of actor.
 pub fn words_are_lists()
     ensures { WordsAreLists }
 {}
 
-/// What is concluded from the counts of such a graph. Where each class was found by a list that is asked for, and no two have
-/// the same outcome, there each class has a least list that was counted. And where that list is gone through for the class's
-/// report, and each class has the number that was counted of it, there the classes are what all lists that are asked for
-/// come to: all outcomes, each once, the least list of each, and how many lists lead to it; and so many lists there are in
-/// all, the longest of that length.
+/// What is concluded from the counts of such a graph. Where each class was found by a list that is asked for, and no
+/// two have the same outcome, there each class has a least list that was counted. And where that list is gone
+/// through for the class's report, and each class has the number that was counted of it, there the classes are what
+/// all lists that are asked for come to: all outcomes, each once, the least list of each, and how many lists lead to
+/// it; and so many lists there are in all, the longest of that length.
 pub fn counts_conclude()
     ensures leasts { FoundClassesHaveLeasts }
     ensures merged { CountsConclude }

@@ -1,19 +1,20 @@
 //! Every schedule of actors' planned calls.
 //!
-//! `explore` tells what all full lists of turns of a world come to, those with at most so many cuts: the outcomes, of each
-//! how many lists lead to it, and the least of them with its report (`IsMerged` of `specs/Concluded.antt`). The layer above
-//! uses that contract alone.
+//! `explore` tells what all full lists of turns of a world come to, those with at most so many cuts: the outcomes,
+//! of each how many lists lead to it, and the least of them with its report (`IsMerged` of `specs/Promise.antt`).
+//! The layer above uses that contract alone.
 //!
 //! Two worlds are *alike* where they differ in the numbers of their actors' handles alone (`specs/Alike.antt`), and
 //! `Seen::is_alike` tells exactly whether two are. The search goes on with one of alike worlds, layer by layer
 //! (`specs/Layers.antt`); the stands of lists on them make a graph, and the laws say that its words are the lists.
 //!
-//! What an actor changes outside of its root (`specs/Outside.antt`) is a part of an outcome: worlds are taken for one only where
-//! each actor has made as many such changes.
+//! Where it is asked for, what an actor changes outside of its root (`specs/Outside.antt`) is a part of an outcome:
+//! worlds are taken for one then only where each actor has made as many such changes.
 #![tactic(auto)]
 
 mod beginnings;
 mod ends;
+mod fingerprint;
 mod found;
 mod growing;
 mod laws;
@@ -22,10 +23,12 @@ mod limits;
 mod marks;
 mod outside;
 mod progress;
+mod report_laws;
 mod same;
 mod scene;
 mod search;
 mod seen;
+mod table;
 mod tally;
 mod want;
 mod ways;
@@ -36,8 +39,9 @@ pub use laws::{
     alike_worlds_go_alike, calls_are_blind, chosen_lists_stand_for_all, counts_conclude,
     want_is_told, words_are_lists,
 };
-pub use limits::{Limits, SearchFault};
+pub use limits::{Limits, Scope, SearchFault};
 pub use progress::{Progress, Silent};
+pub use report_laws::reports_without_want_are_one;
 pub use scene::Scene;
 pub use search::explore;
 pub use seen::Seen;

@@ -5,6 +5,15 @@ ghost use Rattle.explore.specs.declared.limits.SearchFault.TheVariants as search
 use path_text::NoMemory;
 use thiserror::Error;
 
+/// Which lists are gone through, and what tells their outcomes apart.
+#[derive(Clone, Copy, Debug, PartialEq, Eq)]
+pub struct Scope {
+    /// Only the lists with at most so many cuts, or all of them.
+    pub cuts: Option<u64>,
+    /// Whether how many changes each actor makes outside of its root is told: outcomes that differ in it are two then.
+    pub outside: bool,
+}
+
 /// What is gone through at most.
 #[derive(Clone, Copy, Debug, PartialEq, Eq)]
 pub struct Limits {
@@ -12,11 +21,11 @@ pub struct Limits {
     pub states: u64,
     /// The most turns of a list.
     pub turns: u32,
-    /// Only the lists with at most so many cuts, or all of them.
-    pub cuts: Option<u64>,
+    /// Which lists.
+    pub scope: Scope,
 }
 
-/// Why nothing is told.
+/// Why a search gives no findings.
 #[derive(Clone, Copy, Debug, PartialEq, Eq, Error)]
 pub enum SearchFault {
     /// There are more than 64 actors.

@@ -3,6 +3,7 @@ ghost use Rattle.std.specs.Prelude.{◌≡◌, ◌^◌, ◌↔◌, IsTrue};
 ghost use Rattle.explore.specs.Explored.{IsWithin};
 ghost use Rattle.explore.specs.Points.{no_marks, marks_after, AreWithin, MayGo};
 
+use crate::limits::Scope;
 use race_core::World;
 use tree_model::Tree;
 
@@ -54,10 +55,11 @@ fn is_within(most: Option<u64>, cuts: u64) -> bool
     }
 }
 
-/// Whether the actor may have the next turn: it has something left to do, and its turn leaves the cuts within the bound.
-pub(crate) fn may_go<T: Tree>(world: &World<T>, marks: Marks, most: Option<u64>, actor: u32) -> bool
+/// Whether the actor may have the next turn: it has something left to do, and its turn leaves the cuts within the
+/// bound.
+pub(crate) fn may_go<T: Tree>(world: &World<T>, marks: Marks, scope: Scope, actor: u32) -> bool
     requires { AreWithin marks (2 ^ 40) }
-    ensures { IsTrue result ↔ MayGo most (record { world = world.now; marks = marks }) actor }
+    ensures { IsTrue result ↔ MayGo scope (record { world = world.now; marks = marks }) actor }
 {
-    world.has_turns(actor) && is_within(most, marks_after(world, marks, actor).cuts)
+    world.has_turns(actor) && is_within(scope.cuts, marks_after(world, marks, actor).cuts)
 }

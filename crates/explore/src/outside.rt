@@ -1,5 +1,5 @@
 //! What actors change outside of their roots, counted while a world is gone through.
-ghost use Rattle.std.specs.Prelude.{◌≡◌, ◌↔◌, ◌<◌, ◌≤◌, ◌+◌, ◌^◌, ◌&&◌, [], ℕ, length, IfOk, OnOk, IsTrue, Some, None, slice_get, slice_index_or};
+ghost use Rattle.std.specs.Prelude.{◌≡◌, ◌↔◌, ◌<◌, ◌≤◌, ◌+◌, ◌^◌, ◌&&◌, [], ℕ, true, false, length, IfOk, OnOk, IsTrue, Some, None, slice_get, slice_index_or};
 ghost use Rattle.tree_model.specs.StepLaws.{is_on_entries};
 ghost use Rattle.tree_model.specs.Steps.{node_held, held};
 ghost use Rattle.race_core.specs.declared.opening.TheConstants.{ACTORS_MAX};
@@ -19,10 +19,12 @@ use tree_model::{
     Actor, Answer, Event, HandleNo, Inode, Node, OpenHandle, Snapshot, Step, StepOf, Tree,
 };
 
-/// How many changes each actor has made outside of its root, and what that is counted by. Contracts see it as a
-/// `TallyView`.
+/// How many changes each actor has made outside of its root, where that is told, and what it is counted by.
+/// Contracts see it as a `TallyView`.
 #[derive(Drop)]
 pub(crate) struct Tally {
+    // Whether changes are told. Where they aren't, the rest is empty.
+    told: bool,
     // The directory that each actor's root handle is on.
     roots: Vec<Option<Node>>,
     counts: Vec<u64>,
@@ -35,7 +37,7 @@ impl Model for Tally {
 
     ghost Value = { TallyView };
 
-    ghost view = { λ t. record { roots = t.roots.items; counts = t.counts.items; nodes = t.tree.nodes } };
+    ghost view = { λ t. record { told = t.told; roots = t.roots.items; counts = t.counts.items; nodes = t.tree.nodes } };
 }
 
 // The node of a handle, if it is open and the actor's.
@@ -89,7 +91,8 @@ fn reaches_outside(
     actor: Actor,
     step: &Step,
 ) -> bool
-    ensures { result ≡ any_outside (record { nodes = nodes.now; handles = handles.now }) root.now actor (changed_by step.now) }
+    ensures { result ≡ any_outside
+        (record { nodes = nodes.now; handles = handles.now }) root.now actor (changed_by step.now) }
 {
     match step {
         StepOf::MakeDir(dir, _) | StepOf::MakeFile(dir, _) | StepOf::MakeLink(dir, _, _) => {
@@ -128,7 +131,8 @@ fn leaves_root(
     handles: &[Option<OpenHandle>],
     event: &Event,
 ) -> bool
-    ensures { result ≡ any_outside (record { nodes = nodes.now; handles = handles.now }) (slice_index_or roots.now event.now.actor None) event.now.actor (changed_by event.now.step) }
+    ensures { result ≡ any_outside (record { nodes = nodes.now; handles = handles.now })
+        (slice_index_or roots.now event.now.actor None) event.now.actor (changed_by event.now.step) }
 {
     let Some(root) = roots.get(event.actor.number() as usize) else {
         return false;
@@ -155,7 +159,8 @@ fn root_of<T: Tree>(
 ) -> Result<Option<Node>, NoMemory>
     requires at { at < length world.now.seats }
     requires few { at < ACTORS_MAX }
-    ensures { IfOk result (λ root. (seat : Seat) → slice_get world.now.seats at ≡ Some seat → root ≡ held opening.now at seat.ledger.root.handle) }
+    ensures { IfOk result (λ root. (seat : Seat) → slice_get world.now.seats at ≡ Some seat
+        → root ≡ held opening.now at seat.ledger.root.handle) }
 {
     let mut handles = Vec::new(alloc);
     world.push_handles(at, &mut handles)?;
@@ -166,11 +171,25 @@ fn root_of<T: Tree>(
 }
 
 impl Tally {
-    /// The tally of a world in which no step was made yet. NoMemory where its room was refused.
-    pub(crate) fn of<T: Tree>(alloc: Global, world: &World<T>) -> Result<Tally, NoMemory>
+    // Where changes aren't told.
+    fn none<T: Tree>(alloc: Global, world: &World<T>) -> Tally
+        ensures tally { IsTally world.now result }
+        ensures told { result.told ≡ false }
+    {
+        Tally {
+            told: false,
+            roots: Vec::new(alloc),
+            counts: Vec::new(alloc),
+            tree: Snapshot::new(Vec::new(alloc), Vec::new(alloc)),
+        }
+    }
+
+    // Where they are, of a world in which no step was made yet. NoMemory where its room was refused.
+    fn of_all<T: Tree>(alloc: Global, world: &World<T>) -> Result<Tally, NoMemory>
         requires few { length world.now.seats ≤ ACTORS_MAX }
         requires fresh { world.now.book.events ≡ [] }
-        ensures { IfOk result (IsTally world.now) }
+        ensures tally { IfOk result (IsTally world.now) }
+        ensures told { IfOk result (λ tally. tally.told ≡ true) }
     {
         let tree = world.book().tree().snapshot(alloc)?;
         let mut roots = Vec::new(alloc);
@@ -180,16 +199,39 @@ impl Tally {
             counts.push(0)?;
         }
         Ok(Tally {
+            told: true,
             roots,
             counts,
             tree,
         })
     }
 
+    /// The tally of a world in which no step was made yet, whose changes are told or not. NoMemory where its room
+    /// was refused.
+    pub(crate) fn of<T: Tree>(
+        alloc: Global,
+        world: &World<T>,
+        told: bool,
+    ) -> Result<Tally, NoMemory>
+        requires few { length world.now.seats ≤ ACTORS_MAX }
+        requires fresh { world.now.book.events ≡ [] }
+        ensures tally { IfOk result (IsTally world.now) }
+        ensures told { IfOk result (λ tally. tally.told ≡ told) }
+    {
+        if told {
+            Tally::of_all(alloc, world)
+        } else {
+            Ok(Tally::none(alloc, world))
+        }
+    }
+
     // Counts the last event of the book, which is at that place. NoMemory where room was refused.
     fn count<T: Tree>(&mut self, alloc: Global, world: &World<T>, at: usize) -> Result<(), NoMemory>
         requires few { at + 1 < 2 ^ 64 }
-        requires counted { (before : BookedHistory) × (IsLatest before world.now.book × (IsCounted before self.old × (at ≡ length before.events))) }
+        requires told { self.old.told ≡ true }
+        requires counted { (before : BookedHistory)
+            × (IsLatest before world.now.book × (IsCounted before self.old × (at ≡ length before.events))) }
+        ensures told { self.new.told ≡ self.old.told }
         ensures roots { self.new.roots ≡ self.old.roots }
         ensures counted { OnOk result (IsCounted world.now.book self.new) }
     {
@@ -204,16 +246,24 @@ impl Tally {
         Ok(())
     }
 
-    /// Counts what a turn added to the book, which had so many events before. NoMemory where room was refused.
+    /// Counts what a turn added to the book, which had so many events before, if it is told. NoMemory where room was
+    /// refused.
     pub(crate) fn follow<T: Tree>(
         &mut self,
         alloc: Global,
         world: &World<T>,
         events: usize,
     ) -> Result<(), NoMemory>
-        requires { (before : WorldView) × (IsTally before self.old × ((luck : Luck) × ((i : ℕ) × ((world.now ≡ turn luck before i) × (events ≡ length before.book.events))))) }
-        ensures { OnOk result (IsTally world.now self.new) }
+        requires { (before : WorldView)
+            × (IsTally before self.old
+            × ((luck : Luck)
+            × ((i : ℕ) × ((world.now ≡ turn luck before i) × (events ≡ length before.book.events))))) }
+        ensures tally { OnOk result (IsTally world.now self.new) }
+        ensures told { self.new.told ≡ self.old.told }
     {
+        if !self.told {
+            return Ok(());
+        }
         if world.book().events().len() == events {
             return Ok(());
         }
@@ -221,18 +271,24 @@ impl Tally {
         Ok(())
     }
 
-    /// Whether each actor has made as many changes outside of its root, and has the same one.
+    /// Whether the same is told: each actor whose changes are has made as many outside of its root, and has the same
+    /// one.
     pub(crate) fn same(&self, other: &Tally) -> bool
-        ensures { IsTrue result ↔ ((self.now.roots ≡ other.now.roots) × (self.now.counts ≡ other.now.counts)) }
+        ensures { IsTrue result
+            ↔ ((self.now.told ≡ other.now.told)
+            × ((self.now.roots ≡ other.now.roots) × (self.now.counts ≡ other.now.counts))) }
     {
-        same_roots(&self.roots, &other.roots) && self.counts == other.counts
+        self.told == other.told
+            && same_roots(&self.roots, &other.roots)
+            && self.counts == other.counts
     }
 
-    /// How many changes each actor has made outside of its root.
+    /// How many changes each actor has made outside of its root; nothing where they aren't told.
     pub(crate) fn into_counts(self) -> Vec<u64>
         ensures { result.items ≡ self.counts }
     {
         let Tally {
+            told: _,
             roots: _,
             counts,
             tree: _,

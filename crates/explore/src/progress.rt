@@ -1,8 +1,8 @@
-//! Who is told how far a search has come.
+//! Who follows how far a search has come.
 
-/// Who is told how far a search has come.
+/// Who follows how far a search has come.
 pub trait Progress {
-    /// So many states have been gone through by now. It is told after each layer.
+    /// So many states have been gone through by now. The search calls this after each layer.
     fn passed(&mut self, states: u64);
 }
 

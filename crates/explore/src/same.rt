@@ -39,7 +39,8 @@ pub(crate) fn same_nodes(nodes: &[Inode], others: &[Inode]) -> bool
 /// Whether each of the first actors, as many as that, has as many handles open in the one tree as in the other.
 pub(crate) fn same_counts<T: Tree>(tree: &T, other: &T, actors: usize) -> bool
     requires { actors ≤ ACTORS_MAX }
-    ensures { IsTrue result ↔ ((a : ℕ) → a < actors → held_count (T.state tree.now) a ≡ held_count (T.state other.now) a) }
+    ensures { IsTrue result ↔ ((a : ℕ) → a < actors
+        → held_count (T.state tree.now) a ≡ held_count (T.state other.now) a) }
 {
     for at in 0..actors {
         let actor = Actor::new(at as u32);

@@ -4,7 +4,8 @@ ghost use Rattle.std.specs.Global.{Vec};
 ghost use Rattle.race_core.specs.declared.opening.TheConstants.{ACTORS_MAX};
 ghost use Rattle.turn_graph.specs.declared.graph.Spot.{Spot};
 ghost use Rattle.explore.specs.Explored.{WhyNot};
-ghost use Rattle.explore.specs.Concluded.{IsMerged, IsToldBy, HasShort, AsksIn, AreShort, AskIn, AreToldIn};
+ghost use Rattle.explore.specs.Promise.{IsMerged};
+ghost use Rattle.explore.specs.Concluded.{IsToldBy, HasShort, AsksIn, AreShort, AskIn, AreToldIn};
 ghost use Rattle.explore.specs.Layers.{LayerView, AreOn, AreLed, IsFirst, IsPassed, HasSearched};
 
 use crate::beginnings::Beginnings;
@@ -12,7 +13,7 @@ use crate::ends::{all_ended, spots_of};
 use crate::found::{Class, Findings};
 use crate::growing::{ended, give_up, led};
 use crate::layer::{Layer, Stand};
-use crate::limits::{Limits, SearchFault};
+use crate::limits::{Limits, Scope, SearchFault};
 use crate::marks::no_marks;
 use crate::progress::Progress;
 use crate::ways::spread;
@@ -35,7 +36,7 @@ fn first<T: Tree + Drop, B: Beginnings<T>>(
     beginnings: &B,
     limits: Limits,
 ) -> Result<Layer<T>, SearchFault>
-    ensures first { IfOk result (λ layer. IsFirst (B.opening beginnings.now) layer) }
+    ensures first { IfOk result (λ layer. IsFirst (B.opening beginnings.now) limits.scope layer) }
     ensures on { IfOk result (λ layer. AreOn 0 layer) }
     ensures actors { OnOk result (length (B.opening beginnings.now).seats ≤ ACTORS_MAX) }
     ensures states { OnOk result (1 ≤ limits.states) }
@@ -53,7 +54,7 @@ fn first<T: Tree + Drop, B: Beginnings<T>>(
     let Ok(()) = stands.push(stand) else {
         return Err(SearchFault::NoMemory);
     };
-    let live = match led(alloc, beginnings, Vec::new(alloc)) {
+    let live = match led(alloc, beginnings, limits.scope.outside, Vec::new(alloc)) {
         Ok(live) => live,
         Err(fault) => return Err(fault),
     };
@@ -67,8 +68,8 @@ fn first<T: Tree + Drop, B: Beginnings<T>>(
     Ok(Layer { worlds, stands })
 }
 
-// Goes from one layer on to the next: its worlds are ended, and the spots of its stands added to the graph. The next layer,
-// and how many states it has.
+// Goes from one layer on to the next: its worlds are ended, and the spots of its stands added to the graph. The next
+// layer, and how many states it has.
 //
 // Errors: TooManyStates where it would have more than so many; NoMemory where room was refused.
 fn pass<T: Tree + Drop, B: Beginnings<T>>(
@@ -84,7 +85,10 @@ fn pass<T: Tree + Drop, B: Beginnings<T>>(
     requires on { AreOn (length graph.old) layer }
     requires led { AreLed (B.opening beginnings.now) layer.worlds }
     requires actors { length (B.opening beginnings.now).seats ≤ ACTORS_MAX }
-    ensures passed { IfOk result (λ next. (spots : Vec Spot) × ((graph.new ≡ graph.old ++ spots ∷ []) × IsPassed (B.opening beginnings.now) limits.cuts (length graph.old) layer next.0 spots.items classes.old.items classes.new.items)) }
+    ensures passed { IfOk result (λ next. (spots : Vec Spot)
+        × ((graph.new ≡ graph.old ++ spots ∷ [])
+        × IsPassed (B.opening beginnings.now) limits.scope
+        (length graph.old) layer next.0 spots.items classes.old.items classes.new.items)) }
     ensures room { IfOk result (λ next. next.1 ≤ room) }
     ensures err { IfErr result (WhyNot (B.opening beginnings.now) limits) }
 {
@@ -109,8 +113,8 @@ fn pass<T: Tree + Drop, B: Beginnings<T>>(
 
 // Goes from layer to layer until nobody may have a turn; how many states there were.
 //
-// Errors: TooManyActors over 64; TooManyTurns where a list has more turns than the limit; TooManyStates where there are
-// more worlds than the limit; NoMemory where room was refused.
+// Errors: TooManyActors over 64; TooManyTurns where a list has more turns than the limit; TooManyStates where there
+// are more worlds than the limit; NoMemory where room was refused.
 fn search<T: Tree + Drop, B: Beginnings<T>, P: Progress>(
     alloc: Global,
     beginnings: &B,
@@ -121,7 +125,9 @@ fn search<T: Tree + Drop, B: Beginnings<T>, P: Progress>(
 ) -> Result<u64, SearchFault>
     requires graph { graph.old ≡ [] }
     requires classes { classes.old.items ≡ [] }
-    ensures searched { OnOk result ((last : LayerView) × ((last.stands ≡ []) × HasSearched (B.opening beginnings.now) limits.cuts last graph.new classes.new.items)) }
+    ensures searched { OnOk result ((last : LayerView)
+        × ((last.stands ≡ [])
+        × HasSearched (B.opening beginnings.now) limits.scope last graph.new classes.new.items)) }
     ensures states { IfOk result (λ states. states ≤ limits.states) }
     ensures depth { OnOk result (length graph.new ≤ limits.turns + 1) }
     ensures err { IfErr result (WhyNot (B.opening beginnings.now) limits) }
@@ -148,17 +154,19 @@ fn search<T: Tree + Drop, B: Beginnings<T>, P: Progress>(
 fn told_class<T: Tree + Drop, B: Beginnings<T>>(
     alloc: Global,
     beginnings: &B,
+    scope: Scope,
     count: &Count,
 ) -> Result<Class<T>, NoMemory>
     requires short { HasShort count.now }
-    ensures told { IfOk result (λ class. (most : Option ℕ) → AsksIn (B.opening beginnings.now) most count.now → IsToldBy (B.opening beginnings.now) most count.now class) }
+    ensures told { IfOk result (λ class. AsksIn (B.opening beginnings.now) scope count.now
+        → IsToldBy (B.opening beginnings.now) scope count.now class) }
 {
     let Some(least) = &count.least else {
         unreachable!();
     };
     let mut turns = Vec::new(alloc);
     turns.extend_from_slice(least.word.as_slice())?;
-    let Ok(live) = led(alloc, beginnings, turns) else {
+    let Ok(live) = led(alloc, beginnings, scope.outside, turns) else {
         return Err(NoMemory);
     };
     let ending = ended(alloc, live)?;
@@ -174,32 +182,37 @@ fn told_class<T: Tree + Drop, B: Beginnings<T>>(
 fn told_classes<T: Tree + Drop, B: Beginnings<T>>(
     alloc: Global,
     beginnings: &B,
+    scope: Scope,
     counts: &[Count],
 ) -> Result<Vec<Class<T>>, NoMemory>
     requires short { AreShort counts.now }
     ensures many { IfOk result (λ classes. length classes.items ≡ length counts.now) }
-    ensures told { IfOk result (λ classes. (most : Option ℕ) → AskIn (B.opening beginnings.now) most counts.now → AreToldIn (B.opening beginnings.now) most counts.now classes.items) }
+    ensures told { IfOk result (λ classes. AskIn (B.opening beginnings.now) scope counts.now
+        → AreToldIn (B.opening beginnings.now) scope counts.now classes.items) }
 {
     let mut classes = Vec::new(alloc);
     for count in counts {
-        classes.push(told_class(alloc, beginnings, count)?)?;
+        classes.push(told_class(alloc, beginnings, scope, count)?)?;
     }
     Ok(classes)
 }
 
-/// Goes through every full list of turns with at most so many cuts, and tells each outcome once, with the number of its
-/// lists and the least of them. Of worlds that differ in the numbers of handles alone, and in which each actor has made as many
-/// changes outside of its root, one is gone on from. After each layer `progress` is told how many states there were.
+/// Goes through every full list of turns of that scope, and tells each outcome once, with the number of its lists
+/// and the least of them. Of worlds that differ in the numbers of handles alone, one is gone on from; where changes
+/// outside of roots are told, of those in which each actor has made as many. After each layer `progress` is told how
+/// many states there were.
 ///
-/// Errors: TooManyActors over 64; TooManyTurns where a list has more turns than the limit; TooManyStates where there are
-/// more worlds than the limit; NoMemory where room was refused, in a world's run too. Nothing is told then.
+/// Errors: TooManyActors over 64; TooManyTurns where a list has more turns than the limit; TooManyStates where there
+/// are more worlds than the limit; NoMemory where room was refused, in a world's run too. There are no findings
+/// then.
 pub fn explore<T: Tree + Drop, B: Beginnings<T>, P: Progress>(
     alloc: Global,
     beginnings: &B,
     limits: Limits,
     progress: &mut P,
 ) -> Result<Findings<T>, SearchFault>
-    ensures merged { IfOk result (λ found. IsMerged (B.opening beginnings.now) limits.cuts found.classes.items found.lists found.turns) }
+    ensures merged { IfOk result (λ found.
+        IsMerged (B.opening beginnings.now) limits.scope found.classes.items found.lists found.turns) }
     ensures states { IfOk result (λ found. found.states ≤ limits.states) }
     ensures err { IfErr result (WhyNot (B.opening beginnings.now) limits) }
 {
@@ -214,7 +227,7 @@ pub fn explore<T: Tree + Drop, B: Beginnings<T>, P: Progress>(
         &mut classes,
     )?;
     let counts = graph.counted(alloc, classes.len())?;
-    let told = told_classes(alloc, beginnings, counts.classes.as_slice())?;
+    let told = told_classes(alloc, beginnings, limits.scope, counts.classes.as_slice())?;
     Ok(Findings {
         classes: told,
         lists: counts.all.words,

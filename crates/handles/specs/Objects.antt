@@ -1,4 +1,5 @@
--- What a contract sees of an opened object, before its place is checked and after (path_resolution(7); openat2(2), RESOLVE_IN_ROOT).
+-- What a contract sees of an opened object, before its place is checked and after (path_resolution(7); openat2(2),
+-- RESOLVE_IN_ROOT).
 use Rattle.std.specs.Prelude.{ℕ, List, if◌then◌else◌, Option, Some, None, Result, Ok, Err}
 use Rattle.path_text.specs.Names.{same_names}
 use Rattle.tree_model.specs.declared.answer.Answer.{Answer}
@@ -38,7 +39,8 @@ standing_at o owner names = record { owner = owner; handle = o.handle; node = o.
 abbrev pub unchecked : StandingObject → ReachedObject
 unchecked o = record { handle = o.handle; node = o.node; kind = o.kind }
 
--- how the answer to the question where an object stands is judged: it stands where that is the expected names, and at nothing else
+-- how the answer to the question where an object stands is judged: it stands where that is the expected names, and
+-- at nothing else
 abbrev pub judged : ReachedObject → Owner → Answer → List (List ℕ) → Result StandingObject ReachedObject
 judged o owner (Names names) expected = if same_names names expected then Ok (standing_at o owner names) else Err o
 judged o owner (Opened handle node kind) expected = Err o

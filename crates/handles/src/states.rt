@@ -8,6 +8,7 @@ use std::marker::Model;
 use tree_model::{Answer, HandleNo, Kind, Node, Step, StepOf};
 
 mod checked;
+mod copy;
 mod unchecked;
 
 /// An object that was opened, by its handle: not checked. It can be judged or closed, and not let go. Whose handle it
@@ -42,8 +43,8 @@ impl Reached {
         }
     }
 
-    /// Judges the answer to the owner's question at which names the object stands below the root. It stands, as the
-    /// owner's, exactly where these are the expected ones, all of them and no more; else the same comes back.
+    /// Judges the answer to a NameBelow that the owner made of this object. If the answer has the expected names, all
+    /// of them and no more, this gives the owner's `Standing`; otherwise it gives the same `Reached` back.
     #[tactic(auto, using(crate::proofs::SameNames::same_where_equal, crate::proofs::SameNames::other_where_not))]
     pub fn judge(self, owner: Owner, answer: Answer, expected: &Names) -> Result<Standing, Reached>
         ensures exact { result ≡ judged self owner answer expected.now }
@@ -91,8 +92,8 @@ impl Reached {
     }
 }
 
-/// An object that was opened, and that stood below the root at its names when that was asked. It may be let go, and
-/// its handle then stays open. Contracts see it as a `StandingObject`: the same five.
+/// An object that was opened, and that stood below the root at its names when that was asked. You may drop it; its
+/// handle then stays open. Contracts see it as a `StandingObject`: the same five.
 #[derive(Debug, Drop)]
 pub struct Standing {
     owner: Owner,

@@ -9,6 +9,7 @@ use Rattle.step_resolver.specs.Order.{Way, Walking, Turn, more, found, partial, 
 use Rattle.step_resolver.specs.Order.{take as takes}
 use Rattle.step_resolver.specs.Footprint.{IsEnd}
 use Rattle.step_resolver.specs.Headline.{EveryWalk}
+use Rattle.step_resolver.specs.Driver.{IsWithoutBook}
 use Rattle.step_resolver.specs.View.{WalkView}
 use Rattle.step_resolver.specs.TurnView.{turn_view, StartsTo, TakesTo}
 use Rattle.step_resolver.specs.declared.walk.Turn.{Turn as Outcome}
@@ -34,11 +35,13 @@ module _ (way : Way) (a : ℕ) (before after : List Event) (walking : Walking) (
     lines = answered (due way walking) answer ∷ [];
     leads = line_leads way true walking answer to (answered (due way walking) answer) taken (refl, refl, refl);
     booked = booked;
+    without_book = tt;
   }
   made false taken booked = record {
     lines = no_room (due way walking) answer ∷ [];
     leads = line_leads way false walking answer to (no_room (due way walking) answer) taken (refl, refl, refl);
     booked = booked;
+    without_book = tt;
   }
 
   pub advanced : IsAnswer way walking a before after answer → TakesTo way walking answer to → Leads way a before (more walking) after to
@@ -47,10 +50,17 @@ module _ (way : Way) (a : ℕ) (before after : List Event) (walking : Walking) (
     lines = not_made NoMemory ∷ [];
     leads = line_leads way taken.0 walking answer to (not_made NoMemory) taken.1 (inl refl, is.2, is.0);
     booked = is.1 ∙ sym (append-nil before);
+    without_book = (refl, tt);
   }
 
 pub led_nowhere : (way : Way) (a : ℕ) (events : List Event) (turn : Turn) → Leads way a events turn events turn
-led_nowhere way a events turn = record { lines = []; leads = refl; booked = sym (append-nil events) }
+led_nowhere way a events turn = record { lines = []; leads = refl; booked = sym (append-nil events); without_book = tt }
+
+both_without_book : (lines others : List Line) → IsWithoutBook lines → IsWithoutBook others → IsWithoutBook (lines ++ others)
+both_without_book [] others first second = second
+both_without_book (answered step answer ∷ lines) others first second = both_without_book lines others first second
+both_without_book (no_room step answer ∷ lines) others first second = both_without_book lines others first second
+both_without_book (not_made error ∷ lines) others first second = (first.0, both_without_book lines others first.1 second)
 
 pub led_on : (way : Way) (a : ℕ) (first second third : List Event) (from mid to : Turn)
     → Leads way a first from second mid → Leads way a second mid third to → Leads way a first from third to
@@ -59,6 +69,7 @@ led_on way a first second third from mid to one two = record {
   leads = leads_on way one.lines from mid two.lines to one.leads two.leads;
   booked = two.booked ∙ ap (λ es. es ++ events_of a two.lines) one.booked ∙ append_assoc first (events_of a one.lines) (events_of a two.lines)
       ∙ ap (λ es. first ++ es) (sym (joined_events a one.lines two.lines));
+  without_book = both_without_book one.lines two.lines one.without_book two.without_book;
 }
 
 -- ---- the end
@@ -68,6 +79,7 @@ told : EveryWalk → (way : Way) (path : Reading) (a : ℕ) (before after : List
 told every way path a before after end led = record {
   lines = led.lines;
   booked = led.booked;
+  without_book = led.without_book;
   tells = λ w is same_way same_path same_lines.
       let on_way = subst (λ (v : Way). LeadsTo v (begins v path) led.lines end) (sym same_way) led.leads in
       let on_path = subst (λ (p : Reading). LeadsTo w.way (begins w.way p) led.lines end) (sym same_path) on_way in
@@ -80,7 +92,7 @@ begun way path a events turn starts =
     subst (λ z. Leads way a events (begins way path) events z) (sym starts.1) (with_room starts.0 (begins way path) (first_lines_lead way starts.0 path)) where
       with_room : (room : Bool) (first : Turn) → LeadsTo way first (first_lines room first) (for_walk room first) → Leads way a events first events (for_walk room first)
       with_room true first leads = led_nowhere way a events first
-      with_room false (more walking) leads = record { lines = not_made NoMemory ∷ []; leads = leads; booked = sym (append-nil events) }
+      with_room false (more walking) leads = record { lines = not_made NoMemory ∷ []; leads = leads; booked = sym (append-nil events); without_book = (refl, tt) }
       with_room false (found handle names) leads = led_nowhere way a events (found handle names)
       with_room false (partial handle names rest) leads = led_nowhere way a events (partial handle names rest)
       with_room false (failed error) leads = led_nowhere way a events (failed error)

@@ -26,7 +26,8 @@ pub trait Book {
 
     /// Makes a step and books it. NoMemory where it wasn't made; a Close always is.
     fn make(&mut self, alloc: Global, actor: Actor, step: &Step) -> Result<Answer, NoMemory>
-        ensures ok { IfOk result (λ answer. booked self.new ≡ booked self.old ++ record { actor = actor; step = step.now; answer = answer } ∷ []) }
+        ensures ok { IfOk result (λ answer. booked self.new
+            ≡ booked self.old ++ record { actor = actor; step = step.now; answer = answer } ∷ []) }
         ensures err { OnErr result (booked self.new ≡ booked self.old) }
         ensures no_memory { takes_no_memory step.now ≡ true → IsOk result };
 }
@@ -46,7 +47,8 @@ fn answer_due<B: Book>(alloc: Global, book: &mut B, actor: Actor, walk: &Walk) -
 
 /// Makes the step that is due, and takes its answer.
 fn advance<B: Book>(alloc: Global, book: &mut B, actor: Actor, walk: Walk) -> Turn
-    ensures led { Leads walk.way actor (B.booked book.old) (more walk.walking) (B.booked book.new) (turn_view walk.way.goal result) }
+    ensures led { Leads walk.way actor (B.booked book.old) (more walk.walking) (B.booked book.new)
+        (turn_view walk.way.goal result) }
     ensures kept { Keeps walk.owner walk.way result }
     ensures fewer { steps_to_come result < steps_left walk.walking }
 {
@@ -56,7 +58,8 @@ fn advance<B: Book>(alloc: Global, book: &mut B, actor: Actor, walk: Walk) -> Tu
 
 /// Makes the steps that are due, one after another, up to the end of the walk.
 fn drive<B: Book>(alloc: Global, book: &mut B, actor: Actor, walk: Walk) -> Turn
-    ensures led { Leads walk.way actor (B.booked book.old) (more walk.walking) (B.booked book.new) (turn_view walk.way.goal result) }
+    ensures led { Leads walk.way actor (B.booked book.old) (more walk.walking) (B.booked book.new)
+        (turn_view walk.way.goal result) }
     ensures over { IsEnd (turn_view walk.way.goal result) }
 {
     let mut walk = walk;
@@ -70,7 +73,9 @@ fn drive<B: Book>(alloc: Global, book: &mut B, actor: Actor, walk: Walk) -> Turn
 
 /// Resolves a path below a root (openat2(2), RESOLVE_IN_ROOT), its steps made by the book. In every legal history in
 /// which the events that were booked are the actor's own, the end tells what was passed or why it failed, and it is
-/// what the path means where others leave its entries alone. Errors: those of `Walk::take`.
+/// what the path means where others leave its entries alone. No step is left out but for want of memory.
+///
+/// Errors: those of `Walk::start` and `Walk::take`; NoMemory.
 pub fn resolve<B: Book>(
     alloc: Global,
     book: &mut B,
@@ -80,7 +85,8 @@ pub fn resolve<B: Book>(
     flags: Flags,
 ) -> Turn
     ensures over { IsEnd (turn_view goal result) }
-    ensures tells { TellsAlone (way_from root goal flags) path root.owner.actor (B.booked book.old) (B.booked book.new) (turn_view goal result) }
+    ensures tells { TellsAlone (way_from root goal flags) path root.owner.actor (B.booked book.old)
+        (B.booked book.new) (turn_view goal result) }
 {
     headline();
     let Root { owner, handle } = root;

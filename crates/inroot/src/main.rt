@@ -6,19 +6,23 @@
 //! `command_line` says of what happened.
 #![tactic(auto)]
 
+ghost use Rattle.std.specs.Prelude.{◌<◌, ◌≤◌};
+
 mod waiting;
 
-use command_line::{Fault, Request, asked, command, order_of, status};
-use script_drawings::draw;
+use clap::ArgMatches;
+use command_line::{Fault, Request, Walking, asked, command, is_strict, order_of, status};
+use script_drawings::{Style, draw};
 use script_jobs::run_jobs;
 use script_runs::{replay, walk};
-use scripts::RunFault;
+use scripts::{RunFault, TurnOrder, read_strictly};
 use std::alloc::Global;
+use std::io::Read;
 use std::process::ExitCode;
 use std::sync::Wait;
 use std::thread::Threads;
 use std::{env, io};
-use surveys::{explore_script, read_asked};
+use surveys::{Asked, explore_script, read_asked};
 use waiting::Waiting;
 
 /// Tells help, the version or a usage fault, and how the program ends after it.
@@ -46,36 +50,54 @@ fn words(rt: &HostRuntime) -> Result<Vec<String>, Fault> {
     }
 }
 
-/// Reads the command line, and runs what it asks for. Only `run` starts threads.
-fn run<R: Threads + Wait + Sync>(rt: &HostRuntime, threads: &R) -> Result<(), Fault> {
-    let alloc = rt.alloc();
-    let words = words(rt)?;
-    let matches = match command(alloc)?.try_get_matches_from(words.as_slice()) {
-        Ok(matches) => matches,
-        Err(error) => return told(rt, &error),
-    };
-    let (mut input, mut output) = (rt.stdin(), rt.stdout());
-    match asked(&matches).ok_or(Fault::NoRequest)? {
-        Request::Walk(asked) => walk(
-            alloc,
-            &mut input,
-            &mut output,
-            asked.path.as_bytes(),
-            asked.flags,
-        )?,
-        Request::Replay(schedule) => {
-            let order = order_of(alloc, schedule)?;
-            replay(alloc, &mut input, &mut output, &order)?;
+/// How many workers there are to be, 1 to 8.
+#[derive(Drop)]
+struct Workers {
+    count: usize,
+    ghost some: { 0 < count },
+    ghost few: { count ≤ 8 },
+}
+
+/// What is asked for, with the texts of its options read.
+#[derive(Drop)]
+enum Task<'a> {
+    Walk(Walking<'a>),
+    Replay(TurnOrder),
+    Draw(TurnOrder, Style),
+    Run(Workers),
+    Explore(Asked),
+}
+
+/// What the arguments ask for. Reads the texts of the options.
+fn task_of<'m>(alloc: Global, matches: &'m ArgMatches<'_>) -> Result<Task<'m>, Fault> {
+    Ok(match asked(matches).ok_or(Fault::NoRequest)? {
+        Request::Walk(walking) => Task::Walk(walking),
+        Request::Replay(schedule) => Task::Replay(order_of(alloc, schedule)?),
+        Request::Draw(asked) => Task::Draw(order_of(alloc, asked.schedule)?, asked.style),
+        Request::Run(count) => Task::Run(Workers { count }),
+        Request::Explore(options) => Task::Explore(read_asked(alloc, options)?),
+    })
+}
+
+/// Does it, over a script. Only `run` starts threads.
+fn perform<R: Threads + Wait + Sync, S: Read>(
+    rt: &HostRuntime,
+    threads: &R,
+    task: &Task<'_>,
+    script: &mut S,
+) -> Result<(), Fault> {
+    let (alloc, mut output) = (rt.alloc(), rt.stdout());
+    match task {
+        Task::Walk(asked) => {
+            let path = asked.path.as_bytes();
+            walk(alloc, script, &mut output, path, asked.flags)?;
         }
-        Request::Draw(asked) => {
-            let order = order_of(alloc, asked.schedule)?;
-            draw(alloc, &mut input, &mut output, &order, asked.style)?;
-        }
-        Request::Run(workers) => run_jobs(threads, alloc, &mut input, &mut output, workers)?,
-        Request::Explore(options) => {
-            let asked = read_asked(alloc, options)?;
+        Task::Replay(order) => replay(alloc, script, &mut output, order)?,
+        Task::Draw(order, style) => draw(alloc, script, &mut output, order, *style)?,
+        Task::Run(workers) => run_jobs(threads, alloc, script, &mut output, workers.count)?,
+        Task::Explore(asked) => {
             let mut waiting = Waiting::new(rt);
-            let explored = explore_script(alloc, &mut input, &mut output, &asked, &mut waiting);
+            let explored = explore_script(alloc, script, &mut output, asked, &mut waiting);
             waiting.end();
             if !explored? {
                 return Err(Fault::PropertyFails);
@@ -85,7 +107,26 @@ fn run<R: Threads + Wait + Sync>(rt: &HostRuntime, threads: &R) -> Result<(), Fa
     Ok(())
 }
 
-/// Tells a fault on standard error, and what was wanted in a second line; but for one that clap or the answer has told.
+/// Reads the command line, and does what it asks for over the script on standard input. Where it asks for
+/// strictness, the whole script is read strictly first.
+fn run<R: Threads + Wait + Sync>(rt: &HostRuntime, threads: &R) -> Result<(), Fault> {
+    let alloc = rt.alloc();
+    let words = words(rt)?;
+    let matches = match command(alloc)?.try_get_matches_from(words.as_slice()) {
+        Ok(matches) => matches,
+        Err(error) => return told(rt, &error),
+    };
+    let task = task_of(alloc, &matches)?;
+    let mut input = rt.stdin();
+    if !is_strict(&matches) {
+        return perform(rt, threads, &task, &mut input);
+    }
+    let script = read_strictly(alloc, &mut input)?;
+    perform(rt, threads, &task, &mut script.as_slice())
+}
+
+/// Tells a fault on standard error, and what was wanted in a second line; but for one that clap or the answer has
+/// told.
 fn tell(rt: &HostRuntime, fault: Fault) -> io::Result<()> {
     match fault {
         Fault::Usage | Fault::PropertyFails => Ok(()),

@@ -3,8 +3,8 @@ use std::io::IsTerminal;
 use std::time::{Duration, Instant};
 use surveys::Progress;
 
-/// Tells a terminal how many states there were, once a second, and nothing in the first one. What can't be told is passed
-/// over.
+/// Tells a terminal how many states there were, once a second, and nothing in the first one. What can't be told is
+/// passed over.
 #[derive(Drop)]
 pub struct Waiting<'a> {
     rt: &'a HostRuntime,

@@ -4,7 +4,8 @@ use Rattle.path_text.specs.declared.part.Part.{Part}
 use Rattle.path_text.specs.declared.part.Part.TheVariants.{Cur}
 use Rattle.path_text.specs.declared.path.TheConstants.{PARTS_MAX}
 
--- a path as it was read: whether it begins with a slash, its parts, and whether a slash at its end gave the last of them
+-- a path as it was read: whether it begins with a slash, its parts, and whether a slash at its end gave the last of
+-- them
 pub record Reading : Type 0 where
   pub absolute : Bool
   pub parts : List Part

@@ -38,6 +38,7 @@ split_at path rule (Some (Named bytes)) =
     else Ok (record { dir = dir_of path; name = bytes; slash = path.slash }))
 split_at path rule other = Err Invalid
 
--- the directory and the name of a path, or why it has none: no name at its end (EINVAL), a slash at its end that is refused (ENOTDIR), a name that is too long (ENAMETOOLONG)
+-- the directory and the name of a path, or why it has none: no name at its end (EINVAL), a slash at its end that is
+-- refused (ENOTDIR), a name that is too long (ENAMETOOLONG)
 abbrev pub split_of : Reading → Rule → Result Split Errno
 split_of path rule = split_at path rule (last_part (parts_without_slash path))

@@ -14,7 +14,8 @@ abbrev pub is_empty : List ℕ → Bool
 is_empty [] = true
 is_empty (b ∷ bs) = false
 
--- why a text is no path, where it is none: an empty one (ENOENT), one with a NUL (EINVAL), one that is too long (ENAMETOOLONG)
+-- why a text is no path, where it is none: an empty one (ENOENT), one with a NUL (EINVAL), one that is too long
+-- (ENAMETOOLONG)
 abbrev pub text_fault : List ℕ → Option Errno
 text_fault text =
     if is_empty text then Some NotFound

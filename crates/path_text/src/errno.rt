@@ -9,12 +9,12 @@ use std::fmt;
 /// Why a call was refused. Each is printed by its E name (errno(3)).
 #[derive(Clone, Copy, Debug, PartialEq, Eq)]
 pub enum Errno {
-    /// No entry of that name, an empty path text, or a directory that stands nowhere any more (ENOENT).
+    /// No entry of that name, an empty path text, or a directory that was removed (ENOENT).
     NotFound,
     /// No such handle is open, or it is another actor's (EBADF).
     BadHandle,
-    /// The tree changed under a resolution, so that where it came to is not known to be inside the root (EAGAIN
-    /// of openat2(2)).
+    /// The tree changed during a resolution, and what it came to may be outside of the root (EAGAIN of
+    /// openat2(2)).
     Raced,
     /// Memory was refused (ENOMEM).
     NoMemory,
@@ -24,12 +24,12 @@ pub enum Errno {
     Exists,
     /// The path leads out of the root under `beneath` (EXDEV of openat2(2)).
     CrossRoot,
-    /// What a part stands in, or what is to be a directory, is none (ENOTDIR).
+    /// An object that a part is looked up in, or that must be a directory, is no directory (ENOTDIR).
     NotDir,
     /// A directory, where another object is wanted (EISDIR).
     IsDir,
-    /// A text with a NUL, a name that is none, or an object that a call is not for, as a directory moved below
-    /// itself (EINVAL).
+    /// A text with a NUL, bytes that are no name, or an object that the call doesn't take, as a directory moved
+    /// below itself (EINVAL).
     Invalid,
     /// The actor holds as many handles as it may, or the numbers of nodes or handles are used up (EMFILE).
     TooMany,

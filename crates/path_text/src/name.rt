@@ -63,7 +63,9 @@ impl Name {
     /// Errors, in this order: Invalid where the bytes are no name of any length, TooLong past 255 bytes
     /// (ENAMETOOLONG of path_resolution(7)), NoMemory.
     pub fn new(alloc: Global, bytes: &[u8]) -> Result<Name, Errno>
-        ensures { MatchOption (name_fault bytes.now) (MatchResult result (λ name. name ≡ bytes.now) (λ error. error ≡ Errno.NoMemory)) (λ fault. result ≡ Err fault) }
+        ensures { MatchOption (name_fault bytes.now)
+            (MatchResult result (λ name. name ≡ bytes.now) (λ error. error ≡ Errno.NoMemory))
+            (λ fault. result ≡ Err fault) }
     {
         if let Some(fault) = Name::fault_of(bytes) {
             return Err(fault);

@@ -77,7 +77,9 @@ impl Path {
     /// Errors, in this order: NotFound of an empty text (ENOENT), Invalid of one with a NUL, TooLong of
     /// one over 4,095 bytes (ENAMETOOLONG), NoMemory.
     pub fn parse(alloc: Global, text: &[u8]) -> Result<Path, Errno>
-        ensures { MatchOption (text_fault text.now) (MatchResult result (λ path. path ≡ reading_of text.now) (λ error. error ≡ Errno.NoMemory)) (λ fault. result ≡ Err fault) }
+        ensures { MatchOption (text_fault text.now)
+            (MatchResult result (λ path. path ≡ reading_of text.now) (λ error. error ≡ Errno.NoMemory))
+            (λ fault. result ≡ Err fault) }
     {
         if let Some(fault) = Path::fault_of(text) {
             return Err(fault);

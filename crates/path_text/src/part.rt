@@ -27,7 +27,9 @@ impl Component {
     /// A part of these bytes. Errors, in this order: Invalid where the bytes can't stand between two
     /// slashes as a name, NoMemory.
     pub fn new(alloc: Global, bytes: &[u8]) -> Result<Component, Errno>
-        ensures { MatchOption (component_fault bytes.now) (MatchResult result (λ component. component ≡ bytes.now) (λ error. error ≡ Errno.NoMemory)) (λ fault. result ≡ Err fault) }
+        ensures { MatchOption (component_fault bytes.now)
+            (MatchResult result (λ component. component ≡ bytes.now) (λ error. error ≡ Errno.NoMemory))
+            (λ fault. result ≡ Err fault) }
     {
         if !is_component(bytes) {
             return Err(Errno::Invalid);

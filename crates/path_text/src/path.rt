@@ -22,7 +22,7 @@ pub struct Path {
     pub absolute: bool,
     /// The parts, of which there are at most `PARTS_MAX`.
     pub parts: Parts,
-    /// Whether the last part, which is `Cur` then, comes from a slash at the end of the text.
+    /// Whether the text ends in a slash that gave the last part, a `Cur`.
     pub slash: bool,
 }
 

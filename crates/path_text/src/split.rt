@@ -23,7 +23,7 @@ impl Path {
     ///
     /// Errors, in this order: Invalid where no name is left at the end, but nothing, `.` or `..` (EINVAL),
     /// NotDir of a slash at the end under `Rule::Refuse` (ENOTDIR), TooLong of a name over 255 bytes
-    /// (ENAMETOOLONG). Linux tells the first two by several errors, operation by operation.
+    /// (ENAMETOOLONG). Linux has several errors for the first two, by operation.
     pub fn split_last(self, rule: Rule) -> Result<Split, Errno>
         ensures { result ≡ split_of self rule }
     {

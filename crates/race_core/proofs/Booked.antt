@@ -1,7 +1,7 @@
 -- One event more in a book.
 use Rattle.std.proofs.Common.{◌≡◌, ℕ, suc, ◌+◌, ◌-◌, ◌≤◌, ◌<◌, List, [], ◌∷◌, ◌++◌, length, Option, Some, None, is_some, true, false, not, refl, sym, ap, ◌∙◌, arith}
 use Rattle.std.proofs.lemmas.Bool.{false≢true}
-use Rattle.std.proofs.lemmas.List.{length_push}
+use Rattle.std.proofs.lemmas.List.{length_push, append-nil}
 use Rattle.tree_model.specs.declared.answer.Answer.{Answer}
 use Rattle.tree_model.specs.declared.answer.Answer.TheVariants.{Opened, Text, Names, NotBelow, Listed, Done, Refused}
 use Rattle.tree_model.specs.declared.answer.Event.{Event}
@@ -18,7 +18,7 @@ use Rattle.tree_model.specs.Steps.{Outcome, outcome, held, reads, shows, refused
 use Rattle.tree_model.proofs.Outcomes.{Does, refuses, tells, opens_on, closes, changes_to, does}
 use Rattle.tree_model.proofs.Refusals.{refuse_if-both, with_some-both}
 use Rattle.tree_model.proofs.StepLaws.{telling_changes_nothing}
-use Rattle.event_log.specs.Log.{is_bare}
+use Rattle.event_log.specs.Shapes.{step_texts, answer_texts}
 use Rattle.tree_model.proofs.Counts.{handles_are_counted}
 use Rattle.tree_model.proofs.HistoryLaws.{after_events-append, legal_goes_on}
 use Rattle.race_core.specs.Book.{tree_now, free_lines, booked, is_close, is_done, lines_needed, IsBook}
@@ -230,7 +230,8 @@ book_made opening s after events more lines count count_opened room left a step 
     book_more opening s after events more lines count (count + count_opened) room left a step answer b is_answer is_after is_more
     (omega (arith, is_opened, not_closed answer step no_close)) (omega (arith, free, enough, same, is_opened, held_open)) (omega (arith, is_opened, few, is_left))
 
-bare_or_telling : (answer : Answer) → (is_bare answer ≡ true → ⊥) → only_tells answer ≡ true
+-- an answer without names and texts in the log, or one that leaves the tree
+bare_or_telling : (answer : Answer) → (answer_texts answer ≡ [] → ⊥) → only_tells answer ≡ true
 bare_or_telling (Opened h x kind) e = absurd (e refl)
 bare_or_telling (Text text) e = refl
 bare_or_telling (Names names) e = refl
@@ -239,9 +240,16 @@ bare_or_telling (Listed names) e = refl
 bare_or_telling Done e = absurd (e refl)
 bare_or_telling (Refused error) e = absurd (e refl)
 
+-- a log with room for a step's names and text had none for the event's: its answer has some
+pub not_bare : (step : StepOf ℕ) (answer : Answer) (room text_room : ℕ) (is_ok : Type 0) → 0 < room → length (step_texts step) ≤ text_room → (is_ok → ⊥)
+    → (0 < room → length (step_texts step ++ answer_texts answer) ≤ text_room → is_ok) → answer_texts answer ≡ [] → ⊥
+not_bare step answer room text_room is_ok some fits refused would e =
+    let same : length (step_texts step ++ answer_texts answer) ≡ length (step_texts step) = ap (λ bs. length (step_texts step ++ bs)) e ∙ ap length (append-nil (step_texts step)) in
+    refused (would some (omega (arith, same, fits)))
+
 -- the step was made, and its answer found no memory: it changed nothing
 pub book_stays : (opening s after : State) (events more : List Event) (lines count room left a : ℕ) (step : StepOf ℕ) (answer : Answer) → IsBook opening s events lines count room
-    → answer ≡ (outcome s a step).answer → after ≡ (outcome s a step).after → (is_bare answer ≡ true → ⊥) → more ≡ events → count ≤ left
+    → answer ≡ (outcome s a step).answer → after ≡ (outcome s a step).after → (answer_texts answer ≡ [] → ⊥) → more ≡ events → count ≤ left
     → IsBook opening after more lines count left
 book_stays opening s after events more lines count room left a step answer b is_answer is_after not_bare is_more is_left =
     let telling : only_tells (outcome s a step).answer ≡ true = ap only_tells (sym is_answer) ∙ bare_or_telling answer not_bare in

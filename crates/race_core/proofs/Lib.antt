@@ -3,6 +3,10 @@ pub mod OwnHistory
 mod Stepping
 mod Starting
 mod Running
+mod GivenUp
+mod CutShort
+mod JoinedRuns
+mod ReportsThere
 mod Granting
 mod HeldOpen
 mod HeldByCalls
@@ -11,6 +15,6 @@ mod CallsSoFar
 mod WorldSoFar
 mod ReportsTell
 mod HandlesLeft
-mod OneEnd
+pub mod OneEnd
 mod LikeLists
 pub mod LikeSeats

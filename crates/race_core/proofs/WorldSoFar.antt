@@ -33,12 +33,12 @@ use Rattle.race_core.proofs.CallsSoFar.{SoFar, SeatSoFar, BookMoves, same, one_m
 
 -- ---- places
 
-placed_there : {A : Type 0} (xs : List A) (i : ℕ) (x y : A) → slice_get xs i ≡ Some x → slice_get (slice_set xs i y) i ≡ Some y
+pub placed_there : {A : Type 0} (xs : List A) (i : ℕ) (x y : A) → slice_get xs i ≡ Some x → slice_get (slice_set xs i y) i ≡ Some y
 placed_there [] i x y e = absurd (none-some x e)
 placed_there (z ∷ xs) zero x y e = refl
 placed_there (z ∷ xs) (suc i) x y e = placed_there xs i x y e
 
-placed_elsewhere : {A : Type 0} (xs : List A) (i k : ℕ) (y : A) → k ≢ i → slice_get (slice_set xs i y) k ≡ slice_get xs k
+pub placed_elsewhere : {A : Type 0} (xs : List A) (i k : ℕ) (y : A) → k ≢ i → slice_get (slice_set xs i y) k ≡ slice_get xs k
 placed_elsewhere [] i k y ne = refl
 placed_elsewhere (x ∷ xs) zero zero y ne = absurd (ne refl)
 placed_elsewhere (x ∷ xs) zero (suc k) y ne = refl

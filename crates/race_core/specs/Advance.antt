@@ -8,13 +8,15 @@ use Rattle.race_core.specs.Book.{BookedHistory}
 use Rattle.race_core.specs.Turns.{stepped_by}
 
 -- the step was made through the book, or there was no memory for it
-pub record IsStepped (old : BookedHistory) (a : ℕ) (step : StepOf ℕ) (answer : Answer) (new : BookedHistory) : Type 0 where
+pub record IsStepped (old : BookedHistory) (a : ℕ) (step : StepOf ℕ) (answer : Answer)
+    (new : BookedHistory) : Type 0 where
   pub luck : Bool
   pub is_answer : answer ≡ (stepped_by luck old a step).answer
   pub left : new ≡ (stepped_by luck old a step).book
 
 -- the due step of the call was made so, and its answer taken
-pub record Advances (old : BookedHistory) (a : ℕ) (call : CallView) (turn : CallTurn) (new : BookedHistory) : Type 0 where
+pub record Advances (old : BookedHistory) (a : ℕ) (call : CallView) (turn : CallTurn)
+    (new : BookedHistory) : Type 0 where
   pub luck : Bool
   pub room : Bool
   pub is_turn : turn ≡ take call.below room call.doing (stepped_by luck old a (due call.below call.doing)).answer

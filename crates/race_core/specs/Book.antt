@@ -115,8 +115,8 @@ MayRefuse s lines BookFull = (lines ≤ LINES_MAX) × (lines < open_count s)
 MayRefuse s lines NoMemory = lines ≤ LINES_MAX
 MayRefuse s lines other = ⊥
 
--- What a book keeps. Its tree is the one that its legal events lead to, its handles are counted, and the events and the
--- Closes to come have their lines, and the Closes their memory.
+-- What a book keeps. Its tree is the one that its legal events lead to, its handles are counted, and the events and
+-- the Closes to come have their lines, and the Closes their memory.
 pub record IsBook (opening tree : State) (events : List Event) (lines open_handles room : ℕ) : Type 0 where
   pub legal : IsLegal opening events
   pub current : tree ≡ after_events opening events

@@ -5,4 +5,5 @@ use Rattle.race_core.specs.Book.{BookedHistory, free_lines, booked}
 
 -- no step leaves more free lines than there were: what a Close gives back it takes for itself
 abbrev pub FreeLinesNeverRise : Type 0
-FreeLinesNeverRise = (book : BookedHistory) (a : ℕ) (step : StepOf ℕ) → free_lines (booked book a step) ≤ free_lines book
+FreeLinesNeverRise = (book : BookedHistory) (a : ℕ) (step : StepOf ℕ)
+    → free_lines (booked book a step) ≤ free_lines book

@@ -51,26 +51,33 @@ words_of_call (Some request) reply = words_of request.op reply
 abbrev pub all_words : Root → List (Option StandingObject) → List CallMade → List Word
 all_words root standings [] = []
 all_words root standings (c ∷ calls) =
-    words_of_call (request_of root standings c.planned) c.reply ++ all_words root (kept_after root.owner standings c) calls
+    words_of_call (request_of root standings c.planned) c.reply
+    ++ all_words root (kept_after root.owner standings c) calls
 
 -- what the last of these words on the handle says; without one it is as it was
 abbrev pub last_word : Option ℕ → ℕ → List Word → Option ℕ
 last_word before h [] = before
 last_word before h (word ∷ words) = last_word (if word.handle == h then word.node else before) h words
 
--- At the end an actor's open handles are those from the opening, its root among them, and those that its calls opened, less those
--- that a Release of its own closed, each on its node; and nothing else. Its plan closes only what its calls opened.
+-- At the end an actor's open handles are those from the opening, its root among them, and those that its calls
+-- opened, less those that a Release of its own closed, each on its node; and nothing else. Its plan closes only what
+-- its calls opened.
 abbrev pub HandlesAtEnd : Type 0
-HandlesAtEnd = (r : WholeRun) (i : ℕ) (plan : ActorPlan) (of : ActorsCalls r i plan) → ReleasesOwn (root_of r i).owner plan.calls
+HandlesAtEnd = (r : WholeRun) (i : ℕ) (plan : ActorPlan) (of : ActorsCalls r i plan)
+    → ReleasesOwn (root_of r i).owner plan.calls
     → (h : ℕ) → held r.tree i h ≡ last_word (held (opening_of r) i h) h (all_words (root_of r i) [] of.calls)
 
--- At each moment of a report the root of an actor whose plan closes only what its calls opened is open, its own, and on the same node.
+-- At each moment of a report the root of an actor whose plan closes only what its calls opened is open, its own, and
+-- on the same node.
 abbrev pub RootsStayOpen : Type 0
-RootsStayOpen = (r : WholeRun) (i : ℕ) (plan : ActorPlan) (of : ActorsCalls r i plan) (before after : List Event) → ReleasesOwn (root_of r i).owner plan.calls
+RootsStayOpen = (r : WholeRun) (i : ℕ) (plan : ActorPlan) (of : ActorsCalls r i plan) (before after : List Event)
+    → ReleasesOwn (root_of r i).owner plan.calls
     → r.events ≡ before ++ after → held (after_events (opening_of r) before) i (root_of r i).handle ≡ Some of.node
 
--- A Release of what a call of the actor opened and still keeps is done: such a plan's calls keep what they opened open until then.
+-- A Release of what a call of the actor opened and still keeps is done: such a plan's calls keep what they opened
+-- open until then.
 abbrev pub KeptIsReleased : Type 0
-KeptIsReleased = (r : WholeRun) (i : ℕ) (plan : ActorPlan) (of : ActorsCalls r i plan) (earlier : List CallMade) (c : CallMade) (later : List CallMade)
+KeptIsReleased = (r : WholeRun) (i : ℕ) (plan : ActorPlan) (of : ActorsCalls r i plan) (earlier : List CallMade)
+    (c : CallMade) (later : List CallMade)
     → ReleasesOwn (root_of r i).owner plan.calls → of.calls ≡ earlier ++ c ∷ later
     → IsDoneIfKept (kept_after_all (root_of r i).owner [] earlier) c

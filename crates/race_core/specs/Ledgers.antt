@@ -5,8 +5,8 @@ use Rattle.step_resolver.specs.declared.walk.Root.{Root}
 use Rattle.race_core.specs.declared.plan.Planned.{Planned}
 use Rattle.race_core.specs.declared.report.Outcome.{Outcome}
 
--- The root; the calls to come; the outcomes of those that ended, and of each what it opened and still keeps; and what was
--- another owner's to release.
+-- The root; the calls to come; the outcomes of those that ended, and of each what it opened and still keeps; and
+-- what was another owner's to release.
 pub record LedgerView : Type 0 where
   pub root : Root
   pub to_come : List Planned

@@ -2,6 +2,8 @@ pub mod Advance
 pub mod Book
 pub mod BookLaws
 pub mod EndHandles
+pub mod GivenUp
+pub mod JoinedRuns
 pub mod Ledgers
 pub mod OneReport
 pub mod Opening

@@ -45,7 +45,8 @@ onward_from i (Err error) onward = Err (record { at = i; cause = error })
 abbrev pub granted : State → ℕ → List ActorPlan → Grants
 granted s i [] = Ok (record { tree = s; ledgers = [] })
 granted s i (plan ∷ plans) =
-    onward_from i (grants s i plan.root) (λ t. before (opened_ledger (root_in s i) plan.calls) (granted t (suc i) plans))
+    onward_from i (grants s i plan.root)
+    (λ t. before (opened_ledger (root_in s i) plan.calls) (granted t (suc i) plans))
 
 -- these ledgers before those of the others
 abbrev pub after_these : List LedgerView → Grants → Grants

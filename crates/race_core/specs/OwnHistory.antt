@@ -1,4 +1,5 @@
--- A legal history, and one actor in it: its root, its own events among those of others, and what closes none of its handles.
+-- A legal history, and one actor in it: its root, its own events among those of others, and what closes none of its
+-- handles.
 use Rattle.std.specs.Prelude.{◌≡◌, ℕ, List, [], ◌∷◌, ◌++◌, true, false, Some}
 use Rattle.tree_model.specs.declared.answer.Event.{Event}
 use Rattle.tree_model.specs.History.{IsLegal}
@@ -14,8 +15,8 @@ abbrev pub NoneCloses : ℕ → List Event → Type 0
 NoneCloses h [] = Unit {0}
 NoneCloses h (event ∷ events) = (is_close_of h event.step ≡ false) × NoneCloses h events
 
--- A history, and a root in it: the opening is a tree, the events are legal from it, and the root's handle is open there, the
--- actor's, and on a directory.
+-- A history, and a root in it: the opening is a tree, the events are legal from it, and the root's handle is open
+-- there, the actor's, and on a directory.
 pub record IsHistory (opening : State) (events : List Event) (root : Root) (node : ℕ) : Type 0 where
   pub tree : IsState opening
   pub legal : IsLegal opening events

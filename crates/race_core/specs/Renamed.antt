@@ -98,7 +98,9 @@ kept_handles [] = []
 kept_handles (standing ∷ others) = standing.handle ∷ kept_handles others
 
 abbrev pub ledger_handles : LedgerView → List ℕ
-ledger_handles ledger = ledger.root.handle ∷ (plans_handles ledger.to_come ++ (outcomes_handles ledger.outcomes ++ (standings_handles ledger.standings ++ kept_handles ledger.kept)))
+ledger_handles ledger = ledger.root.handle
+    ∷ (plans_handles ledger.to_come
+    ++ (outcomes_handles ledger.outcomes ++ (standings_handles ledger.standings ++ kept_handles ledger.kept)))
 
 abbrev pub doing_call_handles : Option CallView → List ℕ
 doing_call_handles None = []
@@ -113,7 +115,8 @@ abbrev pub LikeSeats : Seat → Seat → Type 0
 LikeSeats s t = seat_by (λ h. 0) s ≡ seat_by (λ h. 0) t
 
 abbrev pub LikeSeatsAgree : Type 0
-LikeSeatsAgree = (f g : ℕ → ℕ) (s t : Seat) → LikeSeats s t → numbers_by f (seat_handles s) ≡ numbers_by g (seat_handles t)
+LikeSeatsAgree = (f g : ℕ → ℕ) (s t : Seat) → LikeSeats s t
+    → numbers_by f (seat_handles s) ≡ numbers_by g (seat_handles t)
     → seat_by f s ≡ seat_by g t
 
 -- the actors of both worlds, one by one, are the same but for the numbers of handles

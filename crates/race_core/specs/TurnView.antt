@@ -63,6 +63,13 @@ abbrev pub seat_at : LedgerView → Outcome → Seat
 seat_at ledger (outcome.More call) = record { ledger = ledger; doing = Some call }
 seat_at ledger (outcome.Done reply) = record { ledger = taken_down ledger reply; doing = None }
 
+-- The seat as it should be, but that there was no room to take down the end of its call: with this reply taken down
+-- it is so.
+pub record LacksEnd (whole new : Seat) : Type 0 where
+  pub reply : Reply
+  pub idle : new.doing ≡ None
+  pub is : whole ≡ record { ledger = taken_down new.ledger reply; doing = None }
+
 -- a call that asks this was begun, with memory or without; or what it names isn't held
 pub record IsStarted (root : Root) (request : Option Request) (turn : Outcome) : Type 0 where
   pub room : Bool
@@ -114,3 +121,23 @@ pub record IsTurned (book : BookedHistory) (old : Seat) (book_after : BookedHist
 -- where something was left to do, less is
 abbrev pub Lowers : Seat → Seat → Type 0
 Lowers old new = is_busy old ≡ true → turns_left new < turns_left old
+
+-- ---- a turn that there was no room to take down
+
+-- the next call was begun, and its end at once isn't taken down
+pub record IsCutAtStart (old new : Seat) : Type 0 where
+  pub room : Bool
+  pub lacks : LacksEnd (begun room old.ledger old.doing) new
+
+-- the due step was made, as luck has it, and the call's end isn't taken down
+pub record IsCutGoingOn (book : BookedHistory) (old : Seat) (book_after : BookedHistory) (new : Seat) : Type 0 where
+  pub luck : Bool
+  pub room : Bool
+  pub booked : book_after ≡ (goes_on luck room book old.ledger old.doing).book
+  pub lacks : LacksEnd (goes_on luck room book old.ledger old.doing).seat new
+
+-- the book and the seat are those after a turn, as luck has it, but that the call's end isn't taken down
+pub record IsCutShort (book : BookedHistory) (old : Seat) (book_after : BookedHistory) (new : Seat) : Type 0 where
+  pub luck : Luck
+  pub booked : book_after ≡ (turned luck book old.ledger old.doing).book
+  pub lacks : LacksEnd (turned luck book old.ledger old.doing).seat new

@@ -63,7 +63,8 @@ standing_under standings call = slice_index_or standings call None
 
 abbrev pub handle_at : Root → List (Option StandingObject) → Ref → Option ℕ
 handle_at root standings ref.Root = Some root.handle
-handle_at root standings (ref.Call call) = option_map (λ (s : StandingObject). s.handle) (standing_under standings call)
+handle_at root standings (ref.Call call) =
+    option_map (λ (s : StandingObject). s.handle) (standing_under standings call)
 
 -- onward with the handle, where there is one
 abbrev pub with_handle : Option ℕ → (ℕ → Option (StepOf ℕ)) → Option (StepOf ℕ)
@@ -84,7 +85,8 @@ step_at at (steps.MakeFile d n) = with_handle (at d) (λ x. Some (steps.MakeFile
 step_at at (steps.MakeLink d n text) = with_handle (at d) (λ x. Some (steps.MakeLink x n text))
 step_at at (steps.RemoveFile d n) = with_handle (at d) (λ x. Some (steps.RemoveFile x n))
 step_at at (steps.RemoveDir d n) = with_handle (at d) (λ x. Some (steps.RemoveDir x n))
-step_at at (steps.Rename d n e m mode) = with_handle (at d) (λ x. with_handle (at e) (λ y. Some (steps.Rename x n y m mode)))
+step_at at (steps.Rename d n e m mode) =
+    with_handle (at d) (λ x. with_handle (at e) (λ y. Some (steps.Rename x n y m mode)))
 
 abbrev pub plain : Flags
 plain = record { beneath = false; no_links = false }
@@ -92,8 +94,10 @@ plain = record { beneath = false; no_links = false }
 -- what is asked by a planned call, where what it names is held
 abbrev pub request_of : Root → List (Option StandingObject) → Planned → Option Request
 request_of root standings (planned.Call request) = Some request
-request_of root standings (planned.Single step) = option_map (λ s. record { op = op.Single s; flags = plain }) (step_at (handle_at root standings) step)
-request_of root standings (planned.Release call) = option_map (λ s. record { op = op.Release s; flags = plain }) (standing_under standings call)
+request_of root standings (planned.Single step) =
+    option_map (λ s. record { op = op.Single s; flags = plain }) (step_at (handle_at root standings) step)
+request_of root standings (planned.Release call) =
+    option_map (λ s. record { op = op.Release s; flags = plain }) (standing_under standings call)
 
 -- what is to be released is kept no more
 abbrev pub left_by : Planned → List (Option StandingObject) → List (Option StandingObject)
@@ -115,7 +119,14 @@ outcome_of (fault error) = outcome.Fault error
 
 abbrev pub opened_by : Owner → Reply → Option StandingObject
 opened_by owner (opened handle names) =
-    Some (record { owner = owner; handle = handle.number; node = handle.node; kind = handle.kind; names = reverse names })
+    Some
+    (record {
+      owner = owner;
+      handle = handle.number;
+      node = handle.node;
+      kind = handle.kind;
+      names = reverse names;
+    })
 opened_by owner (link_text text) = None
 opened_by owner done = None
 opened_by owner (count n) = None
@@ -157,7 +168,8 @@ begins room ledger (Some request) =
 abbrev pub begins_next : Bool → LedgerView → List Planned → Seat
 begins_next room ledger [] = record { ledger = ledger; doing = None }
 begins_next room ledger (next ∷ others) =
-    begins room (record ledger { to_come = others; standings = left_by next ledger.standings }) (request_of ledger.root ledger.standings next)
+    begins room (record ledger { to_come = others; standings = left_by next ledger.standings })
+    (request_of ledger.root ledger.standings next)
 
 -- where no call is under way the next one is begun
 abbrev pub begun : Bool → LedgerView → Option CallView → Seat

@@ -25,8 +25,9 @@ use Rattle.race_core.specs.Worlds.{WorldView, RunsTo}
 
 -- ---- a world's whole run
 
--- The tree that was given, what the actors are to do, and how many lines the book has; the world as it was made; the schedule;
--- and the report: the tree at the end, the events, the outcomes of each actor's calls, and what was another owner's to release.
+-- The tree that was given, what the actors are to do, and how many lines the book has; the world as it was made; the
+-- schedule; and the report: the tree at the end, the events, the outcomes of each actor's calls, and what was
+-- another owner's to release.
 pub record WholeRun : Type 0 where
   pub given : State
   pub plans : List ActorPlan
@@ -54,19 +55,20 @@ root_of r i = record { owner = record { tag = 0; actor = i }; handle = length r.
 
 -- ---- calls
 
--- A call from its start to its end: what was planned, whether its first turn had memory, what it was told at each step, and its
--- reply.
+-- A call from its start to its end: what was planned, whether its first turn had memory, what it was told at each
+-- step, and its reply.
 pub record CallMade : Type 0 where
   pub planned : Planned
   pub room : Bool
   pub lines : List Line
   pub reply : Reply
 
--- A call that names what isn't held is refused without a step. Of any other the lines lead, by the order of the operation's steps,
--- from its first turn to its reply.
+-- A call that names what isn't held is refused without a step. Of any other the lines lead, by the order of the
+-- operation's steps, from its first turn to its reply.
 abbrev pub IsMadeAs : Root → Option Request → CallMade → Type 0
 IsMadeAs root None c = (c.lines ≡ []) × (c.reply ≡ fault BadHandle)
-IsMadeAs root (Some request) c = LeadsTo (below_of root request.flags) (starts (below_of root request.flags) c.room request.op) c.lines (ends c.reply)
+IsMadeAs root (Some request) c = LeadsTo (below_of root request.flags)
+    (starts (below_of root request.flags) c.room request.op) c.lines (ends c.reply)
 
 -- what is kept once the call has ended, by the calls' numbers: what it released no more, and what it opened
 abbrev pub kept_after : Owner → List (Option StandingObject) → CallMade → List (Option StandingObject)
@@ -95,8 +97,8 @@ events_of_calls a (c ∷ calls) = events_of a c.lines ++ events_of_calls a calls
 
 -- ---- what is released
 
--- A plan closes only what its own calls opened, each named by its number: no call of it asks for the Release of a Standing from
--- elsewhere that has its owner. One of another owner may be handed in; it is kept.
+-- A plan closes only what its own calls opened, each named by its number: no call of it asks for the Release of a
+-- Standing from elsewhere that has its owner. One of another owner may be handed in; it is kept.
 abbrev pub ReleasesOwn : Owner → List Planned → Type 0
 ReleasesOwn owner [] = Unit {0}
 ReleasesOwn owner (planned.Call request ∷ calls) =
@@ -107,18 +109,20 @@ ReleasesOwn owner (planned.Release call ∷ calls) = ReleasesOwn owner calls
 -- where that call keeps what it opened as this one begins, and this one releases it, it is done
 abbrev pub IsDoneIfKept : List (Option StandingObject) → CallMade → Type 0
 IsDoneIfKept standings c =
-    (call : ℕ) (standing : StandingObject) → c.planned ≡ planned.Release call → standing_under standings call ≡ Some standing → c.reply ≡ done
+    (call : ℕ) (standing : StandingObject) → c.planned ≡ planned.Release call
+    → standing_under standings call ≡ Some standing → c.reply ≡ done
 
 abbrev pub KeptAreReleased : Owner → List (Option StandingObject) → List CallMade → Type 0
 KeptAreReleased owner standings [] = Unit {0}
-KeptAreReleased owner standings (c ∷ calls) = IsDoneIfKept standings c × KeptAreReleased owner (kept_after owner standings c) calls
+KeptAreReleased owner standings (c ∷ calls) =
+    IsDoneIfKept standings c × KeptAreReleased owner (kept_after owner standings c) calls
 
 -- ---- an actor in a report
 
--- The actor's calls, in their order: those that were planned, made with what those before them keep; its own events are theirs,
--- and the replies in the report are their outcomes. The history is legal, its root is open as it begins, and the tree is the one
--- that the events lead to. Where the plan closes only what its calls opened, none of its events closes the root, and each Release of
--- what is kept is done.
+-- The actor's calls, in their order: those that were planned, made with what those before them keep; its own events
+-- are theirs, and the replies in the report are their outcomes. The history is legal, its root is open as it begins,
+-- and the tree is the one that the events lead to. Where the plan closes only what its calls opened, none of its
+-- events closes the root, and each Release of what is kept is done.
 pub record ActorsCalls (r : WholeRun) (i : ℕ) (plan : ActorPlan) : Type 0 where
   pub node : ℕ
   pub history : IsHistory (opening_of r) r.events (root_of r i) node

@@ -1,9 +1,10 @@
 -- A world: a tree that actors take turns on; its turns, and its runs to the end.
-use Rattle.std.specs.Prelude.{◌≡◌, ◌≤◌, ◌<◌, ℕ, zero, suc, List, [], ◌∷◌, ◌++◌, Bool, true, false, length, Option, Some, None, Result, Ok, Err, slice_get, slice_set, nat_lt, if◌then◌else◌}
+use Rattle.std.specs.Prelude.{◌≡◌, ◌≤◌, ◌<◌, ◌⊎◌, ℕ, zero, suc, List, [], ◌∷◌, ◌++◌, Bool, true, false, length, Option, Some, None, Result, Ok, Err, slice_get, slice_set, nat_lt, if◌then◌else◌}
 use Rattle.tree_model.specs.declared.answer.Event.{Event}
 use Rattle.tree_model.specs.State.{State}
 use Rattle.tree_model.specs.History.{IsLegal}
 use Rattle.handles.specs.Objects.{StandingObject}
+use Rattle.root_ops.specs.declared.reply.Reply.{Reply}
 use Rattle.race_core.specs.declared.report.Outcome.{Outcome}
 use Rattle.race_core.specs.declared.report.WorldFault.{WorldFault}
 use Rattle.race_core.specs.declared.report.WorldFault.TheVariants as fault
@@ -11,7 +12,7 @@ use Rattle.race_core.specs.Book.{BookedHistory, tree_now}
 use Rattle.race_core.specs.Ledgers.{LedgerView}
 use Rattle.race_core.specs.declared.seat.Seat.{Seat}
 use Rattle.race_core.specs.Turns.{Luck, turned}
-use Rattle.race_core.specs.TurnView.{is_busy, is_within, turns_left}
+use Rattle.race_core.specs.TurnView.{is_busy, is_within, turns_left, taken_down}
 
 -- the book, each actor's seat by its number, and whether memory for the report ran short
 pub record WorldView : Type 0 where
@@ -44,9 +45,12 @@ pub record TakesTurn (w : WorldView) (i : ℕ) (v : WorldView) : Type 0 where
   pub is : v ≡ turn luck w i
 
 -- the same of a book and its seats
-pub record IsTurnAt (book : BookedHistory) (seats : List Seat) (i : ℕ) (book_after : BookedHistory) (after : List Seat) : Type 0 where
+pub record IsTurnAt (book : BookedHistory) (seats : List Seat) (i : ℕ) (book_after : BookedHistory)
+    (after : List Seat) : Type 0 where
   pub luck : Luck
-  pub is : (spent : Bool) → record { book = book_after; seats = after; spent = spent } ≡ turn luck (record { book = book; seats = seats; spent = spent }) i
+  pub is : (spent : Bool)
+      → record { book = book_after; seats = after; spent = spent }
+      ≡ turn luck (record { book = book; seats = seats; spent = spent }) i
 
 -- ---- what is left to do
 
@@ -81,6 +85,38 @@ Lowers old i new = is_busy_at old i ≡ true → turns_at new i < turns_at old i
 abbrev pub first_beyond : ℕ → List ℕ → Option ℕ
 first_beyond actors [] = None
 first_beyond actors (i ∷ is) = if nat_lt i actors then first_beyond actors is else Some i
+
+-- ---- a turn that there was no room to take down
+
+-- what a call came to is taken down at that place, where somebody sits
+abbrev pub taken_down_at : List Seat → ℕ → Reply → Option Seat → List Seat
+taken_down_at seats i reply None = seats
+taken_down_at seats i reply (Some seat) =
+    slice_set seats i (record { ledger = taken_down seat.ledger reply; doing = None })
+
+-- The book and its seats after a turn, as luck has it, but that there was no room to take down the end of the
+-- actor's call: with this reply taken down they are so.
+pub record IsCutTurnAt (book : BookedHistory) (seats : List Seat) (i : ℕ) (book_after : BookedHistory)
+    (after : List Seat) : Type 0 where
+  pub luck : Luck
+  pub reply : Reply
+  pub idle : is_within_at after i ≡ false
+  pub is : (spent : Bool)
+      → record { book = book_after; seats = taken_down_at after i reply (slice_get after i); spent = spent }
+      ≡ turn luck (record { book = book; seats = seats; spent = spent }) i
+
+-- The same of a world, which had memory until then and has none for its report from now on.
+pub record IsCutShort (w : WorldView) (i : ℕ) (v : WorldView) : Type 0 where
+  pub had_memory : w.spent ≡ false
+  pub spent : v.spent ≡ true
+  pub luck : Luck
+  pub reply : Reply
+  pub idle : is_within_at v.seats i ≡ false
+  pub is : record v { seats = taken_down_at v.seats i reply (slice_get v.seats i); spent = false } ≡ turn luck w i
+
+-- Memory for the report ran short: before, and then nothing changes any more; or at this turn, which was made.
+abbrev pub LacksRoom : WorldView → ℕ → WorldView → Type 0
+LacksRoom w i v = ((w.spent ≡ true) × (v ≡ w)) ⊎ IsCutShort w i v
 
 -- ---- runs to the end
 
@@ -130,7 +166,8 @@ kept_in [] = []
 kept_in (ledger ∷ ledgers) = ledger.kept ++ kept_in ledgers
 
 -- a report on this book and these ledgers: the tree, the events, the replies and what was kept
-pub record Reports (book : BookedHistory) (ledgers : List LedgerView) (tree : State) (events : List Event) (replies : List (List Outcome)) (kept : List StandingObject) : Type 0 where
+pub record Reports (book : BookedHistory) (ledgers : List LedgerView) (tree : State) (events : List Event)
+    (replies : List (List Outcome)) (kept : List StandingObject) : Type 0 where
   pub is_tree : tree ≡ tree_now book
   pub are_events : events ≡ book.events
   pub legal : IsLegal book.opening book.events
@@ -138,7 +175,8 @@ pub record Reports (book : BookedHistory) (ledgers : List LedgerView) (tree : St
   pub is_kept : kept ≡ kept_in ledgers
 
 -- the world ran so, and this is the report on its end
-pub record RunsTo (w : WorldView) (schedule : List ℕ) (tree : State) (events : List Event) (replies : List (List Outcome)) (kept : List StandingObject) : Type 0 where
+pub record RunsTo (w : WorldView) (schedule : List ℕ) (tree : State) (events : List Event)
+    (replies : List (List Outcome)) (kept : List StandingObject) : Type 0 where
   pub had_memory : w.spent ≡ false
   pub within : first_beyond (length w.seats) schedule ≡ None
   pub end : WorldView
@@ -157,12 +195,13 @@ RefusesRun w schedule (fault.TooMany at) = ⊥
 RefusesRun w schedule fault.Invalid = ⊥
 RefusesRun w schedule fault.BookFull = ⊥
 
--- What a turn comes to: a number that is no actor's changes nothing, and once memory for the report ran short it is short for
--- good.
+-- What a turn comes to: a number that is no actor's changes nothing. Where memory for the report runs short the turn
+-- is made, but the end of the actor's call isn't taken down; it is short for good then, and nothing changes any
+-- more.
 abbrev pub Turns : WorldView → ℕ → WorldView → Result (Unit {0}) WorldFault → Type 0
 Turns old i new (Ok done) = (i < length old.seats) × TakesTurn old i new
 Turns old i new (Err (fault.NoSuchActor actor)) = (actor ≡ i) × (length old.seats ≤ i) × (new ≡ old)
-Turns old i new (Err fault.NoMemory) = (i < length old.seats) × (new.spent ≡ true)
+Turns old i new (Err fault.NoMemory) = (i < length old.seats) × LacksRoom old i new
 Turns old i new (Err fault.TooManyActors) = ⊥
 Turns old i new (Err (fault.RootNotFound at)) = ⊥
 Turns old i new (Err (fault.RootNotDir at)) = ⊥

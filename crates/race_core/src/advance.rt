@@ -1,8 +1,10 @@
 //! One step of a call through a book, and the end of a call that is given up.
-ghost use Rattle.std.specs.Prelude.{◌≡◌, ◌<◌};
+ghost use Rattle.std.specs.Prelude.{◌≡◌, ◌<◌, false};
 ghost use Rattle.root_ops.specs.Order.{due, steps_left};
 ghost use Rattle.root_ops.specs.TurnView.{turn_view, Keeps, steps_to_come};
 ghost use Rattle.race_core.specs.Advance.{IsStepped, Advances};
+ghost use Rattle.race_core.specs.GivenUp.{IsGivenUp};
+ghost use Rattle.race_core.specs.Turns.{stepped_by};
 
 use crate::book::Book;
 use path_text::Errno;
@@ -23,8 +25,8 @@ fn answer_due<T: Tree>(alloc: Global, book: &mut Book<T>, actor: Actor, call: &C
     }
 }
 
-/// Makes the step that is due through the book, as this actor, and takes its answer. A step that the book refuses, or for
-/// which there is no memory, isn't made, and is taken as refused so.
+/// Makes the step that is due through the book, as this actor, and takes its answer. A step that the book refuses,
+/// or for which there is no memory, isn't made, and is taken as refused so.
 pub(crate) fn advance<T: Tree>(
     alloc: Global,
     book: &mut Book<T>,
@@ -39,22 +41,30 @@ pub(crate) fn advance<T: Tree>(
     call.take(alloc, answer)
 }
 
-/// Gives a call up: each Close that is due is made, and at every other step it is told that there is no memory, until it
-/// ends. Takes no memory.
-pub(crate) fn give_up<T: Tree>(alloc: Global, book: &mut Book<T>, actor: Actor, call: Call) {
+// The answer to the step that is due where there is no memory for it: a Close takes none, and is made all the same.
+fn answer_without<T: Tree>(alloc: Global, book: &mut Book<T>, actor: Actor, call: &Call) -> Answer
+    ensures answer { result ≡ (stepped_by false book.old actor (due call.now.below call.now.doing)).answer }
+    ensures left { book.new ≡ (stepped_by false book.old actor (due call.now.below call.now.doing)).book }
+{
+    match call.due(alloc) {
+        Ok(StepOf::Close(handle)) => match book.step(alloc, actor, &StepOf::Close(handle)) {
+            Ok(answer) => answer,
+            Err(error) => Answer::Refused(error),
+        },
+        _ => Answer::Refused(Errno::NoMemory),
+    }
+}
+
+/// Gives a call up: it goes on to its end as if there were no memory for any step. So each Close that is due is
+/// made, at every other step it is told that there is no memory, and nothing else is done. Takes no memory.
+pub(crate) fn give_up<T: Tree>(alloc: Global, book: &mut Book<T>, actor: Actor, call: Call)
+    ensures { IsGivenUp actor book.old call book.new }
+{
     let mut turn = CallTurn::More(call);
     loop {
         match turn {
             CallTurn::More(call) => {
-                let answer = match call.due(alloc) {
-                    Ok(StepOf::Close(handle)) => {
-                        match book.step(alloc, actor, &StepOf::Close(handle)) {
-                            Ok(answer) => answer,
-                            Err(fault) => Answer::Refused(fault),
-                        }
-                    }
-                    _ => Answer::Refused(Errno::NoMemory),
-                };
+                let answer = answer_without(alloc, book, actor, &call);
                 turn = call.take(alloc, answer);
             }
             CallTurn::Done(_reply) => return,

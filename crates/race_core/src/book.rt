@@ -1,5 +1,6 @@
 //! A tree and the history of the steps on it.
-ghost use Rattle.std.specs.Prelude.{◌≡◌, ◌<◌, ◌≤◌, ◌+◌, length, false, is_some, count_by, Some, None, Err, MatchResult, MatchOption, IfOk, IfErr};
+ghost use Rattle.std.specs.Prelude.{◌≡◌, ◌<◌, ◌≤◌, ◌+◌, ◌++◌, [], ◌∷◌, suc, length, false, is_some, count_by, Some, None, Err, MatchResult, MatchOption, IfOk, IfErr};
+ghost use Rattle.event_log.specs.Records.{event_with};
 ghost use Rattle.tree_model.specs.History.{IsLegal};
 ghost use Rattle.tree_model.specs.StepLaws.{open_count, opened_count};
 ghost use Rattle.race_core.specs.Book.{opened_book, MayRefuse, tree_now, free_lines, lines_needed, is_close, refusal, answer_now, booked, closed_now, is_done};
@@ -11,6 +12,8 @@ use path_text::{Errno, NoMemory};
 use std::alloc::Global;
 use std::marker::Model;
 use tree_model::{Actor, Answer, HandleNo, OpenHandle, Snapshot, Step, StepOf, Tree};
+
+mod copy;
 
 /// The most lines that a book has.
 pub const LINES_MAX: u32 = 1_000_000;
@@ -102,8 +105,10 @@ impl<T: Tree> Book<T> {
     /// Errors: Invalid over 1,000,000 lines; else BookFull (ENOSPC) where there are fewer lines than open handles, or
     /// NoMemory where room was refused, in place of BookFull too. The tree comes back with each.
     pub fn open(alloc: Global, tree: T, lines: u32) -> Result<Book<T>, OpenRefusal<T>>
-        ensures opened { IfOk result (λ book. (book ≡ opened_book (T.state tree) lines) × (open_count (T.state tree) ≤ lines)) }
-        ensures refused { IfErr result (λ refused. (refused.tree ≡ tree) × MayRefuse (T.state tree) lines refused.cause) }
+        ensures opened { IfOk result (λ book. (book ≡ opened_book (T.state tree) lines)
+            × (open_count (T.state tree) ≤ lines)) }
+        ensures refused { IfErr result (λ refused. (refused.tree ≡ tree)
+            × MayRefuse (T.state tree) lines refused.cause) }
         ensures bounded { IfOk result (λ _. lines ≤ LINES_MAX) }
     {
         if lines > LINES_MAX {
@@ -171,13 +176,16 @@ impl<T: Tree> Book<T> {
 
     /// Takes one step of an actor, by the step table, and books it with its answer, which it gives.
     ///
-    /// Errors, each of which changes nothing: BookFull (ENOSPC) where there are fewer free lines than the step needs,
-    /// two for Open, Dup and Parent, none for Close and one for the others; BadHandle (EBADF) for the Close of a handle
-    /// that isn't open or not the actor's; NoMemory where room was refused, never for a Close. A step that the tree
-    /// refuses otherwise is an event too.
+    /// Errors, each of which changes nothing: BookFull (ENOSPC) where there are fewer free lines than the step
+    /// needs, two for Open, Dup and Parent, none for Close and one for the others; BadHandle (EBADF) for the Close
+    /// of a handle that isn't open or not the actor's; NoMemory where room was refused, never for a Close. A step
+    /// that the tree refuses otherwise is an event too.
     pub fn step(&mut self, alloc: Global, actor: Actor, step: &Step) -> Result<Answer, Errno>
-        ensures answer { MatchOption (refusal self.old actor step.now) (MatchResult result (λ answer. answer ≡ answer_now self.old actor step.now) (λ error. (error ≡ Errno.NoMemory) × (is_close step.now ≡ false))) (λ fault. result ≡ Err fault) }
-        ensures after { MatchResult result (λ _. self.new ≡ booked self.old actor step.now) (λ _. self.new ≡ self.old) }
+        ensures answer { MatchOption (refusal self.old actor step.now)
+            (MatchResult result (λ answer. answer ≡ answer_now self.old actor step.now)
+            (λ error. (error ≡ Errno.NoMemory) × (is_close step.now ≡ false))) (λ fault. result ≡ Err fault) }
+        ensures after { MatchResult result (λ _. self.new ≡ booked self.old actor step.now)
+            (λ _. self.new ≡ self.old) }
     {
         if self.free() < lines_needed(step) {
             return Err(Errno::BookFull);
@@ -188,10 +196,12 @@ impl<T: Tree> Book<T> {
         }
     }
 
-    // Closes a handle, and books it on the line that was kept for it. BadHandle where it isn't open or not the actor's.
+    // Closes a handle, and books it on the line that was kept for it. BadHandle where it isn't open or not the
+    // actor's.
     fn close(&mut self, alloc: Global, actor: Actor, handle: HandleNo) -> Result<Answer, Errno>
         ensures answer { result ≡ closed_now self.old actor handle }
-        ensures after { MatchResult result (λ _. self.new ≡ booked self.old actor (CloseStep handle)) (λ _. self.new ≡ self.old) }
+        ensures after { MatchResult result (λ _. self.new ≡ booked self.old actor (CloseStep handle))
+            (λ _. self.new ≡ self.old) }
     {
         if !close_handle(&mut self.tree, alloc, actor, handle) {
             return Err(Errno::BadHandle);
@@ -201,18 +211,110 @@ impl<T: Tree> Book<T> {
         Ok(Answer::Done)
     }
 
-    // Makes a step that is no Close, and books it. NoMemory where room was refused, for the names or the text of an answer
-    // too: a step that is so answered changed nothing.
+    /// Takes a step of an actor that is no Close as `step` does, and adds its event to another log too: to both, or
+    /// to neither. That log has that many lines of room before it gets the event, for this one and for Closes to
+    /// come.
+    ///
+    /// Errors, each of which changes nothing: BookFull (ENOSPC) as for `step`; NoMemory where room was refused, the
+    /// other log's too.
+    pub fn step_into(
+        &mut self,
+        alloc: Global,
+        actor: Actor,
+        step: &Step,
+        own: &mut EventLog,
+        own_lines: usize,
+    ) -> Result<Answer, Errno>
+        requires no_close { is_close step.now ≡ false }
+        requires own_lines { 0 < own_lines }
+        ensures answer { MatchOption (refusal self.old actor step.now)
+            (MatchResult result (λ answer. answer ≡ answer_now self.old actor step.now)
+            (λ error. error ≡ Errno.NoMemory)) (λ fault. result ≡ Err fault) }
+        ensures after { MatchResult result (λ _. self.new ≡ booked self.old actor step.now)
+            (λ _. self.new ≡ self.old) }
+        ensures own { MatchResult result
+            (λ answer. own.new.events ≡ own.old.events ++ event_with actor step.now answer ∷ [])
+            (λ _. own.new.events ≡ own.old.events) }
+        ensures own_room { MatchResult result (λ _. own_lines ≤ suc own.new.room) (λ _. own.old.room ≤ own.new.room) }
+    {
+        if self.free() < lines_needed(step) {
+            return Err(Errno::BookFull);
+        }
+        Ok(self.make_into(alloc, actor, step, own, own_lines)?)
+    }
+
+    /// Closes a handle as `step` does, and adds the event to another log too: to both; or to neither, and BadHandle
+    /// (EBADF), where the handle isn't open or not the actor's. Takes no memory.
+    pub fn close_into(
+        &mut self,
+        alloc: Global,
+        actor: Actor,
+        handle: HandleNo,
+        own: &mut EventLog,
+    ) -> Result<Answer, Errno>
+        requires { 0 < own.old.room }
+        ensures answer { result ≡ closed_now self.old actor handle }
+        ensures after { MatchResult result (λ _. self.new ≡ booked self.old actor (CloseStep handle))
+            (λ _. self.new ≡ self.old) }
+        ensures own { MatchResult result
+            (λ answer. own.new.events ≡ own.old.events ++ event_with actor (CloseStep handle) answer ∷ [])
+            (λ _. own.new.events ≡ own.old.events) }
+        ensures own_room { MatchResult result (λ _. own.old.room ≡ suc own.new.room)
+            (λ _. own.new.room ≡ own.old.room) }
+    {
+        let answer = self.close(alloc, actor, handle)?;
+        own.push_close(actor, handle);
+        Ok(answer)
+    }
+
+    // Makes a step that is no Close, and books it. NoMemory where room was refused, for the names or the text of an
+    // answer too: a step that is so answered changed nothing.
     fn make(&mut self, alloc: Global, actor: Actor, step: &Step) -> Result<Answer, NoMemory>
         requires lines { lines_needed step.now ≤ free_lines self.old }
         requires no_close { is_close step.now ≡ false }
         ensures answer { IfOk result (λ answer. answer ≡ answer_now self.old actor step.now) }
-        ensures after { MatchResult result (λ _. self.new ≡ booked self.old actor step.now) (λ _. self.new ≡ self.old) }
+        ensures after { MatchResult result (λ _. self.new ≡ booked self.old actor step.now)
+            (λ _. self.new ≡ self.old) }
     {
         self.events.reserve(self.open_handles + 2)?;
         self.events.reserve_texts(step)?;
         let answer = self.tree.step(alloc, actor, step)?;
-        self.events.push(actor, step, &answer)?;
+        self.events.reserve_event(step, &answer)?;
+        self.events.push_reserved(actor, step, &answer);
+        self.open_handles += opened_count(&answer);
+        Ok(answer)
+    }
+
+    // Makes a step that is no Close, and adds it to the book and to the other log. NoMemory where room was refused,
+    // for the names or the text of an answer too: a step that is so answered changed nothing.
+    fn make_into(
+        &mut self,
+        alloc: Global,
+        actor: Actor,
+        step: &Step,
+        own: &mut EventLog,
+        own_lines: usize,
+    ) -> Result<Answer, NoMemory>
+        requires lines { lines_needed step.now ≤ free_lines self.old }
+        requires no_close { is_close step.now ≡ false }
+        requires own_lines { 0 < own_lines }
+        ensures answer { IfOk result (λ answer. answer ≡ answer_now self.old actor step.now) }
+        ensures after { MatchResult result (λ _. self.new ≡ booked self.old actor step.now)
+            (λ _. self.new ≡ self.old) }
+        ensures own { MatchResult result
+            (λ answer. own.new.events ≡ own.old.events ++ event_with actor step.now answer ∷ [])
+            (λ _. own.new.events ≡ own.old.events) }
+        ensures own_room { MatchResult result (λ _. own_lines ≤ suc own.new.room) (λ _. own.old.room ≤ own.new.room) }
+    {
+        self.events.reserve(self.open_handles + 2)?;
+        own.reserve(own_lines)?;
+        self.events.reserve_texts(step)?;
+        own.reserve_texts(step)?;
+        let answer = self.tree.step(alloc, actor, step)?;
+        self.events.reserve_event(step, &answer)?;
+        own.reserve_event(step, &answer)?;
+        self.events.push_reserved(actor, step, &answer);
+        own.push_reserved(actor, step, &answer);
         self.open_handles += opened_count(&answer);
         Ok(answer)
     }

@@ -1,5 +1,6 @@
 //! What an actor of a world has to do, and what came of it.
-ghost use Rattle.std.specs.Prelude.{◌≡◌, IfOk, slice_set, not};
+ghost use Rattle.std.specs.Prelude.{◌≡◌, IfOk, OnErr, slice_set, not};
+ghost use Rattle.root_ops.specs.declared.reply.Reply.TheVariants.{Kept};
 ghost use Rattle.race_core.specs.Turns.{handle_at, step_at, request_of, standing_under, left_by, opened_ledger};
 ghost use Rattle.race_core.specs.TurnView.{Begins, IsStarted, are_some, taken_down};
 
@@ -159,10 +160,11 @@ impl Ledger {
         Some(first_turn(alloc, self.root, request))
     }
 
-    /// Takes down how a call ended. NoMemory where the room for that was refused.
+    /// Takes down how a call ended. NoMemory where the room for that was refused; then nothing is taken down.
     pub(crate) fn end(&mut self, alloc: Global, reply: Reply) -> Result<(), NoMemory>
         ensures taken_down { IfOk result (λ _. self.new ≡ taken_down self.old reply) }
         ensures to_come { self.new.to_come ≡ self.old.to_come }
+        ensures not_taken_down { OnErr result (self.new ≡ self.old) }
     {
         let mut opened = None;
         let outcome = match reply {
@@ -176,14 +178,26 @@ impl Ledger {
             Reply::Done => Outcome::Done,
             Reply::Count(count) => Outcome::Count(count),
             Reply::Stepped(answer) => Outcome::Stepped(answer),
-            Reply::Kept(standing) => {
-                self.kept.push(standing)?;
-                Outcome::Fault(Errno::Invalid)
-            }
+            Reply::Kept(standing) => return self.end_kept(standing),
             Reply::Fault(error) => Outcome::Fault(error),
         };
+        self.standings.reserve(1)?;
         self.outcomes.push(outcome)?;
-        self.standings.push(opened)?;
+        self.standings.push_reserved(opened);
+        Ok(())
+    }
+
+    // The same of a call that keeps what was another owner's to release.
+    fn end_kept(&mut self, standing: Standing) -> Result<(), NoMemory>
+        ensures taken_down { IfOk result (λ _. self.new ≡ taken_down self.old (Kept standing)) }
+        ensures to_come { self.new.to_come ≡ self.old.to_come }
+        ensures not_taken_down { OnErr result (self.new ≡ self.old) }
+    {
+        self.kept.reserve(1)?;
+        self.standings.reserve(1)?;
+        self.outcomes.push(Outcome::Fault(Errno::Invalid))?;
+        self.standings.push_reserved(None);
+        self.kept.push_reserved(standing);
         Ok(())
     }
 }

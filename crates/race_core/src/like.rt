@@ -1,5 +1,5 @@
-//! Whether what two actors have to do and hold is the same but for the numbers of their handles, and which handles these are,
-//! one by one.
+//! Whether what two actors have to do and hold is the same but for the numbers of their handles, and which handles
+//! these are, one by one.
 ghost use Rattle.std.specs.Prelude.{◌≡◌, ◌++◌, ℕ, List, map, ◌↔◌, IsTrue, IfOk};
 ghost use Rattle.std.specs.List.{flat_map};
 

@@ -110,9 +110,9 @@ impl<T: Tree> World<T> {
     /// A world over a tree, with a book of that many lines. The actors are numbered by their places, and their roots
     /// granted in that order; the owner's tag is 0.
     ///
-    /// Errors, in this order: TooManyActors over 64; RootNotFound, RootNotDir or TooMany of the first actor whose root
-    /// isn't granted; Invalid over 1,000,000 lines; BookFull where there are fewer lines than open handles. NoMemory where
-    /// room was refused, in place of any but the first. The tree is dropped with each.
+    /// Errors, in this order: TooManyActors over 64; RootNotFound, RootNotDir or TooMany of the first actor whose
+    /// root isn't granted; Invalid over 1,000,000 lines; BookFull where there are fewer lines than open handles.
+    /// NoMemory where room was refused, in place of any but the first. The tree is dropped with each.
     pub fn new(
         alloc: Global,
         mut tree: T,

@@ -1,6 +1,7 @@
 //! A world: a tree, and actors who take turns on it.
 ghost use Rattle.std.specs.Prelude.{◌≡◌, ◌≢◌, ◌<◌, ◌≤◌, ◌+◌, ◌++◌, ℕ, length, None, true, false, IfOk, IfErr, OnOk, OnErr, slice_get, vec_len, vec_capacity};
-ghost use Rattle.race_core.specs.Worlds.{IsTurnAt, Lowers, is_busy_at, is_within_at, TakesTurn, first_beyond, Runs, GoesToEnd, AllGoToEnd, numbers_below, RunsOut, AllOver, ledgers_in, Reports, RunsTo, RefusesRun, Turns};
+ghost use Rattle.race_core.specs.Worlds.{IsTurnAt, IsCutTurnAt, LacksRoom, Lowers, is_busy_at, is_within_at, TakesTurn, first_beyond, Runs, GoesToEnd, AllGoToEnd, numbers_below, RunsOut, AllOver, ledgers_in, Reports, RunsTo, RefusesRun, Turns};
+ghost use Rattle.race_core.specs.GivenUp.{AllGiveUp};
 
 use crate::book::Book;
 use crate::ledger::Ledger;
@@ -11,8 +12,10 @@ use std::alloc::Global;
 use std::marker::Model;
 use tree_model::Tree;
 
-/// A tree, and actors who take turns on it: a turn is one due step of the actor's call under way, or of its next one. It
-/// can't be let go: `run` goes to its end. Contracts see it as a `WorldView`.
+mod copy;
+
+/// A tree, and actors who take turns on it: a turn is one due step of the actor's call under way, or of its next
+/// one. It can't be let go: `run` goes to its end. Contracts see it as a `WorldView`.
 pub struct World<T: Tree> {
     pub(crate) book: Book<T>,
     pub(crate) seats: Vec<Seat>,
@@ -40,7 +43,8 @@ fn first_beyond(schedule: &[u32], actors: usize) -> Option<u32>
     None
 }
 
-// One turn of the actor at that place.
+// One turn of the actor at that place. NoMemory where there was no room to take down the end of a call: the turn was
+// made.
 fn turn_seat<T: Tree>(
     alloc: Global,
     book: &mut Book<T>,
@@ -50,15 +54,19 @@ fn turn_seat<T: Tree>(
     requires { at < length seats.old }
     ensures turned { OnOk result (IsTurnAt book.old seats.old at book.new seats.new) }
     ensures fewer { OnOk result (Lowers seats.old at seats.new) }
+    ensures cut { OnErr result (IsCutTurnAt book.old seats.old at book.new seats.new) }
     ensures others { (i : ℕ) → i ≢ at → slice_get seats.new i ≡ slice_get seats.old i }
 {
     let seat = &mut seats[at];
     seat.turn(alloc, book)
 }
 
-// Gives all calls under way up.
-fn clear<T: Tree>(alloc: Global, book: &mut Book<T>, mut seats: Vec<Seat>) {
-    while let Some(seat) = seats.pop() {
+// Gives all calls under way up, the actors in their order.
+fn clear<T: Tree>(alloc: Global, book: &mut Book<T>, seats: Vec<Seat>)
+    ensures { AllGiveUp book.old seats.items book.new }
+{
+    let mut seats = seats.into_iter();
+    while let Some(seat) = seats.next() {
         let _ledger = seat.give_up(alloc, book);
     }
     seats.destroy_empty();
@@ -84,7 +92,9 @@ fn report_on<T: Tree + Drop>(
     book: Book<T>,
     ledgers: Vec<Ledger>,
 ) -> Result<Report<T>, NoMemory>
-    ensures { IfOk result (λ report. Reports book ledgers.items (T.state report.tree) report.events.events report.replies.items report.kept.items) }
+    ensures { IfOk result (λ report.
+        Reports book ledgers.items
+        (T.state report.tree) report.events.events report.replies.items report.kept.items) }
 {
     let mut replies = Vec::new(alloc);
     let mut kept = Vec::new(alloc);
@@ -107,7 +117,7 @@ impl<T: Tree> World<T> {
     fn turn_at(&mut self, alloc: Global, at: usize) -> Result<(), NoMemory>
         requires { at < length self.old.seats }
         ensures turned { OnOk result (TakesTurn self.old at self.new) }
-        ensures spent { OnErr result (self.new.spent ≡ true) }
+        ensures cut { OnErr result (LacksRoom self.old at self.new) }
         ensures actors { length self.new.seats ≡ length self.old.seats }
         ensures fewer { OnOk result (Lowers self.old.seats at self.new.seats) }
         ensures others { (i : ℕ) → i ≢ at → slice_get self.new.seats i ≡ slice_get self.old.seats i }
@@ -177,12 +187,14 @@ impl<T: Tree> World<T> {
         self.all_to_end(alloc)
     }
 
-    /// One turn of the actor of that number: its next call is started where none is under way, and one due step is made,
-    /// which is at most one event. A call that is done at its start is the whole turn, and an actor without calls left
-    /// does nothing. Want of memory and of room in the book for a step go to the call.
+    /// One turn of the actor of that number. It begins its next call, if none is under way, and makes one due step,
+    /// which is at most one event. A call that is done at its start takes the whole turn. An actor without calls
+    /// left does nothing. If memory, or room in the book, runs short for a step, the call gets that as the step's
+    /// refusal.
     ///
-    /// Errors: NoSuchActor where there is none of that number, which changes nothing; NoMemory where room for the report
-    /// was refused, and from then on for good.
+    /// Errors: NoSuchActor where there is none of that number, which changes nothing; NoMemory where room for the
+    /// report was refused, and from then on for good. The first NoMemory comes where there is no room to take down
+    /// how a call ended: the turn was made then, and that end isn't taken down. Each later one changes nothing.
     pub fn turn(&mut self, alloc: Global, actor: u32) -> Result<(), WorldFault>
         ensures { Turns self.old actor self.new result }
     {
@@ -226,8 +238,9 @@ impl<T: Tree> World<T> {
         seat.is_within_call()
     }
 
-    // Ends the world: each call under way is given up.
-    fn give_up(self, alloc: Global)
+    /// Ends the world without its turns: each call under way is given up, by the Closes that are due, and nothing is
+    /// told of what came of the others. Takes no memory.
+    pub fn give_up(self, alloc: Global)
     where
         T: Drop,
     {
@@ -244,7 +257,9 @@ impl<T: Tree> World<T> {
     where
         T: Drop,
         requires { AllOver self.seats }
-        ensures { IfOk result (λ report. Reports self.book (ledgers_in self.seats) (T.state report.tree) report.events.events report.replies.items report.kept.items) }
+        ensures { IfOk result (λ report.
+            Reports self.book (ledgers_in self.seats)
+            (T.state report.tree) report.events.events report.replies.items report.kept.items) }
     {
         let World {
             mut book,
@@ -261,15 +276,17 @@ impl<T: Tree> World<T> {
         report_on(alloc, book, ledgers)
     }
 
-    /// The turns of a schedule, one after another, and then the actors in the order of their numbers, each to its end; and
-    /// what came of it. What a call still keeps at the end stays open.
+    /// The turns of a schedule, one after another, and then the actors in the order of their numbers, each to its
+    /// end; and what came of it. What a call still keeps at the end stays open.
     ///
-    /// Errors: NoSuchActor of the first number of the schedule that is no actor's, before any turn; NoMemory where room
-    /// for the report was refused, now or in an earlier turn. Each call under way is given up then.
+    /// Errors: NoSuchActor of the first number of the schedule that is no actor's, before any turn; NoMemory where
+    /// room for the report was refused, now or in an earlier turn. Each call under way is given up then.
     pub fn run(mut self, alloc: Global, schedule: &[u32]) -> Result<Report<T>, WorldFault>
     where
         T: Drop,
-        ensures ran { IfOk result (λ report. RunsTo self schedule.now (T.state report.tree) report.events.events report.replies.items report.kept.items) }
+        ensures ran { IfOk result (λ report.
+            RunsTo self schedule.now
+            (T.state report.tree) report.events.events report.replies.items report.kept.items) }
         ensures refused { IfErr result (RefusesRun self schedule.now) }
     {
         if let Some(actor) = first_beyond(schedule, self.seats.len()) {

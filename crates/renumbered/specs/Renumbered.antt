@@ -56,7 +56,8 @@ abbrev pub AreNodesOn : (ℕ → ℕ) → List Inode → List Inode → Type 0
 AreNodesOn f nodes others = (x : ℕ) → slice_get others (f x) ≡ option_map (inode_on f) (slice_get nodes x)
 
 -- Nodes and replies are what others were, by one renumbering of the nodes from n on.
-pub record IsRenumbered (n : ℕ) (nodes : List Inode) (replies : List (List Outcome)) (others : List Inode) (renumbered : List (List Outcome)) : Type 0 where
+pub record IsRenumbered (n : ℕ) (nodes : List Inode) (replies : List (List Outcome)) (others : List Inode)
+    (renumbered : List (List Outcome)) : Type 0 where
   pub f : ℕ → ℕ
   pub renumbering : IsRenumbering n f
   pub nodes_on : AreNodesOn f nodes others

@@ -1,5 +1,5 @@
-//! The order in which new nodes are met. It names no new node by the number that it got, so that alike outcomes give their
-//! new nodes the same numbers.
+//! The order in which new nodes are met. It names no new node by the number that it got, so that alike outcomes give
+//! their new nodes the same numbers.
 ghost use Rattle.std.specs.Prelude.{◌<◌, ◌≤◌, length, IfSome, IfOk};
 ghost use Rattle.renumbered.specs.Exchanges.{AreWithin};
 
@@ -9,7 +9,8 @@ use race_core::{Outcome, Outcomes};
 use std::alloc::Global;
 use tree_model::{Answer, Inode, Node};
 
-// The search for the node that is met next, where nodes have their numbers after the exchanges: it gets the number `next`.
+// The search for the node that is met next, where nodes have their numbers after the exchanges: it gets the number
+// `next`.
 #[derive(Clone, Copy)]
 struct Search<'a> {
     exchanges: &'a [Exchange],
@@ -143,10 +144,10 @@ fn is_told(named: &[u32], actor: u64) -> bool {
     named.is_empty() || named.iter().any(|number| u64::from(*number) == actor)
 }
 
-/// What exchanges the nodes from `known` on, so that they are numbered as they are met: where no actor is named, the entries
-/// of directories that were met come first, by the directory's number and the bytes of the name, and then the nodes that calls
-/// opened; where actors are named, only what their calls opened. Nodes that aren't met come last. NoMemory where room was
-/// refused.
+/// What exchanges the nodes from `known` on, so that they are numbered as they are met: where no actor is named, the
+/// entries of directories that were met come first, by the directory's number and the bytes of the name, and then
+/// the nodes that calls opened; where actors are named, only what their calls opened. Nodes that aren't met come
+/// last. NoMemory where room was refused.
 pub(crate) fn exchanges(
     alloc: Global,
     known: usize,

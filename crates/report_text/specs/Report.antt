@@ -1,4 +1,5 @@
--- The text of a report, from its events, how the calls ended, the tree that the events led to, and the number of actors.
+-- The text of a report, from its events, how the calls ended, the tree that the events led to, and the number of
+-- actors.
 use Rattle.std.specs.Prelude.{ℕ, zero, suc, List, [], ◌∷◌, ◌++◌, codes, decimal}
 use Rattle.std.specs.List.{flat_map}
 use Rattle.race_core.specs.declared.report.Outcome.{Outcome}
@@ -23,7 +24,8 @@ numbered line k (x ∷ xs) = line k x ++ numbered line (suc k) xs
 -- event K actor I STEP = ANSWER
 abbrev pub event_line : ℕ → Event → List ℕ
 event_line k event =
-    codes "event " ++ (decimal k ++ (codes " actor " ++ (decimal event.actor ++ (codes " " ++ (event_words event ++ codes "\n")))))
+    codes "event " ++ (decimal k
+    ++ (codes " actor " ++ (decimal event.actor ++ (codes " " ++ (event_words event ++ codes "\n")))))
 
 abbrev pub event_lines : List Event → List ℕ
 event_lines events = numbered event_line 0 events
@@ -40,7 +42,8 @@ reply_words (Fault error) = fault_words error
 -- reply I J REPLY
 abbrev pub reply_line : ℕ → ℕ → Outcome → List ℕ
 reply_line actor call outcome =
-    codes "reply " ++ (decimal actor ++ (codes " " ++ (decimal call ++ (codes " " ++ (reply_words outcome ++ codes "\n")))))
+    codes "reply " ++ (decimal actor
+    ++ (codes " " ++ (decimal call ++ (codes " " ++ (reply_words outcome ++ codes "\n")))))
 
 -- an actor's calls
 abbrev pub actor_lines : ℕ → List Outcome → List ℕ
@@ -52,7 +55,8 @@ reply_lines replies = numbered actor_lines 0 replies
 
 -- row PARENT NAME CHILD
 abbrev pub place_words : Row → List ℕ
-place_words row = codes "row " ++ (decimal row.parent ++ (codes " " ++ (escaped row.name ++ (codes " " ++ decimal row.child))))
+place_words row = codes "row "
+    ++ (decimal row.parent ++ (codes " " ++ (escaped row.name ++ (codes " " ++ decimal row.child))))
 
 -- row PARENT NAME CHILD KIND
 abbrev pub entry_line : Row → Kind → List ℕ
@@ -77,4 +81,5 @@ held_lines s (suc actor) = held_lines s actor ++ held_line s actor
 
 -- the whole: events, replies, entries, open handles
 abbrev pub report_text : List Event → List (List Outcome) → State → ℕ → List ℕ
-report_text events replies s actors = event_lines events ++ (reply_lines replies ++ (row_lines s.nodes ++ held_lines s actors))
+report_text events replies s actors =
+    event_lines events ++ (reply_lines replies ++ (row_lines s.nodes ++ held_lines s actors))

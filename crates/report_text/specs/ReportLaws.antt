@@ -9,4 +9,5 @@ use Rattle.report_text.specs.Report.{entry_line, row_line}
 
 -- each entry has a line, with a kind
 abbrev pub RowsHaveLines : Type 0
-RowsHaveLines = (nodes : List Inode) (row : Row) → Contains (rows_in_order nodes) row → (kind : Kind) × (row_line nodes row ≡ entry_line row kind)
+RowsHaveLines = (nodes : List Inode) (row : Row) → Contains (rows_in_order nodes) row
+    → (kind : Kind) × (row_line nodes row ≡ entry_line row kind)

@@ -32,8 +32,8 @@ fn event(out: &mut Output, log: &EventLog, at: usize) -> Result<(), NoMemory>
     out.text("\n")
 }
 
-/// Adds the line of each event, counted from 0: `event K actor I STEP = ANSWER`. The events are written from where they
-/// are kept, so no memory is taken but for the text. NoMemory where the text's room was refused.
+/// Adds the line of each event, counted from 0: `event K actor I STEP = ANSWER`. The events are written from where
+/// they are kept, so no memory is taken but for the text. NoMemory where the text's room was refused.
 pub fn events(out: &mut Output, log: &EventLog) -> Result<(), NoMemory>
     ensures { Gains out.old out.new (event_lines log.now.events) result }
 {

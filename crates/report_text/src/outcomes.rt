@@ -62,8 +62,8 @@ fn replies_of(
     Ok(())
 }
 
-/// Adds the line of each call of each actor, the actors' numbers and each one's calls counted from 0: `reply I J REPLY`.
-/// NoMemory where its room was refused.
+/// Adds the line of each call of each actor, the actors' numbers and each one's calls counted from 0: `reply I J
+/// REPLY`. NoMemory where its room was refused.
 pub fn replies(alloc: Global, out: &mut Output, replies: &[Outcomes]) -> Result<(), NoMemory>
     ensures { Gains out.old out.new (reply_lines replies.now) result }
 {

@@ -13,15 +13,16 @@ use transcript::Output;
 use tree_model::Tree;
 
 /// Adds the text of a report: a line for each event, then for each call, then for each entry of the tree, then for
-/// each of the first actors, as many as that. NoMemory where its room was refused, and a part of the text may have been
-/// added then.
+/// each of the first actors, as many as that. NoMemory where its room was refused, and a part of the text may have
+/// been added then.
 pub fn report<T: Tree>(
     alloc: Global,
     out: &mut Output,
     report: &Report<T>,
     actors: u32,
 ) -> Result<(), NoMemory>
-    ensures { Gains out.old out.new (report_text report.now.events.events report.now.replies.items (T.state report.now.tree) actors) result }
+    ensures { Gains out.old out.new
+        (report_text report.now.events.events report.now.replies.items (T.state report.now.tree) actors) result }
 {
     events(out, &report.events)?;
     replies(alloc, out, &report.replies)?;

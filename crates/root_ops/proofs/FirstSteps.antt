@@ -30,6 +30,8 @@ use Rattle.bulk_ops.specs.MakeAllView.{MAKE_STEPS_MAX}
 use Rattle.bulk_ops.specs.RemoveAllOrder as remove
 use Rattle.bulk_ops.specs.declared.remove_all.clearing.TheConstants.{CLEARING_STEPS_MAX}
 use Rattle.bulk_ops.proofs.MakeAllSteps.{starts_few, steps_after_the_walk}
+use Rattle.bulk_ops.specs.RemoveAllTells.{IsBounded}
+use Rattle.bulk_ops.proofs.RemovingAll.Bounded.{lines_bounded, clearing_begins}
 use Rattle.bulk_ops.proofs.RemovingAll.StepCount as remove_steps
 use Rattle.root_ops.specs.declared.aim.Aim.{Aim}
 use Rattle.root_ops.specs.declared.aim.Aim.TheVariants.{Opens, Reads, Changes, WalksOn}
@@ -42,7 +44,7 @@ use Rattle.root_ops.specs.Order.{Doing, walking, acting, checking, closing, maki
 use Rattle.root_ops.specs.declared.call.CallTurn.{CallTurn as Outcome}
 use Rattle.root_ops.specs.TurnView.{turn_view, Keeps, StartsTo, steps_to_come, STEPS_MAX}
 use Rattle.root_ops.specs.StepCount.{is_walking, is_bulk, WalksOrFew, FiveAfterWalks, BulkAfterWalks}
-use Rattle.root_ops.proofs.Bulk.{makes_led}
+use Rattle.root_ops.proofs.Bulk.{makes_led, clears_led}
 use Rattle.root_ops.proofs.Steps.{IsLower, IsFewer, either_lower, walked_lower, walking_lower, fewer_after, lower_fewer, makes_fewer, clears_fewer, fewer_to_come, take_fewer, a_step_left}
 
 -- ---- the parts of a directory's path are few
@@ -242,7 +244,7 @@ five_after_walks = record {
 call_fewer : (below : Below) (room : Bool) (doing : Doing) (answer : Answer) (k : ℕ) → steps_left below doing < suc (suc k) → IsFewer below (suc k) (call.take below room doing answer)
 call_fewer below room doing answer k few = fewer_still below (steps_left below doing) (suc k) (call.take below room doing answer) (omega (arith, few)) (take_fewer below room doing answer)
 
-lines_few : (below : Below) (k : ℕ) (lines : List Line) (turn end : CallTurn) → IsFewer below (suc k) turn → LeadsTo below turn lines end → length lines ≤ k
+pub lines_few : (below : Below) (k : ℕ) (lines : List Line) (turn end : CallTurn) → IsFewer below (suc k) turn → LeadsTo below turn lines end → length lines ≤ k
 lines_few below k [] turn end few leads = omega arith
 lines_few below zero (line ∷ lines) (more doing) end few leads = absurd (omega (arith, few, a_step_left below doing))
 lines_few below (suc k) (answered step answer ∷ lines) (more doing) end few leads =
@@ -254,10 +256,13 @@ lines_few below (suc k) (not_made error ∷ lines) (more doing) end few leads =
 lines_few below k (line ∷ lines) (ends reply) end few leads = absurd leads
 
 removing_few : (below : Below) (way : Way) (target : List ℕ) (handle : Handle) (names : List (List ℕ)) (lines : List Line) (reply : Reply)
-    → LeadsTo below (clears (remove.walked way target (found handle names))) lines (ends reply) → length lines ≤ 2 * CLEARING_STEPS_MAX + 1
+    → LeadsTo below (clears (remove.walked way target (found handle names))) lines (ends reply) → (length lines ≤ 2 * CLEARING_STEPS_MAX + 1) × IsBounded lines
 removing_few below way target handle names lines reply leads =
-    lines_few below (2 * CLEARING_STEPS_MAX + 1) lines _ (ends reply)
-    (clears_fewer below (suc (2 * CLEARING_STEPS_MAX + 1)) (remove.walked way target (found handle names)) (remove_steps.walked_few way target 1 (found handle names) (omega arith) tt)) leads
+    let by = clears_led below (remove.walked way target (found handle names)) lines reply leads in (
+      lines_few below (2 * CLEARING_STEPS_MAX + 1) lines _ (ends reply)
+          (clears_fewer below (suc (2 * CLEARING_STEPS_MAX + 1)) (remove.walked way target (found handle names)) (remove_steps.walked_few way target 1 (found handle names) (omega arith) tt)) leads,
+      lines_bounded CLEARING_STEPS_MAX lines (remove.walked way target (found handle names)) by.end (clearing_begins way target handle names) by.led,
+    )
 
 making_few : (below : Below) (room : Bool) (handle : Handle) (names : List (List ℕ)) (lines : List Line) (reply : Reply)
     → (LeadsTo below (makes (make.after_walk room (found handle names))) lines (ends reply) → length lines ≤ 1)

@@ -8,6 +8,8 @@ pub mod Quiet
 pub mod Handles
 pub mod Replies
 pub mod FirstTurn
+pub mod Acts
+pub mod FreeHandles
 pub mod FirstWalks
 pub mod Resolves
 pub mod BulkReplies

@@ -1,4 +1,5 @@
--- What a bulk call of a root tells, in every legal history: what bulk_ops's call with its lines tells. mkdir(2), unlink(2), rmdir(2).
+-- What a bulk call of a root tells, in every legal history: what bulk_ops's call with its lines tells. mkdir(2),
+-- unlink(2), rmdir(2).
 use Rattle.std.specs.Prelude.{◌≡◌, List, ℕ, true, None, Ok}
 use Rattle.path_text.specs.declared.path.Rule.TheVariants.{Drop}
 use Rattle.path_text.specs.declared.path.Split.{Split}
@@ -42,10 +43,13 @@ pub record ClearEnds (c : CallInHistory) (split : Split) (reply : Reply) : Type 
   pub is_reply : clears end ≡ ends reply
   pub tells : Tells (bulk_of c (way_from c.below.root Follow c.below.flags) split.dir) split.name end
 
--- Where the text has no fault, and its split none, and the first turn had memory, the reply is the end of a call of bulk_ops, which
--- tells of this history what its laws say: which entries were made or taken away, and why it failed, whoever acts in between.
+-- Where the text has no fault, and its split none, and the first turn had memory, the reply is the end of a call of
+-- bulk_ops, which tells of this history what its laws say: which entries were made or taken away, and why it failed,
+-- whoever acts in between.
 pub record BulkCallsTell : Type 0 where
-  pub made : (c : CallInHistory) (reply : Reply) (text : List ℕ) → IsCallInHistory c → RepliesWith c reply → c.op ≡ MkdirAll text → c.room ≡ true → text_fault text ≡ None
+  pub made : (c : CallInHistory) (reply : Reply) (text : List ℕ) → IsCallInHistory c → RepliesWith c reply
+      → c.op ≡ MkdirAll text → c.room ≡ true → text_fault text ≡ None
       → MakeEnds c (reading_of text) reply
-  pub cleared : (c : CallInHistory) (reply : Reply) (text : List ℕ) (split : Split) → IsCallInHistory c → RepliesWith c reply → c.op ≡ RemoveAll text → c.room ≡ true
+  pub cleared : (c : CallInHistory) (reply : Reply) (text : List ℕ) (split : Split) → IsCallInHistory c
+      → RepliesWith c reply → c.op ≡ RemoveAll text → c.room ≡ true
       → text_fault text ≡ None → split_of (reading_of text) Drop ≡ Ok split → ClearEnds c split reply

@@ -1,5 +1,8 @@
 -- A call in a history, and the handles that its end leaves open.
-use Rattle.std.specs.Prelude.{◌≡◌, ◌≢◌, ℕ, List, Bool, true, Some, None}
+use Rattle.std.specs.Prelude.{◌≡◌, ◌≢◌, ◌⊎◌, ℕ, List, [], Bool, true, false, Some, None}
+use Rattle.path_text.specs.declared.errno.Errno.{Errno}
+use Rattle.path_text.specs.declared.errno.Errno.TheVariants.{NoMemory}
+use Rattle.path_text.specs.Text.{text_fault}
 use Rattle.tree_model.specs.declared.answer.Event.{Event}
 use Rattle.tree_model.specs.State.{State, is_dir}
 use Rattle.tree_model.specs.Steps.{held}
@@ -12,8 +15,8 @@ use Rattle.root_ops.specs.declared.op.Op.{Op}
 use Rattle.root_ops.specs.declared.op.Op.TheVariants.{Resolve, ResolveNoFollow, ReadLink, CreateFile, CreateDir, CreateLink, RemoveFile, RemoveDir, Rename, MkdirAll, RemoveAll, Single, Release}
 use Rattle.root_ops.specs.Order.{Reply, opened, link_text, done, count, stepped, kept, fault, ends, starts, LeadsTo}
 
--- A call in a history: the tree at the history's opening, the events before the call, those of its window, where it walks and
--- the node of its root, whether its first turn had memory, what it was asked, and what it was told.
+-- A call in a history: the tree at the history's opening, the events before the call, those of its window, where it
+-- walks and the node of its root, whether its first turn had memory, what it was asked, and what it was told.
 pub record CallInHistory : Type 0 where
   pub opening : State
   pub before : List Event
@@ -34,8 +37,8 @@ begin_of c = after_events c.opening c.before
 abbrev pub end_of : CallInHistory → State
 end_of c = after_events (begin_of c) c.window
 
--- The opening is a tree, the history is legal, the actor's own events in the window are those of the call, and the root's
--- handle is open, its own, and names a directory.
+-- The opening is a tree, the history is legal, the actor's own events in the window are those of the call, and the
+-- root's handle is open, its own, and names a directory.
 pub record IsCallInHistory (c : CallInHistory) : Type 0 where
   pub tree : IsState c.opening
   pub legal_before : IsLegal c.opening c.before
@@ -47,6 +50,17 @@ pub record IsCallInHistory (c : CallInHistory) : Type 0 where
 -- the call's lines lead from its first turn to this reply
 abbrev pub RepliesWith : CallInHistory → Reply → Type 0
 RepliesWith c reply = LeadsTo c.below (starts c.below c.room c.op) c.lines (ends reply)
+
+-- ---- a call that ends by its first turn
+
+-- a text that is no path ends a call at once
+abbrev pub IsPath : List ℕ → Type 0
+IsPath text = text_fault text ≡ None
+
+-- the text has that fault, or the first turn found no memory; no step was made
+pub record EndsAtOnce (c : CallInHistory) (text : List ℕ) (error : Errno) : Type 0 where
+  pub why : (text_fault text ≡ Some error) ⊎ ((c.room ≡ false) × (error ≡ NoMemory))
+  pub no_step : c.lines ≡ []
 
 -- ---- handles
 
@@ -90,7 +104,8 @@ HandlesAfter c (stepped answer) = HandlesStay c
 HandlesAfter c (kept standing) = HandlesStay c
 HandlesAfter c (fault error) = HandlesStay c
 
--- After a fault the actor's open handles are those from before the call; after Opened these and one more, which is open on the
--- node that was told; a Release that is done takes its own away; and no other reply changes any. So it is in every legal history.
+-- After a fault the actor's open handles are those from before the call; after Opened these and one more, which is
+-- open on the node that was told; a Release that is done takes its own away; and no other reply changes any. So it
+-- is in every legal history.
 abbrev pub CallsTell : Type 0
 CallsTell = (c : CallInHistory) (reply : Reply) → IsCallInHistory c → RepliesWith c reply → HandlesAfter c reply

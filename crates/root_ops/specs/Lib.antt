@@ -20,5 +20,7 @@ pub mod MeaningLaws
 pub mod MeaningWorked
 pub mod Quiet
 pub mod QuietWorked
+pub mod Acts
 pub mod EachCall
+pub mod FreeHandles
 pub mod Renamed

@@ -1,7 +1,8 @@
--- What an operation done whole means: its reply, and the nodes after it, in a tree that nobody else changes meanwhile.
--- Its paths mean what step_resolver's `Meaning` says (path_resolution(7); openat2(2)). In the directory that is found so one
--- entry is changed, by the functions of tree_model's `Entries`; what the bulk calls change is bulk_ops's `MakeAllQuiet` and
--- `RemoveAllQuiet`. It knows no steps, and of handles only those that the caller gives.
+-- What an operation done whole means: its reply, and the nodes after it, in a tree that nobody else changes
+-- meanwhile. Its paths mean what step_resolver's `Meaning` says (path_resolution(7); openat2(2)). In the directory
+-- that is found so one entry is changed, by the functions of tree_model's `Entries`; what the bulk calls change is
+-- bulk_ops's `MakeAllQuiet` and `RemoveAllQuiet`. It knows no steps, and of handles only those that the caller
+-- gives.
 use Rattle.std.specs.Prelude.{ℕ, ◌||◌, List, Bool, true, false, not, if◌then◌else◌, Option, Some, None, Result, Ok, Err}
 use Rattle.path_text.specs.declared.errno.Errno.{Errno}
 use Rattle.path_text.specs.declared.errno.Errno.TheVariants.{NotFound, BadHandle, NotDir, Invalid}
@@ -29,15 +30,16 @@ use Rattle.root_ops.specs.declared.op.Op.{Op}
 use Rattle.root_ops.specs.declared.op.Op.TheVariants.{Resolve, ResolveNoFollow, ReadLink, CreateFile, CreateDir, CreateLink, RemoveFile, RemoveDir, Rename, MkdirAll, RemoveAll, Single, Release}
 use Rattle.root_ops.specs.Order.{is_single, same_owner}
 
--- a call's caller: the tree as it stands, who calls, the node of the root, and whose that root is with the walks' restrictions
+-- a call's caller: the tree as it stands, who calls, the node of the root, and whose that root is with the walks'
+-- restrictions
 pub record Caller : Type 0 where
   pub tree : State
   pub actor : ℕ
   pub root : ℕ
   pub below : Below
 
--- the reply: the object that is opened, a link's text, that it is done, how many entries were removed, a single step's answer,
--- what isn't the caller's to release, or the error
+-- the reply: the object that is opened, a link's text, that it is done, how many entries were removed, a single
+-- step's answer, what isn't the caller's to release, or the error
 pub data Told : Type 0 where
   is_open : ℕ → Told
   has_text : List ℕ → Told
@@ -66,11 +68,14 @@ found (is_error error) = Err error
 abbrev pub object_of : Caller → List ℕ → Bool → Result ℕ Errno
 object_of c text follow = found (resolution (resolved c.tree.nodes c.root text follow c.below.flags))
 
--- the object that the path before a last name means; a link at its end is followed, as one before a last name is (path_resolution(7))
+-- the object that the path before a last name means; a link at its end is followed, as one before a last name is
+-- (path_resolution(7))
 abbrev pub directory_of : Caller → Reading → Result ℕ Errno
-directory_of c path = found (resolution (reading_means (record { nodes = c.tree.nodes; root = c.root; flags = c.below.flags }) path true))
+directory_of c path = found
+    (resolution (reading_means (record { nodes = c.tree.nodes; root = c.root; flags = c.below.flags }) path true))
 
--- the directory's path and the name of the entry that a path text is for, or the first fault: of the text, then of its last part
+-- the directory's path and the name of the entry that a path text is for, or the first fault: of the text, then of
+-- its last part
 abbrev pub entry_of : List ℕ → Rule → Result Split Errno
 entry_of text rule = refuse_by (text_fault text) (split_of (reading_of text) rule)
 
@@ -90,7 +95,8 @@ no_directory nodes d n =
     (with_some (child nodes d n) (Some NotFound) (λ c.
     refuse_if (not (is_dir nodes c)) (Some NotDir) None))
 
--- The nodes after a rename. A slash at the end of either path demands that what is renamed is a directory (rename(2), ENOTDIR).
+-- The nodes after a rename. A slash at the end of either path demands that what is renamed is a directory
+-- (rename(2), ENOTDIR).
 abbrev pub renamed : Caller → Split → Split → Mode → Result (List Inode) Errno
 renamed c old new mode =
     and_then (directory_of c old.dir) (λ d.
@@ -126,12 +132,15 @@ made c (refuses error) = record { reply = fails error; nodes = c.tree.nodes }
 made c (gives x nodes) = record { reply = is_open x; nodes = nodes }
 
 abbrev pub makes_along : Caller → Reading → Whole
-makes_along c path = made c (make_means c.tree.nodes (reading_deepest (record { nodes = c.tree.nodes; root = c.root; flags = c.below.flags }) path))
+makes_along c path = made c
+    (make_means c.tree.nodes
+    (reading_deepest (record { nodes = c.tree.nodes; root = c.root; flags = c.below.flags }) path))
 
 -- the target in directory d with all that is below it goes, and is counted
 abbrev pub clears : Caller → List ℕ → ℕ → Whole
 clears c target d =
-    if is_dir c.tree.nodes d then record { reply = counts (cleared_rows c.tree.nodes d target); nodes = cleared c.tree.nodes d target }
+    if is_dir c.tree.nodes d
+    then record { reply = counts (cleared_rows c.tree.nodes d target); nodes = cleared c.tree.nodes d target }
     else record { reply = fails NotDir; nodes = c.tree.nodes }
 
 abbrev pub told_by : Answer → Told
@@ -154,7 +163,8 @@ abbrev pub op_means : Caller → Op → Whole
 op_means c (Resolve text) = tells c is_open (object_of c text true)
 op_means c (ResolveNoFollow text) = tells c is_open (object_of c text false)
 -- readlink(2)
-op_means c (ReadLink text) = tells c has_text (and_then (object_of c text false) (λ x. text_of (object_at c.tree.nodes x)))
+op_means c (ReadLink text) =
+    tells c has_text (and_then (object_of c text false) (λ x. text_of (object_at c.tree.nodes x)))
 -- mknod(2), mkdir(2), symlink(2)
 op_means c (CreateFile text) = changes c (changed_at c text Refuse (λ d n. makes c.tree.nodes d n object.File))
 op_means c (CreateDir text) = changes c (changed_at c text Drop (λ d n. makes c.tree.nodes d n object.Dir))
@@ -166,12 +176,19 @@ op_means c (RemoveDir text) = changes c (changed_at c text Drop (λ d n. removes
 op_means c (Rename old new mode) =
     changes c (and_then (entry_of old Drop) (λ from. and_then (entry_of new Drop) (λ to. renamed c from to mode)))
 -- mkdir(2), as `mkdir -p` makes them
-op_means c (MkdirAll text) = unless_error c (refuse_by (text_fault text) (Ok (reading_of text))) (λ path. makes_along c path)
+op_means c (MkdirAll text) =
+    unless_error c (refuse_by (text_fault text) (Ok (reading_of text))) (λ path. makes_along c path)
 -- unlink(2) and rmdir(2), as `rm -r` removes
-op_means c (RemoveAll text) = unless_error c (entry_of text Drop) (λ split. unless_error c (directory_of c split.dir) (λ d. clears c split.name d))
+op_means c (RemoveAll text) = unless_error c (entry_of text Drop)
+    (λ split. unless_error c (directory_of c split.dir) (λ d. clears c split.name d))
 -- one step on handles of the caller's, but none that opens or closes one
 op_means c (Single step) =
-    if is_single step then steps (outcome c.tree c.actor step) else record { reply = fails Invalid; nodes = c.tree.nodes }
+    if is_single step then steps (outcome c.tree c.actor step)
+    else record { reply = fails Invalid; nodes = c.tree.nodes }
 -- close(2); what is another owner's is handed back
 op_means c (Release standing) =
-    record { reply = if same_owner standing.owner c.below.root.owner then closes (held c.tree c.actor standing.handle) else keeps standing; nodes = c.tree.nodes }
+    record {
+      reply = if same_owner standing.owner c.below.root.owner
+          then closes (held c.tree c.actor standing.handle) else keeps standing;
+      nodes = c.tree.nodes;
+    }

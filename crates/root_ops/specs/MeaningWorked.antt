@@ -49,7 +49,8 @@ pub record RenamesAreWorked : Type 0 where
   pub over_link : reply_of (Rename (codes "a") (codes "abs") Plain) ≡ fails NotDir
   pub over_directory : reply_of (Rename (codes "abs") (codes "a/b") Plain) ≡ fails IsDir
   pub over_full : reply_of (Rename (codes "a/b") (codes "a") Plain) ≡ fails NotEmpty
-  pub itself : done_on base_nodes (Rename (codes "a/b/f") (codes "a/b/f") Plain) ≡ record { reply = is_done; nodes = base_nodes }
+  pub itself : done_on base_nodes (Rename (codes "a/b/f") (codes "a/b/f") Plain)
+      ≡ record { reply = is_done; nodes = base_nodes }
   pub no_replace : reply_of (Rename (codes "a/b/f") (codes "a/b/f") NoReplace) ≡ fails Exists
   pub file_with_slash : reply_of (Rename (codes "a/b/f/") (codes "x") Plain) ≡ fails NotDir
   pub to_slash : reply_of (Rename (codes "a/b/f") (codes "x/") Plain) ≡ fails NotDir
@@ -59,8 +60,10 @@ pub record RenamesAreWorked : Type 0 where
 -- both entries stay, each at the other's; a directory is renamed by a path with a slash, and through a link
 pub record MovesAreWorked : Type 0 where
   pub exchanged : reply_of (Rename (codes "abs") (codes "a/b/f") Exchange) ≡ is_done
-  pub link_there : place_at (nodes_after (Rename (codes "abs") (codes "a/b/f") Exchange ∷ [])) 5 ≡ Some (place 3 (codes "f"))
-  pub file_there : place_at (nodes_after (Rename (codes "abs") (codes "a/b/f") Exchange ∷ [])) 4 ≡ Some (place 1 (codes "abs"))
+  pub link_there : place_at (nodes_after (Rename (codes "abs") (codes "a/b/f") Exchange ∷ [])) 5
+      ≡ Some (place 3 (codes "f"))
+  pub file_there : place_at (nodes_after (Rename (codes "abs") (codes "a/b/f") Exchange ∷ [])) 4
+      ≡ Some (place 1 (codes "abs"))
   pub moved : done_on base_nodes (Rename (codes "a/b/") (codes "up/../d") Plain)
       ≡ record { reply = is_done; nodes = put_at base_nodes 3 (Some (place 1 (codes "d"))) }
 
@@ -79,9 +82,12 @@ pub record MadeAreWorked : Type 0 where
   pub over_link : reply_of (CreateFile (codes "abs")) ≡ fails Exists
   pub slash : reply_of (CreateFile (codes "x/")) ≡ fails NotDir
   pub below_file : reply_of (CreateFile (codes "a/b/f/x")) ≡ fails NotDir
-  pub directory : done_on file_made (CreateDir (codes "d/")) ≡ record { reply = is_done; nodes = file_made ++ standing Dir 1 (codes "d") ∷ [] }
+  pub directory : done_on file_made (CreateDir (codes "d/"))
+      ≡ record { reply = is_done; nodes = file_made ++ standing Dir 1 (codes "d") ∷ [] }
   pub empty_text : reply_of (CreateLink (codes "l") []) ≡ fails NotFound
-  pub all : all_made ≡ base_nodes ++ standing File 2 (codes "n") ∷ standing Dir 1 (codes "d") ∷ standing (Link (codes "q")) 1 (codes "l") ∷ []
+  pub all : all_made
+      ≡ base_nodes ++ standing File 2 (codes "n") ∷ standing Dir 1 (codes "d")
+      ∷ standing (Link (codes "q")) 1 (codes "l") ∷ []
 
 -- what is opened, and which texts are read: a slash at the end follows the link
 pub record ToldAreWorked : Type 0 where
@@ -99,6 +105,9 @@ pub record RemovedAreWorked : Type 0 where
   pub full : reply_of (RemoveDir (codes "a")) ≡ fails NotEmpty
   pub itself : reply_of (RemoveDir (codes "a/.")) ≡ fails Invalid
   pub root : reply_of (RemoveDir (codes "/")) ≡ fails Invalid
-  pub through_link : done_on base_nodes (RemoveFile (codes "abs/f")) ≡ record { reply = is_done; nodes = put_at base_nodes 4 None }
-  pub link_itself : done_on base_nodes (RemoveFile (codes "abs")) ≡ record { reply = is_done; nodes = put_at base_nodes 5 None }
-  pub emptied : nodes_after (RemoveDir (codes "a/b/") ∷ RemoveFile (codes "a/b/f") ∷ []) ≡ put_at (put_at base_nodes 4 None) 3 None
+  pub through_link : done_on base_nodes (RemoveFile (codes "abs/f"))
+      ≡ record { reply = is_done; nodes = put_at base_nodes 4 None }
+  pub link_itself : done_on base_nodes (RemoveFile (codes "abs"))
+      ≡ record { reply = is_done; nodes = put_at base_nodes 5 None }
+  pub emptied : nodes_after (RemoveDir (codes "a/b/") ∷ RemoveFile (codes "a/b/f") ∷ [])
+      ≡ put_at (put_at base_nodes 4 None) 3 None

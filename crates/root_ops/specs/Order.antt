@@ -1,8 +1,8 @@
--- The order of a call's steps: which step is due, and what its answer makes of the call.
--- A call on an entry walks to its directory, the last link followed, and makes one step on the last name there; what it
--- opened it closes again, just opened first. So a change is made by a handle on the directory that was found, as
--- mkdirat(2), unlinkat(2) and renameat2(2) take one, and no path is looked up twice. The steps of a bulk call are those of
--- bulk_ops's own orders, `MakeAllOrder` and `RemoveAllOrder`.
+-- The order of a call's steps: which step is due, and what its answer makes of the call. A call on an entry walks to
+-- its directory, the last link followed, and makes one step on the last name there; what it opened it closes again,
+-- just opened first. So a change is made by a handle on the directory that was found, as mkdirat(2), unlinkat(2) and
+-- renameat2(2) take one, and no path is looked up twice. The steps of a bulk call are those of bulk_ops's own
+-- orders, `MakeAllOrder` and `RemoveAllOrder`.
 use Rattle.std.specs.Prelude.{◌≡◌, ℕ, suc, ◌+◌, ◌==◌, ◌&&◌, ◌||◌, List, [], ◌∷◌, Bool, true, false, if◌then◌else◌, length, Option, Some, None, Result, Ok, Err}
 use Rattle.path_text.specs.declared.errno.Errno.{Errno}
 use Rattle.path_text.specs.declared.errno.Errno.TheVariants.{NotFound, NotDir, Invalid, NoMemory, BadHandle}
@@ -147,7 +147,8 @@ walked_on old renaming (failed error) = gives_up (old ∷ []) error
 abbrev pub reached : Below → Bool → Handle → List (List ℕ) → Aim → CallTurn
 reached below room handle names (Opens goal) = ends (opened handle names)
 reached below room handle names Reads = more (acting wants.Text (steps.ReadLink handle.number) (handle.number ∷ []))
-reached below room handle names (Changes change n) = more (acting wants.Done (change_step change handle.number n) (handle.number ∷ []))
+reached below room handle names (Changes change n) =
+    more (acting wants.Done (change_step change handle.number n) (handle.number ∷ []))
 reached below room handle names (WalksOn path renaming) =
     walked_on handle.number renaming (walk.starts (way_from below.root Follow below.flags) room path)
 reached below room handle names (Renames old renaming) = renames old handle.number renaming
@@ -196,7 +197,8 @@ in_directory below change (Err error) = ends (fault error)
 in_directory below change (Ok split) = walks below (Changes change split.name) split.dir
 
 abbrev pub on_entry : Below → Rule → Change → List ℕ → CallTurn
-on_entry below rule change text = unless_fault (text_fault text) (in_directory below change (split_of (reading_of text) rule))
+on_entry below rule change text =
+    unless_fault (text_fault text) (in_directory below change (split_of (reading_of text) rule))
 
 abbrev pub make_missing : Below → List ℕ → CallTurn
 make_missing below text = unless_fault (text_fault text) (makes (make.begins (make_way below) (reading_of text)))
@@ -218,7 +220,8 @@ between below mode old (Ok new) = walks below (WalksOn new.dir (renaming_of old 
 -- the old path's faults come before those of the new one
 abbrev pub from_entry : Below → Mode → List ℕ → Result Split Errno → CallTurn
 from_entry below mode new (Err error) = ends (fault error)
-from_entry below mode new (Ok old) = unless_fault (text_fault new) (between below mode old (split_of (reading_of new) Drop))
+from_entry below mode new (Ok old) =
+    unless_fault (text_fault new) (between below mode old (split_of (reading_of new) Drop))
 
 -- a step that opens or closes a handle is none for a call
 abbrev pub is_single : StepOf ℕ → Bool
@@ -244,7 +247,8 @@ same_owner a b = (a.tag == b.tag) && (a.actor == b.actor)
 
 -- another owner's handle is kept
 abbrev pub releases : Owner → StandingObject → CallTurn
-releases owner standing = if same_owner standing.owner owner then more (releasing standing.handle) else ends (kept standing)
+releases owner standing =
+    if same_owner standing.owner owner then more (releasing standing.handle) else ends (kept standing)
 
 abbrev pub begins : Below → Op → CallTurn
 begins below (Resolve path) = on_path below (Opens Follow) path
@@ -255,7 +259,8 @@ begins below (CreateDir path) = on_entry below Drop changes.MakeDir path
 begins below (CreateLink path text) = on_entry below Refuse (changes.MakeLink text) path
 begins below (RemoveFile path) = on_entry below Refuse changes.RemoveFile path
 begins below (RemoveDir path) = on_entry below Drop changes.RemoveDir path
-begins below (Rename old new mode) = unless_fault (text_fault old) (from_entry below mode new (split_of (reading_of old) Drop))
+begins below (Rename old new mode) =
+    unless_fault (text_fault old) (from_entry below mode new (split_of (reading_of old) Drop))
 begins below (MkdirAll path) = make_missing below path
 begins below (RemoveAll path) = clear_entry below path
 begins below (Single step) = single step
@@ -289,12 +294,14 @@ starts below false op = begins_without below op
 
 -- what is to be renamed was opened to see that it is a directory, and is closed again
 abbrev pub checked : ℕ → ℕ → Renaming → ℕ → Bool → CallTurn
-checked old new renaming child true = closes (child ∷ []) (acts wants.Done (rename_step renaming old new) (new ∷ old ∷ []))
+checked old new renaming child true =
+    closes (child ∷ []) (acts wants.Done (rename_step renaming old new) (new ∷ old ∷ []))
 checked old new renaming child false = gives_up (child ∷ new ∷ old ∷ []) NotDir
 
 -- What an answer makes of a call; `room` is false where what it brings found no memory.
 abbrev pub take : Below → Bool → Doing → Answer → CallTurn
-take below room (walking walking' aim) answer = walked below room aim (walk.take (way_of below aim) room walking' answer)
+take below room (walking walking' aim) answer =
+    walked below room aim (walk.take (way_of below aim) room walking' answer)
 take below room (acting wanted step hs) answer = closes hs (gives (reply_to wanted answer))
 take below room (checking old new renaming) (Opened h x kind) = checked old new renaming h (is_dir_kind kind)
 take below room (checking old new renaming) answer = gives_up (new ∷ old ∷ []) (refusal_of answer)
@@ -323,8 +330,8 @@ is_closing (releasing h) = true
 
 -- ---- a call's lines
 
--- Why a step wasn't made: for want of memory or of room in the book, but no Close for that. A book makes no Close of a handle
--- that isn't open, so that the Close of a Release may be refused BadHandle without an event.
+-- Why a step wasn't made: for want of memory or of room in the book, but no Close for that. A book makes no Close of
+-- a handle that isn't open, so that the Close of a Release may be refused BadHandle without an event.
 abbrev pub IsUnmade : Doing → Errno → Type 0
 IsUnmade (walking walking' aim) error = (IsWant error) × (walk.is_closing walking' ≡ false)
 IsUnmade (acting wanted step hs) error = IsWant error
@@ -352,7 +359,8 @@ abbrev pub steps_then : Below → Aim → ℕ
 steps_then below (Opens goal) = 1
 steps_then below Reads = 2
 steps_then below (Changes change n) = 2
-steps_then below (WalksOn path renaming) = walk.steps_left_at (walk.begins (way_from below.root Follow below.flags) path) + 6
+steps_then below (WalksOn path renaming) =
+    walk.steps_left_at (walk.begins (way_from below.root Follow below.flags) path) + 6
 steps_then below (Renames old renaming) = 5
 
 abbrev pub steps_after : After → ℕ

@@ -21,7 +21,8 @@ use Rattle.root_ops.specs.Order.{Reply, opened, link_text, done, count, stepped,
 
 -- ---- what comes of a call
 
--- The object x is open by a handle that wasn't open before, and stands under the root at these names, the innermost first.
+-- The object x is open by a handle that wasn't open before, and stands under the root at these names, the innermost
+-- first.
 pub record IsOpened (c : Caller) (end : State) (x : ℕ) (handle : Handle) (names : List (List ℕ)) : Type 0 where
   pub node : handle.node ≡ x
   pub is_open : held end c.actor handle.number ≡ Some x
@@ -68,7 +69,8 @@ pub record RanShort (c : Caller) (end : State) (room : Bool) (lines : List Line)
   pub nodes : end.nodes ≡ c.tree.nodes
 
 -- A MkdirAll that ran short has made a part of what is meant, from its first directory on.
-pub record MadePart (c : Caller) (end : State) (room : Bool) (lines : List Line) (whole : Whole) (reply : Reply) : Type 0 where
+pub record MadePart (c : Caller) (end : State) (room : Bool) (lines : List Line) (whole : Whole)
+    (reply : Reply) : Type 0 where
   pub error : Errno
   pub is_reply : reply ≡ fault error
   pub want : is_want error ≡ true
@@ -77,13 +79,16 @@ pub record MadePart (c : Caller) (end : State) (room : Bool) (lines : List Line)
 
 -- each node is as it was before, or as it is meant to be
 abbrev pub IsAmong : List Inode → List Inode → List Inode → Type 0
-IsAmong before after whole = (x : ℕ) → (slice_get after x ≡ slice_get before x) ⊎ (slice_get after x ≡ slice_get whole x)
+IsAmong before after whole =
+    (x : ℕ) → (slice_get after x ≡ slice_get before x) ⊎ (slice_get after x ≡ slice_get whole x)
 
 -- A RemoveAll that ran short, of steps too, has removed a part of what is meant.
-pub record ClearedPart (c : Caller) (end : State) (room : Bool) (lines : List Line) (whole : Whole) (reply : Reply) : Type 0 where
+pub record ClearedPart (c : Caller) (end : State) (room : Bool) (lines : List Line) (whole : Whole)
+    (reply : Reply) : Type 0 where
   pub error : Errno
   pub is_reply : reply ≡ fault error
-  pub short : ((is_want error ≡ true) × MetBy room lines error) ⊎ ((error ≡ Busy) × (CLEARING_STEPS_MAX ≤ length lines))
+  pub short : ((is_want error ≡ true) × MetBy room lines error)
+      ⊎ ((error ≡ Busy) × (CLEARING_STEPS_MAX ≤ length lines))
   pub part : IsAmong c.tree.nodes end.nodes whole.nodes
 
 abbrev pub ComesTo : Caller → State → Bool → List Line → Whole → Reply → Type 0
@@ -105,14 +110,16 @@ IsQuiet c = (t : ℕ) (event : Event) → slice_get c.window t ≡ Some event �
 
 -- The Close of what is to be released is left out only where that isn't open, as by a book that makes no such Close.
 abbrev pub ClosesWhatIsOpen : CallInHistory → Type 0
-ClosesWhatIsOpen c = (standing : StandingObject) (others : List Line) → c.op ≡ Release standing → c.lines ≡ not_made BadHandle ∷ others
+ClosesWhatIsOpen c = (standing : StandingObject) (others : List Line) → c.op ≡ Release standing
+    → c.lines ≡ not_made BadHandle ∷ others
     → held (begin_of c) (actor_of c) standing.handle ≡ None
 
 abbrev pub caller_of : CallInHistory → Caller
 caller_of c = record { tree = begin_of c; actor = actor_of c; root = c.root; below = c.below }
 
--- Where nobody else acts in the window, the reply and the nodes at its end are those that the operation means in the tree as
--- the window begins, unless memory, room in the book or handles ran short.
+-- Where nobody else acts in the window, the reply and the nodes at its end are those that the operation means in the
+-- tree as the window begins, unless memory, room in the book or handles ran short.
 abbrev pub QuietCallsMean : Type 0
-QuietCallsMean = (c : CallInHistory) (reply : Reply) → IsCallInHistory c → RepliesWith c reply → IsQuiet c → ClosesWhatIsOpen c
+QuietCallsMean = (c : CallInHistory) (reply : Reply) → IsCallInHistory c → RepliesWith c reply → IsQuiet c
+    → ClosesWhatIsOpen c
     → OpComesTo (caller_of c) (end_of c) c.room c.lines c.op reply

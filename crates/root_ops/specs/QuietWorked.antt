@@ -15,7 +15,8 @@ use Rattle.root_ops.specs.MeaningWorked.{CALLER, below_c, place}
 use Rattle.root_ops.specs.Order.{done}
 use Rattle.root_ops.specs.Quiet.{IsQuiet, ClosesWhatIsOpen, caller_of, ComesTo}
 
--- both directories are walked to and held; what is renamed is opened, since its path ends in a slash; and all is closed again
+-- both directories are walked to and held; what is renamed is opened, since its path ends in a slash; and all is
+-- closed again
 abbrev pub rename_lines : List Line
 rename_lines =
     answered (Open 0 (codes "a")) (Opened 1 2 kind.Dir)
@@ -41,13 +42,15 @@ rename_call = record {
   lines = rename_lines;
 }
 
--- It is a call in a legal history in which nobody else acts, it replies that it is done, and so it comes to what is meant: node
--- 3 stands in /c at `d` afterwards, and all else is as it was.
+-- It is a call in a legal history in which nobody else acts, it replies that it is done, and so it comes to what is
+-- meant: node 3 stands in /c at `d` afterwards, and all else is as it was.
 pub record RenameIsWorked : Type 0 where
   pub called : IsCallInHistory rename_call
   pub replies : RepliesWith rename_call done
   pub is_quiet : IsQuiet rename_call
   pub closes : ClosesWhatIsOpen rename_call
-  pub comes : ComesTo (caller_of rename_call) (end_of rename_call) true rename_lines (op_means (caller_of rename_call) rename_call.op) done
-  pub means : op_means (caller_of rename_call) rename_call.op ≡ record { reply = is_done; nodes = put_at base_nodes 3 (Some (place 1 (codes "d"))) }
+  pub comes : ComesTo (caller_of rename_call) (end_of rename_call) true rename_lines
+      (op_means (caller_of rename_call) rename_call.op) done
+  pub means : op_means (caller_of rename_call) rename_call.op
+      ≡ record { reply = is_done; nodes = put_at base_nodes 3 (Some (place 1 (codes "d"))) }
   pub nodes : (end_of rename_call).nodes ≡ put_at base_nodes 3 (Some (place 1 (codes "d")))

@@ -83,7 +83,8 @@ impl Call {
 
     // All that is missing of the path is made.
     fn make(alloc: Global, below: Below, path: Path) -> CallTurn
-        ensures turn { Either (makes (make.begins (make_way below) path)) (ends (fault Errno.NoMemory)) (turn_view result) }
+        ensures turn { Either (makes (make.begins (make_way below) path))
+            (ends (fault Errno.NoMemory)) (turn_view result) }
         ensures kept { Keeps below result }
     {
         match room(alloc, below) {
@@ -98,7 +99,8 @@ impl Call {
 
     // The entry of the name is removed with all below it.
     fn clear(alloc: Global, below: Below, directory: Path, name: Name) -> CallTurn
-        ensures turn { Either (clears (remove.begins (way_from below.root Follow below.flags) name directory)) (ends (fault Errno.NoMemory)) (turn_view result) }
+        ensures turn { Either (clears (remove.begins (way_from below.root Follow below.flags) name directory))
+            (ends (fault Errno.NoMemory)) (turn_view result) }
         ensures kept { Keeps below result }
     {
         match room(alloc, below) {
@@ -179,7 +181,9 @@ impl Call {
         new: &Bytes,
         mode: Mode,
     ) -> CallTurn
-        ensures turn { Either (unless_fault (text_fault old.now) (from_entry below mode new.now (split_of (reading_of old.now) Rule.Drop))) (lacks old.now) (turn_view result) }
+        ensures turn { Either (unless_fault (text_fault old.now)
+            (from_entry below mode new.now (split_of (reading_of old.now) Rule.Drop)))
+            (lacks old.now) (turn_view result) }
         ensures kept { Keeps below result }
     {
         match Path::parse(alloc, old.as_slice()) {
@@ -193,7 +197,8 @@ impl Call {
 
     // The same, the old path being split.
     fn renamed(alloc: Global, below: Below, old: Split, new: &Bytes, mode: Mode) -> CallTurn
-        ensures turn { Either (from_entry below mode new.now (Ok old)) (ends (fault Errno.NoMemory)) (turn_view result) }
+        ensures turn { Either (from_entry below mode new.now (Ok old))
+            (ends (fault Errno.NoMemory)) (turn_view result) }
         ensures kept { Keeps below result }
     {
         match Path::parse(alloc, new.as_slice()) {

@@ -129,7 +129,8 @@ impl Below {
     // The object of a walk was found.
     fn reached(&self, alloc: Global, aim: Aim, standing: Standing) -> Next
         requires { standing.owner ≡ self.now.root.owner }
-        ensures turn { (room : Bool) × (next_view result ≡ reached self.now room (standing_handle standing) (reverse standing.names) aim) }
+        ensures turn { (room : Bool)
+            × (next_view result ≡ reached self.now room (standing_handle standing) (reverse standing.names) aim) }
         ensures kept { IsNext self.now result }
     {
         let handle = standing.handle();
@@ -157,7 +158,8 @@ impl Below {
     /// Where a walk has come to.
     pub(crate) fn walked(&self, alloc: Global, aim: Aim, turn: Turn) -> Next
         requires { walk.Keeps self.now.root.owner (way_of self.now aim) turn }
-        ensures turn { (room : Bool) × (next_view result ≡ walked self.now room aim (walk.turn_view (goal_of aim) turn)) }
+        ensures turn { (room : Bool)
+            × (next_view result ≡ walked self.now room aim (walk.turn_view (goal_of aim) turn)) }
         ensures kept { IsNext self.now result }
     {
         match turn {

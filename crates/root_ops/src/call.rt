@@ -17,10 +17,10 @@ use step_resolver::{Root, Turn};
 use tree_model::{Answer, Step, StepOf};
 use walk_plan::Goal;
 
-/// A call that is under way. It can't be let go: each `due` step is to be made, and its answer taken, until the call
-/// ends. One to be given up has each Close made that is due, and is told `Refused(NoMemory)` at every other step.
-/// It lies in a box, and moving it moves a pointer and its root. Contracts see it as a `CallView`: where it walks,
-/// and what is due.
+/// A call that is under way. You can't drop it: make each step that is `due`, and `take` its answer, until the call
+/// ends. To give it up, make each Close that is due, and answer `Refused(NoMemory)` to every other step. It lies in
+/// a box, and moving it moves a pointer and its root. Contracts see it as a `CallView`: where it walks, and what is
+/// due.
 #[derive(Debug)]
 pub struct Call {
     pub(crate) below: Below,
@@ -53,14 +53,15 @@ impl Call {
     ghost use Rattle.root_ops.specs.View.{is_nameless, is_aimed, aim_of, next_view, HoldsNoCall, IsNext};
     ghost use Rattle.root_ops.specs.TurnView.{below_of, turn_view, Keeps, StartsTo, TakesTo, steps_to_come, STEPS_MAX};
 
-    /// Begins a call below the root. The path texts are read and split first, the old one of a Rename before the new one.
+    /// Begins a call below the root. The path texts are read and split first, the old one of a Rename before the new
+    /// one.
     ///
-    /// Faults that come before any step: those of the path text (NotFound of an empty one, Invalid of one with a NUL,
-    /// TooLong past 4,095 bytes); for an operation on one entry Invalid of a last part that is no name, NotDir of a slash
-    /// at the end where a file or a link is made or a file removed, TooLong of a last name over 255 bytes; those of
-    /// `Walk::start`; Invalid of a Single that opens or closes a handle; and where the first text has no fault,
-    /// NoMemory. A link's text is the MakeLink step's to refuse. To release another owner's handle is refused by
-    /// handing it back, as Kept. A Release takes no memory.
+    /// Faults that come before any step: those of the path text (NotFound of an empty one, Invalid of one with a
+    /// NUL, TooLong past 4,095 bytes); for an operation on one entry Invalid of a last part that is no name, NotDir
+    /// of a slash at the end where a file or a link is made or a file removed, TooLong of a last name over 255
+    /// bytes; those of `Walk::start`; Invalid of a Single that opens or closes a handle; and where the first text
+    /// has no fault, NoMemory. A link's text is the MakeLink step's to refuse. To release another owner's handle is
+    /// refused by handing it back, as Kept. A Release takes no memory.
     pub fn start(alloc: Global, request: Request, root: Root) -> CallTurn
         ensures turn { StartsTo (below_of root request.flags) request.op (turn_view result) }
         ensures kept { Keeps (below_of root request.flags) result }
@@ -115,15 +116,15 @@ impl Call {
         }
     }
 
-    /// What the answer to the due step makes of the call. A driver that couldn't make the step, for want of memory or of
-    /// room in its book, hands in that refusal; the answer to a Close isn't looked at, but for that of a Release. An
-    /// answer that doesn't fit the step counts as BadHandle. A refused growth counts as NoMemory. Before the call fails all
-    /// that it opened is closed, just opened first, which takes no memory.
+    /// Takes the answer to the due step, and gives the call's next turn. A driver that couldn't make the step, for
+    /// want of memory or of room in its book, hands in that refusal. The answer to a Close isn't looked at, but for
+    /// that of a Release. An answer that doesn't fit the step counts as BadHandle. A refused growth counts as
+    /// NoMemory. Before the call fails it closes everything that it opened, the newest first, which takes no memory.
     ///
-    /// Faults: those of `Walk::take` for each walk; then the refusal of the one step on the last name; and for a Rename
-    /// of a path with a slash at its end the refusal of Open of the entry, and NotDir where that is no directory
-    /// (rename(2)). A MkdirAll and a RemoveAll fail with what those of `bulk_ops` fail with, and what they did by then
-    /// stays done.
+    /// Faults: those of `Walk::take` for each walk; then the refusal of the one step on the last name; and for a
+    /// Rename of a path with a slash at its end the refusal of Open of the entry, and NotDir where that is no
+    /// directory (rename(2)). A MkdirAll and a RemoveAll fail with what those of `bulk_ops` fail with, and what they
+    /// did by then stays done.
     pub fn take(self, alloc: Global, answer: Answer) -> CallTurn
         ensures turn { TakesTo self.below self.doing answer (turn_view result) }
         ensures kept { Keeps self.below result }
@@ -157,7 +158,9 @@ impl Call {
     fn walked(alloc: Global, below: Below, mut state: Box<Doing>, turn: Turn) -> CallTurn
         requires aimed { is_aimed state.value ≡ true }
         requires ours { walk.Keeps below.root.owner (way_of below (aim_of state.value)) turn }
-        ensures turn { (room : Bool) × (turn_view result ≡ walked below room (aim_of state.value) (walk.turn_view (goal_of (aim_of state.value)) turn)) }
+        ensures turn { (room : Bool)
+            × (turn_view result
+            ≡ walked below room (aim_of state.value) (walk.turn_view (goal_of (aim_of state.value)) turn)) }
         ensures kept { Keeps below result }
     {
         if let Turn::More(walk) = turn {

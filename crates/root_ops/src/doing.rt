@@ -71,8 +71,8 @@ pub(crate) enum Next {
     Over(Reply),
 }
 
-/// A call under way: a walk, with its aim in the box; what is due in the box, which is changed in place; or the release of
-/// a handle, which takes no memory.
+/// A call under way: a walk, with its aim in the box; what is due in the box, which is changed in place; or the
+/// release of a handle, which takes no memory.
 #[derive(Debug)]
 pub(crate) enum Stage {
     Walking(Walk, Box<Doing>),
@@ -115,8 +115,10 @@ impl Doing {
     #[tactic(auto, using(crate::proofs::Rooms::nameless_opens_none, crate::proofs::Bulk::nameless_makes_none, crate::proofs::Bulk::nameless_removes_none))]
     pub(crate) fn due(&self, alloc: Global) -> Result<Step, NoMemory>
         requires { (below : Below) × IsOurs below self.now }
-        ensures exact { (below : Below) → IsOurs below self.now → IfOk result (λ step. step ≡ due below (doing_view self.now)) }
-        ensures no_memory { (below : Below) → IsOurs below self.now → is_nameless (due below (doing_view self.now)) ≡ true → IsOk result }
+        ensures exact { (below : Below) → IsOurs below self.now
+            → IfOk result (λ step. step ≡ due below (doing_view self.now)) }
+        ensures no_memory { (below : Below) → IsOurs below self.now
+            → is_nameless (due below (doing_view self.now)) ≡ true → IsOk result }
     {
         match self {
             // A walk's step is the walk's.

@@ -25,15 +25,17 @@ pub enum Op {
     CreateLink(Bytes, Bytes),
     /// Removes the entry of what is no directory: unlinkat(2). A slash at the path's end is NotDir.
     RemoveFile(Bytes),
-    /// Removes the entry of an empty directory: unlinkat(2) with AT_REMOVEDIR. A slash at the path's end is taken away.
+    /// Removes the entry of an empty directory: unlinkat(2) with AT_REMOVEDIR. A slash at the path's end is taken
+    /// away.
     RemoveDir(Bytes),
-    /// Renames the entry of the first path to the second: renameat2(2). A slash at the end of either is taken away, and
-    /// demands that what is renamed is a directory.
+    /// Renames the entry of the first path to the second: renameat2(2). A slash at the end of either is taken away,
+    /// and demands that what is renamed is a directory.
     Rename(Bytes, Bytes, Mode),
-    /// Makes all that is missing of the path, each a directory, and opens the last: mkdir(2), as `mkdir -p` makes them.
+    /// Makes all that is missing of the path, each a directory, and opens the last: mkdir(2), as `mkdir -p` makes
+    /// them.
     MkdirAll(Bytes),
-    /// Removes the entry with all that is below it: unlink(2) and rmdir(2), as `rm -r` does. A slash at the path's end is
-    /// taken away.
+    /// Removes the entry with all that is below it: unlink(2) and rmdir(2), as `rm -r` does. A slash at the path's
+    /// end is taken away.
     RemoveAll(Bytes),
     /// One single step, but none that opens or closes a handle.
     Single(Step),
@@ -53,7 +55,8 @@ impl Op {
     /// An equal operation. Errors: Invalid of a Release, since what it holds can't be copied; NoMemory.
     pub fn copy(&self, alloc: Global) -> Result<Op, Errno>
         ensures release { is_release self.now ≡ true → result ≡ Err Errno.Invalid }
-        ensures copy { is_release self.now ≡ false → MatchResult result (λ copy. copy ≡ self.now) (λ error. error ≡ Errno.NoMemory) }
+        ensures copy { is_release self.now ≡ false
+            → MatchResult result (λ copy. copy ≡ self.now) (λ error. error ≡ Errno.NoMemory) }
     {
         Ok(match self {
             Op::Resolve(path) => Op::Resolve(path.copy(alloc)?),
@@ -77,7 +80,8 @@ impl Request {
     /// An equal request, with equal flags. Errors: those of `Op::copy`.
     pub fn copy(&self, alloc: Global) -> Result<Request, Errno>
         ensures release { is_release self.now.op ≡ true → result ≡ Err Errno.Invalid }
-        ensures copy { is_release self.now.op ≡ false → MatchResult result (λ copy. copy ≡ self.now) (λ error. error ≡ Errno.NoMemory) }
+        ensures copy { is_release self.now.op ≡ false
+            → MatchResult result (λ copy. copy ≡ self.now) (λ error. error ≡ Errno.NoMemory) }
     {
         let op = self.op.copy(alloc)?;
         Ok(Request {

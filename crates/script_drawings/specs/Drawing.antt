@@ -32,7 +32,8 @@ opened_by (Ok granted) = Some granted.tree
 opened_by (Err refusal) = None
 
 -- the picture of a run, from the tree in which its roots were granted on
-abbrev pub drawn : (closes : Closes) (said : Said) (tree : State) (events : List Event) (replies : List (List Outcome)) → IsRunOf said tree events replies → Drawn
+abbrev pub drawn : (closes : Closes) (said : Said) (tree : State) (events : List Event)
+    (replies : List (List Outcome)) → IsRunOf said tree events replies → Drawn
 drawn closes said tree events replies run = drawn_of closes run.opened.roots.tree (calls_of said.plans) events replies
 
 abbrev pub form_text : Form → Drawn → List ℕ
@@ -79,9 +80,11 @@ IsDrawFaultOf style said (Run fault) = IsWritingFaultOf (IsDrawingOf style) said
 IsDrawFaultOf style said TooManyActors = IsOkAnd said (λ s. ACTORS_MAX < length s.plans)
 IsDrawFaultOf style said TooManyLines = IsOkAnd said (HasManyLines style.closes)
 
--- The picture of a run of what the script says was written, and nothing else; or it failed as it should, and but for a writer that
--- failed nothing was written. `known` is what the reader had left.
-abbrev pub IsDraw : {T : Type 0} → TurnOrder → Style → Option (List ℕ) → Option (List ℕ) → Option (List ℕ) → Result T DrawFault → Type 0
+-- The picture of a run of what the script says was written, and nothing else; or it failed as it should, and but for
+-- a writer that failed nothing was written. `known` is what the reader had left.
+abbrev pub IsDraw : {T : Type 0} → TurnOrder → Style → Option (List ℕ) → Option (List ℕ) → Option (List ℕ)
+    → Result T DrawFault → Type 0
 IsDraw order style known old new result = MatchResult result
     (λ _. IfSome known (λ input. Wrote (IsDrawingOf style) (said_for order input) old new))
-    (λ fault. IfSome known (λ input. IsDrawFaultOf style (said_for order input) fault) × (fault ≢ Run WriteFailed → Keeps old new))
+    (λ fault. IfSome known (λ input. IsDrawFaultOf style (said_for order input) fault)
+    × (fault ≢ Run WriteFailed → Keeps old new))

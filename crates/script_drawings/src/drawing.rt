@@ -92,8 +92,8 @@ fn add_picture(
     }
 }
 
-/// Grants each actor its root, in the order of their numbers. `NoMemory` where room was refused; where a script's checks
-/// have passed, no root is refused otherwise.
+/// Grants each actor its root, in the order of their numbers. `NoMemory` where room was refused; where a script's
+/// checks have passed, no root is refused otherwise.
 fn grant_roots(alloc: Global, tree: &mut ListTree, plans: &[ActorPlan]) -> Result<(), NoMemory>
     requires { length plans.now ≤ ACTORS_MAX }
     ensures { OnOk result (opened_by (granted tree.old 0 plans.now) ≡ Some tree.new) }
@@ -118,7 +118,8 @@ fn drawing_of(
     requires same { tree ≡ scenario.tree }
     requires none { scenario.tree.handles ≡ [] }
     requires playable { IsPlayable (said_by scenario) }
-    ensures drawn { MatchResult result (IsDrawingOf style (said_by scenario)) (IsNoDrawing style.closes (said_by scenario)) }
+    ensures drawn { MatchResult result (IsDrawingOf style (said_by scenario))
+        (IsNoDrawing style.closes (said_by scenario)) }
     ensures some { IfOk result (λ text. text ≢ []) }
 {
     grant_roots(alloc, &mut tree, &scenario.plans)?;
@@ -140,14 +141,14 @@ fn drawing_of(
     Ok(text)
 }
 
-/// Reads a script, runs its world in this order of turns, and writes a picture of it: a heading with each actor's root and
-/// how its calls ended, and a column for each actor, in which its steps stand at their moments, those that close a handle
-/// only where they are asked for. As SVG it is well-formed XML, whatever names the script has.
+/// Reads a script, runs its world in this order of turns, and writes a picture of it: a heading with each actor's
+/// root and how its calls ended, and a column for each actor, in which its steps stand at their moments, those that
+/// close a handle only where they are asked for. As SVG it is well-formed XML, whatever names the script has.
 ///
-/// Errors, in this order: those of `read_scenario`; `BookFull` where the script gives its book fewer lines than it has
-/// actors; `TooManyActors` over 4; `TooManyLines` where the run has more than 2,000 events or the picture more than 2,000 lines; `NoMemory`, where room for
-/// the world or the picture was refused, in place of any of the last three too; `WriteFailed`. Nothing is written before the
-/// picture is whole.
+/// Errors, in this order: those of `read_scenario`; `BookFull` where the script gives its book fewer lines than it
+/// has actors; `TooManyActors` over 4; `TooManyLines` where the run has more than 2,000 events or the picture more
+/// than 2,000 lines; `NoMemory`, where room for the world or the picture was refused, in place of any of the last
+/// three too; `WriteFailed`. Nothing is written before the picture is whole.
 pub fn draw<R: Read, W: Write>(
     alloc: Global,
     reader: &mut R,
@@ -155,7 +156,8 @@ pub fn draw<R: Read, W: Write>(
     order: &TurnOrder,
     style: Style,
 ) -> Result<(), DrawFault>
-    ensures run { IsDraw order.now style (R.remaining reader.old) (W.contents writer.old) (W.contents writer.new) result }
+    ensures run { IsDraw order.now style (R.remaining reader.old) (W.contents writer.old)
+        (W.contents writer.new) result }
 {
     let (scenario, tree) = read_scene(alloc, reader, order)?;
     let text = drawing_of(alloc, scenario, tree, style)?;

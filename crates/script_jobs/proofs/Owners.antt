@@ -188,9 +188,9 @@ by_place P [] each = All-nil P
 by_place P (s ∷ sessions) each = All-cons P s sessions (each 0 s refl) (by_place P sessions (λ i x at. each (suc i) x at))
 
 -- each session's actor is its place, and there are as many sessions as roots
-pub opened_below : (s : State) (workers : ℕ) (root : List (List ℕ)) (tag : ℕ) (service : ServiceView) (sessions : List SessionView)
-    → IsOpened s (replicate workers root) tag service sessions → All (HasActorBelow (length sessions)) sessions
-opened_below s workers root tag service sessions opened =
+pub opened_below : (s : State) (workers : ℕ) (root : List (List ℕ)) (tag lines : ℕ) (service : ServiceView) (sessions : List SessionView)
+    → IsOpened s (replicate workers root) tag lines service sessions → All (HasActorBelow (length sessions)) sessions
+opened_below s workers root tag lines service sessions opened =
     let many : length sessions ≡ workers = opened.one_each ∙ length-replicate workers root in
     by_place (HasActorBelow (length sessions)) sessions (λ i x at.
     let within : i < length sessions = slice_get_within sessions i x at in
@@ -203,11 +203,11 @@ opened_below s workers root tag service sessions opened =
 -- ---- the whole
 
 -- what the replies opened can be released by the sessions that come back
-pub can_be_released : (s : State) (workers : ℕ) (root : List (List ℕ)) (tag : ℕ) (service : ServiceView) (jobs : List Request) (before after : List SessionView) (replies : List Reply)
-    → IsOpened s (replicate workers root) tag service before → IsServed service jobs before after replies
+pub can_be_released : (s : State) (workers : ℕ) (root : List (List ℕ)) (tag lines : ℕ) (service : ServiceView) (jobs : List Request) (before after : List SessionView) (replies : List Reply)
+    → IsOpened s (replicate workers root) tag lines service before → IsServed service jobs before after replies
     → All (λ (standing : StandingObject). standing.owner.actor < length after) (opened_in replies)
-can_be_released s workers root tag service jobs before after replies opened served =
+can_be_released s workers root tag lines service jobs before after replies opened served =
     let many : length after ≡ length before = as_many service jobs before served.lists after served.work in
     subst (λ (n : ℕ). All (λ (standing : StandingObject). standing.owner.actor < n) (opened_in replies)) (sym many)
     (all_opened (length before) replies
-    (reply_below (length before) service jobs before after replies (opened_below s workers root tag service before opened) served))
+    (reply_below (length before) service jobs before after replies (opened_below s workers root tag lines service before opened) served))

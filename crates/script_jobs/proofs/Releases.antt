@@ -51,7 +51,7 @@ can_release workers said service at_first jobs served lent replies opened begun 
     let P : List SessionView → List StandingObject → Type 0 = λ ss os. All (λ (standing : StandingObject). standing.owner.actor < length ss) os in
     subst (λ os. P lent os) (sym opened_is)
     (subst (λ ss. P ss (opened_in replies)) (sym lent_is)
-    (can_be_released (tree_of said) workers (first_root said.plans) TAG service jobs at_first served replies begun.opened are_served))
+    (can_be_released (tree_of said) workers (first_root said.plans) TAG said.lines service jobs at_first served replies begun.opened are_served))
 
 pub done : (workers : ℕ) (said : Said) (service : ServiceView) (at_first : List SessionView) (jobs : List Request) (served lent back after : List SessionView)
     (replies : List Reply) (opened : List StandingObject) → IsBegun workers said service at_first jobs → IsServed service jobs at_first served replies

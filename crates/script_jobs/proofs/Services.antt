@@ -93,11 +93,11 @@ open_cause workers said playable few =
 module _ (workers : ℕ) (tree : State) (plans : List ActorPlan) (schedule : List ℕ) (lines : ℕ) (roots : List (List (List ℕ)))
     (none : tree.handles ≡ []) (same : roots ≡ replicate workers (first_root plans)) where
   pub begun : (service : ServiceView) (sessions : List SessionView) (jobs : List Request) → map Call jobs ≡ first_calls plans
-      → (opening_cause tree roots lines ≡ None) × IsOpened tree roots TAG service sessions
+      → (opening_cause tree roots lines ≡ None) × IsOpened tree roots TAG lines service sessions
       → IsBegun workers (said_on tree plans schedule lines) service sessions jobs
   begun service sessions jobs calls opened =
       let P : List (Option OpenHandle) → List (List (List ℕ)) → Type 0 =
-      λ hs rs. (opening_cause (record { nodes = tree.nodes; handles = hs }) rs lines ≡ None) × IsOpened (record { nodes = tree.nodes; handles = hs }) rs TAG service sessions in
+      λ hs rs. (opening_cause (record { nodes = tree.nodes; handles = hs }) rs lines ≡ None) × IsOpened (record { nodes = tree.nodes; handles = hs }) rs TAG lines service sessions in
       let at : P [] (replicate workers (first_root plans)) = subst (λ rs. P [] rs) same (subst (λ hs. P hs roots) none opened) in
       record { calls = calls; room = at.0; opened = at.1 }
 

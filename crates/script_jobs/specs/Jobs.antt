@@ -1,4 +1,5 @@
--- What `inroot run` writes: how each job of the script ended, as workers served them, and how many events the closed service has.
+-- What `inroot run` writes: how each job of the script ended, as workers served them, and how many events the closed
+-- service has.
 use Rattle.std.specs.Prelude.{⊤, ◌≡◌, ◌≢◌, ◌<◌, ℕ, List, [], ◌∷◌, ◌++◌, length, map, replicate, slice_get, slice_set, codes, decimal, false, Option, Some, None, Result, Err, MatchResult, IsOkAnd, IfSome}
 use Rattle.std.specs.List.{filter_map}
 use Rattle.std.specs.Io.KnownBytes.{Keeps}
@@ -51,12 +52,13 @@ jobs_said input = said_as Jobs OfScript input
 abbrev pub worker_roots : ℕ → Said → List (List (List ℕ))
 worker_roots workers said = replicate workers (first_root said.plans)
 
--- A service over the script's tree, with a session for each worker at the first actor's root; and a job for each of that actor's
--- calls, in their order.
-pub record IsBegun (workers : ℕ) (said : Said) (service : ServiceView) (sessions : List SessionView) (jobs : List Request) : Type 0 where
+-- A service over the script's tree, with a session for each worker at the first actor's root; and a job for each of
+-- that actor's calls, in their order.
+pub record IsBegun (workers : ℕ) (said : Said) (service : ServiceView) (sessions : List SessionView)
+    (jobs : List Request) : Type 0 where
   pub calls : map planned.Call jobs ≡ first_calls said.plans
   pub room : opening_cause (tree_of said) (worker_roots workers said) said.lines ≡ None
-  pub opened : IsOpened (tree_of said) (worker_roots workers said) TAG service sessions
+  pub opened : IsOpened (tree_of said) (worker_roots workers said) TAG said.lines service sessions
 
 -- ---- what the replies leave open
 
@@ -77,7 +79,8 @@ abbrev pub release_of : StandingObject → Request
 release_of standing = record { op = Release standing; flags = record { beneath = false; no_links = false } }
 
 -- the session that opened the object is called to release it, and the others stay
-pub record IsReleased (service : ServiceView) (standing : StandingObject) (before after : List SessionView) : Type 0 where
+pub record IsReleased (service : ServiceView) (standing : StandingObject)
+    (before after : List SessionView) : Type 0 where
   pub session : SessionView
   pub there : slice_get before standing.owner.actor ≡ Some session
   pub called : SessionView
@@ -88,12 +91,14 @@ pub record IsReleased (service : ServiceView) (standing : StandingObject) (befor
 -- one object after another
 abbrev pub AreReleased : ServiceView → List StandingObject → List SessionView → List SessionView → Type 0
 AreReleased service [] before after = after ≡ before
-AreReleased service (standing ∷ others) before after = (between : List SessionView) × (IsReleased service standing before between × AreReleased service others between after)
+AreReleased service (standing ∷ others) before after = (between : List SessionView)
+    × (IsReleased service standing before between × AreReleased service others between after)
 
 -- ---- its end
 
 -- the jobs are served, and what their replies opened is released
-pub record AreDone (workers : ℕ) (said : Said) (replies : List Reply) (service : ServiceView) (sessions : List SessionView) : Type 0 where
+pub record AreDone (workers : ℕ) (said : Said) (replies : List Reply) (service : ServiceView)
+    (sessions : List SessionView) : Type 0 where
   pub at_first : List SessionView
   pub jobs : List Request
   pub begun : IsBegun workers said service at_first jobs
@@ -105,6 +110,7 @@ pub record AreDone (workers : ℕ) (said : Said) (replies : List Reply) (service
 pub record IsStopped (service : ServiceView) (stopped : StoppedView) : Type 0 where
   pub tag : stopped.tag ≡ service.tag
   pub count : stopped.count ≡ service.count
+  pub lines : stopped.lines ≡ service.lines
   pub opening : stopped.opening ≡ service.opening
 
 -- the service closes with this history
@@ -173,14 +179,16 @@ told_of_serving (serve.Lost job) = Service (service_fault.Lost job)
 told_of_serving other = Run NoMemory
 
 -- the workers answered a job twice, or left it over
-pub record RefusesToServe (service : ServiceView) (jobs : List Request) (before : List SessionView) (cause : ServeCause) : Type 0 where
+pub record RefusesToServe (service : ServiceView) (jobs : List Request) (before : List SessionView)
+    (cause : ServeCause) : Type 0 where
   pub lists : List (List Numbered)
   pub after : List SessionView
   pub refused : IsRefused service jobs before cause lists after
 
 -- which is told; or there was no memory
 abbrev pub IsUnserved : ServiceView → List Request → List SessionView → JobsFault → Type 0
-IsUnserved service jobs before (Service (service_fault.Doubled job)) = RefusesToServe service jobs before (serve.Doubled job)
+IsUnserved service jobs before (Service (service_fault.Doubled job)) =
+    RefusesToServe service jobs before (serve.Doubled job)
 IsUnserved service jobs before (Service (service_fault.Lost job)) = RefusesToServe service jobs before (serve.Lost job)
 IsUnserved service jobs before (Service other) = ⊥
 IsUnserved service jobs before (Run NoMemory) = ⊤
@@ -235,19 +243,22 @@ IsNoService workers said (Run NoMemory) = ⊤
 IsNoService workers said (Run BookFull) = HasFewLines workers said
 IsNoService workers said (Service fault) = IsServiceFault workers said fault
 
--- a fault is the script's; or its book is too small; or the service's; or a read or a growth was refused; or a write of such a
--- text, which isn't empty
+-- a fault is the script's; or its book is too small; or the service's; or a read or a growth was refused; or a write
+-- of such a text, which isn't empty
 abbrev pub IsJobsFaultOf : ℕ → Result Said ScriptFault → JobsFault → Type 0
 IsJobsFaultOf workers said (Run (Script fault)) = said ≡ Err (check_of fault)
 IsJobsFaultOf workers said (Run ReadFailed) = ⊤
-IsJobsFaultOf workers said (Run WriteFailed) = IsOkAnd said (λ s. (text : List ℕ) × IsJobsText workers s text × (text ≢ []))
+IsJobsFaultOf workers said (Run WriteFailed) =
+    IsOkAnd said (λ s. (text : List ℕ) × IsJobsText workers s text × (text ≢ []))
 IsJobsFaultOf workers said (Run NoMemory) = ⊤
 IsJobsFaultOf workers said (Run BookFull) = IsOkAnd said (HasFewLines workers)
 IsJobsFaultOf workers said (Service fault) = IsOkAnd said (λ s. IsServiceFault workers s fault)
 
--- The text of the script's jobs, served by so many workers, was written, and nothing else; or it failed as it should, and but for
--- a writer that failed nothing was written. `known` is what the reader had left.
-abbrev pub IsJobs : {T : Type 0} → ℕ → Option (List ℕ) → Option (List ℕ) → Option (List ℕ) → Result T JobsFault → Type 0
+-- The text of the script's jobs, served by so many workers, was written, and nothing else; or it failed as it
+-- should, and but for a writer that failed nothing was written. `known` is what the reader had left.
+abbrev pub IsJobs : {T : Type 0} → ℕ → Option (List ℕ) → Option (List ℕ) → Option (List ℕ) → Result T JobsFault
+    → Type 0
 IsJobs workers known old new result = MatchResult result
     (λ _. IfSome known (λ input. Wrote (IsJobsText workers) (jobs_said input) old new))
-    (λ fault. IfSome known (λ input. IsJobsFaultOf workers (jobs_said input) fault) × (fault ≢ Run WriteFailed → Keeps old new))
+    (λ fault. IfSome known (λ input. IsJobsFaultOf workers (jobs_said input) fault)
+    × (fault ≢ Run WriteFailed → Keeps old new))

@@ -169,7 +169,9 @@ fn begin(alloc: Global, scenario: Scenario, workers: usize) -> Result<Begun, Run
     requires playable { IsPlayable (said_by scenario) }
     requires fit { IsFitFor JobsPurpose (said_by scenario) }
     requires few { workers ≤ WORKERS_MAX }
-    ensures begun { MatchResult result (λ begun. IsBegun workers (said_by scenario) begun.service begun.sessions.items begun.jobs.items) (λ fault. IsNoService workers (said_by scenario) (jobs_fault.Run fault)) }
+    ensures begun { MatchResult result
+        (λ begun. IsBegun workers (said_by scenario) begun.service begun.sessions.items begun.jobs.items)
+        (λ fault. IsNoService workers (said_by scenario) (jobs_fault.Run fault)) }
 {
     let Scenario {
         tree,
@@ -215,7 +217,9 @@ fn serve_all<R: Threads + Wait + Sync>(
 ) -> Result<Served, JobsFault>
     requires some { 0 < vec_len sessions }
     requires few { vec_len sessions ≤ WORKERS_MAX }
-    ensures { MatchResult result (λ served. IsServed service.now jobs.now sessions.items served.sessions.items served.replies.items) (IsUnserved service.now jobs.now sessions.items) }
+    ensures { MatchResult result
+        (λ served. IsServed service.now jobs.now sessions.items served.sessions.items served.replies.items)
+        (IsUnserved service.now jobs.now sessions.items) }
 {
     match serve(rt, alloc, service, sessions, jobs, &NoGate) {
         Ok(served) => Ok(served),
@@ -297,7 +301,8 @@ fn release_all<R: Wait>(
 
 /// Closes the service: the history of all its sessions' steps.
 fn close(service: Service<SlabTree>, sessions: Vec<Session>) -> Result<EventLog, CloseCause>
-    ensures { MatchResult result (λ log. Closes service sessions.items log.events) (RefusesToClose service sessions.items) }
+    ensures { MatchResult result (λ log. Closes service sessions.items log.events)
+        (RefusesToClose service sessions.items) }
 {
     match service.stop().close(sessions) {
         Ok(closed) => Ok(closed.events),
@@ -342,7 +347,8 @@ fn text_of<R: Threads + Wait + Sync>(
     requires fit { IsFitFor JobsPurpose (said_by scenario) }
     requires some { 0 < workers }
     requires few { workers ≤ WORKERS_MAX }
-    ensures text { MatchResult result (IsJobsText workers (said_by scenario)) (IsNoService workers (said_by scenario)) }
+    ensures text { MatchResult result (IsJobsText workers (said_by scenario))
+        (IsNoService workers (said_by scenario)) }
     ensures some { IfOk result (λ text. text ≢ []) }
 {
     let Begun {
@@ -363,14 +369,15 @@ fn text_of<R: Threads + Wait + Sync>(
 }
 
 /// Reads a script, serves its first actor's calls as jobs by so many workers, each with a session of its own at that
-/// actor's root and on a thread of its own where one can be made, and writes a line for how each job ended, and one for how
-/// many events there were. The jobs have no order: any worker takes any next one. What a job opened is released by its
-/// session once all jobs are answered, in the order of the jobs, and then the service is closed.
+/// actor's root and on a thread of its own where one can be made, and writes a line for how each job ended, and one
+/// for how many events there were. The jobs have no order: any worker takes any next one. What a job opened is
+/// released by its session once all jobs are answered, in the order of the jobs, and then the service is closed.
 ///
-/// A job that fails is no error: its line says so. Errors, in this order: those of `read_scenario`, where a step or a
-/// release of the first actor is refused as a call that can't be read; `BookFull` where the script gives its book fewer
-/// lines than there are workers; `NoMemory`, where room was refused; `Service`, where the workers left a job over or
-/// answered one twice, or the service wasn't closed; `WriteFailed`. Nothing is written before the text is whole.
+/// A job that fails is no error: its line says so. Errors, in this order: those of `read_scenario`, where a step or
+/// a release of the first actor is refused as a call that can't be read; `BookFull` where the script gives its book
+/// fewer lines than there are workers; `NoMemory`, where room was refused; `Service`, where the workers left a job
+/// over or answered one twice, or the service wasn't closed; `WriteFailed`. Nothing is written before the text is
+/// whole.
 pub fn run_jobs<Rt: Threads + Wait + Sync, R: Read, W: Write>(
     rt: &Rt,
     alloc: Global,

@@ -16,8 +16,8 @@ use Rattle.scripts.specs.declared.turns.TurnOrder.{TurnOrder}
 use Rattle.scripts.specs.Scenario.{Said, said_for}
 use Rattle.scripts.specs.Writing.{tree_of, IsWritingFaultOf, Wrote}
 
--- Of some run of what the script says, by the schedule and then each actor to its end: the tree, the events and the replies.
--- Runs of one script differ by nothing but where a turn had no memory.
+-- Of some run of what the script says, by the schedule and then each actor to its end: the tree, the events and the
+-- replies. Runs of one script differ by nothing but where a turn had no memory.
 pub record IsRunOf (said : Said) (tree : State) (events : List Event) (replies : List (List Outcome)) : Type 0 where
   pub world : WorldView
   pub opened : Opens (tree_of said) said.plans said.lines (Ok world)
@@ -42,9 +42,11 @@ abbrev pub told_of : WorldFault → RunFault
 told_of world.BookFull = BookFull
 told_of other = NoMemory
 
--- The replay wrote the text of a report on a run of what the script says, and nothing else; or it failed as it should, and but
--- for a writer that failed nothing was written. `known` is what the reader had left.
-abbrev pub IsReplay : {T : Type 0} → TurnOrder → Option (List ℕ) → Option (List ℕ) → Option (List ℕ) → Result T RunFault → Type 0
+-- The replay wrote the text of a report on a run of what the script says, and nothing else; or it failed as it
+-- should, and but for a writer that failed nothing was written. `known` is what the reader had left.
+abbrev pub IsReplay : {T : Type 0} → TurnOrder → Option (List ℕ) → Option (List ℕ) → Option (List ℕ)
+    → Result T RunFault → Type 0
 IsReplay order known old new result = MatchResult result
     (λ _. IfSome known (λ input. Wrote IsTextOf (said_for order input) old new))
-    (λ fault. IfSome known (λ input. IsWritingFaultOf IsTextOf (said_for order input) fault) × (fault ≢ WriteFailed → Keeps old new))
+    (λ fault. IfSome known (λ input. IsWritingFaultOf IsTextOf (said_for order input) fault)
+    × (fault ≢ WriteFailed → Keeps old new))

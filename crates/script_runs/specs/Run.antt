@@ -12,10 +12,10 @@ use Rattle.scripts.specs.declared.fault.RunFault.{RunFault}
 use Rattle.scripts.specs.declared.fault.RunFault.TheVariants.{Script, ReadFailed, WriteFailed, NoMemory, BookFull}
 use Rattle.scripts.specs.declared.fault.ScriptFault.{ScriptFault}
 use Rattle.scripts.specs.declared.fault.ScriptFault.TheVariants.{TooLong}
-use Rattle.scripts.specs.declared.input.TheConstants.{SCRIPT_MAX}
 use Rattle.scripts.specs.Fault.{check_of}
 use Rattle.transcript.specs.Output.{opened_line, fault_line}
 use Rattle.scripts.specs.Input.{data_of}
+use Rattle.scripts.specs.Limits.{MOST_BYTES}
 use Rattle.scripts.specs.Script.{rooted_tree_of}
 use Rattle.scripts.specs.Checks.{then_with}
 
@@ -33,12 +33,13 @@ line_of nodes r (fails error reads) = fault_line error
 -- the line for a script's data and a path text, which is resolved below the first actor's root with these restrictions
 abbrev pub line_for : Data → List ℕ → Flags → Result (List ℕ) ScriptFault
 line_for d text flags =
-    then_with (rooted_tree_of d) (λ tree. Ok (line_of tree.nodes tree.root (resolved tree.nodes tree.root text true flags)))
+    then_with (rooted_tree_of d)
+    (λ tree. Ok (line_of tree.nodes tree.root (resolved tree.nodes tree.root text true flags)))
 
 -- what is written for an input, or the first check of the script that fails
 abbrev pub written_for : List ℕ → List ℕ → Flags → Result (List ℕ) ScriptFault
 written_for input text flags =
-    refuse_if (nat_lt SCRIPT_MAX (length input)) (Err TooLong)
+    refuse_if (nat_lt MOST_BYTES (length input)) (Err TooLong)
     (then_with (data_of input) (λ d. line_for d text flags))
 
 -- a run's fault is the script's; or a read or a growth was refused; or a write, where there is something to write
@@ -49,13 +50,15 @@ IsRunFaultOf said WriteFailed = IsOkAnd said (λ text. text ≢ [])
 IsRunFaultOf said NoMemory = ⊤
 IsRunFaultOf said BookFull = ⊥
 
--- The run wrote what there is to write for its input, and nothing else; or it failed as it should, and but for a writer that
--- failed nothing was written. `known` is what the reader had left.
-abbrev pub IsRun : {T : Type 0} → (List ℕ → Result (List ℕ) ScriptFault) → Option (List ℕ) → Option (List ℕ) → Option (List ℕ) → Result T RunFault → Type 0
+-- The run wrote what there is to write for its input, and nothing else; or it failed as it should, and but for a
+-- writer that failed nothing was written. `known` is what the reader had left.
+abbrev pub IsRun : {T : Type 0} → (List ℕ → Result (List ℕ) ScriptFault) → Option (List ℕ) → Option (List ℕ)
+    → Option (List ℕ) → Result T RunFault → Type 0
 IsRun written known old new result = MatchResult result
     (λ _. IfSome known (λ input. IsOkAnd (written input) (λ text. Appends old new text)))
     (λ fault. IfSome known (λ input. IsRunFaultOf (written input) fault) × (fault ≢ WriteFailed → Keeps old new))
 
 -- where the script is refused, nothing is written
-abbrev pub WritesNothingIfRefused : (List ℕ → Result (List ℕ) ScriptFault) → Option (List ℕ) → Option (List ℕ) → Option (List ℕ) → Type 0
+abbrev pub WritesNothingIfRefused : (List ℕ → Result (List ℕ) ScriptFault) → Option (List ℕ) → Option (List ℕ)
+    → Option (List ℕ) → Type 0
 WritesNothingIfRefused written known old new = IfSome known (λ input. IfErr (written input) (λ _. Keeps old new))

@@ -31,7 +31,8 @@ fn told_of(fault: WorldFault) -> RunFault
     }
 }
 
-/// Runs what a script says on a tree to its end. Errors: `BookFull` where there are fewer lines than actors; `NoMemory`.
+/// Runs what a script says on a tree to its end. Errors: `BookFull` where there are fewer lines than actors;
+/// `NoMemory`.
 pub fn report_on<T: Tree>(
     alloc: Global,
     tree: T,
@@ -43,7 +44,10 @@ where
     T: Drop,
     requires none { (T.state tree).handles ≡ [] }
     requires playable { IsPlayable (said_on (T.state tree) plans.items schedule.items lines) }
-    ensures { MatchResult result (λ report. IsRunOf (said_on (T.state tree) plans.items schedule.items lines) (T.state report.tree) report.events.events report.replies.items) (IsNoRun (said_on (T.state tree) plans.items schedule.items lines)) }
+    ensures { MatchResult result
+        (λ report. IsRunOf (said_on (T.state tree) plans.items schedule.items lines)
+        (T.state report.tree) report.events.events report.replies.items)
+        (IsNoRun (said_on (T.state tree) plans.items schedule.items lines)) }
 {
     let world = match World::new(alloc, tree, plans, lines) {
         Ok(world) => world,
@@ -59,7 +63,9 @@ where
 pub fn report_of(alloc: Global, scenario: Scenario) -> Result<Report<SlabTree>, RunFault>
     requires none { scenario.tree.handles ≡ [] }
     requires playable { IsPlayable (said_by scenario) }
-    ensures { MatchResult result (λ report. IsRunOf (said_by scenario) report.tree report.events.events report.replies.items) (IsNoRun (said_by scenario)) }
+    ensures { MatchResult result
+        (λ report. IsRunOf (said_by scenario) report.tree report.events.events report.replies.items)
+        (IsNoRun (said_by scenario)) }
 {
     let Scenario {
         tree,
@@ -84,8 +90,8 @@ fn text_of(alloc: Global, scenario: Scenario) -> Result<Output, RunFault>
     Ok(text)
 }
 
-/// Reads a script, runs its world in this order of turns, and writes the report: a line for each event, for how each call
-/// ended, for each entry of the tree then, and for each actor with how many handles it has open.
+/// Reads a script, runs its world in this order of turns, and writes the report: a line for each event, for how each
+/// call ended, for each entry of the tree then, and for each actor with how many handles it has open.
 ///
 /// A call that fails is no error: its line says so. Errors, in this order: those of `read_scenario`; `BookFull` where
 /// the script gives its book fewer lines than it has actors; `NoMemory`, where room for the world or the report was

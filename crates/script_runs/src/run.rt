@@ -28,7 +28,8 @@ fn look_up<T: Tree>(
     flags: Flags,
 ) -> Result<Resolved, Errno>
     requires { IsReady (T.state tree.old) ACTOR root (node_of (T.state tree.old) ACTOR root) }
-    ensures { Resolves (T.state tree.old).nodes (node_of (T.state tree.old) ACTOR root) (resolved (T.state tree.old).nodes (node_of (T.state tree.old) ACTOR root) text.now true flags) result }
+    ensures { Resolves (T.state tree.old).nodes (node_of (T.state tree.old) ACTOR root)
+        (resolved (T.state tree.old).nodes (node_of (T.state tree.old) ACTOR root) text.now true flags) result }
 {
     let path = Path::parse(alloc, text)?;
     let owner = Owner {
@@ -78,7 +79,9 @@ pub fn line_of<T: Tree>(
     flags: Flags,
 ) -> Result<Output, RunFault>
     requires { IsReady (T.state tree.old) ACTOR root (node_of (T.state tree.old) ACTOR root) }
-    ensures ok { IfOk result (λ line. line ≡ line_of (T.state tree.old).nodes (node_of (T.state tree.old) ACTOR root) (resolved (T.state tree.old).nodes (node_of (T.state tree.old) ACTOR root) text.now true flags)) }
+    ensures ok { IfOk result (λ line. line
+        ≡ line_of (T.state tree.old).nodes (node_of (T.state tree.old) ACTOR root)
+        (resolved (T.state tree.old).nodes (node_of (T.state tree.old) ACTOR root) text.now true flags)) }
     ensures some { IfOk result (λ line. line ≢ []) }
     ensures err { IfErr result (λ fault. fault ≡ run_fault.NoMemory) }
 {
@@ -119,8 +122,10 @@ pub fn walk<R: Read, W: Write>(
     text: &[u8],
     flags: Flags,
 ) -> Result<(), RunFault>
-    ensures run { IsRun (λ input. written_for input text.now flags) (R.remaining reader.old) (W.contents writer.old) (W.contents writer.new) result }
-    ensures refused { WritesNothingIfRefused (λ input. written_for input text.now flags) (R.remaining reader.old) (W.contents writer.old) (W.contents writer.new) }
+    ensures run { IsRun (λ input. written_for input text.now flags) (R.remaining reader.old) (W.contents writer.old)
+        (W.contents writer.new) result }
+    ensures refused { WritesNothingIfRefused (λ input. written_for input text.now flags) (R.remaining reader.old)
+        (W.contents writer.old) (W.contents writer.new) }
 {
     let bytes = read_script(alloc, reader)?;
     let script = value_of(alloc, &bytes)?;

@@ -1,6 +1,8 @@
 //! Faults, told.
 use path_text::Errno;
-use scripts::{Cause, RunFault, ScriptFault, first_refused_entry_is_told};
+use scripts::{
+    Cause, RunFault, ScriptFault, each_refusal_is_told, first_refused_entry_is_told, read_strictly,
+};
 use std::alloc::Global;
 
 /// Whether the fault is told in these words, and what was wanted in a second line.
@@ -18,15 +20,42 @@ fn tells(alloc: Global, fault: RunFault, want: &str) -> bool {
 #[test]
 fn tells_faults(rt: HostRuntime) {
     first_refused_entry_is_told();
+    each_refusal_is_told();
     let alloc = rt.alloc();
     let entry = ScriptFault::TreeEntry(7, Cause::Refused(Errno::Loop));
     let are_told = tells(
         alloc,
         RunFault::Script(entry),
         "script: tree 7\nELOOP: it has no place",
+    ) && tells(
+        alloc,
+        RunFault::Script(ScriptFault::Call(1, 2, None)),
+        "script: call 1 2\na call has an \"op\" with its fields",
     ) && tells(alloc, RunFault::ReadFailed, "read failed")
         && tells(alloc, RunFault::WriteFailed, "write failed")
         && tells(alloc, RunFault::NoMemory, "no memory")
         && tells(alloc, RunFault::BookFull, "book full");
     assert!(rt; are_told);
+}
+
+/// Whether a script that is read strictly is given back, or else is refused in these words.
+fn is_read_strictly(alloc: Global, script: &str, want: Option<&str>) -> bool {
+    match (read_strictly(alloc, &mut script.as_bytes()), want) {
+        (Ok(bytes), None) => bytes.as_slice() == script.as_bytes(),
+        (Err(fault), Some(words)) => tells(alloc, fault, words),
+        _ => false,
+    }
+}
+
+#[test]
+fn reads_strictly(rt: HostRuntime) {
+    for (script, want) in [
+        (r#"{"version":1,"tree":[],"actors":[]}"#, None),
+        (
+            r#"{"version":1,"trees":[]}"#,
+            Some("script: unknown key\na script has version, tree, actors, schedule and lines"),
+        ),
+    ] {
+        assert!(rt; is_read_strictly(rt.alloc(), script, want), "{script}");
+    }
 }

@@ -8,4 +8,5 @@ pub mod Opened
 pub mod Scenarios
 pub mod Scenes
 pub mod Playable
+mod CallFaults
 pub mod Texts

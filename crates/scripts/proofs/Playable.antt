@@ -23,6 +23,7 @@ use Rattle.scripts.specs.declared.scenario.Header.{Header}
 use Rattle.scripts.specs.declared.scenario.TheConstants.{LINES_MAX}
 use Rattle.scripts.specs.declared.schedule.TheConstants.{TURNS_MAX}
 use Rattle.scripts.specs.Actors.{root_of}
+use Rattle.scripts.specs.CallFaults.{fault_in_call}
 use Rattle.scripts.specs.Calls.{call_of, call_at, calls_of, is_fit}
 use Rattle.scripts.specs.Checks.{are_over, then_with, each}
 use Rattle.scripts.specs.Fields.{list_in, perhaps}
@@ -178,7 +179,7 @@ kept false f x call e = cc (e)
 fits : (purpose : Purpose) (version : Version) (actor : ℕ) (labels : List Label) (k : ℕ) (d : Data) (call : Planned)
     → call_at purpose version actor labels k d ≡ Ok call → is_fit purpose actor call ≡ true
 fits purpose version actor labels k d call e =
-    let there = was_there (call_of version labels k d) (fault.Call actor k) _ call e in
+    let there = was_there (call_of version labels k d) (fault.Call actor k (fault_in_call version labels k d)) _ call e in
     let same = kept (is_fit purpose actor there.x) (fault.NoJob k) there.x call there.went in
     subst (λ (c : Planned). is_fit purpose actor c ≡ true) same.0 same.1
 

@@ -1,5 +1,5 @@
 -- The calls of a script's actors, over the data that it is.
-use Rattle.std.specs.Prelude.{ℕ, ◌&&◌, ◌||◌, List, Bool, true, false, not, nat_lt, if◌then◌else◌, Option, Some, None, option_and_then, option_map, Result, Ok, Err, codes}
+use Rattle.std.specs.Prelude.{ℕ, ◌&&◌, ◌||◌, List, Bool, true, false, not, nat_lt, if◌then◌else◌, Option, Some, None, option_map, Result, Ok, Err, codes}
 use Rattle.serde_json.specs.Data.{Data, Items}
 use Rattle.path_text.specs.Name.{same_bytes}
 use Rattle.path_text.specs.declared.flags.Flags.{Flags}
@@ -15,15 +15,14 @@ use Rattle.scripts.specs.declared.fault.ScriptFault.{ScriptFault}
 use Rattle.scripts.specs.declared.labels.Label.{Label}
 use Rattle.race_core.specs.declared.plan.Planned.{Planned}
 use Rattle.race_core.specs.declared.plan.Planned.TheVariants as planned
-use Rattle.race_core.specs.declared.plan.Ref.{Ref}
-use Rattle.race_core.specs.declared.plan.Ref.TheVariants as ref
 use Rattle.scripts.specs.declared.words.OpName.{OpName}
 use Rattle.scripts.specs.declared.words.OpName.TheVariants.{Resolve, ResolveNoFollow, MkdirAll, ReadLink, CreateFile, CreateDir, CreateLink, RemoveFile, RemoveDir, RemoveAll, Rename}
 use Rattle.scripts.specs.declared.fault.ScriptFault.TheVariants.{Call, NoJob}
+use Rattle.scripts.specs.CallFaults.{fault_in_call}
 use Rattle.scripts.specs.Checks.{each}
 use Rattle.scripts.specs.Fields.{text_in, mode_in, flag_in}
 use Rattle.scripts.specs.Labels.{takes_label, labels_from, has_good_label}
-use Rattle.scripts.specs.Steps.{ref_in, step_of}
+use Rattle.scripts.specs.Steps.{released_in, step_of}
 use Rattle.scripts.specs.Words.{op_name_of}
 
 -- the restrictions of a call: none in version 1
@@ -65,14 +64,6 @@ request_of version labels k name d =
     with_some (flags_in version d) None (λ flags.
     refuse_if (takes_label name && not (has_good_label labels k d)) None (Some (record { op = op; flags = flags }))))
 
-abbrev pub released_by : Ref → Option ℕ
-released_by ref.Root = None
-released_by (ref.Call number) = Some number
-
--- the call whose opened object call k releases
-abbrev pub released_in : List Label → ℕ → Data → Option ℕ
-released_in labels k d = option_and_then released_by (ref_in labels k (codes "on") d)
-
 -- call k of an actor whose calls give these labels
 abbrev pub call_of : Version → List Label → ℕ → Data → Option Planned
 call_of version labels k d =
@@ -94,7 +85,7 @@ is_fit Jobs actor call = nat_lt 0 actor || is_job call
 
 abbrev pub call_at : Purpose → Version → ℕ → List Label → ℕ → Data → Result Planned ScriptFault
 call_at purpose version actor labels k d =
-    with_some (call_of version labels k d) (Err (Call actor k)) (λ call.
+    with_some (call_of version labels k d) (Err (Call actor k (fault_in_call version labels k d))) (λ call.
     refuse_if (not (is_fit purpose actor call)) (Err (NoJob k)) (Ok call))
 
 -- the calls of an actor, or the first that is refused

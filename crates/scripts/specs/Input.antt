@@ -9,11 +9,11 @@ use Rattle.scripts.specs.declared.fault.ScriptFault.{ScriptFault}
 use Rattle.scripts.specs.declared.fault.RunFault.TheVariants.{Script, ReadFailed, WriteFailed, NoMemory, BookFull}
 use Rattle.scripts.specs.declared.fault.ScriptFault.TheVariants.{TooLong, NotJson}
 use Rattle.scripts.specs.Fault.{SOMEWHERE}
-use Rattle.scripts.specs.declared.input.TheConstants.{SCRIPT_MAX}
+use Rattle.scripts.specs.Limits.{MOST_BYTES}
 
 -- the fault is one of reading: there is more to read than a script may have, or a read or a growth was refused
 abbrev pub IsReadFault : Option (List ℕ) → RunFault → Type 0
-IsReadFault known (Script fault) = (fault ≡ TooLong) × IfSome known (λ input. SCRIPT_MAX < length input)
+IsReadFault known (Script fault) = (fault ≡ TooLong) × IfSome known (λ input. MOST_BYTES < length input)
 IsReadFault known ReadFailed = ⊤
 IsReadFault known WriteFailed = ⊥
 IsReadFault known NoMemory = ⊤

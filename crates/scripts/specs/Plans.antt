@@ -7,8 +7,6 @@ use Rattle.tree_model.specs.declared.inode.Inode.{Inode}
 use Rattle.tree_model.specs.Entries.{with_some, refuse_if}
 use Rattle.tree_model.specs.State.{TOP}
 use Rattle.tree_model.specs.Steps.{directory_at}
-use Rattle.scripts.specs.declared.actors.TheConstants.{ACTORS_MAX}
-use Rattle.scripts.specs.declared.calls.TheConstants.{CALLS_MAX}
 use Rattle.scripts.specs.declared.calls.Purpose.{Purpose}
 use Rattle.scripts.specs.declared.calls.Version.{Version}
 use Rattle.scripts.specs.declared.fault.Cause.TheVariants.{Shape, Refused}
@@ -18,6 +16,7 @@ use Rattle.scripts.specs.Actors.{root_of}
 use Rattle.scripts.specs.Calls.{calls_of}
 use Rattle.scripts.specs.Checks.{has_none, are_over, then_with, each}
 use Rattle.scripts.specs.Fields.{list_in}
+use Rattle.scripts.specs.Limits.{MOST_ACTORS, MOST_CALLS}
 
 -- the directory that is actor k's root
 abbrev pub root_at : ℕ → Result ℕ Errno → Result ℕ ScriptFault
@@ -30,7 +29,7 @@ actor_at purpose nodes version k d =
     with_some (root_of d) (Err (Actor k Shape)) (λ names.
     with_some (list_in (codes "calls") d) (Err (Actor k Shape)) (λ items.
     then_with (root_at k (directory_at nodes TOP names)) (λ root.
-    refuse_if (are_over CALLS_MAX items) (Err (TooManyCalls k))
+    refuse_if (are_over MOST_CALLS items) (Err (TooManyCalls k))
     (then_with (calls_of purpose version k items) (λ calls. Ok (record { root = names; calls = calls }))))))
 
 -- the actors, of which there is one at least
@@ -38,7 +37,7 @@ abbrev pub actors_in : Data → Result Items ScriptFault
 actors_in d =
     with_some (list_in (codes "actors") d) (Err Actors) (λ items.
     refuse_if (has_none items) (Err Actors)
-    (refuse_if (are_over ACTORS_MAX items) (Err TooManyActors) (Ok items)))
+    (refuse_if (are_over MOST_ACTORS items) (Err TooManyActors) (Ok items)))
 
 -- what each actor does, or the first check that fails
 abbrev pub actors_of : Purpose → List Inode → Version → Data → Result (List ActorPlan) ScriptFault

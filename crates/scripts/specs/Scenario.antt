@@ -1,5 +1,5 @@
--- What a whole script says, over the data that its JSON text is (RFC 8259, as serde_json reads it). The checks are made in this
--- order, and the first that fails is told.
+-- What a whole script says, over the data that its JSON text is (RFC 8259, as serde_json reads it). The checks are
+-- made in this order, and the first that fails is told.
 use Rattle.std.specs.Prelude.{⊤, ◌≡◌, ℕ, ◌<◌, ◌≤◌, ◌&&◌, List, [], ◌∷◌, length, if◌then◌else◌, nat_le, nat_lt, Option, Some, None, is_none, option_and_then, Result, Ok, Err, All, IsOk, IsTrue, codes}
 use Rattle.serde_json.specs.Data.{Data}
 use Rattle.serde_json.specs.Find.{get, as_number, as_u64, as_object}
@@ -9,7 +9,6 @@ use Rattle.tree_model.specs.declared.inode.Inode.{Inode}
 use Rattle.tree_model.specs.Entries.{with_some, refuse_if}
 use Rattle.tree_model.specs.State.{State, TOP}
 use Rattle.tree_model.specs.Steps.{directory_at}
-use Rattle.scripts.specs.declared.actors.TheConstants.{ACTORS_MAX}
 use Rattle.scripts.specs.declared.calls.Purpose.{Purpose}
 use Rattle.scripts.specs.declared.calls.Purpose.TheVariants.{Turns, Jobs}
 use Rattle.scripts.specs.declared.fault.RunFault.{RunFault}
@@ -18,8 +17,6 @@ use Rattle.scripts.specs.declared.fault.ScriptFault.{ScriptFault}
 use Rattle.scripts.specs.declared.fault.ScriptFault.TheVariants.{TooLong, NotObject, Version, Lines, Tree}
 use Rattle.scripts.specs.declared.scenario.Header.{Header}
 use Rattle.scripts.specs.declared.scenario.Scenario.{Scenario}
-use Rattle.scripts.specs.declared.scenario.TheConstants.{LINES_MAX}
-use Rattle.scripts.specs.declared.input.TheConstants.{SCRIPT_MAX}
 use Rattle.scripts.specs.declared.turns.TurnOrder.{TurnOrder}
 use Rattle.scripts.specs.declared.turns.TurnOrder.TheVariants.{OfScript, Asked}
 use Rattle.scripts.specs.Calls.{is_job}
@@ -27,6 +24,7 @@ use Rattle.scripts.specs.Checks.{then_with}
 use Rattle.scripts.specs.Fault.{check_of}
 use Rattle.scripts.specs.Fields.{list_in, perhaps}
 use Rattle.scripts.specs.Input.{data_of}
+use Rattle.scripts.specs.Limits.{MOST_ACTORS, MOST_BYTES, MOST_LINES}
 use Rattle.scripts.specs.Plans.{actors_of}
 use Rattle.scripts.specs.Schedule.{schedule_of}
 use Rattle.scripts.specs.Tree.{tree_of}
@@ -47,8 +45,9 @@ abbrev pub said_by : Scenario → Said
 said_by s = said_on s.tree s.plans.items s.schedule.items s.lines
 
 abbrev pub lines_in : Data → Option ℕ
-lines_in d = perhaps (get (codes "lines") d) LINES_MAX (λ lines.
-    with_some (option_and_then as_u64 (as_number lines)) None (λ n. if nat_le 1 n && nat_le n LINES_MAX then Some n else None))
+lines_in d = perhaps (get (codes "lines") d) MOST_LINES (λ lines.
+    with_some (option_and_then as_u64 (as_number lines)) None
+    (λ n. if nat_le 1 n && nat_le n MOST_LINES then Some n else None))
 
 abbrev pub header_of : Data → Result Header ScriptFault
 header_of d =
@@ -76,7 +75,8 @@ scenario_of purpose order d =
 
 -- what the script says that these bytes are, read for this purpose and with this order of turns
 abbrev pub said_as : Purpose → TurnOrder → List ℕ → Result Said ScriptFault
-said_as purpose order input = refuse_if (nat_lt SCRIPT_MAX (length input)) (Err TooLong) (then_with (data_of input) (scenario_of purpose order))
+said_as purpose order input = refuse_if (nat_lt MOST_BYTES (length input)) (Err TooLong)
+    (then_with (data_of input) (scenario_of purpose order))
 
 -- the same for actors that take turns
 abbrev pub said_for : TurnOrder → List ℕ → Result Said ScriptFault
@@ -90,14 +90,14 @@ IsReadingFaultOf said WriteFailed = ⊥
 IsReadingFaultOf said NoMemory = ⊤
 IsReadingFaultOf said BookFull = ⊥
 
--- What is said can be played: there are actors, each one's root is a directory, each turn an actor's, and a book may have the
--- lines.
+-- What is said can be played: there are actors, each one's root is a directory, each turn an actor's, and a book may
+-- have the lines.
 pub record IsPlayable (said : Said) : Type 0 where
   pub some : 0 < length said.plans
-  pub few : length said.plans ≤ ACTORS_MAX
+  pub few : length said.plans ≤ MOST_ACTORS
   pub roots : All (λ plan. IsOk (directory_at said.nodes TOP plan.root)) said.plans
   pub turns : All (λ actor. actor < length said.plans) said.schedule
-  pub bounded : said.lines ≤ LINES_MAX
+  pub bounded : said.lines ≤ MOST_LINES
 
 -- the root of the first actor, and its calls
 abbrev pub first_root : List ActorPlan → List (List ℕ)

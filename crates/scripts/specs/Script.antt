@@ -1,5 +1,5 @@
--- What a script says, over the data that its JSON text is (RFC 8259, as serde_json reads it). The checks are made in this order,
--- and the first that fails is told.
+-- What a script says, over the data that its JSON text is (RFC 8259, as serde_json reads it). The checks are made in
+-- this order, and the first that fails is told.
 use Rattle.std.specs.Prelude.{not, codes, is_none, option_and_then, Result, Err}
 use Rattle.serde_json.specs.Data.{Data}
 use Rattle.serde_json.specs.Find.{get, as_array, as_object}

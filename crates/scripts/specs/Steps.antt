@@ -6,7 +6,7 @@ use Rattle.tree_model.specs.declared.step.StepOf.{StepOf}
 use Rattle.tree_model.specs.declared.step.StepOf.TheVariants as steps
 use Rattle.scripts.specs.declared.labels.Label.{Label}
 use Rattle.race_core.specs.declared.plan.Ref.{Ref}
-use Rattle.race_core.specs.declared.plan.Ref.TheVariants.{Root}
+use Rattle.race_core.specs.declared.plan.Ref.TheVariants.{Root, Call}
 use Rattle.scripts.specs.declared.words.StepName.{StepName}
 use Rattle.scripts.specs.declared.words.StepName.TheVariants.{ReadLink, List as ListNames, Below, MakeDir, MakeFile, MakeLink, RemoveFile, RemoveDir, Rename}
 use Rattle.scripts.specs.Fields.{text_in, name_in, mode_in}
@@ -46,3 +46,11 @@ step_of labels k d =
     with_some (step_name_in d) None (λ name.
     with_some (ref_in labels k (codes "on") d) None (λ on.
     step_on name labels k on d))
+
+abbrev pub released_by : Ref → Option ℕ
+released_by Root = None
+released_by (Call number) = Some number
+
+-- the call whose opened object call k releases
+abbrev pub released_in : List Label → ℕ → Data → Option ℕ
+released_in labels k d = option_and_then released_by (ref_in labels k (codes "on") d)

@@ -18,8 +18,8 @@ use Rattle.scripts.specs.declared.fault.RunFault.{RunFault}
 use Rattle.scripts.specs.declared.fault.RunFault.TheVariants.{Script, NoMemory}
 use Rattle.scripts.specs.declared.fault.ScriptFault.{ScriptFault}
 use Rattle.scripts.specs.declared.fault.ScriptFault.TheVariants.{TooManyEntries, TreeEntry}
-use Rattle.scripts.specs.declared.tree.TheConstants.{ENTRIES_MAX}
 use Rattle.scripts.specs.Checks.{count_of}
+use Rattle.scripts.specs.Limits.{MOST_ENTRIES}
 
 -- ---- names
 
@@ -47,7 +47,8 @@ new_of kind d =
 -- `["dir", PATH]`, `["file", PATH]` or `["link", PATH, TEXT]`
 abbrev pub entry_of : Data → Option Entry
 entry_of d =
-    option_and_then (λ kind. option_and_then (λ what. option_and_then (λ path. option_map (λ names. record { at = names; what = what })
+    option_and_then (λ kind.
+    option_and_then (λ what. option_and_then (λ path. option_map (λ names. record { at = names; what = what })
     (names_of path)) (text_at 1 d)) (new_of kind d)) (text_at 0 d)
 
 abbrev pub entry_then : Option Entry → List Entry → List Entry
@@ -66,7 +67,7 @@ tree_built (Ok nodes) shaped all = if shaped == all then Ok nodes else Err (Tree
 
 abbrev pub tree_of : Items → Result (List Inode) ScriptFault
 tree_of items =
-    refuse_if (nat_lt ENTRIES_MAX (count_of items)) (Err TooManyEntries)
+    refuse_if (nat_lt MOST_ENTRIES (count_of items)) (Err TooManyEntries)
     (tree_built (built (entries_of items)) (length (entries_of items)) (count_of items))
 
 -- how a run tells that its tree can't be built

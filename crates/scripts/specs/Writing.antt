@@ -24,8 +24,8 @@ IsNoRun said (Script fault) = ⊥
 IsNoRun said ReadFailed = ⊥
 IsNoRun said WriteFailed = ⊥
 
--- a fault of writing a text of what is said is the script's; or its book is too small; or a read or a growth was refused; or a
--- write of such a text, which isn't empty
+-- a fault of writing a text of what is said is the script's; or its book is too small; or a read or a growth was
+-- refused; or a write of such a text, which isn't empty
 abbrev pub IsWritingFaultOf : (Said → List ℕ → Type 0) → Result Said ScriptFault → RunFault → Type 0
 IsWritingFaultOf IsText said (Script fault) = said ≡ Err (check_of fault)
 IsWritingFaultOf IsText said ReadFailed = ⊤

@@ -80,7 +80,8 @@ fn plans_of(
     version: Version,
     actors: &[Value],
 ) -> Result<Vec<ActorPlan>, RunFault>
-    ensures ok { IfOk result (λ plans. each (actor_at purpose nodes.now version) 0 (items_view actors.now) ≡ Ok plans.items) }
+    ensures ok { IfOk result (λ plans. each (actor_at purpose nodes.now version) 0 (items_view actors.now)
+        ≡ Ok plans.items) }
     ensures err { IfErr result (IsFaultOf (each (actor_at purpose nodes.now version) 0 (items_view actors.now))) }
 {
     let mut plans = Vec::with_capacity(alloc, actors.len())?;
@@ -129,8 +130,11 @@ pub fn actors_of(
 pub fn open_root<T: Tree>(alloc: Global, tree: &mut T, names: &Names) -> Result<HandleNo, RunFault>
     requires none { (T.state tree.old).handles ≡ [] }
     requires tree { IsState (T.state tree.old) }
-    ensures ok { IfOk result (λ root. IsAtHand (rooted (T.state tree.old).nodes (directory_at (T.state tree.old).nodes TOP names.now)) (T.state tree.new) ACTOR root) }
-    ensures err { IfErr result (IsFaultOf (rooted (T.state tree.old).nodes (directory_at (T.state tree.old).nodes TOP names.now))) }
+    ensures ok { IfOk result (λ root.
+        IsAtHand (rooted (T.state tree.old).nodes (directory_at (T.state tree.old).nodes TOP names.now))
+        (T.state tree.new) ACTOR root) }
+    ensures err { IfErr result (IsFaultOf
+        (rooted (T.state tree.old).nodes (directory_at (T.state tree.old).nodes TOP names.now))) }
 {
     // The tree is one with the root open, too.
     steps_keep_trees();

@@ -2,10 +2,12 @@
 ghost use Rattle.std.specs.Prelude.{◌≡◌, Ok, IfOk, IfErr};
 ghost use Rattle.serde_json.specs.View.{view, items_view};
 ghost use Rattle.scripts.specs.Version.{version_in};
-ghost use Rattle.scripts.specs.Calls.{flags_in, op_of, request_of, released_in, call_of, is_fit, call_at, calls_of};
+ghost use Rattle.scripts.specs.Calls.{flags_in, op_of, request_of, call_of, is_fit, call_at, calls_of};
 ghost use Rattle.scripts.specs.Fault.{IsFaultOf};
 ghost use Rattle.scripts.specs.Fields.{IsReadAs};
+ghost use Rattle.scripts.specs.Steps.{released_in};
 
+use crate::call_fault::fault_in_call;
 use crate::fault::{RunFault, ScriptFault};
 use crate::fields::{FieldFault, bytes_in, flag_in, mode_in, text_in};
 use crate::labels::{Label, has_good_label, labels_of, takes_label};
@@ -33,8 +35,8 @@ pub enum Version {
 pub enum Purpose {
     /// Its actors take turns, and make calls of each kind.
     Turns,
-    /// Its first actor's calls are jobs, which have no order: operations alone, since a step and a release speak of what
-    /// a call before them opened.
+    /// Its first actor's calls are jobs, which have no order: operations alone, since a step and a release speak of
+    /// what a call before them opened.
     Jobs,
 }
 
@@ -108,7 +110,7 @@ fn request_of(
 }
 
 /// The call whose opened object is released, which isn't the actor's root.
-fn released_in(labels: &[Label], at: usize, call: &Value) -> Option<usize>
+pub fn released_in(labels: &[Label], at: usize, call: &Value) -> Option<usize>
     ensures { result ≡ released_in labels.now at (view call.now) }
 {
     match ref_in(labels, at, call, "on")? {
@@ -151,7 +153,8 @@ fn is_fit(purpose: Purpose, actor: usize, call: &Planned) -> bool
     }
 }
 
-/// The call of that number. Errors: `Call` by its actor and its number; `NoJob` where it may not stand there; `NoMemory`.
+/// The call of that number. Errors: `Call` by its actor and its number, with what is wrong with it; `NoJob` where it
+/// may not stand there; `NoMemory`.
 fn call_at(
     alloc: Global,
     purpose: Purpose,
@@ -171,7 +174,10 @@ fn call_at(
             }
             Err(RunFault::Script(ScriptFault::NoJob(at)))
         }
-        Err(FieldFault::Shape) => Err(RunFault::Script(ScriptFault::Call(actor, at))),
+        Err(FieldFault::Shape) => {
+            let fault = fault_in_call(version, labels, at, call);
+            Err(RunFault::Script(ScriptFault::Call(actor, at, fault)))
+        }
         Err(FieldFault::NoMemory) => Err(RunFault::NoMemory),
     }
 }

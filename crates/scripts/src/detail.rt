@@ -1,8 +1,10 @@
 //! What is told of a refused script beside the check that failed.
 use crate::actors::ACTORS_MAX;
+use crate::call_fault::{CallFault, Field};
 use crate::calls::CALLS_MAX;
-use crate::fault::{Cause, JsonFault, RunFault, ScriptFault};
+use crate::fault::{Cause, JsonFault, Loose, RunFault, ScriptFault};
 use crate::input::SCRIPT_MAX;
+use crate::keys::Keys;
 use crate::scenario::LINES_MAX;
 use crate::schedule::TURNS_MAX;
 use crate::tree::ENTRIES_MAX;
@@ -56,6 +58,16 @@ fn root_words(error: Errno) -> &'static str {
     }
 }
 
+/// What the field of a call is that has another shape.
+fn shape_words(field: Field) -> &'static str {
+    match field {
+        Field::Mode => "none of plain, noreplace and exchange",
+        Field::Beneath | Field::NoLinks => "neither true nor false",
+        Field::Name | Field::New => "no name of an entry",
+        _ => "no text",
+    }
+}
+
 impl Display for JsonFault {
     fn fmt<W: fmt::Write>(&self, f: &mut Formatter<W>) -> fmt::Result {
         let what = if self.is_cut_short {
@@ -65,6 +77,59 @@ impl Display for JsonFault {
         };
         let (line, column) = (self.line, self.column);
         write!(f, "{what} at line {line}, column {column}")
+    }
+}
+
+impl Display for CallFault {
+    fn fmt<W: fmt::Write>(&self, f: &mut Formatter<W>) -> fmt::Result {
+        match *self {
+            CallFault::Missing(field) => write!(f, "\"{}\" is missing", field.key()),
+            CallFault::Shape(field) => write!(f, "\"{}\" is {}", field.key(), shape_words(field)),
+            CallFault::Unknown(Field::Step) => f.write_str("\"step\" names no step"),
+            CallFault::Unknown(_) => f.write_str("\"op\" names no operation"),
+            CallFault::NotGiven(field) => {
+                write!(
+                    f,
+                    "\"{}\" is no label that a call before it gives",
+                    field.key()
+                )
+            }
+            CallFault::Taken => f.write_str(
+                "\"as\" is root, or a label that a call before it gives",
+            ),
+            CallFault::ReleasesRoot => f.write_str("\"on\" is root, which is never released"),
+        }
+    }
+}
+
+impl Display for Keys {
+    fn fmt<W: fmt::Write>(&self, f: &mut Formatter<W>) -> fmt::Result {
+        f.write_str(match self {
+            Keys::Script => "version, tree, actors, schedule and lines",
+            Keys::Actor => "root and calls",
+            Keys::Opening => "op, path, as, beneath and no_links",
+            Keys::OnPath => "op, path, beneath and no_links",
+            Keys::CreateLink => "op, path, text, beneath and no_links",
+            Keys::Rename => "op, from, to, mode, beneath and no_links",
+            Keys::Release => "op and on",
+            Keys::Looking => "op, step and on",
+            Keys::OnName => "op, step, on and name",
+            Keys::MakeLink => "op, step, on, name and text",
+            Keys::RenameStep => "op, step, on, name, to, new and mode",
+        })
+    }
+}
+
+/// Tells which keys there may be, or who looks at it.
+fn write_loose<W: fmt::Write>(loose: Loose, f: &mut Formatter<W>) -> fmt::Result {
+    match loose {
+        Loose::Key => write!(f, "a script has {}", Keys::Script),
+        Loose::ActorKey(_) => write!(f, "an actor has {}", Keys::Actor),
+        Loose::CallKey(_, _, keys) => write!(f, "such a call has {keys}"),
+        Loose::Restriction(_, _) => f.write_str("\"beneath\" and \"no_links\" are of version 2"),
+        Loose::Label(_, _) => {
+            f.write_str("no step and no release after it uses the label under \"as\"")
+        }
     }
 }
 
@@ -95,15 +160,16 @@ impl Display for Detail {
                 write!(f, "{name}: {words}")
             }
             ScriptFault::TooManyCalls(_) => write!(f, "an actor has at most {CALLS_MAX} calls"),
-            ScriptFault::Call(_, _) => f.write_str(
-                "a call has an \"op\" with its fields, gives a label of its own, and uses labels that calls before it give",
-            ),
+            ScriptFault::Call(_, _, Some(fault)) => write!(f, "{fault}"),
+            // By `each_refusal_is_told` there is none without its fault.
+            ScriptFault::Call(_, _, None) => f.write_str("a call has an \"op\" with its fields"),
             ScriptFault::NoJob(_) => f.write_str(
                 "the first actor's calls are jobs, which have no order: no step and no release is among them",
             ),
             ScriptFault::Schedule => f.write_str("\"schedule\" is a list of actors' numbers"),
             ScriptFault::TooManyTurns => write!(f, "a schedule has at most {TURNS_MAX} turns"),
             ScriptFault::Turn(_) => f.write_str("a turn is an actor's number, counted from 0"),
+            ScriptFault::Loose(loose) => write_loose(loose, f),
         }
     }
 }

@@ -2,6 +2,8 @@
 ghost use Rattle.std.specs.Prelude.{◌≡◌};
 ghost use Rattle.scripts.specs.declared.fault.RunFault.TheVariants.{Script, NoMemory as OutOfMemory};
 
+use crate::call_fault::CallFault;
+use crate::keys::Keys;
 use path_text::{Errno, NoMemory};
 use std::alloc::{AllocError, AllocFailed};
 use thiserror::Error;
@@ -22,6 +24,26 @@ pub enum Cause {
     Shape,
     /// It has no place in the tree.
     Refused(Errno),
+}
+
+/// What nobody looks at, in a script that is read strictly.
+#[derive(Clone, Copy, Debug, PartialEq, Eq, Error)]
+pub enum Loose {
+    /// The script has a key that isn't a script's.
+    #[error("unknown key")]
+    Key,
+    /// The first actor that has a key which isn't an actor's.
+    #[error("actor {0}: unknown key")]
+    ActorKey(usize),
+    /// The first call that has a key which isn't of what it asks for, and what that is.
+    #[error("call {0} {1}: unknown key")]
+    CallKey(usize, usize, Keys),
+    /// The first call that has a restriction, at which version 1 doesn't look.
+    #[error("call {0} {1}: restriction in version 1")]
+    Restriction(usize, usize),
+    /// The first call that gives a label which no call after it uses.
+    #[error("call {0} {1}: unused label")]
+    Label(usize, usize),
 }
 
 /// Why a script is refused: the first check that fails. Its `Display` is the check's words; `detail` tells more.
@@ -61,9 +83,9 @@ pub enum ScriptFault {
     /// The first actor that is refused, for more calls than an actor may have.
     #[error("actor {0}")]
     TooManyCalls(usize),
-    /// The first call that is refused, by its actor and its number.
+    /// The first call that is refused, by its actor and its number, and what is wrong with it.
     #[error("call {0} {1}")]
-    Call(usize, usize),
+    Call(usize, usize, Option<CallFault>),
     /// The first call of the first actor that is a step or a release, where its calls are jobs.
     #[error("call 0 {0}")]
     NoJob(usize),
@@ -76,6 +98,9 @@ pub enum ScriptFault {
     /// The first turn that is no actor's number.
     #[error("schedule {0}")]
     Turn(usize),
+    /// The first thing that nobody looks at, where the script is read strictly.
+    #[error("{0}")]
+    Loose(Loose),
 }
 
 /// Why a run failed. Nothing was written before it, but by a writer that failed.

@@ -3,6 +3,7 @@ ghost use Rattle.std.specs.Prelude.{◌≡◌, ◌<◌, ◌≤◌, length, vec_l
 ghost use Rattle.serde_json.specs.View.{view};
 ghost use Rattle.scripts.specs.Fault.{IsFaultOf};
 ghost use Rattle.scripts.specs.Input.{IsReadFault, data_of};
+ghost use Rattle.scripts.specs.Limits.{MOST_BYTES};
 
 use crate::fault::{JsonFault, RunFault, ScriptFault};
 use serde_json::Value;
@@ -22,7 +23,7 @@ pub const READS_MAX: u32 = 2_097_152;
 /// `NoMemory`.
 pub fn read_script<R: Read>(alloc: Global, reader: &mut R) -> Result<Vec<u8>, RunFault>
     ensures whole { IfOk result (λ script. IfSome (R.remaining reader.old) (λ input. script.items ≡ input)) }
-    ensures short { IfOk result (λ script. vec_len script ≤ SCRIPT_MAX) }
+    ensures short { IfOk result (λ script. vec_len script ≤ MOST_BYTES) }
     ensures faults { IfErr result (λ fault. IsReadFault (R.remaining reader.old) fault) }
 {
     let mut script = Vec::new(alloc);

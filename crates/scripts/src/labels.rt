@@ -31,7 +31,7 @@ pub fn takes_label(op: OpName) -> bool
 }
 
 /// The label that a call gives to what it opens, if it gives one.
-fn label_of(call: &Value) -> Option<&str>
+pub fn label_of(call: &Value) -> Option<&str>
     ensures { option_map (λ text. text.now) result ≡ label_of (view call.now) }
 {
     let op = op_name_of(text_in(call, "op")?)?;

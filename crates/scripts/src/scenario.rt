@@ -84,9 +84,9 @@ pub fn plain_tree_of(alloc: Global, script: &Value) -> Result<ListTree, RunFault
     list_of(alloc, entries)
 }
 
-/// What a script says, read for this purpose. Errors: the first check that fails, in this order: those of its version and
-/// its lines, of its tree, of its actors, each with its calls, and of its schedule, or of the turns that are asked for in its
-/// place; `NoMemory`.
+/// What a script says, read for this purpose. Errors: the first check that fails, in this order: those of its
+/// version and its lines, of its tree, of its actors, each with its calls, and of its schedule, or of the turns that
+/// are asked for in its place; `NoMemory`.
 pub fn scenario_of(
     alloc: Global,
     purpose: Purpose,
@@ -124,30 +124,34 @@ pub fn read_as<R: Read>(
     reader: &mut R,
     order: &TurnOrder,
 ) -> Result<Scenario, RunFault>
-    ensures said { IfOk result (λ scenario. IfSome (R.remaining reader.old) (λ input. said_as purpose order.now input ≡ Ok (said_by scenario))) }
+    ensures said { IfOk result (λ scenario.
+        IfSome (R.remaining reader.old) (λ input. said_as purpose order.now input ≡ Ok (said_by scenario))) }
     ensures playable { IfOk result (λ scenario. IsPlayable (said_by scenario)) }
     ensures fit { IfOk result (λ scenario. IsFitFor purpose (said_by scenario)) }
     ensures none { IfOk result (λ scenario. scenario.tree.handles ≡ []) }
     ensures tree { IfOk result (λ scenario. IsState scenario.tree) }
-    ensures err { IfErr result (λ fault. IfSome (R.remaining reader.old) (λ input. IsReadingFaultOf (said_as purpose order.now input) fault)) }
+    ensures err { IfErr result (λ fault.
+        IfSome (R.remaining reader.old) (λ input. IsReadingFaultOf (said_as purpose order.now input) fault)) }
 {
     let bytes = read_script(alloc, reader)?;
     let script = value_of(alloc, &bytes)?;
     scenario_of(alloc, purpose, &script, order)
 }
 
-/// Reads a script to its end, and what it says, with this order of turns. Errors, in this order: those of `read_script`;
-/// `Script(NotJson)`; those of `scenario_of`.
+/// Reads a script to its end, and what it says, with this order of turns. Errors, in this order: those of
+/// `read_script`; `Script(NotJson)`; those of `scenario_of`.
 pub fn read_scenario<R: Read>(
     alloc: Global,
     reader: &mut R,
     order: &TurnOrder,
 ) -> Result<Scenario, RunFault>
-    ensures said { IfOk result (λ scenario. IfSome (R.remaining reader.old) (λ input. said_for order.now input ≡ Ok (said_by scenario))) }
+    ensures said { IfOk result (λ scenario.
+        IfSome (R.remaining reader.old) (λ input. said_for order.now input ≡ Ok (said_by scenario))) }
     ensures playable { IfOk result (λ scenario. IsPlayable (said_by scenario)) }
     ensures none { IfOk result (λ scenario. scenario.tree.handles ≡ []) }
     ensures tree { IfOk result (λ scenario. IsState scenario.tree) }
-    ensures err { IfErr result (λ fault. IfSome (R.remaining reader.old) (λ input. IsReadingFaultOf (said_for order.now input) fault)) }
+    ensures err { IfErr result (λ fault.
+        IfSome (R.remaining reader.old) (λ input. IsReadingFaultOf (said_for order.now input) fault)) }
 {
     read_as(alloc, Purpose::Turns, reader, order)
 }
@@ -158,11 +162,13 @@ pub fn read_scene<R: Read>(
     reader: &mut R,
     order: &TurnOrder,
 ) -> Result<(Scenario, ListTree), RunFault>
-    ensures said { IfOk result (λ read. IfSome (R.remaining reader.old) (λ input. said_for order.now input ≡ Ok (said_by read.0))) }
+    ensures said { IfOk result (λ read.
+        IfSome (R.remaining reader.old) (λ input. said_for order.now input ≡ Ok (said_by read.0))) }
     ensures playable { IfOk result (λ read. IsPlayable (said_by read.0)) }
     ensures none { IfOk result (λ read. read.0.tree.handles ≡ []) }
     ensures same { IfOk result (λ read. read.1 ≡ read.0.tree) }
-    ensures err { IfErr result (λ fault. IfSome (R.remaining reader.old) (λ input. IsReadingFaultOf (said_for order.now input) fault)) }
+    ensures err { IfErr result (λ fault.
+        IfSome (R.remaining reader.old) (λ input. IsReadingFaultOf (said_for order.now input) fault)) }
 {
     let bytes = read_script(alloc, reader)?;
     let script = value_of(alloc, &bytes)?;

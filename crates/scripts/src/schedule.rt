@@ -3,10 +3,10 @@ ghost use Rattle.std.specs.Prelude.{◌≡◌, ◌≤◌, Ok, IfOk, IfErr};
 ghost use Rattle.serde_json.specs.View.{view, items_view};
 ghost use Rattle.scripts.specs.Checks.{each};
 ghost use Rattle.scripts.specs.Fault.{IsFaultOf};
+ghost use Rattle.scripts.specs.Limits.{MOST_ACTORS};
 ghost use Rattle.scripts.specs.Scenario.{schedule_for};
 ghost use Rattle.scripts.specs.Schedule.{turn_at, schedule_of};
 
-use crate::actors::ACTORS_MAX;
 use crate::fault::{RunFault, ScriptFault};
 use crate::fields::are_over;
 use crate::turns::{TurnOrder, turns_asked};
@@ -18,7 +18,7 @@ pub const TURNS_MAX: usize = 100_000;
 
 /// The turn of that number: the number of one of so many actors. Errors: `Turn`.
 fn turn_at(actors: usize, at: usize, turn: &Value) -> Result<u32, RunFault>
-    requires { actors ≤ ACTORS_MAX }
+    requires { actors ≤ MOST_ACTORS }
     ensures ok { IfOk result (λ actor. turn_at actors at (view turn.now) ≡ Ok actor) }
     ensures err { IfErr result (IsFaultOf (turn_at actors at (view turn.now))) }
 {
@@ -30,7 +30,7 @@ fn turn_at(actors: usize, at: usize, turn: &Value) -> Result<u32, RunFault>
 
 /// The turns of so many actors. Errors: `Turn` of the first that is refused; `NoMemory`.
 fn turns_of(alloc: Global, actors: usize, turns: &[Value]) -> Result<Vec<u32>, RunFault>
-    requires { actors ≤ ACTORS_MAX }
+    requires { actors ≤ MOST_ACTORS }
     ensures ok { IfOk result (λ schedule. each (turn_at actors) 0 (items_view turns.now) ≡ Ok schedule.items) }
     ensures err { IfErr result (IsFaultOf (each (turn_at actors) 0 (items_view turns.now))) }
 {
@@ -45,7 +45,7 @@ fn turns_of(alloc: Global, actors: usize, turns: &[Value]) -> Result<Vec<u32>, R
 /// The schedule of a script with so many actors, empty where the key is missing. Errors, in this order: `Schedule`
 /// where it is no list; `TooManyTurns` past `TURNS_MAX` of them; those of `turns_of`.
 fn schedule_of(alloc: Global, actors: usize, script: &Value) -> Result<Vec<u32>, RunFault>
-    requires { actors ≤ ACTORS_MAX }
+    requires { actors ≤ MOST_ACTORS }
     ensures ok { IfOk result (λ schedule. schedule_of actors (view script.now) ≡ Ok schedule.items) }
     ensures err { IfErr result (IsFaultOf (schedule_of actors (view script.now))) }
 {
@@ -69,7 +69,7 @@ pub fn schedule_for(
     order: &TurnOrder,
     script: &Value,
 ) -> Result<Vec<u32>, RunFault>
-    requires { actors ≤ ACTORS_MAX }
+    requires { actors ≤ MOST_ACTORS }
     ensures ok { IfOk result (λ schedule. schedule_for order.now actors (view script.now) ≡ Ok schedule.items) }
     ensures err { IfErr result (IsFaultOf (schedule_for order.now actors (view script.now))) }
 {

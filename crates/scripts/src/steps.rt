@@ -14,7 +14,7 @@ use std::alloc::Global;
 use tree_model::StepOf;
 
 /// What a step is to do.
-fn step_name_in(call: &Value) -> Option<StepName>
+pub fn step_name_in(call: &Value) -> Option<StepName>
     ensures { result ≡ step_name_in (view call.now) }
 {
     step_name_of(text_in(call, "step")?)

@@ -107,8 +107,8 @@ fn told_by(fault: BuildFault) -> RunFault
     }
 }
 
-/// The plain tree with the entries that values say. Errors: `TooManyEntries` past `ENTRIES_MAX` of them, `TreeEntry` of
-/// the first whose shape, place or link text is refused; `NoMemory`.
+/// The plain tree with the entries that values say. Errors: `TooManyEntries` past `ENTRIES_MAX` of them, `TreeEntry`
+/// of the first whose shape, place or link text is refused; `NoMemory`.
 pub fn list_of(alloc: Global, values: &[Value]) -> Result<ListTree, RunFault>
     ensures ok { IfOk result (λ tree. (tree_of (items_view values.now) ≡ Ok tree.nodes) × (tree.handles ≡ [])) }
     ensures tree { IfOk result IsState }

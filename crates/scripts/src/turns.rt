@@ -2,9 +2,9 @@
 ghost use Rattle.std.specs.Prelude.{◌≡◌, ◌≢◌, ◌<◌, ◌≤◌, ◌^◌, ◌++◌, ℕ, List, map, decimal, replicate, Some, Ok, IfOk, IfErr, OnOk, MatchOption};
 ghost use Rattle.scripts.specs.declared.turns.Turns.{Turns};
 ghost use Rattle.scripts.specs.Fault.{IsFaultOf};
+ghost use Rattle.scripts.specs.Limits.{MOST_ACTORS, MOST_TURNS};
 ghost use Rattle.scripts.specs.Turns.{words_of, AreTurns, AllSay, SaysTurns, turns_of, few_turns, turns_asked};
 
-use crate::actors::ACTORS_MAX;
 use crate::fault::{RunFault, ScriptFault};
 use crate::schedule::TURNS_MAX;
 use itoa::Buffer;
@@ -45,7 +45,8 @@ pub fn number_of(text: &str) -> Option<u32>
 
 /// How often an actor comes, if the text is the number of so many turns.
 fn times_of(text: &str) -> Option<u32>
-    ensures { MatchOption result ((n : ℕ) → 1 ≤ n → n ≤ TURNS_MAX → text.now ≢ decimal n) (λ n. (text.now ≡ decimal n) × (1 ≤ n) × (n ≤ TURNS_MAX)) }
+    ensures { MatchOption result ((n : ℕ) → 1 ≤ n → n ≤ MOST_TURNS → text.now ≢ decimal n)
+        (λ n. (text.now ≡ decimal n) × (1 ≤ n) × (n ≤ MOST_TURNS)) }
 {
     let times = number_of(text)?;
     if 1 <= times && times <= TURNS_MAX as u32 {
@@ -57,7 +58,8 @@ fn times_of(text: &str) -> Option<u32>
 
 /// The turns that the words of a piece say: the actor's number, and how often it comes.
 fn turns_by(words: &[&str]) -> Option<Turns>
-    ensures { MatchOption result ((turns : Turns) → AreTurns (map (λ word. word.now) words.now) turns → ⊥) (AreTurns (map (λ word. word.now) words.now)) }
+    ensures { MatchOption result ((turns : Turns) → AreTurns (map (λ word. word.now) words.now) turns → ⊥)
+        (AreTurns (map (λ word. word.now) words.now)) }
 {
     match words {
         [actor] => {
@@ -75,7 +77,9 @@ fn turns_by(words: &[&str]) -> Option<Turns>
 
 /// The turns that a piece between commas says, `I` or `I*N`.
 fn turns_in(alloc: Global, piece: &str) -> Result<Option<Turns>, NoMemory>
-    ensures { IfOk result (λ said. MatchOption said ((turns : Turns) → AreTurns (words_of piece.now) turns → ⊥) (AreTurns (words_of piece.now))) }
+    ensures { IfOk result (λ said.
+        MatchOption said ((turns : Turns) → AreTurns (words_of piece.now) turns → ⊥)
+        (AreTurns (words_of piece.now))) }
 {
     let words: Vec<&str> = piece.split('*').collect(alloc)?;
     Ok(turns_by(&words))
@@ -83,7 +87,9 @@ fn turns_in(alloc: Global, piece: &str) -> Result<Option<Turns>, NoMemory>
 
 /// The turns that pieces say, one after another.
 fn all_turns_in(alloc: Global, pieces: &[&str]) -> Result<Option<Vec<Turns>>, NoMemory>
-    ensures { IfOk result (λ said. MatchOption said ((turns : List Turns) → AllSay (map (λ piece. piece.now) pieces.now) turns → ⊥) (λ turns. AllSay (map (λ piece. piece.now) pieces.now) turns.items)) }
+    ensures { IfOk result (λ said.
+        MatchOption said ((turns : List Turns) → AllSay (map (λ piece. piece.now) pieces.now) turns → ⊥)
+        (λ turns. AllSay (map (λ piece. piece.now) pieces.now) turns.items)) }
 {
     let mut all = Vec::with_capacity(alloc, pieces.len())?;
     for piece in pieces {
@@ -96,10 +102,12 @@ fn all_turns_in(alloc: Global, pieces: &[&str]) -> Result<Option<Vec<Turns>>, No
 }
 
 /// The turns that a text says, if it says some: `-` for none, or else commas between `I` and `I*N`, where I is an
-/// actor's number below 2^32 and N is how often it comes, from 1 to 100,000. Numbers are written in decimal digits, with
-/// no zero before them. NoMemory where room was refused.
+/// actor's number below 2^32 and N is how often it comes, from 1 to 100,000. Numbers are written in decimal digits,
+/// with no zero before them. NoMemory where room was refused.
 pub fn read_turns(alloc: Global, text: &str) -> Result<Option<Vec<Turns>>, NoMemory>
-    ensures { IfOk result (λ said. MatchOption said ((turns : List Turns) → SaysTurns text.now turns → ⊥) (λ turns. SaysTurns text.now turns.items)) }
+    ensures { IfOk result (λ said.
+        MatchOption said ((turns : List Turns) → SaysTurns text.now turns → ⊥)
+        (λ turns. SaysTurns text.now turns.items)) }
 {
     if text == "-" {
         return Ok(Some(Vec::new(alloc)));
@@ -133,10 +141,10 @@ fn one_by_one(alloc: Global, asked: &[Turns]) -> Result<Vec<u32>, RunFault>
     Ok(schedule)
 }
 
-/// The turns that are asked for, one by one, of so many actors. Errors, in this order: `TooManyTurns` past `TURNS_MAX` of
-/// them; `Turn` of the first that is no actor's; `NoMemory`.
+/// The turns that are asked for, one by one, of so many actors. Errors, in this order: `TooManyTurns` past
+/// `TURNS_MAX` of them; `Turn` of the first that is no actor's; `NoMemory`.
 pub fn turns_asked(alloc: Global, actors: usize, asked: &[Turns]) -> Result<Vec<u32>, RunFault>
-    requires { actors ≤ ACTORS_MAX }
+    requires { actors ≤ MOST_ACTORS }
     ensures ok { IfOk result (λ schedule. turns_asked actors asked.now ≡ Ok schedule.items) }
     ensures err { IfErr result (IsFaultOf (turns_asked actors asked.now)) }
 {

@@ -1,5 +1,5 @@
 //! Limits of searches, who is told how far they come, and worlds compared. What searches find are outputs of `explore`.
-use explore::{Beginnings, Limits, Progress, Scene, SearchFault, Seen, explore};
+use explore::{Beginnings, Limits, Progress, Scene, Scope, SearchFault, Seen, explore};
 use race_core::World;
 use scripts::{RunFault, TurnOrder, read_scene};
 use std::alloc::Global;
@@ -17,6 +17,13 @@ const MOVED_OUT: &str = r#"{"version":1,
 {"root":"/c","calls":[{"op":"resolve","path":"a/b/.."}]},
 {"root":"/","calls":[{"op":"resolve","path":"c/a","as":"A"},{"op":"resolve","path":"secret","as":"S"},
 {"op":"step","step":"rename","on":"A","name":"b","to":"S","new":"b"}]}]}"#;
+
+/// An actor makes a directory in `/c/a` below `/c`, and another moves `a` out of it, before that or after it.
+const CARRIED_OUT: &str =
+    r#"{"version":1,"tree":[["dir","/c"],["dir","/c/a"],["dir","/secret"]],"actors":[
+{"root":"/c","calls":[{"op":"resolve","path":"a","as":"A"},
+{"op":"step","step":"make_dir","on":"A","name":"n"}]},
+{"root":"/","calls":[{"op":"rename","from":"c/a","to":"secret/a","mode":"plain"}]}]}"#;
 
 fn scene_of(alloc: Global, script: &str) -> Result<Scene, RunFault> {
     let (scenario, tree) = read_scene(alloc, &mut script.as_bytes(), &TurnOrder::OfScript)?;
@@ -37,27 +44,39 @@ impl Progress for Last {
     }
 }
 
-/// A script, and the most states, turns and cuts; the numbers of lists, of states, of the longest list's turns and of
+/// A script, the most states and turns, and which lists; the numbers of lists, of states, of the longest list's turns and of
 /// outcomes, or why nothing is told.
-type Search = (
-    &'static str,
-    u64,
-    u32,
-    Option<u64>,
-    Result<Found, SearchFault>,
-);
+type Search = (&'static str, u64, u32, Scope, Result<Found, SearchFault>);
+
+/// All lists, those without a cut, and all with what is changed outside of roots.
+const ALL: Scope = Scope {
+    cuts: None,
+    outside: false,
+};
+
+const WHOLE: Scope = Scope {
+    cuts: Some(0),
+    outside: false,
+};
+
+const OUTSIDE: Scope = Scope {
+    cuts: None,
+    outside: true,
+};
 
 type Found = (u64, u64, usize, usize);
 
-const SEARCHES: [Search; 8] = [
-    (REMOVED, 15, 6, None, Ok((6, 15, 6, 3))),
-    (REMOVED, 14, 6, None, Err(SearchFault::TooManyStates)),
-    (REMOVED, 15, 5, None, Err(SearchFault::TooManyTurns)),
-    (REMOVED, 0, 6, None, Err(SearchFault::TooManyStates)),
-    (REMOVED, 9, 6, Some(0), Ok((2, 9, 6, 2))),
-    (MOVED_OUT, 70, 14, None, Ok((3432, 70, 14, 3))),
-    (MOVED_OUT, 37, 14, Some(0), Ok((4, 37, 14, 2))),
-    (MOVED_OUT, 36, 14, Some(0), Err(SearchFault::TooManyStates)),
+const SEARCHES: [Search; 10] = [
+    (REMOVED, 15, 6, ALL, Ok((6, 15, 6, 3))),
+    (REMOVED, 14, 6, ALL, Err(SearchFault::TooManyStates)),
+    (REMOVED, 15, 5, ALL, Err(SearchFault::TooManyTurns)),
+    (REMOVED, 0, 6, ALL, Err(SearchFault::TooManyStates)),
+    (REMOVED, 9, 6, WHOLE, Ok((2, 9, 6, 2))),
+    (MOVED_OUT, 70, 14, ALL, Ok((3432, 70, 14, 3))),
+    (MOVED_OUT, 37, 14, WHOLE, Ok((4, 37, 14, 2))),
+    (MOVED_OUT, 36, 14, WHOLE, Err(SearchFault::TooManyStates)),
+    (CARRIED_OUT, 47, 11, ALL, Ok((136, 47, 11, 3))),
+    (CARRIED_OUT, 47, 11, OUTSIDE, Ok((136, 47, 11, 4))),
 ];
 
 /// What is found, with 0 states where the last number that was told is another one.
@@ -70,12 +89,12 @@ fn found(alloc: Global, scene: &Scene, limits: Limits) -> Result<Found, SearchFa
 
 /// The place of the first search, from 0, that finds something else.
 fn first_wrong(alloc: Global) -> Result<Option<usize>, RunFault> {
-    for (at, (script, states, turns, cuts, wanted)) in SEARCHES.iter().enumerate() {
+    for (at, (script, states, turns, scope, wanted)) in SEARCHES.iter().enumerate() {
         let scene = scene_of(alloc, script)?;
         let limits = Limits {
             states: *states,
             turns: *turns,
-            cuts: *cuts,
+            scope: *scope,
         };
         if found(alloc, &scene, limits) != *wanted {
             return Ok(Some(at));

@@ -5,7 +5,7 @@ use std::alloc::Global;
 use std::mem;
 use std::sync::Wait;
 use tree_list::ListTree;
-use tree_model::Tree;
+use tree_model::{Actor, Tree};
 use tree_slab::SlabTree;
 
 /// How many events were closed, or why not.
@@ -132,6 +132,47 @@ fn wrong_sessions<T: Base>(alloc: Global) -> bool {
 fn wrong_sessions_close_nothing(rt: HostRuntime) {
     let alloc = rt.alloc();
     assert!(rt; wrong_sessions::<ListTree>(alloc) && wrong_sessions::<SlabTree>(alloc));
+}
+
+// Whether a service that isn't closed, for want of its session 1, gives up the tree: with what session 0 holds, its two steps, and
+// the opening, in which each session has its root.
+fn gives_up_the_tree<T: Base, R: Wait>(rt: &R, alloc: Global) -> bool {
+    let Some((service, mut own)) = opened::<T>(alloc, &["/c", "/"], 1, 9) else {
+        return false;
+    };
+    drop(own.pop());
+    let told = is_told(
+        rt,
+        alloc,
+        &service,
+        own.last_mut(),
+        &NoGate,
+        "a",
+        "opened dir 2 /a\n",
+    );
+    let Err(refusal) = service.stop().close(own) else {
+        return false;
+    };
+    let CloseRefusal {
+        cause,
+        stopped,
+        sessions,
+    } = refusal;
+    let (tree, events, opening) = stopped.into_parts();
+    let stands = tree.held(Actor::new(0)) == 2 && events.len() == 2 && opening.next_handle() == 2;
+    drop(sessions);
+    drop(tree);
+    drop(events);
+    drop(opening);
+    told && cause == CloseCause::Missing(1) && stands
+}
+
+#[test]
+fn refused_closing_gives_up_the_tree(rt: HostRuntime) {
+    let alloc = rt.alloc();
+    assert!(rt;
+        gives_up_the_tree::<ListTree, _>(&rt, alloc) && gives_up_the_tree::<SlabTree, _>(&rt, alloc)
+    );
 }
 
 // The user is the last of the others. Its own last gives way to the other's first, which has the number of its own first; comes

@@ -205,7 +205,7 @@ module _ (z : StoppedView) (ss : List SessionView) (is : IsClosable z ss) where
     legal = rw is_events (rw is_opening legal);
     last = is_tree ∙ ap (λ o. after_events o z.book.events) (sym is_opening) ∙ ap (after_events opening) (sym is_events);
     own = λ p s at. own_log p s at ∙ ap (own_events s.owner.actor) (sym is_events);
-    known = rw is_events is.history.1;
+    known = rw is_events is.history.1.1;
     all_there = present;
   }
 

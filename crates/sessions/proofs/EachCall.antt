@@ -79,6 +79,7 @@ module _ (opening : State) (events : List Event) (session after : SessionView) (
         handles = told.handles;
         quiet = told.quiet;
         walked = told.walked;
+        acts = told.acts;
         bulk = told.bulk;
       }
 

@@ -4,3 +4,4 @@ pub mod Opens
 pub mod Closes
 pub mod Threads
 pub mod EachCall
+mod Courses

@@ -161,14 +161,18 @@ session_at tag i h zero a j (n ∷ roots) names ea ej at =
     ap (λ z. Some (begun (record { tag = tag; actor = z }) h)) ea' ∙ ap (λ z. Some (begun (record { tag = tag; actor = a }) z)) ej'
 session_at tag i h (suc k) a j (n ∷ roots) names ea ej at = session_at tag (suc i) (suc h) k a j roots names (omega (arith, ea)) (omega (arith, ej)) at
 
-pub opened_whole : (s opening : State) (tag : ℕ) (roots : List (List (List ℕ))) (service : ServiceView) (sessions : List SessionView) → granted s 0 roots ≡ Ok opening
-    → sessions ≡ [] ++ first_sessions tag 0 (length s.handles) roots → service ≡ record { tag = tag; count = length roots; opening = opening } → IsOpened s roots tag service sessions
-opened_whole s opening tag roots service sessions e all is =
+pub opened_whole : (s opening : State) (tag lines : ℕ) (roots : List (List (List ℕ))) (service : ServiceView) (sessions : List SessionView) → granted s 0 roots ≡ Ok opening
+    → sessions ≡ [] ++ first_sessions tag 0 (length s.handles) roots → service ≡ record { tag = tag; count = length roots; lines = lines; opening = opening }
+    → IsOpened s roots tag lines service sessions
+opened_whole s opening tag lines roots service sessions e all is =
     let g = all_granted s opening 0 roots e in
-    subst (λ (z : ServiceView). IsOpened s roots tag z sessions) (sym is)
+    subst (λ (z : ServiceView). IsOpened s roots tag lines z sessions) (sym is)
     (record {
       same_tag = refl;
       count = refl;
+      same_lines = refl;
+      is_granted = e;
+      are_first = all;
       one_each = ap length all ∙ as_many tag 0 (length s.handles) roots;
       nodes = g.nodes;
       others = g.others;

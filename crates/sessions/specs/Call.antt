@@ -22,7 +22,8 @@ use Rattle.sessions.specs.Service.{ServiceView}
 
 -- the session with these events more in its log
 abbrev pub logs : SessionView → List Event → SessionView
-logs session events = record { owner = session.owner; root = session.root; log = session.log ++ events; marked = session.marked }
+logs session events =
+    record { owner = session.owner; root = session.root; log = session.log ++ events; marked = session.marked }
 
 abbrev pub actor_of : SessionView → ℕ
 actor_of session = session.owner.actor
@@ -41,7 +42,8 @@ IsAnswer below doing old new answer =
     ⊎ ((error : Errno) × (IsUnmade doing error × ((answer ≡ Refused error) × (new ≡ old))))
 
 -- lines lead from one turn to the other, and their events were logged
-pub record Leads (below : Below) (old : SessionView) (from : CallTurn) (new : SessionView) (to : CallTurn) : Type 0 where
+pub record Leads (below : Below) (old : SessionView) (from : CallTurn) (new : SessionView)
+    (to : CallTurn) : Type 0 where
   pub lines : List Line
   pub leads : LeadsTo below from lines to
   pub logged : new ≡ logs old (events_of (actor_of old) lines)
@@ -57,14 +59,20 @@ is_book_full reply = false
 
 -- the session is marked where the reply is that the book was full
 abbrev pub marks : SessionView → Told → SessionView
-marks session reply = record { owner = session.owner; root = session.root; log = session.log; marked = session.marked || is_book_full reply }
+marks session reply = record {
+  owner = session.owner;
+  root = session.root;
+  log = session.log;
+  marked = session.marked || is_book_full reply;
+}
 
--- lines lead, by the order of the operation's steps, from its first turn, with memory or without, to the reply; their events
--- were logged, and what was opened is the session's own
+-- lines lead, by the order of the operation's steps, from its first turn, with memory or without, to the reply;
+-- their events were logged, and what was opened is the session's own
 pub record Made (before : SessionView) (request : Request) (after : SessionView) (reply : Told) : Type 0 where
   pub room : Bool
   pub lines : List Line
-  pub leads : LeadsTo (below_of (root_of before) request.flags) (starts (below_of (root_of before) request.flags) room request.op) lines (ends (reply_view reply))
+  pub leads : LeadsTo (below_of (root_of before) request.flags)
+      (starts (below_of (root_of before) request.flags) room request.op) lines (ends (reply_view reply))
   pub logged : after ≡ logs before (events_of (actor_of before) lines)
   pub owned : IsOwned before.owner reply
 

@@ -15,6 +15,7 @@ pub record StoppedView : Type 0 where
   pub book : BookedHistory
   pub tag : ℕ
   pub count : ℕ
+  pub lines : ℕ
   pub opening : State
 
 abbrev pub or_else : Option ℕ → Option ℕ → Option ℕ
@@ -30,7 +31,8 @@ least test (suc n) = or_else (least test n) (if test n then Some n else None)
 
 -- none of the service's sessions, or of a number that one of these has
 abbrev pub is_strange : StoppedView → List SessionView → SessionView → Bool
-is_strange z before s = not (s.owner.tag == z.tag) || not (nat_lt s.owner.actor z.count) || list_any (λ t. t.owner.actor == s.owner.actor) before
+is_strange z before s = not (s.owner.tag == z.tag) || not (nat_lt s.owner.actor z.count)
+    || list_any (λ t. t.owner.actor == s.owner.actor) before
 
 abbrev pub is_strange_at : StoppedView → List SessionView → Option SessionView → Bool
 is_strange_at z before None = false
@@ -48,9 +50,9 @@ is_missing ss i = not (list_any (λ s. s.owner.actor == i) ss)
 abbrev pub AllKnown : ℕ → List Event → Type 0
 AllKnown count events = (t : ℕ) (event : Event) → slice_get events t ≡ Some event → event.actor < count
 
--- the book was opened on the service's tree, and has its sessions' events alone
+-- the book was opened on the service's tree with its lines, and has its sessions' events alone
 abbrev pub HasItsHistory : StoppedView → Type 0
-HasItsHistory z = (z.opening ≡ z.book.opening) × AllKnown z.count z.book.events
+HasItsHistory z = (z.opening ≡ z.book.opening) × ((z.lines ≡ z.book.lines) × AllKnown z.count z.book.events)
 
 -- the log is the session's own events, each once and in their order; and it is marked only where the book is full
 abbrev pub IsFit : StoppedView → SessionView → Type 0
@@ -91,12 +93,14 @@ pub record IsClosable (z : StoppedView) (ss : List SessionView) : Type 0 where
 
 -- ---- a closed service
 
--- The history is legal from the opening, and the tree its last; each session's log is its own events, and there are no others;
--- and each number has its session.
-pub record IsClosed (z : StoppedView) (ss : List SessionView) (tree : State) (events : List Event) (opening : State) : Type 0 where
+-- The history is legal from the opening, and the tree its last; each session's log is its own events, and there are
+-- no others; and each number has its session.
+pub record IsClosed (z : StoppedView) (ss : List SessionView) (tree : State) (events : List Event)
+    (opening : State) : Type 0 where
   pub same_opening : opening ≡ z.opening
   pub legal : IsLegal opening events
   pub last : tree ≡ after_events opening events
   pub own : (p : ℕ) (s : SessionView) → slice_get ss p ≡ Some s → s.log ≡ own_events s.owner.actor events
   pub known : AllKnown z.count events
-  pub all_there : (i : ℕ) → i < z.count → (p : ℕ) × ((s : SessionView) × ((slice_get ss p ≡ Some s) × (s.owner.actor ≡ i)))
+  pub all_there : (i : ℕ) → i < z.count
+      → (p : ℕ) × ((s : SessionView) × ((slice_get ss p ≡ Some s) × (s.owner.actor ≡ i)))

@@ -1,7 +1,9 @@
 pub mod Session
 pub mod Service
+pub mod Shared
 pub mod Call
 pub mod Open
 pub mod Close
 pub mod Threads
 pub mod EachCall
+pub mod Course

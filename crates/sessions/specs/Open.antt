@@ -32,14 +32,16 @@ abbrev pub after_grant : (State → Result State OpenCause) → ℕ → Result S
 after_grant go i (Err error) = Err (root_cause i error)
 after_grant go i (Ok t) = go t
 
--- the tree with a handle on each of these roots, granted in their order to actors counted from i; or why the first is refused
+-- the tree with a handle on each of these roots, granted in their order to actors counted from i; or why the first
+-- is refused
 abbrev pub granted : State → ℕ → List (List (List ℕ)) → Result State OpenCause
 granted s i [] = Ok s
 granted s i (names ∷ roots) = after_grant (λ t. granted t (suc i) roots) i (grants s i names)
 
 -- why a book of that many lines is refused
 abbrev pub book_cause : State → ℕ → Option OpenCause
-book_cause s lines = if nat_lt LINES_MAX lines then Some Invalid else (if nat_lt lines (open_count s) then Some BookFull else None)
+book_cause s lines = if nat_lt LINES_MAX lines then Some Invalid
+    else (if nat_lt lines (open_count s) then Some BookFull else None)
 
 abbrev pub cause_after : Result State OpenCause → ℕ → Option OpenCause
 cause_after (Err cause) lines = Some cause
@@ -47,7 +49,8 @@ cause_after (Ok s) lines = book_cause s lines
 
 -- why a service isn't opened, want of memory apart; None where it is
 abbrev pub opening_cause : State → List (List (List ℕ)) → ℕ → Option OpenCause
-opening_cause s roots lines = if nat_lt SESSIONS_MAX (length roots) then Some TooManySessions else cause_after (granted s 0 roots) lines
+opening_cause s roots lines =
+    if nat_lt SESSIONS_MAX (length roots) then Some TooManySessions else cause_after (granted s 0 roots) lines
 
 -- the tree has its nodes and its open handles as they were
 abbrev pub IsAsItWas : State → State → Type 0
@@ -58,21 +61,29 @@ IsAsItWas s t = (t.nodes ≡ s.nodes) × ((a h : ℕ) → held t a h ≡ held s 
 -- sessions counted from i, whose roots' handles count from h
 abbrev pub first_sessions : ℕ → ℕ → ℕ → List (List (List ℕ)) → List SessionView
 first_sessions tag i h [] = []
-first_sessions tag i h (names ∷ roots) = begun (record { tag = tag; actor = i }) h ∷ first_sessions tag (suc i) (suc h) roots
+first_sessions tag i h (names ∷ roots) =
+    begun (record { tag = tag; actor = i }) h ∷ first_sessions tag (suc i) (suc h) roots
 
 -- the session of a number is new, and its handle is open on the directory at these names from the top
-pub record HasRoot (s opening : State) (tag i : ℕ) (names : List (List ℕ)) (session : Option SessionView) : Type 0 where
+pub record HasRoot (s opening : State) (tag i : ℕ) (names : List (List ℕ))
+    (session : Option SessionView) : Type 0 where
   pub handle : ℕ
   pub node : ℕ
   pub is_new : session ≡ Some (begun (record { tag = tag; actor = i }) handle)
   pub directory : directory_at s.nodes TOP names ≡ Ok node
   pub is_open : held opening i handle ≡ Some node
 
--- one session for each root, over the tree with their handles; the nodes, and the handles from before, are as they were
-pub record IsOpened (s : State) (roots : List (List (List ℕ))) (tag : ℕ) (service : ServiceView) (sessions : List SessionView) : Type 0 where
+-- One session for each root, with an empty log. The opening is the tree with the roots granted, in their order, and
+-- with nothing else: the nodes, and the handles from before, are as they were.
+pub record IsOpened (s : State) (roots : List (List (List ℕ))) (tag lines : ℕ) (service : ServiceView)
+    (sessions : List SessionView) : Type 0 where
   pub same_tag : service.tag ≡ tag
   pub count : service.count ≡ length roots
+  pub same_lines : service.lines ≡ lines
+  pub is_granted : granted s 0 roots ≡ Ok service.opening
+  pub are_first : sessions ≡ first_sessions tag 0 (length s.handles) roots
   pub one_each : length sessions ≡ length roots
   pub nodes : service.opening.nodes ≡ s.nodes
   pub others : (a h : ℕ) → h < length s.handles → held service.opening a h ≡ held s a h
-  pub each : (i : ℕ) (names : List (List ℕ)) → slice_get roots i ≡ Some names → HasRoot s service.opening tag i names (slice_get sessions i)
+  pub each : (i : ℕ) (names : List (List ℕ)) → slice_get roots i ≡ Some names
+      → HasRoot s service.opening tag i names (slice_get sessions i)

@@ -14,7 +14,8 @@ pub record SessionView : Type 0 where
 -- how many handles these events leave open, where so many were open before
 abbrev pub left_open : ℕ → List Event → ℕ
 left_open n [] = n
-left_open n (event ∷ events) = left_open ((n + opened_count event.answer) - closed_count event.answer event.step) events
+left_open n (event ∷ events) =
+    left_open ((n + opened_count event.answer) - closed_count event.answer event.step) events
 
 -- the handles that the log leaves open are counted, the root's among them, and each has room for its Close
 pub record IsSession (log : List Event) (open_handles room : ℕ) : Type 0 where

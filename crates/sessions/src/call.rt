@@ -14,12 +14,12 @@ ghost use Rattle.sessions.specs.Call.{logs_step, root_of, IsAnswer, Leads, Leads
 use crate::gate::{Gate, Pause};
 use crate::service::Service;
 use crate::session::Session;
-use event_log::EventLog;
+use crate::shared::OwnLog;
 use path_text::Errno;
 use root_ops::{Call, CallTurn, Op, Reply, Request};
 use std::alloc::Global;
 use std::sync::Wait;
-use tree_model::{Actor, Answer, HandleNo, Step, StepOf, Tree};
+use tree_model::{Answer, HandleNo, Step, StepOf, Tree};
 
 // How many handles an answer has opened.
 fn opened_count(answer: &Answer) -> usize
@@ -61,20 +61,8 @@ fn is_book_full(reply: &Reply) -> bool
     }
 }
 
-// Closes an actor's handle in the book, and tells whether that was made.
-fn close_handle<T: Tree, R: Wait>(
-    rt: &R,
-    alloc: Global,
-    service: &Service<T>,
-    actor: Actor,
-    handle: HandleNo,
-) -> bool {
-    let step = StepOf::Close(handle);
-    service.book.lock(rt).step(alloc, actor, &step).is_ok()
-}
-
 // Waits until there is room for one more line, which there is already where a handle is open.
-fn wait_for_room<R: Wait>(rt: &R, log: &mut EventLog, open_handles: usize)
+fn wait_for_room<R: Wait>(rt: &R, log: &mut OwnLog, open_handles: usize)
     requires { open_handles ≤ log.old.room }
     ensures events { log.new.events ≡ log.old.events }
     ensures room { 0 < log.new.room }
@@ -84,7 +72,7 @@ fn wait_for_room<R: Wait>(rt: &R, log: &mut EventLog, open_handles: usize)
         return;
     }
     for _ in rt.forever() {
-        if log.reserve(1).is_ok() {
+        if log.reserve_one().is_ok() {
             return;
         }
     }
@@ -92,8 +80,8 @@ fn wait_for_room<R: Wait>(rt: &R, log: &mut EventLog, open_handles: usize)
 }
 
 impl Session {
-    // Makes a step that is no Close, and logs it. Its room is got before. Errors: BookFull, where the book refused it for
-    // that, and NoMemory; nothing is logged then.
+    // Makes a step that is no Close in one lock hold, and logs it: the book has it and the log, or neither. Errors:
+    // BookFull, where the book refused it for that, and NoMemory.
     fn make<T: Tree, R: Wait>(
         &mut self,
         rt: &R,
@@ -108,17 +96,18 @@ impl Session {
         let Some(lines) = self.open_handles.checked_add(2) else {
             return Err(Errno::NoMemory);
         };
-        self.log.reserve(lines)?;
-        self.log.reserve_texts(step)?;
         let actor = self.owner.actor;
-        let answer = service.book.lock(rt).step(alloc, actor, step)?;
-        self.log.push(actor, step, &answer)?;
+        let answer = service
+            .book
+            .lock(rt)
+            .make(alloc, actor, step, &mut self.log, lines)?;
         self.open_handles += opened_count(&answer);
         Ok(answer)
     }
 
-    // Closes a handle, and logs it. The book refuses it only where the handle isn't open, as where another service's session
-    // with this tag closed it; the line that is logged all the same is one that the book lacks, which `close` tells.
+    // Closes a handle in one lock hold, and logs it. The book refuses it only where the handle isn't open, as where
+    // another service's session with this tag closed it; the line that is logged all the same is one that the book
+    // lacks, which `Stopped::close` tells.
     fn close<T: Tree, R: Wait>(
         &mut self,
         rt: &R,
@@ -130,12 +119,15 @@ impl Session {
     {
         wait_for_room(rt, &mut self.log, self.open_handles);
         let actor = self.owner.actor;
-        close_handle(rt, alloc, service, actor, handle);
-        self.log.push_close(actor, handle);
+        service
+            .book
+            .lock(rt)
+            .close(alloc, actor, handle, &mut self.log);
         self.open_handles = self.open_handles.saturating_sub(1);
     }
 
-    // Closes what is to be released, and logs it. BadHandle where it isn't open; nothing is logged then.
+    // Closes what is to be released in one lock hold, and logs it: the book has it and the log, or neither, and
+    // BadHandle, where it isn't open.
     fn release<T: Tree, R: Wait>(
         &mut self,
         rt: &R,
@@ -143,13 +135,20 @@ impl Session {
         service: &Service<T>,
         handle: HandleNo,
     ) -> Answer
-        ensures { ((self.new ≡ logs_step self.old (CloseStep handle) DoneAnswer) × (result ≡ DoneAnswer)) ⊎ ((self.new ≡ self.old) × (result ≡ RefusedAnswer NoHandle)) }
+        ensures { ((self.new ≡ logs_step self.old (CloseStep handle) DoneAnswer) × (result ≡ DoneAnswer))
+            ⊎ ((self.new ≡ self.old) × (result ≡ RefusedAnswer NoHandle)) }
     {
-        let actor = self.owner.actor;
-        if self.open_handles == 0 || !close_handle(rt, alloc, service, actor, handle) {
+        if self.open_handles == 0 {
             return Answer::Refused(Errno::BadHandle);
         }
-        self.log.push_close(actor, handle);
+        let actor = self.owner.actor;
+        let released = service
+            .book
+            .lock(rt)
+            .release(alloc, actor, handle, &mut self.log);
+        if !released {
+            return Answer::Refused(Errno::BadHandle);
+        }
         self.open_handles -= 1;
         Answer::Done
     }
@@ -240,13 +239,14 @@ impl Session {
         }
     }
 
-    /// Carries out an operation below the session's root, each step in a lock hold of its own, and logs its events. The
-    /// gate is called before each step, with no lock held. Where the reply is BookFull the session is marked for good.
+    /// Carries out an operation below the session's root, each step in a lock hold of its own, and logs its events.
+    /// The gate is called before each step, with no lock held. Where the reply is BookFull the session is marked for
+    /// good.
     ///
-    /// A session of another tag, or of a number that the service hasn't, is told Invalid (EINVAL), and of a Release is handed
-    /// back what it holds; nothing is logged then. Errors otherwise: those of `Call::start` and `Call::take`; BookFull
-    /// (ENOSPC) where the book had no line for a step; NoMemory. A step whose answer's names or text found no memory in
-    /// the log counts as not made; the book has it, and `Stopped::close` tells Mismatch.
+    /// The reply is Invalid (EINVAL) if the session has another tag than the service, or a number that the service
+    /// hasn't. A Release then hands back what it holds, and nothing is logged. Errors otherwise: those of
+    /// `Call::start` and `Call::take`; BookFull (ENOSPC) where the book had no line for a step; NoMemory. A step
+    /// that is so answered changed nothing and isn't logged.
     pub fn call<T: Tree, R: Wait, G: Gate>(
         &mut self,
         rt: &R,
@@ -256,7 +256,8 @@ impl Session {
         request: Request,
     ) -> Reply
         ensures called { is_of service.now self.old ≡ true → Called self.old request self.new result }
-        ensures stranger { is_of service.now self.old ≡ false → (self.new ≡ self.old) × (result ≡ turned_away request.op) }
+        ensures stranger { is_of service.now self.old ≡ false
+            → (self.new ≡ self.old) × (result ≡ turned_away request.op) }
     {
         if !service.has(self) {
             return turned_away(request.op);
@@ -278,7 +279,8 @@ impl Session {
         number: u64,
         request: Request,
     ) -> CallTurn
-        ensures led { LeadsFirst (below_of (root_of self.old) request.flags) request.op self.old self.new (turn_view result) }
+        ensures led { LeadsFirst (below_of (root_of self.old) request.flags) request.op self.old
+            self.new (turn_view result) }
         ensures kept { Keeps (below_of (root_of self.old) request.flags) result }
     {
         let released = released_by(&request.op);

@@ -3,7 +3,7 @@ ghost use Rattle.std.specs.Prelude.{◌≡◌, ℕ, ◌==◌, ◌<◌, IsTrue, �
 ghost use Rattle.std.specs.List.{list_any};
 ghost use Rattle.step_resolver.specs.WalkHistory.{own_events};
 ghost use Rattle.sessions.specs.Close.{least, is_stranger, is_missing, AllKnown, HasItsHistory, IsFit, FitsAt, AllFit, FirstUnfit, IsClosable, IsCause, IsClosed};
-ghost use Rattle.tree_model.specs.History.{after_events};
+ghost use Rattle.tree_model.specs.History.{after_events, IsLegal};
 
 use crate::service::Service;
 use crate::session::Session;
@@ -12,13 +12,14 @@ use race_core::Book;
 use std::marker::Model;
 use tree_model::{Actor, Snapshot, Tree};
 
-/// A service whose book was taken out of its lock. Contracts see the book, the tag, the number of sessions and the tree
-/// as the service was opened.
+/// A service whose book was taken out of its lock. Contracts see the book, the tag, the number of sessions, and the
+/// number of lines and the tree with which the service was opened.
 #[derive(Debug, Drop)]
 pub struct Stopped<T: Tree> {
     book: Book<T>,
     tag: u64,
     count: u32,
+    lines: u32,
     opening: Snapshot,
 }
 
@@ -27,7 +28,7 @@ impl<T: Tree> Model for Stopped<T> {
 
     ghost Value = { StoppedView };
 
-    ghost view = { λ s. record { book = s.book; tag = s.tag; count = s.count; opening = s.opening } };
+    ghost view = { λ s. record { book = s.book; tag = s.tag; count = s.count; lines = s.lines; opening = s.opening } };
 }
 
 /// Why a service isn't closed.
@@ -37,7 +38,7 @@ pub enum CloseCause {
     Stranger(usize),
     /// No session has this number.
     Missing(u32),
-    /// The book was opened on another tree, or has an event of no session.
+    /// The book was opened on another tree or with another number of lines, or has an event of no session.
     Opening,
     /// The log of the session of this number isn't its own events in the book; or it found the book full, and the book
     /// has two free lines or more.
@@ -61,23 +62,26 @@ pub struct Closed<T> {
 }
 
 impl<T: Tree> Service<T> {
-    /// Takes the book out of its lock. That it is the one that the sessions wrote no contract can tell; `close` compares.
-    /// Takes no memory.
+    /// Takes the book out of its lock. No contract can say that it is the one that the sessions wrote; `close`
+    /// compares. Takes no memory.
     pub fn stop(self) -> Stopped<T>
         ensures tag { result.tag ≡ self.tag }
         ensures count { result.count ≡ self.count }
+        ensures lines { result.lines ≡ self.lines }
         ensures opening { result.opening ≡ self.opening }
     {
         let Service {
             book,
             tag,
             count,
+            lines,
             opening,
         } = self;
         Stopped {
-            book: book.into_inner(),
+            book: book.into_inner().into_book(),
             tag,
             count,
+            lines,
             opening,
         }
     }
@@ -113,7 +117,8 @@ fn is_by(events: &EventLog, at: usize, actor: Actor) -> bool
 // The place after that one, where the log has an event there, and it is the one at a place of the others.
 fn after_same(log: &EventLog, next: usize, events: &EventLog, at: usize) -> Option<usize>
     requires { at < length events.now.events }
-    ensures { MatchOption result (slice_get log.now.events next ≡ slice_get events.now.events at → ⊥) (λ after. (slice_get log.now.events next ≡ slice_get events.now.events at) × (after ≡ next + 1)) }
+    ensures { MatchOption result (slice_get log.now.events next ≡ slice_get events.now.events at → ⊥)
+        (λ after. (slice_get log.now.events next ≡ slice_get events.now.events at) × (after ≡ next + 1)) }
 {
     if next < log.len() && log.same_at(next, events, at) {
         Some(next + 1)
@@ -175,19 +180,24 @@ impl<T: Tree> Stopped<T> {
         None
     }
 
-    // Whether the book was opened on the service's tree, and has the events of its sessions alone.
+    // Whether the book was opened on the service's tree with its lines, and has the events of its sessions alone.
     fn has_its_history(&self) -> bool
         ensures { IsTrue result ↔ HasItsHistory self.now }
     {
-        self.opening.same(self.book.opening()) && all_known(self.book.events(), self.count)
+        self.opening.same(self.book.opening())
+            && self.lines == self.book.lines()
+            && all_known(self.book.events(), self.count)
     }
 
     // Whether the session's log is its own events, and it found the book full only where it is.
     fn is_fit(&self, session: &Session) -> bool
         ensures { IsTrue result ↔ IsFit self.now session.now }
     {
-        is_own(self.book.events(), session.owner.actor, &session.log)
-            && (!session.marked || self.book.free() < 2)
+        is_own(
+            self.book.events(),
+            session.owner.actor,
+            session.log.events(),
+        ) && (!session.marked || self.book.free() < 2)
     }
 
     // Whether the session at a place is fit, where it has that number.
@@ -213,7 +223,8 @@ impl<T: Tree> Stopped<T> {
 
     // The least number whose session isn't fit.
     fn unfit(&self, sessions: &[Session]) -> Option<u32>
-        ensures { MatchOption result ((i : ℕ) → i < self.now.count → AllFit self.now sessions.now i) (λ i. FirstUnfit self.now sessions.now i) }
+        ensures { MatchOption result ((i : ℕ) → i < self.now.count → AllFit self.now sessions.now i)
+            (λ i. FirstUnfit self.now sessions.now i) }
     {
         for number in 0..self.count {
             if !self.all_fit(sessions, number) {
@@ -225,7 +236,8 @@ impl<T: Tree> Stopped<T> {
 
     // Why these sessions don't close it.
     fn cause(&self, sessions: &[Session]) -> Option<CloseCause>
-        ensures { MatchOption result (IsClosable self.now sessions.now) (λ cause. IsCause self.now sessions.now cause) }
+        ensures { MatchOption result (IsClosable self.now sessions.now)
+            (λ cause. IsCause self.now sessions.now cause) }
     {
         if let Some(at) = self.stranger(sessions) {
             return Some(CloseCause::Stranger(at));
@@ -242,17 +254,20 @@ impl<T: Tree> Stopped<T> {
         }
     }
 
-    /// Closes the service with its sessions: the events are a legal history from the opening tree and lead to the tree that
-    /// is given, each session's log is exactly its own events, each once and in its order, and there are no others.
-    /// Takes no memory.
+    /// Closes the service with its sessions: the events are a legal history from the opening tree and lead to the
+    /// tree that is given, each session's log is exactly its own events, each once and in its order, and there are
+    /// no others. Takes no memory.
     ///
     /// Errors, in this order, each exactly where it holds: Stranger at the first place of a session that isn't the
-    /// service's, or comes twice; Missing for the least number without a session; Opening where the book was opened on
-    /// another tree or has another's event; Mismatch for the least number whose session's log isn't its events, or which
-    /// found the book full while two lines are free. All comes back unchanged.
+    /// service's, or comes twice; Missing for the least number without a session; Opening where the book was opened
+    /// on another tree or with other lines, or has another's event; Mismatch for the least number whose session's
+    /// log isn't its events, or which found the book full while two lines are free. All comes back unchanged, and
+    /// `Stopped::into_parts` gives up the tree.
     pub fn close(self, sessions: Vec<Session>) -> Result<Closed<T>, CloseRefusal<T>>
-        ensures closed { IfOk result (λ closed. IsClosable self sessions.items × IsClosed self sessions.items (T.state closed.tree) closed.events.events closed.opening) }
-        ensures refused { IfErr result (λ refused. IsCause self sessions.items refused.cause × (refused.stopped ≡ self) × (refused.sessions ≡ sessions)) }
+        ensures closed { IfOk result (λ closed. IsClosable self sessions.items
+            × IsClosed self sessions.items (T.state closed.tree) closed.events.events closed.opening) }
+        ensures refused { IfErr result (λ refused. IsCause self sessions.items refused.cause
+            × (refused.stopped ≡ self) × (refused.sessions ≡ sessions)) }
     {
         match self.cause(sessions.as_slice()) {
             Some(cause) => Err(CloseRefusal {
@@ -269,5 +284,17 @@ impl<T: Tree> Stopped<T> {
                 })
             }
         }
+    }
+
+    /// The tree, the events and the tree as it was opened, of the book that was under the lock, whoever's events
+    /// these are: they are legal from that opening, and lead to the tree. For a service that isn't closed, too.
+    /// Takes no memory.
+    pub fn into_parts(self) -> (T, EventLog, Snapshot)
+        ensures tree { T.state result.0 ≡ after_events self.book.opening self.book.events }
+        ensures events { result.1.events ≡ self.book.events }
+        ensures opening { result.2 ≡ self.book.opening }
+        ensures legal { IsLegal self.book.opening self.book.events }
+    {
+        self.book.into_parts()
     }
 }

@@ -14,12 +14,13 @@ mod laws;
 mod open;
 mod service;
 mod session;
+mod shared;
 
 pub use close::{CloseCause, CloseRefusal, Closed, Stopped};
 pub use gate::{Gate, NoGate, Pause};
 pub use laws::{
     calls_stand_in_order, calls_tell_in_threads, each_call_tells_in_threads,
-    resolve_tells_in_threads, walks_tell_in_threads,
+    resolve_tells_in_threads, services_tell, walks_tell_in_threads,
 };
 pub use open::{OpenCause, OpenRefusal, SESSIONS_MAX};
 pub use service::Service;

@@ -2,11 +2,13 @@
 ghost use Rattle.std.specs.Prelude.{◌≡◌, ◌≤◌, ◌+◌, ◌++◌, ◌⊎◌, [], ◌∷◌, None, Some, Ok, OnOk, IfOk, IfErr, IfSome, IfNone, length};
 ghost use Rattle.tree_model.specs.Steps.{outcome};
 ghost use Rattle.tree_model.specs.declared.step.StepOf.TheVariants.{Close as CloseStep};
+ghost use Rattle.race_core.specs.Book.{opened_book};
 ghost use Rattle.sessions.specs.Session.{begun};
 ghost use Rattle.sessions.specs.Open.{root_cause, refused_book, granted, book_cause, cause_after, opening_cause, first_sessions, IsAsItWas, IsOpened};
 
 use crate::service::Service;
 use crate::session::Session;
+use crate::shared::SharedBook;
 use handles::Owner;
 use path_text::{Errno, Names, NoMemory};
 use race_core::Book;
@@ -68,16 +70,17 @@ pub struct OpenRefusal<T> {
     pub tree: T,
 }
 
-// A session more.
-fn add_session(
+// A session more, at a root in the tree.
+fn add_session<T: Tree>(
     alloc: Global,
+    tree: &T,
     sessions: &mut Vec<Session>,
     owner: Owner,
     root: HandleNo,
 ) -> Result<(), NoMemory>
     ensures { OnOk result (sessions.new.items ≡ sessions.old.items ++ begun owner root ∷ []) }
 {
-    sessions.push(Session::begin(alloc, owner, root)?)?;
+    sessions.push(Session::begin(alloc, tree, owner, root)?)?;
     Ok(())
 }
 
@@ -88,7 +91,9 @@ fn open_book<T: Tree>(
     lines: u32,
 ) -> Result<(Book<T>, Snapshot), OpenRefusal<T>>
     ensures opened { IfOk result (λ opened. (opened.1 ≡ T.state tree) × (book_cause (T.state tree) lines ≡ None)) }
-    ensures refused { IfErr result (λ refused. (refused.tree ≡ tree) × ((book_cause (T.state tree) lines ≡ Some refused.cause) ⊎ (refused.cause ≡ OpenCause.NoMemory))) }
+    ensures book { IfOk result (λ opened. opened.0 ≡ opened_book opened.1 lines) }
+    ensures refused { IfErr result (λ refused. (refused.tree ≡ tree)
+        × ((book_cause (T.state tree) lines ≡ Some refused.cause) ⊎ (refused.cause ≡ OpenCause.NoMemory))) }
 {
     let Ok(opening) = tree.snapshot(alloc) else {
         let cause = OpenCause::NoMemory;
@@ -126,8 +131,8 @@ fn first_root(roots: &[Names]) -> Option<(&Names, &[Names])>
     roots.split_first()
 }
 
-// Grants the roots from that place on, each to the actor of its place, and opens the book. Where it fails, what was granted
-// here is taken back.
+// Grants the roots from that place on, each to the actor of its place, and opens the book. Where it fails, what was
+// granted here is taken back.
 fn open_from<T: Tree>(
     alloc: Global,
     tree: T,
@@ -138,9 +143,14 @@ fn open_from<T: Tree>(
     sessions: &mut Vec<Session>,
 ) -> Result<(Book<T>, Snapshot), OpenRefusal<T>>
     requires { place + length roots.now ≤ 64 }
-    ensures opened { IfOk result (λ opened. (granted (T.state tree) place roots.now ≡ Ok opened.1) × (book_cause opened.1 lines ≡ None)) }
-    ensures sessions { IfOk result (λ opened. sessions.new.items ≡ sessions.old.items ++ first_sessions tag place (length (T.state tree).handles) roots.now) }
-    ensures cause { IfErr result (λ refused. (cause_after (granted (T.state tree) place roots.now) lines ≡ Some refused.cause) ⊎ (refused.cause ≡ OpenCause.NoMemory)) }
+    ensures opened { IfOk result (λ opened. (granted (T.state tree) place roots.now ≡ Ok opened.1)
+        × (book_cause opened.1 lines ≡ None)) }
+    ensures book { IfOk result (λ opened. opened.0 ≡ opened_book opened.1 lines) }
+    ensures sessions { IfOk result (λ opened. sessions.new.items
+        ≡ sessions.old.items ++ first_sessions tag place (length (T.state tree).handles) roots.now) }
+    ensures cause { IfErr result (λ refused.
+        (cause_after (granted (T.state tree) place roots.now) lines ≡ Some refused.cause)
+        ⊎ (refused.cause ≡ OpenCause.NoMemory)) }
     ensures tree { IfErr result (λ refused. IsAsItWas (T.state tree) (T.state refused.tree)) }
 {
     let Some((names, others)) = first_root(roots) else {
@@ -155,7 +165,7 @@ fn open_from<T: Tree>(
             return Err(OpenRefusal { cause, tree });
         }
     };
-    if add_session(alloc, sessions, Owner { tag, actor }, handle).is_err() {
+    if add_session(alloc, &tree, sessions, Owner { tag, actor }, handle).is_err() {
         let cause = OpenCause::NoMemory;
         let refusal = OpenRefusal { cause, tree };
         return Err(take_back(alloc, refusal, actor, handle));
@@ -167,13 +177,15 @@ fn open_from<T: Tree>(
 }
 
 impl<T: Tree> Service<T> {
-    /// A service of that many sessions as there are roots, over a tree and with a book of that many lines. Session i has the
-    /// tag, the actor i, and a handle on the directory at the names in place i from the top, no link followed; its log is
-    /// empty. The caller keeps the tags of services distinct.
+    /// A service of that many sessions as there are roots, over a tree and with a book of that many lines. The tree
+    /// gets a handle for each root, and is else as it was given. Session i has the tag, the actor i, and the handle
+    /// on the directory at the names in place i from the top, no link followed; its log is empty. The caller keeps
+    /// the tags of services distinct.
     ///
-    /// Errors, in this order: TooManySessions over 64 roots; for the first root that is refused RootNotFound, RootNotDir
-    /// or TooMany with its place; Invalid over 1,000,000 lines; BookFull for fewer lines than open handles; NoMemory,
-    /// which may come in place of any but the first. The tree comes back with its entries, and what was granted is closed.
+    /// Errors, in this order: TooManySessions over 64 roots; for the first root that is refused RootNotFound,
+    /// RootNotDir or TooMany with its place; Invalid over 1,000,000 lines; BookFull for fewer lines than open
+    /// handles; NoMemory, which may come in place of any but the first. The tree comes back with its entries, and
+    /// what was granted is closed.
     pub fn open(
         alloc: Global,
         tree: T,
@@ -181,8 +193,10 @@ impl<T: Tree> Service<T> {
         tag: u64,
         lines: u32,
     ) -> Result<(Service<T>, Vec<Session>), OpenRefusal<T>>
-        ensures opened { IfOk result (λ opened. (opening_cause (T.state tree) roots.now lines ≡ None) × IsOpened (T.state tree) roots.now tag opened.0 opened.1.items) }
-        ensures cause { IfErr result (λ refused. (opening_cause (T.state tree) roots.now lines ≡ Some refused.cause) ⊎ (refused.cause ≡ OpenCause.NoMemory)) }
+        ensures opened { IfOk result (λ opened. (opening_cause (T.state tree) roots.now lines ≡ None)
+            × IsOpened (T.state tree) roots.now tag lines opened.0 opened.1.items) }
+        ensures cause { IfErr result (λ refused. (opening_cause (T.state tree) roots.now lines ≡ Some refused.cause)
+            ⊎ (refused.cause ≡ OpenCause.NoMemory)) }
         ensures tree { IfErr result (λ refused. IsAsItWas (T.state tree) (T.state refused.tree)) }
     {
         if roots.len() > SESSIONS_MAX {
@@ -192,9 +206,10 @@ impl<T: Tree> Service<T> {
         let mut sessions = Vec::new(alloc);
         let (book, opening) = open_from(alloc, tree, roots, tag, 0, lines, &mut sessions)?;
         let service = Service {
-            book: Mutex::new(book),
+            book: Mutex::new(SharedBook::new(book)),
             tag,
             count: roots.len() as u32,
+            lines,
             opening,
         };
         Ok((service, sessions))

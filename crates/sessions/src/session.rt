@@ -2,13 +2,13 @@
 ghost use Rattle.std.specs.Prelude.{◌≡◌, ◌≤◌, IfOk, suc};
 ghost use Rattle.sessions.specs.Session.{SessionView, left_open, begun};
 
-use event_log::EventLog;
+use crate::shared::OwnLog;
 use handles::Owner;
 use path_text::NoMemory;
 use std::alloc::Global;
 use std::marker::Model;
 use step_resolver::Root;
-use tree_model::{Actor, HandleNo};
+use tree_model::{HandleNo, Tree};
 
 /// One actor of a service, with the root below which its calls walk and the log of its steps. Contracts see these, and
 /// whether a call of it ever found the book full.
@@ -16,7 +16,7 @@ use tree_model::{Actor, HandleNo};
 pub struct Session {
     pub(crate) owner: Owner,
     pub(crate) root: HandleNo,
-    pub(crate) log: EventLog,
+    pub(crate) log: OwnLog,
     // How many handles the log leaves open, the root's among them; each has room in the log for its Close.
     pub(crate) open_handles: usize,
     // How many calls were made, up to the largest number there is.
@@ -35,12 +35,18 @@ impl Model for Session {
 }
 
 impl Session {
-    /// A session without a call yet. NoMemory where the room for the Close of its root was refused.
-    pub(crate) fn begin(alloc: Global, owner: Owner, root: HandleNo) -> Result<Session, NoMemory>
+    /// A session without a call yet, at a root in the tree. NoMemory where the room for the Close of its root was
+    /// refused.
+    pub(crate) fn begin<T: Tree>(
+        alloc: Global,
+        tree: &T,
+        owner: Owner,
+        root: HandleNo,
+    ) -> Result<Session, NoMemory>
         ensures { IfOk result (λ session. session ≡ begun owner root) }
     {
-        let mut log = EventLog::new(alloc);
-        log.reserve(1)?;
+        let mut log = OwnLog::new(alloc, tree);
+        log.reserve_one()?;
         Ok(Session {
             owner,
             root,

@@ -29,8 +29,8 @@ use Rattle.step_resolver.specs.declared.driver.Resolved.TheVariants.{Found, Part
 abbrev pub node_of : State → ℕ → ℕ → ℕ
 node_of s a h = unwrap_or (held s a h) TOP
 
--- A tree in which the actor holds the directory r by this handle. It may open two handles more, and numbers are left for
--- what a walk opens.
+-- A tree in which the actor holds the directory r by this handle. It may open two handles more, and numbers are left
+-- for what a walk opens.
 pub record IsReady (s : State) (a h r : ℕ) : Type 0 where
   pub tree : IsState s
   pub held : held s a h ≡ Some r
@@ -53,8 +53,8 @@ IsWithoutBook (answered step answer ∷ lines) = IsWithoutBook lines
 IsWithoutBook (no_room step answer ∷ lines) = IsWithoutBook lines
 IsWithoutBook (not_made error ∷ lines) = (error ≡ NoMemory) × IsWithoutBook lines
 
--- there are lines that lead from one turn to the other, and the actor's steps among them from one tree to the other, which has
--- the same nodes
+-- there are lines that lead from one turn to the other, and the actor's steps among them from one tree to the other,
+-- which has the same nodes
 pub record Drives (way : Way) (a : ℕ) (s : State) (from : Turn) (t : State) (to : Turn) : Type 0 where
   pub lines : List Line
   pub leads : LeadsTo way from lines to
@@ -88,7 +88,8 @@ ResolvesDeep nodes r (whole x b reads) (Ok (Found standing)) = IsObject nodes r 
 ResolvesDeep nodes r (whole x b reads) (Ok (Partial standing rest)) = ⊥
 ResolvesDeep nodes r (whole x b reads) (Err error) = error ≡ NoMemory
 ResolvesDeep nodes r (up_to x b missing reads) (Ok (Found standing)) = ⊥
-ResolvesDeep nodes r (up_to x b missing reads) (Ok (Partial standing rest)) = IsObject nodes r x standing × (asked true rest ≡ missing)
+ResolvesDeep nodes r (up_to x b missing reads) (Ok (Partial standing rest)) =
+    IsObject nodes r x standing × (asked true rest ≡ missing)
 ResolvesDeep nodes r (up_to x b missing reads) (Err error) = error ≡ NoMemory
 ResolvesDeep nodes r (none cause reads) (Ok resolved) = ⊥
 ResolvesDeep nodes r (none cause reads) (Err error) = (error ≡ NoMemory) ⊎ (error ≡ cause)
@@ -112,7 +113,8 @@ standing_of (Partial standing rest) = standing
 -- the actor's open handles are those from before; after an object was found one more, on the object
 abbrev pub LeavesOwn : State → ℕ → State → Result Resolved Errno → Type 0
 LeavesOwn s a t (Ok resolved) =
-    (held t a (standing_of resolved).handle ≡ Some (standing_of resolved).node) × (held s a (standing_of resolved).handle ≡ None)
+    (held t a (standing_of resolved).handle ≡ Some (standing_of resolved).node)
+    × (held s a (standing_of resolved).handle ≡ None)
     × ((h : ℕ) → h ≢ (standing_of resolved).handle → held t a h ≡ held s a h)
 LeavesOwn s a t (Err error) = (h : ℕ) → held t a h ≡ held s a h
 

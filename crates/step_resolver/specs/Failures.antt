@@ -56,7 +56,8 @@ pub record IsWithinLink (w : WalkInHistory) (to : Spot) (next : AskedPart) : Typ
   pub text : List ℕ
   pub left : ℕ
   pub link : IsLinkAt (timeline w) mid name when text left
-  pub stop : Trail (timeline w) (followed (parts_of text)) (from_text (timeline w) mid text left (suc when)) to (Some next)
+  pub stop : Trail (timeline w) (followed (parts_of text))
+      (from_text (timeline w) mid text left (suc when)) to (Some next)
 
 -- the actor's open handles are those from before
 abbrev pub HandlesStay : WalkInHistory → Type 0
@@ -103,8 +104,8 @@ pub record TellsLoop (w : WalkInHistory) : Type 0 where
   pub when : ℕ
   pub link : IsLinkThere w to name text when
 
--- EXDEV, under `beneath`: the path was absolute, and no step was made; or the next part was `..` with no names passed; or it was a link to be
--- followed whose text is absolute.
+-- EXDEV, under `beneath`: the path was absolute, and no step was made; or the next part was `..` with no names
+-- passed; or it was a link to be followed whose text is absolute.
 pub record TellsUpFromRoot (w : WalkInHistory) : Type 0 where
   pub to : Spot
   pub stop : IsStopAt w to Up
@@ -172,8 +173,8 @@ abbrev pub MetRefusal : StepOf ℕ → List Line → Type 0
 MetRefusal step [] = ⊥
 MetRefusal step (line ∷ lines) = IsRefusal step line ⊎ MetRefusal step lines
 
--- EMFILE: a step of the walk was refused so, by the step table too. The actor, which then held one handle more than before
--- at most, could open no more, or the numbers were used up.
+-- EMFILE: a step of the walk was refused so, by the step table too. The actor, which then held one handle more than
+-- before at most, could open no more, or the numbers were used up.
 pub record TellsTooMany (w : WalkInHistory) : Type 0 where
   pub step : StepOf ℕ
   pub line : MetRefusal step w.lines

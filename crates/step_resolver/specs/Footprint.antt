@@ -12,7 +12,8 @@ use Rattle.step_resolver.specs.WalkHistory.{WalkInHistory, begin_of, timeline}
 -- no event of another in the window changes what stands at that entry
 pub record IsLeftAlone (w : WalkInHistory) (entry : Place) : Type 0 where
   pub same : (t : ℕ) (event : Event) → slice_get w.window t ≡ Some event → event.actor ≢ w.actor
-      → child ((timeline w).nodes_at (suc t)) entry.parent entry.name ≡ child ((timeline w).nodes_at t) entry.parent entry.name
+      → child ((timeline w).nodes_at (suc t)) entry.parent entry.name
+      ≡ child ((timeline w).nodes_at t) entry.parent entry.name
 
 abbrev pub AllLeftAlone : WalkInHistory → List Place → Type 0
 AllLeftAlone w [] = Unit {0}

@@ -13,8 +13,8 @@
 -- its object or error is what in-root resolution of the whole path means.
 --     its conclusion `IsMeant`, of the meaning in that tree (`Meaning.reading_means`).
 --
--- For the deepest directory that stands there, the same is `OpensDeepest` and `MeansDeepest`. What each failure tells is in
--- `Failures`. path_resolution(7); openat2(2).
+-- For the deepest directory that stands there, the same is `OpensDeepest` and `MeansDeepest`. What each failure
+-- tells is in `Failures`. path_resolution(7); openat2(2).
 use Rattle.std.specs.Prelude.{◌≡◌, ◌≢◌, ℕ, ◌<◌, List, ◌∷◌, ◌++◌, Bool, true, false, Some, None}
 use Rattle.path_text.specs.declared.errno.Errno.{Errno}
 use Rattle.tree_model.specs.declared.inode.Object.{Object}
@@ -59,8 +59,8 @@ pub record Opens (w : WalkInHistory) (handle : Handle) (names : List (List ℕ))
 abbrev pub whole_meaning : WalkInHistory → Meant
 whole_meaning w = reading_means (ground w) w.path (follows w.way.goal)
 
--- Where the entries that the path reads are left alone, the end is what the path means, but for want of memory, of room in the
--- book or of handles.
+-- Where the entries that the path reads are left alone, the end is what the path means, but for want of memory, of
+-- room in the book or of handles.
 abbrev pub Means : WalkInHistory → Turn → Type 0
 Means w end = IsEnd end → is_deepest w.way.goal ≡ false → is_for_want end ≡ false
     → AllLeftAlone w (reads_of (whole_meaning w)) → IsMeant (whole_meaning w) end
@@ -68,7 +68,8 @@ Means w end = IsEnd end → is_deepest w.way.goal ≡ false → is_for_want end 
 -- ---- the deepest directory
 
 -- The same for the parts before the rest, whose first name was missing in between.
-pub record OpensDeepest (w : WalkInHistory) (handle : Handle) (names : List (List ℕ)) (rest : List AskedPart) : Type 0 where
+pub record OpensDeepest (w : WalkInHistory) (handle : Handle) (names : List (List ℕ))
+    (rest : List AskedPart) : Type 0 where
   pub goal : is_deepest w.way.goal ≡ true
   pub front : List AskedPart
   pub parts : parts_of_walk w ≡ front ++ rest
@@ -116,8 +117,10 @@ pub record Headline (w : WalkInHistory) (end : Turn) : Type 0 where
 
 -- Each walk in each legal history ends so: where the lines that it was told lead it to this end.
 abbrev pub EveryWalk : Type 0
-EveryWalk = (w : WalkInHistory) (end : Turn) → IsWalkInHistory w → LeadsTo w.way (begins w.way w.path) w.lines end → Headline w end
+EveryWalk = (w : WalkInHistory) (end : Turn) → IsWalkInHistory w → LeadsTo w.way (begins w.way w.path) w.lines end
+    → Headline w end
 
 -- the first of it alone
 abbrev pub WalksTell : Type 0
-WalksTell = (w : WalkInHistory) (end : Turn) → IsWalkInHistory w → LeadsTo w.way (begins w.way w.path) w.lines end → Tells w end
+WalksTell = (w : WalkInHistory) (end : Turn) → IsWalkInHistory w → LeadsTo w.way (begins w.way w.path) w.lines end
+    → Tells w end

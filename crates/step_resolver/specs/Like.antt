@@ -11,11 +11,14 @@ abbrev pub LikeHeld : ReachedObject → ReachedObject → Type 0
 LikeHeld held other = handle_by (λ h. 0) (handle_of held) ≡ handle_by (λ h. 0) (handle_of other)
 
 abbrev pub LikePlaces : PlanState → Option ReachedObject → PlanState → Option ReachedObject → Type 0
-LikePlaces p place q other = position_by (λ h. 0) (place_of place p.names) ≡ position_by (λ h. 0) (place_of other q.names)
+LikePlaces p place q other =
+    position_by (λ h. 0) (place_of place p.names) ≡ position_by (λ h. 0) (place_of other q.names)
 
 -- the same place, and all parts to come
 abbrev pub LikeOnward : PlanState → Option ReachedObject → PlanState → Option ReachedObject → Type 0
 LikeOnward p place q other = LikePlaces p place q other × SameToCome p q
 
-abbrev pub LikeAfters : PlanState → Option ReachedObject → AfterClose → PlanState → Option ReachedObject → AfterClose → Type 0
-LikeAfters p place after q other later = walk_after_by (λ h. 0) (after_of p place after) ≡ walk_after_by (λ h. 0) (after_of q other later)
+abbrev pub LikeAfters : PlanState → Option ReachedObject → AfterClose → PlanState → Option ReachedObject
+    → AfterClose → Type 0
+LikeAfters p place after q other later =
+    walk_after_by (λ h. 0) (after_of p place after) ≡ walk_after_by (λ h. 0) (after_of q other later)

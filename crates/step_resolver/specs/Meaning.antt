@@ -1,5 +1,6 @@
 -- What a path means in one tree: the end of the whole path, and the entries that it reads on the way.
--- path_resolution(7); POSIX.1, 4.16 Pathname Resolution; openat2(2), RESOLVE_IN_ROOT, RESOLVE_BENEATH, RESOLVE_NO_SYMLINKS.
+-- path_resolution(7); POSIX.1, 4.16 Pathname Resolution; openat2(2), RESOLVE_IN_ROOT, RESOLVE_BENEATH,
+-- RESOLVE_NO_SYMLINKS.
 use Rattle.std.specs.Prelude.{ℕ, zero, suc, ◌==◌, ◌&&◌, List, [], ◌∷◌, ◌++◌, Bool, true, false, not, if◌then◌else◌, nat_lt, length, Option, Some, None, is_none}
 use Rattle.path_text.specs.declared.errno.Errno.{Errno}
 use Rattle.path_text.specs.declared.errno.Errno.TheVariants.{NotFound, CrossRoot, NotDir, TooLong, Loop}
@@ -44,7 +45,8 @@ is_too_long n = nat_lt NAME_MAX (length n)
 abbrev pub from_of : ℕ → ℕ → List ℕ → ℕ
 from_of r d text = if begins_with_slash text then r else d
 
--- What follows takes how the parts of a link's text are resolved: from which directory, which parts, with how many links left.
+-- What follows takes how the parts of a link's text are resolved: from which directory, which parts, with how many
+-- links left.
 abbrev pub Deeper : Type 0
 Deeper = ℕ → List AskedPart → ℕ → Meant
 
@@ -113,7 +115,8 @@ resolves g text follow (Some fault) = fails fault []
 
 -- the meaning of a path text
 abbrev pub resolved : List Inode → ℕ → List ℕ → Bool → Flags → Meant
-resolved nodes r text follow flags = resolves (record { nodes = nodes; root = r; flags = flags }) text follow (text_fault text)
+resolved nodes r text follow flags =
+    resolves (record { nodes = nodes; root = r; flags = flags }) text follow (text_fault text)
 
 -- the error, or the object without the links left
 pub data Resolution : Type 0 where

@@ -55,12 +55,14 @@ abbrev pub LinksAreTheirTexts : Type 0
 LinksAreTheirTexts = (nested : ℕ) (g : Ground) (d : ℕ) (n text : List ℕ) (rest : List AskedPart) (b : ℕ)
     → IsOpenLink g d n text → suc b ≤ nested
     → means nested g d (Named true n ∷ rest) (suc b)
-    ≡ after_reads (record { parent = d; name = n } ∷ []) (means nested g (from_of g.root d text) (followed (parts_of text) ++ rest) b)
+    ≡ after_reads (record { parent = d; name = n } ∷ [])
+    (means nested g (from_of g.root d text) (followed (parts_of text) ++ rest) b)
 
 -- ---- the deepest directory
 
 -- The parts are a front and a rest: the front means a directory, in which the first name of the rest is missing.
-pub record IsFrontAndRest (nested : ℕ) (g : Ground) (d : ℕ) (ps : List AskedPart) (b x c : ℕ) (rest : List AskedPart) (reads : List Place) : Type 0 where
+pub record IsFrontAndRest (nested : ℕ) (g : Ground) (d : ℕ) (ps : List AskedPart) (b x c : ℕ)
+    (rest : List AskedPart) (reads : List Place) : Type 0 where
   pub front : List AskedPart
   pub parts : ps ≡ front ++ rest
   pub follow : Bool
@@ -100,10 +102,11 @@ DeepestMeansTheSame = (nested : ℕ) (g : Ground) (d : ℕ) (ps : List AskedPart
 abbrev pub IsBelow : Ground → ℕ → Type 0
 IsBelow g d = (d ≡ g.root) ⊎ ((e : ℕ) × (parent g.nodes d ≡ Some e))
 
--- In a tree, what parts mean from such a place is such a place. A link's text begins at the root or in the directory that
--- holds the link.
+-- In a tree, what parts mean from such a place is such a place. A link's text begins at the root or in the directory
+-- that holds the link.
 abbrev pub PartsLeadBelow : Type 0
-PartsLeadBelow = (nested : ℕ) (g : Ground) → IsTree g.nodes → (d : ℕ) (ps : List AskedPart) (b e c : ℕ) (reads : List Place)
+PartsLeadBelow = (nested : ℕ) (g : Ground) → IsTree g.nodes
+    → (d : ℕ) (ps : List AskedPart) (b e c : ℕ) (reads : List Place)
     → IsBelow g d → means nested g d ps b ≡ object e c reads → IsBelow g e
 
 -- So `..` never finds a place without a parent.

@@ -141,7 +141,8 @@ on_own way position (p ∷ own) b = on_part way position p true (todo [] own b) 
 -- the parts of links' texts come before them
 abbrev pub on_parts : Way → Position → List AskedPart → List AskedPart → ℕ → Turn
 on_parts way position [] own b = on_own way position own b
-on_parts way position (p ∷ inner) own b = on_part way position p false (todo inner own b) (on_parts way position inner own b)
+on_parts way position (p ∷ inner) own b =
+    on_part way position p false (todo inner own b) (on_parts way position inner own b)
 
 abbrev pub goes_on : Way → Position → Todo → Turn
 goes_on way position (todo inner own b) = on_parts way position inner own b
@@ -206,7 +207,8 @@ opened way room position follow n new rest =
 -- a missing name of the caller's own is where the deepest directory ends
 abbrev pub refused_open : Way → Position → Bool → Bool → List ℕ → Todo → Errno → Turn
 refused_open way position own follow n (todo inner rest b) NotFound =
-    if is_deepest way.goal && own then at_end position (Named follow n ∷ rest) else gives_up (handles_of position) NotFound
+    if is_deepest way.goal && own then at_end position (Named follow n ∷ rest)
+    else gives_up (handles_of position) NotFound
 refused_open way position own follow n _ error = gives_up (handles_of position) error
 
 -- the parts of a link's text come before all others; an absolute text begins at the root
@@ -230,7 +232,8 @@ end_of handle names (p ∷ rest) = partial handle names (p ∷ rest)
 
 -- where the names are those passed
 abbrev pub judged : Handle → List (List ℕ) → List (List ℕ) → Turn → Turn
-judged handle names told stands = if same_names told (reverse names) then stands else gives_up (handle.number ∷ []) Raced
+judged handle names told stands =
+    if same_names told (reverse names) then stands else gives_up (handle.number ∷ []) Raced
 
 abbrev pub refused_rise : Handle → Errno → Turn
 refused_rise handle NotFound = gives_up (handle.number ∷ []) Raced
@@ -240,7 +243,8 @@ refused_rise handle error = gives_up (handle.number ∷ []) error
 abbrev pub take : Way → Bool → Walking → Answer → Turn
 take way room (opening position own follow n rest) (Opened h x kind) =
     opened way room position follow n (record { number = h; node = x; kind = kind }) rest
-take way room (opening position own follow n rest) answer = refused_open way position own follow n rest (refusal_of answer)
+take way room (opening position own follow n rest) answer =
+    refused_open way position own follow n rest (refusal_of answer)
 take way room (reading position link rest) (Text text) = read_text way room position link rest text (text_fault text)
 take way room (reading position link rest) answer = gives_up (link.number ∷ handles_of position) (refusal_of answer)
 take way room (rising old names rest) (Opened h x kind) =
@@ -276,8 +280,8 @@ is_closing (closing h hs after) = true
 
 -- ---- a walk's lines
 
--- What a walk was told: a step with its answer; a step with its answer, whose use found no memory; or a step that wasn't
--- made, for want of memory or of room in the book.
+-- What a walk was told: a step with its answer; a step with its answer, whose use found no memory; or a step that
+-- wasn't made, for want of memory or of room in the book.
 pub data Line : Type 0 where
   answered : StepOf ℕ → Answer → Line
   no_room : StepOf ℕ → Answer → Line

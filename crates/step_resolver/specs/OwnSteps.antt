@@ -10,5 +10,6 @@ DueStepsLeaveEntries = (way : Way) (walk : Walking) → is_on_entries (due way w
 
 -- and the nodes are the same before and after each own event of a walk's window, whatever others do in between
 abbrev pub OwnEventsLeaveNodes : Type 0
-OwnEventsLeaveNodes = (w : WalkInHistory) (end : Turn) → IsWalkInHistory w → LeadsTo w.way (begins w.way w.path) w.lines end
+OwnEventsLeaveNodes =
+    (w : WalkInHistory) (end : Turn) → IsWalkInHistory w → LeadsTo w.way (begins w.way w.path) w.lines end
     → (t : ℕ) → (timeline w).is_own t ≡ true → (timeline w).nodes_at (suc t) ≡ (timeline w).nodes_at t

@@ -64,7 +64,9 @@ LikeWays way other = way_by (λ h. 0) way ≡ way_by (λ h. 0) other
 abbrev pub LikeWalks : Walking → Walking → Type 0
 LikeWalks w v = walking_by (λ h. 0) w ≡ walking_by (λ h. 0) v
 
--- Walks that are the same but for their handles, each of which gets one number in both, are the same with these numbers.
+-- Walks that are the same but for their handles, each of which gets one number in both, are the same with these
+-- numbers.
 abbrev pub LikeWalksAgree : Type 0
-LikeWalksAgree = (f g : ℕ → ℕ) (w v : Walking) → LikeWalks w v → numbers_by f (walking_handles w) ≡ numbers_by g (walking_handles v)
+LikeWalksAgree = (f g : ℕ → ℕ) (w v : Walking) → LikeWalks w v
+    → numbers_by f (walking_handles w) ≡ numbers_by g (walking_handles v)
     → walking_by f w ≡ walking_by g v

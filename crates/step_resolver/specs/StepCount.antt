@@ -56,14 +56,17 @@ parts_passed way (more walk) (answered step answer ∷ lines) =
 parts_passed way (more walk) (no_room step answer ∷ lines) =
     passed_by walk answer (take way false walk answer) + parts_passed way (take way false walk answer) lines
 parts_passed way (more walk) (not_made error ∷ lines) =
-    passed_by walk (Refused error) (take way true walk (Refused error)) + parts_passed way (take way true walk (Refused error)) lines
+    passed_by walk (Refused error) (take way true walk (Refused error))
+    + parts_passed way (take way true walk (Refused error)) lines
 parts_passed way _ (line ∷ lines) = 0
 
 -- the parts that a walk along a path passed, of the caller's and of links' texts, those that need no step among them
 abbrev pub walk_passed : Way → Reading → List Line → ℕ
-walk_passed way path lines = passed (length path.parts) (to_come_at (begins way path)) + parts_passed way (begins way path) lines
+walk_passed way path lines =
+    passed (length path.parts) (to_come_at (begins way path)) + parts_passed way (begins way path) lines
 
 -- A walk has four lines at most for each part that it passes, and four more.
 abbrev pub StepsByPartsPassed : Type 0
-StepsByPartsPassed = (way : Way) (path : Reading) (lines : List Line) (end : Turn) → LeadsTo way (begins way path) lines end
+StepsByPartsPassed = (way : Way) (path : Reading) (lines : List Line) (end : Turn)
+    → LeadsTo way (begins way path) lines end
     → length lines ≤ 4 * walk_passed way path lines + 4

@@ -78,8 +78,8 @@ pub record IsLinkAt (timeline : Timeline) (s : Spot) (n : List ℕ) (t : ℕ) (t
   pub allowed : timeline.flags.no_links ≡ false
   pub within : leads_out (begins_with_slash text) timeline.flags ≡ false
 
--- up from the spot, a directory with names passed: e was its parent at the call's own event t, and at a later one, u, it
--- stood under the root at the names less the last
+-- up from the spot, a directory with names passed: e was its parent at the call's own event t, and at a later one,
+-- u, it stood under the root at the names less the last
 pub record IsUpAt (timeline : Timeline) (s : Spot) (t u e : ℕ) (names : List (List ℕ)) : Type 0 where
   pub dir : is_directory (timeline.object_of s.node) ≡ true
   pub name : List ℕ
@@ -96,8 +96,8 @@ pub record IsTop (timeline : Timeline) (s : Spot) : Type 0 where
   pub names : s.names ≡ []
   pub absorbed : timeline.flags.beneath ≡ false
 
--- Parts are passed from one spot to another, at rising moments that are the call's own events. With no next part all of
--- them are passed (a trail); with one, only those before it are (a stop), which may lie within a link's text.
+-- Parts are passed from one spot to another, at rising moments that are the call's own events. With no next part all
+-- of them are passed (a trail); with one, only those before it are (a stop), which may lie within a link's text.
 -- Links count at all depths, since each takes one of those left.
 pub data Trail (timeline : Timeline) : List AskedPart → Spot → Spot → Option AskedPart → Type 0 where
   all : {s : Spot} (m : ℕ) → s.moment ≤ m → Trail timeline [] s (later m s) None
@@ -112,14 +112,17 @@ pub data Trail (timeline : Timeline) : List AskedPart → Spot → Spot → Opti
   down : {follow : Bool} {n : List ℕ} {ps : List AskedPart} {s z : Spot} {next : Option AskedPart} (t c : ℕ)
       → IsChildAt timeline s n t c → is_entered follow (timeline.object_of c) ≡ true
       → Trail timeline ps (down_to s c n (suc t)) z next → Trail timeline (Named follow n ∷ ps) s z next
-  through : {n : List ℕ} {ps : List AskedPart} {s z : Spot} {next : Option AskedPart} (t : ℕ) (text : List ℕ) (b : ℕ) (mid : Spot)
-      → IsLinkAt timeline s n t text b → Trail timeline (followed (parts_of text)) (from_text timeline s text b (suc t)) mid None
+  through : {n : List ℕ} {ps : List AskedPart} {s z : Spot} {next : Option AskedPart} (t : ℕ)
+      (text : List ℕ) (b : ℕ) (mid : Spot)
+      → IsLinkAt timeline s n t text b
+      → Trail timeline (followed (parts_of text)) (from_text timeline s text b (suc t)) mid None
       → Trail timeline ps mid z next → Trail timeline (Named true n ∷ ps) s z next
   -- stops
   before : {p : AskedPart} {ps : List AskedPart} {s : Spot} (m : ℕ) → s.moment ≤ m
       → Trail timeline (p ∷ ps) s (later m s) (Some p)
   into : {n : List ℕ} {p : AskedPart} {ps : List AskedPart} {s z : Spot} (t : ℕ) (text : List ℕ) (b : ℕ)
-      → IsLinkAt timeline s n t text b → Trail timeline (followed (parts_of text)) (from_text timeline s text b (suc t)) z (Some p)
+      → IsLinkAt timeline s n t text b
+      → Trail timeline (followed (parts_of text)) (from_text timeline s text b (suc t)) z (Some p)
       → Trail timeline (Named true n ∷ ps) s z (Some p)
 
 -- ---- the stories that histories make
@@ -128,8 +131,8 @@ abbrev pub is_by : ℕ → Option Event → Bool
 is_by a None = false
 is_by a (Some event) = event.actor == a
 
--- what happens to the tree in a window of events, as a call of this actor sees it whose own these are; moments count from
--- the window's beginning
+-- what happens to the tree in a window of events, as a call of this actor sees it whose own these are; moments count
+-- from the window's beginning
 abbrev pub timeline_of : State → List Event → ℕ → ℕ → Flags → Timeline
 timeline_of s window a r flags = record {
   nodes_at = λ m. (tree_at s window m).nodes;

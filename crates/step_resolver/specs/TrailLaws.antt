@@ -15,7 +15,8 @@ pub data Split (timeline : Timeline) (ps qs : List AskedPart) (s z : Spot) (next
   stopped : (p : AskedPart) → next ≡ Some p → Trail timeline ps s z (Some p) → Split timeline ps qs s z next
 
 abbrev pub TrailsSplit : Type 0
-TrailsSplit = (timeline : Timeline) (ps qs : List AskedPart) (s z : Spot) (next : Option AskedPart) → Trail timeline (ps ++ qs) s z next → Split timeline ps qs s z next
+TrailsSplit = (timeline : Timeline) (ps qs : List AskedPart) (s z : Spot) (next : Option AskedPart)
+    → Trail timeline (ps ++ qs) s z next → Split timeline ps qs s z next
 
 -- and the other way round
 abbrev pub TrailsAppend : Type 0
@@ -23,11 +24,13 @@ TrailsAppend = (timeline : Timeline) (ps qs : List AskedPart) (s mid z : Spot) (
     → Trail timeline ps s mid None → Trail timeline qs mid z next → Trail timeline (ps ++ qs) s z next
 
 abbrev pub StopsOfMore : Type 0
-StopsOfMore = (timeline : Timeline) (ps qs : List AskedPart) (s z : Spot) (p : AskedPart) → Trail timeline ps s z (Some p) → Trail timeline (ps ++ qs) s z (Some p)
+StopsOfMore = (timeline : Timeline) (ps qs : List AskedPart) (s z : Spot) (p : AskedPart)
+    → Trail timeline ps s z (Some p) → Trail timeline (ps ++ qs) s z (Some p)
 
 -- moments never fall, and links left never rise
 abbrev pub MomentsAndLinks : Type 0
-MomentsAndLinks = (timeline : Timeline) (ps : List AskedPart) (s z : Spot) (next : Option AskedPart) → Trail timeline ps s z next
+MomentsAndLinks = (timeline : Timeline) (ps : List AskedPart) (s z : Spot) (next : Option AskedPart)
+    → Trail timeline ps s z next
     → (s.moment ≤ z.moment) × (z.links ≤ s.links)
 
 -- so many links more were left
@@ -36,7 +39,8 @@ with_links k s = record { node = s.node; names = s.names; links = s.links + k; m
 
 -- with more links left at the beginning, as many more are left at the end
 abbrev pub MoreLinksLead : Type 0
-MoreLinksLead = (timeline : Timeline) (k : ℕ) (ps : List AskedPart) (s z : Spot) (next : Option AskedPart) → Trail timeline ps s z next
+MoreLinksLead = (timeline : Timeline) (k : ℕ) (ps : List AskedPart) (s z : Spot) (next : Option AskedPart)
+    → Trail timeline ps s z next
     → Trail timeline ps (with_links k s) (with_links k z) next
 
 -- ---- where nothing changes
@@ -45,7 +49,8 @@ abbrev pub still : List Inode → ℕ → Flags → Ground
 still nodes r flags = record { nodes = nodes; root = r; flags = flags }
 
 -- what a trail leads to where nothing changes is what the parts mean, and it stands at the names passed
-pub record IsMeantThere (nodes : List Inode) (r : ℕ) (flags : Flags) (nested : ℕ) (ps : List AskedPart) (s z : Spot) : Type 0 where
+pub record IsMeantThere (nodes : List Inode) (r : ℕ) (flags : Flags) (nested : ℕ) (ps : List AskedPart)
+    (s z : Spot) : Type 0 where
   pub reads : List Place
   pub means : means nested (still nodes r flags) s.node ps s.links ≡ object z.node z.links reads
   pub stands : Stands nodes r z.node z.names
@@ -56,7 +61,8 @@ QuietTrailsMean = (nodes : List Inode) (r : ℕ) (flags : Flags) → IsTree node
     → Trail (quiet nodes r flags) ps s z None → IsMeantThere nodes r flags nested ps s z
 
 -- and the other way round: where the parts mean an object, a trail leads to it, with the same links left
-pub record IsReachedThere (nodes : List Inode) (r : ℕ) (flags : Flags) (ps : List AskedPart) (s : Spot) (x b : ℕ) : Type 0 where
+pub record IsReachedThere (nodes : List Inode) (r : ℕ) (flags : Flags) (ps : List AskedPart) (s : Spot)
+    (x b : ℕ) : Type 0 where
   pub to : Spot
   pub trail : Trail (quiet nodes r flags) ps s to None
   pub node : to.node ≡ x

@@ -24,11 +24,13 @@ use Rattle.step_resolver.specs.declared.walk.Turn.TheVariants.{More, Found, Part
 abbrev pub standing_handle : StandingObject → Handle
 standing_handle s = record { number = s.handle; node = s.node; kind = s.kind }
 
--- a turn as the order of steps has it: names the innermost first, and the rest of the caller's parts as they were asked
+-- a turn as the order of steps has it: names the innermost first, and the rest of the caller's parts as they were
+-- asked
 abbrev pub turn_view : Goal → Outcome → Turn
 turn_view goal (More walk) = more walk.walking
 turn_view goal (Found standing) = found (standing_handle standing) (reverse standing.names)
-turn_view goal (Partial standing rest) = partial (standing_handle standing) (reverse standing.names) (asked (follows goal) rest)
+turn_view goal (Partial standing rest) =
+    partial (standing_handle standing) (reverse standing.names) (asked (follows goal) rest)
 turn_view goal (Failed error) = failed error
 
 -- it is still this owner's, and on this way
@@ -46,7 +48,8 @@ StartsTo way path turn = (room : Bool) × (turn ≡ starts way room path)
 abbrev pub TakesTo : Way → Walking → Answer → Turn → Type 0
 TakesTo way walking answer turn = (room : Bool) × (turn ≡ take way room walking answer)
 
--- how many steps are to come at most; the goal is one for all, since it counts for nothing but the rest of a partial end
+-- how many steps are to come at most; the goal is one for all, since it counts for nothing but the rest of a partial
+-- end
 abbrev pub steps_to_come : Outcome → ℕ
 steps_to_come turn = steps_left_at (turn_view Follow turn)
 
@@ -73,7 +76,8 @@ KeepsCourse old new place next =
 -- what comes after the last check, as a turn; the rest of a partial end is in the plan
 abbrev pub end_turn : Course → End → Turn
 end_turn course (end.Found standing) = found (standing_handle standing) (reverse standing.names)
-end_turn course (end.Partial standing) = partial (standing_handle standing) (reverse standing.names) (own_to_come course.plan)
+end_turn course (end.Partial standing) =
+    partial (standing_handle standing) (reverse standing.names) (own_to_come course.plan)
 end_turn course (end.Due pending) = more (walking_of course.plan None pending)
 
 abbrev pub IsEnd : Course → End → Type 0
@@ -82,4 +86,5 @@ IsEnd course (end.Partial standing) = (standing.owner ≡ course.root.owner) × 
 IsEnd course (end.Due pending) = IsPending course.plan None pending
 
 abbrev pub TakesOn : Course → Option ReachedObject → Pending → Answer → Course → Option ReachedObject → Next → Type 0
-TakesOn old held pending answer new place next = TakesTo (course_way old) (walking_of old.plan held pending) answer (next_turn new place next)
+TakesOn old held pending answer new place next =
+    TakesTo (course_way old) (walking_of old.plan held pending) answer (next_turn new place next)

@@ -118,7 +118,11 @@ walking_of p place (Closing first second after) = closing first (option_to_list 
 
 abbrev pub view_of : Course → Option ReachedObject → Pending → WalkView
 view_of course place pending =
-    record { owner = course.root.owner; way = way_of course.root course.plan; walking = walking_of course.plan place pending }
+    record {
+      owner = course.root.owner;
+      way = way_of course.root course.plan;
+      walking = walking_of course.plan place pending;
+    }
 
 -- ---- what every walk keeps
 

@@ -12,8 +12,9 @@ use Rattle.step_resolver.specs.Meaning.{LINKS_MAX}
 use Rattle.step_resolver.specs.Trail.{Timeline, Spot, Trail, at_root, timeline_of}
 use Rattle.step_resolver.specs.Order.{Way, Line, events_of}
 
--- A walk in a history: the tree at the history's opening, the events before the walk, those of its window, whose they are,
--- the root's handle with what the walk is after, the node of that handle, the path, and what the walk was told.
+-- A walk in a history: the tree at the history's opening, the events before the walk, those of its window, whose
+-- they are, the root's handle with what the walk is after, the node of that handle, the path, and what the walk was
+-- told.
 pub record WalkInHistory : Type 0 where
   pub opening : State
   pub before : List Event
@@ -45,8 +46,8 @@ parts_of_walk w = asked (follows w.way.goal) w.path.parts
 abbrev pub own_events : ℕ → List Event → List Event
 own_events a events = filter (λ event. event.actor == a) events
 
--- The opening is a tree, the history is legal, the actor's own events in the window are those of the walk, and the root's
--- handle is open, its own, and names a directory.
+-- The opening is a tree, the history is legal, the actor's own events in the window are those of the walk, and the
+-- root's handle is open, its own, and names a directory.
 pub record IsWalkInHistory (w : WalkInHistory) : Type 0 where
   pub tree : IsState w.opening
   pub legal_before : IsLegal w.opening w.before

@@ -67,8 +67,8 @@ race = record {
   lines = lines_down ++ lines_up;
 }
 
--- It is a walk in a legal history, it ends in EAGAIN, and tells why; and the entry that was changed is among those that the
--- path reads.
+-- It is a walk in a legal history, it ends in EAGAIN, and tells why; and the entry that was changed is among those
+-- that the path reads.
 pub record RaceIsWorked : Type 0 where
   pub walked : IsWalkInHistory race
   pub ends : LeadsTo race.way (begins race.way race.path) race.lines (failed Raced)

@@ -139,7 +139,8 @@ impl Course {
         after: AfterClose,
     ) -> Next
         requires { IsAfter self.now.plan.names place.now after }
-        ensures turn { next_turn self.now place.now result ≡ more (closing first.handle (numbers_of second) (after_of self.now.plan place.now after)) }
+        ensures turn { next_turn self.now place.now result
+            ≡ more (closing first.handle (numbers_of second) (after_of self.now.plan place.now after)) }
         ensures kept { KeepsCourse self.now self.now place.now result }
     {
         Next::Due(Pending::Closing {
@@ -153,7 +154,8 @@ impl Course {
     fn end(&self, place: &Option<Reached>) -> Next
         requires place { IsPlace self.now.plan.names place.now }
         requires own { self.now.plan.inner ≡ [] }
-        ensures turn { next_turn self.now place.now result ≡ at_end (position_at self.now place.now) (own_to_come self.now.plan) }
+        ensures turn { next_turn self.now place.now result
+            ≡ at_end (position_at self.now place.now) (own_to_come self.now.plan) }
         ensures kept { KeepsCourse self.now self.now place.now result }
     {
         Next::Due(match place {
@@ -166,7 +168,8 @@ impl Course {
     #[tactic(auto, using(crate::proofs::WalkParts::next_parts))]
     pub(crate) fn go_on(&mut self, place: &mut Option<Reached>) -> Next
         requires { IsPlace self.old.plan.names place.old }
-        ensures turn { next_turn self.new place.new result ≡ goes_on (course_way self.old) (position_at self.old place.old) (todo_of self.old.plan) }
+        ensures turn { next_turn self.new place.new result
+            ≡ goes_on (course_way self.old) (position_at self.old place.old) (todo_of self.old.plan) }
         ensures kept { KeepsCourse self.old self.new place.new result }
     {
         match self.plan.next() {
@@ -188,7 +191,8 @@ impl Course {
         requires place { IsPlace self.old.plan.names place.old }
         requires directory { is_directory_at place.old ≡ true }
         requires moves { stays self.old.plan ≡ false }
-        ensures turn { next_turn self.new place.new result ≡ goes_on (course_way self.old) (position_at self.old place.old) (todo_of self.old.plan) }
+        ensures turn { next_turn self.new place.new result
+            ≡ goes_on (course_way self.old) (position_at self.old place.old) (todo_of self.old.plan) }
         ensures kept { KeepsCourse self.old self.new place.new result }
     {
         match self.plan.next() {
@@ -213,7 +217,8 @@ impl Course {
         requires directory { is_directory_at place.old ≡ true }
         requires up { next_part self.old.plan ≡ Some Up }
         requires moves { stays self.old.plan ≡ false }
-        ensures turn { next_turn self.new place.new result ≡ goes_on (course_way self.old) (position_at self.old place.old) (todo_of self.old.plan) }
+        ensures turn { next_turn self.new place.new result
+            ≡ goes_on (course_way self.old) (position_at self.old place.old) (todo_of self.old.plan) }
         ensures kept { KeepsCourse self.old self.new place.new result }
     {
         if self.plan.names().is_empty() {
@@ -259,7 +264,10 @@ impl Course {
     fn not_opened(&self, place: &mut Option<Reached>, error: Errno) -> Next
         requires place { IsPlace self.now.plan.names place.old }
         requires named { IsAtName self.now.plan }
-        ensures turn { next_turn self.now place.new result ≡ refused_open (course_way self.now) (position_at self.now place.old) (is_own self.now.plan) (follows_next_link self.now.plan) (name_in (next_part self.now.plan)) (todo_of (stayed self.now.plan)) error }
+        ensures turn { next_turn self.now place.new result
+            ≡ refused_open (course_way self.now) (position_at self.now place.old) (is_own self.now.plan)
+            (follows_next_link self.now.plan) (name_in (next_part self.now.plan))
+            (todo_of (stayed self.now.plan)) error }
         ensures kept { KeepsCourse self.now self.now place.new result }
     {
         if error == Errno::NotFound && self.plan.goal() == Goal::Deepest && self.plan.is_own() {
@@ -273,7 +281,9 @@ impl Course {
     fn follow(&self, place: &mut Option<Reached>, link: Reached) -> Next
         requires place { IsPlace self.now.plan.names place.old }
         requires named { IsAtName self.now.plan }
-        ensures turn { next_turn self.now place.new result ≡ follows_link (course_way self.now) (position_at self.now place.old) (handle_of link) (todo_of (stayed self.now.plan)) }
+        ensures turn { next_turn self.now place.new result
+            ≡ follows_link (course_way self.now) (position_at self.now place.old) (handle_of link)
+            (todo_of (stayed self.now.plan)) }
         ensures kept { KeepsCourse self.now self.now place.new result }
     {
         if self.plan.links_left() == 0 || self.plan.flags().no_links {
@@ -285,7 +295,8 @@ impl Course {
 
     // What was just opened is closed, then what is held, and the walk fails.
     fn fail_with(&self, place: &mut Option<Reached>, new: Reached, error: Errno) -> Next
-        ensures turn { next_turn self.now place.new result ≡ more (closing new.handle (numbers_of place.old) (gives error)) }
+        ensures turn { next_turn self.now place.new result
+            ≡ more (closing new.handle (numbers_of place.old) (gives error)) }
         ensures kept { KeepsCourse self.now self.now place.new result }
     {
         let held = mem::replace(place, None);
@@ -297,7 +308,9 @@ impl Course {
     fn enter(&mut self, place: &mut Option<Reached>, new: Reached) -> Next
         requires place { IsPlace self.old.plan.names place.old }
         requires named { IsAtName self.old.plan }
-        ensures turn { EntersBy (course_way self.old) (position_at self.old place.old) (name_in (next_part self.old.plan)) (handle_of new) (todo_of (stayed self.old.plan)) (next_turn self.new place.new result) }
+        ensures turn { EntersBy (course_way self.old) (position_at self.old place.old)
+            (name_in (next_part self.old.plan)) (handle_of new) (todo_of (stayed self.old.plan))
+            (next_turn self.new place.new result) }
         ensures kept { KeepsCourse self.old self.new place.new result }
     {
         match self.plan.entered() {
@@ -395,7 +408,9 @@ impl Course {
     #[tactic(auto, using(crate::proofs::WalkAnswers::ending_fails))]
     pub(crate) fn ended(&self, held: Reached, answer: Answer) -> End
         requires { self.now.plan.inner ≡ [] }
-        ensures turn { TakesTo (course_way self.now) (ending (handle_of held) (reverse self.now.plan.names) (own_to_come self.now.plan)) answer (end_turn self.now result) }
+        ensures turn { TakesTo (course_way self.now)
+            (ending (handle_of held) (reverse self.now.plan.names) (own_to_come self.now.plan)) answer
+            (end_turn self.now result) }
         ensures kept { IsEnd self.now result }
     {
         let refusal = check_refusal(&answer);
@@ -423,7 +438,8 @@ impl Course {
         after: AfterClose,
     ) -> Next
         requires { IsAfter self.old.plan.names place.old after }
-        ensures turn { next_turn self.new place.new result ≡ closes (course_way self.old) (option_to_list second) (after_of self.old.plan place.old after) }
+        ensures turn { next_turn self.new place.new result
+            ≡ closes (course_way self.old) (option_to_list second) (after_of self.old.plan place.old after) }
         ensures kept { KeepsCourse self.old self.new place.new result }
     {
         match second {
@@ -439,7 +455,8 @@ impl Course {
     // All was closed.
     fn come(&mut self, place: &mut Option<Reached>, after: AfterClose) -> Next
         requires { IsAfter self.old.plan.names place.old after }
-        ensures turn { next_turn self.new place.new result ≡ comes (course_way self.old) (after_of self.old.plan place.old after) }
+        ensures turn { next_turn self.new place.new result
+            ≡ comes (course_way self.old) (after_of self.old.plan place.old after) }
         ensures kept { KeepsCourse self.old self.new place.new result }
     {
         match after {

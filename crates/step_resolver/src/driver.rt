@@ -15,7 +15,7 @@ use tree_model::{
 };
 use walk_plan::Goal;
 
-/// What stands at the end of a path, open, with the names at which it stands below the root.
+/// What is at the end of a path: open, and with the names at which it stands below the root.
 #[derive(Debug)]
 pub enum Resolved {
     /// The object that the whole path means.
@@ -40,7 +40,8 @@ fn answer_due<T: Tree>(alloc: Global, tree: &mut T, actor: Actor, walk: &Walk) -
 /// Makes the step that is due on the tree, as this actor, and takes its answer. A step for which there is no memory
 /// isn't made, and is taken as refused for that. No node of the tree is changed.
 pub fn advance<T: Tree>(alloc: Global, tree: &mut T, actor: Actor, walk: Walk) -> Turn
-    ensures driven { Drives walk.way actor (T.state tree.old) (more walk.walking) (T.state tree.new) (turn_view walk.way.goal result) }
+    ensures driven { Drives walk.way actor (T.state tree.old) (more walk.walking) (T.state tree.new)
+        (turn_view walk.way.goal result) }
     ensures kept { Keeps walk.owner walk.way result }
     ensures fewer { steps_to_come result < steps_left walk.walking }
 {
@@ -50,13 +51,14 @@ pub fn advance<T: Tree>(alloc: Global, tree: &mut T, actor: Actor, walk: Walk) -
     walk.take(alloc, answer)
 }
 
-/// What a path means below a root on which nobody else acts (openat2(2), RESOLVE_IN_ROOT): the object, open, with the
-/// names at which it stands below the root, or for `Goal::Deepest` the deepest directory with the rest. The root's
-/// handle is open, and there is room for one more handle beside the new one and for the numbers of all that a walk may
-/// open. No node is changed, and all else that was opened is closed again, so the tree can be resolved on again.
+/// Resolves a path below a root on which nobody else acts (openat2(2), RESOLVE_IN_ROOT). Gives the object, open, with
+/// the names at which it stands below the root; for `Goal::Deepest` perhaps the deepest directory, with the rest of
+/// the path. The root's handle must be open, with room for one more handle beside the new one, and for the numbers of
+/// all that a walk may open. No node is changed. All else that was opened is closed again, so the tree can be resolved
+/// on again.
 ///
-/// Errors: what `Walk::take` fails with (path_resolution(7); openat2(2)), but for Raced, TooMany and BadHandle, since
-/// nobody else acts; NoMemory.
+/// Errors: those of `Walk::take` (path_resolution(7); openat2(2)) but Raced, TooMany and BadHandle, since nobody else
+/// acts; NoMemory.
 pub fn resolve<T: Tree>(
     alloc: Global,
     tree: &mut T,
@@ -72,7 +74,8 @@ pub fn resolve<T: Tree>(
     ensures handles { LeavesHandles (T.state tree.old) root.owner.actor (T.state tree.new) result }
     ensures room { LeavesRoom (T.state tree.old) root.owner.actor (T.state tree.new) result }
 {
-    // what the end tells; that it is what the path means; that there is a tree again; and that the steps make one history
+    // what the end tells; that it is what the path means; that there is a tree again; and that the steps make one
+    // history
     walks_tell();
     quiet_walks_mean();
     histories_keep_trees();

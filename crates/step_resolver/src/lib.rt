@@ -4,9 +4,9 @@
 //! (openat2(2), RESOLVE_IN_ROOT; path_resolution(7)). Its `start`, `due` and `take` are exactly the order of
 //! steps of `specs/Order.antt`, and each `take` leaves fewer steps to come. What holds of that order in every legal
 //! history is the law `headline`, which `specs/Headline.antt` states clause by clause. The layers above use its
-//! parts: `walks_tell`, what each end of a walk tells, and `walks_mean`, that the end is what the path means where no
-//! other actor changes an entry that the path reads. `start` and `take` tell it themselves, by their clause
-//! `headline` (`specs/TurnsTell.antt`).
+//! parts: `walks_tell`, what holds at each end of a walk, and `walks_mean`, that the end is what the path means where
+//! no other actor changes an entry that the path reads. `start` and `take` have it as their clause `headline`
+//! (`specs/TurnsTell.antt`).
 #![tactic(auto)]
 
 mod answers;

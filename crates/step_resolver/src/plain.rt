@@ -146,7 +146,8 @@ fn link_means(on: &Ground, here: Arrived, text: &[u8]) -> Result<Arrived, Errno>
 // What one part means.
 #[cycle(meaning)]
 fn piece_means(on: &Ground, here: Arrived, piece: &[u8], follow: bool) -> Result<Arrived, Errno>
-    ensures { result ≡ arrival (part_means (meant on.now) on.now here.node (ask follow (part_of piece.now)) here.links) }
+    ensures { result ≡ arrival
+        (part_means (meant on.now) on.now here.node (ask follow (part_of piece.now)) here.links) }
 {
     if !is_dir(on.nodes, here.node) {
         return Err(Errno::NotDir);
@@ -210,7 +211,9 @@ pub fn resolve_whole(
     follow: bool,
     flags: Flags,
 ) -> Result<Node, Errno>
-    ensures { MatchResult result (λ node. resolution (resolved nodes.now root text.now follow flags) ≡ is_object node) (λ error. resolution (resolved nodes.now root text.now follow flags) ≡ is_error error) }
+    ensures { MatchResult result
+        (λ node. resolution (resolved nodes.now root text.now follow flags) ≡ is_object node)
+        (λ error. resolution (resolved nodes.now root text.now follow flags) ≡ is_error error) }
 {
     if let Some(fault) = Path::fault_of(text) {
         return Err(fault);

@@ -14,6 +14,7 @@ use std::mem;
 use tree_model::{Answer, HandleNo, Step, StepOf};
 use walk_plan::{Goal, Plan};
 
+mod copy;
 mod like;
 
 pub use like::like_held;
@@ -26,10 +27,10 @@ pub struct Root {
     pub handle: HandleNo,
 }
 
-/// A walk that is under way. It can't be let go: each `due` step is to be made, and its answer taken, until the walk
-/// ends. One to be given up has each Close made that is due, and is told `Refused(NoMemory)` at every other step.
-/// It lies in one box, and moving it moves a pointer. Contracts see it as a `WalkView`: whose it is, what stays the same
-/// for it, and the step that is due.
+/// A walk that is under way. You can't drop it: make each step that is `due`, and `take` its answer, until the walk
+/// ends. To give it up, make each Close that is due, and answer `Refused(NoMemory)` to every other step. It lies in
+/// one box, and moving it moves a pointer. Contracts see it as a `WalkView`: whose it is, what stays the same for
+/// it, and the step that is due.
 #[derive(Debug)]
 pub struct Walk {
     state: Box<State>,
@@ -77,10 +78,9 @@ impl Walk {
 
     /// Begins a walk along the path below the root (openat2(2), RESOLVE_IN_ROOT). One that goes on takes memory once.
     ///
-    /// Errors that come before any step: CrossRoot for an absolute path under `beneath`, or for `..` at the root
-    /// (EXDEV of openat2(2)); TooLong for a first name of more than 255 bytes (ENAMETOOLONG); and where none of them
-    /// comes, NoMemory, which counts as a first step that wasn't made for want of it. Such an end tells the truth of
-    /// every history in which it comes, as those of `take` do.
+    /// It may fail before any step: CrossRoot for an absolute path under `beneath`, or for `..` at the root (EXDEV of
+    /// openat2(2)); TooLong for a first name of more than 255 bytes (ENAMETOOLONG); otherwise NoMemory, as if the
+    /// first step couldn't be made for want of it. What `take` says of an end holds of these, too.
     #[tactic(auto, using(crate::proofs::TurnsTell::begun_tells))]
     pub fn start(alloc: Global, root: Root, path: Path, goal: Goal, flags: Flags) -> Turn
         ensures turn { StartsTo (way_from root goal flags) path (turn_view goal result) }
@@ -111,7 +111,9 @@ impl Walk {
     // The walk at its first step, or its end. Room is asked for last, so that an end never fails for want of it.
     fn on_course(alloc: Global, mut course: Course) -> Turn
         requires { course.plan.names ≡ [] }
-        ensures turn { (room : Bool) × (turn_view course.plan.goal result ≡ for_walk room (goes_on (course_way course) root_itself (todo_of course.plan))) }
+        ensures turn { (room : Bool)
+            × (turn_view course.plan.goal result
+            ≡ for_walk room (goes_on (course_way course) root_itself (todo_of course.plan))) }
         ensures kept { Keeps course.root.owner (course_way course) result }
     {
         let mut place = None;
@@ -166,21 +168,22 @@ impl Walk {
         })
     }
 
-    /// What the answer to the due step makes of the walk. A driver that couldn't make the step, for want of memory
-    /// or of room in its book, hands in that refusal; the answer to a Close isn't looked at. A refused growth counts
-    /// as NoMemory. Before the walk fails all that it opened is closed, just opened first, which takes no memory.
+    /// Takes the answer to the due step, and gives the walk's next turn. A driver that couldn't make the step, for
+    /// want of memory or of room in its book, hands in that refusal. The answer to a Close isn't looked at. A
+    /// refused growth counts as NoMemory. Before the walk fails it closes everything that it opened, the newest
+    /// first, which takes no memory.
     ///
     /// It fails (path_resolution(7); openat2(2)) with NotDir for a part in what is no directory; CrossRoot for `..`
     /// at the root or an absolute link under `beneath`; TooLong for a name of more than 255 bytes; Loop for a link
-    /// past the fortieth, or any that must be followed under `no_links`; the fault of a link's text; Raced where what
+    /// past the fortieth, or any that must be followed under `no_links`; the fault of a link's text; Raced if what
     /// it holds isn't at the names passed, or a parent is gone; BadHandle for an answer that doesn't fit the step;
     /// and any other refusal of a step.
     ///
-    /// Where the walk ends here, the end tells the truth of every legal history whose steps of this walk led to it,
-    /// whatever others changed in between. What was found was reached part by part, and afterwards stood under the
-    /// root at the names passed; a failure was true at moments of the walk. Where no other actor changed an entry
-    /// that the path reads, the end is what the path means (path_resolution(7)), but for want of memory, of room in
-    /// the book or of handles.
+    /// If the walk ends here, this holds in every legal history whose steps of this walk led to the end, whatever
+    /// others changed in between. What was found was reached part by part, and afterwards stood under the root at
+    /// the names passed. A failure was true at moments of the walk. If no other actor changed an entry that the path
+    /// reads, the end is what the path means (path_resolution(7)), unless memory, room in the book or handles ran
+    /// short.
     #[tactic(auto, using(crate::proofs::TurnsTell::taken_tells))]
     pub fn take(self, alloc: Global, answer: Answer) -> Turn
         ensures turn { TakesTo self.way self.walking answer (turn_view self.way.goal result) }
@@ -220,7 +223,9 @@ impl Walk {
     fn ended(mut state: Box<State>, answer: Answer) -> Turn
         requires pending { IsPending state.value.course.plan state.value.place state.value.pending }
         requires ending { is_ending state.value.pending ≡ true }
-        ensures turn { TakesTo (course_way state.value.course) (walking_of state.value.course.plan state.value.place state.value.pending) answer (turn_view state.value.course.plan.goal result) }
+        ensures turn { TakesTo (course_way state.value.course)
+            (walking_of state.value.course.plan state.value.place state.value.pending) answer
+            (turn_view state.value.course.plan.goal result) }
         ensures kept { Keeps state.value.course.root.owner (course_way state.value.course) result }
     {
         let held = course::taken(&mut state.place);
@@ -247,7 +252,8 @@ impl State {
     fn answered(&mut self, alloc: Global, answer: Answer) -> Next
         requires pending { IsPending self.old.course.plan self.old.place self.old.pending }
         requires goes_on { is_ending self.old.pending ≡ false }
-        ensures turn { TakesOn self.old.course self.old.place self.old.pending answer self.new.course self.new.place result }
+        ensures turn { TakesOn self.old.course self.old.place self.old.pending answer
+            self.new.course self.new.place result }
         ensures kept { KeepsCourse self.old.course self.new.course self.new.place result }
         ensures no_link { HoldsNoLink self.new.pending }
     {
@@ -274,7 +280,8 @@ impl State {
     fn read(&mut self, alloc: Global, answer: Answer) -> Next
         requires pending { IsPending self.old.course.plan self.old.place self.old.pending }
         requires reads { HoldsNoLink self.old.pending → ⊥ }
-        ensures turn { TakesOn self.old.course self.old.place self.old.pending answer self.new.course self.new.place result }
+        ensures turn { TakesOn self.old.course self.old.place self.old.pending answer
+            self.new.course self.new.place result }
         ensures kept { KeepsCourse self.old.course self.new.course self.new.place result }
         ensures no_link { HoldsNoLink self.new.pending }
     {
@@ -285,8 +292,8 @@ impl State {
         }
     }
 
-    // Lets a walk's box go where nothing is held any more. Apart from `taken`, so that a turn which goes on makes no room
-    // for what lies in the box.
+    // Lets a walk's box go where nothing is held any more. Apart from `taken`, so that a turn which goes on makes no
+    // room for what lies in the box.
     #[inline(never)]
     fn let_go(state: Box<State>)
         requires { HoldsNothing state.value.place state.value.pending }

@@ -5,10 +5,10 @@ use Rattle.tree_model.specs.State.{State}
 use Rattle.surveys.specs.declared.survey.Told.{Told}
 use Rattle.surveys.specs.Classes.{IsTold, AreTold}
 
-pub one_told : (named : List ℕ) (outside : Bool) (opening : State) (actors : ℕ) (classes : List ClassView) (all : List Told) (class : ClassView) (told : Told)
-    → AreTold named outside opening actors classes all → IsTold named outside opening actors class told
-    → AreTold named outside opening actors (classes ++ class ∷ []) (all ++ told ∷ [])
-one_told named outside opening actors [] [] class told are is = (is, tt)
-one_told named outside opening actors (c ∷ classes) (t ∷ all) class told are is = (are.0, one_told named outside opening actors classes all class told are.1 is)
-one_told named outside opening actors [] (t ∷ all) class told are is = absurd are
-one_told named outside opening actors (c ∷ classes) [] class told are is = absurd are
+pub one_told : (named : List ℕ) (opening : State) (actors : ℕ) (classes : List ClassView) (all : List Told) (class : ClassView) (told : Told)
+    → AreTold named opening actors classes all → IsTold named opening actors class told
+    → AreTold named opening actors (classes ++ class ∷ []) (all ++ told ∷ [])
+one_told named opening actors [] [] class told are is = (is, tt)
+one_told named opening actors (c ∷ classes) (t ∷ all) class told are is = (are.0, one_told named opening actors classes all class told are.1 is)
+one_told named opening actors [] (t ∷ all) class told are is = absurd are
+one_told named opening actors (c ∷ classes) [] class told are is = absurd are

@@ -22,11 +22,13 @@ object_words (Link text) = codes "link " ++ escaped text
 
 -- P NAME C, with a blank behind each
 abbrev pub place_words : Row → List ℕ
-place_words row = decimal row.parent ++ (codes " " ++ (escaped row.name ++ (codes " " ++ (decimal row.child ++ codes " "))))
+place_words row = decimal row.parent
+    ++ (codes " " ++ (escaped row.name ++ (codes " " ++ (decimal row.child ++ codes " "))))
 
 -- an entry of these nodes, after that word; an entry's node is always there
 abbrev pub entry_words : List ℕ → List Inode → Row → List ℕ
-entry_words word nodes row = with_some (object_at nodes row.child) [] (λ object. word ++ (place_words row ++ (object_words object ++ codes "\n")))
+entry_words word nodes row = with_some (object_at nodes row.child) []
+    (λ object. word ++ (place_words row ++ (object_words object ++ codes "\n")))
 
 -- the same, unless it is one of the other tree too
 abbrev pub change_words : List ℕ → List Inode → List Inode → Row → List ℕ

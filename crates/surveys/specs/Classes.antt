@@ -1,22 +1,19 @@
 -- What is told of the outcomes that a search finds.
-use Rattle.std.specs.Prelude.{⊤, ℕ, List, [], ◌∷◌, Bool, if◌then◌else◌}
+use Rattle.std.specs.Prelude.{⊤, ℕ, List, [], ◌∷◌}
 use Rattle.explore.specs.Explored.{ClassView}
 use Rattle.tree_model.specs.State.{State}
 use Rattle.surveys.specs.declared.survey.Told.{Told}
 use Rattle.surveys.specs.Telling.{IsToldOf}
 
--- how many steps of each actor acted outside, where it is asked for
-abbrev pub outside_told : Bool → ClassView → List ℕ
-outside_told asked class = if asked then class.least.outside else []
-
-abbrev pub IsTold : List ℕ → Bool → State → ℕ → ClassView → Told → Type 0
-IsTold named outside opening actors class told =
-    IsToldOf named opening actors class.lists class.least.cuts class.least.turns class.least.replies class.least.tree (outside_told outside class) told
+abbrev pub IsTold : List ℕ → State → ℕ → ClassView → Told → Type 0
+IsTold named opening actors class told =
+    IsToldOf named opening actors class.lists class.least.cuts class.least.turns class.least.replies
+    class.least.tree class.least.outside told
 
 -- one of each outcome, in the same order
-abbrev pub AreTold : List ℕ → Bool → State → ℕ → List ClassView → List Told → Type 0
-AreTold named outside opening actors [] [] = ⊤
-AreTold named outside opening actors (class ∷ classes) (told ∷ all) =
-    IsTold named outside opening actors class told × AreTold named outside opening actors classes all
-AreTold named outside opening actors [] (told ∷ all) = ⊥
-AreTold named outside opening actors (class ∷ classes) [] = ⊥
+abbrev pub AreTold : List ℕ → State → ℕ → List ClassView → List Told → Type 0
+AreTold named opening actors [] [] = ⊤
+AreTold named opening actors (class ∷ classes) (told ∷ all) =
+    IsTold named opening actors class told × AreTold named opening actors classes all
+AreTold named opening actors [] (told ∷ all) = ⊥
+AreTold named opening actors (class ∷ classes) [] = ⊥

@@ -28,22 +28,26 @@ IsSurveyOf asked holds said text = IsSurvey asked (tree_of said) said.plans said
 -- why there is none for a script whose checks have passed
 abbrev pub IsNoSurvey : Asked → Said → ExploreFault → Type 0
 IsNoSurvey asked said (Run fault) = IsNoRun said fault
-IsNoSurvey asked said (NoSuchActor actor) = WhyNoSurvey asked (tree_of said) said.plans said.lines (survey.NoSuchActor actor)
-IsNoSurvey asked said (NoSuchLine place) = WhyNoSurvey asked (tree_of said) said.plans said.lines (survey.NoSuchLine place)
+IsNoSurvey asked said (NoSuchActor actor) =
+    WhyNoSurvey asked (tree_of said) said.plans said.lines (survey.NoSuchActor actor)
+IsNoSurvey asked said (NoSuchLine place) =
+    WhyNoSurvey asked (tree_of said) said.plans said.lines (survey.NoSuchLine place)
 IsNoSurvey asked said TooManyStates = WhyNoSurvey asked (tree_of said) said.plans said.lines survey.TooManyStates
 IsNoSurvey asked said TooManyTurns = WhyNoSurvey asked (tree_of said) said.plans said.lines survey.TooManyTurns
 
 -- a fault of reading, making the world or writing; or there is no survey
 abbrev pub IsExploreFaultOf : Asked → Result Said ScriptFault → ExploreFault → Type 0
-IsExploreFaultOf asked said (Run fault) = IsWritingFaultOf (λ s text. (holds : Bool) × IsSurveyOf asked holds s text) said fault
+IsExploreFaultOf asked said (Run fault) =
+    IsWritingFaultOf (λ s text. (holds : Bool) × IsSurveyOf asked holds s text) said fault
 IsExploreFaultOf asked said (NoSuchActor actor) = IsOkAnd said (λ s. IsNoSurvey asked s (NoSuchActor actor))
 IsExploreFaultOf asked said (NoSuchLine place) = IsOkAnd said (λ s. IsNoSurvey asked s (NoSuchLine place))
 IsExploreFaultOf asked said TooManyStates = IsOkAnd said (λ s. IsNoSurvey asked s TooManyStates)
 IsExploreFaultOf asked said TooManyTurns = IsOkAnd said (λ s. IsNoSurvey asked s TooManyTurns)
 
--- The text of all that is found was written, and nothing else, and the answer is whether no property fails; or it failed as it
--- should, and but for a writer that failed nothing was written. `known` is what the reader had left.
+-- The text of all that is found was written, and nothing else, and the answer is whether no property fails; or it
+-- failed as it should, and but for a writer that failed nothing was written. `known` is what the reader had left.
 abbrev pub IsExplore : Asked → Option (List ℕ) → Option (List ℕ) → Option (List ℕ) → Result Bool ExploreFault → Type 0
 IsExplore asked known old new result = MatchResult result
     (λ holds. IfSome known (λ input. Wrote (IsSurveyOf asked holds) (said_for OfScript input) old new))
-    (λ fault. IfSome known (λ input. IsExploreFaultOf asked (said_for OfScript input) fault) × (fault ≢ Run WriteFailed → Keeps old new))
+    (λ fault. IfSome known (λ input. IsExploreFaultOf asked (said_for OfScript input) fault)
+    × (fault ≢ Run WriteFailed → Keeps old new))

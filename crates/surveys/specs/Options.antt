@@ -61,7 +61,8 @@ pub record AreAsked (options : Options) (asked : Asked) : Type 0 where
   pub cuts : SaysCuts options.cuts asked.cuts
   pub most : SaysMost options.states asked.most
   pub outside : asked.outside ≡ options.outside
-  pub properties : asked.properties.items ≡ properties_by Never (texts_in options.never.now) ++ properties_by Always (texts_in options.always.now)
+  pub properties : asked.properties.items
+      ≡ properties_by Never (texts_in options.never.now) ++ properties_by Always (texts_in options.always.now)
   pub texts : are_properties options.outside (property_texts options) ≡ true
 
 -- ---- which option is refused: the first in this order
@@ -75,7 +76,9 @@ IsUnsaid {A} SaysIt = (x : A) → SaysIt x → ⊥
 abbrev pub IsOptionFault : Options → OptionFault → Type 0
 IsOptionFault options Actor = IsUnsaid (SaysActors options)
 IsOptionFault options Cuts = IsSaid (SaysActors options) × IsUnsaid (SaysCuts options.cuts)
-IsOptionFault options States = IsSaid (SaysActors options) × IsSaid (SaysCuts options.cuts) × IsUnsaid (SaysMost options.states)
+IsOptionFault options States =
+    IsSaid (SaysActors options) × IsSaid (SaysCuts options.cuts) × IsUnsaid (SaysMost options.states)
 IsOptionFault options Text =
-    IsSaid (SaysActors options) × IsSaid (SaysCuts options.cuts) × IsSaid (SaysMost options.states) × (are_properties options.outside (property_texts options) ≡ false)
+    IsSaid (SaysActors options) × IsSaid (SaysCuts options.cuts) × IsSaid (SaysMost options.states)
+    × (are_properties options.outside (property_texts options) ≡ false)
 IsOptionFault options NoMemory = ⊤

@@ -31,14 +31,16 @@ named_outside_of named actor steps = if is_named named actor then outside_line a
 abbrev pub named_outside : List ℕ → List ℕ → List ℕ
 named_outside named outside = numbered (named_outside_of named) 0 outside
 
--- Of the actors that are named the replies alone. Where none is: all replies, the entries that are no more and the new ones,
--- and how many handles each actor has open. Then how many steps acted outside, where they were counted.
+-- Of the actors that are named the replies alone. Where none is: all replies, the entries that are no more and the
+-- new ones, and how many handles each actor has open. Then how many steps acted outside, where they were counted.
 abbrev pub outcome_lines : List ℕ → State → List (List Outcome) → State → List ℕ → ℕ → List ℕ
 outcome_lines [] opening replies s outside actors =
     reply_lines replies ++ (changes_text (codes "minus ") opening.nodes s.nodes
     ++ (changes_text (codes "plus ") s.nodes opening.nodes ++ (held_lines s actors ++ outside_lines outside)))
-outcome_lines (i ∷ is) opening replies s outside actors = named_lines (i ∷ is) replies ++ named_outside (i ∷ is) outside
+outcome_lines (i ∷ is) opening replies s outside actors =
+    named_lines (i ∷ is) replies ++ named_outside (i ∷ is) outside
 
 -- all lines of a report but those of events, and then how many steps acted outside
 abbrev pub report_lines : List (List Outcome) → State → List ℕ → ℕ → List ℕ
-report_lines replies s outside actors = reply_lines replies ++ (row_lines s.nodes ++ (held_lines s actors ++ outside_lines outside))
+report_lines replies s outside actors =
+    reply_lines replies ++ (row_lines s.nodes ++ (held_lines s actors ++ outside_lines outside))

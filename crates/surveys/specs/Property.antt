@@ -34,11 +34,12 @@ fails property lines = fails_by property.rule (has property.text lines)
 
 -- ---- what a text must be to be a property's
 
--- a line of a reply, of an entry or of a count of handles is named by its first word; and of a count of steps outside, where they
--- are counted
+-- a line of a reply, of an entry or of a count of handles is named by its first word; and of a count of steps
+-- outside, where they are counted
 abbrev pub names_a_line : Bool → List ℕ → Bool
 names_a_line outside text =
-    tells (codes "reply") text || tells (codes "row") text || tells (codes "held") text || (outside && tells (codes "outside") text)
+    tells (codes "reply") text || tells (codes "row") text || tells (codes "held") text
+    || (outside && tells (codes "outside") text)
 
 -- a line has such bytes alone
 abbrev pub is_printed : ℕ → Bool

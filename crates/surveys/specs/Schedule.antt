@@ -12,8 +12,8 @@ abbrev pub rises : List ℕ → Bool
 rises [] = true
 rises (i ∷ is) = begins_to_rise (i ∷ is) && rises is
 
--- A list without its longest tail that rises. A run adds that tail: after a schedule the actors go to their ends in the
--- order of their numbers.
+-- A list without its longest tail that rises. A run adds that tail: after a schedule the actors go to their ends in
+-- the order of their numbers.
 abbrev pub without_tail : List ℕ → List ℕ
 without_tail [] = []
 without_tail (i ∷ is) = if rises (i ∷ is) then [] else i ∷ without_tail is

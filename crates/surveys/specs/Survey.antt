@@ -22,7 +22,8 @@ is_new earlier told = not (list_any (looks_like told) earlier)
 -- those that look like none before them, where `earlier` comes before all
 abbrev pub new_among : List Told → List Told → List Told
 new_among earlier [] = []
-new_among earlier (told ∷ others) = (if is_new earlier told then told ∷ [] else []) ++ new_among (earlier ++ told ∷ []) others
+new_among earlier (told ∷ others) =
+    (if is_new earlier told then told ∷ [] else []) ++ new_among (earlier ++ told ∷ []) others
 
 abbrev pub new_ones : List Told → List Told
 new_ones all = new_among [] all
@@ -41,7 +42,8 @@ witness_words told = (codes " cuts " ++ decimal told.cuts) ++ (codes " schedule 
 -- a block by its number: `outcome K schedules N cuts C schedule S`, and its lines
 unfoldable pub block_text : List Told → ℕ → Told → List ℕ
 block_text all k told =
-    (codes "outcome " ++ decimal k) ++ ((codes " schedules " ++ count_words (lists_to all told)) ++ (witness_words told ++ told.block))
+    (codes "outcome " ++ decimal k)
+    ++ ((codes " schedules " ++ count_words (lists_to all told)) ++ (witness_words told ++ told.block))
 
 abbrev pub blocks_text : List Told → List ℕ
 blocks_text all = numbered (block_text all) 0 (new_ones all)
@@ -57,11 +59,13 @@ lists_breaking all property = lists_where (breaks property) all
 -- it holds; or so many lists break it, of which this is the least
 abbrev pub status_words : List Told → Property → Option Told → List ℕ
 status_words all property None = codes "holds\n"
-status_words all property (Some told) = (codes "fails " ++ count_words (lists_breaking all property)) ++ witness_words told
+status_words all property (Some told) =
+    (codes "fails " ++ count_words (lists_breaking all property)) ++ witness_words told
 
 abbrev pub property_text : List Told → Property → List ℕ
 property_text all property =
-    rule_word property.rule ++ (property.text ++ (codes " = " ++ status_words all property (find (breaks property) all)))
+    rule_word property.rule
+    ++ (property.text ++ (codes " = " ++ status_words all property (find (breaks property) all)))
 
 abbrev pub properties_text : List Told → List Property → List ℕ
 properties_text all properties = flat_map (property_text all) properties
@@ -75,9 +79,11 @@ all_hold all properties = list_all (λ property. is_none (find (breaks property)
 -- how many lists there are, by how many worlds, how many turns the longest has, how many outcomes look different
 abbrev pub numbers_text : ℕ → ℕ → ℕ → List Told → List ℕ
 numbers_text lists states longest all =
-    (codes "schedules " ++ count_words lists) ++ ((codes "\nstates " ++ decimal states) ++ ((codes "\nturns " ++ decimal longest)
+    (codes "schedules " ++ count_words lists)
+    ++ ((codes "\nstates " ++ decimal states) ++ ((codes "\nturns " ++ decimal longest)
     ++ ((codes "\noutcomes " ++ decimal (length (new_ones all))) ++ codes "\n")))
 
 -- these, then a block for each that looks new, then each property
 abbrev pub survey_text : ℕ → ℕ → ℕ → List Told → List Property → List ℕ
-survey_text lists states longest all properties = numbers_text lists states longest all ++ (blocks_text all ++ properties_text all properties)
+survey_text lists states longest all properties =
+    numbers_text lists states longest all ++ (blocks_text all ++ properties_text all properties)

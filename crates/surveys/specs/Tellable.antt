@@ -1,4 +1,5 @@
--- Which properties name a line that a report on a script's run can have: one of an actor that is there, and of a call of his.
+-- Which properties name a line that a report on a script's run can have: one of an actor that is there, and of a
+-- call of his.
 use Rattle.std.specs.Prelude.{ℕ, suc, List, [], ◌∷◌, ◌++◌, ◌||◌, ◌&&◌, Bool, false, not, codes, decimal, Option}
 use Rattle.std.specs.List.{position_from}
 use Rattle.race_core.specs.declared.plan.ActorPlan.{ActorPlan}
@@ -33,7 +34,8 @@ is_of_actor text word plans = any_numbered (λ actor plan. meets text (word ++ d
 
 -- `held I` is of an actor, and so is `outside I`, where steps outside are counted
 abbrev pub is_count : Bool → List ActorPlan → List ℕ → Bool
-is_count outside plans text = is_of_actor text (codes "held ") plans || (outside && is_of_actor text (codes "outside ") plans)
+is_count outside plans text =
+    is_of_actor text (codes "held ") plans || (outside && is_of_actor text (codes "outside ") plans)
 
 -- a line of an entry may have any words, and `reply I J` is of a call
 abbrev pub can_be_told : Bool → List ActorPlan → List ℕ → Bool
@@ -41,4 +43,5 @@ can_be_told outside plans text = meets text (codes "row") || (is_count outside p
 
 -- the place of the first property that no report can have a line for
 abbrev pub first_untold : Bool → List ActorPlan → List Property → Option ℕ
-first_untold outside plans properties = position_from (λ property. not (can_be_told outside plans property.text)) 0 properties
+first_untold outside plans properties =
+    position_from (λ property. not (can_be_told outside plans property.text)) 0 properties

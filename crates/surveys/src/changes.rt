@@ -90,9 +90,9 @@ fn all_changes(
     Ok(())
 }
 
-/// Adds the entries of a tree that the other one doesn't have, each after that word: its directory, its name, its node and
-/// what that is, for a link with its text. They come by the directory's number and then by the bytes of the name.
-/// NoMemory where its room was refused.
+/// Adds the entries of a tree that the other one doesn't have, each after that word: its directory, its name, its
+/// node and what that is, for a link with its text. They come by the directory's number and then by the bytes of the
+/// name. NoMemory where its room was refused.
 pub(crate) fn changes(
     alloc: Global,
     out: &mut Output,

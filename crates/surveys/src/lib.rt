@@ -1,10 +1,10 @@
 //! What schedules of a world come to, told as text.
 //!
-//! A *full list* of turns is one after which no actor has anything left to do. The layers above tell of each outcome how many
-//! full lists lead to it, the least of them, and its report. `told_of` is what is told of one, and `survey_text` the text of
-//! all: a block for each outcome, with a schedule that leads to it, and then whether each property that was asked for holds
-//! of every one. `survey_scene` has all full lists of a scene gone through, and tells of them; `explore_script` reads the
-//! scene, and writes that.
+//! A *full list* of turns is one after which no actor has anything left to do. The layers above tell of each outcome
+//! how many full lists lead to it, the least of them, and its report. `told_of` is what is told of one, and
+//! `survey_text` the text of all: a block for each outcome, with a schedule that leads to it, and then whether each
+//! property that was asked for holds of every one. `survey_scene` has all full lists of a scene gone through, and
+//! tells of them; `explore_script` reads the scene, and writes that.
 #![tactic(auto)]
 
 mod changes;

@@ -56,7 +56,9 @@ impl From<NoMemory> for OptionFault {
 
 // The numbers that texts say, if each says one.
 fn numbers_in(alloc: Global, texts: &[&str]) -> Result<Option<Vec<u32>>, NoMemory>
-    ensures { IfOk result (λ said. MatchOption said (IsUnsaid (AllSay (texts_in texts.now))) (λ numbers. AllSay (texts_in texts.now) numbers.items)) }
+    ensures { IfOk result (λ said.
+        MatchOption said (IsUnsaid (AllSay (texts_in texts.now)))
+        (λ numbers. AllSay (texts_in texts.now) numbers.items)) }
 {
     let mut numbers = Vec::with_capacity(alloc, texts.len())?;
     for text in texts {
@@ -70,7 +72,8 @@ fn numbers_in(alloc: Global, texts: &[&str]) -> Result<Option<Vec<u32>>, NoMemor
 
 // The number that a text says, if it says one from the least to the most.
 fn number_within(text: &str, least: u32, most: u32) -> Option<u32>
-    ensures { MatchOption result ((n : ℕ) → least ≤ n → n ≤ most → text.now ≢ decimal n) (λ n. (text.now ≡ decimal n) × (least ≤ n) × (n ≤ most)) }
+    ensures { MatchOption result ((n : ℕ) → least ≤ n → n ≤ most → text.now ≢ decimal n)
+        (λ n. (text.now ≡ decimal n) × (least ≤ n) × (n ≤ most)) }
 {
     let number = number_of(text)?;
     if least <= number && number <= most {
@@ -82,7 +85,8 @@ fn number_within(text: &str, least: u32, most: u32) -> Option<u32>
 
 // The bound on the cuts that a text says, if there is a text.
 fn cuts_in(text: Option<&str>) -> Result<Option<u64>, OptionFault>
-    ensures { MatchResult result (SaysCuts text.entry) (λ fault. (fault ≡ option_fault.Cuts) × IsUnsaid (SaysCuts text.entry)) }
+    ensures { MatchResult result (SaysCuts text.entry)
+        (λ fault. (fault ≡ option_fault.Cuts) × IsUnsaid (SaysCuts text.entry)) }
 {
     let Some(text) = text else {
         return Ok(None);
@@ -95,7 +99,8 @@ fn cuts_in(text: Option<&str>) -> Result<Option<u64>, OptionFault>
 
 // How many worlds a text says, or the usual number where there is none.
 fn states_in(text: Option<&str>) -> Result<u64, OptionFault>
-    ensures { MatchResult result (SaysMost text.entry) (λ fault. (fault ≡ option_fault.States) × IsUnsaid (SaysMost text.entry)) }
+    ensures { MatchResult result (SaysMost text.entry)
+        (λ fault. (fault ≡ option_fault.States) × IsUnsaid (SaysMost text.entry)) }
 {
     let Some(text) = text else {
         return Ok(u64::from(STATES));
@@ -115,7 +120,8 @@ fn add_properties(
     texts: &[&str],
 ) -> Result<bool, NoMemory>
     ensures all { IfOk result (λ all. all ≡ are_properties outside (texts_in texts.now)) }
-    ensures added { IfOk result (λ all. all ≡ true → properties.new.items ≡ properties.old.items ++ properties_by rule (texts_in texts.now)) }
+    ensures added { IfOk result (λ all. all ≡ true
+        → properties.new.items ≡ properties.old.items ++ properties_by rule (texts_in texts.now)) }
 {
     for text in texts {
         let Some(property) = read_property(alloc, outside, rule, text)? else {
@@ -128,10 +134,10 @@ fn add_properties(
 
 /// What the texts of options ask for, the properties by `never` before those by `always`.
 ///
-/// Errors, in this order: `Actor` where one of `actors` is no number below 2^32; `Cuts` where `cuts` is no number up to
-/// 1,000,000; `States` where `states` is no number from 1 to 10,000,000; `Text` where one of `never` or `always` is no
-/// property's (`read_property`); `NoMemory` where room was refused, whatever else is wrong. Numbers are written in decimal
-/// digits, with no zero before them.
+/// Errors, in this order: `Actor` where one of `actors` is no number below 2^32; `Cuts` where `cuts` is no number up
+/// to 1,000,000; `States` where `states` is no number from 1 to 10,000,000; `Text` where one of `never` or `always`
+/// is no property's (`read_property`); `NoMemory` where room was refused, whatever else is wrong. Numbers are
+/// written in decimal digits, with no zero before them.
 pub fn read_asked(alloc: Global, options: Options) -> Result<Asked, OptionFault>
     ensures { MatchResult result (AreAsked options.entry) (IsOptionFault options.entry) }
 {

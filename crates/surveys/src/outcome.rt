@@ -134,9 +134,10 @@ pub(crate) struct Ended<'a, T> {
     pub outside: &'a [u64],
 }
 
-/// Adds what is printed of a report: where actors are named their replies alone, and else the replies of all, how the
-/// entries of the tree differ from those of the opening one, and how many handles each of so many actors has open; and then
-/// how many steps of these actors acted outside, where they were counted. NoMemory where its room was refused.
+/// Adds what is printed of a report: where actors are named their replies alone, and else the replies of all, how
+/// the entries of the tree differ from those of the opening one, and how many handles each of so many actors has
+/// open; and then how many steps of these actors acted outside, where they were counted. NoMemory where its room was
+/// refused.
 pub(crate) fn outcome_lines<T: Tree>(
     alloc: Global,
     out: &mut Output,
@@ -145,7 +146,10 @@ pub(crate) fn outcome_lines<T: Tree>(
     ended: &Ended<T>,
     actors: u32,
 ) -> Result<(), NoMemory>
-    ensures { Gains out.old out.new (outcome_lines named.now opening.now ended.now.replies.now (record { nodes = ended.now.nodes.now.nodes; handles = (T.state ended.now.tree.now).handles }) ended.now.outside.now actors) result }
+    ensures { Gains out.old out.new
+        (outcome_lines named.now opening.now ended.now.replies.now
+        (record { nodes = ended.now.nodes.now.nodes; handles = (T.state ended.now.tree.now).handles })
+        ended.now.outside.now actors) result }
 {
     if !named.is_empty() {
         named_replies(alloc, out, named, ended.replies)?;
@@ -158,15 +162,18 @@ pub(crate) fn outcome_lines<T: Tree>(
     all_outside(out, ended.outside)
 }
 
-/// Adds all lines of a report but those of events, and then how many steps of each actor acted outside, where they were
-/// counted. NoMemory where their room was refused.
+/// Adds all lines of a report but those of events, and then how many steps of each actor acted outside, where they
+/// were counted. NoMemory where their room was refused.
 pub(crate) fn report_lines<T: Tree>(
     alloc: Global,
     out: &mut Output,
     ended: &Ended<T>,
     actors: u32,
 ) -> Result<(), NoMemory>
-    ensures { Gains out.old out.new (report_lines ended.now.replies.now (record { nodes = ended.now.nodes.now.nodes; handles = (T.state ended.now.tree.now).handles }) ended.now.outside.now actors) result }
+    ensures { Gains out.old out.new
+        (report_lines ended.now.replies.now
+        (record { nodes = ended.now.nodes.now.nodes; handles = (T.state ended.now.tree.now).handles })
+        ended.now.outside.now actors) result }
 {
     replies(alloc, out, ended.replies)?;
     rows(alloc, out, ended.nodes)?;

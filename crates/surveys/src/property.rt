@@ -14,8 +14,8 @@ pub enum Rule {
     Always,
 }
 
-/// A rule for a text: a report has it where one of its lines `reply`, `row`, `held` or `outside` is the text, or begins
-/// with the text and a blank.
+/// A rule for a text: a report has it where one of its lines `reply`, `row`, `held` or `outside` is the text, or
+/// begins with the text and a blank.
 #[derive(Debug, Drop)]
 pub struct Property {
     pub rule: Rule,
@@ -48,8 +48,8 @@ fn has(text: &[u8], lines: &[u8]) -> bool
         .any(|line| tells(text, line))
 }
 
-// Whether the first word of a text is that of a line of a reply, of an entry or of a count of handles; or of steps outside,
-// where they are counted.
+// Whether the first word of a text is that of a line of a reply, of an entry or of a count of handles; or of steps
+// outside, where they are counted.
 fn names_a_line(outside: bool, text: &[u8]) -> bool
     ensures { result ≡ names_a_line outside text.now }
 {
@@ -74,14 +74,17 @@ fn is_property(outside: bool, text: &[u8]) -> bool
 }
 
 /// The property that a text says by that rule, if a line can have it: its first word is `reply`, `row` or `held`, or
-/// `outside` where steps outside are counted, and each of its bytes is from 0x20 to 0x7e. NoMemory where room was refused.
+/// `outside` where steps outside are counted, and each of its bytes is from 0x20 to 0x7e. NoMemory where room was
+/// refused.
 pub fn read_property(
     alloc: Global,
     outside: bool,
     rule: Rule,
     text: &str,
 ) -> Result<Option<Property>, NoMemory>
-    ensures { IfOk result (λ property. MatchOption property (is_property outside text.now ≡ false) (λ p. (is_property outside text.now ≡ true) × (p.rule ≡ rule) × (p.text ≡ text.now))) }
+    ensures { IfOk result (λ property.
+        MatchOption property (is_property outside text.now ≡ false)
+        (λ p. (is_property outside text.now ≡ true) × (p.rule ≡ rule) × (p.text ≡ text.now))) }
 {
     let bytes = text.as_bytes();
     if !is_property(outside, bytes) {

@@ -60,9 +60,9 @@ fn turns(out: &mut Output, list: &[u32]) -> Result<(), NoMemory>
     add_turns(out, actor, times)
 }
 
-/// Adds the schedule that leads to a full list of turns: the list without its longest tail that rises, since a run goes on
-/// by the actors' numbers once its schedule ends. It is `-` for none, or commas between `I` and `I*N`. NoMemory where its room
-/// was refused.
+/// Adds the schedule that leads to a full list of turns: the list without its longest tail that rises, since a run
+/// goes on by the actors' numbers once its schedule ends. It is `-` for none, or commas between `I` and `I*N`.
+/// NoMemory where its room was refused.
 #[tactic(auto, unfolding(crate::specs::Schedule::schedule_words))]
 pub(crate) fn schedule(out: &mut Output, list: &[u32]) -> Result<(), NoMemory>
     ensures { Gains out.old out.new (schedule_words list.now) result }

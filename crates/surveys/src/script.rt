@@ -13,7 +13,7 @@ use std::io::{Read, Write};
 use thiserror::Error;
 use tree_list::ListTree;
 
-/// Why nothing was told. Nothing was written before it, but by a writer that failed.
+/// Why there is no answer. Nothing was written before it, but by a writer that failed.
 #[derive(Clone, Copy, Debug, PartialEq, Eq, Error)]
 pub enum ExploreFault {
     #[error("{0}")]
@@ -53,7 +53,8 @@ fn told_by(fault: SurveyFault) -> ExploreFault
     }
 }
 
-// All schedules of what a script says gone through. Errors as of `explore_script`, but for those of reading and writing.
+// All schedules of what a script says gone through. Errors as of `explore_script`, but for those of reading and
+// writing.
 fn surveyed<P: Progress>(
     alloc: Global,
     scenario: Scenario,
@@ -64,7 +65,8 @@ fn surveyed<P: Progress>(
     requires same { tree ≡ scenario.tree }
     requires none { scenario.tree.handles ≡ [] }
     requires playable { IsPlayable (said_by scenario) }
-    ensures survey { MatchResult result (λ survey. IsSurveyOf asked.now survey.holds (said_by scenario) survey.text) (IsNoSurvey asked.now (said_by scenario)) }
+    ensures survey { MatchResult result (λ survey. IsSurveyOf asked.now survey.holds (said_by scenario) survey.text)
+        (IsNoSurvey asked.now (said_by scenario)) }
     ensures some { IfOk result (λ survey. survey.text ≢ []) }
 {
     let (plans, lines) = (scenario.plans, scenario.lines);
@@ -78,15 +80,15 @@ fn surveyed<P: Progress>(
     }
 }
 
-/// Reads a script, goes through all schedules of its world, those with at most so many cuts, and writes what they come to.
-/// The script's own schedule is checked and not used. Whether no property fails. On the way `progress` is told how many worlds
-/// there were.
+/// Reads a script, goes through all schedules of its world, those with at most so many cuts, and writes what they
+/// come to. The script's own schedule is checked and not used. The result is whether no property fails. On the way
+/// `progress` gets the number of worlds so far.
 ///
-/// Errors, in this order: those of `read_scenario`; `BookFull` where the script gives its book fewer lines than it has
-/// actors; `NoSuchActor` of the first that is named and isn't there; `NoSuchLine` of the first property that names an actor
-/// who isn't there, or a call that its actor doesn't have; `TooManyStates` where there are more worlds than are gone
-/// through, and `TooManyTurns` where one has more than 100,000, whichever is met first; `NoMemory`; `WriteFailed`. Nothing
-/// is written before the text is whole.
+/// Errors, in this order: those of `read_scenario`; `BookFull` where the script gives its book fewer lines than it
+/// has actors; `NoSuchActor` of the first that is named and isn't there; `NoSuchLine` of the first property that
+/// names an actor who isn't there, or a call that its actor doesn't have; `TooManyStates` where there are more
+/// worlds than are gone through, and `TooManyTurns` where one has more than 100,000, whichever is met first;
+/// `NoMemory`; `WriteFailed`. Nothing is written before the text is whole.
 pub fn explore_script<R: Read, W: Write, P: Progress>(
     alloc: Global,
     reader: &mut R,

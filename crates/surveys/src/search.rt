@@ -9,7 +9,7 @@ use crate::order::in_order;
 use crate::property::Property;
 use crate::survey::{all_hold, survey_text};
 use crate::tellable::first_untold;
-use explore::{Findings, Limits, Progress, Scene, SearchFault, explore};
+use explore::{Findings, Limits, Progress, Scene, Scope, SearchFault, explore};
 use path_text::NoMemory;
 use std::alloc::Global;
 use thiserror::Error;
@@ -29,21 +29,21 @@ pub struct Asked {
     pub cuts: Option<u64>,
     /// The most worlds that are gone through, of alike ones one.
     pub most: u64,
-    /// Whether it is told how many steps of each actor acted outside of its root: outcomes that differ in these numbers are
-    /// two then.
+    /// Whether it is told how many steps of each actor acted outside of its root: outcomes that differ in these
+    /// numbers are two then.
     pub outside: bool,
     /// Properties of every report, whatever actors are named.
     pub properties: Vec<Property>,
 }
 
-/// What is told, and whether no property fails.
+/// The text of a survey, and whether no property fails.
 #[derive(Debug, Drop)]
 pub struct Survey {
     pub text: Output,
     pub holds: bool,
 }
 
-/// Why nothing is told.
+/// Why there is no survey.
 #[derive(Clone, Copy, Debug, PartialEq, Eq, Error)]
 pub enum SurveyFault {
     /// The first actor that is named and isn't there.
@@ -91,35 +91,32 @@ fn survey_of(
     found: Findings<ListTree>,
 ) -> Result<Survey, NoMemory>
     requires { length scene.now.plans.items ≤ MOST_ACTORS }
-    ensures { IfOk result (λ survey. IsTelling asked.now scene.now.tree scene.now.plans.items found.classes.items found.lists found.states found.turns survey.holds survey.text) }
+    ensures { IfOk result (λ survey.
+        IsTelling asked.now scene.now.tree scene.now.plans.items found.classes.items found.lists found.states
+        found.turns survey.holds survey.text) }
 {
     let (lists, states, turns) = (found.lists, found.states, found.turns as u64);
     let opening = scene.tree.snapshot(alloc)?;
     let actors = scene.plans.len() as u32;
     let classes = in_order(alloc, found.classes)?;
-    let all = tell_all(
-        alloc,
-        &asked.named,
-        asked.outside,
-        &opening,
-        actors,
-        &classes,
-    )?;
+    let all = tell_all(alloc, &asked.named, &opening, actors, &classes)?;
     let mut text = Output::new(alloc);
     survey_text(&mut text, lists, states, turns, &all, &asked.properties)?;
     let holds = all_hold(&all, &asked.properties);
     Ok(Survey { text, holds })
 }
 
-/// Goes through all full lists of turns of the world of a tree and of plans, those with at most so many cuts, and tells what
-/// they come to: how many there are, by how many worlds, how many turns the longest has, each outcome once with how many
-/// lead to it and a schedule for the least of them, and whether each property holds of every one. Which numbers the nodes
-/// got that were made doesn't tell outcomes apart: they are compared with these nodes numbered anew. How many steps
-/// of each actor acted outside of its root does, where it is told. On the way `progress` is told how many worlds there were.
+/// Goes through all full lists of turns of the world of a tree and of plans, those with at most so many cuts, and
+/// says what they come to: how many there are, by how many worlds, how many turns the longest has, each outcome once
+/// with how many lead to it and a schedule for the least of them, and whether each property holds of every one.
+/// Outcomes are compared with their new nodes numbered anew, so these numbers make no difference between them. The
+/// number of steps that acted outside does, where it is asked for. On the way `progress` gets the number of worlds
+/// so far.
 ///
-/// Errors, in this order: `NoSuchActor` of the first that is named and isn't there; `NoSuchLine` of the first property that
-/// names an actor who isn't there, or a call that its actor doesn't have; `TooManyStates` and `TooManyTurns` beyond the
-/// limits, whichever is met first; `NoMemory` where room was refused, and where the world can't be made.
+/// Errors, in this order: `NoSuchActor` of the first that is named and isn't there; `NoSuchLine` of the first
+/// property that names an actor who isn't there, or a call that its actor doesn't have; `TooManyStates` and
+/// `TooManyTurns` beyond the limits, whichever is met first; `NoMemory` where room was refused, and where the world
+/// can't be made.
 pub fn survey_scene<P: Progress>(
     alloc: Global,
     scene: &Scene,
@@ -127,7 +124,9 @@ pub fn survey_scene<P: Progress>(
     progress: &mut P,
 ) -> Result<Survey, SurveyFault>
     requires { length scene.now.plans.items ≤ MOST_ACTORS }
-    ensures { MatchResult result (λ survey. IsSurvey asked.now scene.now.tree scene.now.plans.items scene.now.lines survey.holds survey.text) (WhyNoSurvey asked.now scene.now.tree scene.now.plans.items scene.now.lines) }
+    ensures { MatchResult result
+        (λ survey. IsSurvey asked.now scene.now.tree scene.now.plans.items scene.now.lines survey.holds survey.text)
+        (WhyNoSurvey asked.now scene.now.tree scene.now.plans.items scene.now.lines) }
 {
     if let Some(actor) = first_foreign(&asked.named, scene.plans.len()) {
         return Err(SurveyFault::NoSuchActor(actor));
@@ -138,7 +137,10 @@ pub fn survey_scene<P: Progress>(
     let limits = Limits {
         states: asked.most,
         turns: TURNS_MAX,
-        cuts: asked.cuts,
+        scope: Scope {
+            cuts: asked.cuts,
+            outside: asked.outside,
+        },
     };
     match explore(alloc, scene, limits, progress) {
         Ok(found) => Ok(survey_of(alloc, scene, asked, found)?),

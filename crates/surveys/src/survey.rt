@@ -9,7 +9,7 @@ use crate::property::Property;
 use path_text::NoMemory;
 use transcript::Output;
 
-/// What some full lists of turns come to, as it is told.
+/// An outcome as it is printed, and of how many lists of turns.
 #[derive(Debug, Drop)]
 pub struct Told {
     /// How many lists.
@@ -84,8 +84,8 @@ fn lists_to(all: &[Told], told: &Told) -> u64
     lists
 }
 
-// Adds how many lists there are, by how many worlds, how many turns the longest has, and how many look like none before
-// them.
+// Adds how many lists there are, by how many worlds, how many turns the longest has, and how many look like none
+// before them.
 fn numbers(
     out: &mut Output,
     lists: u64,
@@ -188,9 +188,10 @@ pub fn all_hold(all: &[Told], properties: &[Property]) -> bool
     true
 }
 
-/// Adds the text of outcomes, which come in the order of their least lists, where there are so many lists by so many worlds, and
-/// the longest has so many turns: these numbers, how many outcomes look different, a block for each of these, and the line of each
-/// property. NoMemory where its room was refused, and a part of the text may have been added then.
+/// Adds the text of outcomes, which come in the order of their least lists, where there are so many lists by so many
+/// worlds, and the longest has so many turns: these numbers, how many outcomes look different, a block for each of
+/// these, and the line of each property. NoMemory where its room was refused, and a part of the text may have been
+/// added then.
 pub fn survey_text(
     out: &mut Output,
     lists: u64,

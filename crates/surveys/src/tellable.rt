@@ -112,8 +112,8 @@ fn can_be_told(
     is_reply(alloc, text, plans)
 }
 
-/// The place, counted from 0, of the first property that names an actor who isn't there, or a call that its actor doesn't
-/// have. NoMemory where room was refused.
+/// The place, counted from 0, of the first property that names an actor who isn't there, or a call that its actor
+/// doesn't have. NoMemory where room was refused.
 pub(crate) fn first_untold(
     alloc: Global,
     outside: bool,

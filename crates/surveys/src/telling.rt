@@ -36,7 +36,10 @@ fn printed<T: Tree>(
     ended: &Ended<T>,
     actors: u32,
 ) -> Result<Output, NoMemory>
-    ensures { IfOk result (λ text. text ≡ outcome_lines named.now opening.now ended.now.replies.now (record { nodes = ended.now.nodes.now.nodes; handles = (T.state ended.now.tree.now).handles }) ended.now.outside.now actors) }
+    ensures { IfOk result (λ text. text
+        ≡ outcome_lines named.now opening.now ended.now.replies.now
+        (record { nodes = ended.now.nodes.now.nodes; handles = (T.state ended.now.tree.now).handles })
+        ended.now.outside.now actors) }
 {
     let mut text = Output::new(alloc);
     outcome_lines(alloc, &mut text, named, opening, ended, actors)?;
@@ -51,7 +54,9 @@ fn look<T: Tree>(
     ended: &Ended<T>,
     actors: u32,
 ) -> Result<Output, NoMemory>
-    ensures { IfOk result (IsLook named.now opening.now actors ended.now.replies.now (record { nodes = ended.now.nodes.now.nodes; handles = (T.state ended.now.tree.now).handles }) ended.now.outside.now) }
+    ensures { IfOk result (IsLook named.now opening.now actors ended.now.replies.now
+        (record { nodes = ended.now.nodes.now.nodes; handles = (T.state ended.now.tree.now).handles })
+        ended.now.outside.now) }
 {
     let known = opening.nodes().len();
     let anew = renumber(alloc, known, named, ended.nodes.nodes(), ended.replies)?;
@@ -65,10 +70,10 @@ fn look<T: Tree>(
     printed(alloc, named, opening, &renumbered, actors)
 }
 
-/// What is told of an outcome, where so many actors are there: the replies of the actors that are named alone, or where none
-/// is all replies, how the entries of the tree differ from those of the opening one, and how many handles each actor has open;
-/// and then how many steps acted outside, where they were counted. The same is made with the nodes of the run numbered anew,
-/// by which outcomes are told apart. NoMemory where room was refused.
+/// What is told of an outcome, where so many actors are there: the replies of the actors that are named alone, or
+/// where none is all replies, how the entries of the tree differ from those of the opening one, and how many handles
+/// each actor has open; and then how many steps acted outside, where they were counted. The same is made with the
+/// nodes of the run numbered anew, by which outcomes are told apart. NoMemory where room was refused.
 pub fn told_of<T: Tree>(
     alloc: Global,
     named: &[u32],
@@ -76,7 +81,9 @@ pub fn told_of<T: Tree>(
     actors: u32,
     found: &Found<T>,
 ) -> Result<Told, NoMemory>
-    ensures { IfOk result (IsToldOf named.now opening.now actors found.now.lists found.now.cuts found.now.turns.now found.now.report.now.replies.items (T.state found.now.report.now.tree) found.now.outside.now) }
+    ensures { IfOk result
+        (IsToldOf named.now opening.now actors found.now.lists found.now.cuts found.now.turns.now
+        found.now.report.now.replies.items (T.state found.now.report.now.tree) found.now.outside.now) }
 {
     let report = found.report;
     let mut leads = Output::new(alloc);

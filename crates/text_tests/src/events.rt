@@ -121,12 +121,12 @@ fn tells_events_apart(rt: HostRuntime) -> Result<(), Fail> {
     Ok(())
 }
 
-/// Adds a step that had room for its texts beforehand, and a Close where there is room for it.
+/// Adds a step that had room for its event beforehand, and a Close where there is room for it.
 fn add_two(alloc: Global, log: &mut EventLog) -> Result<(), Errno> {
     let step = step_of(alloc, "make_dir 0 a")?;
     log.reserve(2)?;
-    log.reserve_texts(&step)?;
-    log.push(Actor::new(1), &step, &Answer::Done)?;
+    log.reserve_event(&step, &Answer::Done)?;
+    log.push_reserved(Actor::new(1), &step, &Answer::Done);
     log.push_close(Actor::new(1), HandleNo::new(4));
     Ok(())
 }

@@ -12,4 +12,5 @@ EscapedIsPrinted = (bs : List ℕ) → All (λ b. b < 256) bs → All IsPrinted 
 
 -- two texts that are written alike are one
 abbrev pub EscapedTellsApart : Type 0
-EscapedTellsApart = (bs cs : List ℕ) → All (λ b. b < 256) bs → All (λ b. b < 256) cs → escaped bs ≡ escaped cs → bs ≡ cs
+EscapedTellsApart = (bs cs : List ℕ) → All (λ b. b < 256) bs → All (λ b. b < 256) cs → escaped bs ≡ escaped cs
+    → bs ≡ cs

@@ -27,7 +27,8 @@ escaped bs = flat_map escaped_byte bs
 
 -- an object that was opened
 abbrev pub opened_words : Kind → ℕ → List (List ℕ) → List ℕ
-opened_words kind node names = codes "opened " ++ (kind_word kind ++ (codes " " ++ (decimal node ++ (codes " " ++ escaped (printed names)))))
+opened_words kind node names =
+    codes "opened " ++ (kind_word kind ++ (codes " " ++ (decimal node ++ (codes " " ++ escaped (printed names)))))
 
 abbrev pub opened_line : Kind → ℕ → List (List ℕ) → List ℕ
 opened_line kind node names = opened_words kind node names ++ codes "\n"

@@ -46,7 +46,8 @@ step_words (RemoveDir dir name) = codes "remove_dir" ∷ decimal dir ∷ escaped
 step_words (Rename from old to new mode) =
     codes "rename" ∷ decimal from ∷ escaped old ∷ decimal to ∷ escaped new ∷ mode_word mode ∷ []
 
--- what was answered, and then: a handle, its node and what that is; a text; names as one path, or how many they are and each
+-- what was answered, and then: a handle, its node and what that is; a text; names as one path, or how many they are
+-- and each
 abbrev pub answer_words : Answer → List (List ℕ)
 answer_words (Opened handle node kind) = codes "opened" ∷ decimal handle ∷ decimal node ∷ kind_word kind ∷ []
 answer_words (Text text) = codes "text" ∷ escaped text ∷ []

@@ -103,8 +103,8 @@ impl Output {
         Ok(())
     }
 
-    /// Adds what the line of an answer begins with: all of it, but for the names, with the blank before a path of them.
-    /// NoMemory where its room was refused.
+    /// Adds what the line of an answer begins with: all of it, but for the names, with the blank before a path of
+    /// them. NoMemory where its room was refused.
     pub fn answer_head(&mut self, head: AnswerHead) -> Result<(), NoMemory>
         ensures { Gains self.old self.new (head_line head.entry) result }
     {

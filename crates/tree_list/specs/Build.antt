@@ -42,7 +42,8 @@ abbrev pub adds : List Inode → Entry → Result (List Inode) Errno
 adds nodes entry = refuse_by (new_fault entry.what) (makes_at nodes TOP entry.at (object_of entry.what))
 
 -- what goes on with the nodes of the k-th entry, if it isn't refused
-abbrev pub with_added : Result (List Inode) Errno → ℕ → (List Inode → Result (List Inode) BuildFault) → Result (List Inode) BuildFault
+abbrev pub with_added : Result (List Inode) Errno → ℕ → (List Inode → Result (List Inode) BuildFault)
+    → Result (List Inode) BuildFault
 with_added (Err cause) k otherwise = Err (record { at = k; cause = cause })
 with_added (Ok nodes) k otherwise = otherwise nodes
 
@@ -68,8 +69,10 @@ abbrev pub IsFaultOf : List Entry → BuildFault → Type 0
 IsFaultOf entries fault = (built entries ≡ Err fault)
     ⊎ ((fault.cause ≡ NoMemory) × (fault.at ≤ length entries) × IsOk (built (take fault.at entries)))
 
--- each entry is the node of the number after its place in the list, and stands at its names below the top; there is no node but these and the top
+-- each entry is the node of the number after its place in the list, and stands at its names below the top; there is
+-- no node but these and the top
 pub record IsTreeOf (entries : List Entry) (nodes : List Inode) : Type 0 where
   pub count : length nodes ≡ suc (length entries)
-  pub objects : (k : ℕ) (entry : Entry) → slice_get entries k ≡ Some entry → object_at nodes (suc k) ≡ Some (object_of entry.what)
+  pub objects : (k : ℕ) (entry : Entry) → slice_get entries k ≡ Some entry
+      → object_at nodes (suc k) ≡ Some (object_of entry.what)
   pub names : (k : ℕ) (entry : Entry) → slice_get entries k ≡ Some entry → Stands nodes TOP (suc k) (reverse entry.at)

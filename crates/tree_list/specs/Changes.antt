@@ -1,4 +1,5 @@
--- What became of the nodes where a change was wanted: it was made, or it is refused as it should be and the nodes are as they were.
+-- What became of the nodes where a change was wanted: it was made, or it is refused as it should be and the nodes
+-- are as they were.
 use Rattle.std.specs.Prelude.{◌≡◌, List, IsOk, Result, Ok, Err, MatchResult, ◌⊎◌}
 use Rattle.path_text.specs.declared.errno.Errno.{Errno}
 use Rattle.path_text.specs.declared.errno.NoMemory.{NoMemory}
@@ -11,15 +12,19 @@ use Rattle.tree_model.specs.Steps.{Outcome}
 
 -- a change that takes no memory
 abbrev pub IsChange : List Inode → List Inode → Result (List Inode) Errno → Result (Unit {0}) Errno → Type 0
-IsChange old new wanted result = MatchResult result (λ _. wanted ≡ Ok new) (λ error. (wanted ≡ Err error) × (new ≡ old))
+IsChange old new wanted result =
+    MatchResult result (λ _. wanted ≡ Ok new) (λ error. (wanted ≡ Err error) × (new ≡ old))
 
 -- a change that takes memory, but none to be refused
-abbrev pub IsGrowth : List Inode → List Inode → Result (List Inode) Errno → Result (Result (Unit {0}) Errno) NoMemory → Type 0
-IsGrowth old new wanted result = MatchResult result (λ change. IsChange old new wanted change) (λ _. IsOk wanted × (new ≡ old))
+abbrev pub IsGrowth : List Inode → List Inode → Result (List Inode) Errno
+    → Result (Result (Unit {0}) Errno) NoMemory → Type 0
+IsGrowth old new wanted result =
+    MatchResult result (λ change. IsChange old new wanted change) (λ _. IsOk wanted × (new ≡ old))
 
 -- a change that may want memory before it is known to be refused
 abbrev pub IsTry : List Inode → List Inode → Result (List Inode) Errno → Result (Unit {0}) Errno → Type 0
-IsTry old new wanted result = MatchResult result (λ _. wanted ≡ Ok new) (λ error. ((wanted ≡ Err error) ⊎ (error ≡ errno.NoMemory)) × (new ≡ old))
+IsTry old new wanted result = MatchResult result (λ _. wanted ≡ Ok new)
+    (λ error. ((wanted ≡ Err error) ⊎ (error ≡ errno.NoMemory)) × (new ≡ old))
 
 -- ---- steps
 

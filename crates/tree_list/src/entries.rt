@@ -139,7 +139,8 @@ fn exchange(
     there: Node,
     to: Place,
 ) -> Result<(), Errno>
-    ensures { IsChange nodes.old nodes.new (exchanges nodes.old moved from.parent from.name there to.parent to.name) result }
+    ensures { IsChange nodes.old nodes.new
+        (exchanges nodes.old moved from.parent from.name there to.parent to.name) result }
 {
     if is_within(nodes, moved, to.parent) {
         return Err(Errno::Invalid);

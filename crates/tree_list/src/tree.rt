@@ -46,11 +46,11 @@ impl ListTree {
     /// The tree with these entries, each made at its names below the top in the order of the list, so that
     /// entry k is node k + 1. No handle is open.
     ///
-    /// Errors of an entry, in this order: those of its link text as a path text (symlink(2)); at each name
-    /// but the last NotDir where it is looked up in what is no directory, NotFound where there is no such
-    /// entry; NotDir where the last is; Exists where there is such an entry already, and for no names;
-    /// TooMany past the last number. The first entry that is refused is told by its place. NoMemory comes
-    /// with the place of the entry for which there was no room.
+    /// The fault has the place of the first entry that is refused, and its error, the first of these: those of
+    /// its link text as a path text (symlink(2)); at each name but the last, NotDir where it is looked up in
+    /// what is no directory, NotFound where there is no such entry; NotDir where the last is; Exists where there
+    /// is such an entry already, and for no names; TooMany past the last number. NoMemory comes with the place
+    /// of the entry for which there was no room.
     pub fn from_entries(alloc: Global, entries: &[Entry]) -> Result<ListTree, BuildFault>
         ensures built { MatchResult result (λ tree. IsBuilt entries.now tree) (λ fault. IsFaultOf entries.now fault) }
         ensures tree { IfOk result IsState }

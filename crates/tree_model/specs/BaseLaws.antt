@@ -79,7 +79,8 @@ BaseGone =
     × (answer_after gone (NameBelow 0 2) ≡ NotBelow)
     × (answer_after gone (Open 1 (codes "b")) ≡ Refused NotFound)
 
--- how a rename is refused: what is there, where nothing may be replaced, comes before a move into itself, and that before the kinds
+-- how a rename is refused: what is there, where nothing may be replaced, comes before a move into itself, and that
+-- before the kinds
 abbrev pub BaseRenames : Type 0
 BaseRenames =
     (base_answer (Rename 0 (codes "a") 2 (codes "x") Plain) ≡ Refused Invalid)
@@ -95,7 +96,8 @@ BaseRenames =
     × (base_answer (Rename 0 (codes "none") 3 (codes "x") Plain) ≡ Refused NotDir)
     × (base_answer (Rename 3 (codes "none") 9 (codes "x") Plain) ≡ Refused BadHandle)
 
--- a rename onto itself changes nothing; one that replaces takes the other's entry; an exchange leaves both, each at the other's entry
+-- a rename onto itself changes nothing; one that replaces takes the other's entry; an exchange leaves both, each at
+-- the other's entry
 abbrev pub BaseRenamed : Type 0
 BaseRenamed =
     let itself = Rename 2 (codes "f") 2 (codes "f") Plain in

@@ -62,7 +62,8 @@ moves nodes c d n =
     refuse_if (is_within nodes c d) (Err Invalid)
     (Ok (put_at nodes c (Some (record { parent = d; name = n }))))
 
--- why c can't take the place of e: a directory takes only that of an empty one, anything else only that of no directory
+-- why c can't take the place of e: a directory takes only that of an empty one, anything else only that of no
+-- directory
 abbrev pub replace_fault : List Inode → ℕ → ℕ → Option Errno
 replace_fault nodes c e =
     if is_dir nodes c && not (is_dir nodes e) then Some NotDir

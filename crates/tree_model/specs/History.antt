@@ -16,7 +16,8 @@ after_events s (event ∷ events) = after_events (after_event s event) events
 -- each event's answer is the one that the step table gives in the tree as the events before it left it
 abbrev pub IsLegal : State → List Event → Type 0
 IsLegal s [] = Unit {0}
-IsLegal s (event ∷ events) = (event.answer ≡ (outcome s event.actor event.step).answer) × IsLegal (after_event s event) events
+IsLegal s (event ∷ events) =
+    (event.answer ≡ (outcome s event.actor event.step).answer) × IsLegal (after_event s event) events
 
 -- the tree at a moment: after the first m events
 abbrev pub tree_at : State → List Event → ℕ → State

@@ -12,7 +12,8 @@ use Rattle.tree_model.specs.Trees.{IsState}
 abbrev pub LegalAtEachMoment : Type 0
 LegalAtEachMoment = (s : State) (events : List Event)
     → IsLegal s events
-    ↔ ((m : ℕ) (event : Event) → slice_get events m ≡ Some event → event.answer ≡ (outcome (tree_at s events m) event.actor event.step).answer)
+    ↔ ((m : ℕ) (event : Event) → slice_get events m ≡ Some event
+    → event.answer ≡ (outcome (tree_at s events m) event.actor event.step).answer)
 
 -- and each event leads from the tree at its moment to that at the next
 abbrev pub EventsLeadOn : Type 0
@@ -21,7 +22,8 @@ EventsLeadOn = (s : State) (events : List Event) (m : ℕ) (event : Event) → s
 
 -- the first tree is the opening one, and the last is that after all events
 abbrev pub TreesBeginAndEnd : Type 0
-TreesBeginAndEnd = (s : State) (events : List Event) → (tree_at s events 0 ≡ s) × (tree_at s events (length events) ≡ after_events s events)
+TreesBeginAndEnd = (s : State) (events : List Event)
+    → (tree_at s events 0 ≡ s) × (tree_at s events (length events) ≡ after_events s events)
 
 -- two histories make one where the second begins at the tree that the first leaves
 abbrev pub LegalHistoriesJoin : Type 0
@@ -42,7 +44,8 @@ LegalWhenCut = (s : State) (events : List Event) (m : ℕ) → IsLegal s events
 
 -- at each moment there is a tree
 abbrev pub HistoriesKeepTrees : Type 0
-HistoriesKeepTrees = (s : State) (events : List Event) → IsState s → IsState (after_events s events) × ((m : ℕ) → IsState (tree_at s events m))
+HistoriesKeepTrees = (s : State) (events : List Event) → IsState s
+    → IsState (after_events s events) × ((m : ℕ) → IsState (tree_at s events m))
 
 -- what a node is at one moment it is at all later ones
 abbrev pub ObjectsStayForGood : Type 0

@@ -40,7 +40,8 @@ LookupsLeadToNodes = (s : State) → IsState s
     × ((d : ℕ) (n : List ℕ) (c : ℕ) → child s.nodes d n ≡ Some c → is_some (object_at s.nodes c) ≡ true)
     × ((x d : ℕ) → parent s.nodes x ≡ Some d → is_dir s.nodes d ≡ true)
 
--- so opening what is there is never refused NotFound: Dup never is, Open only where there is no child, Parent only where the node is gone
+-- so opening what is there is never refused NotFound: Dup never is, Open only where there is no child, Parent only
+-- where the node is gone
 abbrev pub NotFoundIsMissing : Type 0
 NotFoundIsMissing = (s : State) → IsState s → (a h x : ℕ) → held s a h ≡ Some x
     → ((outcome s a (Dup h)).answer ≢ Refused NotFound)
@@ -49,7 +50,8 @@ NotFoundIsMissing = (s : State) → IsState s → (a h x : ℕ) → held s a h �
 
 -- a node stands below another at one list of names
 abbrev pub StandsAtOneWay : Type 0
-StandsAtOneWay = (nodes : List Inode) (r x : ℕ) (names others : List (List ℕ)) → Stands nodes r x names → Stands nodes r x others → names ≡ others
+StandsAtOneWay = (nodes : List Inode) (r x : ℕ) (names others : List (List ℕ)) → Stands nodes r x names
+    → Stands nodes r x others → names ≡ others
 
 -- NameBelow's names are those at which the node stands, and there are none where it stands at none
 abbrev pub NamesBelowAreStanding : Type 0
@@ -60,17 +62,20 @@ NamesBelowAreStanding = (nodes : List Inode) → IsTree nodes → (r x : ℕ)
 -- the same of the step's answer, whose names are the outermost first
 abbrev pub NameBelowIsStanding : Type 0
 NameBelowIsStanding = (s : State) → IsState s → (a r h top x : ℕ) → held s a r ≡ Some top → held s a h ≡ Some x
-    → ((names : List (List ℕ)) → ((outcome s a (NameBelow r h)).answer ≡ Names names) ↔ Stands s.nodes top x (reverse names))
+    → ((names : List (List ℕ))
+    → ((outcome s a (NameBelow r h)).answer ≡ Names names) ↔ Stands s.nodes top x (reverse names))
     × (((outcome s a (NameBelow r h)).answer ≡ NotBelow) ↔ ((names : List (List ℕ)) → ¬ Stands s.nodes top x names))
 
 -- List's names are in order, and they are the names of the directory's entries
 abbrev pub ListedAreEntries : Type 0
-ListedAreEntries = (s : State) (a h d : ℕ) (names : List (List ℕ)) → held s a h ≡ Some d → (outcome s a (ListNames h)).answer ≡ Listed names
+ListedAreEntries = (s : State) (a h d : ℕ) (names : List (List ℕ)) → held s a h ≡ Some d
+    → (outcome s a (ListNames h)).answer ≡ Listed names
     → IsSorted (slice_cmp nat_cmp) names
     × IsPermutation (names_in s.nodes d) names
     × ((n : List ℕ) → Contains names n ↔ (is_some (child s.nodes d n) ≡ true))
 
 -- in a tree no name is listed twice
 abbrev pub ListedOnce : Type 0
-ListedOnce = (s : State) → IsState s → (a h d : ℕ) (names : List (List ℕ)) → held s a h ≡ Some d → (outcome s a (ListNames h)).answer ≡ Listed names
+ListedOnce = (s : State) → IsState s → (a h d : ℕ) (names : List (List ℕ)) → held s a h ≡ Some d
+    → (outcome s a (ListNames h)).answer ≡ Listed names
     → IsStrictlySortedBy (slice_cmp nat_cmp) names

@@ -10,18 +10,22 @@ use Rattle.tree_model.specs.Trees.{IsTree}
 
 -- rows_in_order gives the rows of the nodes in order
 abbrev pub RowsAreInOrder : Type 0
-RowsAreInOrder = (nodes : List Inode) → IsSorted row_order (rows_in_order nodes) × IsPermutation (rows_of nodes) (rows_in_order nodes)
+RowsAreInOrder = (nodes : List Inode)
+    → IsSorted row_order (rows_in_order nodes) × IsPermutation (rows_of nodes) (rows_in_order nodes)
 
 -- and no other list is that
 abbrev pub RowsAreOneList : Type 0
-RowsAreOneList = (nodes : List Inode) (rows : List Row) → IsSorted row_order rows → IsPermutation (rows_of nodes) rows → rows ≡ rows_in_order nodes
+RowsAreOneList = (nodes : List Inode) (rows : List Row) → IsSorted row_order rows
+    → IsPermutation (rows_of nodes) rows → rows ≡ rows_in_order nodes
 
 -- there is a row exactly where a node stands
 abbrev pub RowsArePlaces : Type 0
 RowsArePlaces = (nodes : List Inode) (row : Row)
-    → Contains (rows_in_order nodes) row ↔ (place_at nodes row.child ≡ Some (record { parent = row.parent; name = row.name }))
+    → Contains (rows_in_order nodes) row
+    ↔ (place_at nodes row.child ≡ Some (record { parent = row.parent; name = row.name }))
 
 -- in a tree an entry has one row
 abbrev pub EntriesHaveOneRow : Type 0
-EntriesHaveOneRow = (nodes : List Inode) → IsTree nodes → (r q : Row) → Contains (rows_in_order nodes) r → Contains (rows_in_order nodes) q
+EntriesHaveOneRow = (nodes : List Inode) → IsTree nodes → (r q : Row) → Contains (rows_in_order nodes) r
+    → Contains (rows_in_order nodes) q
     → r.parent ≡ q.parent → r.name ≡ q.name → r ≡ q

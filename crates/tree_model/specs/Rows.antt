@@ -24,7 +24,8 @@ rows_of nodes = rows_from 0 nodes
 
 -- rows by the directory's number, then by the name's bytes; in a tree no two are alike in both
 abbrev pub row_order : Row → Row → Ordering
-row_order r q = ordering_then (nat_cmp r.parent q.parent) (ordering_then (slice_cmp nat_cmp r.name q.name) (nat_cmp r.child q.child))
+row_order r q = ordering_then (nat_cmp r.parent q.parent)
+    (ordering_then (slice_cmp nat_cmp r.name q.name) (nat_cmp r.child q.child))
 
 -- the rows of a tree in order
 abbrev pub rows_in_order : List Inode → List Row

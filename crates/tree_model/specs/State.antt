@@ -59,7 +59,8 @@ child nodes d n = child_from 0 nodes d n
 abbrev pub parent : List Inode → ℕ → Option ℕ
 parent nodes x = if x == TOP then Some TOP else option_map (λ place. place.parent) (place_at nodes x)
 
--- x stands below r at these names, the innermost first: it is r and there is none, or it stands in a directory that does
+-- x stands below r at these names, the innermost first: it is r and there is none, or it stands in a directory that
+-- does
 abbrev pub Stands : List Inode → ℕ → ℕ → List (List ℕ) → Type 0
 Stands nodes r x [] = x ≡ r
 Stands nodes r x (n ∷ names) = (x ≢ r)
@@ -70,7 +71,9 @@ abbrev pub names_within : ℕ → List Inode → ℕ → ℕ → Option (List (L
 names_within zero nodes r x = if x == r then Some [] else None
 names_within (suc parents) nodes r x =
     if x == r then Some []
-    else option_and_then (λ place. option_map (λ names. place.name ∷ names) (names_within parents nodes r place.parent)) (place_at nodes x)
+    else option_and_then
+    (λ place. option_map (λ names. place.name ∷ names) (names_within parents nodes r place.parent))
+    (place_at nodes x)
 
 -- the names, the innermost first, at which x stands below r
 abbrev pub names_below : List Inode → ℕ → ℕ → Option (List (List ℕ))

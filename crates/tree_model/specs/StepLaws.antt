@@ -88,25 +88,30 @@ GrantsKeepTrees = (s t : State) (a : ℕ) (names : List (List ℕ)) → IsState 
 
 -- a refused step changes nothing, and neither does one that is answered with a text, names or a listing
 abbrev pub TellingChangesNothing : Type 0
-TellingChangesNothing = (s : State) (a : ℕ) (step : StepOf ℕ) → only_tells (outcome s a step).answer ≡ true → (outcome s a step).after ≡ s
+TellingChangesNothing = (s : State) (a : ℕ) (step : StepOf ℕ) → only_tells (outcome s a step).answer ≡ true
+    → (outcome s a step).after ≡ s
 
 -- a step that isn't on entries leaves the nodes
 abbrev pub NodesAreLeft : Type 0
-NodesAreLeft = (s : State) (a : ℕ) (step : StepOf ℕ) → is_on_entries step ≡ false → (outcome s a step).after.nodes ≡ s.nodes
+NodesAreLeft = (s : State) (a : ℕ) (step : StepOf ℕ) → is_on_entries step ≡ false
+    → (outcome s a step).after.nodes ≡ s.nodes
 
 -- a step on entries leaves the handles
 abbrev pub HandlesAreLeft : Type 0
-HandlesAreLeft = (s : State) (a : ℕ) (step : StepOf ℕ) → is_on_entries step ≡ true → (outcome s a step).after.handles ≡ s.handles
+HandlesAreLeft = (s : State) (a : ℕ) (step : StepOf ℕ) → is_on_entries step ≡ true
+    → (outcome s a step).after.handles ≡ s.handles
 
 -- there are never fewer nodes, nor fewer numbers of handles
 abbrev pub NumbersGrow : Type 0
 NumbersGrow = (s : State) (a : ℕ) (step : StepOf ℕ)
-    → (length s.nodes ≤ length (outcome s a step).after.nodes) × (length s.handles ≤ length (outcome s a step).after.handles)
+    → (length s.nodes ≤ length (outcome s a step).after.nodes)
+    × (length s.handles ≤ length (outcome s a step).after.handles)
 
 -- and a step brings at most one of each
 abbrev pub NumbersGrowByOne : Type 0
 NumbersGrowByOne = (s : State) (a : ℕ) (step : StepOf ℕ)
-    → (length (outcome s a step).after.nodes ≤ suc (length s.nodes)) × (length (outcome s a step).after.handles ≤ suc (length s.handles))
+    → (length (outcome s a step).after.nodes ≤ suc (length s.nodes))
+    × (length (outcome s a step).after.handles ≤ suc (length s.handles))
 
 -- a node stays what it is
 abbrev pub ObjectsStay : Type 0
@@ -115,7 +120,8 @@ ObjectsStay = (s : State) (a : ℕ) (step : StepOf ℕ) (x : ℕ) (object : Obje
 
 -- a step of one actor leaves the others' handles
 abbrev pub OthersHandlesStay : Type 0
-OthersHandlesStay = (s : State) (a : ℕ) (step : StepOf ℕ) (b h : ℕ) → b ≢ a → held (outcome s a step).after b h ≡ held s b h
+OthersHandlesStay = (s : State) (a : ℕ) (step : StepOf ℕ) (b h : ℕ) → b ≢ a
+    → held (outcome s a step).after b h ≡ held s b h
 
 -- an open handle stays open on its node, but for the one that is closed
 abbrev pub OwnHandlesStay : Type 0
@@ -124,23 +130,30 @@ OwnHandlesStay = (s : State) (a : ℕ) (step : StepOf ℕ) (h x : ℕ)
 
 -- a closed handle is open to nobody
 abbrev pub ClosedIsClosed : Type 0
-ClosedIsClosed = (s : State) (a h : ℕ) → (outcome s a (Close h)).answer ≡ Done → (b : ℕ) → held (outcome s a (Close h)).after b h ≡ None
+ClosedIsClosed = (s : State) (a h : ℕ) → (outcome s a (Close h)).answer ≡ Done → (b : ℕ)
+    → held (outcome s a (Close h)).after b h ≡ None
 
 -- what is opened is open from then on, at the next number, on the node that was answered, which is what was answered
 abbrev pub OpenedIsOpen : Type 0
-OpenedIsOpen = (s : State) (a : ℕ) (step : StepOf ℕ) (h x : ℕ) (kind : Kind) → (outcome s a step).answer ≡ Opened h x kind
-    → (h ≡ length s.handles) × (held (outcome s a step).after a h ≡ Some x) × ((outcome s a step).after ≡ with_handle s a x)
+OpenedIsOpen = (s : State) (a : ℕ) (step : StepOf ℕ) (h x : ℕ) (kind : Kind)
+    → (outcome s a step).answer ≡ Opened h x kind
+    → (h ≡ length s.handles) × (held (outcome s a step).after a h ≡ Some x)
+    × ((outcome s a step).after ≡ with_handle s a x)
     × (option_map kind_of (object_at s.nodes x) ≡ Some kind)
 
--- the actor's open handles, and all open handles, are one more for each that was opened and one fewer for each that was closed
+-- the actor's open handles, and all open handles, are one more for each that was opened and one fewer for each that
+-- was closed
 abbrev pub HandlesAreCounted : Type 0
 HandlesAreCounted = (s : State) (a : ℕ) (step : StepOf ℕ)
-    → (held_count (outcome s a step).after a + closed_count (outcome s a step).answer step ≡ held_count s a + opened_count (outcome s a step).answer)
-    × (open_count (outcome s a step).after + closed_count (outcome s a step).answer step ≡ open_count s + opened_count (outcome s a step).answer)
+    → (held_count (outcome s a step).after a + closed_count (outcome s a step).answer step
+    ≡ held_count s a + opened_count (outcome s a step).answer)
+    × (open_count (outcome s a step).after + closed_count (outcome s a step).answer step
+    ≡ open_count s + opened_count (outcome s a step).answer)
 
 -- and the others' stay as many
 abbrev pub OthersCountsStay : Type 0
-OthersCountsStay = (s : State) (a : ℕ) (step : StepOf ℕ) (b : ℕ) → b ≢ a → held_count (outcome s a step).after b ≡ held_count s b
+OthersCountsStay = (s : State) (a : ℕ) (step : StepOf ℕ) (b : ℕ) → b ≢ a
+    → held_count (outcome s a step).after b ≡ held_count s b
 
 -- no step leads past the limits
 abbrev pub LimitsAreKept : Type 0

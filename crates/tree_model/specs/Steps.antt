@@ -107,7 +107,8 @@ outcome s a (MakeFile h n) = on_handle s a h (λ d. changes s (makes s.nodes d n
 outcome s a (MakeLink h n text) = on_handle s a h (λ d. changes s (makes_link s.nodes d n text))
 outcome s a (RemoveFile h n) = on_handle s a h (λ d. changes s (removes_file s.nodes d n))
 outcome s a (RemoveDir h n) = on_handle s a h (λ d. changes s (removes_dir s.nodes d n))
-outcome s a (Rename h n k m mode) = on_handle s a h (λ d. on_handle s a k (λ f. changes s (renames s.nodes d n f m mode)))
+outcome s a (Rename h n k m mode) =
+    on_handle s a h (λ d. on_handle s a k (λ f. changes s (renames s.nodes d n f m mode)))
 
 -- the steps that take no memory
 abbrev pub takes_no_memory : StepOf ℕ → Bool
@@ -143,7 +144,9 @@ grants_at s a (Ok x) = refuse_if (is_full s a) (Err TooMany) (Ok (with_handle s 
 abbrev pub grants : State → ℕ → List (List ℕ) → Result State Errno
 grants s a names = grants_at s a (directory_at s.nodes TOP names)
 
--- a grant ended so: the refusal, or the next handle on that directory, unless there was no memory; a grant that failed left the tree
+-- a grant ended so: the refusal, or the next handle on that directory, unless there was no memory; a grant that
+-- failed left the tree
 abbrev pub IsGrant : State → State → Result State Errno → Result ℕ Errno → Type 0
 IsGrant old new (Err error) result = (result ≡ Err error) × (new ≡ old)
-IsGrant old new (Ok granted) result = MatchResult result (λ h. (h ≡ length old.handles) × (new ≡ granted)) (λ error. (error ≡ NoMemory) × (new ≡ old))
+IsGrant old new (Ok granted) result =
+    MatchResult result (λ h. (h ≡ length old.handles) × (new ≡ granted)) (λ error. (error ≡ NoMemory) × (new ≡ old))

@@ -17,8 +17,8 @@ pub data Rooted (nodes : List Inode) : ℕ → Type 0 where
 abbrev pub HasPathText : Object → Type 0
 HasPathText object = (text : List ℕ) → object ≡ Link text → text_fault text ≡ None
 
--- The top is a directory without a place. Each entry is in a directory and leads up to the top, and no two nodes have one entry.
--- A link's text is one of a path.
+-- The top is a directory without a place. Each entry is in a directory and leads up to the top, and no two nodes
+-- have one entry. A link's text is one of a path.
 pub record IsTree (nodes : List Inode) : Type 0 where
   pub top_is_dir : object_at nodes TOP ≡ Some Dir
   pub top_is_free : place_at nodes TOP ≡ None
@@ -30,4 +30,5 @@ pub record IsTree (nodes : List Inode) : Type 0 where
 -- a tree, and each open handle is on one of its nodes
 pub record IsState (s : State) : Type 0 where
   pub tree : IsTree s.nodes
-  pub handles : (h : ℕ) (open_handle : OpenHandle) → slice_get s.handles h ≡ Some (Some open_handle) → open_handle.node < length s.nodes
+  pub handles : (h : ℕ) (open_handle : OpenHandle) → slice_get s.handles h ≡ Some (Some open_handle)
+      → open_handle.node < length s.nodes

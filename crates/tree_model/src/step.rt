@@ -27,10 +27,10 @@ pub enum Mode {
 /// A single step. Its directories and objects are named by handles `H`, and a name is looked up in one
 /// directory alone; no step follows a link.
 ///
-/// Every step is first refused BadHandle (EBADF) where a handle that it names isn't open or isn't the actor's, in
-/// the order of its handles. Then come the refusals that stand at the step, in their order; where several hold,
-/// the first is told. A refused step changes nothing. A step that opens is refused TooMany (EMFILE) where the
-/// actor has 1,024 handles open or the numbers of handles are used up.
+/// A step is refused BadHandle (EBADF) first, if a handle that it names isn't open or isn't the actor's. Then come
+/// the refusals that are listed at the step. If several hold, the answer is the first of them. A refused step
+/// changes nothing. A step that opens is refused TooMany (EMFILE) if the actor has 1,024 handles open or the
+/// numbers of handles are used up.
 #[derive(Debug, Drop)]
 pub enum StepOf<H> {
     /// Opens the child of that name, whatever it is: openat(2) with O_PATH and O_NOFOLLOW.
@@ -51,7 +51,7 @@ pub enum StepOf<H> {
     /// The names from the first handle's node down to the second's; `NotBelow` where it doesn't stand below it.
     /// Linux has no call for it; a program reads both names in `/proc/self/fd` (proc(5)). Not refused otherwise.
     NameBelow(H, H),
-    /// The names of a directory's entries, by their bytes and without `.` and `..`: getdents64(2), which tells them
+    /// The names of a directory's entries, by their bytes and without `.` and `..`: getdents64(2), which gives them
     /// in any order. Refused: NotDir (ENOTDIR) where the handle is on no directory.
     List(H),
     /// Closes the handle: close(2). Not refused otherwise.

@@ -8,6 +8,7 @@ use Rattle.tree_slab.specs.declared.below.Found.TheVariants.{Below, Apart, Highe
 
 -- however many parents more are gone up: the names were added, the outermost first; or there are none
 abbrev pub Tells : Found → ℕ → List Inode → ℕ → ℕ → List (List ℕ) → List (List ℕ) → Type 0
-Tells Below depth nodes top x old new = (more : ℕ) → option_map (λ names. old ++ reverse names) (names_within (depth + more) nodes top x) ≡ Some new
+Tells Below depth nodes top x old new =
+    (more : ℕ) → option_map (λ names. old ++ reverse names) (names_within (depth + more) nodes top x) ≡ Some new
 Tells Apart depth nodes top x old new = (more : ℕ) → names_within (depth + more) nodes top x ≡ None
 Tells Higher depth nodes top x old new = Unit {0}

@@ -1,4 +1,5 @@
--- The entries of the directories that stand, each directory's by the bytes of their names: for each node the entries of its map, if it has one.
+-- The entries of the directories that stand, each directory's by the bytes of their names: for each node the entries
+-- of its map, if it has one.
 use Rattle.std.specs.Prelude.{◌≡◌, ◌≢◌, ℕ, suc, ◌==◌, ◌&&◌, List, [], Bool, if◌then◌else◌, length, slice_index_or, Option, Some, None, is_some, IsSome, true, false, MatchOption}
 use Rattle.std.specs.Option.{option_map, option_and_then}
 use Rattle.std.specs.Ordering.{nat_cmp}
@@ -97,4 +98,5 @@ pub record IsNewMap (old new : Slab (BTreeMap (List ℕ) ℕ)) (key : ℕ) : Typ
 
 -- a map of a new key where it is wanted
 abbrev pub AddsMap : Bool → Slab (BTreeMap (List ℕ) ℕ) → Slab (BTreeMap (List ℕ) ℕ) → Option ℕ → Type 0
-AddsMap mapped old new key = MatchOption key ((mapped ≡ false) × (new ≡ old)) (λ k. (mapped ≡ true) × IsNewMap old new k)
+AddsMap mapped old new key =
+    MatchOption key ((mapped ≡ false) × (new ≡ old)) (λ k. (mapped ≡ true) × IsNewMap old new k)

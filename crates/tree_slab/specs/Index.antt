@@ -12,8 +12,10 @@ is_standing_dir nodes x = is_dir nodes x && not (is_gone nodes x)
 
 -- a look-up leads to a node exactly where the node stands at that entry
 pub record Agrees (look : ℕ → List ℕ → Option ℕ) (nodes : List Inode) : Type 0 where
-  pub found : (d : ℕ) (n : List ℕ) (x : ℕ) → look d n ≡ Some x → place_at nodes x ≡ Some (record { parent = d; name = n })
-  pub kept : (d : ℕ) (n : List ℕ) (x : ℕ) → place_at nodes x ≡ Some (record { parent = d; name = n }) → look d n ≡ Some x
+  pub found : (d : ℕ) (n : List ℕ) (x : ℕ) → look d n ≡ Some x
+      → place_at nodes x ≡ Some (record { parent = d; name = n })
+  pub kept : (d : ℕ) (n : List ℕ) (x : ℕ) → place_at nodes x ≡ Some (record { parent = d; name = n })
+      → look d n ≡ Some x
 
 -- the nodes are a tree, each map has exactly its directory's entries, and exactly the standing directories have one
 pub record IsIndexed (nodes : List Inode) (directories : List (Option (List (List ℕ × ℕ)))) : Type 0 where

@@ -32,7 +32,8 @@ impl Model for Handles {
 // Counts a handle for its actor, if it is open. NoMemory where room was refused.
 fn count_place(counts: &mut HeldCounts, place: &Option<OpenHandle>) -> Result<(), NoMemory>
     requires { (actor : ℕ) → count_in counts.old.low counts.old.high actor < usize.MAX }
-    ensures { OnOk result (CountsPlace (count_in counts.old.low counts.old.high) (count_in counts.new.low counts.new.high) place.now) }
+    ensures { OnOk result (CountsPlace (count_in counts.old.low counts.old.high)
+        (count_in counts.new.low counts.new.high) place.now) }
 {
     let Some(open) = place else {
         return Ok(());
@@ -100,7 +101,8 @@ impl Handles {
 
     /// Whether the actor can open no more, or the numbers are used up.
     pub(crate) fn is_full(&self, actor: Actor) -> bool
-        ensures { result ≡ (nat_le HANDLES_MAX (count_by (is_held_by actor) self.now) || nat_le NUMBERS_MAX (length self.now)) }
+        ensures { result
+            ≡ (nat_le HANDLES_MAX (count_by (is_held_by actor) self.now) || nat_le NUMBERS_MAX (length self.now)) }
     {
         self.held(actor) >= HANDLES_MAX || self.places.len() >= NUMBERS_MAX
     }
@@ -108,7 +110,8 @@ impl Handles {
     /// One more handle on a node, of the next number. NoMemory where its room was refused.
     pub(crate) fn open(&mut self, actor: Actor, node: Node) -> Result<HandleNo, NoMemory>
         requires { length self.old < NUMBERS_MAX }
-        ensures ok { IfOk result (λ handle. (handle ≡ length self.old) × (self.new ≡ self.old ++ Some (record { actor = actor; node = node }) ∷ [])) }
+        ensures ok { IfOk result (λ handle. (handle ≡ length self.old)
+            × (self.new ≡ self.old ++ Some (record { actor = actor; node = node }) ∷ [])) }
         ensures err { OnErr result (self.new ≡ self.old) }
     {
         let held = self.held(actor);

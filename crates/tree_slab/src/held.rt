@@ -44,8 +44,10 @@ impl HeldCounts {
 
     /// Another count for an actor. NoMemory where room was refused.
     pub(crate) fn set(&mut self, actor: Actor, count: usize) -> Result<(), NoMemory>
-        ensures ok { OnOk result (SetsCount (count_in self.old.low self.old.high) (count_in self.new.low self.new.high) actor count) }
-        ensures err { OnErr result ((other : ℕ) → count_in self.new.low self.new.high other ≡ count_in self.old.low self.old.high other) }
+        ensures ok { OnOk result (SetsCount (count_in self.old.low self.old.high)
+            (count_in self.new.low self.new.high) actor count) }
+        ensures err { OnErr result ((other : ℕ)
+            → count_in self.new.low self.new.high other ≡ count_in self.old.low self.old.high other) }
     {
         let at = actor.number() as usize;
         if at < self.low.len() {
@@ -59,7 +61,8 @@ impl HeldCounts {
     /// One less for an actor that has a handle open. Takes no memory.
     pub(crate) fn lower(&mut self, actor: Actor)
         requires { 0 < count_in self.old.low self.old.high actor }
-        ensures { SetsCount (count_in self.old.low self.old.high) (count_in self.new.low self.new.high) actor (count_in self.old.low self.old.high actor - 1) }
+        ensures { SetsCount (count_in self.old.low self.old.high) (count_in self.new.low self.new.high) actor
+            (count_in self.old.low self.old.high actor - 1) }
     {
         let at = actor.number() as usize;
         if at < self.low.len() {

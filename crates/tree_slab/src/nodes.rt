@@ -184,7 +184,9 @@ impl Nodes {
         requires free { child self.old dir name.now ≡ None }
         requires few { length self.old < NUMBERS_MAX }
         requires text { HasPathText object }
-        ensures ok { OnOk result (self.new ≡ self.old ++ record { object = object; place = Some (record { parent = dir; name = name.now }) } ∷ []) }
+        ensures ok { OnOk result (self.new
+            ≡ self.old ++ record { object = object; place = Some (record { parent = dir; name = name.now }) }
+            ∷ []) }
         ensures err { OnErr result (self.new ≡ self.old) }
     {
         let mapped = is_directory(&object);
@@ -344,7 +346,8 @@ impl Nodes {
         requires moved { child self.old from.parent from.name ≡ Some moved }
         requires there { child self.old to.parent to.name ≡ Some there }
         requires apart { moved ≢ there }
-        ensures { IsChange self.old self.new (exchanges self.old moved from.parent from.name there to.parent to.name) result }
+        ensures { IsChange self.old self.new
+            (exchanges self.old moved from.parent from.name there to.parent to.name) result }
     {
         if is_within(&self.inodes, moved, to.parent) {
             return Err(Errno::Invalid);

@@ -43,7 +43,8 @@ impl SlabTree {
     /// One more handle on a node, of the next number. NoMemory where its room was refused.
     pub(crate) fn add_handle(&mut self, actor: Actor, x: Node) -> Result<HandleNo, NoMemory>
         requires { is_full self.old actor ≡ false }
-        ensures ok { IfOk result (λ handle. (handle ≡ length self.old.handles) × (self.new ≡ with_handle self.old actor x)) }
+        ensures ok { IfOk result (λ handle. (handle ≡ length self.old.handles)
+            × (self.new ≡ with_handle self.old actor x)) }
         ensures err { OnErr result (self.new ≡ self.old) }
     {
         self.handles.open(actor, x)
@@ -197,7 +198,9 @@ impl SlabTree {
         object: Object,
     ) -> Result<Answer, NoMemory>
         requires { HasPathText object }
-        ensures { IsStepOr self.old (on_handle self.old actor dir (λ d. changes self.old (makes self.old.nodes d name.now object))) self.new result }
+        ensures { IsStepOr self.old
+            (on_handle self.old actor dir
+            (λ d. changes self.old (makes self.old.nodes d name.now object))) self.new result }
     {
         let Some(dir) = self.node_held(actor, dir) else {
             return Ok(Answer::Refused(Errno::BadHandle));
@@ -259,7 +262,9 @@ impl SlabTree {
         to: (HandleNo, &Name),
         mode: Mode,
     ) -> Result<Answer, NoMemory>
-        ensures { IsStepOr self.old (outcome self.old actor (StepOf.Rename from.entry.0 from.entry.1.now to.entry.0 to.entry.1.now mode)) self.new result }
+        ensures { IsStepOr self.old
+            (outcome self.old actor
+            (StepOf.Rename from.entry.0 from.entry.1.now to.entry.0 to.entry.1.now mode)) self.new result }
     {
         let Some(dir) = self.node_held(actor, from.0) else {
             return Ok(Answer::Refused(Errno::BadHandle));

@@ -34,7 +34,9 @@ impl SlabTree {
     ///
     /// Errors, in this order: Invalid for a cap of 0 or over 65,536, NoMemory where room was refused.
     pub fn new(alloc: Global, cap: usize) -> Result<SlabTree, Errno>
-        ensures { MatchOption (cap_fault cap) (MatchResult result (λ tree. tree ≡ with_nodes top_alone) (λ error. error ≡ Errno.NoMemory)) (λ fault. result ≡ Err fault) }
+        ensures { MatchOption (cap_fault cap)
+            (MatchResult result (λ tree. tree ≡ with_nodes top_alone) (λ error. error ≡ Errno.NoMemory))
+            (λ fault. result ≡ Err fault) }
     {
         let cache = DentryCache::new(alloc, cap)?;
         let nodes = Nodes::new(alloc, cache)?;
@@ -50,7 +52,9 @@ impl SlabTree {
     /// Errors, in this order: Invalid for a cap of 0 or over 65,536, NoMemory where room was refused.
     pub fn from_list(alloc: Global, list: &ListTree, cap: usize) -> Result<SlabTree, Errno>
         requires { IsTree list.now.nodes }
-        ensures { MatchOption (cap_fault cap) (MatchResult result (λ tree. tree ≡ list.now) (λ error. error ≡ Errno.NoMemory)) (λ fault. result ≡ Err fault) }
+        ensures { MatchOption (cap_fault cap)
+            (MatchResult result (λ tree. tree ≡ list.now) (λ error. error ≡ Errno.NoMemory))
+            (λ fault. result ≡ Err fault) }
     {
         let cache = DentryCache::new(alloc, cap)?;
         let (nodes, handles) = list.copy(alloc)?.into_parts();

@@ -32,7 +32,8 @@ pub record AreSoMany (P : List ℕ → Type 0) (n : ℕ) : Type 0 where
 -- It holds of no word longer than that, and of one that is as long, if of any; of none: 0.
 pub record IsLongest (P : List ℕ → Type 0) (longest : ℕ) : Type 0 where
   pub bounded : (word : List ℕ) → P word → length word ≤ longest
-  pub reached : ((longest ≡ 0) × ((word : List ℕ) → P word → ⊥)) ⊎ ((word : List ℕ) × (P word × (length word ≡ longest)))
+  pub reached : ((longest ≡ 0) × ((word : List ℕ) → P word → ⊥))
+      ⊎ ((word : List ℕ) × (P word × (length word ≡ longest)))
 
 -- it holds of that word, and each other of which it holds is as great or greater
 pub record IsLeastWord (rank : List ℕ → Rank) (P : List ℕ → Type 0) (least : Rank) : Type 0 where
@@ -55,5 +56,6 @@ pub record IsCount (rank : List ℕ → Rank) (P : List ℕ → Type 0) (count :
 
 -- each class's words, and all words, are counted
 pub record AreCounts (layers : List (Vec Spot)) (counts : Counts) : Type 0 where
-  pub each : (class : ℕ) (count : Count) → slice_get counts.classes.items class ≡ Some count → IsCount (rank layers) (IsWordOf layers class) count
+  pub each : (class : ℕ) (count : Count) → slice_get counts.classes.items class ≡ Some count
+      → IsCount (rank layers) (IsWordOf layers class) count
   pub all : IsCount (rank layers) (IsSomeWord layers) counts.all

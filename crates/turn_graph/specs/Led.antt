@@ -29,7 +29,8 @@ pub record LeadsTo (layers : List (Vec Spot)) (k s : ℕ) (word : List ℕ) : Ty
 
 -- what leads to each spot of the layer is counted
 abbrev pub IsTable : List (Vec Spot) → ℕ → List Count → Type 0
-IsTable layers k table = (s : ℕ) (count : Count) → slice_get table s ≡ Some count → IsCount (rank layers) (LeadsTo layers k s) count
+IsTable layers k table =
+    (s : ℕ) (count : Count) → slice_get table s ≡ Some count → IsCount (rank layers) (LeadsTo layers k s) count
 
 -- it leads to spot t of the next layer, by a way from a spot of layer k that has a number and a letter such as that
 pub record Came (layers : List (Vec Spot)) (k : ℕ) (Early : ℕ → ℕ → Type 0) (t : ℕ) (word : List ℕ) : Type 0 where
@@ -49,15 +50,20 @@ IsBefore s spot letter = spot < s
 
 -- what leads to each spot of the next layer by the first spots of layer k, as many as s, is counted
 abbrev pub IsNext : List (Vec Spot) → ℕ → ℕ → List Count → Type 0
-IsNext layers k s next = (t : ℕ) (count : Count) → slice_get next t ≡ Some count → IsCount (rank layers) (Came layers k (IsBefore s) t) count
+IsNext layers k s next = (t : ℕ) (count : Count) → slice_get next t ≡ Some count
+    → IsCount (rank layers) (Came layers k (IsBefore s) t) count
 
--- It is a word of such a class, and either has fewer letters than k, or ends at one of the first spots of layer k, as many as s.
+-- It is a word of such a class, and either has fewer letters than k, or ends at one of the first spots of layer k,
+-- as many as s.
 abbrev pub Ended : List (Vec Spot) → ℕ → ℕ → (ℕ → Type 0) → List ℕ → Type 0
 Ended layers k s Class word =
     ((class : ℕ) × (Class class × ((length word < k) × IsWordOf layers class word)))
-    ⊎ ((class : ℕ) × ((spot : ℕ) × (Class class × ((spot < s) × (LeadsTo layers k spot word × (spot_at layers k spot ≡ Some (Ends class)))))))
+    ⊎ ((class : ℕ) × ((spot : ℕ)
+    × (Class class × ((spot < s)
+    × (LeadsTo layers k spot word × (spot_at layers k spot ≡ Some (Ends class)))))))
 
 -- these words are counted, those of each class and all of them
 pub record AreTold (layers : List (Vec Spot)) (k s : ℕ) (counts : Counts) : Type 0 where
-  pub each : (class : ℕ) (count : Count) → slice_get counts.classes.items class ≡ Some count → IsCount (rank layers) (Ended layers k s (λ c. c ≡ class)) count
+  pub each : (class : ℕ) (count : Count) → slice_get counts.classes.items class ≡ Some count
+      → IsCount (rank layers) (Ended layers k s (λ c. c ≡ class)) count
   pub all : IsCount (rank layers) (Ended layers k s (λ c. Unit {0})) counts.all

@@ -34,7 +34,8 @@ way_at layers k s letter = way_of (ways_from (spot_at layers k s)) letter
 
 -- No two of the ways have the same letter.
 abbrev pub AreApart : List Way → Type 0
-AreApart ways = (i j : ℕ) (v w : Way) → slice_get ways i ≡ Some v → slice_get ways j ≡ Some w → v.letter ≡ w.letter → i ≡ j
+AreApart ways = (i j : ℕ) (v w : Way) → slice_get ways i ≡ Some v → slice_get ways j ≡ Some w → v.letter ≡ w.letter
+    → i ≡ j
 
 -- No two ways from one spot of the layer have the same letter.
 abbrev pub IsLayer : List Spot → Type 0
@@ -49,7 +50,8 @@ AreLayers layers = (k : ℕ) (layer : Vec Spot) → slice_get layers k ≡ Some 
 -- The letters lead from spot s of layer k to one where a word is whole, of that class.
 abbrev pub IsWord : List (Vec Spot) → ℕ → ℕ → List ℕ → ℕ → Type 0
 IsWord layers k s [] class = spot_at layers k s ≡ Some (Ends class)
-IsWord layers k s (letter ∷ rest) class = (way : Way) × ((way_at layers k s letter ≡ Some way) × IsWord layers (suc k) way.to rest class)
+IsWord layers k s (letter ∷ rest) class =
+    (way : Way) × ((way_at layers k s letter ≡ Some way) × IsWord layers (suc k) way.to rest class)
 
 -- one more, where it is so
 abbrev pub plus : Bool → ℕ → ℕ
@@ -59,12 +61,14 @@ plus false n = n
 -- how many ways of the word, from spot s of layer k, are a cut
 abbrev pub cuts : List (Vec Spot) → ℕ → ℕ → List ℕ → ℕ
 cuts layers k s [] = 0
-cuts layers k s (letter ∷ rest) = option_map_or (λ way. plus way.cut (cuts layers (suc k) way.to rest)) (way_at layers k s letter) 0
+cuts layers k s (letter ∷ rest) =
+    option_map_or (λ way. plus way.cut (cuts layers (suc k) way.to rest)) (way_at layers k s letter) 0
 
 -- how many ways of the word, from spot s of layer k, are a change
 abbrev pub changes : List (Vec Spot) → ℕ → ℕ → List ℕ → ℕ
 changes layers k s [] = 0
-changes layers k s (letter ∷ rest) = option_map_or (λ way. plus way.change (changes layers (suc k) way.to rest)) (way_at layers k s letter) 0
+changes layers k s (letter ∷ rest) =
+    option_map_or (λ way. plus way.change (changes layers (suc k) way.to rest)) (way_at layers k s letter) 0
 
 -- ---- which is less
 

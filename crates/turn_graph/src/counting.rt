@@ -11,7 +11,8 @@ use std::alloc::Global;
 
 // As many counts of nothing.
 fn blank(alloc: Global, width: usize) -> Result<Vec<Count>, NoMemory>
-    ensures { IfOk result (λ counts. counts.items ≡ replicate width (record { words = 0; longest = 0; least = None })) }
+    ensures { IfOk result (λ counts. counts.items
+        ≡ replicate width (record { words = 0; longest = 0; least = None })) }
 {
     let mut counts = Vec::with_capacity(alloc, width)?;
     for _ in 0..width {

@@ -66,7 +66,8 @@ const COUNTS: [Row; 2] = [
 
 // The tree, with the walker's root `/c`. The other actor has handle 0, on `/c/a`.
 fn tree(alloc: Global) -> Result<(ListTree, Root), Errno>
-    ensures { IfOk result (λ made. IsReady made.0 made.1.owner.actor made.1.handle (node_of made.0 made.1.owner.actor made.1.handle)) }
+    ensures { IfOk result (λ made.
+        IsReady made.0 made.1.owner.actor made.1.handle (node_of made.0 made.1.owner.actor made.1.handle)) }
 {
     steps_keep_trees();
     let entries = entries(alloc, ENTRIES.as_slice())?;

@@ -22,8 +22,10 @@ pub fn look_up<T: Tree>(
     path: Path,
     flags: Flags,
 ) -> Result<Node, Errno>
-    requires { IsReady (T.state tree.old) root.owner.actor root.handle (node_of (T.state tree.old) root.owner.actor root.handle) }
-    ensures means { Gives (resolution (reading_means (ground_at (T.state tree.old) root.owner.actor root.handle flags) path true)) result }
+    requires { IsReady (T.state tree.old) root.owner.actor root.handle
+        (node_of (T.state tree.old) root.owner.actor root.handle) }
+    ensures means { Gives (resolution
+        (reading_means (ground_at (T.state tree.old) root.owner.actor root.handle flags) path true)) result }
     ensures nodes { (T.state tree.new).nodes ≡ (T.state tree.old).nodes }
     ensures handles { LeavesAllHandles (T.state tree.old) (T.state tree.new) }
 {
@@ -53,8 +55,8 @@ pub fn look_up<T: Tree>(
 /// The node that a path text means in the tree of these entries, below the directory at the names `root` from the
 /// top. Entry k is node k + 1.
 ///
-/// Errors, in this order: those of the first entry that is refused; those of the root's names; the text's faults; those
-/// of `look_up`. NoMemory.
+/// Errors, in this order: those of the first entry that is refused; those of the root's names; the text's faults;
+/// those of `look_up`. NoMemory.
 pub fn node_at(
     alloc: Global,
     entries: &[Entry],

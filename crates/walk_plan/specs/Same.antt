@@ -1,5 +1,6 @@
--- Plans that have the same to come. Where a link at the very last of the caller's own parts is followed in the one and
--- not in the other, they differ; where that part is no name, it makes no difference what the goals say of a link there.
+-- Plans that have the same to come. Where a link at the very last of the caller's own parts is followed in the one
+-- and not in the other, they differ; where that part is no name, it makes no difference what the goals say of a link
+-- there.
 use Rattle.std.specs.Prelude.{◌≡◌, List, [], ◌∷◌, Bool, not, ◌||◌, Option, Some, None}
 use Rattle.path_text.specs.declared.part.Part.{Part}
 use Rattle.walk_plan.specs.declared.goal.Goal.{Goal}

@@ -16,7 +16,10 @@ use smallvec::SmallVec;
 use std::alloc::Global;
 use std::marker::Model;
 
+mod copy;
 mod same;
+
+pub use copy::copy_parts;
 
 /// The most links that are followed along one path (path_resolution(7), MAXSYMLINKS of the Linux kernel).
 pub const LINKS_MAX: u8 = 40;

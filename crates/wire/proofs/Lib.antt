@@ -1,4 +1,5 @@
 mod AsBox
+mod Laying
 mod Spelling
 mod Conversing
 mod Outright

@@ -1,13 +1,12 @@
 -- What is told and begun, from the parts that the code has.
-use Rattle.std.specs.Prelude.{◌≡◌, ℕ, ◌<◌, List, [], ◌∷◌, ◌++◌, drop, length, slice_set, true, Option, Some, refl}
-use Rattle.std.proofs.Common.{ap, arith}
+use Rattle.std.specs.Prelude.{◌≡◌, ℕ, List, true, Option, Some}
 use mathlib.Core.Path.{subst, sym}
 use Rattle.tree_model.specs.declared.step.StepOf.{StepOf}
 use Rattle.root_ops.specs.declared.below.Below.{Below}
 use Rattle.root_ops.specs.declared.call.CallTurn.{CallTurn}
 use Rattle.root_ops.specs.declared.op.Op.{Op}
 use Rattle.root_ops.specs.TurnView.{turn_view, Keeps, StartsTo, below_of}
-use Rattle.wire.specs.Numbers.{ended, step_told, step_bytes, below_asked}
+use Rattle.wire.specs.Numbers.{step_told, step_bytes, below_asked}
 use Rattle.wire.specs.Turns.{LaidOut, IsDueTold, BeginsTo}
 use Rattle.wire.specs.declared.numbers.Asked.{Asked}
 use Rattle.wire.specs.declared.numbers.Told.{Told}
@@ -22,11 +21,3 @@ pub begins_some : (asked : Asked) (below : Below) (named : Option Op) (op : Op) 
 begins_some asked below named op turn same is started kept =
     subst (λ o. BeginsTo (below_asked asked) o turn) (sym is)
     (subst (λ (b : Below). StartsTo b op (turn_view turn)) same started, subst (λ (b : Below). Keeps b turn) same kept)
-
--- a text that is laid at a room's beginning, with a NUL laid after it
-pub laid : (text room : List ℕ) → length text < length room
-    → slice_set (text ++ drop (length text) room) (length text) 0 ≡ ended text ++ drop (length (ended text)) room
-laid [] [] short = let never : ⊥ = omega arith in absurd never
-laid [] (r ∷ room) short = refl
-laid (t ∷ text) [] short = let never : ⊥ = omega arith in absurd never
-laid (t ∷ text) (r ∷ room) short = ap (λ (l : List ℕ). t ∷ l) (laid text room (omega arith))

@@ -1,4 +1,5 @@
--- What passes between a C program and the library from a call's beginning to its reply, and the lines that a history has of it.
+-- What passes between a C program and the library from a call's beginning to its reply, and the lines that a history
+-- has of it.
 use Rattle.std.specs.Prelude.{◌≡◌, ◌⊎◌, ℕ, List, [], ◌∷◌, Bool, true, false, Option, Some, None}
 use Rattle.path_text.specs.declared.errno.Errno.TheVariants.{NoMemory}
 use Rattle.tree_model.specs.declared.answer.Answer.{Answer}
@@ -43,16 +44,20 @@ Begins asked first second heard = (turn : CallTurn) × (IsBegun asked first seco
 -- what that of `next` says of a call that is kept
 abbrev pub GoesOn : Heard → Exchange → Type 0
 GoesOn heard x =
-    (call : CallView) × ((call_of heard.kept ≡ Some call) × ((turn : CallTurn) × (IsNext call x.answer x.bytes turn × Hears turn x.heard)))
+    (call : CallView)
+    × ((call_of heard.kept ≡ Some call)
+    × ((turn : CallTurn) × (IsNext call x.answer x.bytes turn × Hears turn x.heard)))
 
 -- the program says that there was no memory for the step (ENOMEM)
 abbrev pub SaysWant : Answered → Type 0
 SaysWant answer = (answer.what ≡ 6) × (answer.error ≡ 12)
 
--- The turns to a call's end. The program owes that much: of a step that wasn't spelled it says that there was no memory for it.
+-- The turns to a call's end. The program owes that much: of a step that wasn't spelled it says that there was no
+-- memory for it.
 abbrev pub Conversation : Heard → List Exchange → Type 0
 Conversation heard [] = heard.kept ≡ None
-Conversation heard (x ∷ xs) = GoesOn heard x × ((heard.told ≡ NOT_SPELLED → SaysWant x.answer) × Conversation x.heard xs)
+Conversation heard (x ∷ xs) =
+    GoesOn heard x × ((heard.told ≡ NOT_SPELLED → SaysWant x.answer) × Conversation x.heard xs)
 
 abbrev pub last_heard : Heard → List Exchange → Heard
 last_heard heard [] = heard
@@ -79,13 +84,15 @@ is_close (steps.Rename h n k m mode) = false
 abbrev pub Spells : Exchange → Answer → Type 0
 Spells x answer = (room : Bool) × (answer ≡ answer_of room x.answer x.bytes)
 
--- This is the step that had been told, and what the program says is its answer. Only a Close is answered by want of memory.
+-- This is the step that had been told, and what the program says is its answer. Only a Close is answered by want of
+-- memory.
 abbrev pub IsMade : Heard → Exchange → StepOf ℕ → Answer → Type 0
 IsMade heard x step answer =
-    SpelledAs true step heard.told heard.before heard.after × (Spells x answer × (answer ≡ Refused NoMemory → is_close step ≡ true))
+    SpelledAs true step heard.told heard.before heard.after
+    × (Spells x answer × (answer ≡ Refused NoMemory → is_close step ≡ true))
 
--- The line of an exchange: the step was made; or it counts as not made, for want of memory, which the program says, or which
--- the bytes of its answer found.
+-- The line of an exchange: the step was made; or it counts as not made, for want of memory, which the program says,
+-- or which the bytes of its answer found.
 abbrev pub LineOf : Heard → Exchange → Line → Type 0
 LineOf heard x (answered step answer) = IsMade heard x step answer
 LineOf heard x (no_room step answer) = IsMade heard x step answer
@@ -102,14 +109,15 @@ LinesOf heard xs lines = ⊥
 abbrev pub RepliesLast : Heard → Reply → Type 0
 RepliesLast heard reply = LaidOut (reply_told reply) (reply_bytes reply) heard.told heard.before heard.after
 
--- The lines lead from the operation's first turn, with memory or without, to the reply. So in each history in which they are the
--- program's own in the call's window, the reply tells which handles are left open.
+-- The lines lead from the operation's first turn, with memory or without, to the reply. So in each history in which
+-- they are the program's own in the call's window, the reply tells which handles are left open.
 pub record IsCall (asked : Asked) (op : Op) (heard : Heard) (exchanges : List Exchange) (reply : Reply) : Type 0 where
   pub room : Bool
   pub lines : List Line
   pub lines_of : LinesOf heard exchanges lines
   pub leads : LeadsTo (below_asked asked) (starts (below_asked asked) room op) lines (ends (reply_view reply))
-  pub handles : (c : CallInHistory) → c.below ≡ below_asked asked → c.room ≡ room → c.op ≡ op → c.lines ≡ lines → IsCallInHistory c
+  pub handles : (c : CallInHistory) → c.below ≡ below_asked asked → c.room ≡ room → c.op ≡ op → c.lines ≡ lines
+      → IsCallInHistory c
       → HandlesAfter c (reply_view reply)
 
 -- Or there was no memory to begin with, and nothing was due.
@@ -120,4 +128,6 @@ IsWantAtOnce exchanges reply = (exchanges ≡ []) × (reply ≡ Fault NoMemory)
 abbrev pub ConversationsAreCalls : Type 0
 ConversationsAreCalls = (asked : Asked) (first second : List ℕ) (op : Op) (heard : Heard) (exchanges : List Exchange)
     → op_of asked first second ≡ Some op → Begins asked first second heard → Conversation heard exchanges
-    → (reply : Reply) × (RepliesLast (last_heard heard exchanges) reply × (IsWantAtOnce exchanges reply ⊎ IsCall asked op heard exchanges reply))
+    → (reply : Reply)
+    × (RepliesLast (last_heard heard exchanges) reply
+    × (IsWantAtOnce exchanges reply ⊎ IsCall asked op heard exchanges reply))

@@ -64,7 +64,8 @@ op_of asked first second =
     else if asked.op == 5 then Some (ops.CreateDir first) else if asked.op == 6 then Some (ops.CreateLink first second)
     else if asked.op == 7 then Some (ops.RemoveFile first) else if asked.op == 8 then Some (ops.RemoveDir first)
     else if asked.op == 9 then renames_as (mode_of asked.mode) first second
-    else if asked.op == 10 then Some (ops.MkdirAll first) else if asked.op == 11 then Some (ops.RemoveAll first) else None
+    else if asked.op == 10 then Some (ops.MkdirAll first) else if asked.op == 11 then Some (ops.RemoveAll first)
+    else None
 
 -- the root and the restrictions
 abbrev pub owner_asked : Owner
@@ -107,7 +108,15 @@ ended text = text ++ 0 ∷ []
 -- the numbers of a step: what it is, its handles, how long its names and texts are
 abbrev pub due_told : ℕ → ℕ → ℕ → ℕ → ℕ → ℕ → Told
 due_told what handle other first second detail =
-    record { what = what; detail = detail; whole = true; handle = handle; other = other; first = first; second = second }
+    record {
+      what = what;
+      detail = detail;
+      whole = true;
+      handle = handle;
+      other = other;
+      first = first;
+      second = second;
+    }
 
 abbrev pub step_told : StepOf ℕ → Told
 step_told (steps.Open h n) = due_told 1 h 0 (length n) 0 0

@@ -41,8 +41,8 @@ impl Drop for Held {
     }
 }
 
-/// A call under way by its pointer, or none. A C program holds it between two turns, and doesn't copy it. To let go of
-/// one that holds a call leaves the call's memory and handles as they are.
+/// A call under way by its pointer, or none. A C program holds it between two turns, and doesn't copy it. To drop one
+/// that holds a call leaves the call's memory and handles as they are.
 #[repr(C)]
 #[derive(Drop)]
 pub struct Kept {

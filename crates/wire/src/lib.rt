@@ -1,10 +1,10 @@
 //! Calls of `root_ops` as a C program makes them: by numbers and bytes.
 //!
-//! A C program says in numbers and bytes what it asks for, is told in numbers and bytes which single step is due, makes
-//! it by a system call, and tells the answer in the same way, until it is told the reply. The layer above uses `begin`
-//! and `next`, whose contracts say that each step and each reply that is told is the one of the proved call, spelled
-//! exactly, and that each answer is taken as the one that its numbers and bytes spell. Between two turns the C program
-//! keeps the call by its pointer, as a `Kept`.
+//! A C program says in numbers and bytes what it asks for, is told in numbers and bytes which single step is due,
+//! makes it by a system call, and tells the answer in the same way, until it is told the reply. The layer above uses
+//! `begin` and `next`, whose contracts say that each step and each reply that is told is the one of the proved call,
+//! spelled exactly, and that each answer is taken as the one that its numbers and bytes spell. Between two turns the
+//! C program keeps the call by its pointer, as a `Kept`.
 #![tactic(auto)]
 
 mod answered;

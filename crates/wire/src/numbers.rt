@@ -25,8 +25,8 @@ pub struct Answered {
     pub handle: u64,
     /// The number of its node.
     pub node: u64,
-    /// 1 opened, 2 a link's text, 3 the names below the root as a path, 4 the names of a directory's entries in the same
-    /// way, 5 done, 6 refused. Any other counts as refused by BadHandle.
+    /// 1 opened, 2 a link's text, 3 the names below the root as a path, 4 the names of a directory's entries in the
+    /// same way, 5 done, 6 refused. Any other counts as refused by BadHandle.
     pub what: u8,
     /// Of what was opened: 1 a directory, 3 a link, any other a file.
     pub kind: u8,
@@ -34,7 +34,7 @@ pub struct Answered {
     pub error: u8,
 }
 
-/// What a call tells: the step that is due, or its reply.
+/// What a C program gets of a call: the step that is due, or the reply.
 #[repr(C)]
 #[derive(Clone, Copy, Debug, PartialEq, Eq)]
 pub struct Told {
@@ -47,12 +47,13 @@ pub struct Told {
     pub first: usize,
     /// How many bytes the second one has.
     pub second: usize,
-    /// 1 to 13 a step that is due: Open, Dup, Parent, ReadLink, NameBelow, List, Close, MakeDir, MakeFile, MakeLink, RemoveFile,
-    /// RemoveDir, Rename. 14 one that there was no memory to spell. 32 to 38 a reply: opened, a text, done, a count, a
-    /// step's answer, a handle handed back, an error.
+    /// 1 to 13 a step that is due: Open, Dup, Parent, ReadLink, NameBelow, List, Close, MakeDir, MakeFile, MakeLink,
+    /// RemoveFile, RemoveDir, Rename. 14 one that there was no memory to spell. 32 to 38 a reply: opened, a text,
+    /// done, a count, a step's answer, a handle handed back, an error.
     pub what: u8,
     /// Of a rename its mode, of what was opened its kind, of an error its number.
     pub detail: u8,
-    /// Whether the bytes were laid out: each name or text, and a NUL after it.
+    /// Whether the bytes were laid out: each name or text, and a NUL after it. They are wherever the room is no
+    /// shorter.
     pub whole: bool,
 }

@@ -1,12 +1,12 @@
 //! What is told of a turn: the step that is due, or the reply.
-ghost use Rattle.std.specs.Prelude.{◌≡◌, ◌++◌, ◌∷◌, [], IfOk, length, Bool, drop, if◌then◌else◌};
+ghost use Rattle.std.specs.Prelude.{◌≡◌, ◌≤◌, ◌+◌, ◌++◌, length, take, drop, nat_le};
+ghost use Rattle.path_text.specs.Print.{after_slashes, printed};
 ghost use Rattle.wire.specs.Numbers.{due_told, ended, kind_number, mode_number, reply_bytes, reply_told, step_bytes, step_told, NOT_SPELLED};
-ghost use Rattle.wire.specs.Turns.{LaidOut};
+ghost use Rattle.wire.specs.Turns.{fits, laid, LaidOut};
 
 use crate::numbers::Told;
-use path_text::NoMemory;
+use path_text::Names;
 use root_ops::Reply;
-use std::alloc::Global;
 use tree_model::{Kind, Mode, Step, StepOf};
 
 fn kind_number(kind: Kind) -> u8
@@ -78,25 +78,6 @@ fn step_told(step: &Step) -> Told
     }
 }
 
-// A text and a NUL after it.
-fn ended(alloc: Global, text: &[u8]) -> Result<Vec<u8>, NoMemory>
-    ensures { IfOk result (λ bytes. bytes.items ≡ ended text.now) }
-{
-    let mut bytes = Vec::from_slice(alloc, text)?;
-    bytes.push(0)?;
-    Ok(bytes)
-}
-
-// Two texts and a NUL after each.
-fn both_ended(alloc: Global, first: &[u8], second: &[u8]) -> Result<Vec<u8>, NoMemory>
-    ensures { IfOk result (λ bytes. bytes.items ≡ ended first.now ++ ended second.now) }
-{
-    let mut bytes = ended(alloc, first)?;
-    bytes.extend_from_slice(second)?;
-    bytes.push(0)?;
-    Ok(bytes)
-}
-
 // The numbers of a reply.
 fn reply_told(reply: &Reply) -> Told
     ensures { result ≡ reply_told reply.now }
@@ -119,58 +100,46 @@ fn reply_told(reply: &Reply) -> Told
     }
 }
 
-// The text of a reply: that of a link, or the names at which an object stood, as a path.
-fn reply_bytes(alloc: Global, reply: &Reply) -> Result<Vec<u8>, NoMemory>
-    ensures { IfOk result (λ bytes. bytes.items ≡ reply_bytes reply.now) }
+// Lays bytes there, from a place on.
+fn lay_at(bytes: &[u8], at: usize, room: &mut [u8])
+    requires { at + length bytes.now ≤ length room.old }
+    ensures { room.new ≡ take at room.old ++ (bytes.now ++ drop (at + length bytes.now) room.old) }
 {
-    match reply {
-        Reply::Opened(standing) => {
-            let mut path = standing.names().print(alloc)?;
-            path.push(0)?;
-            Ok(path)
-        }
-        Reply::Text(text) => ended(alloc, text.as_slice()),
-        _ => Ok(Vec::new(alloc)),
-    }
+    room[at..at + bytes.len()].copy_from_slice(bytes);
 }
 
-// Lays the bytes at the room's beginning, where it is large enough for them.
-fn lay_out(bytes: &[u8], room: &mut [u8]) -> bool
-    ensures { room.new ≡ (if result then bytes.now ++ drop (length bytes.now) room.old else room.old) }
-{
-    if room.len() < bytes.len() {
-        return false;
-    }
-    room[..bytes.len()].copy_from_slice(bytes);
-    true
-}
-
-// Lays a text and a NUL after it there, without memory of its own.
-#[tactic(auto, using(crate::proofs::Spelling::laid))]
+// Lays a text and a NUL after it there, where they fit.
 fn lay_out_ended(text: &[u8], room: &mut [u8]) -> bool
-    ensures { room.new ≡ (if result then ended text.now ++ drop (length (ended text.now)) room.old else room.old) }
+    ensures whole { result ≡ fits (ended text.now) room.old }
+    ensures bytes { room.new ≡ laid (ended text.now) room.old }
 {
     if room.len() <= text.len() {
         return false;
     }
-    room[..text.len()].copy_from_slice(text);
-    room[text.len()] = 0;
+    lay_at(text, 0, room);
+    lay_at(b"\0", text.len(), room);
     true
 }
 
-// Lays two texts there, a NUL after each.
-fn lay_out_both(alloc: Global, first: &[u8], second: &[u8], room: &mut [u8]) -> bool
-    ensures { room.new ≡ (if result then (ended first.now ++ ended second.now) ++ drop (length (ended first.now ++ ended second.now)) room.old else room.old) }
+// Lays two texts there, a NUL after each, where they fit.
+fn lay_out_both(first: &[u8], second: &[u8], room: &mut [u8]) -> bool
+    ensures whole { result ≡ fits (ended first.now ++ ended second.now) room.old }
+    ensures bytes { room.new ≡ laid (ended first.now ++ ended second.now) room.old }
 {
-    match both_ended(alloc, first, second) {
-        Ok(bytes) => lay_out(&bytes, room),
-        Err(_) => false,
+    if room.len() <= first.len() || room.len() - first.len() - 1 <= second.len() {
+        return false;
     }
+    lay_at(first, 0, room);
+    lay_at(b"\0", first.len(), room);
+    lay_at(second, first.len() + 1, room);
+    lay_at(b"\0", first.len() + 1 + second.len(), room);
+    true
 }
 
-// Lays the names and texts of a step there.
-fn lay_out_step(alloc: Global, step: &Step, room: &mut [u8]) -> bool
-    ensures { room.new ≡ (if result then step_bytes step.now ++ drop (length (step_bytes step.now)) room.old else room.old) }
+// Lays the names and texts of a step there, where they fit.
+fn lay_out_step(step: &Step, room: &mut [u8]) -> bool
+    ensures whole { result ≡ fits (step_bytes step.now) room.old }
+    ensures bytes { room.new ≡ laid (step_bytes step.now) room.old }
 {
     match step {
         StepOf::Dup(_)
@@ -184,19 +153,80 @@ fn lay_out_step(alloc: Global, step: &Step, room: &mut [u8]) -> bool
         | StepOf::MakeFile(_, name)
         | StepOf::RemoveFile(_, name)
         | StepOf::RemoveDir(_, name) => lay_out_ended(name.bytes(), room),
-        StepOf::MakeLink(_, name, text) => {
-            lay_out_both(alloc, name.bytes(), text.as_slice(), room)
-        }
-        StepOf::Rename(_, old, _, new, _) => lay_out_both(alloc, old.bytes(), new.bytes(), room),
+        StepOf::MakeLink(_, name, text) => lay_out_both(name.bytes(), text.as_slice(), room),
+        StepOf::Rename(_, old, _, new, _) => lay_out_both(old.bytes(), new.bytes(), room),
     }
 }
 
-/// Tells the step that is due.
-pub(crate) fn tell_step(alloc: Global, step: Step, told: &mut Told, room: &mut [u8])
-    ensures { LaidOut (step_told step) (step_bytes step) told.new room.old room.new }
+// Whether the names as a path, and a NUL after it, are no longer than that.
+fn fit_in(names: &Names, room: usize) -> bool
+    ensures { result ≡ nat_le (length (ended (printed names.now))) room }
 {
-    let whole = lay_out_step(alloc, &step, room);
-    let numbers = step_told(&step);
+    if names.is_empty() {
+        return 2 <= room;
+    }
+    let mut left = room;
+    for at in 0..names.len() {
+        let name = names.get(at);
+        if left <= name.len() {
+            return false;
+        }
+        left -= name.len() + 1;
+    }
+    0 < left
+}
+
+// Lays a slash before each name there, and tells how many bytes these are.
+fn lay_names(names: &Names, room: &mut [u8]) -> usize
+    requires { length (after_slashes names.now) ≤ length room.old }
+    ensures count { result ≡ length (after_slashes names.now) }
+    ensures bytes { room.new ≡ after_slashes names.now ++ drop (length (after_slashes names.now)) room.old }
+{
+    let mut used = 0;
+    for at in 0..names.len() {
+        let name = names.get(at);
+        lay_at(b"/", used, room);
+        lay_at(name, used + 1, room);
+        used += name.len() + 1;
+    }
+    used
+}
+
+// Lays the names as a path there, and a NUL after it, where they fit.
+fn lay_out_names(names: &Names, room: &mut [u8]) -> bool
+    ensures whole { result ≡ fits (ended (printed names.now)) room.old }
+    ensures bytes { room.new ≡ laid (ended (printed names.now)) room.old }
+{
+    if !fit_in(names, room.len()) {
+        return false;
+    }
+    if names.is_empty() {
+        lay_at(b"/\0", 0, room);
+        return true;
+    }
+    let used = lay_names(names, room);
+    lay_at(b"\0", used, room);
+    true
+}
+
+// Lays the text of a reply there, where it fits: that of a link, or the names at which an object stood, as a path.
+fn lay_out_reply(reply: &Reply, room: &mut [u8]) -> bool
+    ensures whole { result ≡ fits (reply_bytes reply.now) room.old }
+    ensures bytes { room.new ≡ laid (reply_bytes reply.now) room.old }
+{
+    match reply {
+        Reply::Opened(standing) => lay_out_names(standing.names(), room),
+        Reply::Text(text) => lay_out_ended(text.as_slice(), room),
+        _ => true,
+    }
+}
+
+/// Tells the step that is due. Takes no memory.
+pub(crate) fn tell_step(step: &Step, told: &mut Told, room: &mut [u8])
+    ensures { LaidOut (step_told step.now) (step_bytes step.now) told.new room.old room.new }
+{
+    let whole = lay_out_step(step, room);
+    let numbers = step_told(step);
     *told = Told { whole, ..numbers };
 }
 
@@ -211,14 +241,11 @@ pub(crate) fn tell_no_memory(told: &mut Told)
     };
 }
 
-/// Tells the reply.
-pub(crate) fn tell_reply(alloc: Global, reply: &Reply, told: &mut Told, room: &mut [u8])
+/// Tells the reply. Takes no memory.
+pub(crate) fn tell_reply(reply: &Reply, told: &mut Told, room: &mut [u8])
     ensures { LaidOut (reply_told reply.now) (reply_bytes reply.now) told.new room.old room.new }
 {
-    let whole = match reply_bytes(alloc, reply) {
-        Ok(bytes) => lay_out(&bytes, room),
-        Err(_) => false,
-    };
+    let whole = lay_out_reply(reply, room);
     let numbers = reply_told(reply);
     *told = Told { whole, ..numbers };
 }

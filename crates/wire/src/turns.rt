@@ -32,7 +32,7 @@ fn tell_due(alloc: Global, call: &Call, told: &mut Told, room: &mut [u8])
     ensures { IsDueTold (due call.now.below call.now.doing) told.new room.old room.new }
 {
     match call.due(alloc) {
-        Ok(step) => tell_step(alloc, step, told, room),
+        Ok(step) => tell_step(&step, told, room),
         Err(_) => tell_no_memory(told),
     }
 }
@@ -59,7 +59,7 @@ fn keep(
             Kept::of_box(held)
         }
         CallTurn::Done(reply) => {
-            tell_reply(alloc, &reply, told, room);
+            tell_reply(&reply, told, room);
             Kept::empty(alloc)
         }
     }
@@ -69,8 +69,8 @@ fn keep(
 /// What was kept there before is forgotten.
 ///
 /// The texts are those of the operation, without a NUL at the end; the room is for the names and texts of what is
-/// told, and keeps its other bytes. Replies that come before any step: Invalid of a number that names no operation;
-/// NoMemory; those of `Call::start`.
+/// told, each with a NUL after it, and keeps its other bytes. If it is shorter than they are, it stays as it was.
+/// Replies that come before any step: Invalid of a number that names no operation; NoMemory; those of `Call::start`.
 pub fn begin(
     alloc: Global,
     asked: &Asked,
@@ -80,7 +80,8 @@ pub fn begin(
     told: &mut Told,
     room: &mut [u8],
 )
-    ensures { (turn : CallTurn) × IsBegun asked.now first.now second.now turn × IsTold turn kept.new.held told.new room.old room.new }
+    ensures { (turn : CallTurn) × IsBegun asked.now first.now second.now turn
+        × IsTold turn kept.new.held told.new room.old room.new }
 {
     *kept = first_turn(alloc, asked, first, second, told, room);
 }
@@ -94,7 +95,8 @@ fn first_turn(
     told: &mut Told,
     room: &mut [u8],
 ) -> Kept
-    ensures { (turn : CallTurn) × IsBegun asked.now first.now second.now turn × IsTold turn result.held told.new room.old room.new }
+    ensures { (turn : CallTurn) × IsBegun asked.now first.now second.now turn
+        × IsTold turn result.held told.new room.old room.new }
 {
     // Before the call is begun, so that one that goes on has where to be kept.
     match Box::new(alloc, Held { alloc, call: None }) {
@@ -103,13 +105,13 @@ fn first_turn(
             keep(alloc, held, turn, told, room)
         }
         Err(_) => {
-            tell_reply(alloc, &Reply::Fault(Errno::NoMemory), told, room);
+            tell_reply(&Reply::Fault(Errno::NoMemory), told, room);
             Kept::empty(alloc)
         }
     }
 }
 
-/// Takes the answer to the step that was told, and tells the next step or the reply. What is kept is then the call as
+/// Takes the answer to the last step, and gives the next step or the reply in `told`. What is kept is then the call as
 /// it goes on, or nothing.
 ///
 /// An answer whose numbers or bytes spell none counts as BadHandle, and one whose bytes there is no memory for as
@@ -123,7 +125,9 @@ pub fn next(
     room: &mut [u8],
 )
     requires { IsSome (call_of kept.old.held) }
-    ensures { IfSome (call_of kept.old.held) (λ call. (turn : CallTurn) × IsNext call answered.now bytes.now turn × IsTold turn kept.new.held told.new room.old room.new) }
+    ensures { IfSome (call_of kept.old.held)
+        (λ call. (turn : CallTurn) × IsNext call answered.now bytes.now turn
+        × IsTold turn kept.new.held told.new room.old room.new) }
 {
     let before = mem::replace(kept, Kept::empty(alloc));
     *kept = turn_after(alloc, before, answered, bytes, told, room);
@@ -139,7 +143,9 @@ fn turn_after(
     room: &mut [u8],
 ) -> Kept
     requires { IsSome (call_of kept.held) }
-    ensures { IfSome (call_of kept.held) (λ call. (turn : CallTurn) × IsNext call answered.now bytes.now turn × IsTold turn result.held told.new room.old room.new) }
+    ensures { IfSome (call_of kept.held)
+        (λ call. (turn : CallTurn) × IsNext call answered.now bytes.now turn
+        × IsTold turn result.held told.new room.old room.new) }
 {
     let mut held = kept.into_box();
     match held.call.take() {

@@ -27,7 +27,8 @@ last_to job before (numbered ∷ told) = last_to job (if numbered.job == job the
 -- each session worked, and there is no other
 abbrev pub AllWork : ServiceView → List Request → List SessionView → List (List Numbered) → List SessionView → Type 0
 AllWork service jobs [] [] [] = Unit {0}
-AllWork service jobs (before ∷ befores) (told ∷ lists) (after ∷ afters) = Works service jobs before told after × AllWork service jobs befores lists afters
+AllWork service jobs (before ∷ befores) (told ∷ lists) (after ∷ afters) =
+    Works service jobs before told after × AllWork service jobs befores lists afters
 AllWork service jobs befores lists afters = ⊥
 
 -- as many sessions as there may be workers
@@ -38,14 +39,16 @@ HasWorkers sessions = (0 < length sessions) × (length sessions ≤ WORKERS_MAX)
 abbrev pub AllOnce : List (List Numbered) → ℕ → Type 0
 AllOnce lists jobs = (job : ℕ) → job < jobs → replies_to job (joined lists) ≡ 1
 
--- Each session worked, and comes back in its place. Each job has one reply of all that the workers were told, and that is the one
--- in the job's place.
-pub record IsServed (service : ServiceView) (jobs : List Request) (before after : List SessionView) (replies : List Reply) : Type 0 where
+-- Each session worked, and comes back in its place. Each job has one reply of all that the workers were told, and
+-- that is the one in the job's place.
+pub record IsServed (service : ServiceView) (jobs : List Request) (before after : List SessionView)
+    (replies : List Reply) : Type 0 where
   pub workers : HasWorkers before
   pub lists : List (List Numbered)
   pub work : AllWork service jobs before lists after
   pub once : AllOnce lists (length jobs)
-  pub in_place : (i : ℕ) (numbered : Numbered) → slice_get (joined lists) i ≡ Some numbered → slice_get replies numbered.job ≡ Some numbered.reply
+  pub in_place : (i : ℕ) (numbered : Numbered) → slice_get (joined lists) i ≡ Some numbered
+      → slice_get replies numbered.job ≡ Some numbered.reply
   pub as_many : length replies ≡ length jobs
 
 -- ---- why it isn't served
@@ -71,12 +74,12 @@ IsCauseBefore sessions NoMemory = HasWorkers sessions
 IsCauseBefore sessions (Doubled job) = ⊥
 IsCauseBefore sessions (Lost job) = ⊥
 
--- why what the workers were told isn't one reply to each job: a job that a worker without room left over, or else the first that
--- was answered twice, or else the first that wasn't
+-- why what the workers were told isn't one reply to each job: the first that was answered twice, or else the first
+-- that wasn't
 abbrev pub IsCauseAfter : List (List Numbered) → ℕ → ServeCause → Type 0
 IsCauseAfter lists jobs NoWorkers = ⊥
 IsCauseAfter lists jobs TooManyWorkers = ⊥
-IsCauseAfter lists jobs NoMemory = (job : ℕ) × ((job < jobs) × IsLost lists job)
+IsCauseAfter lists jobs NoMemory = ⊥
 IsCauseAfter lists jobs (Doubled job) = IsFirst (IsDoubled lists) jobs job
 IsCauseAfter lists jobs (Lost job) = NoneBelow (IsDoubled lists) jobs × IsFirst (IsLost lists) jobs job
 
@@ -88,7 +91,8 @@ AsTheyCame before lists after = (lists ≡ []) × (after ≡ before)
 abbrev pub AfterWork : ServiceView → List Request → List SessionView → List (List Numbered) → List SessionView → Type 0
 AfterWork service jobs before lists after = HasWorkers before × AllWork service jobs before lists after
 
-abbrev pub IsRefused : ServiceView → List Request → List SessionView → ServeCause → List (List Numbered) → List SessionView → Type 0
+abbrev pub IsRefused : ServiceView → List Request → List SessionView → ServeCause → List (List Numbered)
+    → List SessionView → Type 0
 IsRefused service jobs before cause lists after =
     (IsCauseBefore before cause × AsTheyCame before lists after)
     ⊎ (AfterWork service jobs before lists after × IsCauseAfter lists (length jobs) cause)

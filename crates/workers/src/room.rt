@@ -2,7 +2,7 @@
 ghost use Rattle.std.specs.Prelude.{◌≡◌, replicate, IfOk, vec_len};
 ghost use Rattle.workers.specs.Room.{HasRoom};
 
-use crate::told::Told;
+use crate::told::{Sheet, Told};
 use crate::worker::Worker;
 use crossbeam_channel::{Receiver, bounded};
 use path_text::{Errno, NoMemory};
@@ -11,10 +11,12 @@ use sessions::Session;
 use std::alloc::Global;
 use std::sync::Wait;
 
-/// The numbers of the jobs, and room for so many workers and for what they hand back.
+/// The numbers of the jobs, room for so many workers and for what they hand back, and for each worker a sheet with
+/// room for a reply to each job.
 #[derive(Drop)]
 pub struct Desk {
     pub numbers: Receiver<usize>,
+    pub sheets: Vec<Sheet>,
     pub workers: Vec<Worker>,
     pub sessions: Vec<Session>,
     pub lists: Vec<Told>,
@@ -50,12 +52,22 @@ fn places(alloc: Global, jobs: usize) -> Result<Vec<Reply>, NoMemory>
     Ok(places)
 }
 
+// A sheet for each worker, with room for a reply to each job.
+fn sheets_for(alloc: Global, workers: usize, jobs: usize) -> Result<Vec<Sheet>, NoMemory> {
+    let mut sheets = Vec::with_capacity(alloc, workers)?;
+    for _ in 0..workers {
+        sheets.push(Sheet::new(alloc, jobs)?)?;
+    }
+    Ok(sheets)
+}
+
 impl Desk {
     fn new<R: Wait>(rt: &R, alloc: Global, workers: usize, jobs: usize) -> Result<Desk, NoMemory>
         ensures { IfOk result (λ desk. HasRoom desk workers) }
     {
         Ok(Desk {
             numbers: numbers_below(rt, alloc, jobs)?,
+            sheets: sheets_for(alloc, workers, jobs)?,
             workers: Vec::with_capacity(alloc, workers)?,
             sessions: Vec::with_capacity(alloc, workers)?,
             lists: Vec::with_capacity(alloc, workers)?,

@@ -25,7 +25,7 @@ pub enum ServeCause {
     NoWorkers,
     /// More sessions than 8 were given.
     TooManyWorkers,
-    /// Memory was refused: before a worker started, or to a worker that stopped before each job was answered.
+    /// Memory was refused, before a worker started.
     NoMemory,
     /// The first job that was answered twice.
     Doubled(usize),
@@ -33,8 +33,8 @@ pub enum ServeCause {
     Lost(usize),
 }
 
-/// The sessions in the order in which they were given, and the reply to each job, in the order of the jobs. What a reply
-/// opened stays open until its session, which `Standing::owner` tells, is called to release it.
+/// The sessions in the order in which they were given, and the reply to each job, in the order of the jobs. What a
+/// reply opened stays open until its session, which `Standing::owner` tells, is called to release it.
 #[derive(Debug, Drop)]
 pub struct Served {
     pub sessions: Vec<Session>,
@@ -65,28 +65,22 @@ impl ServeRefusal {
 }
 
 // Why what the workers were told isn't one reply to each job. Every count is 0 before.
-fn cause_after(counts: &mut [usize], lists: &[Told], ran_out: bool) -> Option<ServeCause>
+fn cause_after(counts: &mut [usize], lists: &[Told]) -> Option<ServeCause>
     requires { (job : ℕ) → job < length counts.old → slice_index counts.old job ≡ 0 }
-    ensures { MatchOption result (AllOnce lists.now (length counts.old)) (λ cause. IsCauseAfter lists.now (length counts.old) cause) }
+    ensures { MatchOption result (AllOnce lists.now (length counts.old))
+        (λ cause. IsCauseAfter lists.now (length counts.old) cause) }
 {
     count_all(counts, lists);
-    let doubled = first_doubled(counts);
-    let Some(lost) = first_lost(counts) else {
-        return match doubled {
-            Some(job) => Some(ServeCause::Doubled(job)),
-            None => None,
-        };
-    };
-    if ran_out {
-        return Some(ServeCause::NoMemory);
+    if let Some(job) = first_doubled(counts) {
+        return Some(ServeCause::Doubled(job));
     }
-    match doubled {
-        Some(job) => Some(ServeCause::Doubled(job)),
-        None => Some(ServeCause::Lost(lost)),
+    match first_lost(counts) {
+        Some(job) => Some(ServeCause::Lost(job)),
+        None => None,
     }
 }
 
-// Lets each session work, in the room. Whether a worker stopped for want of room comes first.
+// Lets each session work, in the room.
 fn employ<T: Tree + Send, R: Threads + Wait + Sync, G: Gate>(
     rt: &R,
     alloc: Global,
@@ -95,17 +89,18 @@ fn employ<T: Tree + Send, R: Threads + Wait + Sync, G: Gate>(
     jobs: &[Request],
     gate: &G,
     desk: Desk,
-) -> (bool, Vec<Session>, Vec<Told>)
+) -> (Vec<Session>, Vec<Told>)
     requires { HasRoom desk (vec_len sessions) }
-    ensures { AllWork service.now jobs.now sessions.items result.2.items result.1.items }
+    ensures { AllWork service.now jobs.now sessions.items result.1.items result.0.items }
 {
     let Desk {
         numbers,
+        sheets,
         mut workers,
         sessions: mut back,
         mut lists,
     } = desk;
-    hire(alloc, sessions, &mut workers);
+    hire(alloc, sessions, sheets, &mut workers);
     work_all(
         rt,
         alloc,
@@ -115,9 +110,8 @@ fn employ<T: Tree + Send, R: Threads + Wait + Sync, G: Gate>(
         &numbers,
         workers.as_mut_slice(),
     );
-    let ran_out = workers.iter().any(|worker| worker.ran_out());
     dismiss(workers, &mut back, &mut lists);
-    (ran_out, back, lists)
+    (back, lists)
 }
 
 // Serves the jobs in room got before.
@@ -134,16 +128,18 @@ fn serve_in<T: Tree + Send, R: Threads + Wait + Sync, G: Gate>(
     requires desk { HasRoom room.desk (vec_len sessions) }
     requires counts { room.counts.items ≡ replicate (length jobs.now) 0 }
     requires replies { vec_len room.replies ≡ length jobs.now }
-    ensures served { IfOk result (λ served. IsServed service.now jobs.now sessions.items served.sessions.items served.replies.items) }
-    ensures refused { IfErr result (λ refused. IsRefused service.now jobs.now sessions.items refused.cause refused.replies.items refused.sessions.items) }
+    ensures served { IfOk result (λ served.
+        IsServed service.now jobs.now sessions.items served.sessions.items served.replies.items) }
+    ensures refused { IfErr result (λ refused.
+        IsRefused service.now jobs.now sessions.items refused.cause refused.replies.items refused.sessions.items) }
 {
     let Room {
         desk,
         mut counts,
         mut replies,
     } = room;
-    let (ran_out, sessions, lists) = employ(rt, alloc, service, sessions, jobs, gate, desk);
-    if let Some(cause) = cause_after(counts.as_mut_slice(), lists.as_slice(), ran_out) {
+    let (sessions, lists) = employ(rt, alloc, service, sessions, jobs, gate, desk);
+    if let Some(cause) = cause_after(counts.as_mut_slice(), lists.as_slice()) {
         let replies = lists;
         return Err(ServeRefusal {
             cause,
@@ -155,20 +151,19 @@ fn serve_in<T: Tree + Send, R: Threads + Wait + Sync, G: Gate>(
     Ok(Served { sessions, replies })
 }
 
-/// Serves the jobs by the sessions, each with a worker of its own, on a thread of its own where one can be made: a worker takes
-/// the number of a job, and answers that job by one call of its session with a copy of the request. The jobs stay the
-/// caller's. A Release is told Invalid (EINVAL), since what it holds stays the caller's too, and a request that found no
-/// memory to be copied NoMemory (ENOMEM), both without a call. Any other reply is that of `Session::call`, which calls the
-/// gate before each step, and tells a session that isn't the service's Invalid.
+/// Serves the jobs by the sessions, each with a worker of its own, on a thread of its own where one can be made: a
+/// worker takes the number of a job, and answers that job by one call of its session with a copy of the request. The
+/// jobs stay the caller's. The reply to a Release is Invalid (EINVAL), since what it holds stays the caller's, and
+/// to a request that found no memory to be copied NoMemory (ENOMEM), both without a call. Any other reply is that of
+/// `Session::call`, which calls the gate before each step, and answers Invalid to a session that isn't the
+/// service's.
 ///
 /// Each job's reply stands in its place, and the sessions come back in their order. All room is got before the first
-/// worker starts, but for the replies': a worker has the room for a reply before it takes a job, and stops where it
-/// finds none.
+/// worker starts, for each worker that of a reply to each job.
 ///
-/// Errors, in this order: NoWorkers without a session; TooManyWorkers over 8; NoMemory, before a worker starts, or where a
-/// worker stopped for want of room and a job wasn't answered; Doubled with the first job that was answered twice; Lost with
-/// the first that wasn't answered. The sessions come back, and what each was told, so that each object that was opened
-/// can be released.
+/// Errors, in this order: NoWorkers without a session; TooManyWorkers over 8; NoMemory, always before a worker
+/// starts; Doubled with the first job that was answered twice; Lost with the first that wasn't answered. The
+/// sessions come back, and what each was told, so that each object that was opened can be released.
 pub fn serve<T: Tree + Send, R: Threads + Wait + Sync, G: Gate>(
     rt: &R,
     alloc: Global,
@@ -177,8 +172,10 @@ pub fn serve<T: Tree + Send, R: Threads + Wait + Sync, G: Gate>(
     jobs: &[Request],
     gate: &G,
 ) -> Result<Served, ServeRefusal>
-    ensures served { IfOk result (λ served. IsServed service.now jobs.now sessions.items served.sessions.items served.replies.items) }
-    ensures refused { IfErr result (λ refused. IsRefused service.now jobs.now sessions.items refused.cause refused.replies.items refused.sessions.items) }
+    ensures served { IfOk result (λ served.
+        IsServed service.now jobs.now sessions.items served.sessions.items served.replies.items) }
+    ensures refused { IfErr result (λ refused.
+        IsRefused service.now jobs.now sessions.items refused.cause refused.replies.items refused.sessions.items) }
 {
     if sessions.is_empty() {
         return Err(ServeRefusal::at_once(alloc, ServeCause::NoWorkers, sessions));

@@ -1,6 +1,7 @@
 //! What a worker was told.
-ghost use Rattle.std.specs.Prelude.{◌≡◌};
+ghost use Rattle.std.specs.Prelude.{◌≡◌, [], vec_len, vec_capacity};
 
+use path_text::NoMemory;
 use root_ops::Reply;
 use std::alloc::Global;
 use std::marker::Model;
@@ -40,5 +41,21 @@ impl Told {
         ensures { result.items ≡ self }
     {
         self.replies
+    }
+}
+
+/// Room for so many replies, with none yet.
+#[derive(Debug, Drop)]
+pub struct Sheet {
+    pub replies: Vec<Numbered>,
+    ghost blank: { replies.items ≡ [] },
+}
+
+impl Sheet {
+    /// NoMemory where the room was refused.
+    pub fn new(alloc: Global, replies: usize) -> Result<Sheet, NoMemory> {
+        Ok(Sheet {
+            replies: Vec::with_capacity(alloc, replies)?,
+        })
     }
 }

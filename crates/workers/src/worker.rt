@@ -4,7 +4,7 @@ ghost use Rattle.std.specs.Option.{option_copied};
 ghost use Rattle.workers.specs.Work.{WorkerView, Answers, WorksOn, idle, sessions_of, lists_of};
 
 use crate::serving::WORKERS_MAX;
-use crate::told::{Numbered, Told};
+use crate::told::{Numbered, Sheet, Told};
 use crossbeam_channel::Receiver;
 use root_ops::{Reply, Request};
 use sessions::{Gate, Service, Session};
@@ -20,16 +20,19 @@ use tree_model::Tree;
 pub struct Worker {
     session: Session,
     told: Vec<Numbered>,
-    // It stopped because it found no room for a reply.
-    ran_out: bool,
+    // How many more replies there is room for.
+    left: usize,
 }
 
 impl Model for Worker {
+    ghost use Rattle.std.specs.Prelude.{◌≤◌, ◌+◌, vec_len, vec_capacity};
     ghost use Rattle.workers.specs.Work.{WorkerView};
 
     ghost Value = { WorkerView };
 
-    ghost view = { λ w. record { session = w.session; told = w.told.items; ran_out = w.ran_out } };
+    ghost view = { λ w. record { session = w.session; told = w.told.items } };
+
+    ghost invariant = { λ w. vec_len w.told + w.left ≤ vec_capacity w.told };
 }
 
 // What the session replies to a job, by a call with a copy of it.
@@ -57,21 +60,17 @@ fn job_at(jobs: &[Request], job: usize) -> Option<&Request>
 }
 
 impl Worker {
-    fn new(alloc: Global, session: Session) -> Worker
+    // A session with its sheet.
+    fn new(session: Session, sheet: Sheet) -> Worker
         ensures { result ≡ idle session }
     {
+        let Sheet { replies: told } = sheet;
+        let left = told.capacity() - told.len();
         Worker {
             session,
-            told: Vec::new(alloc),
-            ran_out: false,
+            told,
+            left,
         }
-    }
-
-    /// Whether it stopped because it found no room for a reply.
-    pub fn ran_out(&self) -> bool
-        ensures { result ≡ self.now.ran_out }
-    {
-        self.ran_out
     }
 
     fn into_parts(self) -> (Session, Told)
@@ -82,8 +81,8 @@ impl Worker {
         (self.session, told)
     }
 
-    // Takes a job's number, and answers that job. The room for its reply is got before. False where there is no room, or no
-    // number is left; a number that no job has is passed over.
+    // Takes a job's number, and answers that job. False where there is no room for a reply, or no number is left; a
+    // number that no job has is passed over.
     fn take_job<T: Tree, R: Wait, G: Gate>(
         &mut self,
         rt: &R,
@@ -95,8 +94,7 @@ impl Worker {
     ) -> bool
         ensures { WorksOn service.now jobs.now self.old self.new }
     {
-        if self.told.reserve(1).is_err() {
-            self.ran_out = true;
+        if self.left == 0 {
             return false;
         }
         let Ok(job) = numbers.recv(rt) else {
@@ -105,6 +103,7 @@ impl Worker {
         if let Some(request) = job_at(jobs, job) {
             let reply = reply_to(rt, alloc, service, &mut self.session, gate, request);
             self.told.push_reserved(Numbered { job, reply });
+            self.left -= 1;
         }
         true
     }
@@ -129,13 +128,24 @@ impl Worker {
     }
 }
 
-/// A worker for each session, in room got before.
-pub fn hire(alloc: Global, sessions: Vec<Session>, workers: &mut Vec<Worker>)
+// The last sheet; one without room where there is none.
+fn next_sheet(alloc: Global, sheets: &mut Vec<Sheet>) -> Sheet {
+    match sheets.pop() {
+        Some(sheet) => sheet,
+        None => Sheet {
+            replies: Vec::new(alloc),
+        },
+    }
+}
+
+/// A worker for each session, each with a sheet of its own, in room got before.
+pub fn hire(alloc: Global, sessions: Vec<Session>, sheets: Vec<Sheet>, workers: &mut Vec<Worker>)
     requires { vec_len workers.old + vec_len sessions ≤ vec_capacity workers.old }
     ensures { workers.new.items ≡ workers.old.items ++ map idle sessions.items }
 {
+    let mut sheets = sheets;
     for session in sessions {
-        workers.push_reserved(Worker::new(alloc, session));
+        workers.push_reserved(Worker::new(session, next_sheet(alloc, &mut sheets)));
     }
 }
 
@@ -149,7 +159,8 @@ pub fn work_all<T: Tree + Send, R: Threads + Wait + Sync, G: Gate>(
     numbers: &Receiver<usize>,
     workers: &mut [Worker],
 )
-    ensures { (i : ℕ) (d : WorkerView) → i < length workers.old → WorksOn service.now jobs.now (slice_index_or workers.old i d) (slice_index_or workers.new i d) }
+    ensures { (i : ℕ) (d : WorkerView) → i < length workers.old
+        → WorksOn service.now jobs.now (slice_index_or workers.old i d) (slice_index_or workers.new i d) }
 {
     thread::for_each_mut(
         rt,

@@ -41,15 +41,41 @@ fn tell(alloc: Global, told: &mut Output, answer: Result<Answer, Errno>) -> Resu
     }
 }
 
-/// Whether a step gets that answer or that refusal of the book: `ACTOR STEP = ANSWER`.
-fn is_answered(alloc: Global, book: &mut Book<ListTree>, row: &str) -> Result<bool, NoMemory> {
+/// The answer to a step that is logged beside the book, too.
+fn step_into(
+    alloc: Global,
+    book: &mut Book<ListTree>,
+    actor: Actor,
+    step: &Step,
+    own: &mut EventLog,
+) -> Result<Answer, Errno> {
+    match step {
+        StepOf::Close(handle) => {
+            own.reserve(1)?;
+            book.close_into(alloc, actor, *handle, own)
+        }
+        _ => book.step_into(alloc, actor, step, own, 1),
+    }
+}
+
+/// Whether a step gets that answer or that refusal of the book: `ACTOR STEP = ANSWER`. It is made into the other log too,
+/// where there is one.
+fn is_answered(
+    alloc: Global,
+    book: &mut Book<ListTree>,
+    own: Option<&mut EventLog>,
+    row: &str,
+) -> Result<bool, NoMemory> {
     let (who, rest) = row.split_once(' ').unwrap_or((row, ""));
     let (line, wanted) = rest.split_once(" = ").unwrap_or((rest, ""));
     let Some(step) = read_step(alloc, line.as_bytes())? else {
         return Ok(false);
     };
     let actor = Actor::new(if who == "0" { 0 } else { 1 });
-    let answer = book.step(alloc, actor, &step);
+    let answer = match own {
+        Some(own) => step_into(alloc, book, actor, &step, own),
+        None => book.step(alloc, actor, &step),
+    };
     drop(step);
     let mut told = Output::new(alloc);
     tell(alloc, &mut told, answer)?;
@@ -63,11 +89,37 @@ fn keeps(alloc: Global, row: &Kept) -> bool {
     };
     let mut all = true;
     for line in row.rows.lines() {
-        all = is_answered(alloc, &mut book, line) == Ok(true) && all;
+        all = is_answered(alloc, &mut book, None, line) == Ok(true) && all;
     }
     let counts = book.events().len() == row.events && book.free() == row.free;
     drop(book);
     all && counts
+}
+
+/// Whether two logs have the same events.
+fn are_same(log: &EventLog, other: &EventLog) -> bool {
+    for at in 0..log.len() {
+        if at >= other.len() || !log.same_at(at, other, at) {
+            return false;
+        }
+    }
+    log.len() == other.len()
+}
+
+/// Whether it answers all rows so where they are made into another log too, which has the book's events then.
+fn keeps_both(alloc: Global, row: &Kept) -> bool {
+    let Ok(mut book) = opened(alloc, row.lines) else {
+        return false;
+    };
+    let mut own = EventLog::new(alloc);
+    let mut all = true;
+    for line in row.rows.lines() {
+        all = is_answered(alloc, &mut book, Some(&mut own), line) == Ok(true) && all;
+    }
+    let same = book.events().len() == row.events && are_same(book.events(), &own);
+    drop(book);
+    drop(own);
+    all && same
 }
 
 /// A step that opens takes two lines, one of them for its Close, which is never refused for want of lines.
@@ -124,7 +176,7 @@ const BOOKS: [Kept<'static>; 3] = [
 /// How many lines the first book has that doesn't keep its rows, and of none 0.
 fn first_wrong(alloc: Global) -> u32 {
     for row in BOOKS.as_slice() {
-        if !keeps(alloc, row) {
+        if !keeps(alloc, row) || !keeps_both(alloc, row) {
             return row.lines;
         }
     }

@@ -4,6 +4,8 @@
 #[cfg(test)]
 mod books;
 #[cfg(test)]
+mod copies;
+#[cfg(test)]
 mod like;
 #[cfg(test)]
 mod plans;

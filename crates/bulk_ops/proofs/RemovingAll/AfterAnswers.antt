@@ -1,5 +1,5 @@
 -- What each answer makes of a call that clears.
-use Rattle.std.specs.Prelude.{◌≡◌, ◌≢◌, ℕ, zero, suc, ◌+◌, ◌≤◌, ◌⊎◌, List, [], ◌∷◌, Bool, true, false, drop, length, slice_get, Option, Some, None, is_some, refl}
+use Rattle.std.specs.Prelude.{◌≡◌, ℕ, suc, ◌+◌, ◌≤◌, ◌⊎◌, List, [], ◌∷◌, Bool, true, false, length, slice_get, Option, Some, None, is_some, refl}
 use Rattle.std.proofs.Common.{sym, ap, subst, ◌∙◌, inl, inr, le_refl, le_trans}
 use Rattle.std.proofs.Math.Nat.{le-suc}
 use Rattle.std.proofs.lemmas.Bool.{false≢true}
@@ -15,7 +15,7 @@ use Rattle.tree_model.specs.State.{child, object_at, is_dir, is_directory, put_a
 use Rattle.tree_model.specs.Steps.{Outcome, outcome, refused, node_held, opens, kind_of}
 use Rattle.tree_model.proofs.StepLaws.{nodes_are_left}
 use Rattle.tree_model.proofs.PlaceLaws.{lookups_lead_to_nodes}
-use Rattle.step_resolver.specs.Order.{Line, answered, no_room, not_made, IsWant}
+use Rattle.step_resolver.specs.Order.{Line, not_made, IsWant}
 use Rattle.step_resolver.specs.WalkHistory.{WalkInHistory, state_at, timeline}
 use Rattle.step_resolver.specs.Failures.{TellsWant}
 use Rattle.step_resolver.proofs.Underway.StepOutcomes.{IsMore, IsLess, Close-is_less, OpenCase, open_case, Opening, too_many, no_object, is_opened, opening_of}
@@ -24,10 +24,10 @@ use Rattle.step_resolver.proofs.Underway.WalkInvariant.{Lived, StepAt, held_at, 
 use Rattle.step_resolver.proofs.Underway.HandlesHeld.{kept_on, more_on}
 use Rattle.bulk_ops.specs.RemoveAllOrder.{Level, Stage, removes_file, lists, shuts, leaves, removes_dir, End, fails, removes, Removing, walking, clearing, closing, Turn, more, removed, failed, dirs, before, closes, closes_at, is_due, gives_up, next_entry, finished, enters, file_removed, opened, listed, dir_removed, take, is_closing}
 use Rattle.bulk_ops.specs.RemoveAllOrder as order
-use Rattle.bulk_ops.specs.RemoveAllTells.{Down, under, removals, one_more_if, is_removal, event_at, TakesAway, LeavesEntries, IsOn, ClosesAt, AllClose, TellsFault}
-use Rattle.bulk_ops.proofs.RemovingAll.Happening.{IsAlone, AloneAt, not_below}
+use Rattle.bulk_ops.specs.RemoveAllTells.{under, removals, one_more_if, is_removal, TakesAway, LeavesEntries, IsOn, ClosesAt, AllClose, TellsFault}
+use Rattle.bulk_ops.proofs.RemovingAll.Happening.{AloneAt, not_below}
 use Rattle.bulk_ops.proofs.RemovingAll.StepAnswers.{without, FileCase, no_dir, no_entry, at_dir, gone, file_case, DirCase, not_in_dir, no_such_entry, at_no_dir, not_empty, dir_gone, dir_case, list_is}
-use Rattle.bulk_ops.proofs.RemovingAll.Underway.{Holds, holds_kept, holds_more, holds_less, Same, same_all, same_but, Inner, inner_moved, IsAt, at_moved, new_is_out, Spot, spot, TookAway, up_to, IsAtStage, Tally, wants_of_rest, tally_next, LastSoFar, Faults, Finishes, Clears, Ends, Good, closes_good, due_good}
+use Rattle.bulk_ops.proofs.RemovingAll.Underway.{Holds, holds_kept, holds_more, holds_less, same_all, same_but, Inner, inner_moved, IsAt, at_moved, new_is_out, Spot, spot, TookAway, up_to, IsAtStage, Tally, wants_of_rest, tally_next, LastSoFar, Clears, Ends, Good, closes_good, due_good}
 
 -- the entry of that name in d was missing, or it was taken away
 abbrev Ended : WalkInHistory → ℕ → ℕ → List ℕ → Type 0

@@ -1,5 +1,5 @@
 -- What each end of a call tells, by induction on what the call was told.
-use Rattle.std.specs.Prelude.{◌≡◌, ◌≢◌, ℕ, zero, suc, ◌+◌, ◌≤◌, ◌⊎◌, List, [], ◌∷◌, ◌++◌, Bool, true, false, Option, Some, None, refl}
+use Rattle.std.specs.Prelude.{◌≡◌, ◌≢◌, ℕ, zero, suc, ◌≤◌, ◌⊎◌, List, [], ◌∷◌, ◌++◌, Bool, true, false, Option, refl}
 use Rattle.std.proofs.Common.{sym, ap, subst, ◌∙◌, inl, inr, not-suc-le-zero, zero-add, arith}
 use Rattle.std.proofs.lemmas.Bool.{false≢true}
 use Rattle.std.proofs.lemmas.Option.{none-some}
@@ -7,9 +7,8 @@ use Rattle.path_text.specs.declared.errno.Errno.{Errno}
 use Rattle.path_text.specs.declared.errno.Errno.TheVariants.{NoMemory}
 use Rattle.tree_model.specs.declared.answer.Answer.{Answer}
 use Rattle.tree_model.specs.declared.answer.Answer.TheVariants.{Refused}
-use Rattle.tree_model.specs.declared.step.StepOf.{StepOf}
 use Rattle.tree_model.specs.declared.step.StepOf.TheVariants.{Close}
-use Rattle.tree_model.specs.State.{State, is_dir, is_directory}
+use Rattle.tree_model.specs.State.{State, is_dir}
 use Rattle.tree_model.specs.Steps.{held}
 use Rattle.tree_model.specs.History.{IsLegal, after_events}
 use Rattle.tree_model.proofs.HistoryLaws.{IsLegal-append, IsLegal-front, IsLegal-back, after_events-append}
@@ -17,20 +16,22 @@ use Rattle.tree_model.proofs.StepLaws.{others_handles_stay}
 use Rattle.step_resolver.specs.Order.{Handle, Line, answered, no_room, not_made, events_of, IsWant}
 use Rattle.step_resolver.specs.Order as walk
 use Rattle.step_resolver.specs.Asked.{is_deepest}
-use Rattle.step_resolver.specs.WalkHistory.{WalkInHistory, IsWalkInHistory, begin_of, end_of, state_at, timeline, own_events}
+use Rattle.step_resolver.specs.WalkHistory.{WalkInHistory, IsWalkInHistory, begin_of, end_of, timeline}
 use Rattle.step_resolver.specs.Failures.{HandlesStay, TellsWant}
 use Rattle.step_resolver.specs.Headline.{Opens, WalksTell}
 use Rattle.step_resolver.proofs.Underway.LegalHistory.{lived}
-use Rattle.step_resolver.proofs.Underway.WalkInvariant.{Lived, held_at}
+use Rattle.step_resolver.proofs.Underway.WalkInvariant.{Lived}
+use Rattle.step_resolver.proofs.Underway.OwnSteps.{own_events_leave_nodes}
 use Rattle.step_resolver.proofs.Ends.EveryWalk.{tree_laws}
 use Rattle.bulk_ops.specs.declared.remove_all.clearing.TheConstants.{CLEARING_STEPS_MAX}
 use Rattle.bulk_ops.specs.RemoveAllOrder.{Level, Stage, removes_file, lists, shuts, leaves, removes_dir, fails, removes, Removing, walking, clearing, closing, Turn, more, removed, failed, begins, walked, take, due, is_closing, LeadsTo}
 use Rattle.bulk_ops.specs.RemoveAllOrder as order
-use Rattle.bulk_ops.specs.RemoveAllTells.{removals, one_more_if, is_removal, TakesAway, LeavesEntries, OnlyTakesAway, IsLastOnTarget, IsClose, AllClose, TellsFault, first_part, second_part, Parts, clears, TellsRemoved, TellsGivenUp, Tells, RemoveAllTells}
+use Rattle.bulk_ops.specs.RemoveAllTells.{removals, one_more_if, is_removal, TakesAway, LeavesEntries, OnlyTakesAway, IsLastOnTarget, IsClose, IsBounded, first_part, second_part, Parts, Tells, RemoveAllTells}
+use Rattle.bulk_ops.proofs.RemovingAll.Bounded.{lines_bounded, clearing_begins}
 use Rattle.bulk_ops.proofs.RemovingAll.Happening.{AloneAt, Rests, HappensAlone, lines_happen}
 use Rattle.bulk_ops.proofs.RemovingAll.Underway.{Holds, wants_of_rest, TookAway, LastSoFar, Good, due_good}
 use Rattle.bulk_ops.proofs.RemovingAll.AfterAnswers.{file_good, dir_good, open_good, list_good, close_good, closing_good, not_made_good}
-use Rattle.bulk_ops.proofs.RemovingAll.Parts.{Cut, WalkEnd, goes_on, walk_fails, walk_finds, walk_stops, walk_end, walk_removes_none, events_of-append, Halves, halves}
+use Rattle.bulk_ops.proofs.RemovingAll.Parts.{WalkEnd, goes_on, walk_fails, walk_finds, walk_stops, walk_end, walk_removes_none, events_of-append, Halves, halves}
 
 record EndsGood (c : WalkInHistory) (dir : ℕ) (target : List ℕ) (b : ℕ → Option ℕ) (end : Turn) : Type 0 where
   pub m : ℕ
@@ -209,36 +210,41 @@ module _ (tell : WalksTell) (w : WalkInHistory) (target : List ℕ) (end : Turn)
       walked = walks;
       is_walk = first_is walk_lines rest h;
       opens = opens;
+      leaves = own_events_leave_nodes (first_part w h.first walk_lines) (walk.found handle names) (first_is walk_lines rest h) walks;
     }
+
+    bounded : LeadsTo (walked w.way target (walk.found handle names)) rest end → IsBounded rest
+    bounded leads = lines_bounded CLEARING_STEPS_MAX rest (walked w.way target (walk.found handle names)) end (clearing_begins w.way target handle names) leads
 
     handles_stay : {m : ℕ} → Rests c m → Holds c b m [] → HandlesStay w
     handles_stay rests holds k = ap (λ s. held s w.actor k) (sym (ends_there walk_lines rest h)) ∙ rests.kept k ∙ holds.others k tt
 
-    cleared : w.lines ≡ walk_lines ++ rest → walk.LeadsTo w.way (walk.begins w.way w.path) walk_lines (walk.found handle names) → (turn : Turn)
+    cleared : w.lines ≡ walk_lines ++ rest → walk.LeadsTo w.way (walk.begins w.way w.path) walk_lines (walk.found handle names) → IsBounded rest → (turn : Turn)
         → EndsGood c handle.node target b turn → Tells w target turn
-    cleared e walks (more call) good = tt
-    cleared e walks (removed count) good = record {
+    cleared e walks few (more call) good = tt
+    cleared e walks few (removed count) good = record {
       parts = parts e walks;
       entries = takes_all good.rests good.good.took;
+      bounded = few;
       counted = omega (arith, good.good.counted, ap removals e, walk_removes_none w.way target walk_lines rest (walk.begins w.way w.path) (walk.found handle names) walks);
       last = is_last good.rests good.good.last;
       handles = handles_stay good.rests good.good.holds;
     }
-    cleared e walks (failed error) good = record {
-      why = inr (record { parts = parts e walks; entries = takes_all good.rests good.good.took; fault = good.good.cause tt });
+    cleared e walks few (failed error) good = record {
+      why = inr (record { parts = parts e walks; entries = takes_all good.rests good.good.took; bounded = few; fault = good.good.cause tt });
       handles = handles_stay good.rests good.good.holds;
     }
 
   told : is_deepest w.way.goal ≡ false → WalkEnd w.way target (walk.begins w.way w.path) w.lines end → Tells w target end
   told shallow (goes_on call e) = subst (Tells w target) (sym e) tt
   told shallow (walk_fails error leads e) = subst (Tells w target) (sym e) (record {
-    why = inl (record { walked = leads; true_once = (tell w (walk.failed error) is leads).true_once });
+    why = inl (record { walked = leads; true_once = (tell w (walk.failed error) is leads).true_once; leaves = own_events_leave_nodes w (walk.failed error) is leads });
     handles = (tell w (walk.failed error) is leads).handles;
   })
   told shallow (walk_finds handle names cut) =
       let h = halved cut.walk_lines cut.rest cut.all in
       let opens = tell (first_part w h.first cut.walk_lines) (walk.found handle names) (first_is cut.walk_lines cut.rest h) cut.walks in
-      cleared cut.walk_lines cut.rest h handle names opens cut.all cut.walks end (ended cut.walk_lines cut.rest h handle names opens cut.leads)
+      cleared cut.walk_lines cut.rest h handle names opens cut.all cut.walks (bounded cut.walk_lines cut.rest h handle names opens cut.leads) end (ended cut.walk_lines cut.rest h handle names opens cut.leads)
   told shallow (walk_stops handle names ps cut) =
       let h = halved cut.walk_lines cut.rest cut.all in
       let deepest = tell (first_part w h.first cut.walk_lines) (walk.partial handle names ps) (first_is cut.walk_lines cut.rest h) cut.walks in

@@ -1,7 +1,7 @@
 -- What the first turn of a walk is to a call: something is held at an end, so that none comes before the first step; and
 -- without memory it fails as a first step does that wasn't made for want of it.
-use Rattle.std.specs.Prelude.{◌≡◌, ℕ, ◌&&◌, List, [], ◌∷◌, Bool, true, false, if◌then◌else◌, refl}
-use Rattle.std.proofs.Common.{sym, ap, subst, ◌∙◌}
+use Rattle.std.specs.Prelude.{◌≡◌, ℕ, List, [], ◌∷◌, Bool, true, false, if◌then◌else◌, refl}
+use Rattle.std.proofs.Common.{sym, subst}
 use Rattle.path_text.specs.declared.errno.Errno.{Errno}
 use Rattle.path_text.specs.declared.errno.Errno.TheVariants.{NoMemory, CrossRoot, TooLong}
 use Rattle.path_text.specs.Reading.{Reading}
@@ -13,7 +13,7 @@ use Rattle.step_resolver.specs.Order.{Way, Handle, root_itself, holds, Todo, tod
 use Rattle.step_resolver.specs.Order as walk
 use Rattle.bulk_ops.specs.declared.turn.BulkTurn.{BulkTurn}
 use Rattle.bulk_ops.specs.declared.turn.BulkTurn.TheVariants as outcome
-use Rattle.bulk_ops.specs.RemoveAllOrder.{Removing, walking, Turn, more, failed, walked, for_call, starts}
+use Rattle.bulk_ops.specs.RemoveAllOrder.{Removing, failed, walked, for_call}
 use Rattle.bulk_ops.specs.RemoveAllTurnView.{IsTurn, StartsTo, BeginsTo, IsFirstWalk}
 
 abbrev pub IsFirst : walk.Turn → Type 0

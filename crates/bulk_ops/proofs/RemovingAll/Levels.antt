@@ -1,9 +1,8 @@
 -- The directories that are held, as the order of steps has them.
-use Rattle.std.specs.Prelude.{◌≡◌, ℕ, zero, suc, ◌+◌, ◌<◌, List, [], ◌∷◌, ◌++◌, drop, length, map, reverse, refl}
-use Rattle.std.proofs.Common.{sym, ap, ◌∙◌, not-suc-le-zero, le_of_suc-le-suc, add-one, arith}
+use Rattle.std.specs.Prelude.{◌≡◌, ℕ, zero, suc, ◌+◌, ◌<◌, List, [], ◌∷◌, ◌++◌, drop, length, map, refl}
+use Rattle.std.proofs.Common.{sym, ap, not-suc-le-zero, le_of_suc-le-suc, add-one}
 use Rattle.std.proofs.lemmas.List.{reverse-append}
 use Rattle.bulk_ops.specs.declared.remove_all.frame.Frame.{Frame}
-use Rattle.bulk_ops.specs.RemoveAllOrder.{Level}
 use Rattle.bulk_ops.specs.RemoveAllView.{name_at, level_of, level_at, levels_of}
 
 pub level_at-drop : (d : ℕ) (names : List (List ℕ)) (k : ℕ) → k < length names

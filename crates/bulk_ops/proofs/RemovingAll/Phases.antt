@@ -1,6 +1,6 @@
 -- What a phase is to the order of steps.
-use Rattle.std.specs.Prelude.{◌≡◌, ◌≢◌, ℕ, suc, ◌<◌, List, [], ◌∷◌, Bool, drop, length, refl}
-use Rattle.std.proofs.Common.{sym, ap, subst, ◌∙◌, arith}
+use Rattle.std.specs.Prelude.{◌≡◌, ◌≢◌, ℕ, suc, ◌<◌, List, [], ◌∷◌, drop, length, refl}
+use Rattle.std.proofs.Common.{sym, ap, ◌∙◌}
 use Rattle.tree_model.specs.declared.answer.Answer.{Answer}
 use Rattle.bulk_ops.specs.declared.remove_all.clearing.End.{End}
 use Rattle.bulk_ops.specs.declared.remove_all.phase.Phase.{Phase}

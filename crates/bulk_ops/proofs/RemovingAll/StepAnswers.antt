@@ -1,10 +1,8 @@
 -- What the steps of clearing are answered, read off the step table.
-use Rattle.std.specs.Prelude.{◌≡◌, ℕ, List, [], ◌∷◌, Bool, true, false, not, Option, Some, None, Result, Ok, Err, refl}
+use Rattle.std.specs.Prelude.{◌≡◌, ℕ, List, Bool, true, false, not, Option, Some, None, Ok, Err, refl}
 use Rattle.std.proofs.Common.{sym, ap, subst, ◌∙◌}
-use Rattle.path_text.specs.declared.errno.Errno.{Errno}
 use Rattle.path_text.specs.declared.errno.Errno.TheVariants.{NotFound, BadHandle, NotDir, IsDir, NotEmpty}
 use Rattle.tree_model.specs.declared.answer.Answer.TheVariants.{Listed, Done}
-use Rattle.tree_model.specs.declared.inode.Inode.{Inode}
 use Rattle.tree_model.specs.declared.step.StepOf.TheVariants.{List as ListNames, RemoveFile, RemoveDir}
 use Rattle.tree_model.specs.State.{State, child, is_dir, has_entries, put_at, sorted_names, names_in}
 use Rattle.tree_model.specs.Steps.{Outcome, refused, answered, changes, outcome, held}

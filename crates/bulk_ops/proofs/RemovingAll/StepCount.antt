@@ -1,6 +1,6 @@
 -- Each answer leaves fewer steps to come.
-use Rattle.std.specs.Prelude.{◌≡◌, ℕ, zero, suc, ◌+◌, ◌*◌, ◌<◌, ◌≤◌, List, [], ◌∷◌, Bool, true, false, length, map, refl}
-use Rattle.std.proofs.Common.{sym, subst, arith}
+use Rattle.std.specs.Prelude.{◌≡◌, ℕ, zero, suc, ◌+◌, ◌*◌, ◌<◌, ◌≤◌, List, [], ◌∷◌, Bool, true, false, length}
+use Rattle.std.proofs.Common.{subst, arith}
 use Rattle.path_text.specs.declared.errno.Errno.{Errno}
 use Rattle.path_text.specs.declared.errno.Errno.TheVariants.{NotFound, NoMemory, Busy, NotDir, IsDir, NotEmpty}
 use Rattle.tree_model.specs.declared.answer.Answer.{Answer}
@@ -12,7 +12,7 @@ use Rattle.step_resolver.proofs.WalkSteps.{FewerThan as FewerOnWalk, take_lowers
 use Rattle.bulk_ops.specs.declared.remove_all.clearing.TheConstants.{CLEARING_STEPS_MAX}
 use Rattle.bulk_ops.specs.declared.turn.BulkTurn.{BulkTurn}
 use Rattle.bulk_ops.specs.declared.turn.BulkTurn.TheVariants as outcome
-use Rattle.bulk_ops.specs.RemoveAllOrder.{Level, Stage, removes_file, opens, lists, shuts, leaves, removes_dir, End, fails, removes, Removing, walking, clearing, closing, Turn, more, removed, failed, dirs, before, ends, closes, is_due, next_entry, finished, enters, gives_up, walked, for_call, file_removed, opened, listed, dir_removed, take, steps_left}
+use Rattle.bulk_ops.specs.RemoveAllOrder.{Level, Stage, removes_file, opens, lists, shuts, leaves, removes_dir, End, fails, removes, Removing, walking, clearing, closing, Turn, more, removed, failed, dirs, before, ends, closes, is_due, next_entry, enters, gives_up, walked, for_call, file_removed, opened, listed, dir_removed, take, steps_left}
 use Rattle.bulk_ops.specs.RemoveAllTurnView.{IsTurn, BeginsTo, TakesTo, steps_to_come}
 
 -- fewer than this many steps are left, where the call goes on

@@ -2,7 +2,6 @@
 use Rattle.std.specs.Prelude.{◌≡◌, ℕ, List, [], ◌∷◌, ◌++◌, Bool, true, false, refl}
 use Rattle.std.proofs.Common.{sym, ap, subst, ◌∙◌}
 use Rattle.path_text.specs.declared.errno.Errno.{Errno}
-use Rattle.path_text.specs.declared.errno.Errno.TheVariants.{NoMemory}
 use Rattle.path_text.specs.Reading.{Reading}
 use Rattle.tree_model.specs.declared.answer.Answer.{Answer}
 use Rattle.tree_model.specs.declared.answer.Answer.TheVariants.{Refused}
@@ -10,11 +9,10 @@ use Rattle.step_resolver.specs.Asked.{is_deepest}
 use Rattle.step_resolver.specs.Order.{Way, Walking, Line, answered, no_room, not_made, IsWant}
 use Rattle.step_resolver.specs.Order as walk
 use Rattle.step_resolver.specs.TurnsTell.{first_lines}
-use Rattle.step_resolver.specs.WalkHistory.{WalkInHistory}
 use Rattle.step_resolver.proofs.Ends.EveryWalk.{walks_tell}
 use Rattle.step_resolver.proofs.FirstTurns.{first_lines_lead}
 use Rattle.bulk_ops.specs.declared.turn.BulkTurn.{BulkTurn}
-use Rattle.bulk_ops.specs.RemoveAllOrder.{Stage, removes_file, opens, lists, shuts, leaves, removes_dir, Removing, walking, clearing, closing, Turn, more, removed, failed, for_call, begins, starts, walked, take, is_closing, LeadsTo}
+use Rattle.bulk_ops.specs.RemoveAllOrder.{removes_file, opens, lists, shuts, leaves, removes_dir, Removing, walking, clearing, closing, Turn, more, removed, failed, for_call, begins, starts, walked, take, LeadsTo}
 use Rattle.bulk_ops.specs.RemoveAllTurnView.{TakesTo, StartsTo}
 use Rattle.bulk_ops.specs.RemoveAllTells.{RemoveAllTells}
 use Rattle.bulk_ops.specs.RemoveAllTurnsTell.{IsLineOf, TellsTaken, TellsBegun}

@@ -1,8 +1,7 @@
 -- What is known of a call that clears: which directories it holds, and how each was reached; what it did; and how many steps
 -- it made.
 use Rattle.std.specs.Prelude.{◌≡◌, ◌≢◌, ℕ, zero, suc, ◌+◌, ◌≤◌, ◌==◌, ◌⊎◌, List, [], ◌∷◌, Bool, true, false, drop, length, Option, Some, None, refl}
-use Rattle.std.proofs.Common.{sym, ap, subst, ◌∙◌, inl, inr, le_refl, le_trans, eqb-true, not-suc-le-zero, arith}
-use Rattle.std.proofs.Math.Nat.{le-suc}
+use Rattle.std.proofs.Common.{sym, ap, subst, ◌∙◌, inl, inr, le_trans, eqb-true, arith}
 use Rattle.std.proofs.lemmas.Bool.{eqb-false, false≢true}
 use Rattle.std.proofs.lemmas.Option.{none-some}
 use Rattle.path_text.specs.declared.errno.Errno.{Errno}
@@ -10,17 +9,16 @@ use Rattle.path_text.specs.declared.errno.Errno.TheVariants.{Busy}
 use Rattle.tree_model.specs.declared.answer.Answer.{Answer}
 use Rattle.tree_model.specs.declared.step.StepOf.{StepOf}
 use Rattle.tree_model.specs.State.{child, is_directory, put_at}
-use Rattle.tree_model.specs.Steps.{held}
 use Rattle.step_resolver.specs.Trail.{Timeline}
-use Rattle.step_resolver.specs.Order.{Line, answered, no_room, not_made}
+use Rattle.step_resolver.specs.Order.{Line}
 use Rattle.step_resolver.specs.WalkHistory.{WalkInHistory, state_at, timeline}
 use Rattle.step_resolver.specs.Failures.{TellsWant}
 use Rattle.step_resolver.proofs.Underway.StepOutcomes.{IsMore, IsLess}
-use Rattle.step_resolver.proofs.Underway.WalkInvariant.{StepAt, held_at, IsNotIn}
+use Rattle.step_resolver.proofs.Underway.WalkInvariant.{held_at, IsNotIn}
 use Rattle.bulk_ops.specs.declared.remove_all.clearing.TheConstants.{CLEARING_STEPS_MAX}
-use Rattle.bulk_ops.specs.RemoveAllOrder.{Level, Stage, removes_file, opens, lists, shuts, leaves, removes_dir, End, fails, removes, Removing, walking, clearing, closing, Turn, more, removed, failed, dirs, before, closes, is_due}
-use Rattle.bulk_ops.specs.RemoveAllTells.{Down, here, under, outermost, removals, one_more_if, is_removal, event_at, TakesAway, LeavesEntries, IsOn, ClosesAt, AllClose, TellsFault}
-use Rattle.bulk_ops.proofs.RemovingAll.Happening.{IsAlone, AloneAt, less_or_same}
+use Rattle.bulk_ops.specs.RemoveAllOrder.{Level, Stage, removes_file, opens, lists, shuts, leaves, removes_dir, End, fails, removes, walking, clearing, closing, Turn, more, removed, failed, dirs, before, closes, is_due}
+use Rattle.bulk_ops.specs.RemoveAllTells.{Down, here, under, outermost, removals, one_more_if, event_at, TakesAway, LeavesEntries, IsOn, ClosesAt, AllClose, TellsFault}
+use Rattle.bulk_ops.proofs.RemovingAll.Happening.{IsAlone, less_or_same}
 
 -- ---- handles
 

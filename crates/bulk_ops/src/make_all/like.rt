@@ -92,7 +92,8 @@ impl Chain {
 
 // Whether something is held in both, or in neither.
 fn same_count(held: &Option<Reached>, other: &Option<Reached>) -> bool
-    ensures { IsTrue result ↔ (numbers_by (λ h. 0) (numbers_of held.now) ≡ numbers_by (λ h. 0) (numbers_of other.now)) }
+    ensures { IsTrue result
+        ↔ (numbers_by (λ h. 0) (numbers_of held.now) ≡ numbers_by (λ h. 0) (numbers_of other.now)) }
 {
     held.is_some() == other.is_some()
 }

@@ -154,7 +154,8 @@ impl Progress {
 
     // A step of clearing, if one is left; else all that is held is closed, and the call fails with Busy.
     fn due(self, stage: Stage) -> Phase
-        ensures { phase_turn result ≡ is_due (stage_of stage) (level_of self.here) (levels_of self.above.items) self.removed self.left }
+        ensures { phase_turn result
+            ≡ is_due (stage_of stage) (level_of self.here) (levels_of self.above.items) self.removed self.left }
     {
         if self.left == 0 {
             return self.fail(stage, Errno::Busy);
@@ -167,7 +168,8 @@ impl Progress {
 
     // All that is held is closed, and the call fails.
     fn fail(self, stage: Stage, error: Errno) -> Phase
-        ensures { phase_turn result ≡ gives_up (stage_of stage) (level_of self.here) (levels_of self.above.items) error }
+        ensures { phase_turn result
+            ≡ gives_up (stage_of stage) (level_of self.here) (levels_of self.above.items) error }
     {
         let Progress {
             here,
@@ -183,9 +185,11 @@ impl Progress {
         )
     }
 
-    // The entry under way is cleared: the next one's turn; or the directory's own removal, once it is closed; or the end.
+    // The entry under way is cleared: the next one's turn; or the directory's own removal, once it is closed; or the
+    // end.
     fn finished(self) -> Phase
-        ensures { phase_turn result ≡ finished (level_of self.here) (levels_of self.above.items) self.removed self.left }
+        ensures { phase_turn result
+            ≡ finished (level_of self.here) (levels_of self.above.items) self.removed self.left }
     {
         let Progress {
             here,
@@ -216,7 +220,10 @@ impl Progress {
 
     // The directory that was opened has these entries.
     fn entered(self, child: Reached, names: Names) -> Phase
-        ensures { (room : Bool) × (phase_turn result ≡ listed room child.handle (level_of self.here) (levels_of self.above.items) self.removed self.left (Listed names)) }
+        ensures { (room : Bool)
+            × (phase_turn result
+            ≡ listed room child.handle (level_of self.here)
+            (levels_of self.above.items) self.removed self.left (Listed names)) }
     {
         let Progress {
             here,
@@ -254,7 +261,8 @@ impl Progress {
     // One more entry is removed.
     fn counted(mut self) -> Phase
         requires { self.removed + self.left < CLEARING_STEPS_MAX }
-        ensures { phase_turn result ≡ finished (level_of self.here) (levels_of self.above.items) (suc self.removed) self.left }
+        ensures { phase_turn result
+            ≡ finished (level_of self.here) (levels_of self.above.items) (suc self.removed) self.left }
     {
         self.removed += 1;
         self.finished()
@@ -263,7 +271,8 @@ impl Progress {
     // What the answer to the removal as what is no directory comes to.
     fn file_removed(self, answer: &Answer) -> Phase
         requires { self.removed + self.left < CLEARING_STEPS_MAX }
-        ensures { phase_turn result ≡ file_removed (level_of self.here) (levels_of self.above.items) self.removed self.left answer.now }
+        ensures { phase_turn result
+            ≡ file_removed (level_of self.here) (levels_of self.above.items) self.removed self.left answer.now }
     {
         match answer {
             Answer::Done => self.counted(),
@@ -275,7 +284,8 @@ impl Progress {
 
     // What the answer to opening the entry under way comes to. Only a directory is entered, and no link is.
     fn opened(self, answer: &Answer) -> Phase
-        ensures { phase_turn result ≡ opened (level_of self.here) (levels_of self.above.items) self.removed self.left answer.now }
+        ensures { phase_turn result
+            ≡ opened (level_of self.here) (levels_of self.above.items) self.removed self.left answer.now }
     {
         match Reached::of(answer) {
             Some(child) => match child.kind() {
@@ -291,7 +301,10 @@ impl Progress {
 
     // What the answer to listing the directory that was opened comes to.
     fn listed(self, child: Reached, answer: Answer) -> Phase
-        ensures { (room : Bool) × (phase_turn result ≡ listed room child.handle (level_of self.here) (levels_of self.above.items) self.removed self.left answer) }
+        ensures { (room : Bool)
+            × (phase_turn result
+            ≡ listed room child.handle (level_of self.here)
+            (levels_of self.above.items) self.removed self.left answer) }
     {
         match answer {
             Answer::Listed(names) => self.entered(child, names),
@@ -302,7 +315,8 @@ impl Progress {
     // What the answer to the removal as a directory comes to.
     fn dir_removed(self, answer: &Answer) -> Phase
         requires { self.removed + self.left < CLEARING_STEPS_MAX }
-        ensures { phase_turn result ≡ dir_removed (level_of self.here) (levels_of self.above.items) self.removed self.left answer.now }
+        ensures { phase_turn result
+            ≡ dir_removed (level_of self.here) (levels_of self.above.items) self.removed self.left answer.now }
     {
         match answer {
             Answer::Done => self.counted(),
@@ -320,7 +334,9 @@ impl Clearing {
     /// The first step of clearing: the target's, in this directory.
     pub(crate) fn begin(alloc: Global, dir: Reached, target: Names) -> Phase
         requires { length target ≡ 1 }
-        ensures { phase_turn result ≡ is_due removes_file (record { dir = dir.handle; name = name_at target 0; others = [] }) [] 0 CLEARING_STEPS_MAX }
+        ensures { phase_turn result
+            ≡ is_due removes_file
+            (record { dir = dir.handle; name = name_at target 0; others = [] }) [] 0 CLEARING_STEPS_MAX }
     {
         Progress {
             here: Frame {
@@ -337,7 +353,8 @@ impl Clearing {
 
     /// The step that is due. NoMemory where the room of a name was refused.
     pub(crate) fn due(&self, alloc: Global) -> Result<Step, NoMemory>
-        ensures exact { IfOk result (λ step. step ≡ due_at (stage_of self.now.stage) (level_of self.now.progress.here)) }
+        ensures exact { IfOk result (λ step. step
+            ≡ due_at (stage_of self.now.stage) (level_of self.now.progress.here)) }
         ensures no_memory { looks_up (stage_of self.now.stage) ≡ false → IsOk result }
     {
         let here = &self.progress.here;

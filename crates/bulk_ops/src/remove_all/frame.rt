@@ -5,8 +5,8 @@ use handles::Reached;
 use path_text::{Name, Names, NoMemory};
 use std::alloc::Global;
 
-/// A directory that is held, and the names of the entries that are to be cleared in it: those before the place are, and
-/// the one at the place is under way.
+/// A directory that is held, and the names of the entries that are to be cleared in it: those before the place are,
+/// and the one at the place is under way.
 #[derive(Debug)]
 pub(crate) struct Frame {
     pub(crate) dir: Reached,
@@ -20,7 +20,8 @@ impl Frame {
 
     /// The directory with the first of its entries under way; or the directory itself, where it has none.
     pub(crate) fn first(dir: Reached, names: Names) -> Result<Frame, Reached>
-        ensures { MatchResult result (λ frame. level_at dir.handle names ≡ level_of frame ∷ []) (λ empty. (names ≡ []) × (empty ≡ dir)) }
+        ensures { MatchResult result (λ frame. level_at dir.handle names ≡ level_of frame ∷ [])
+            (λ empty. (names ≡ []) × (empty ≡ dir)) }
     {
         if names.is_empty() {
             Err(dir)
@@ -31,7 +32,9 @@ impl Frame {
 
     /// The directory with the next of its entries under way; or the directory itself, where that was the last.
     pub(crate) fn next(self) -> Result<Frame, Reached>
-        ensures { MatchResult result (λ frame. level_at self.dir.handle (level_of self).others ≡ level_of frame ∷ []) (λ cleared. ((level_of self).others ≡ []) × (cleared ≡ self.dir)) }
+        ensures { MatchResult result
+            (λ frame. level_at self.dir.handle (level_of self).others ≡ level_of frame ∷ [])
+            (λ cleared. ((level_of self).others ≡ []) × (cleared ≡ self.dir)) }
     {
         let Frame { dir, names, at } = self;
         let count = names.len();

@@ -148,7 +148,11 @@ impl Stage {
 impl Progress {
     // Whether the same is left to be cleared, and as much was removed.
     fn is_like(&self, other: &Progress) -> bool
-        ensures { IsTrue result ↔ ((level_by (λ h. 0) (level_of self.now.here) ≡ level_by (λ h. 0) (level_of other.now.here)) × (levels_by (λ h. 0) (levels_of self.now.above.items) ≡ levels_by (λ h. 0) (levels_of other.now.above.items)) × (self.now.removed ≡ other.now.removed) × (self.now.left ≡ other.now.left)) }
+        ensures { IsTrue result
+            ↔ ((level_by (λ h. 0) (level_of self.now.here) ≡ level_by (λ h. 0) (level_of other.now.here))
+            × (levels_by (λ h. 0) (levels_of self.now.above.items)
+            ≡ levels_by (λ h. 0) (levels_of other.now.above.items)) × (self.now.removed ≡ other.now.removed)
+            × (self.now.left ≡ other.now.left)) }
     {
         self.removed == other.removed
             && self.left == other.left

@@ -73,8 +73,8 @@ impl Phase {
 impl WalkTo {
     ghost use Rattle.bulk_ops.specs.RemoveAllView.{walking_of, TakesOn};
 
-    // What the answer to the walk's step comes to: where it found the directory, the target in it is cleared. The whole
-    // path is walked, so that the walk's end isn't partial; one that were would miss a directory.
+    // What the answer to the walk's step comes to: where it found the directory, the target in it is cleared. The
+    // whole path is walked, so that the walk's end isn't partial; one that were would miss a directory.
     fn taken(self, alloc: Global, answer: Answer) -> Phase
         ensures { TakesOn (walking_of self) answer result }
     {

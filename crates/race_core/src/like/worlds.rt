@@ -10,8 +10,9 @@ use path_text::NoMemory;
 use tree_model::{HandleNo, Tree};
 
 impl<T: Tree> World<T> {
-    /// Whether there are as many actors in both worlds, and each has the same to do, to tell and to hold as the other's of
-    /// its number but for the numbers of handles. The trees and the histories may differ. Takes no memory.
+    /// Whether there are as many actors in both worlds, and each has the same to do, to tell and to hold as the
+    /// other's of its number but for the numbers of handles. The trees and the histories may differ. Takes no
+    /// memory.
     #[tactic(auto, using(crate::proofs::LikeSeats::seats_map))]
     pub fn is_like(&self, other: &World<T>) -> bool
         ensures { IsTrue result ↔ LikeActors self.now.seats other.now.seats }
@@ -19,12 +20,13 @@ impl<T: Tree> World<T> {
         like_all(self.seats.as_slice(), other.seats.as_slice())
     }
 
-    /// Appends the handles of the actor of that number, one by one: its root's, and those in its calls to come, in what
-    /// came of the others, in what they still keep and in the call under way. One may come more than once. NoMemory where
-    /// their room was refused; some of them may have been appended.
+    /// Appends the handles of the actor of that number, one by one: its root's, and those in its calls to come, in
+    /// what came of the others, in what they still keep and in the call under way. One may come more than once.
+    /// NoMemory where their room was refused; some of them may have been appended.
     pub fn push_handles(&self, actor: usize, into: &mut Vec<HandleNo>) -> Result<(), NoMemory>
         requires { actor < length self.now.seats }
-        ensures { IfOk result (λ u. (seat : Seat) → slice_get self.now.seats actor ≡ Some seat → into.new.items ≡ into.old.items ++ seat_handles seat) }
+        ensures { IfOk result (λ u. (seat : Seat) → slice_get self.now.seats actor ≡ Some seat
+            → into.new.items ≡ into.old.items ++ seat_handles seat) }
     {
         let seat = &self.seats[actor];
         seat.push_handles(into)

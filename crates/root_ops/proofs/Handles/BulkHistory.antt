@@ -22,7 +22,7 @@ use Rattle.root_ops.specs.Order.{Reply, make_way, makes, clears, clear_in, unles
 use Rattle.root_ops.proofs.Bulk.{makes_led, clears_led}
 use Rattle.root_ops.proofs.FirstTurn.{led_from}
 
-is_bulk_of : (c : CallInHistory) (goal : Goal) (path : Reading) → IsCallInHistory c → IsWalkInHistory (bulk_of c (way_from c.below.root goal c.below.flags) path)
+pub is_bulk_of : (c : CallInHistory) (goal : Goal) (path : Reading) → IsCallInHistory c → IsWalkInHistory (bulk_of c (way_from c.below.root goal c.below.flags) path)
 is_bulk_of c goal path is = record {
   tree = is.tree;
   legal_before = is.legal_before;

@@ -1,15 +1,19 @@
 -- The walks of a call: their lines, up to their ends, and what these leave open.
-use Rattle.std.specs.Prelude.{◌≡◌, ℕ, List, [], ◌∷◌, ◌++◌, length, Bool, true, false, Option, Some, None, refl}
-use Rattle.std.proofs.Common.{sym, ap, subst, ◌∙◌, arith}
+use Rattle.std.specs.Prelude.{◌≡◌, ◌⊎◌, ℕ, List, [], ◌∷◌, ◌++◌, length, Bool, true, false, Option, Some, None, refl}
+use Rattle.std.proofs.Common.{sym, ap, subst, ◌∙◌, inl, inr, arith}
+use Rattle.path_text.specs.declared.errno.Errno.TheVariants.{NoMemory}
 use Rattle.path_text.specs.Reading.{Reading}
+use Rattle.tree_model.specs.declared.answer.Answer.{Answer}
 use Rattle.tree_model.specs.declared.answer.Answer.TheVariants.{Refused}
 use Rattle.tree_model.specs.declared.answer.Event.{Event}
 use Rattle.tree_model.specs.declared.inode.Object.{Object}
+use Rattle.tree_model.specs.declared.step.StepOf.{StepOf}
 use Rattle.tree_model.specs.State.{State, object_at, is_dir, is_directory}
 use Rattle.tree_model.specs.Steps.{held}
 use Rattle.tree_model.specs.Trees.{IsState}
 use Rattle.tree_model.specs.History.{IsLegal, after_events, tree_at}
 use Rattle.tree_model.proofs.HistoryLaws.{histories_keep_trees, objects_stay_for_good, trees_begin_and_end, legal_histories_join}
+use Rattle.step_resolver.specs.Failures.{TellsWant}
 use Rattle.step_resolver.specs.Order.{Way, Handle, Walking, Turn, more, found, partial, failed, Line, answered, no_room, not_made, events_of, begins, take, for_walk, starts}
 use Rattle.step_resolver.specs.Order as walk
 use Rattle.step_resolver.specs.WalkHistory.{WalkInHistory, own_events}
@@ -29,7 +33,7 @@ IsEnded (failed error) = Unit {0}
 
 module _ (below : Below) (aim : Aim) (reply : Reply) where
   -- the walk's own lines led it to an end, and the others led on from there
-  pub record WalkEnds (turn : Turn) (lines : List Line) : Type 0 where
+  pub record WalkEnds (begun : Bool) (turn : Turn) (lines : List Line) : Type 0 where
     pub first : List Line
     pub rest : List Line
     pub end : Turn
@@ -37,12 +41,23 @@ module _ (below : Below) (aim : Aim) (reply : Reply) where
     pub whole : lines ≡ first ++ rest
     pub leads : walk.LeadsTo (way_of below aim) turn first end
     pub ended : IsEnded end
+    -- why what the walk's last answer brought found no memory
+    pub lacked : room ≡ false → (begun ≡ false) ⊎ TellsWant NoMemory first
     pub onward : LeadsTo below (walked below room aim end) rest (ends reply)
 
-  over : (room : Bool) (turn : Turn) (lines : List Line) → IsEnded turn → LeadsTo below (walked below room aim turn) lines (ends reply) → WalkEnds turn lines
-  over room turn lines ended leads = record { first = []; rest = lines; end = turn; room = room; whole = refl; leads = refl; ended = ended; onward = leads }
+  over : (room : Bool) (turn : Turn) (lines : List Line) → IsEnded turn → LeadsTo below (walked below room aim turn) lines (ends reply) → WalkEnds room turn lines
+  over room turn lines ended leads =
+      record { first = []; rest = lines; end = turn; room = room; whole = refl; leads = refl; ended = ended; lacked = λ e. inl e; onward = leads }
 
-  pub walk_ends : (lines : List Line) (room : Bool) (turn : Turn) → LeadsTo below (walked below room aim turn) lines (ends reply) → WalkEnds turn lines
+  one_later : (line : Line) (first : List Line) → (true ≡ false) ⊎ TellsWant NoMemory first → TellsWant NoMemory (line ∷ first)
+  one_later line first (inl e) = cc (e)
+  one_later line first (inr met) = inr met
+
+  one_after_want : (step : StepOf ℕ) (answer : Answer) (first : List Line) → (false ≡ false) ⊎ TellsWant NoMemory first → TellsWant NoMemory (no_room step answer ∷ first)
+  one_after_want step answer first (inl e) = inl refl
+  one_after_want step answer first (inr met) = inr met
+
+  pub walk_ends : (lines : List Line) (room : Bool) (turn : Turn) → LeadsTo below (walked below room aim turn) lines (ends reply) → WalkEnds room turn lines
   walk_ends lines room (found handle names) leads = over room (found handle names) lines tt leads
   walk_ends lines room (partial handle names rest) leads = over room (partial handle names rest) lines tt leads
   walk_ends lines room (failed error) leads = over room (failed error) lines tt leads
@@ -57,6 +72,7 @@ module _ (below : Below) (aim : Aim) (reply : Reply) where
         whole = ap (λ ls. answered step answer ∷ ls) later.whole;
         leads = (leads.0, later.leads);
         ended = later.ended;
+        lacked = λ e. inr (one_later (answered step answer) later.first (later.lacked e));
         onward = later.onward;
       }
   walk_ends (no_room step answer ∷ lines) room (more w) leads =
@@ -69,6 +85,7 @@ module _ (below : Below) (aim : Aim) (reply : Reply) where
         whole = ap (λ ls. no_room step answer ∷ ls) later.whole;
         leads = (leads.0, later.leads);
         ended = later.ended;
+        lacked = λ e. inr (one_after_want step answer later.first (later.lacked e));
         onward = later.onward;
       }
   walk_ends (not_made error ∷ lines) room (more w) leads =
@@ -81,6 +98,7 @@ module _ (below : Below) (aim : Aim) (reply : Reply) where
         whole = ap (λ ls. not_made error ∷ ls) later.whole;
         leads = (leads.0.0, (leads.0.1, later.leads));
         ended = later.ended;
+        lacked = λ e. inr (one_later (not_made error) later.first (later.lacked e));
         onward = later.onward;
       }
 

@@ -1,18 +1,17 @@
 -- The bulk calls where nobody else acts, from what bulk_ops says of them.
-use Rattle.std.proofs.Common.{◌≡◌, ◌⊎◌, inl, inr, ℕ, zero, suc, ◌+◌, ◌≤◌, List, [], ◌∷◌, ◌++◌, Bool, true, false, if◌then◌else◌, length, Result, Ok, Err, Option, Some, None, slice_get, refl, sym, ap, ◌∙◌, subst, arith, length-append, append-nil}
+use Rattle.std.proofs.Common.{◌≡◌, ◌⊎◌, inl, inr, ℕ, zero, suc, ◌+◌, ◌≤◌, List, [], ◌∷◌, Bool, true, false, if◌then◌else◌, length, Some, slice_get, refl, sym, ap, ◌∙◌, subst, arith, length-append, append-nil}
 use Rattle.std.specs.Option.{option_map}
-use Rattle.std.proofs.lemmas.Bool.{true≢false, false≢true}
+use Rattle.std.proofs.lemmas.Bool.{false≢true}
 use Rattle.std.proofs.lemmas.Option.{none-some, same_Some}
 use Rattle.path_text.specs.declared.errno.Errno.{Errno}
-use Rattle.path_text.specs.declared.errno.Errno.TheVariants.{NotFound, BadHandle, Raced, NoMemory, Busy, Exists, CrossRoot, NotDir, IsDir, Invalid, TooMany, BookFull, TooLong, NotEmpty, Loop}
+use Rattle.path_text.specs.declared.errno.Errno.TheVariants.{NotFound, NoMemory, Busy, NotDir, TooMany, BookFull, TooLong}
 use Rattle.path_text.specs.declared.path.Split.{Split as SplitPath}
 use Rattle.path_text.specs.Reading.{Reading}
 use Rattle.tree_model.specs.declared.answer.Answer.TheVariants.{Refused}
 use Rattle.tree_model.specs.declared.answer.Event.{Event}
-use Rattle.tree_model.specs.declared.inode.Inode.{Inode}
 use Rattle.tree_model.specs.declared.step.StepOf.{StepOf}
 use Rattle.tree_model.specs.State.{State, Stands, object_at, is_dir}
-use Rattle.tree_model.specs.Steps.{held, kind_of}
+use Rattle.tree_model.specs.Steps.{kind_of}
 use Rattle.tree_model.specs.History.{IsLegal, after_events}
 use Rattle.walk_plan.specs.declared.goal.Goal.{Goal}
 use Rattle.walk_plan.specs.declared.goal.Goal.TheVariants.{Follow, Deepest}
@@ -31,8 +30,7 @@ use Rattle.step_resolver.proofs.Ends.EveryWalk.{walks_tell}
 use Rattle.bulk_ops.specs.declared.remove_all.clearing.TheConstants.{CLEARING_STEPS_MAX}
 use Rattle.bulk_ops.specs.MakeAllOrder as make
 use Rattle.bulk_ops.specs.MakeAllOrder.{rest_fault}
-use Rattle.bulk_ops.specs.MakeAllTells as make_tells
-use Rattle.bulk_ops.specs.MakeAllTells.{DeepestAt, Reach, not_begun, begun, MadeEnd, MakeTells, UnbegunCause, of_walk, no_directory, of_rest, MakingCause, for_want, full, gone, missing, not_directory, astray, Cause}
+use Rattle.bulk_ops.specs.MakeAllTells.{DeepestAt, Reach, not_begun, begun, MadeEnd, UnbegunCause, of_walk, no_directory, of_rest, MakingCause, for_want, full, gone, missing, not_directory, astray, Cause}
 use Rattle.bulk_ops.specs.MakeAllQuiet as made_quiet
 use Rattle.bulk_ops.specs.MakeAllQuiet.{MakeMeant, refuses, gives, make_means, IsPart}
 use Rattle.bulk_ops.specs.RemoveAllOrder as remove
@@ -46,7 +44,7 @@ use Rattle.bulk_ops.proofs.RemovingAll.Quiet.Whole.{quiet_remove_all, found, par
 use Rattle.root_ops.specs.Meaning.{Caller, Whole, is_open, counts, fails, made, makes_along, clears as clears_in, unless_error, directory_of}
 use Rattle.root_ops.specs.Meaning as meaning
 use Rattle.root_ops.specs.Order.{Reply, opened, count, fault, ends, make_way, makes, clears, LeadsTo}
-use Rattle.root_ops.specs.Quiet.{MetWant, MetBy, IsReply, IsOpened, IsDone, MadePart, ClearedPart, IsAmong}
+use Rattle.root_ops.specs.Quiet.{MetWant, MetBy, IsOpened, IsDone, MadePart, ClearedPart, IsAmong}
 use Rattle.root_ops.proofs.Bulk.{makes_led, clears_led}
 use Rattle.root_ops.proofs.Handles.AfterWalks.{same_reply}
 use Rattle.root_ops.proofs.Quiet.WalksAlone.{HasRoot, by_own, met_by, want_met, walked_alone}
@@ -142,7 +140,7 @@ module _ (c : Caller) (has : HasRoot c.tree c.actor c.below.root.handle c.root) 
 
     met_making : (p : DeepestAt w) (error : Errno) → is_want error ≡ true → MakingCause w p error → MetWant lines error
     met_making p error want (for_want is tells) = want_met lines error tells
-    met_making p error want (full t step event told) = refused_met c.actor lines t step event
+    met_making p error want (full t step event told limit) = refused_met c.actor lines t step event
     met_making p error want (gone dir name t at is) = absurd (false≢true want)
     met_making p error want (missing dir name t at is) = absurd (false≢true want)
     met_making p error want (not_directory dir name t x at is no_dir) = absurd (false≢true want)

@@ -1,5 +1,5 @@
 -- What the bulk calls mean leads from a tree to a tree.
-use Rattle.std.proofs.Common.{◌≡◌, ℕ, suc, List, [], ◌∷◌, ◌++◌, ◌&&◌, Bool, true, false, not, if◌then◌else◌, length, Result, Ok, Err, Option, Some, None, is_some, refl, sym, ap, ◌∙◌, subst, arith, append_assoc}
+use Rattle.std.proofs.Common.{◌≡◌, ℕ, suc, List, [], ◌∷◌, ◌++◌, ◌&&◌, Bool, true, false, not, if◌then◌else◌, length, Option, Some, None, is_some, refl, sym, ap, ◌∙◌, subst, arith, append_assoc}
 use Rattle.std.specs.Prelude.{is_none}
 use Rattle.std.proofs.lemmas.Bool.{false≢true}
 use Rattle.std.proofs.lemmas.Option.{none-some}
@@ -12,15 +12,15 @@ use Rattle.tree_model.specs.declared.inode.Object.TheVariants.{Dir}
 use Rattle.tree_model.specs.declared.inode.Place.{Place}
 use Rattle.tree_model.specs.State.{TOP, object_at, place_at, child, is_dir, is_directory, is_gone, is_within, names_below}
 use Rattle.tree_model.specs.Trees.{Rooted, top, below, IsTree}
-use Rattle.tree_model.proofs.Changed.{Grows, Grows-refl, Grows-append}
+use Rattle.tree_model.proofs.Changed.{Grows-append}
 use Rattle.tree_model.proofs.Children.{place_at-no_child}
 use Rattle.tree_model.proofs.Hanging.{Rooted-not_gone, IsTree-made}
 use Rattle.tree_model.proofs.Standing.{Under-child, not_under, Stands-names_below}
-use Rattle.step_resolver.specs.Asked.{AskedPart, Named}
+use Rattle.step_resolver.specs.Asked.{AskedPart}
 use Rattle.step_resolver.specs.Meaning.{Ground, Deep, whole, up_to, none, is_too_long, reading_deepest}
 use Rattle.bulk_ops.specs.MakeAllOrder.{rest_fault, rest_names}
 use Rattle.bulk_ops.specs.MakeAllQuiet.{chain_of, last_of, MakeMeant, refuses, gives, make_means, rest_means}
-use Rattle.bulk_ops.specs.RemoveAllQuiet.{is_at_or_below, without_from, cleared}
+use Rattle.bulk_ops.specs.RemoveAllQuiet.{is_at_or_below, cleared}
 use Rattle.bulk_ops.proofs.MakingAlone.NewDirectories.{length-one_more, with_new, new_inode, new_is_dir, new_not_gone, new_is_empty}
 use Rattle.bulk_ops.proofs.MakingAlone.WalkFirst.{IsFirst, first_of}
 use Rattle.bulk_ops.proofs.RemovingAll.Quiet.Gone.{object_at-without, place_at-without}

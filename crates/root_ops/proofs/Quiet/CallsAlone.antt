@@ -30,6 +30,7 @@ use Rattle.root_ops.specs.declared.aim.Wanted.TheVariants as wants
 use Rattle.root_ops.specs.declared.op.Op.{Op}
 use Rattle.root_ops.specs.declared.op.Op.TheVariants.{Resolve, ResolveNoFollow, ReadLink, CreateFile, CreateDir, CreateLink, RemoveFile, RemoveDir, Rename, MkdirAll, RemoveAll, Single, Release}
 use Rattle.root_ops.specs.Meaning.{Caller, Whole, is_open, is_done, keeps, fails, told_by, and_then, directory_of, entry_of, renamed, tells, changes, unless_error, makes_along, clears as clears_in, op_means}
+use Rattle.root_ops.specs.Acts.{change_of}
 use Rattle.root_ops.specs.Meaning as meaning
 use Rattle.root_ops.specs.Order.{Reply, kept, fault, more, ends, acting, releasing, unless_fault, make_way, makes, clear_in, reply_to, is_single, same_owner, begins, begins_without, starts, LeadsTo}
 use Rattle.root_ops.specs.CallHistory.{begin_of, actor_of}
@@ -39,7 +40,7 @@ use Rattle.bulk_ops.specs.MakeAllOrder as make
 use Rattle.bulk_ops.specs.MakeAllQuiet.{IsPart}
 use Rattle.root_ops.specs.StepCount.{is_bulk}
 use Rattle.root_ops.proofs.Quiet.WalksAlone.{HasRoot}
-use Rattle.root_ops.proofs.Quiet.StepsAlone.{fails_alone, runs_short, Acts, acts_alone, change_of}
+use Rattle.root_ops.proofs.Quiet.StepsAlone.{fails_alone, runs_short, Acts, acts_alone}
 use Rattle.root_ops.proofs.Quiet.EntriesAlone.{ground_here, text_here, acts_short, faults_alone, opens_alone, reads_alone, changes_alone}
 use Rattle.root_ops.proofs.Quiet.RenamesAlone.{rename_alone}
 

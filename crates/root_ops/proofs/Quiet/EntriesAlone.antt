@@ -28,11 +28,12 @@ use Rattle.root_ops.specs.declared.aim.Aim.TheVariants.{Opens, Reads, Changes}
 use Rattle.root_ops.specs.declared.aim.Change.{Change}
 use Rattle.root_ops.specs.declared.aim.Wanted.TheVariants as wants
 use Rattle.root_ops.specs.Meaning.{Caller, is_open, has_text, fails, Whole, and_then, directory_of, text_of, tells, changes}
+use Rattle.root_ops.specs.Acts.{change_of}
 use Rattle.root_ops.specs.Meaning as meaning
 use Rattle.root_ops.specs.Order.{Reply, opened, fault, ends, reached, walked, goal_of, held_by, way_of, walks, unless_fault, in_directory, change_step, reply_to, LeadsTo}
 use Rattle.root_ops.specs.Quiet.{MetWant, MetBy, IsReply, IsDone, RanShort, ComesTo}
 use Rattle.root_ops.proofs.Quiet.WalksAlone.{Split, split_lines, Parted, parted, HasRoot, FindsIt, EndsWith, found_by, Walked, walked_alone}
-use Rattle.root_ops.proofs.Quiet.StepsAlone.{fails_alone, runs_short, widened, Acts, acts_alone, change_of, change_is, is_changed}
+use Rattle.root_ops.proofs.Quiet.StepsAlone.{fails_alone, runs_short, widened, Acts, acts_alone, change_is, is_changed}
 
 -- ---- wants of some of the lines
 

@@ -18,7 +18,7 @@ use Rattle.tree_model.specs.declared.step.StepOf.{StepOf}
 use Rattle.tree_model.specs.declared.step.StepOf.TheVariants.{Open, Close, Rename}
 use Rattle.tree_model.specs.State.{State, object_at, child, is_dir, is_directory}
 use Rattle.tree_model.specs.Entries.{refuse_if, with_some, refuse_by, renames}
-use Rattle.tree_model.specs.Steps.{Outcome, outcome, held, kind_of, refused, opens, with_handle}
+use Rattle.tree_model.specs.Steps.{Outcome, outcome, held, is_full, kind_of, refused, opens, with_handle}
 use Rattle.tree_model.specs.Steps.{changes as made}
 use Rattle.tree_model.specs.StepLaws.{is_on_entries}
 use Rattle.tree_model.specs.Trees.{IsState}
@@ -51,15 +51,15 @@ abbrev tried_by : State → ℕ → Bool → Option ℕ → Outcome
 tried_by t a dir entry = refuse_if (not dir) (refused t NotDir) (with_some entry (refused t NotFound) (λ x. opens t a x))
 
 -- it was refused for what the entry is, or since no more can be opened; or it is opened
-data Tried (t : State) (a : ℕ) (why : Option Errno) (o : Outcome) : Type 0 where
+pub data Tried (t : State) (a : ℕ) (why : Option Errno) (o : Outcome) : Type 0 where
   is_refused : (error : Errno) → why ≡ Some error → o ≡ refused t error → Tried t a why o
-  can_open_no_more : o ≡ refused t TooMany → Tried t a why o
+  can_open_no_more : is_full t a ≡ true → o ≡ refused t TooMany → Tried t a why o
   opens_it : (x : ℕ) (what : Object) → why ≡ refuse_if (not (is_directory (Some what))) (Some NotDir) None
       → o ≡ record { answer = Opened (length t.handles) x (kind_of what); after = with_handle t a x } → Tried t a why o
 
 module _ (t : State) (a : ℕ) where
   tried_at : (x : ℕ) → is_some (object_at t.nodes x) ≡ true → (o : Outcome) → Opening t a x o → Tried t a (fault_by t.nodes true (Some x)) o
-  tried_at x there o (too_many full e) = can_open_no_more e
+  tried_at x there o (too_many full e) = can_open_no_more full e
   tried_at x there o (no_object none e) = absurd (false≢true (sym (ap is_some none) ∙ there))
   tried_at x there o (is_opened what is e) =
       opens_it x what (ap (λ ob. refuse_if (not (is_directory ob)) (Some NotDir) None) is) e
@@ -74,19 +74,19 @@ module _ (t : State) (a : ℕ) where
   through o otherwise = with_some o (refused t BadHandle) otherwise
 
   -- Open of an entry
-  entry_tried : IsState t → (h d : ℕ) (n : List ℕ) → held t a h ≡ Some d → Tried t a (no_directory t.nodes d n) (outcome t a (Open h n))
+  pub entry_tried : IsState t → (h d : ℕ) (n : List ℕ) → held t a h ≡ Some d → Tried t a (no_directory t.nodes d n) (outcome t a (Open h n))
   entry_tried tree h d n e =
       subst (Tried t a (no_directory t.nodes d n)) (sym (ap (λ o. through o (λ x. tried_by t a (is_dir t.nodes x) (child t.nodes x n))) e))
       (tried (is_dir t.nodes d) (child t.nodes d n) (λ x is. (lookups_lead_to_nodes t tree).1 d n x is))
 
-  rename_is : (h k d f : ℕ) (n m : List ℕ) (mode : Mode) → held t a h ≡ Some d → held t a k ≡ Some f
+  pub rename_is : (h k d f : ℕ) (n m : List ℕ) (mode : Mode) → held t a h ≡ Some d → held t a k ≡ Some f
       → outcome t a (Rename h n k m mode) ≡ made t (renames t.nodes d n f m mode)
   rename_is h k d f n m mode e g =
       ap (λ o. through o (λ x. through (held t a k) (λ y. made t (renames t.nodes x n y m mode)))) e
       ∙ ap (λ o. through o (λ y. made t (renames t.nodes d n y m mode))) g
 
   -- an open handle isn't one that is opened
-  other_handle : (h k x : ℕ) → held t a h ≡ Some x → held t a k ≡ None → h ≢ k
+  pub other_handle : (h k x : ℕ) → held t a h ≡ Some x → held t a k ≡ None → h ≢ k
   other_handle h k x is fresh e = none-some x (sym fresh ∙ ap (held t a) (sym e) ∙ is)
 
 -- ---- both directories are held
@@ -184,7 +184,7 @@ module _ (c : Caller) (ren : Renaming) (d f : ℕ) (reply : Reply) where
         subst (λ w. Onwards room line lines w o) (sym is)
         (subst (Onwards room line lines (Some error)) (sym e)
         (λ leads legal. inl (fails_alone c t holds.nodes (new ∷ old ∷ []) error lines reply leads)))
-    by_answer room line lines why o meets (can_open_no_more e) =
+    by_answer room line lines why o meets (can_open_no_more full e) =
         subst (Onwards room line lines why) (sym e)
         (λ leads legal. inr (runs_short c t holds.nodes (new ∷ old ∷ []) TooMany lines reply leads true (line ∷ lines)
         (inl (inl (meets (ap (λ (p : Outcome). p.answer) e)))) refl))

@@ -21,6 +21,7 @@ use Rattle.root_ops.specs.declared.aim.Wanted.{Wanted}
 use Rattle.root_ops.specs.declared.aim.Wanted.TheVariants as wants
 use Rattle.root_ops.specs.declared.below.Below.{Below}
 use Rattle.root_ops.specs.Meaning.{Caller, Whole, fails}
+use Rattle.root_ops.specs.Acts.{change_of}
 use Rattle.root_ops.specs.Meaning as meaning
 use Rattle.root_ops.specs.Order.{Reply, fault, gives, acting, more, ends, closes, gives_up, change_step, reply_to, LeadsTo}
 use Rattle.root_ops.specs.Quiet.{MetWant, MetBy, IsReply, IsDone, RanShort, ComesTo}
@@ -75,7 +76,7 @@ Acts t a wanted step end lines reply =
     ((error : Errno) × ((reply ≡ fault error) × (is_want error ≡ true) × (end.nodes ≡ t.nodes) × MetWant lines error))
     ⊎ ((reply ≡ reply_to wanted (outcome t a step).answer) × (end.nodes ≡ (outcome t a step).after.nodes))
 
-refused_reply : (wanted : Wanted) (error : Errno) → reply_to wanted (Refused error) ≡ fault error
+pub refused_reply : (wanted : Wanted) (error : Errno) → reply_to wanted (Refused error) ≡ fault error
 refused_reply wants.Done error = refl
 refused_reply wants.Text error = refl
 refused_reply wants.Any error = refl
@@ -105,14 +106,6 @@ module _ (below : Below) (a : ℕ) (wanted : Wanted) (step : StepOf ℕ) (hs : L
       inl (error, (rest.0 ∙ refused_reply wanted error, is_a_want error leads.0, rest.1, inl refl))
 
 -- ---- changes of entries
-
--- the change at nodes
-abbrev pub change_of : Change → List Inode → ℕ → List ℕ → Result (List Inode) Errno
-change_of MakeFile nodes d n = makes nodes d n object.File
-change_of MakeDir nodes d n = makes nodes d n object.Dir
-change_of (MakeLink text) nodes d n = makes_link nodes d n text
-change_of RemoveFile nodes d n = removes_file nodes d n
-change_of RemoveDir nodes d n = removes_dir nodes d n
 
 abbrev on_directory : State → (ℕ → Result (List Inode) Errno) → Option ℕ → Outcome
 on_directory t change o = with_some o (refused t BadHandle) (λ d. changes t (change d))

@@ -65,7 +65,9 @@ pub fn like_standings(standing: &Standing, other: &Standing) -> bool
 // Whether the replies of these objects, opened, are the same but for the handle's number: they don't tell the owner.
 #[tactic(auto, using(crate::proofs::Reversed::same_reversed))]
 fn like_opened(standing: &Standing, other: &Standing) -> bool
-    ensures { IsTrue result ↔ (reply_by (λ h. 0) (opened (standing_handle standing.now) (reverse standing.now.names)) ≡ reply_by (λ h. 0) (opened (standing_handle other.now) (reverse other.now.names))) }
+    ensures { IsTrue result
+        ↔ (reply_by (λ h. 0) (opened (standing_handle standing.now) (reverse standing.now.names))
+        ≡ reply_by (λ h. 0) (opened (standing_handle other.now) (reverse other.now.names))) }
 {
     standing.node() == other.node()
         && standing.kind() == other.kind()

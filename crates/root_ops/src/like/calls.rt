@@ -214,16 +214,16 @@ fn push_stage_handles(stage: &Stage, into: &mut Vec<HandleNo>) -> Result<(), NoM
 }
 
 impl Call {
-    /// Whether the other is the same call but for the numbers of handles: below a root of the same owner, with the same
-    /// restrictions, and with the same due.
+    /// Whether the other is the same call but for the numbers of handles: below a root of the same owner, with the
+    /// same restrictions, and with the same due.
     pub fn is_like(&self, other: &Call) -> bool
         ensures { IsTrue result ↔ (call_by (λ h. 0) self.now ≡ call_by (λ h. 0) other.now) }
     {
         like_belows(&self.below, &other.below) && like_stages(&self.stage, &other.stage)
     }
 
-    /// Appends its handles: the root's, those of the step that is due, and those that are held. NoMemory where their room
-    /// was refused.
+    /// Appends its handles: the root's, those of the step that is due, and those that are held. NoMemory where their
+    /// room was refused.
     pub fn push_handles(&self, into: &mut Vec<HandleNo>) -> Result<(), NoMemory>
         ensures { IfOk result (λ u. into.new.items ≡ into.old.items ++ call_handles self.now) }
     {

@@ -22,7 +22,8 @@ pub fn like_held(held: &Reached, other: &Reached) -> bool
 
 // Whether there is one in both or in neither.
 fn same_count(handle: Option<HandleNo>, other: Option<HandleNo>) -> bool
-    ensures { IsTrue result ↔ (numbers_by (λ h. 0) (option_to_list handle) ≡ numbers_by (λ h. 0) (option_to_list other)) }
+    ensures { IsTrue result
+        ↔ (numbers_by (λ h. 0) (option_to_list handle) ≡ numbers_by (λ h. 0) (option_to_list other)) }
 {
     handle.is_some() == other.is_some()
 }
@@ -93,7 +94,8 @@ impl State {
     fn is_like(&self, other: &State) -> bool
         requires pending { IsPending self.now.course.plan self.now.place self.now.pending }
         requires others { IsPending other.now.course.plan other.now.place other.now.pending }
-        ensures { IsTrue result ↔ LikeWalks (walking_of self.now.course.plan self.now.place self.now.pending) (walking_of other.now.course.plan other.now.place other.now.pending) }
+        ensures { IsTrue result ↔ LikeWalks (walking_of self.now.course.plan self.now.place self.now.pending)
+            (walking_of other.now.course.plan other.now.place other.now.pending) }
     {
         match (&self.pending, &other.pending) {
             (Pending::Opening, Pending::Opening) => self.goes_on_like(other),
@@ -121,7 +123,8 @@ impl State {
     // Whether what is held is the same, at the same names.
     #[tactic(auto, using(crate::proofs::LikeWalks::same_reversed))]
     fn stands_like(&self, other: &State) -> bool
-        ensures { IsTrue result ↔ LikePlaces self.now.course.plan self.now.place other.now.course.plan other.now.place }
+        ensures { IsTrue result ↔ LikePlaces self.now.course.plan self.now.place
+            other.now.course.plan other.now.place }
     {
         match (&self.place, &other.place) {
             (None, None) => true,
@@ -134,14 +137,18 @@ impl State {
 
     // Whether the same is to come from the same place.
     fn goes_on_like(&self, other: &State) -> bool
-        ensures { IsTrue result ↔ LikeOnward self.now.course.plan self.now.place other.now.course.plan other.now.place }
+        ensures { IsTrue result ↔ LikeOnward self.now.course.plan self.now.place
+            other.now.course.plan other.now.place }
     {
         self.stands_like(other) && self.course.plan.same_to_come(&other.course.plan)
     }
 
     // Whether the same link is read in the same place, and the same is to come after it.
     fn reads_like(&self, link: &Reached, other: &State, others_link: &Reached) -> bool
-        ensures { IsTrue result ↔ (LikePlaces self.now.course.plan self.now.place other.now.course.plan other.now.place × LikeHeld link.now others_link.now × SameToCome (stayed self.now.course.plan) (stayed other.now.course.plan)) }
+        ensures { IsTrue result
+            ↔ (LikePlaces self.now.course.plan self.now.place other.now.course.plan other.now.place
+            × LikeHeld link.now others_link.now
+            × SameToCome (stayed self.now.course.plan) (stayed other.now.course.plan)) }
     {
         self.stands_like(other)
             && like_held(link, others_link)
@@ -150,7 +157,9 @@ impl State {
 
     // Whether the same is held at the end, with the same parts left.
     fn ends_like(&self, other: &State) -> bool
-        ensures { IsTrue result ↔ (LikePlaces self.now.course.plan self.now.place other.now.course.plan other.now.place × SameOwn self.now.course.plan other.now.course.plan) }
+        ensures { IsTrue result
+            ↔ (LikePlaces self.now.course.plan self.now.place other.now.course.plan other.now.place
+            × SameOwn self.now.course.plan other.now.course.plan) }
     {
         self.stands_like(other) && self.course.plan.same_own(&other.course.plan)
     }
@@ -159,7 +168,8 @@ impl State {
     fn comes_like(&self, after: AfterClose, other: &State, others_after: AfterClose) -> bool
         requires after { IsAfter self.now.course.plan.names self.now.place after }
         requires others { IsAfter other.now.course.plan.names other.now.place others_after }
-        ensures { IsTrue result ↔ LikeAfters self.now.course.plan self.now.place after other.now.course.plan other.now.place others_after }
+        ensures { IsTrue result ↔ LikeAfters self.now.course.plan self.now.place after other.now.course.plan
+            other.now.place others_after }
     {
         match (after, others_after) {
             (AfterClose::Gives(error), AfterClose::Gives(e)) => error == e,
@@ -172,7 +182,8 @@ impl State {
     // Appends what is held. Where the walk fails, or the root is to be opened again, that is nothing.
     fn push_handles(&self, into: &mut Vec<HandleNo>) -> Result<(), NoMemory>
         requires { IsPending self.now.course.plan self.now.place self.now.pending }
-        ensures { IfOk result (λ u. into.new.items ≡ into.old.items ++ walking_handles (walking_of self.now.course.plan self.now.place self.now.pending)) }
+        ensures { IfOk result (λ u. into.new.items
+            ≡ into.old.items ++ walking_handles (walking_of self.now.course.plan self.now.place self.now.pending)) }
     {
         match &self.pending {
             Pending::Opening

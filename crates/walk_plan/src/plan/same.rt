@@ -110,10 +110,13 @@ fn follows_last(own: &[Part], goal: Goal) -> bool
     }
 }
 
-// Whether these own parts, the next one last, are the same, with a link at the very last one followed in both or in neither.
+// Whether these own parts, the next one last, are the same, with a link at the very last one followed in both or in
+// neither.
 #[tactic(auto, using(crate::proofs::SameLemmas::same_reversed))]
 fn same_rest(own: &[Part], goal: Goal, others: &[Part], other_goal: Goal) -> bool
-    ensures { IsTrue result ↔ ((reverse own.now ≡ reverse others.now) × (follows_last goal (reverse own.now) ≡ follows_last other_goal (reverse others.now))) }
+    ensures { IsTrue result
+        ↔ ((reverse own.now ≡ reverse others.now)
+        × (follows_last goal (reverse own.now) ≡ follows_last other_goal (reverse others.now))) }
 {
     same_parts(own, others) && follows_last(own, goal) == follows_last(others, other_goal)
 }

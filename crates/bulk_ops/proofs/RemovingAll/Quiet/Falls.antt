@@ -1,6 +1,6 @@
 -- What removals that are answered Done do to the nodes, and how many they are.
-use Rattle.std.specs.Prelude.{◌≡◌, ◌≢◌, ℕ, zero, suc, ◌+◌, ◌==◌, List, [], ◌∷◌, ◌++◌, Bool, true, false, not, cond, length, slice_get, Option, Some, None, Result, Ok, Err, refl}
-use Rattle.std.proofs.Common.{sym, ap, subst, ◌∙◌, arith, eq-eqb}
+use Rattle.std.specs.Prelude.{◌≡◌, ℕ, suc, ◌+◌, List, [], ◌∷◌, ◌++◌, true, not, cond, length, slice_get, Option, Some, None, Ok, Err, refl}
+use Rattle.std.proofs.Common.{ap, ◌∙◌, arith, eq-eqb}
 use Rattle.std.proofs.lemmas.Bool.{false≢true}
 use Rattle.path_text.specs.declared.errno.Errno.{Errno}
 use Rattle.path_text.specs.declared.errno.Errno.TheVariants.{NotFound, BadHandle, NotDir, IsDir, NotEmpty}
@@ -15,7 +15,7 @@ use Rattle.tree_model.specs.Entries.{refuse_if, with_some}
 use Rattle.step_resolver.specs.Order.{Line, answered, no_room, not_made, events_of}
 use Rattle.step_resolver.specs.WalkHistory.{own_events}
 use Rattle.bulk_ops.specs.RemoveAllTells.{removals, one_more_if, is_removal}
-use Rattle.bulk_ops.proofs.RemovingAll.StepAnswers.{without, FileCase, no_dir, no_entry, at_dir, gone, file_case, DirCase, not_in_dir, no_such_entry, at_no_dir, not_empty, dir_gone, dir_case}
+use Rattle.bulk_ops.proofs.RemovingAll.StepAnswers.{FileCase, no_dir, no_entry, at_dir, gone, file_case, DirCase, not_in_dir, no_such_entry, at_no_dir, not_empty, dir_gone, dir_case}
 use Rattle.bulk_ops.proofs.RemovingAll.Quiet.Gone.{one_more_add}
 
 -- ---- one removal

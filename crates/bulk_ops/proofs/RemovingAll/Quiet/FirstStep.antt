@@ -1,6 +1,6 @@
 -- The first step of clearing is refused ENOTDIR where the walk's object is no directory, and the call fails.
-use Rattle.std.specs.Prelude.{◌≡◌, ℕ, List, [], ◌∷◌, ◌++◌, Bool, true, false, not, Some, None, Ok, Err, refl}
-use Rattle.std.proofs.Common.{sym, ap, subst, ◌∙◌, inl, inr}
+use Rattle.std.specs.Prelude.{◌≡◌, ℕ, List, [], ◌∷◌, ◌++◌, true, false, not, Some, None, Ok, Err}
+use Rattle.std.proofs.Common.{ap, subst, ◌∙◌, inl, inr}
 use Rattle.path_text.specs.declared.errno.Errno.{Errno}
 use Rattle.path_text.specs.declared.errno.Errno.TheVariants.{NotFound, BadHandle, NoMemory, BookFull, NotDir, IsDir}
 use Rattle.tree_model.specs.declared.answer.Answer.{Answer}
@@ -14,8 +14,7 @@ use Rattle.tree_model.specs.Entries.{refuse_if, with_some}
 use Rattle.tree_model.specs.History.{IsLegal}
 use Rattle.step_resolver.specs.Order.{Way, Line, answered, no_room, not_made, IsWant, events_of}
 use Rattle.step_resolver.specs.Order as walk
-use Rattle.bulk_ops.specs.declared.remove_all.clearing.TheConstants.{CLEARING_STEPS_MAX}
-use Rattle.bulk_ops.specs.RemoveAllOrder.{Level, removes_file, fails, Removing, closing, clearing, Turn, more, removed, failed, walked, take, is_due, file_removed, LeadsTo}
+use Rattle.bulk_ops.specs.RemoveAllOrder.{Level, removes_file, fails, closing, clearing, Turn, more, removed, failed, walked, file_removed, LeadsTo}
 
 -- after the walk's lines the others lead on from what it found
 pub after_walk : (way : Way) (target : List ℕ) (lines rest : List Line) (first turn : walk.Turn) (end : Turn) → walk.LeadsTo way first lines turn

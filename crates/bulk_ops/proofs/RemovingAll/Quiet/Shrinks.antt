@@ -4,17 +4,15 @@ use Rattle.std.specs.Prelude.{◌≡◌, ◌≢◌, ℕ, zero, suc, ◌≤◌, �
 use Rattle.std.proofs.Common.{sym, ap, subst, ◌∙◌, inl, inr, arith, not-suc-le-zero, eq-eqb, eqb-true}
 use Rattle.std.proofs.lemmas.Bool.{false≢true, eqb-false}
 use Rattle.std.proofs.lemmas.Option.{none-some, same_Some}
-use Rattle.tree_model.specs.declared.answer.Answer.TheVariants.{Done}
 use Rattle.tree_model.specs.declared.answer.Event.{Event}
 use Rattle.tree_model.specs.declared.inode.Inode.{Inode}
-use Rattle.tree_model.specs.declared.inode.Object.{Object}
 use Rattle.tree_model.specs.declared.inode.Place.{Place}
-use Rattle.tree_model.specs.State.{State, TOP, object_at, place_at, put_at, child, Stands, is_within, names_below}
+use Rattle.tree_model.specs.State.{TOP, object_at, place_at, put_at, child, Stands, is_within, names_below}
 use Rattle.tree_model.specs.Steps.{outcome}
 use Rattle.tree_model.specs.Trees.{IsTree, IsState, Rooted, top, below}
-use Rattle.tree_model.specs.History.{IsLegal, after_event}
+use Rattle.tree_model.specs.History.{IsLegal}
 use Rattle.tree_model.proofs.Places.{place_at-within, length-put_at, object_at-put_at, place_at-put_at, place_at-put_other}
-use Rattle.tree_model.proofs.Children.{entry, place_at-child, place_at-no_child, child-entry}
+use Rattle.tree_model.proofs.Children.{entry, place_at-child, place_at-no_child}
 use Rattle.tree_model.proofs.Standing.{Under, Under-itself, Under-child, not_under, Stands-names_below}
 use Rattle.tree_model.proofs.Hanging.{stood, Rooted-parent}
 use Rattle.tree_model.proofs.Changed.{not_top}
@@ -24,7 +22,7 @@ use Rattle.step_resolver.specs.FootprintLaws.{IsQuiet}
 use Rattle.step_resolver.specs.WalkHistory.{WalkInHistory, begin_of, state_at, timeline}
 use Rattle.step_resolver.proofs.Ends.EntriesLeftAlone.{next_moment, past_the_end}
 use Rattle.bulk_ops.specs.RemoveAllTells.{Down, here, under, outermost, is_removal, one_more_if, TakesAway, LeavesEntries, OnlyTakesAway, IsLastOnTarget}
-use Rattle.bulk_ops.specs.RemoveAllQuiet.{is_at_or_below, without_from, cleared}
+use Rattle.bulk_ops.specs.RemoveAllQuiet.{is_at_or_below, cleared}
 use Rattle.bulk_ops.proofs.RemovingAll.Quiet.Gone.{same_node, same_nodes, length-without, object_at-without, place_at-without, placed, placed-put_none}
 use Rattle.bulk_ops.proofs.RemovingAll.Quiet.Falls.{Takes, removal_takes}
 

@@ -1,18 +1,17 @@
 -- The end of a call while no other actor takes a step, from what the end tells of every history.
-use Rattle.std.specs.Prelude.{◌≡◌, ◌≢◌, ◌⊎◌, ℕ, zero, suc, ◌+◌, ◌≤◌, List, [], ◌∷◌, ◌++◌, Bool, true, false, length, slice_get, Option, Some, None, refl}
+use Rattle.std.specs.Prelude.{◌≡◌, ◌≢◌, ◌⊎◌, ℕ, zero, suc, ◌+◌, List, [], ◌∷◌, ◌++◌, Bool, true, false, length, slice_get, Some, refl}
 use Rattle.std.proofs.Common.{sym, ap, subst, ◌∙◌, inl, inr, arith}
 use Rattle.std.proofs.lemmas.Bool.{false≢true}
 use Rattle.std.proofs.lemmas.Option.{none-some, slice_get_within}
 use Rattle.path_text.specs.declared.errno.Errno.{Errno}
 use Rattle.path_text.specs.declared.errno.Errno.TheVariants.{NotFound, BadHandle, Raced, NoMemory, Busy, Exists, CrossRoot, NotDir, IsDir, Invalid, TooMany, BookFull, TooLong, NotEmpty, Loop}
 use Rattle.tree_model.specs.declared.answer.Event.{Event}
-use Rattle.tree_model.specs.declared.inode.Inode.{Inode}
-use Rattle.tree_model.specs.State.{State, place_at, object_at, child, is_dir, is_directory}
-use Rattle.tree_model.specs.Trees.{IsTree, IsState}
+use Rattle.tree_model.specs.State.{place_at, object_at, child, is_dir, is_directory}
+use Rattle.tree_model.specs.Trees.{IsState}
 use Rattle.tree_model.specs.Steps.{held}
 use Rattle.tree_model.specs.History.{IsLegal, after_events}
 use Rattle.tree_model.proofs.Children.{entry}
-use Rattle.tree_model.proofs.HistoryLaws.{IsLegal-append, IsLegal-front, IsLegal-back, after_events-append, histories_keep_trees, trees_begin_and_end}
+use Rattle.tree_model.proofs.HistoryLaws.{IsLegal-back, after_events-append, histories_keep_trees, trees_begin_and_end}
 use Rattle.step_resolver.specs.Asked.{is_deepest}
 use Rattle.step_resolver.specs.Meaning.{Meant, object, fails}
 use Rattle.step_resolver.specs.Order.{Handle, Line, events_of}
@@ -20,12 +19,12 @@ use Rattle.step_resolver.specs.Order as walk
 use Rattle.step_resolver.specs.Footprint.{IsMeant, is_want}
 use Rattle.step_resolver.specs.FootprintLaws.{IsQuiet}
 use Rattle.step_resolver.specs.FootprintLaws as quiet_walk
-use Rattle.step_resolver.specs.WalkHistory.{WalkInHistory, IsWalkInHistory, begin_of, end_of, state_at, timeline, own_events}
+use Rattle.step_resolver.specs.WalkHistory.{WalkInHistory, IsWalkInHistory, begin_of, end_of, state_at, timeline}
 use Rattle.step_resolver.proofs.Ends.EveryWalk.{walks_tell}
 use Rattle.step_resolver.proofs.Ends.WalksMean.{quiet_walks_mean}
 use Rattle.bulk_ops.specs.RemoveAllOrder.{Turn, more, removed, failed, walked, begins, LeadsTo}
-use Rattle.bulk_ops.specs.RemoveAllTells.{removals, OnlyTakesAway, IsLastOnTarget, TellsFault, first_part, second_part, Parts, clears, TellsRemoved, TellsGivenUp, TellsWalkFailed, Tells}
-use Rattle.bulk_ops.specs.RemoveAllQuiet.{is_at_or_below, how_many_from, cleared, cleared_rows, directory_means, IsFoundAt, QuietRemoved, MeansFailure, MeansNoDirectory, QuietFailed, is_short, IsQuietEnd, QuietRemoveAll}
+use Rattle.bulk_ops.specs.RemoveAllTells.{removals, OnlyTakesAway, IsLastOnTarget, TellsFault, first_part, Parts, clears, TellsGivenUp, TellsWalkFailed, Tells}
+use Rattle.bulk_ops.specs.RemoveAllQuiet.{is_at_or_below, cleared, cleared_rows, directory_means, IsFoundAt, QuietRemoved, MeansFailure, QuietFailed, is_short, IsQuietEnd, QuietRemoveAll}
 use Rattle.bulk_ops.proofs.RemovingAll.EachEnd.{every_call_tells}
 use Rattle.bulk_ops.proofs.RemovingAll.Parts.{events_of-append, walk_removes_none}
 use Rattle.bulk_ops.proofs.RemovingAll.Quiet.Gone.{placed, placed-without}

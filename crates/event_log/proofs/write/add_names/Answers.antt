@@ -1,14 +1,27 @@
-use Rattle.std.proofs.Common.{◌≡◌, ◌∷◌, [], ◌++◌, length}
-use Rattle.event_log.proofs.Growth.{begins_then}
-use Rattle.event_log.proofs.Pieces.{name_written}
+use Rattle.std.proofs.Common.{◌≡◌, ◌∷◌, [], ◌++◌, length, arith}
+use Rattle.event_log.proofs.Pieces.{name_written, piece_len}
 use Rattle.event_log.proofs.write.add_names.Goals as goal
+
+pub push_reserved-requires : goal.push_reserved-requires
+push_reserved-requires c =
+    omega (arith, c.loop-at.invariant.room, piece_len c.args.names.now c.loop-at.at c.get-name.result.now c.get-name.ensures.same)
+
+pub add-requires : goal.add-requires
+add-requires c =
+    omega (arith, c.loop-at.invariant.room, c.push_reserved.ensures.len, c.push_reserved.ensures.capacity, piece_len c.args.names.now c.loop-at.at c.get-name.result.now c.get-name.ensures.same)
 
 pub loop-at-preserved : goal.loop-at-preserved
 loop-at-preserved c =
-    let sized : c.push.new.self.items ≡ c.loop-at.bytes.items ++ length c.get-name.result.now ∷ [] = c.in_ok-push.ensures.items in
-    let after : c.extend_from_slice.new.self.items ≡ c.push.new.self.items ++ c.get-name.result.now = c.in_ok-extend_from_slice.ensures.items in
     record {
-      whole = name_written c.args.names.now c.loop-at.at c.get-name.result.now c.args.bytes.now.items c.loop-at.bytes.items c.push.new.self.items c.extend_from_slice.new.self.items
-          c.get-name.ensures.same sized after c.loop-at.invariant.whole;
-      begins = begins_then c.args.bytes.now.items c.loop-at.bytes.items c.push.new.self.items c.extend_from_slice.new.self.items _ _ c.loop-at.invariant.begins sized after;
+      whole = name_written c.args.names.now c.loop-at.at c.get-name.result.now c.args.bytes.now.items c.loop-at.bytes.items c.push_reserved.new.self.items c.add.new.bytes.items
+          c.get-name.ensures.same c.push_reserved.ensures.items c.add.ensures.items c.loop-at.invariant.whole;
+      room = omega (
+        arith,
+        c.loop-at.invariant.room,
+        c.push_reserved.ensures.len,
+        c.push_reserved.ensures.capacity,
+        c.add.ensures.len,
+        c.add.ensures.room,
+        piece_len c.args.names.now c.loop-at.at c.get-name.result.now c.get-name.ensures.same,
+      );
     }

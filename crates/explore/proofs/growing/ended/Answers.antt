@@ -8,7 +8,7 @@ use Rattle.explore.proofs.growing.ended.Goals as goal
 
 pub returns-clause-sure : goal.returns-clause-sure
 returns-clause-sure g c =
-    let live : LiveView = record { world = c.live.inside.seen; marks = c.live.inside.marks; turns = c.live.inside.turns.items } in
+    let live : LiveView = record { told = c.live.inside.tally.told; world = c.live.inside.seen; marks = c.live.inside.marks; turns = c.live.inside.turns.items } in
     let ran : RunsTo live.world [] (g.T.Tree.state c.in_ok-report.report.tree) c.in_ok-report.report.events.events c.in_ok-report.report.replies.items c.in_ok-report.report.kept.items =
     subst (λ (v : WorldView). RunsTo v [] (g.T.Tree.state c.in_ok-report.report.tree) c.in_ok-report.report.events.events c.in_ok-report.report.replies.items c.in_ok-report.report.kept.items)
     c.into_world.ensures c.in_ok-report.ensures.ran in
@@ -18,7 +18,7 @@ returns-clause-sure g c =
 
 pub returns-clause-report : goal.returns-clause-report
 returns-clause-report g c =
-    let live : LiveView = record { world = c.live.inside.seen; marks = c.live.inside.marks; turns = c.live.inside.turns.items } in
+    let live : LiveView = record { told = c.live.inside.tally.told; world = c.live.inside.seen; marks = c.live.inside.marks; turns = c.live.inside.turns.items } in
     let ran : RunsTo live.world [] (g.T.Tree.state c.in_ok-report.report.tree) c.in_ok-report.report.events.events c.in_ok-report.report.replies.items c.in_ok-report.report.kept.items =
     subst (λ (v : WorldView). RunsTo v [] (g.T.Tree.state c.in_ok-report.report.tree) c.in_ok-report.report.events.events c.in_ok-report.report.replies.items c.in_ok-report.report.kept.items)
     c.into_world.ensures c.in_ok-report.ensures.ran in
@@ -38,7 +38,7 @@ returns-clause-report g c =
 
 pub returns-clause-actors : goal.returns-clause-actors
 returns-clause-actors g c =
-    let live : LiveView = record { world = c.live.inside.seen; marks = c.live.inside.marks; turns = c.live.inside.turns.items } in
+    let live : LiveView = record { told = c.live.inside.tally.told; world = c.live.inside.seen; marks = c.live.inside.marks; turns = c.live.inside.turns.items } in
     let ran : RunsTo live.world [] (g.T.Tree.state c.in_ok-report.report.tree) c.in_ok-report.report.events.events c.in_ok-report.report.replies.items c.in_ok-report.report.kept.items =
     subst (λ (v : WorldView). RunsTo v [] (g.T.Tree.state c.in_ok-report.report.tree) c.in_ok-report.report.events.events c.in_ok-report.report.replies.items c.in_ok-report.report.kept.items)
     c.into_world.ensures c.in_ok-report.ensures.ran in

@@ -14,4 +14,5 @@ loop-actor-preserved g c =
       within = turn_within q r i c.loop-actor.actor-index c.in_ok-take_turn.ensures.turned c.loop-actor.invariant.within;
       actors = turn_actors q r i c.in_ok-take_turn.ensures.turned ∙ c.loop-actor.invariant.actors;
       tally = c.in_ok-take_turn.ensures.tally;
+      told = c.take_turn.ensures.told ∙ c.loop-actor.invariant.told;
     }

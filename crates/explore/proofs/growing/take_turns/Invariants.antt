@@ -9,4 +9,5 @@ invariant-loop-actor g l = record {
   within : AreWithin l.marks l.actor-index;
   actors : length l.world.seats ≡ length l.fn.world.seats;
   tally : IsTally l.world l.tally;
+  told : l.tally.told ≡ l.fn.tally.told;
 }

@@ -18,12 +18,12 @@ spots_of-requires-clause-on g c =
     let tops : AreTops c.all_ended-ended.new.classes.items c.args.layer.worlds c.in-Ok.tops.items =
     subst (λ (l : LayerView). AreTops c.all_ended-ended.new.classes.items l.worlds c.in-Ok.tops.items) c.layer.view_is c.in-Ok.ensures.tops in
     λ s stand there. subst (λ (ts : List (Option ℕ)). stand.world < length ts) (sym c.as_slice-2.ensures.value)
-    (tops_cover (g.B.Beginnings.opening c.args.beginnings.now) c.args.limits.cuts c.args.layer c.in_ok-ways.next (length c.args.graph.now) c.requires.on
+    (tops_cover (g.B.Beginnings.opening c.args.beginnings.now) c.args.limits.scope c.args.layer c.in_ok-ways.next (length c.args.graph.now) c.requires.on
     c.all_ended-ended.new.classes.items c.in-Ok.tops.items tops s stand (ap (λ (xs : List Stand). slice_get xs s) (sym stands) ∙ there))
 
 pub spots_of-requires-clause-apart : goal.spots_of-requires-clause-apart
 spots_of-requires-clause-apart g c =
-    ways_apart (g.B.Beginnings.opening c.args.beginnings.now) c.args.limits.cuts c.args.layer c.in_ok-ways.next (length c.args.graph.now) c.requires.on
+    ways_apart (g.B.Beginnings.opening c.args.beginnings.now) c.args.limits.scope c.args.layer c.in_ok-ways.next (length c.args.graph.now) c.requires.on
     c.in_ok-ways.ways.items c.in_ok-ways.ensures.ways
 
 pub returns-clause-passed : goal.returns-clause-passed
@@ -39,7 +39,7 @@ returns-clause-passed g c =
           joined = c.in_ok-ways.ensures.joined;
           on = c.in_ok-ways.ensures.on (length c.args.graph.now) c.requires.on;
           sure = subst (λ (l : LayerView). AreLed w l.worlds → AreSure w l.worlds) c.layer.view_is (c.in-Ok.ensures.sure w) c.requires.led;
-          spots = spots_are w c.args.limits.cuts c.args.layer c.in_ok-ways.next (length c.args.graph.now) c.requires.on
+          spots = spots_are w c.args.limits.scope c.args.layer c.in_ok-ways.next (length c.args.graph.now) c.requires.on
               c.all_ended-ended.new.classes.items c.in_ok-ways.ways.items c.in-Ok.tops.items c.in-Ok-spots_of.spots.items c.in_ok-ways.ensures.ways tops
               (c.in-Ok-spots_of.ensures.many ∙ ap length stands)
               (λ s stand ways top there on is. c.in-Ok-spots_of.ensures.each s stand ways top (ap (λ (xs : List Stand). slice_get xs s) stands ∙ there) on

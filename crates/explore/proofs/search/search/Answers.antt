@@ -15,10 +15,10 @@ layers-init g c =
     let w : WorldView = g.B.Beginnings.opening c.args.beginnings.now in
     let none : length c.args.graph.now ≡ 0 = ap length c.requires.graph in record {
       searched =
-          subst (λ (graph : List (Vec Spot)). HasSearched w c.args.limits.cuts c.in_ok-layer.layer graph c.args.classes.now.items) (sym c.requires.graph)
-          (subst (λ (classes : List ClassView). HasSearched w c.args.limits.cuts c.in_ok-layer.layer [] classes) (sym c.requires.classes)
-          (begun w c.args.limits.cuts c.in_ok-layer.layer c.in_ok-layer.ensures.first c.in_ok-layer.ensures.on));
-      led = first_led w c.args.limits.cuts c.in_ok-layer.layer c.in_ok-layer.ensures.first c.in_ok-layer.ensures.on;
+          subst (λ (graph : List (Vec Spot)). HasSearched w c.args.limits.scope c.in_ok-layer.layer graph c.args.classes.now.items) (sym c.requires.graph)
+          (subst (λ (classes : List ClassView). HasSearched w c.args.limits.scope c.in_ok-layer.layer [] classes) (sym c.requires.classes)
+          (begun w c.args.limits.scope c.in_ok-layer.layer c.in_ok-layer.ensures.first c.in_ok-layer.ensures.on));
+      led = first_led w c.args.limits.scope c.in_ok-layer.layer c.in_ok-layer.ensures.first c.in_ok-layer.ensures.on;
       actors = c.in_ok-layer.ensures.actors;
       depth = omega (arith, none);
       states = c.in_ok-layer.ensures.states;
@@ -26,7 +26,7 @@ layers-init g c =
 
 pub pass-requires-clause-on : goal.pass-requires-clause-on
 pass-requires-clause-on g c =
-    last_on (g.B.Beginnings.opening c.args.beginnings.now) c.args.limits.cuts c.layers.layer c.layers.graph c.layers.classes.items c.layers.invariant.searched
+    last_on (g.B.Beginnings.opening c.args.beginnings.now) c.args.limits.scope c.layers.layer c.layers.graph c.layers.classes.items c.layers.invariant.searched
 
 pub layers-preserved : goal.layers-preserved
 layers-preserved g c =
@@ -35,10 +35,10 @@ layers-preserved g c =
     let long : length c.pass.new.graph ≡ suc (length c.layers.graph) = ap length passed.1.0 ∙ length_push c.layers.graph passed.0 in
     let room = c.in_ok-next.ensures.room in record {
       searched =
-          subst (λ (graph : List (Vec Spot)). HasSearched w c.args.limits.cuts c.in_ok-next.next graph c.pass.new.classes.items) (sym passed.1.0)
-          (passes w c.args.limits.cuts c.layers.layer c.in_ok-next.next c.layers.graph passed.0 c.layers.classes.items c.pass.new.classes.items
+          subst (λ (graph : List (Vec Spot)). HasSearched w c.args.limits.scope c.in_ok-next.next graph c.pass.new.classes.items) (sym passed.1.0)
+          (passes w c.args.limits.scope c.layers.layer c.in_ok-next.next c.layers.graph passed.0 c.layers.classes.items c.pass.new.classes.items
           c.layers.invariant.searched passed.1.1);
-      led = born_led w c.args.limits.cuts c.layers.layer c.in_ok-next.next passed.1.1.joined;
+      led = born_led w c.args.limits.scope c.layers.layer c.in_ok-next.next passed.1.1.joined;
       actors = c.layers.invariant.actors;
       depth = omega (arith, long, c.if-depth-limits.true, c.depth.ensures);
       states = omega (arith, room, c.layers.invariant.states);
@@ -50,7 +50,7 @@ returns-then-not-over-clause-err g c =
     c.layer.inside.stands.ok.0 ∙ ap (λ (l : LayerView). length l.stands) c.layer.view_is in
     let some : (vec_len c.layer.inside.stands == 0) ≡ false = sym c.is_empty-over.ensures ∙ c.if-not-over.true in
     let none : (vec_len c.layer.inside.stands ≡ 0) → ⊥ = eqb-false (vec_len c.layer.inside.stands) 0 some in
-    left_long (g.B.Beginnings.opening c.args.beginnings.now) c.args.limits.cuts c.layers.layer c.layers.graph c.layers.classes.items c.layers.invariant.searched
+    left_long (g.B.Beginnings.opening c.args.beginnings.now) c.args.limits.scope c.layers.layer c.layers.graph c.layers.classes.items c.layers.invariant.searched
     c.args.limits.turns
     (elim c.layers-test.branch [
       | then-layers-test+else-depth-limits w ↦ omega (arith, w.depth.ensures, w.if-depth-limits.false)

@@ -5,7 +5,7 @@ use Rattle.explore.proofs.search.search.Given as goal
 
 abbrev pub invariant-layers : goal.invariant-layers
 invariant-layers g l = record {
-  searched : HasSearched (g.B.Beginnings.opening l.beginnings) l.limits.cuts l.layer l.graph l.classes.items;
+  searched : HasSearched (g.B.Beginnings.opening l.beginnings) l.limits.scope l.layer l.graph l.classes.items;
   led : AreLed (g.B.Beginnings.opening l.beginnings) l.layer.worlds;
   actors : length (g.B.Beginnings.opening l.beginnings).seats ≤ ACTORS_MAX;
   depth : length l.graph ≤ l.limits.turns + 1;

@@ -7,15 +7,16 @@ use Rattle.explore.proofs.search.told_class.Goals as goal
 
 pub returns : goal.returns
 returns g c = record {
-  told = λ most asks.
+  told = λ asks.
+      let scope = c.args.scope in
       let w : WorldView = g.B.Beginnings.opening c.args.beginnings.now in
       let turns : c.in-Ok.live.turns ≡ c.in-Some.least.turns =
       c.in-Ok.ensures.turns
       ∙ (c.in_ok-extend_from_slice.ensures.items
       ∙ (ap (λ (xs : List ℕ). xs ++ c.as_slice.result.now) c.new-turns.ensures.items
       ∙ (c.as_slice.ensures.value ∙ ap (λ (r : Rank). r.turns) c.least.view_is))) in
-      let asked : IsAsked w most c.in-Ok.live.turns =
-      subst (λ (is : List ℕ). IsAsked w most is) (sym turns) (asks c.in-Some.least c.in-Some.is) in
-      let told = asked_ends w most c.in-Ok.live c.in_ok-ending.ending (c.in_ok-ending.ensures.sure w c.in-Ok.ensures.led) asked c.in_ok-ending.ensures.report in
+      let asked : IsAsked w scope c.in-Ok.live.turns =
+      subst (λ (is : List ℕ). IsAsked w scope is) (sym turns) (asks c.in-Some.least c.in-Some.is) in
+      let told = asked_ends w scope c.in-Ok.live c.in_ok-ending.ending c.in-Ok.ensures.told (c.in_ok-ending.ensures.sure w c.in-Ok.ensures.led) asked c.in_ok-ending.ensures.report in
       record { ending = told.0; least = c.in-Some.least; counted = c.in-Some.is; turns = told.1 ∙ turns; lists = refl };
 }

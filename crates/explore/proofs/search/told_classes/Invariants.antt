@@ -5,5 +5,5 @@ use Rattle.explore.proofs.search.told_classes.Given as goal
 abbrev pub invariant-loop-count : goal.invariant-loop-count
 invariant-loop-count g l = record {
   many : length l.classes.items ≡ l.count-index;
-  told : (most : Option ℕ) → AskIn (g.B.Beginnings.opening l.beginnings) most l.counts → AreToldIn (g.B.Beginnings.opening l.beginnings) most l.counts l.classes.items;
+  told : AskIn (g.B.Beginnings.opening l.beginnings) l.scope l.counts → AreToldIn (g.B.Beginnings.opening l.beginnings) l.scope l.counts l.classes.items;
 }

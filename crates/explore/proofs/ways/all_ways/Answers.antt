@@ -10,25 +10,25 @@ use Rattle.explore.proofs.ways.all_ways.Goals as goal
 
 pub ways_from-requires-clause-ways : goal.ways_from-requires-clause-ways
 ways_from-requires-clause-ways g c =
-    subst (λ (xs : List (Vec Way)). AreFirstWays (g.B.Beginnings.opening c.args.beginnings.now) c.args.limits.cuts c.args.layer.now c.loop-at.next xs)
+    subst (λ (xs : List (Vec Way)). AreFirstWays (g.B.Beginnings.opening c.args.beginnings.now) c.args.limits.scope c.args.layer.now c.loop-at.next xs)
     (sym c.as_slice.ensures.value) c.loop-at.invariant.ways
 
 pub loop-at-preserved : goal.loop-at-preserved
 loop-at-preserved g c =
     let w : WorldView = g.B.Beginnings.opening c.args.beginnings.now in
-    let most = c.args.limits.cuts in
+    let scope = c.args.limits.scope in
     let layer : LayerView = c.args.layer.now in
     let next : LayerView = c.ways_from.new.next in
     let all : List (Vec Way) = c.loop-at.all.items in
     let ways : Vec Way = c.in_ok-ways.ways in
     let pushed : c.push.new.self.items ≡ all ++ ways ∷ [] = c.in-Ok.ensures.items in
-    let own : AreWaysAt w most layer next (length all) ways.items =
-    subst (λ (xs : List (Vec Way)). AreWaysAt w most layer next (length xs) ways.items) c.as_slice.ensures.value c.in_ok-ways.ensures.ways in
+    let own : AreWaysAt w scope layer next (length all) ways.items =
+    subst (λ (xs : List (Vec Way)). AreWaysAt w scope layer next (length xs) ways.items) c.as_slice.ensures.value c.in_ok-ways.ensures.ways in
     let longer : length (all ++ ways ∷ []) ≡ length all + 1 = length-append all (ways ∷ []) in
     record {
       many = ap length pushed ∙ (longer ∙ ap (λ (n : ℕ). n + 1) c.loop-at.invariant.many);
-      ways = subst (λ (xs : List (Vec Way)). AreFirstWays w most layer next xs) (sym pushed)
-          (first_more w most layer next all ways (first_on w most layer c.loop-at.next next c.in_ok-ways.ensures.grows all c.loop-at.invariant.ways) own);
+      ways = subst (λ (xs : List (Vec Way)). AreFirstWays w scope layer next xs) (sym pushed)
+          (first_more w scope layer next all ways (first_on w scope layer c.loop-at.next next c.in_ok-ways.ensures.grows all c.loop-at.invariant.ways) own);
       next = c.in_ok-ways.ensures.next;
       room = omega (arith, c.if-states-room.false);
     }

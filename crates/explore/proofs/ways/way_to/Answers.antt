@@ -12,7 +12,7 @@ returns-clause-way g c =
     let world : c.world.result.now ≡ c.args.live.now.world =
     join c.world.result.now c.live.inside.seen c.args.live.now.world c.world.ensures (ap (λ (live : LiveView). live.world) c.live.view_is) in
     let seats : c.world.result.now.seats ≡ c.args.live.now.world.seats = ap_at (λ (w : WorldView). w.seats) c.world.result.now c.args.live.now.world world in
-    way_is c.args.most c.args.stand.now c.args.live.now c.args.actor c.args.world c.stand_at.new.stands.items c.in_ok-to.to
+    way_is c.args.scope c.args.stand.now c.args.live.now c.args.actor c.args.world c.stand_at.new.stands.items c.in_ok-to.to
     (record { world = c.args.world; turns = c.push.new.self; marks = c.marks_after-marks.result })
     (record {
       on = refl;

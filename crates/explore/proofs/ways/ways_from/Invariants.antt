@@ -14,6 +14,6 @@ invariant-loop-at g l = record {
   long : length l.stand.turns.items + 1 < 2 ^ 40;
   within : AreWithin l.stand.marks (2 ^ 40);
   grows : Grows l.fn.next l.next;
-  next : IsNext (g.B.Beginnings.opening l.beginnings) l.most l.layer l.next;
-  ways : AreWaysBelow (g.B.Beginnings.opening l.beginnings) l.most l.layer l.next l.stand l.live l.at l.ways.items;
+  next : IsNext (g.B.Beginnings.opening l.beginnings) l.scope l.layer l.next;
+  ways : AreWaysBelow (g.B.Beginnings.opening l.beginnings) l.scope l.layer l.next l.stand l.live l.at l.ways.items;
 }

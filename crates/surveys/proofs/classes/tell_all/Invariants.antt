@@ -4,4 +4,4 @@ use Rattle.surveys.proofs.classes.tell_all.Given as goal
 
 -- it is told of those so far
 abbrev pub invariant-loop-class : goal.invariant-loop-class
-invariant-loop-class g l = AreTold l.named l.fn.outside l.opening l.fn.actors (take l.class-index l.classes) l.all.items
+invariant-loop-class g l = AreTold l.named l.opening l.fn.actors (take l.class-index l.classes) l.all.items

@@ -32,7 +32,7 @@ returns-clause-counted g c =
     let nodes : c.nodes.result.now ≡ c.args.self.now.nodes = c.nodes.ensures ∙ ap (λ (t : TallyView). t.nodes) c.self.view_is in
     let roots : c.deref.result.now ≡ c.args.self.now.roots = c.deref.ensures.value ∙ ap (λ (t : TallyView). t.roots) c.self.view_is in
     let counts : c.self.inside.counts.items ≡ c.args.self.now.counts = ap (λ (t : TallyView). t.counts) c.self.view_is in
-    count_change h.0 c.args.world.now.book h.1.0 c.args.self.now _ c.args.at event c.in_ok-after.after c.leaves_root-outside.result h.1.1.0 h.1.1.1 there
+    count_change h.0 c.args.world.now.book h.1.0 c.args.self.now _ c.args.at event c.in_ok-after.after c.leaves_root-outside.result c.requires.told h.1.1.0 h.1.1.1 there
     (sym c.is_change.ensures ∙ c.if-not-is_change.false)
     (c.in_ok-after.ensures ∙ (c.tree.ensures ∙ ap tree_now c.book-2.ensures))
     (c.leaves_root-outside.ensures

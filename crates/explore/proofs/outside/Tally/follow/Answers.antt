@@ -1,4 +1,4 @@
-use Rattle.std.proofs.Common.{◌≡◌, ◌∙◌, ap, sym, arith}
+use Rattle.std.proofs.Common.{◌≡◌, ◌∙◌, ap, sym, refl, arith}
 use Rattle.std.specs.Prelude.{length}
 use Rattle.race_core.specs.Book.{BookedHistory}
 use Rattle.explore.proofs.Counting.{follow_same, follow_one, follow_tally}
@@ -9,7 +9,10 @@ returns-then-len-events g c =
     let h = c.requires in
     let long : c.len.result ≡ length c.args.world.now.book.events =
     c.len.ensures ∙ (ap length c.events.ensures.events ∙ ap (λ (b : BookedHistory). length b.events) c.book.ensures) in
-    follow_same h.0 c.args.world.now h.1.1.0 h.1.1.1.0 c.args.self.now h.1.0 h.1.1.1.1.0 (sym long ∙ (c.if-len-events.true ∙ h.1.1.1.1.1))
+    record {
+      tally = follow_same h.0 c.args.world.now h.1.1.0 h.1.1.1.0 c.args.self.now h.1.0 h.1.1.1.1.0 (sym long ∙ (c.if-len-events.true ∙ h.1.1.1.1.1));
+      told = refl;
+    }
 
 pub count-requires-clause-few : goal.count-requires-clause-few
 count-requires-clause-few g c =
@@ -30,4 +33,8 @@ count-requires-clause-counted g c =
 pub returns : goal.returns
 returns g c =
     let h = c.requires in
-    follow_tally h.0 c.args.world.now h.1.1.0 h.1.1.1.0 c.args.self.now c.count.new.self h.1.0 h.1.1.1.1.0 c.count.ensures.roots c.in_ok-count.ensures.counted
+    record {
+      tally = follow_tally h.0 c.args.world.now h.1.1.0 h.1.1.1.0 c.args.self.now c.count.new.self h.1.0 h.1.1.1.1.0 c.count.ensures.told c.count.ensures.roots
+          c.in_ok-count.ensures.counted;
+      told = c.count.ensures.told;
+    }

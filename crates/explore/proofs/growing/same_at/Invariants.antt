@@ -1,0 +1,5 @@
+use Rattle.explore.proofs.Indices.{up_to}
+use Rattle.explore.proofs.growing.same_at.Given as goal
+
+abbrev pub decreases-loop-place : goal.decreases-loop-place
+decreases-loop-place g l = up_to l.place

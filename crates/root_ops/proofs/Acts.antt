@@ -1,0 +1,4 @@
+pub mod WalksAndRest
+pub mod OwnStep
+pub mod Renames
+pub mod EachOperation

@@ -1,0 +1,2 @@
+pub mod NoNumbers
+pub mod EachCause

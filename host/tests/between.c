@@ -1,0 +1,148 @@
+/*
+ * between: somebody acts between two system calls of a call: as a link of /proc is about to be read, or a directory to be
+ * asked where it stands. To be linked with --wrap=readlinkat and --wrap=syscall.
+ *
+ * usage: between DIR. Exits 0 where each call tells what was so. 78: no right to change a root, so that a half is left out.
+ */
+#define _GNU_SOURCE
+#include "support.h"
+
+#include <errno.h>
+#include <fcntl.h>
+#include <string.h>
+#include <sys/stat.h>
+#include <sys/syscall.h>
+
+static int base, root, at;
+
+/* What is done, before which question about a place from here on. */
+static void (*act)(void);
+static int questions;
+
+static void ask(void)
+{
+    if (act != NULL && --questions == 0) {
+        act();
+        act = NULL;
+    }
+}
+
+ssize_t __real_readlinkat(int dir, const char *name, char *text, size_t size);
+ssize_t __wrap_readlinkat(int dir, const char *name, char *text, size_t size);
+long __real_syscall(long number, ...);
+long __wrap_syscall(long number, ...);
+
+ssize_t __wrap_readlinkat(int dir, const char *name, char *text, size_t size)
+{
+    if (name[0] != 0)
+        ask();
+    return __real_readlinkat(dir, name, text, size);
+}
+
+/* Takes more words than were handed in. */
+__attribute__((no_sanitize("address"))) long __wrap_syscall(long number, ...)
+{
+    long with[5];
+    va_list more;
+    va_start(more, number);
+    for (int one = 0; one < 5; one++)
+        with[one] = va_arg(more, long);
+    va_end(more);
+    if (number == SYS_getcwd)
+        ask();
+    return __real_syscall(number, with[0], with[1], with[2], with[3], with[4]);
+}
+
+static void move(int from, const char *old, int to, const char *new)
+{
+    sure(renameat(from, old, to, new), old);
+}
+
+/* What others do. The other root's name is this one's with a letter behind it, as the path of what is in it would be. */
+static void move_beside(void) { move(root, "2", base, "box2"); }
+static void move_back(void) { move(base, "box2", root, "2"); }
+static void move_out(void) { move(root, "2/d", base, "d"); }
+static void move_in(void) { move(base, "d", root, "2/d"); }
+static void move_file(void) { move(root, "2/f", base, "f"); }
+static void return_file(void) { move(base, "f", root, "2/f"); }
+static void move_root(void) { move(base, "box", base, "moved"); }
+static void return_root(void) { move(base, "moved", base, "box"); }
+static void remove_directory(void) { sure(unlinkat(root, "2/d", AT_REMOVEDIR), "2/d"); }
+static void make_directory(void) { sure(mkdirat(root, "2/d", 0755), "2/d"); }
+static void remove_file(void) { sure(unlinkat(root, "2/f", 0), "2/f"); }
+static void make_file(void) { sure(mknodat(root, "2/f", S_IFREG | 0600, 0), "2/f"); }
+
+/* Each path, what is done before which question, what undoes it, and what a call with one try gives. */
+static const struct {
+    const char *path;
+    int questions;
+    void (*done)(void), (*undone)(void);
+    int by_proc, in_jail;
+} rows[] = {
+    {"2/d", 1, move_beside, move_back, -EAGAIN, -EAGAIN},
+    {"2/f", 1, move_beside, move_back, -EAGAIN, -EAGAIN},
+    {"2/d/..", 1, move_beside, move_back, -EAGAIN, -EAGAIN},
+    {"2/d", 2, move_beside, move_back, -EAGAIN, 0},
+    {"2/d", 3, move_beside, move_back, 0, 0},
+    {"2/d", 1, move_out, move_in, -EAGAIN, -EAGAIN},
+    {"2/f", 1, move_file, return_file, -EAGAIN, -EAGAIN},
+    {"2/f", 2, move_file, return_file, -EAGAIN, 0},
+    {"2/d", 1, remove_directory, make_directory, -EAGAIN, -EAGAIN},
+    {"2/f", 1, remove_file, make_file, -EAGAIN, -EAGAIN},
+    {"2/d", 1, move_root, return_root, 0, 0},
+    {"2/d", 2, move_root, return_root, -EAGAIN, 0},
+    {"2/f", 3, move_root, return_root, -EAGAIN, 0},
+};
+
+static void each(void)
+{
+    for (size_t row = 0; row < sizeof rows / sizeof *rows; row++)
+        for (int flags = INROOT_NO_RETRY, turn = 0; turn < 2; flags |= INROOT_ONE_BY_ONE, turn++) {
+            int wanted = at == INROOT_JAIL ? rows[row].in_jail : rows[row].by_proc;
+            act = rows[row].done;
+            questions = rows[row].questions;
+            int fd = inroot_open(at, rows[row].path, flags);
+            bool has_acted = act == NULL;
+            act = NULL;
+            expect((fd < 0 ? fd : 0) == wanted, "row %zu, flags %d: %d", row, flags, fd);
+            if (fd >= 0)
+                close(fd);
+            if (has_acted)
+                rows[row].undone();
+            else
+                expect(wanted == 0, "row %zu: nothing was asked", row);
+        }
+}
+
+static void by_proc(void)
+{
+    at = root;
+    each();
+}
+
+static void in_jail(void)
+{
+    int failed = inroot_jail(root);
+    if (failed == -EPERM)
+        _exit(NO_RIGHT);
+    errno = -failed;
+    sure(failed, "inroot_jail");
+    at = INROOT_JAIL;
+    each();
+}
+
+int main(int count, char **words)
+{
+    if (count != 2)
+        return 2;
+    base = sure(open(words[1], O_PATH | O_DIRECTORY | O_CLOEXEC), words[1]);
+    sure(mkdirat(base, "box", 0755), "box");
+    root = sure(openat(base, "box", O_PATH | O_DIRECTORY | O_CLOEXEC), "box");
+    sure(mkdirat(root, "2", 0755), "2");
+    make_directory();
+    make_file();
+    apart(by_proc);
+    int skipped = apart(in_jail);
+    printf("between: %d not as they are to be\n", wrong);
+    return wrong != 0 ? 1 : skipped;
+}

@@ -1,0 +1,166 @@
+/*
+ * ends: what is left of a thread that is cancelled, and of one that ends in a jail. A call that is begun by a thread
+ * which is already cancelled goes on to its end, and the thread ends at its next point.
+ *
+ * usage: ends DIR. Exits 0 where nothing is left open. 78: no right to change a root, so that a part is left out.
+ */
+#define _GNU_SOURCE
+#include "each.h"
+
+#include <linux/magic.h>
+#include <pthread.h>
+#include <string.h>
+#include <sys/vfs.h>
+
+static int root, proc;
+static bool returned;
+
+static void in_thread(void *(*what)(void *), void *with)
+{
+    pthread_t thread;
+    sure(-pthread_create(&thread, NULL, what, with), "pthread_create");
+    pthread_join(thread, NULL);
+}
+
+/* A thread that is cancelled before it makes the call. */
+static void *make_call(void *what)
+{
+    void (*const *call)(void) = what;
+    pthread_cancel(pthread_self());
+    (*call)();
+    returned = true;
+    pthread_testcancel();
+    expect(false, "a thread goes on after it was cancelled");
+    return NULL;
+}
+
+static void cancelled(const char *name, void (*call)(void))
+{
+    int before = open_descriptors();
+    returned = false;
+    in_thread(make_call, &call);
+    expect(returned, "%s: the thread ended within the call", name);
+    expect(open_descriptors() <= before, "%s: %d descriptors are left", name, open_descriptors() - before);
+}
+
+/* ---- each call */
+
+static int number, result;
+
+static void make_one(void)
+{
+    result = call(root, number);
+}
+
+static void each_call(void)
+{
+    for (number = 0; number < CALLS; number++) {
+        char name[16];
+        int before = open_descriptors();
+        snprintf(name, sizeof name, "call %d", number);
+        returned = false;
+        void (*one)(void) = make_one;
+        in_thread(make_call, &one);
+        /* What these close(2) themselves is a point of their own. */
+        bool has_points = number == 14 || number == 19;
+        expect(returned || has_points, "%s: the thread ended within the call", name);
+        if (returned)
+            restore(root, result, number);
+        if (!has_points)
+            expect(open_descriptors() == before, "%s: %d descriptors are left", name, open_descriptors() - before);
+    }
+}
+
+static struct inroot_root *kept;
+
+static void close_root(void)
+{
+    inroot_root_close(kept);
+}
+
+static void use_proc(void)
+{
+    expect(inroot_use_proc(proc) == -EBUSY, "a second /proc");
+}
+
+static void of_the_root(void)
+{
+    int before = open_descriptors();
+    sure(inroot_root_open("/", 0, &kept), "inroot_root_open");
+    cancelled("inroot_root_close", close_root);
+    expect(open_descriptors() == before, "inroot_root_close: the root is open still");
+    cancelled("inroot_use_proc", use_proc);
+}
+
+/* ---- a program that has closed the /proc of the calls, so that a thread in a jail keeps one of its own */
+
+static void close_proc(void)
+{
+    struct statfs about;
+    for (int fd = 3; fd < 64; fd++)
+        if (fd != proc && fstatfs(fd, &about) == 0 && about.f_type == PROC_SUPER_MAGIC)
+            close(fd);
+}
+
+static void jail_here(void)
+{
+    errno = -inroot_jail(root);
+    sure(-errno, "inroot_jail");
+}
+
+static void *end_in_jail(void *unused)
+{
+    jail_here();
+    expect(inroot_open(INROOT_JAIL, "a/b/none", 0) == -ENOENT, "what isn't there, in a jail");
+    return unused;
+}
+
+static void leave_jail(void)
+{
+    inroot_jail_done();
+}
+
+static void *jail_and_leave(void *unused)
+{
+    jail_here();
+    void (*leave)(void) = leave_jail;
+    return make_call(&leave) == NULL ? unused : NULL;
+}
+
+static void in_jails(void)
+{
+    close_proc();
+    int before = open_descriptors();
+    for (int at = 0; at < 20; at++)
+        in_thread(end_in_jail, NULL);
+    expect(open_descriptors() == before, "%d descriptors are left of threads that ended in a jail",
+           open_descriptors() - before);
+    before = open_descriptors();
+    returned = false;
+    in_thread(jail_and_leave, NULL);
+    expect(returned, "inroot_jail_done: the thread ended within the call");
+    expect(open_descriptors() == before, "inroot_jail_done: /proc is open still");
+}
+
+static void nothing(void)
+{
+}
+
+int main(int count, char **words)
+{
+    void (*first)(void) = nothing;
+    if (count != 2)
+        return 2;
+    /* What the C library loads to end a thread isn't there below a root. */
+    in_thread(make_call, &first);
+    root = sure(open(words[1], O_PATH | O_DIRECTORY | O_CLOEXEC), words[1]);
+    proc = sure(open("/proc", O_PATH | O_DIRECTORY | O_CLOEXEC), "/proc");
+    make_tree(root);
+    apart(each_call);
+    apart(of_the_root);
+    bool may = may_jail(root);
+    if (may)
+        apart(in_jails);
+    printf("ends: %d not as they are to be\n", wrong);
+    return wrong != 0 ? 1 : may ? 0 : NO_RIGHT;
+}
