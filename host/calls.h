@@ -1,6 +1,6 @@
 /*
  * calls.h: the proved library's two functions, and what passes between it and a driver. The numbers and bytes are those
- * of crates/wire, whose contracts say what they stand for. A program that makes calls includes inroot.h, and not this.
+ * of crates/c_protocol, whose contracts say what they stand for. A program that makes calls includes inroot.h, and not this.
  */
 #ifndef INROOT_CALLS_H
 #define INROOT_CALLS_H
@@ -60,7 +60,7 @@ void inroot_begin(const struct inroot_asked *asked, const unsigned char *first, 
 
 /*
  * Takes the answer to the last step. `kept` holds a call: the one that the last turn left there. The bytes, the
- * room and what is pointed to otherwise are apart from one another, here and above.
+ * room and what is pointed to otherwise must not overlap, here and above.
  */
 void inroot_next(struct inroot_kept *kept, const struct inroot_answered *answered, const unsigned char *bytes,
                  size_t length, struct inroot_told *told, unsigned char *room, size_t size);

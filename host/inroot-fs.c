@@ -50,8 +50,8 @@ static const char help[] =
     "\n"
     "  -h, --help, -V, --version\n"
     "\n"
-    "Statuses: 0 it is done; 1 it was answered by an error, which is told, but of resolve is\n"
-    "the answer and 0; 2 a wrong command line; 4 any other fault.\n"
+    "Statuses: 0 it is done; 1 it failed, and standard error says why (of resolve an error is the\n"
+    "answer, and the status 0); 2 a wrong command line; 4 any other fault.\n"
     "\n"
     "Example:\n"
     "  inroot-fs /srv/box cat etc/passwd\n";

@@ -2,8 +2,8 @@
  * inroot.h: paths below a directory, resolved by single directory steps (see docs/HOST.md).
  *
  * Each call walks a path as openat2(2) does with RESOLVE_IN_ROOT, where `..` at the root and an absolute link stay
- * inside, and then acts on the directory that it found, by its open descriptor. Which step comes next, and what each
- * answer means, is decided by a proved library; the steps are system calls of this program.
+ * inside, and then acts on the directory that it found, by its open descriptor. A proved library decides which step
+ * comes next and what each answer means; this program makes the steps, which are system calls.
  *
  * ROOT is a descriptor of the directory (O_PATH is enough). Where an object stands below it is then read from the
  * links of /proc/thread-self/fd (proc(5)), of the root, the object and the root again. That is three moments: the
@@ -101,11 +101,11 @@ enum { INROOT_TRIES = 32 };
 enum { INROOT_PLAIN = 0, INROOT_NOREPLACE = 1, INROOT_EXCHANGE = 2 };
 
 /*
- * Has the calls ask the proc(5) whose topmost directory PROC is a descriptor of, in place of /proc. It may be called
- * once, and before the first other call; a call that comes first opens /proc. PROC may be closed afterwards.
+ * PROC is a descriptor of the topmost directory of a proc(5): the calls ask that one in place of /proc. The call may be
+ * made once, and before the first other call, which opens /proc otherwise. PROC may be closed afterwards.
  *
  * Gives 0; -EBADF where PROC is no descriptor, -EINVAL where it is of another file system, -EMFILE, -EBUSY where there
- * is one already. It isn't seen whether PROC is the topmost directory: calls give ENOSYS where it isn't.
+ * is one already. The call doesn't check whether PROC is the topmost directory: later calls give ENOSYS where it isn't.
  */
 int inroot_use_proc(int proc);
 
@@ -118,10 +118,10 @@ int inroot_use_proc(int proc);
  * Leave alone in such a thread, and in each that it makes: the root directory, by chroot(2), pivot_root(2) or setns(2).
  * A thread that it makes shares that with it, and isn't a moved one.
  *
- * Gives 0; -EBUSY in a thread that was moved already, -EBADF or -ENOTDIR where ROOT is no directory's, -EPERM without
- * the capability, -ENOSYS without /proc, -EMFILE, -ENOMEM, -EACCES where ROOT may not be searched. Then the thread is as
- * before, but where chroot(2) itself was refused, as by a security module: its current directory is the same then, but
- * its own from there on.
+ * Gives 0; -EBUSY in a thread that was moved already, -EBADF or -ENOTDIR where ROOT is no descriptor of a directory,
+ * -EPERM without the capability, -ENOSYS without /proc, -EMFILE, -ENOMEM, -EACCES where ROOT may not be searched. After
+ * an error the thread is as before. Only where chroot(2) itself was refused, as by a security module, its current
+ * directory, still the same, is its own from there on.
  */
 int inroot_jail(int root);
 
@@ -228,8 +228,8 @@ ssize_t inroot_readlink(int root, const char *path, int flags, char *text, size_
 int inroot_mkfile(int root, const char *path, mode_t mode, int flags);
 
 /*
- * Makes a file that is none of contents (mknodat(2)): MODE has S_IFREG, S_IFIFO, S_IFSOCK, S_IFCHR or S_IFBLK beside
- * it, and the last two make a node of the device DEV, which is 0 otherwise. Gives 0. EINVAL of another kind, and of a
+ * Makes an entry of the kind that MODE has beside its permissions (mknodat(2)): S_IFREG, S_IFIFO, S_IFSOCK, S_IFCHR or
+ * S_IFBLK. The last two make a node of the device DEV, which is 0 otherwise. Gives 0. EINVAL of another kind, and of a
  * DEV that isn't asked for; EEXIST where there is such an entry, a link too; EPERM without the right to make devices,
  * and what mknodat(2) has beside it.
  */

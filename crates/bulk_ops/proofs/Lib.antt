@@ -1,12 +1,15 @@
+pub mod OwnEvents
+pub mod Happening
+pub mod Refusals
 pub mod MakeAllNames
 pub mod MakeAllSteps
 pub mod RemovingAll
-pub mod MakeAllHappens
 pub mod MakeAllGood
 pub mod MakeAllAnswers
 pub mod MakeAllEnds
 pub mod MakeAllTurns
 pub mod MakingAlone
+pub mod MappedLists
 pub mod LikeCalls
 pub mod LikeStages
 pub mod LikeFrames

@@ -1,49 +1,14 @@
 -- What comparing two calls to RemoveAll comes to: the names that are left, the directories one by one, and how many handles.
-use Rattle.std.specs.Prelude.{◌≡◌, ◌<◌, ◌+◌, ◌-◌, ℕ, zero, suc, List, [], ◌∷◌, ◌++◌, length, map, take, drop, reverse, refl}
+use Rattle.std.specs.Prelude.{◌≡◌, ◌<◌, ◌+◌, ◌-◌, ℕ, suc, List, [], ◌∷◌, ◌++◌, length, map, take, drop, reverse, refl}
 use Rattle.std.proofs.Common.{ap, sym, subst, ◌∙◌, append_assoc, arith, get_or}
-use Rattle.std.proofs.lemmas.List.{length-drop, get_or-drop, get_or-reverse, length-reverse, map-append, reverse-append, reverse-reverse, take-map, take_more}
+use Rattle.std.proofs.lemmas.List.{length-drop, get_or-drop, get_or-reverse, length-reverse, reverse-reverse, take-map, take_more}
 use Rattle.std.proofs.lemmas.Option.{unwrap_or-slice_get}
 use Rattle.std.proofs.Math.Seq.{drop-cons, take-length}
 use Rattle.bulk_ops.specs.RemoveAllOrder.{Level, dirs}
 use Rattle.bulk_ops.specs.RemoveAllView.{name_at, level_of, levels_of, dirs_of}
 use Rattle.bulk_ops.specs.Renamed.{numbers_by, level_by, levels_by, levels_handles}
 use Rattle.bulk_ops.specs.declared.remove_all.frame.Frame.{Frame}
-
--- ---- lists that are mapped to the same
-
-module _ {A B : Type 0} (f : A → B) where
-  same_lengths : (xs ys : List A) → map f xs ≡ map f ys → length xs ≡ length ys
-  same_lengths [] [] e = refl
-  same_lengths [] (y ∷ ys) e = cc
-  same_lengths (x ∷ xs) [] e = cc
-  same_lengths (x ∷ xs) (y ∷ ys) e = ap suc (same_lengths xs ys (let q : map f xs ≡ map f ys = cc in q))
-
-  same_at : (xs ys : List A) (i : ℕ) (x y : A) → map f xs ≡ map f ys → i < length xs → x ≡ get_or xs i x → y ≡ get_or ys i y → f x ≡ f y
-  same_at [] ys i x y e lt p q = absurd (omega arith)
-  same_at (a ∷ xs) [] i x y e lt p q = cc
-  same_at (a ∷ xs) (b ∷ ys) zero x y e lt p q = cc
-  same_at (a ∷ xs) (b ∷ ys) (suc i) x y e lt p q = same_at xs ys i x y (let r : map f xs ≡ map f ys = cc in r) (omega arith) p q
-
-  more : (xs : List A) (i : ℕ) (x : A) → i < length xs → x ≡ get_or xs i x → map f (take (i + 1) xs) ≡ map f (take i xs) ++ f x ∷ []
-  more [] i x lt p = absurd (omega arith)
-  more (a ∷ xs) zero x lt p = ap (λ b. f b ∷ []) (sym p)
-  more (a ∷ xs) (suc i) x lt p =
-      let e : suc i + 1 ≡ suc (i + 1) = omega arith in
-      let P : ℕ → Type 0 = λ n. map f (take n (a ∷ xs)) ≡ f a ∷ (map f (take i xs) ++ f x ∷ []) in
-      subst P (sym e) (ap (λ ys. f a ∷ ys) (more xs i x (omega arith) p))
-
-  same_more : (xs ys : List A) (i : ℕ) (x y : A) → map f (take i xs) ≡ map f (take i ys) → i < length xs → i < length ys → x ≡ get_or xs i x → y ≡ get_or ys i y → f x ≡ f y
-      → map f (take (i + 1) xs) ≡ map f (take (i + 1) ys)
-  same_more xs ys i x y e lt lt' p q r = more xs i x lt p ∙ (ap (λ zs. zs ++ f x ∷ []) e ∙ (ap (λ z. map f (take i ys) ++ z ∷ []) r ∙ sym (more ys i y lt' q)))
-
-  onto_reverse : (xs : List A) → map f (reverse xs) ≡ reverse (map f xs)
-  onto_reverse [] = refl
-  onto_reverse (x ∷ xs) =
-      ap (map f) (reverse-append (x ∷ []) xs) ∙ (map-append f (reverse xs) (x ∷ []) ∙ (ap (λ (ys : List B). ys ++ f x ∷ []) (onto_reverse xs) ∙ sym (reverse-append (f x ∷ []) (map f xs))))
-
-  whole : (xs ys : List A) (i : ℕ) → length xs ≡ i → length ys ≡ i → map f (take i xs) ≡ map f (take i ys) → map f xs ≡ map f ys
-  whole xs ys i p q e =
-      ap (map f) (sym (subst (λ (n : ℕ). take n xs ≡ xs) p (take-length xs))) ∙ (e ∙ ap (map f) (subst (λ (n : ℕ). take n ys ≡ ys) q (take-length ys)))
+use Rattle.bulk_ops.proofs.MappedLists.{same_lengths, same_at, more, same_more, onto_reverse, whole}
 
 -- ---- names from a place on
 

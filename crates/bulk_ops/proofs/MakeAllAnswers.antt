@@ -32,7 +32,7 @@ use Rattle.step_resolver.proofs.Underway.HandlesHeld.{handles_swapped, kept_on, 
 use Rattle.step_resolver.proofs.Underway.LegalHistory.{TreeLaws}
 use Rattle.bulk_ops.specs.MakeAllOrder.{making, opening, leaving, ending, closing, MakeTurn, more, made, rest_fault, rest_names, gives_up, take, enters}
 use Rattle.bulk_ops.specs.MakeAllTells.{into, AtName, LeavesNodes, Reach, not_begun, begun, MayDo, MakingCause, full, gone, missing, not_directory, astray}
-use Rattle.bulk_ops.proofs.MakeAllHappens.{NoneFrom}
+use Rattle.bulk_ops.proofs.Happening.{IsAlone}
 use Rattle.bulk_ops.proofs.MakeAllGood.{DidUntil, Chained, OnWay, Failing, GoodCall, GoodTurn, did_further, gives_up_good, goes_down_good, dir_of_kind, no_dir_of_kind, chained_later, MakeCase, dir_gone, is_there, no_number, is_made, make_case, BelowCase, stands_there, stands_elsewhere, stands_nowhere, below_case, below_kept, below_nodes}
 
 -- each name of a rest without fault is short enough
@@ -63,7 +63,7 @@ record IsDirAt (w : WalkInHistory) (t h x : ℕ) : Type 0 where
   pub dir : is_dir (state_at w t).nodes x ≡ true
 
 module _ {w : WalkInHistory} (lived : Lived w) (now t : ℕ) (held : Handle) (names : List (List ℕ)) (n : List ℕ) (left : List (List ℕ))
-    (way : OnWay w now held names (n ∷ left) (held.number ∷ [])) (answer : Answer) (none : NoneFrom w now t) where
+    (way : OnWay w now held names (n ∷ left) (held.number ∷ [])) (answer : Answer) (alone : IsAlone w now t) where
   abbrev c : Chained w now way.p held names (n ∷ left)
   c = way.chained
 
@@ -83,7 +83,7 @@ module _ {w : WalkInHistory} (lived : Lived w) (now t : ℕ) (held : Handle) (na
       → GoodTurn w (suc t) (gives_up (held.number ∷ []) error)
   fails_here error kept did cause = record {
     reach = begun way.p;
-    did = did_further (begun way.p) way.did none did;
+    did = did_further (begun way.p) way.did alone did;
     cause = (c.whole, cause);
     handles = handles_kept kept way.handles;
   }
@@ -105,7 +105,7 @@ module _ {w : WalkInHistory} (lived : Lived w) (now t : ℕ) (held : Handle) (na
       p = way.p;
       chained = chained_later (past_now (MakeDir held.number n) is) kept c;
       handles = handles_kept kept way.handles;
-      did = did_further (begun way.p) way.did none did;
+      did = did_further (begun way.p) way.did alone did;
     }
 
     on_case : MakeCase s held.node n (outcome s w.actor (MakeDir held.number n)) → GoodTurn w (suc t) (take w.way room (making held names n left) answer)
@@ -155,7 +155,7 @@ module _ {w : WalkInHistory} (lived : Lived w) (now t : ℕ) (held : Handle) (na
       child_there = ap (λ d. child s.nodes d n) c.node ∙ child_is
 
       did_now : DidUntil w (begun way.p) (suc t)
-      did_now = did_further (begun way.p) way.did none (inl nodes)
+      did_now = did_further (begun way.p) way.did alone (inl nodes)
 
       gone_in : is_dir_kind (kind_of what) ≡ true → is_too_long n ≡ false → GoodTurn w (suc t) (more (leaving held.number new_handle (n ∷ names) left))
       gone_in dir short = (
@@ -229,7 +229,7 @@ closed_nodes laws {w} {now} {t} {h} is = ap (λ (s : State). s.nodes) is.after �
 closed : {w : WalkInHistory} {now t : ℕ} {h : ℕ} {answer : Answer} → StepAt w now t (Close h) answer → IsLess (state_at w t) w.actor (state_at w (suc t)) h
 closed {w} {now} {t} {h} is = subst (λ s. IsLess (state_at w t) w.actor s h) (sym is.after) (Close-is_less (state_at w t) w.actor h)
 
-module _ (laws : TreeLaws) {w : WalkInHistory} (lived : Lived w) (now t : ℕ) (answer : Answer) (none : NoneFrom w now t) where
+module _ (laws : TreeLaws) {w : WalkInHistory} (lived : Lived w) (now t : ℕ) (answer : Answer) (alone : IsAlone w now t) where
   pub leaving_good : (room : Bool) (old : ℕ) (new : Handle) (names left : List (List ℕ)) → GoodCall w now (leaving old new names left)
       → StepAt w now t (Close old) answer → GoodTurn w (suc t) (take w.way room (leaving old new names left) answer)
   leaving_good room old new names left good is =
@@ -251,7 +251,7 @@ module _ (laws : TreeLaws) {w : WalkInHistory} (lived : Lived w) (now t : ℕ) (
           is_held = held_less (closed is) good.1 (held_kept is.kept c.is_held);
         };
         handles = handles_less (handles_kept is.kept good.0.handles) (closed is);
-        did = did_further (begun good.0.p) good.0.did none (inl (closed_nodes laws is));
+        did = did_further (begun good.0.p) good.0.did alone (inl (closed_nodes laws is));
       })
 
   close_did : (reach : Reach w) → LeavesNodes w t → MayDo w reach t
@@ -262,7 +262,7 @@ module _ (laws : TreeLaws) {w : WalkInHistory} (lived : Lived w) (now t : ℕ) (
       → GoodTurn w (suc t) (take w.way room (closing h hs error) answer)
   closing_good room h hs error failing is = gives_up_good hs error (record {
     reach = failing.reach;
-    did = did_further failing.reach failing.did none (close_did failing.reach (closed_nodes laws is));
+    did = did_further failing.reach failing.did alone (close_did failing.reach (closed_nodes laws is));
     cause = failing.cause;
     handles = handles_less (handles_kept is.kept failing.handles) (closed is);
   })
@@ -281,7 +281,7 @@ module _ (laws : TreeLaws) {w : WalkInHistory} (lived : Lived w) (now t : ℕ) (
     kept = below_kept lived now t held.number held.node names answer is (root_open lived way.handles) last.is_held.is_open
 
     did_all : DidUntil w (begun way.p) (suc t)
-    did_all = did_further (begun way.p) way.did none (inl (below_nodes lived now t held.number held.node names answer is (root_open lived way.handles) last.is_held.is_open))
+    did_all = did_further (begun way.p) way.did alone (inl (below_nodes lived now t held.number held.node names answer is (root_open lived way.handles) last.is_held.is_open))
 
     stands_as : (Stands (state_at w t).nodes w.root held.node names) → Stands (state_at w t).nodes w.root last.to.node last.to.names
     stands_as st = subst (λ x. Stands (state_at w t).nodes w.root x last.to.names) (sym last.node) (subst (λ ns. Stands (state_at w t).nodes w.root held.node ns) (sym last.at_names) st)

@@ -1,5 +1,5 @@
 -- What the end of a call tells, by induction on what the call was told.
-use Rattle.std.specs.Prelude.{◌≡◌, ℕ, suc, ◌<◌, ◌≤◌, ◌⊎◌, ◌&&◌, List, [], ◌∷◌, ◌++◌, Bool, true, false, if◌then◌else◌, reverse, Option, Some, None, refl}
+use Rattle.std.specs.Prelude.{◌≡◌, ℕ, suc, ◌≤◌, ◌⊎◌, ◌&&◌, List, [], ◌∷◌, ◌++◌, Bool, true, false, if◌then◌else◌, reverse, Option, Some, None, refl}
 use Rattle.std.proofs.Common.{sym, ap, subst, ◌∙◌, le_refl, le_trans, append-nil, inl, inr, arith}
 use Rattle.std.proofs.lemmas.Bool.{false≢true, and_parts}
 use Rattle.path_text.specs.declared.errno.Errno.{Errno}
@@ -29,7 +29,7 @@ use Rattle.step_resolver.proofs.Ends.EachEnd.{take_good}
 use Rattle.step_resolver.proofs.Ends.EveryWalk.{tree_laws}
 use Rattle.bulk_ops.specs.MakeAllOrder.{Making, walking, making, opening, leaving, ending, closing, MakeTurn, more, made, failed, begins, rest_fault, rest_names, gives_up, begins_to_make, after_walk, take, due, is_closing, LeadsTo}
 use Rattle.bulk_ops.specs.MakeAllTells.{stays, DeepestAt, start_of, Reach, not_begun, begun, MayDo, Did, of_walk, no_directory, of_rest, for_want, MadeEnd, MakeTells, MakesTell}
-use Rattle.bulk_ops.proofs.MakeAllHappens.{NoneFrom, before_or_from, Happen, lines_happen}
+use Rattle.bulk_ops.proofs.Happening.{IsAlone, Rests, HappensAlone, before_or_from, lines_happen}
 use Rattle.bulk_ops.proofs.MakeAllGood.{DidUntil, OnWay, Failing, MadeBy, GoodCall, GoodTurn, did_further, goes_down_good, kind_of_dir, no_dir_of_kind, BelowCase, stands_there, stands_elsewhere, stands_nowhere, below_case, below_kept}
 use Rattle.bulk_ops.proofs.MakeAllAnswers.{making_good, opening_good, leaving_good, closing_good, ending_good}
 use Rattle.bulk_ops.proofs.MakeAllSteps.{GoesOnWithin, IsEnding, take_within, begun_within, refused_within}
@@ -176,15 +176,15 @@ module _ {w : WalkInHistory} (lived_ : Lived w) where
   -- ---- each answer
 
   walk_good : (room : Bool) → (room ≡ false → TellsError w NoMemory) → (now t : ℕ) (walker : Walking) → GoodWalk w now walker → DidUntil w not_begun now
-      → (answer : Answer) → StepAt w now t (walk.due w.way walker) answer → NoneFrom w now t
+      → (answer : Answer) → StepAt w now t (walk.due w.way walker) answer → IsAlone w now t
       → (answer ≡ Refused TooMany → MetRefusal (walk.due w.way walker) w.lines) → GoodTurn w (suc t) (after_walk room (walk.take w.way room walker answer))
-  walk_good room want now t walker good did answer is none met = on walker refl
+  walk_good room want now t walker good did answer is alone met = on walker refl
     where
       whole : Good w (suc t) (walk.take w.way room walker answer)
       whole = take_good lived_ room want now t walker good answer is met
 
       did_now : DidUntil w not_begun (suc t)
-      did_now = did_further {w = w} {now = now} {t = t} not_begun did none (ap (λ (s : State). s.nodes) is.after ∙ tree_laws.nodes (state_at w t) w.actor (walk.due w.way walker) (walk_tells_only w.way walker))
+      did_now = did_further {w = w} {now = now} {t = t} not_begun did alone (ap (λ (s : State). s.nodes) is.after ∙ tree_laws.nodes (state_at w t) w.actor (walk.due w.way walker) (walk_tells_only w.way walker))
 
       otherwise : (v : Walking) → walker ≡ v → (IsEnding w.way v → ⊥) → (k : ℕ) → GoesOnWithin k (walk.take w.way room v answer) → GoodTurn w (suc t) (after_walk room (walk.take w.way room walker answer))
       otherwise v e not_ending k within =
@@ -203,14 +203,14 @@ module _ {w : WalkInHistory} (lived_ : Lived w) where
       on (walk.closing h hs after) e = otherwise _ e (λ z. z) _ (take_within w.way room (walk.closing h hs after) (λ z. z) answer)
 
   pub call_good : (room : Bool) → (room ≡ false → TellsError w NoMemory) → (now t : ℕ) (call : Making) → GoodCall w now call
-      → (answer : Answer) → StepAt w now t (due w.way call) answer → NoneFrom w now t
+      → (answer : Answer) → StepAt w now t (due w.way call) answer → IsAlone w now t
       → (answer ≡ Refused TooMany → MetRefusal (due w.way call) w.lines) → GoodTurn w (suc t) (take w.way room call answer)
-  call_good room want now t (walking walker) good answer is none met = walk_good room want now t walker good.0 good.1 answer is none met
-  call_good room want now t (making held names n left) good answer is none met = making_good lived_ now t held names n left good answer none room is
-  call_good room want now t (opening held names n left) good answer is none met = opening_good lived_ now t held names n left good answer none room is
-  call_good room want now t (leaving old new names left) good answer is none met = leaving_good tree_laws lived_ now t answer none room old new names left good is
-  call_good room want now t (ending held names) good answer is none met = ending_good tree_laws lived_ now t answer none room held names good is
-  call_good room want now t (closing h hs error) good answer is none met = closing_good tree_laws lived_ now t answer none room h hs error good is
+  call_good room want now t (walking walker) good answer is alone met = walk_good room want now t walker good.0 good.1 answer is alone met
+  call_good room want now t (making held names n left) good answer is alone met = making_good lived_ now t held names n left good answer alone room is
+  call_good room want now t (opening held names n left) good answer is alone met = opening_good lived_ now t held names n left good answer alone room is
+  call_good room want now t (leaving old new names left) good answer is alone met = leaving_good tree_laws lived_ now t answer alone room old new names left good is
+  call_good room want now t (ending held names) good answer is alone met = ending_good tree_laws lived_ now t answer alone room held names good is
+  call_good room want now t (closing h hs error) good answer is alone met = closing_good tree_laws lived_ now t answer alone room h hs error good is
 
   -- ---- steps that weren't made
 
@@ -280,8 +280,8 @@ module _ {w : WalkInHistory} (lived_ : Lived w) where
     did_all : (reach : Reach w) → DidUntil w reach now → Did w reach
     did_all reach did t own = on (before_or_from t now)
       where
-        on : (t < now) ⊎ (now ≤ t) → MayDo w reach t
-        on (inl before) = did t own before
+        on : (suc t ≤ now) ⊎ (now ≤ t) → MayDo w reach t
+        on (inl before) = did t own (omega (arith, before))
         on (inr after) = absurd (false≢true (sym (nothing t after) ∙ own))
 
     new_handle : (handle : Handle) → IsHeld w now handle → HandlesAre w now (handle.number ∷ []) → IsNewHandle w handle
@@ -323,7 +323,7 @@ module _ {w : WalkInHistory} (lived_ : Lived w) where
       new = new_handle handle last.chained.is_held are;
     }
       where
-        on : (t : ℕ) → (timeline w).is_own t ≡ true → (t < now) ⊎ (now ≤ t) → t ≤ last.when
+        on : (t : ℕ) → (timeline w).is_own t ≡ true → (suc t ≤ now) ⊎ (now ≤ t) → t ≤ last.when
         on t own (inl before) = omega (arith, before, last.is_now)
         on t own (inr after) = absurd (false≢true (sym (nothing t after) ∙ own))
 
@@ -332,20 +332,22 @@ module _ {w : WalkInHistory} (lived_ : Lived w) where
     end_tells (made handle names) good = record { reach = good.reach; did = did_all good.reach good.did; ends = made_ends handle names good.reach good.ends good.handles }
     end_tells (failed error) good = record { reach = good.reach; did = did_all good.reach good.did; cause = good.cause; handles = λ h. kept h ∙ good.handles.others h tt }
 
-  lines_tell : (lines : List Line) (now : ℕ) (turn end : MakeTurn) → GoodTurn w now turn → Happen w now lines → LeadsTo w.way turn lines end
+  lines_tell : (lines : List Line) (now : ℕ) (turn end : MakeTurn) → GoodTurn w now turn → HappensAlone w now lines → LeadsTo w.way turn lines end
       → ((error : Errno) → TellsWant error lines → TellsWant error w.lines)
       → ((step : StepOf ℕ) → MetRefusal step lines → MetRefusal step w.lines) → MakeTells w end
-  lines_tell [] now turn end good happens leads wants mets = subst (MakeTells w) leads (end_tells now happens.0 happens.1 turn good)
+  lines_tell [] now turn end good happens leads wants mets =
+      let rests : Rests w now = happens in
+      subst (MakeTells w) leads (end_tells now rests.kept rests.alone turn good)
   lines_tell (answered step answer ∷ lines) now (more call) end good happens leads wants mets =
       lines_tell lines (suc happens.0) (take w.way true call answer) end
-      (call_good true (λ e. cc (e)) now happens.0 call good answer (subst (λ s. StepAt w now happens.0 s answer) leads.0 happens.1.0) happens.1.1.0
+      (call_good true (λ e. cc (e)) now happens.0 call good answer (subst (λ s. StepAt w now happens.0 s answer) leads.0 happens.1.0.made) happens.1.0.alone
       (λ e. mets (due w.way call) (inl (leads.0, e))))
-      happens.1.1.1 leads.1 (λ error want. wants error (inr want)) (λ s m. mets s (inr m))
+      happens.1.1 leads.1 (λ error want. wants error (inr want)) (λ s m. mets s (inr m))
   lines_tell (no_room step answer ∷ lines) now (more call) end good happens leads wants mets =
       lines_tell lines (suc happens.0) (take w.way false call answer) end
-      (call_good false (λ e. wants NoMemory (inl refl)) now happens.0 call good answer (subst (λ s. StepAt w now happens.0 s answer) leads.0 happens.1.0) happens.1.1.0
+      (call_good false (λ e. wants NoMemory (inl refl)) now happens.0 call good answer (subst (λ s. StepAt w now happens.0 s answer) leads.0 happens.1.0.made) happens.1.0.alone
       (λ e. mets (due w.way call) (inl (leads.0, e))))
-      happens.1.1.1 leads.1 (λ error want. wants error (inr want)) (λ s m. mets s (inr m))
+      happens.1.1 leads.1 (λ error want. wants error (inr want)) (λ s m. mets s (inr m))
   lines_tell (not_made error ∷ lines) now (more call) end good happens leads wants mets =
       lines_tell lines now (take w.way true call (Refused error)) end
       (unmade_good now error leads.0 (wants error (inl refl)) call leads.1.0 good)
@@ -356,4 +358,4 @@ module _ {w : WalkInHistory} (lived_ : Lived w) where
 pub makes_tell : MakesTell
 makes_tell w end is leads =
     let all = lived tree_laws w is in
-    lines_tell all w.lines 0 (begins w.way w.path) end (begins_good all (no_lines all w.lines end leads)) (lines_happen tree_laws w is) leads (λ error want. want) (λ step m. m)
+    lines_tell all w.lines 0 (begins w.way w.path) end (begins_good all (no_lines all w.lines end leads)) (lines_happen tree_laws.others w is.legal is.own) leads (λ error want. want) (λ step m. m)

@@ -27,8 +27,8 @@ use Rattle.step_resolver.proofs.Underway.WalkInvariant.{Lived, StepAt, held_at, 
 use Rattle.step_resolver.proofs.Underway.AfterParent.{names_same, reversed_same}
 use Rattle.step_resolver.proofs.Underway.HandlesHeld.{kept_on}
 use Rattle.bulk_ops.specs.MakeAllOrder.{Making, walking, making, opening, leaving, ending, closing, MakeTurn, more, made, failed, rest_fault, rest_names, gives_up, goes_down}
-use Rattle.bulk_ops.specs.MakeAllTells.{Down, DeepestAt, start_of, LeavesNodes, Reach, not_begun, begun, MayDo, Cause}
-use Rattle.bulk_ops.proofs.MakeAllHappens.{NoneFrom, before_or_from}
+use Rattle.bulk_ops.specs.MakeAllTells.{OpenedDown, DeepestAt, start_of, LeavesNodes, Reach, not_begun, begun, MayDo, Cause}
+use Rattle.bulk_ops.proofs.Happening.{IsAlone, before_or_from}
 
 -- ---- what is known
 
@@ -41,7 +41,7 @@ pub record Chained (w : WalkInHistory) (now : ℕ) (p : DeepestAt w) (held : Han
   pub passed : List (List ℕ)
   pub split : rest_names p.rest ≡ reverse passed ++ left
   pub to : Spot
-  pub down : Down (timeline w) (start_of p) passed to
+  pub down : OpenedDown (timeline w) (start_of p) passed to
   pub node : to.node ≡ held.node
   pub at_names : to.names ≡ names
   pub names_are : names ≡ passed ++ p.to.names
@@ -95,12 +95,12 @@ GoodTurn w now (failed error) = Failing w now error []
 
 -- ---- small facts
 
-pub did_further : {w : WalkInHistory} {now t : ℕ} (reach : Reach w) → DidUntil w reach now → NoneFrom w now t → MayDo w reach t → DidUntil w reach (suc t)
-did_further {w} {now} {t} reach did none here j own less = on (before_or_from j now) (before_or_from j t)
+pub did_further : {w : WalkInHistory} {now t : ℕ} (reach : Reach w) → DidUntil w reach now → IsAlone w now t → MayDo w reach t → DidUntil w reach (suc t)
+did_further {w} {now} {t} reach did alone here j own less = on (before_or_from j now) (before_or_from j t)
   where
-    on : (j < now) ⊎ (now ≤ j) → (j < t) ⊎ (t ≤ j) → MayDo w reach j
-    on (inl before) other = did j own before
-    on (inr after) (inl before) = absurd (false≢true (sym (none j after before) ∙ own))
+    on : (suc j ≤ now) ⊎ (now ≤ j) → (suc j ≤ t) ⊎ (t ≤ j) → MayDo w reach j
+    on (inl before) other = did j own (omega (arith, before))
+    on (inr after) (inl before) = absurd (false≢true (sym (alone.none j after before) ∙ own))
     on (inr after) (inr from) =
         let same : t ≡ j = omega (arith, less, from) in
         subst (MayDo w reach) same here

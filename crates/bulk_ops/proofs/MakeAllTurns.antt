@@ -5,7 +5,7 @@ use Rattle.path_text.specs.declared.errno.Errno.{Errno}
 use Rattle.path_text.specs.Reading.{Reading}
 use Rattle.tree_model.specs.declared.answer.Answer.{Answer}
 use Rattle.tree_model.specs.declared.answer.Answer.TheVariants.{Refused}
-use Rattle.step_resolver.specs.Order.{Way, Walking, Line, answered, no_room, not_made, IsWant, for_walk}
+use Rattle.step_resolver.specs.Order.{Way, Line, answered, no_room, not_made, IsWant, for_walk}
 use Rattle.step_resolver.specs.Order as walk
 use Rattle.step_resolver.specs.TurnsTell.{first_lines}
 use Rattle.step_resolver.proofs.FirstTurns.{first_lines_lead}
@@ -15,6 +15,7 @@ use Rattle.bulk_ops.specs.MakeAllView.{MakingView, TakesTo, StartsTo}
 use Rattle.bulk_ops.specs.declared.turn.BulkTurn.{BulkTurn}
 use Rattle.bulk_ops.proofs.MakeAllSteps.{GoesOnWithin, begun_within, refused_within, needs_no_room}
 use Rattle.bulk_ops.proofs.MakeAllEnds.{makes_tell}
+use Rattle.bulk_ops.proofs.Refusals.{walk_needs_no_room}
 
 -- lines that lead on from where others led
 leads_on : (way : Way) (lines : List Line) (turn mid : MakeTurn) (others : List Line) (end : MakeTurn) → LeadsTo way turn lines mid → LeadsTo way mid others end → LeadsTo way turn (lines ++ others) end
@@ -27,16 +28,6 @@ leads_on way (not_made error ∷ lines) (more call) mid others end first onward 
     (first.0, (first.1.0, leads_on way lines (take way true call (Refused error)) mid others end first.1.1 onward))
 leads_on way (line ∷ lines) (made handle names) mid others end first onward = absurd first
 leads_on way (line ∷ lines) (failed error) mid others end first onward = absurd first
-
--- a refusal brings nothing that takes room
-walk_needs_no_room : (way : Way) (room : Bool) (w : Walking) (error : Errno) → walk.take way true w (Refused error) ≡ walk.take way room w (Refused error)
-walk_needs_no_room way room (walk.opening position own follow n rest) error = refl
-walk_needs_no_room way room (walk.reading position link rest) error = refl
-walk_needs_no_room way room (walk.rising old names rest) error = refl
-walk_needs_no_room way room (walk.judging new names rest) error = refl
-walk_needs_no_room way room (walk.duping rest) error = refl
-walk_needs_no_room way room (walk.ending handle names rest) error = refl
-walk_needs_no_room way room (walk.closing h hs after) error = refl
 
 refusal_needs_no_room : (way : Way) (room : Bool) (call : Making) (error : Errno) → take way true call (Refused error) ≡ take way room call (Refused error)
 refusal_needs_no_room way room (walking w) error =

@@ -3,7 +3,6 @@ pub mod Levels
 pub mod FirstTurns
 pub mod StepCount
 pub mod Phases
-pub mod Happening
 pub mod StepAnswers
 pub mod Underway
 pub mod AfterAnswers

@@ -67,12 +67,12 @@ IsPartOf before after (gives x nodes) = IsPart before after nodes
 IsPartOf before after (refuses error) = after ≡ before
 
 -- Memory, room in the book or handles ran short, which is the end, and what was made is a part of what is meant.
-abbrev pub RanShort : List Inode → List Inode → MakeMeant → MakeTurn → Type 0
-RanShort before after meant (failed error) = (is_want error ≡ true) × IsPartOf before after meant
-RanShort before after meant _ = ⊥
+abbrev pub MakingRanShort : List Inode → List Inode → MakeMeant → MakeTurn → Type 0
+MakingRanShort before after meant (failed error) = (is_want error ≡ true) × IsPartOf before after meant
+MakingRanShort before after meant _ = ⊥
 
-abbrev pub ComesTo : List Inode → List Inode → ℕ → MakeMeant → MakeTurn → Type 0
-ComesTo before after r meant end = IsMeantEnd before after r meant end ⊎ RanShort before after meant end
+abbrev pub MakingComesTo : List Inode → List Inode → ℕ → MakeMeant → MakeTurn → Type 0
+MakingComesTo before after r meant end = IsMeantEnd before after r meant end ⊎ MakingRanShort before after meant end
 
 -- the call is over
 abbrev pub IsOver : MakeTurn → Type 0
@@ -86,5 +86,5 @@ abbrev pub QuietMakesMean : Type 0
 QuietMakesMean = (w : WalkInHistory) (end : MakeTurn) → IsWalkInHistory w → w.way.goal ≡ Deepest
     → LeadsTo w.way (begins w.way w.path) w.lines end
     → IsOver end → IsQuiet w
-    → ComesTo (begin_of w).nodes (end_of w).nodes w.root
+    → MakingComesTo (begin_of w).nodes (end_of w).nodes w.root
     (make_means (begin_of w).nodes (reading_deepest (ground w) w.path)) end

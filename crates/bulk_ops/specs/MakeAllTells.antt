@@ -23,11 +23,11 @@ use Rattle.bulk_ops.specs.MakeAllOrder.{MakeTurn, more, made, failed, begins, re
 
 -- From one directory to another by names alone, each opened at an own moment, the moments rising, and never through a
 -- link. Names the innermost first.
-pub data Down (timeline : Timeline) (from : Spot) : List (List ℕ) → Spot → Type 0 where
-  stays : Down timeline from [] from
-  into : {names : List (List ℕ)} {d : Spot} (n : List ℕ) (t c : ℕ) → Down timeline from names d
+pub data OpenedDown (timeline : Timeline) (from : Spot) : List (List ℕ) → Spot → Type 0 where
+  stays : OpenedDown timeline from [] from
+  into : {names : List (List ℕ)} {d : Spot} (n : List ℕ) (t c : ℕ) → OpenedDown timeline from names d
       → IsChildAt timeline d n t c
-      → is_directory (timeline.object_of c) ≡ true → Down timeline from (n ∷ names) (down_to d c n (suc t))
+      → is_directory (timeline.object_of c) ≡ true → OpenedDown timeline from (n ∷ names) (down_to d c n (suc t))
 
 -- ---- where the call begins to make
 
@@ -58,7 +58,7 @@ pub record AtName (w : WalkInHistory) (p : DeepestAt w) (dir : Spot) (name : Lis
   pub passed : List (List ℕ)
   pub left : List (List ℕ)
   pub names : rest_names p.rest ≡ reverse passed ++ name ∷ left
-  pub down : Down (timeline w) (start_of p) passed dir
+  pub down : OpenedDown (timeline w) (start_of p) passed dir
   pub at : IsOwnFrom (timeline w) dir.moment t
 
 -- ---- what it made
@@ -95,7 +95,7 @@ pub record MadeLast (w : WalkInHistory) (p : DeepestAt w) (handle : Handle) (nam
   pub passed : List (List ℕ)
   pub all : rest_names p.rest ≡ reverse passed
   pub to : Spot
-  pub down : Down (timeline w) (start_of p) passed to
+  pub down : OpenedDown (timeline w) (start_of p) passed to
   pub node : to.node ≡ handle.node
   pub at_names : names ≡ passed ++ p.to.names
   pub same_names : to.names ≡ names
@@ -141,7 +141,7 @@ pub data MakingCause (w : WalkInHistory) (p : DeepestAt w) : Errno → Type 0 wh
       → child ((timeline w).nodes_at t) dir.node name ≡ Some c
       → is_directory ((timeline w).object_of c) ≡ false → MakingCause w p NotDir
   astray : (passed : List (List ℕ)) (to : Spot) (t : ℕ) → rest_names p.rest ≡ reverse passed
-      → Down (timeline w) (start_of p) passed to
+      → OpenedDown (timeline w) (start_of p) passed to
       → IsOwnFrom (timeline w) to.moment t → (Stands ((timeline w).nodes_at t) w.root to.node to.names → ⊥)
       → MakingCause w p Raced
 
@@ -154,7 +154,7 @@ pub record TellsMade (w : WalkInHistory) (handle : Handle) (names : List (List �
   pub did : Did w reach
   pub ends : MadeEnd w reach handle names
 
-pub record TellsFailed (w : WalkInHistory) (error : Errno) : Type 0 where
+pub record TellsMakingFailed (w : WalkInHistory) (error : Errno) : Type 0 where
   pub reach : Reach w
   pub did : Did w reach
   pub cause : Cause w reach error
@@ -164,7 +164,7 @@ pub record TellsFailed (w : WalkInHistory) (error : Errno) : Type 0 where
 abbrev pub MakeTells : WalkInHistory → MakeTurn → Type 0
 MakeTells w (more call) = Unit {0}
 MakeTells w (made handle names) = TellsMade w handle names
-MakeTells w (failed error) = TellsFailed w error
+MakeTells w (failed error) = TellsMakingFailed w error
 
 -- Each call in each legal history ends so: where the lines that it was told lead it to this end.
 abbrev pub MakesTell : Type 0

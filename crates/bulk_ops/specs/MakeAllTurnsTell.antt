@@ -4,8 +4,7 @@ use Rattle.path_text.specs.Reading.{Reading}
 use Rattle.tree_model.specs.declared.answer.Answer.{Answer}
 use Rattle.tree_model.specs.declared.answer.Answer.TheVariants.{Refused}
 use Rattle.step_resolver.specs.Order.{Way, Line, answered, no_room, not_made, IsWant}
-use Rattle.step_resolver.specs.Order as walk
-use Rattle.step_resolver.specs.TurnsTell.{first_lines}
+use Rattle.step_resolver.specs.TurnsTell.{IsBegun}
 use Rattle.step_resolver.specs.WalkHistory.{WalkInHistory, IsWalkInHistory}
 use Rattle.bulk_ops.specs.MakeAllOrder.{Making, more, begins, starts, take, due, is_closing, LeadsTo}
 use Rattle.bulk_ops.specs.MakeAllTells.{MakeTells}
@@ -36,15 +35,9 @@ pub record TellsTaken (way : Way) (call : Making) (answer : Answer) (result : Bu
   pub is_turn : IsTurn result (take way room call answer)
   pub tells : (w : WalkInHistory) → IsTaken way room call answer w → MakeTells w (take way room call answer)
 
--- A call on this way, along this path, in a legal history was told no more than that its first step wasn't made,
--- where a walk that would go on found no memory.
-pub record IsBegun (way : Way) (room : Bool) (path : Reading) (w : WalkInHistory) : Type 0 where
-  pub walked : IsWalkInHistory w
-  pub same_way : w.way ≡ way
-  pub same_path : w.path ≡ path
-  pub lines : w.lines ≡ first_lines room (walk.begins way path)
-
--- The first turn is the one with which the order of steps begins, and it tells this of each such history.
+-- The first turn is the one with which the order of steps begins, and it tells this of each history in which a walk
+-- on this way, along this path, was told no more than that its first step wasn't made, where one that would go on
+-- found no memory.
 pub record TellsBegun (way : Way) (path : Reading) (result : BulkTurn MakingView) : Type 0 where
   pub room : Bool
   pub is_turn : IsTurn result (starts way room path)

@@ -156,11 +156,11 @@ TellsFault w dir Loop = ⊥
 -- ---- the parts of a call
 
 -- the walk's part of the window, with what the walk was told; and what comes after it
-abbrev pub first_part : WalkInHistory → List Event → List Line → WalkInHistory
-first_part w window lines = record w { window = window; lines = lines }
+abbrev pub walk_part : WalkInHistory → List Event → List Line → WalkInHistory
+walk_part w window lines = record w { window = window; lines = lines }
 
-abbrev pub second_part : WalkInHistory → List Event → List Event → List Line → WalkInHistory
-second_part w first window lines = record w { before = w.before ++ first; window = window; lines = lines }
+abbrev pub rest_part : WalkInHistory → List Event → List Event → List Line → WalkInHistory
+rest_part w first window lines = record w { before = w.before ++ first; window = window; lines = lines }
 
 -- The walk found an object, by this handle, in the first part of the window, and left all entries; and the call
 -- cleared in the second.
@@ -174,12 +174,12 @@ pub record Parts (w : WalkInHistory) : Type 0 where
   pub handle : Handle
   pub names : List (List ℕ)
   pub walked : walk.LeadsTo w.way (walk.begins w.way w.path) walk_lines (walk.found handle names)
-  pub is_walk : IsWalkInHistory (first_part w walk_window walk_lines)
-  pub opens : Opens (first_part w walk_window walk_lines) handle names
-  pub leaves : AllLeaveEntries (first_part w walk_window walk_lines)
+  pub is_walk : IsWalkInHistory (walk_part w walk_window walk_lines)
+  pub opens : Opens (walk_part w walk_window walk_lines) handle names
+  pub leaves : AllLeaveEntries (walk_part w walk_window walk_lines)
 
-abbrev pub clears : (w : WalkInHistory) → Parts w → WalkInHistory
-clears w parts = second_part w parts.walk_window parts.window parts.lines
+abbrev pub clearing_part : (w : WalkInHistory) → Parts w → WalkInHistory
+clearing_part w parts = rest_part w parts.walk_window parts.window parts.lines
 
 -- ---- the whole
 
@@ -190,18 +190,18 @@ IsBounded lines = AllClose (drop CLEARING_STEPS_MAX lines)
 -- So many entries were removed, and the target at last.
 pub record TellsRemoved (w : WalkInHistory) (target : List ℕ) (count : ℕ) : Type 0 where
   pub parts : Parts w
-  pub entries : OnlyTakesAway (clears w parts) parts.handle.node target
-  pub bounded : IsBounded (clears w parts).lines
+  pub entries : OnlyTakesAway (clearing_part w parts) parts.handle.node target
+  pub bounded : IsBounded (clearing_part w parts).lines
   pub counted : count ≡ removals w.lines
-  pub last : IsLastOnTarget (clears w parts) parts.handle.node target
+  pub last : IsLastOnTarget (clearing_part w parts) parts.handle.node target
   pub handles : HandlesStay w
 
 -- The fault is the clearing's.
 pub record TellsGivenUp (w : WalkInHistory) (target : List ℕ) (error : Errno) : Type 0 where
   pub parts : Parts w
-  pub entries : OnlyTakesAway (clears w parts) parts.handle.node target
-  pub bounded : IsBounded (clears w parts).lines
-  pub fault : TellsFault (clears w parts) parts.handle.node error
+  pub entries : OnlyTakesAway (clearing_part w parts) parts.handle.node target
+  pub bounded : IsBounded (clearing_part w parts).lines
+  pub fault : TellsFault (clearing_part w parts) parts.handle.node error
 
 -- the walk's, which fails in this way, and is all that the call did; it left all entries
 pub record TellsWalkFailed (w : WalkInHistory) (error : Errno) : Type 0 where
@@ -209,7 +209,7 @@ pub record TellsWalkFailed (w : WalkInHistory) (error : Errno) : Type 0 where
   pub true_once : TellsError w error
   pub leaves : AllLeaveEntries w
 
-pub record TellsFailed (w : WalkInHistory) (target : List ℕ) (error : Errno) : Type 0 where
+pub record TellsRemovalFailed (w : WalkInHistory) (target : List ℕ) (error : Errno) : Type 0 where
   pub why : TellsWalkFailed w error ⊎ TellsGivenUp w target error
   pub handles : HandlesStay w
 
@@ -217,7 +217,7 @@ pub record TellsFailed (w : WalkInHistory) (target : List ℕ) (error : Errno) :
 abbrev pub Tells : WalkInHistory → List ℕ → Turn → Type 0
 Tells w target (more call) = Unit {0}
 Tells w target (removed count) = TellsRemoved w target count
-Tells w target (failed error) = TellsFailed w target error
+Tells w target (failed error) = TellsRemovalFailed w target error
 
 -- Each call in each legal history ends so: where the lines that it was told lead it to this end. As for a walk, the
 -- actor's own events in the window are those of the call, and the root's handle is open, its own, and on a

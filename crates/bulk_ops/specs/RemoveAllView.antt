@@ -4,7 +4,7 @@ use Rattle.tree_model.specs.declared.answer.Answer.{Answer}
 use Rattle.handles.specs.Objects.{ReachedObject}
 use Rattle.bulk_ops.specs.declared.remove_all.clearing.Stage.TheVariants as stage
 use Rattle.bulk_ops.specs.declared.remove_all.clearing.End.TheVariants as end
-use Rattle.step_resolver.specs.View.{opens_a_name}
+use Rattle.step_resolver.specs.View.{numbers_of, opens_a_name}
 use Rattle.bulk_ops.specs.declared.remove_all.phase.Phase.{Phase}
 use Rattle.bulk_ops.specs.declared.remove_all.phase.Phase.TheVariants as phase
 use Rattle.bulk_ops.specs.declared.remove_all.phase.WalkTo.{WalkTo}
@@ -37,10 +37,6 @@ abbrev pub dirs_of : List Frame → List ℕ
 dirs_of frames = dirs (levels_of frames)
 
 -- ---- steps
-
-abbrev pub numbers_of : Option ReachedObject → List ℕ
-numbers_of None = []
-numbers_of (Some held) = held.handle ∷ []
 
 abbrev pub stage_of : CodeStage → Stage
 stage_of stage.RemoveFile = removes_file

@@ -14,6 +14,7 @@
 //! these alone.
 #![tactic(auto)]
 
+mod answers;
 mod held;
 mod like_laws;
 mod make_all;

@@ -1,10 +1,10 @@
 //! All that is missing of a path is made.
-ghost use Rattle.std.specs.Prelude.{◌≡◌, ◌<◌, ◌≤◌, ◌++◌, ◌∷◌, [], drop, suc, reverse, length, Bool, None, IfOk, IsOk, OnOk, true, false};
-ghost use Rattle.step_resolver.specs.Order.{is_dir_kind, refusal_of};
-ghost use Rattle.step_resolver.specs.View.{check_refusal};
+ghost use Rattle.std.specs.Prelude.{◌≡◌, ◌<◌, ◌≤◌, ◌++◌, ◌∷◌, drop, suc, reverse, length, Bool, None, IfOk, IsOk, OnOk, true, false};
+ghost use Rattle.step_resolver.specs.Order.{is_dir_kind};
 ghost use Rattle.bulk_ops.specs.MakeAllOrder.{raced_if_missing};
 ghost use Rattle.bulk_ops.specs.MakeAllView.{fault_in, names_in};
 
+use crate::answers::{check_refusal, refusal_of};
 use crate::turn::BulkTurn;
 use handles::{Reached, Standing};
 use path_text::{Errno, Flags, Name, Names, NoMemory, PARTS_MAX, Part, Parts, Path};
@@ -413,26 +413,6 @@ fn fault_in(rest: &Parts) -> Option<Errno>
         }
     }
     None
-}
-
-// The refusal that an answer is. One that doesn't fit the step counts as BadHandle.
-fn refusal_of(answer: &Answer) -> Errno
-    ensures { result ≡ refusal_of answer.now }
-{
-    match answer {
-        Answer::Refused(error) => *error,
-        _ => Errno::BadHandle,
-    }
-}
-
-// Why the check of a place failed, where it did: other names, or none, are Raced (EAGAIN of openat2(2)).
-fn check_refusal(answer: &Answer) -> Errno
-    ensures { result ≡ check_refusal answer.now }
-{
-    match answer {
-        Answer::Names(_) | Answer::NotBelow => Errno::Raced,
-        other => refusal_of(other),
-    }
 }
 
 // What is missing now was there a step before: somebody took it away.

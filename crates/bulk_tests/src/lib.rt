@@ -2,6 +2,12 @@
 #![tactic(auto)]
 
 #[cfg(test)]
+mod calls;
+#[cfg(test)]
 mod mkdir_all;
 #[cfg(test)]
+mod pairs;
+#[cfg(test)]
 mod remove_all;
+#[cfg(test)]
+mod rows;

@@ -1,6 +1,6 @@
-//! Calls over the plain tree and over the indexed one: each operation and each of its refusals where nobody else acts, and
-//! the bulk calls among others' steps, as openat2(2), mkdir(2), symlink(2), unlink(2), rmdir(2), rename(2) and readlink(2)
-//! tell of them.
+//! Calls over the plain tree and over the indexed one: each operation and each of its refusals where nobody else acts,
+//! and the bulk calls among others' steps, as openat2(2), mkdir(2), symlink(2), unlink(2), rmdir(2), rename(2) and
+//! readlink(2) tell of them.
 ghost use Rattle.std.specs.Prelude.{◌<◌};
 ghost use Rattle.root_ops.specs.Order.{steps_left};
 ghost use Rattle.root_ops.specs.TurnView.{steps_to_come};
@@ -13,15 +13,15 @@ use path_text::{Errno, Flags, NoMemory};
 use root_ops::{Call, CallTurn, Op, Reply, Request};
 use std::alloc::Global;
 use std::test::*;
-use transcript::Output;
+use step_text::Output;
 use tree_model::{Actor, Answer, HandleNo, Tree};
 use tree_slab::SlabTree;
 
 /// The tag of the root's owner.
 pub const OWN: u64 = 7;
 
-// Below, a line has calls on one base tree, one after another and each released again; of each: the number of its steps,
-// or `*`, and its reply.
+// Below, a line has calls on one base tree, one after another and each released again; of each: the number of its
+// steps, or `*`, and its reply. After a backslash it goes on.
 
 const RENAMES: &str = "rename a a/b/x plain -> 9 fault EINVAL
 rename a a/b exchange -> * fault EINVAL
@@ -45,24 +45,39 @@ rename a/b/x/y none/z plain -> 5 fault ENOENT
 rename a none/z plain -> * fault ENOENT";
 
 const CHANGES: &str =
-    "create_file a/n -> 4 done, create_file a/n -> * fault EEXIST, resolve a/n -> * opened file 11 /a/n, create_file abs -> * fault EEXIST, create_file x/ -> 0 fault ENOTDIR, create_file a/b/f/x -> * fault ENOTDIR, create_dir d/ -> * done, resolve d -> * opened dir 12 /d, create_link l  -> * fault ENOENT, create_link l q -> * done, no_follow l -> * opened link 13 /l, read_link abs -> * text /a/b, read_link a -> * fault EINVAL, read_link abs/ -> * fault EINVAL, remove_file a -> * fault EISDIR, remove_dir abs -> * fault ENOTDIR, remove_dir a -> * fault ENOTEMPTY, remove_dir a/. -> 0 fault EINVAL, remove_dir / -> 0 fault EINVAL, remove_file abs -> * done, no_follow abs -> * fault ENOENT, remove_all d -> 8 count 1, dup 0 -> 0 fault EINVAL
+    "create_file a/n -> 4 done, create_file a/n -> * fault EEXIST, resolve a/n -> * opened file 11 /a/n, \
+    create_file abs -> * fault EEXIST, create_file x/ -> 0 fault ENOTDIR, create_file a/b/f/x -> * fault ENOTDIR, \
+    create_dir d/ -> * done, resolve d -> * opened dir 12 /d, create_link l  -> * fault ENOENT, \
+    create_link l q -> * done, no_follow l -> * opened link 13 /l, read_link abs -> * text /a/b, \
+    read_link a -> * fault EINVAL, read_link abs/ -> * fault EINVAL, remove_file a -> * fault EISDIR, \
+    remove_dir abs -> * fault ENOTDIR, remove_dir a -> * fault ENOTEMPTY, remove_dir a/. -> 0 fault EINVAL, \
+    remove_dir / -> 0 fault EINVAL, remove_file abs -> * done, no_follow abs -> * fault ENOENT, \
+    remove_all d -> 8 count 1, dup 0 -> 0 fault EINVAL
 create_dir none/d -> * fault ENOENT, create_dir a -> * fault EEXIST, create_dir .. -> 0 fault EINVAL
-create_link a q -> * fault EEXIST, create_link l/ q -> 0 fault ENOTDIR, create_link abs/l q -> * done, read_link a/b/l -> * text q
+create_link a q -> * fault EEXIST, create_link l/ q -> 0 fault ENOTDIR, create_link abs/l q -> * done, \
+    read_link a/b/l -> * text q
 remove_file none -> * fault ENOENT, remove_file a/b/f/ -> 0 fault ENOTDIR, remove_file loop/x -> * fault ELOOP
 remove_dir none -> * fault ENOENT, create_dir d -> * done, remove_dir d/ -> * done, resolve d -> * fault ENOENT
 read_link none -> * fault ENOENT, read_link up -> * text ../../a
-no_follow up/ -> * opened dir 2 /a, resolve up -> * opened dir 2 /a, resolve  -> 0 fault ENOENT, no_follow / -> 2 opened dir 1 /";
+no_follow up/ -> * opened dir 2 /a, resolve up -> * opened dir 2 /a, resolve  -> 0 fault ENOENT, \
+    no_follow / -> 2 opened dir 1 /";
 
 const BULK: &str =
-    "mkdir_all abs/n/m -> 15 opened dir 12 /a/b/n/m, mkdir_all abs/n/m -> * opened dir 12 /a/b/n/m, mkdir_all a/b/f -> * fault ENOTDIR, mkdir_all a/b/f/q -> * fault ENOTDIR
-mkdir_all dang/q -> * fault ENOENT, mkdir_all x/../m -> * fault ENOENT, resolve x -> * fault ENOENT, mkdir_all / -> * opened dir 1 /, mkdir_all  -> 0 fault ENOENT
-create_link a/b/s /secret -> * done, remove_all a -> 15 count 4, remove_all a -> 4 count 0, resolve a -> * fault ENOENT
-remove_all a/b/ -> * count 2, resolve a -> * opened dir 2 /a, remove_all abs -> * count 1, remove_all abs/ -> * count 0
-remove_all a/.. -> 0 fault EINVAL, remove_all / -> 0 fault EINVAL, remove_all a/b/f/x -> * fault ENOTDIR, remove_all none/x -> * fault ENOENT";
+    "mkdir_all abs/n/m -> 15 opened dir 12 /a/b/n/m, mkdir_all abs/n/m -> * opened dir 12 /a/b/n/m, \
+    mkdir_all a/b/f -> * fault ENOTDIR, mkdir_all a/b/f/q -> * fault ENOTDIR
+mkdir_all dang/q -> * fault ENOENT, mkdir_all x/../m -> * fault ENOENT, resolve x -> * fault ENOENT, \
+    mkdir_all / -> * opened dir 1 /, mkdir_all  -> 0 fault ENOENT
+create_link a/b/s /secret -> * done, remove_all a -> 15 count 4, remove_all a -> 4 count 0, \
+    resolve a -> * fault ENOENT
+remove_all a/b/ -> * count 2, resolve a -> * opened dir 2 /a, remove_all abs -> * count 1, \
+    remove_all abs/ -> * count 0
+remove_all a/.. -> 0 fault EINVAL, remove_all / -> 0 fault EINVAL, remove_all a/b/f/x -> * fault ENOTDIR, \
+    remove_all none/x -> * fault ENOENT";
 
 const SINGLES: &str = "list 0 -> 1 stepped listed 5 a abs dang loop up
 make_dir 0 d -> 1 stepped done, make_dir 0 d -> 1 fault EEXIST, below 0 0 -> 1 stepped names /
-dup 0 -> 0 fault EINVAL, open 0 a -> 0 fault EINVAL, parent 0 -> 0 fault EINVAL, close 0 -> 0 fault EINVAL, list 9 -> 1 fault EBADF";
+dup 0 -> 0 fault EINVAL, open 0 a -> 0 fault EINVAL, parent 0 -> 0 fault EINVAL, close 0 -> 0 fault EINVAL, \
+    list 9 -> 1 fault EBADF";
 
 const WITH_BENEATH: &str = "resolve /a -> 0 fault EXDEV
 resolve .. -> 0 fault EXDEV
@@ -103,8 +118,8 @@ struct Table<'a> {
     /// Others make these steps after so many of each call. Their handles are 1 on `/c`, 2 on `/c/a` and 3 on `/secret`.
     after: u32,
     others: &'a str,
-    /// What a call opened: the step that is made before it is released, the tag of the owner that releases it, how the release
-    /// ends, and how many handles the root's owner has then.
+    /// What a call opened: the step that is made before it is released, the tag of the owner that releases it, how the
+    /// release ends, and how many handles the root's owner has then.
     before: &'a str,
     tag: u64,
     released: &'a str,

@@ -35,7 +35,7 @@ fn step_of_copy<T: Tree>(alloc: Global, tree: &mut T, call: Call) -> CallTurn
     }
 }
 
-/// The reply at a call's end, and the number of steps to there, where each is made by a copy of what made the one before.
+/// The reply at a call's end, and the number of steps to there, each made by a copy of what made the one before.
 pub fn run_copies<T: Tree>(alloc: Global, tree: &mut T, mut turn: CallTurn) -> (Reply, u32) {
     let mut steps: u32 = 0;
     loop {

@@ -96,7 +96,7 @@ fn have_their_handle(alloc: Global) -> bool {
     pushes(opened(7, 1), &mut handles) && pushes(Answer::Done, &mut handles) && are(&handles, &[7])
 }
 
-// A call, another that is made on an equal tree on which each handle's number is one greater, and whether these are alike.
+// A call, another on an equal tree where each handle's number is one greater, and whether the two are alike.
 const CALLS: [(&str, &str, bool); 12] = [
     ("resolve abs/f", "resolve abs/f", true),
     ("read_link a/../abs", "read_link a/../abs", true),

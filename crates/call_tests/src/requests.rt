@@ -5,7 +5,7 @@ use fixtures::PLAIN;
 use path_text::{Bytes, Flags, NoMemory};
 use root_ops::{Op, Request};
 use std::alloc::Global;
-use transcript::read_step;
+use step_text::read_step;
 use tree_model::Mode;
 
 // A word, and what comes after it.
@@ -38,8 +38,8 @@ fn op_on(word: &str, path: Bytes, text: Bytes, mode: Mode) -> Op {
     }
 }
 
-// The single step that a line is, or else the operation that its words are: an operation's word, a path, and for a link or a
-// rename the second text and the mode.
+// The single step that a line is, or else the operation that its words are: an operation's word, a path, and for a link
+// or a rename the second text and the mode.
 fn op_of(alloc: Global, line: &str) -> Result<Op, NoMemory> {
     if let Some(step) = read_step(alloc, line.as_bytes())? {
         return Ok(Op::Single(step));

@@ -15,8 +15,8 @@ use Rattle.command_line.specs.declared.commands.Request.TheVariants as request
 use Rattle.command_line.specs.declared.commands.Walking.{Walking}
 use Rattle.script_drawings.specs.declared.drawing.Form.{Form}
 use Rattle.script_drawings.specs.declared.drawing.Form.TheVariants.{Text, Svg}
-use Rattle.surveys.specs.declared.options.Options.{Options}
-use Rattle.surveys.specs.Options.{texts_in}
+use Rattle.explore_text.specs.declared.options.Options.{Options}
+use Rattle.explore_text.specs.Options.{texts_in}
 
 -- the option's value is `true` or `false`; without one it isn't set
 pub record IsOption (matches : ArgMatches) (id : List ℕ) (set : Bool) : Type 0 where

@@ -13,10 +13,10 @@ use Rattle.scripts.specs.declared.turns.TurnOrder.TheVariants.{OfScript, Asked}
 use Rattle.scripts.specs.declared.turns.Turns.{Turns}
 use Rattle.scripts.specs.Turns.{SaysTurns}
 use Rattle.script_drawings.specs.declared.drawing.DrawFault.TheVariants as drawing
-use Rattle.surveys.specs.declared.options.OptionFault.{OptionFault}
-use Rattle.surveys.specs.declared.options.OptionFault.TheVariants as option
-use Rattle.surveys.specs.declared.script.ExploreFault.{ExploreFault}
-use Rattle.surveys.specs.declared.script.ExploreFault.TheVariants as explore
+use Rattle.explore_text.specs.declared.options.OptionFault.{OptionFault}
+use Rattle.explore_text.specs.declared.options.OptionFault.TheVariants as option
+use Rattle.explore_text.specs.declared.script.ExploreFault.{ExploreFault}
+use Rattle.explore_text.specs.declared.script.ExploreFault.TheVariants as explore
 
 abbrev pub ANSWERED : ℕ
 ANSWERED = 0

@@ -1,16 +1,16 @@
 //! The command line.
-ghost use Rattle.std.specs.Prelude.{◌≡◌, codes, IfSome};
-ghost use Rattle.command_line.specs.Command.{IsAsked, IsDrawing, IsExploration, IsOption, IsRequest, IsSchedule, IsStrict, IsWorkers, texts_given};
-ghost use Rattle.surveys.specs.Options.{texts_in};
+ghost use Rattle.std.specs.Prelude.{◌≡◌, IfSome};
+ghost use Rattle.command_line.specs.Command.{IsAsked, IsDrawing, IsExploration, IsRequest, IsSchedule, IsStrict, IsWorkers, texts_given};
+ghost use Rattle.explore_text.specs.Options.{texts_in};
 
 use clap::builder::ValueParser;
 use clap::{Arg, ArgAction, ArgMatches, Command};
 use drawings::Closes;
+use explore_text::Options;
 use path_text::Flags;
 use script_drawings::{Form, Style};
 use script_jobs::WORKERS_MAX;
 use std::alloc::{AllocError, Global};
-use surveys::Options;
 
 // The names of the commands, the id of the path that `walk` takes, and the options by their ids, which are their
 // names.
@@ -125,7 +125,9 @@ fn schedule<'a>(alloc: Global) -> Arg<'a> {
         .long(SCHEDULE)
         .value_name("TURNS")
         .action(ArgAction::Set)
-        .help("Take these turns first: I or I*N between commas, for actor I, or - for none")
+        .help(
+            "Take these turns, and not the script's: I or I*N between commas, for actor I; - for none",
+        )
 }
 
 // The command `replay`.
@@ -184,7 +186,7 @@ fn run<'a>(alloc: Global) -> Result<Command<'a>, AllocError> {
         .help("How many workers there are, 1 to 8");
     Command::new(alloc, RUN)
         .about("Let workers make the first actor's calls side by side, and print how they ended")
-        .override_usage("inroot run --workers <N> < SCRIPT")
+        .override_usage("inroot run [OPTIONS] --workers <N> < SCRIPT")
         .after_help(RUNNING)
         .arg(workers)?
         .arg(strict(alloc))
@@ -194,9 +196,10 @@ fn run<'a>(alloc: Global) -> Result<Command<'a>, AllocError> {
 const EXPLORING: &str =
     "SCRIPT is a JSON text on standard input, as for replay. Its schedule isn't used.
 
-Prints how many schedules there are, by how many different states they go, how many
-turns the longest has, and a block for each outcome: how many schedules lead to it,
-and one that replay takes, with how many calls it cuts. TEXT is a line's beginning, as 'reply 0 0 fault' or 'held 0 1'.
+Prints how many schedules there are, how many different states they go through, how many
+turns the longest has, and a block for each outcome: how many schedules lead to it, and
+one that replay takes, with how many calls it cuts. A line has TEXT where it is TEXT, or
+begins with TEXT and a blank, as 'reply 0 0 fault' or 'held 0 1'.
 
 Example:
   inroot explore --actor 0 < examples/attacks/moved-out.json";
@@ -237,7 +240,7 @@ fn explore<'a>(alloc: Global) -> Result<Command<'a>, AllocError> {
         STATES,
         "N",
         ArgAction::Set,
-        "Tell nothing past N different states: 1 to 10000000, or 100000",
+        "Give up past N different states: 1 to 10000000, or 100000",
     );
     let outside = option(
         alloc,
@@ -249,14 +252,14 @@ fn explore<'a>(alloc: Global) -> Result<Command<'a>, AllocError> {
         NEVER,
         "TEXT",
         ArgAction::Append,
-        "Tell whether no report has a line that begins so",
+        "Tell whether no report has a line with TEXT",
     );
     let always = valued(
         alloc,
         ALWAYS,
         "TEXT",
         ArgAction::Append,
-        "Tell whether every report has a line that begins so",
+        "Tell whether every report has a line with TEXT",
     );
     Command::new(alloc, EXPLORE)
         .about("Run the actors' calls by every schedule, and print what came of them")

@@ -3,11 +3,11 @@ use Rattle.std.proofs.Common.{◌≡◌, ℕ, suc, ◌+◌, List, ◌++◌, drop
 use Rattle.std.specs.Prelude.{Some, Result, Ok, Err, OnOk, slice_get, codes}
 use Rattle.std.specs.List.{flat_map}
 use Rattle.std.proofs.lemmas.List.{append_assoc}
-use Rattle.report_text.proofs.Numbered.{next_left}
+use Rattle.report_text.proofs.AddedLines.{next_left}
 use Rattle.tree_model.specs.declared.answer.Event.{Event}
 use Rattle.tree_model.specs.History.{after_event}
 use Rattle.tree_model.specs.State.{State}
-use Rattle.transcript.specs.Output.{escaped, Gains}
+use Rattle.step_text.specs.Output.{escaped, Gains}
 use Rattle.drawings.specs.declared.picture.Closes.{Closes}
 use Rattle.drawings.specs.declared.picture.Line.{Line}
 use Rattle.drawings.specs.Events.{spaced}

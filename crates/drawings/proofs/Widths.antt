@@ -4,7 +4,7 @@ use Rattle.std.specs.Prelude.{nat_le, if◌then◌else◌, codes}
 use Rattle.std.proofs.lemmas.Bool.Decides.{nat_tests}
 use Rattle.std.proofs.lemmas.List.{length-append, length-replicate, length-take-le}
 use Rattle.std.proofs.lemmas.Fmt.{length-decimal-le}
-use Rattle.transcript.specs.Words.{BLANK}
+use Rattle.step_text.specs.Words.{BLANK}
 use Rattle.drawings.specs.declared.text.TheConstants.{LINE_COLUMNS, MARK_COLUMNS}
 use Rattle.drawings.specs.Cells.{cut, fitted, to_right}
 use Rattle.drawings.specs.DrawingLaws.{RowsFit, MarksFit, HeadingFits}

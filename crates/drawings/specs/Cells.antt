@@ -1,6 +1,6 @@
 -- What a place of a picture shows of a text.
 use Rattle.std.specs.Prelude.{ℕ, ◌-◌, List, [], ◌++◌, length, take, replicate, nat_le, if◌then◌else◌, Option, Some, None, codes, decimal}
-use Rattle.transcript.specs.Words.{BLANK}
+use Rattle.step_text.specs.Words.{BLANK}
 
 -- the text, or what there is room for before a tilde
 abbrev pub cut : ℕ → List ℕ → List ℕ

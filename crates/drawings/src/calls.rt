@@ -1,6 +1,6 @@
 //! What an actor calls for, in the words that a script has for it.
 ghost use Rattle.std.specs.Prelude.{◌≡◌, [], ◌∷◌, ◌++◌, map, IfOk, OnOk};
-ghost use Rattle.transcript.specs.Output.{Gains};
+ghost use Rattle.step_text.specs.Output.{Gains};
 ghost use Rattle.drawings.specs.Calls.{ref_words, with_ref, with_name, with_text, single_words, op_words, word_if, call_words, calls_of};
 
 use crate::events::mode_words;
@@ -9,7 +9,7 @@ use race_core::{ActorPlan, Planned, Ref};
 use root_ops::Op;
 use std::alloc::Global;
 use std::marker::Model;
-use transcript::Output;
+use step_text::Output;
 use tree_model::StepOf;
 
 /// What an actor calls for, by the calls' numbers. Contracts see it as the list of the calls' words.

@@ -1,7 +1,7 @@
 //! The heading: each actor's root, and how its calls ended.
 ghost use Rattle.std.specs.Prelude.{◌≡◌, ◌++◌, ◌<◌, ◌≤◌, [], ◌∷◌, length, slice_get, IfOk, OnOk};
 ghost use Rattle.std.specs.Option.{option_copied};
-ghost use Rattle.transcript.specs.Output.{Gains};
+ghost use Rattle.step_text.specs.Output.{Gains};
 ghost use Rattle.drawings.specs.Picture.{root_head, reply_tone, reply_text, call_head, call_heads, outcomes_at, actor_heads, heads_of};
 
 use crate::calls::CallWords;
@@ -11,7 +11,7 @@ use path_text::NoMemory;
 use race_core::{Outcome, Outcomes};
 use report_text::reply_words;
 use std::alloc::Global;
-use transcript::Output;
+use step_text::Output;
 use tree_model::{Actor, HandleNo, Snapshot};
 
 // The line of an actor's root.

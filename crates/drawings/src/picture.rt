@@ -13,8 +13,8 @@ use path_text::NoMemory;
 use race_core::Outcomes;
 use std::alloc::Global;
 use std::marker::Model;
+use step_text::Output;
 use thiserror::Error;
-use transcript::Output;
 use tree_list::ListTree;
 use tree_model::{Answer, Event, Snapshot, StepOf, Tree};
 

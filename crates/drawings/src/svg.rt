@@ -1,6 +1,6 @@
 //! A picture as SVG (Scalable Vector Graphics 1.1, W3C).
 ghost use Rattle.std.specs.Prelude.{◌≡◌, ◌<◌, ◌≤◌, ◌+◌, ◌++◌, length, All, OnOk, codes};
-ghost use Rattle.transcript.specs.Output.{Gains};
+ghost use Rattle.step_text.specs.Output.{Gains};
 ghost use Rattle.drawings.specs.declared.picture.Head.{Head as HeadValue};
 ghost use Rattle.drawings.specs.DrawingLaws.{AreBytes, IsLine};
 ghost use Rattle.drawings.specs.Xml.{IsDocument};
@@ -10,7 +10,7 @@ use crate::cells::{actor_name, cut, mark_of};
 use crate::picture::{ACTORS_MAX, Head, LINES_MAX, Line, Picture, Tone};
 use path_text::NoMemory;
 use std::alloc::Global;
-use transcript::Output;
+use step_text::Output;
 
 /// How many bytes of a text are shown.
 pub const SHOWN_MAX: usize = 55;

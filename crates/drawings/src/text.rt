@@ -1,7 +1,7 @@
 //! A picture as text.
 ghost use Rattle.std.specs.Prelude.{◌≡◌, ◌<◌, ◌≤◌, ◌++◌, codes};
 ghost use Rattle.std.specs.List.{flat_map};
-ghost use Rattle.transcript.specs.Output.{Gains};
+ghost use Rattle.step_text.specs.Output.{Gains};
 ghost use Rattle.drawings.specs.Cells.{fitted, actor_name};
 ghost use Rattle.drawings.specs.Text.{cell_width, shown, cells, head_row, line_row, heading_row, table, text_of};
 
@@ -9,7 +9,7 @@ use crate::cells::{actor_name, cut, fitted, mark_of, to_right};
 use crate::picture::{ACTORS_MAX, Head, Line, Picture};
 use path_text::NoMemory;
 use std::alloc::Global;
-use transcript::Output;
+use step_text::Output;
 
 /// How wide a line is at most, without the newline.
 pub const LINE_COLUMNS: usize = 100;

@@ -1,6 +1,6 @@
 -- Names written one after another.
 use Rattle.std.specs.Prelude.{ℕ, List, [], ◌∷◌, ◌++◌}
-use Rattle.transcript.specs.Output.{escaped}
+use Rattle.step_text.specs.Output.{escaped}
 
 -- a mark before each
 abbrev pub names_after : List ℕ → List (List ℕ) → List ℕ

@@ -2,8 +2,8 @@
 ghost use Rattle.std.specs.Prelude.{◌≡◌, ◌≤◌, ◌<◌, suc, ◌+◌, ◌++◌, [], ◌∷◌, true, length, take, slice_get, Some, IsTrue, ◌↔◌, IfOk, IfSome, OnOk, OnErr, IsOk};
 ghost use Rattle.tree_model.specs.declared.answer.Answer.TheVariants.{Done as DoneAnswer};
 ghost use Rattle.tree_model.specs.declared.step.StepOf.TheVariants.{Close as CloseStep};
-ghost use Rattle.transcript.specs.Output.{Gains};
-ghost use Rattle.transcript.specs.Words.{event_words};
+ghost use Rattle.step_text.specs.Output.{Gains};
+ghost use Rattle.step_text.specs.Words.{event_words};
 ghost use Rattle.event_log.specs.Records.{event_with, event_texts, events_read, texts_of, IsLog};
 ghost use Rattle.event_log.specs.Shapes.{step_texts, answer_texts};
 
@@ -15,7 +15,7 @@ use crate::write::{add_event, answer_len, step_len};
 use path_text::NoMemory;
 use std::alloc::Global;
 use std::marker::Model;
-use transcript::Output;
+use step_text::Output;
 use tree_model::{Actor, Answer, Event, HandleNo, Step};
 
 mod copy;
@@ -39,7 +39,11 @@ impl Model for EventLog {
 
     ghost Value = { Log };
 
-    ghost view = { λ l. record { events = events_read l.bytes.items l.records.items; room = vec_capacity l.records - vec_len l.records; text_room = room_for_texts (vec_capacity l.bytes) (vec_len l.bytes) } };
+    ghost view = { λ l. record {
+      events = events_read l.bytes.items l.records.items;
+      room = vec_capacity l.records - vec_len l.records;
+      text_room = room_for_texts (vec_capacity l.bytes) (vec_len l.bytes);
+    } };
 
     ghost invariant = { λ l. IsLog l.bytes.items l.records.items };
 }

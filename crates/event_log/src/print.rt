@@ -1,16 +1,16 @@
 //! What lies in the buffer, written as the words of a line in place.
 ghost use Rattle.std.specs.Prelude.{◌≡◌};
 ghost use Rattle.path_text.specs.Print.{printed};
-ghost use Rattle.transcript.specs.Lent.{lent_step};
-ghost use Rattle.transcript.specs.Output.{Gains, escaped};
-ghost use Rattle.transcript.specs.Words.{line_of, step_words, answer_words};
+ghost use Rattle.step_text.specs.Lent.{lent_step};
+ghost use Rattle.step_text.specs.Output.{Gains, escaped};
+ghost use Rattle.step_text.specs.Words.{line_of, step_words, answer_words};
 ghost use Rattle.event_log.specs.Shapes.{step_read, answer_read, pieces_read};
 ghost use Rattle.event_log.specs.Printed.{names_after};
 
 use crate::read::{after_piece, back, first_piece, front};
 use crate::shape::{AnswerShape, StepShape};
 use path_text::NoMemory;
-use transcript::{AnswerHead, LentStep, Output};
+use step_text::{AnswerHead, LentStep, Output};
 
 // The step of that shape, whose names and text the bytes begin with and lend.
 fn lent_step<'a>(shape: &StepShape, bytes: &'a [u8]) -> LentStep<'a>

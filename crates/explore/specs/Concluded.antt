@@ -2,11 +2,11 @@
 use Rattle.std.specs.Prelude.{◌≡◌, ◌<◌, ◌^◌, ℕ, List, length, slice_get, Some}
 use Rattle.std.specs.Global.{Vec}
 use Rattle.race_core.specs.Worlds.{WorldView}
-use Rattle.turn_graph.specs.declared.graph.Spot.{Spot}
-use Rattle.turn_graph.specs.declared.count.Count.{Count}
-use Rattle.turn_graph.specs.declared.count.Counts.{Counts}
-use Rattle.turn_graph.specs.Words as words
-use Rattle.turn_graph.specs.Counted.{AreCounts}
+use Rattle.schedule_graph.specs.declared.graph.Spot.{Spot}
+use Rattle.schedule_graph.specs.declared.count.Count.{Count}
+use Rattle.schedule_graph.specs.declared.count.Counts.{Counts}
+use Rattle.schedule_graph.specs.Words as words
+use Rattle.schedule_graph.specs.Counted.{AreCounts}
 use Rattle.explore.specs.declared.limits.Scope.{Scope}
 use Rattle.explore.specs.Lists.{cuts, changes}
 use Rattle.explore.specs.Explored.{IsAsked, AgreeIn, ClassView, IsEnding}

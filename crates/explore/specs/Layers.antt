@@ -2,23 +2,24 @@
 use Rattle.std.specs.Prelude.{◌≡◌, ◌<◌, ◌≤◌, ◌⊎◌, ℕ, suc, List, [], ◌∷◌, ◌++◌, Bool, true, length, Option, Some, None, slice_get}
 use Rattle.std.specs.Global.{Vec}
 use Rattle.race_core.specs.declared.opening.TheConstants.{ACTORS_MAX}
-use Rattle.race_core.specs.Worlds.{WorldView, is_busy_at, ledgers_in, Reports}
-use Rattle.turn_graph.specs.declared.graph.Way.{Way}
-use Rattle.turn_graph.specs.declared.graph.Spot.{Spot}
-use Rattle.turn_graph.specs.declared.graph.Spot.TheVariants.{Ends, Goes}
-use Rattle.turn_graph.specs.Words.{way_of, AreApart}
+use Rattle.race_core.specs.Turns.{Luck}
+use Rattle.race_core.specs.Worlds.{WorldView, turn, is_busy_at, ledgers_in, Reports}
+use Rattle.schedule_graph.specs.declared.graph.Way.{Way}
+use Rattle.schedule_graph.specs.declared.graph.Spot.{Spot}
+use Rattle.schedule_graph.specs.declared.graph.Spot.TheVariants.{Ends, Goes}
+use Rattle.schedule_graph.specs.Words.{way_of, AreApart}
 use Rattle.explore.specs.declared.limits.Scope.{Scope}
 use Rattle.explore.specs.declared.layer.Stand.{Stand}
 use Rattle.explore.specs.declared.marks.Marks.{Marks}
-use Rattle.explore.specs.Alike.{after_turns}
 use Rattle.explore.specs.Explored.{EndingView, ClassView}
 use Rattle.explore.specs.Lists.{is_another, is_cut}
 use Rattle.explore.specs.Merged.{bounded_cuts}
-use Rattle.explore.specs.Outside.{outside_of, IsSame}
-use Rattle.explore.specs.Points.{Point, no_marks, marks_after, start, along, AreWithin, MayGo}
+use Rattle.explore.specs.Outside.{outside_of}
+use Rattle.explore.specs.Points.{Point, no_marks, marks_after, start, along, IsTurn, AreWithin, MayGo}
 use Rattle.explore.specs.Points as points
-use Rattle.explore.specs.Search.{IsOver}
+use Rattle.explore.specs.Search.{IsOver, IsLike}
 use Rattle.explore.specs.Tally.{SameOutcome}
+use Rattle.explore.specs.Want.{EndsWell}
 
 -- what was there stays in its place
 abbrev pub Keeps : {A : Type 0} → List A → List A → Type 0
@@ -26,7 +27,8 @@ Keeps {A} old new = (k : ℕ) (x : A) → slice_get old k ≡ Some x → slice_g
 
 -- ---- worlds
 
--- a world gone through by a list of turns, what counted in them, and whether changes outside of roots are told
+-- a world, a list of turns that leads to one like it, what counted in that, and whether changes outside of roots are
+-- told
 pub record LiveView : Type 0 where
   pub told : Bool
   pub world : WorldView
@@ -36,26 +38,24 @@ pub record LiveView : Type 0 where
 abbrev pub point_of : LiveView → Point
 point_of live = record { world = live.world; marks = live.marks }
 
--- by these turns, as luck had it
+-- it is the world after these turns, as luck had it
 abbrev pub IsLed : WorldView → LiveView → Type 0
 IsLed w live = points.Goes (start w) live.turns (point_of live)
 
--- by these turns, with memory for all
+-- with memory for all
 abbrev pub IsSure : WorldView → LiveView → Type 0
 IsSure w live = point_of live ≡ along (start w) live.turns
 
-abbrev pub AreLed : WorldView → List LiveView → Type 0
-AreLed w lives = (k : ℕ) (live : LiveView) → slice_get lives k ≡ Some live → IsLed w live
+-- those in which nobody has anything left to do tell of no want of memory
+abbrev pub AreWell : List LiveView → Type 0
+AreWell lives = (m : ℕ) (live : LiveView) → slice_get lives m ≡ Some live → IsOver live.world → EndsWell live.world
 
-abbrev pub AreSure : WorldView → List LiveView → Type 0
-AreSure w lives = (k : ℕ) (live : LiveView) → slice_get lives k ≡ Some live → IsSure w live
-
--- the list of turns is that of the world at that place, or leads to one like it, in which each actor whose changes
--- are told did as much outside of its root
-pub record Leads (told : Bool) (w : WorldView) (turns : List ℕ) (lives : List LiveView) (k : ℕ) : Type 0 where
-  pub live : LiveView
-  pub there : slice_get lives k ≡ Some live
-  pub by : (live.turns ≡ turns) ⊎ IsSame told (after_turns w turns) live.world
+-- the actor's turn from that world, as luck had it, leads to one like that at place k
+pub record Leads (from : LiveView) (i : ℕ) (next : List LiveView) (k : ℕ) : Type 0 where
+  pub to : LiveView
+  pub there : slice_get next k ≡ Some to
+  pub luck : Luck
+  pub like : IsLike from.told (turn luck from.world i) to.world
 
 -- ---- layers
 
@@ -96,84 +96,84 @@ pub record IsOnward (scope : Scope) (layer : LayerView) (stand : Stand) (live : 
   pub on : slice_get layer.worlds stand.world ≡ Some live
   pub may : MayGo scope (point_at live stand) i
 
--- from some stand on the world at place m the actor's turn leads to the next layer's world at place k
-pub record IsMove (w : WorldView) (scope : Scope) (layer : LayerView) (m i : ℕ)
-    (next : List LiveView) (k : ℕ) : Type 0 where
-  pub stand : Stand
-  pub live : LiveView
-  pub onward : IsOnward scope layer stand live i
-  pub same : stand.world ≡ m
-  pub leads : Leads scope.outside w (stand.turns.items ++ i ∷ []) next k
+-- the actor's turn from the world at place m leads to the next layer's world at place k
+pub record IsMove (layer : LayerView) (m i : ℕ) (next : List LiveView) (k : ℕ) : Type 0 where
+  pub from : LiveView
+  pub here : slice_get layer.worlds m ≡ Some from
+  pub leads : Leads from i next k
 
 -- ---- from one layer to the next
 
--- the world was gone through by the list of some stand and one more turn
-pub record IsBornWorld (w : WorldView) (scope : Scope) (layer : LayerView) (born : LiveView) : Type 0 where
+-- the world after the actor's turn from that stand, as luck had it
+pub record IsBorn (stand : Stand) (live : LiveView) (i : ℕ) (born : LiveView) : Type 0 where
+  pub turned : IsTurn (point_at live stand) i (point_of born)
+  pub turns : born.turns ≡ stand.turns.items ++ i ∷ []
+  pub told : born.told ≡ live.told
+
+-- it is that after one turn from some stand
+pub record IsBornWorld (scope : Scope) (layer : LayerView) (born : LiveView) : Type 0 where
   pub stand : Stand
   pub live : LiveView
   pub i : ℕ
   pub onward : IsOnward scope layer stand live i
-  pub turns : born.turns ≡ stand.turns.items ++ i ∷ []
-  pub told : born.told ≡ scope.outside
-  pub led : IsLed w born
+  pub is : IsBorn stand live i born
 
-abbrev pub AreBornWorlds : WorldView → Scope → LayerView → List LiveView → Type 0
-AreBornWorlds w scope layer next =
-    (k : ℕ) (born : LiveView) → slice_get next k ≡ Some born → IsBornWorld w scope layer born
+abbrev pub AreBornWorlds : Scope → LayerView → List LiveView → Type 0
+AreBornWorlds scope layer next =
+    (k : ℕ) (born : LiveView) → slice_get next k ≡ Some born → IsBornWorld scope layer born
 
 -- the stand is one turn after another
-pub record IsBornStand (w : WorldView) (scope : Scope) (layer : LayerView) (next : List LiveView)
-    (born : Stand) : Type 0 where
+pub record IsBornStand (scope : Scope) (layer : LayerView) (next : List LiveView) (born : Stand) : Type 0 where
   pub stand : Stand
   pub live : LiveView
   pub i : ℕ
   pub onward : IsOnward scope layer stand live i
   pub turns : born.turns.items ≡ stand.turns.items ++ i ∷ []
   pub marks : born.marks ≡ marks_after live.world.seats stand.marks i
-  pub move : IsMove w scope layer stand.world i next born.world
+  pub move : IsMove layer stand.world i next born.world
 
-abbrev pub AreBornStands : WorldView → Scope → LayerView → LayerView → Type 0
-AreBornStands w scope layer next =
-    (t : ℕ) (born : Stand) → slice_get next.stands t ≡ Some born → IsBornStand w scope layer next.worlds born
+abbrev pub AreBornStands : Scope → LayerView → LayerView → Type 0
+AreBornStands scope layer next =
+    (t : ℕ) (born : Stand) → slice_get next.stands t ≡ Some born → IsBornStand scope layer next.worlds born
 
-pub record AreJoined (w : WorldView) (scope : Scope) (layer next : LayerView) : Type 0 where
-  pub worlds : AreBornWorlds w scope layer next.worlds
-  pub stands : AreBornStands w scope layer next
+pub record AreJoined (scope : Scope) (layer next : LayerView) : Type 0 where
+  pub worlds : AreBornWorlds scope layer next.worlds
+  pub stands : AreBornStands scope layer next
 
 -- ---- ways
 
 -- the stand of the next layer after the actor's turn: on a world that it leads to, with what counts there
-pub record IsAfter (w : WorldView) (scope : Scope) (layer next : LayerView) (stand : Stand) (live : LiveView)
+pub record IsAfter (scope : Scope) (layer next : LayerView) (stand : Stand) (live : LiveView)
     (i t : ℕ) : Type 0 where
   pub after : Stand
   pub there : slice_get next.stands t ≡ Some after
   pub last : after.marks.last ≡ Some i
   pub cuts : bounded_cuts scope.cuts after.marks.cuts
       ≡ bounded_cuts scope.cuts (marks_after live.world.seats stand.marks i).cuts
-  pub move : IsMove w scope layer stand.world i next.worlds after.world
+  pub move : IsMove layer stand.world i next.worlds after.world
 
 -- the way is the actor's turn from that stand
-pub record IsWayBy (w : WorldView) (scope : Scope) (layer next : LayerView) (stand : Stand) (live : LiveView)
+pub record IsWayBy (scope : Scope) (layer next : LayerView) (stand : Stand) (live : LiveView)
     (i : ℕ) (way : Way) : Type 0 where
   pub may : MayGo scope (point_at live stand) i
   pub letter : way.letter ≡ i
   pub cut : way.cut ≡ is_cut live.world.seats stand.marks.last i
   pub change : way.change ≡ is_another stand.marks.last i
-  pub after : IsAfter w scope layer next stand live i way.to
+  pub after : IsAfter scope layer next stand live i way.to
 
 -- the ways are the turns from that stand of all who may have the next one, each once
-pub record AreWaysBy (w : WorldView) (scope : Scope) (layer next : LayerView) (stand : Stand) (live : LiveView)
+pub record AreWaysBy (scope : Scope) (layer next : LayerView) (stand : Stand) (live : LiveView)
     (ways : List Way) : Type 0 where
   pub all : (i : ℕ) → MayGo scope (point_at live stand) i → (way : Way) × (way_of ways i ≡ Some way)
-  pub each : (k : ℕ) (way : Way) → slice_get ways k ≡ Some way → IsWayBy w scope layer next stand live way.letter way
+  pub each : (k : ℕ) (way : Way) → slice_get ways k ≡ Some way → IsWayBy scope layer next stand live way.letter way
   pub apart : AreApart ways
 
 -- of each stand, in order
-pub record AreAllWays (w : WorldView) (scope : Scope) (layer next : LayerView) (all : List (Vec Way)) : Type 0 where
+pub record AreAllWays (scope : Scope) (layer next : LayerView) (all : List (Vec Way)) : Type 0 where
   pub many : length all ≡ length layer.stands
   pub each : (s : ℕ) (stand : Stand) (live : LiveView) (ways : Vec Way) → slice_get layer.stands s ≡ Some stand
       → slice_get layer.worlds stand.world ≡ Some live
-      → slice_get all s ≡ Some ways → AreWaysBy w scope layer next stand live ways.items
+      → slice_get all s ≡ Some ways → AreWaysBy scope layer next stand live ways.items
 
 -- ---- ends
 
@@ -256,26 +256,26 @@ spot_by None ways = Goes ways
 spot_by (Some class) ways = Ends class
 
 -- the stand's spot: an end of its world's class, or the ways from it
-abbrev pub IsSpot : WorldView → Scope → LayerView → LayerView → List ClassView → Stand → LiveView → Spot → Type 0
-IsSpot w scope layer next classes stand live (Ends class) = IsPlaced classes live class
-IsSpot w scope layer next classes stand live (Goes ways) =
-    ((i : ℕ) × (is_busy_at live.world.seats i ≡ true)) × AreWaysBy w scope layer next stand live ways.items
+abbrev pub IsSpot : Scope → LayerView → LayerView → List ClassView → Stand → LiveView → Spot → Type 0
+IsSpot scope layer next classes stand live (Ends class) = IsPlaced classes live class
+IsSpot scope layer next classes stand live (Goes ways) =
+    ((i : ℕ) × (is_busy_at live.world.seats i ≡ true)) × AreWaysBy scope layer next stand live ways.items
 
-pub record AreSpots (w : WorldView) (scope : Scope) (layer next : LayerView) (classes : List ClassView)
+pub record AreSpots (scope : Scope) (layer next : LayerView) (classes : List ClassView)
     (spots : List Spot) : Type 0 where
   pub many : length spots ≡ length layer.stands
   pub each : (s : ℕ) (stand : Stand) (live : LiveView) (spot : Spot) → slice_get layer.stands s ≡ Some stand
       → slice_get layer.worlds stand.world ≡ Some live
-      → slice_get spots s ≡ Some spot → IsSpot w scope layer next classes stand live spot
+      → slice_get spots s ≡ Some spot → IsSpot scope layer next classes stand live spot
 
 -- ---- a layer gone through
 
-pub record IsPassed (w : WorldView) (scope : Scope) (n : ℕ) (layer next : LayerView) (here : List Spot)
+pub record IsPassed (scope : Scope) (n : ℕ) (layer next : LayerView) (here : List Spot)
     (old new : List ClassView) : Type 0 where
-  pub joined : AreJoined w scope layer next
+  pub joined : AreJoined scope layer next
   pub on : AreOn (suc n) next
-  pub sure : AreSure w layer.worlds
-  pub spots : AreSpots w scope layer next new here
+  pub well : AreWell layer.worlds
+  pub spots : AreSpots scope layer next new here
   pub keeps : Keeps old new
   pub found : AreFoundIn layer.worlds old new
   pub apart : AreApartClasses old → AreApartClasses new
@@ -292,11 +292,11 @@ pub record IsSearched (w : WorldView) (scope : Scope) (layers : List LayerView) 
   pub many : length layers ≡ suc (length graph)
   pub on : (k : ℕ) (layer : LayerView) → slice_get layers k ≡ Some layer → AreOn k layer
   pub joined : (k : ℕ) (layer next : LayerView) → slice_get layers k ≡ Some layer
-      → slice_get layers (suc k) ≡ Some next → AreJoined w scope layer next
-  pub sure : (k : ℕ) (layer : LayerView) → k < length graph → slice_get layers k ≡ Some layer → AreSure w layer.worlds
+      → slice_get layers (suc k) ≡ Some next → AreJoined scope layer next
+  pub well : (k : ℕ) (layer : LayerView) → k < length graph → slice_get layers k ≡ Some layer → AreWell layer.worlds
   pub spots : (k : ℕ) (layer next : LayerView) (spots : Vec Spot) → slice_get layers k ≡ Some layer
       → slice_get layers (suc k) ≡ Some next
-      → slice_get graph k ≡ Some spots → AreSpots w scope layer next classes spots.items
+      → slice_get graph k ≡ Some spots → AreSpots scope layer next classes spots.items
   pub found : (c : ℕ) (class : ClassView) → slice_get classes c ≡ Some class
       → (k : ℕ) × ((layer : LayerView)
       × ((k < length graph) × ((slice_get layers k ≡ Some layer) × IsFoundIn layer.worlds class)))

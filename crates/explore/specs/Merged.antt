@@ -3,11 +3,11 @@
 use Rattle.std.specs.Prelude.{◌≡◌, ℕ, suc, List, true, slice_get, Option, Some, None}
 use Rattle.std.specs.Global.{Vec}
 use Rattle.race_core.specs.Worlds.{WorldView, turn, is_busy_at}
-use Rattle.turn_graph.specs.declared.graph.Way.{Way}
-use Rattle.turn_graph.specs.declared.graph.Spot.{Spot}
-use Rattle.turn_graph.specs.declared.graph.Spot.TheVariants.{Ends, Goes}
-use Rattle.turn_graph.specs.Words.{spot_at, way_of, IsWordOf}
-use Rattle.turn_graph.specs.Words as words
+use Rattle.schedule_graph.specs.declared.graph.Way.{Way}
+use Rattle.schedule_graph.specs.declared.graph.Spot.{Spot}
+use Rattle.schedule_graph.specs.declared.graph.Spot.TheVariants.{Ends, Goes}
+use Rattle.schedule_graph.specs.Words.{spot_at, way_of, IsWordOf}
+use Rattle.schedule_graph.specs.Words as words
 use Rattle.explore.specs.declared.limits.Scope.{Scope}
 use Rattle.explore.specs.Alike.{full, after_turns}
 use Rattle.explore.specs.Search.{IsOver, IsLike}

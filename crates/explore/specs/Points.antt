@@ -1,5 +1,5 @@
 -- A list of turns under way: how far it has come, and who may have the next turn.
-use Rattle.std.specs.Prelude.{◌≡◌, ◌≤◌, ℕ, List, [], ◌∷◌, true, Option, Some, None}
+use Rattle.std.specs.Prelude.{◌≡◌, ◌≤◌, ℕ, List, [], ◌∷◌, true, Some, None}
 use Rattle.race_core.specs.declared.seat.Seat.{Seat}
 use Rattle.race_core.specs.Turns.{Luck}
 use Rattle.race_core.specs.Worlds.{WorldView, turn, is_busy_at}

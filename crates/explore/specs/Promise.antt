@@ -1,14 +1,15 @@
 -- What a search of all schedules tells, clause by clause.
 --
 -- Of all schedules of a world, or of those with at most so many cuts,
---     `IsAsked`: the full lists of turns (`Search.IsFull`) with no more cuts (`Lists.cuts`) than that. The report of every schedule is
---     that of a full list (`Search.ReportsAreOfFullLists`);
+--     `IsAsked`: the full lists of turns (`Search.IsFull`) with no more cuts (`Lists.cuts`) than that. The report of
+--     every schedule is that of a full list (`Search.ReportsAreOfFullLists`);
 -- it tells how many there are,
---     `IsMerged`, its `counted`: exactly below `turn_graph`'s cap, and else the cap (`Counted.AreSoMany`);
+--     `IsMerged`, its `counted`: exactly below `schedule_graph`'s cap, and else the cap (`Counted.AreSoMany`);
 -- and how many turns the longest has;
 --     its `longest`;
 -- the outcome of each is told,
---     its `told`: one of the classes has it (`HasClass`), and the two lists agree (`AgreeIn`) in what makes an outcome (`TellAlike`);
+--     its `told`: one of the classes has it (`HasClass`), and the two lists agree (`AgreeIn`) in what makes an outcome
+--     (`TellAlike`);
 -- and none is told twice;
 --     its `apart`;
 -- of each outcome it tells how many lists lead to it,
@@ -16,13 +17,13 @@
 -- the least of them,
 --     its `least`: by cuts, then by changes of actor, then as lists (`Lists.rank`, `Lists.is_at_most`);
 -- and what the run of that list comes to.
---     its `ending` (`IsEnding`): its report, its cuts and changes of actor, and, where that is told, how many changes each actor made
---     outside of its root.
+--     its `ending` (`IsEnding`): its report, its cuts and changes of actor, and, where that is told, how many changes
+--     each actor made outside of its root.
 --
 -- Where it tells nothing, `Explored.WhyNot` says what is known of the reason.
 use Rattle.std.specs.Prelude.{◌≡◌, ℕ, List, true, slice_get, Some}
 use Rattle.race_core.specs.Worlds.{WorldView}
-use Rattle.turn_graph.specs.Counted.{AreSoMany}
+use Rattle.schedule_graph.specs.Counted.{AreSoMany}
 use Rattle.explore.specs.declared.limits.Scope.{Scope}
 use Rattle.explore.specs.Lists.{rank, is_at_most}
 use Rattle.explore.specs.Explored.{IsAsked, AgreeIn, ClassView, IsEnding, HasClass, IsLongest}

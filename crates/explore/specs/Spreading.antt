@@ -1,15 +1,14 @@
 -- How far a layer has been gone on from.
-use Rattle.std.specs.Prelude.{◌≡◌, ◌<◌, ◌⊎◌, ℕ, suc, List, [], ◌∷◌, ◌++◌, Bool, length, Option, Some, slice_get}
+use Rattle.std.specs.Prelude.{◌≡◌, ◌<◌, ◌⊎◌, ℕ, suc, List, [], ◌∷◌, ◌++◌, Some, slice_get}
 use Rattle.std.specs.Global.{Vec}
-use Rattle.race_core.specs.Worlds.{WorldView}
-use Rattle.turn_graph.specs.declared.graph.Way.{Way}
-use Rattle.turn_graph.specs.Words.{AreApart}
+use Rattle.schedule_graph.specs.declared.graph.Way.{Way}
+use Rattle.schedule_graph.specs.Words.{AreApart}
 use Rattle.explore.specs.declared.limits.Scope.{Scope}
 use Rattle.explore.specs.declared.layer.Stand.{Stand}
 use Rattle.explore.specs.Lists.{is_another, is_cut}
 use Rattle.explore.specs.Merged.{bounded_cuts}
 use Rattle.explore.specs.Points.{marks_after, MayGo}
-use Rattle.explore.specs.Layers.{LiveView, LayerView, Keeps, IsLed, AreOn, AreJoined, AreWaysBy, IsWayBy, IsThere, point_at}
+use Rattle.explore.specs.Layers.{LiveView, LayerView, Keeps, IsBorn, AreOn, AreJoined, AreWaysBy, IsWayBy, IsThere, point_at}
 
 -- ---- stands
 
@@ -32,15 +31,10 @@ AreStandsAfter stand live i world old new = (t : ℕ) (born : Stand) → slice_g
 
 -- ---- worlds
 
--- the world was gone through by that list, as luck had it, and has as many actors as at first
-abbrev pub IsWorldAfter : WorldView → Bool → List ℕ → LiveView → Type 0
-IsWorldAfter w told turns born =
-    (born.turns ≡ turns) × (IsLed w born × ((length born.world.seats ≡ length w.seats) × (born.told ≡ told)))
-
--- of the next layer's worlds each was there before or is that one
-abbrev pub AreWorldsAfter : WorldView → Bool → List ℕ → List LiveView → List LiveView → Type 0
-AreWorldsAfter w told turns old new = (k : ℕ) (born : LiveView) → slice_get new k ≡ Some born
-    → (slice_get old k ≡ Some born) ⊎ IsWorldAfter w told turns born
+-- of the next layer's worlds each was there before or is the one after the actor's turn from that stand
+abbrev pub AreWorldsAfter : Stand → LiveView → ℕ → List LiveView → List LiveView → Type 0
+AreWorldsAfter stand live i old new = (k : ℕ) (born : LiveView) → slice_get new k ≡ Some born
+    → (slice_get old k ≡ Some born) ⊎ IsBorn stand live i born
 
 -- ---- ways
 
@@ -59,30 +53,30 @@ pub record IsWayTo (scope : Scope) (stand : Stand) (live : LiveView) (i world : 
   pub there : IsThere scope to next way.to
 
 -- the turns from that stand of those actors below n who may have the next one
-pub record AreWaysBelow (w : WorldView) (scope : Scope) (layer next : LayerView) (stand : Stand) (live : LiveView)
+pub record AreWaysBelow (scope : Scope) (layer next : LayerView) (stand : Stand) (live : LiveView)
     (n : ℕ) (ways : List Way) : Type 0 where
   pub all : (i : ℕ) → i < n → MayGo scope (point_at live stand) i → (way : Way) × IsOneBy ways i way
-  pub each : (k : ℕ) (way : Way) → slice_get ways k ≡ Some way → IsWayBy w scope layer next stand live way.letter way
+  pub each : (k : ℕ) (way : Way) → slice_get ways k ≡ Some way → IsWayBy scope layer next stand live way.letter way
   pub below : (k : ℕ) (way : Way) → slice_get ways k ≡ Some way → way.letter < n
   pub apart : AreApart ways
 
 -- of each of the first stands
-abbrev pub AreFirstWays : WorldView → Scope → LayerView → LayerView → List (Vec Way) → Type 0
-AreFirstWays w scope layer next all = (s : ℕ) (stand : Stand) (live : LiveView) (ways : Vec Way)
+abbrev pub AreFirstWays : Scope → LayerView → LayerView → List (Vec Way) → Type 0
+AreFirstWays scope layer next all = (s : ℕ) (stand : Stand) (live : LiveView) (ways : Vec Way)
     → slice_get layer.stands s ≡ Some stand → slice_get layer.worlds stand.world ≡ Some live
-    → slice_get all s ≡ Some ways → AreWaysBy w scope layer next stand live ways.items
+    → slice_get all s ≡ Some ways → AreWaysBy scope layer next stand live ways.items
 
 -- of that one
-abbrev pub AreWaysAt : WorldView → Scope → LayerView → LayerView → ℕ → List Way → Type 0
-AreWaysAt w scope layer next s ways = (stand : Stand) (live : LiveView) → slice_get layer.stands s ≡ Some stand
+abbrev pub AreWaysAt : Scope → LayerView → LayerView → ℕ → List Way → Type 0
+AreWaysAt scope layer next s ways = (stand : Stand) (live : LiveView) → slice_get layer.stands s ≡ Some stand
     → slice_get layer.worlds stand.world ≡ Some live
-    → AreWaysBy w scope layer next stand live ways
+    → AreWaysBy scope layer next stand live ways
 
 -- ---- the next layer
 
 -- the next layer so far
-pub record IsNext (w : WorldView) (scope : Scope) (layer next : LayerView) : Type 0 where
-  pub joined : AreJoined w scope layer next
+pub record IsNext (scope : Scope) (layer next : LayerView) : Type 0 where
+  pub joined : AreJoined scope layer next
   pub on : (n : ℕ) → AreOn n layer → AreOn (suc n) next
 
 -- it only grew

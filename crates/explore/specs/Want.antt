@@ -116,6 +116,15 @@ abbrev pub replies_want : List (List Outcome) → Bool
 replies_want [] = false
 replies_want (replies ∷ others) = any_wants replies || replies_want others
 
+-- ---- a world that comes to an end at which nobody tells of it
+
+pub record EndsWell (u : WorldView) : Type 0 where
+  pub turns : List ℕ
+  pub end : WorldView
+  pub run : Runs u turns end
+  pub over : AllOver end.seats
+  pub none : replies_want (replies_in (ledgers_in end.seats)) ≡ false
+
 -- ---- the laws
 
 -- A turn without memory is the turn with memory, or leaves an actor that tells of it in the end.

@@ -6,8 +6,8 @@ use race_core::World;
 use std::alloc::Global;
 use tree_model::Tree;
 
-/// Where every schedule begins: one world, made anew as often as it is asked for. A world can be neither copied nor
-/// let go, so each list of turns is gone through from a new one.
+/// Where every schedule begins: one world, made anew as often as it is asked for. A search goes on from copies of the
+/// first, and goes through the least list of each outcome from a new one.
 pub trait Beginnings<T: Tree> {
     ghost use Rattle.race_core.specs.Worlds.{WorldView};
 

@@ -2,15 +2,16 @@
 ghost use Rattle.std.specs.Prelude.{◌≡◌, ◌⊎◌, ◌<◌, ◌≤◌, ℕ, length, Option, Some, None, true, slice_get, IfOk, IfSome};
 ghost use Rattle.std.specs.Global.{Vec};
 ghost use Rattle.std.specs.Vec.Iter.{into_iter_items};
-ghost use Rattle.race_core.specs.Worlds.{WorldView, is_busy_at};
+ghost use Rattle.race_core.specs.Worlds.{is_busy_at};
 ghost use Rattle.race_core.specs.declared.opening.TheConstants.{ACTORS_MAX};
-ghost use Rattle.turn_graph.specs.declared.graph.Way.{Way};
-ghost use Rattle.turn_graph.specs.Words.{AreApart, IsLayer};
+ghost use Rattle.schedule_graph.specs.declared.graph.Way.{Way};
+ghost use Rattle.schedule_graph.specs.Words.{AreApart, IsLayer};
 ghost use Rattle.explore.specs.declared.layer.Stand.{Stand};
 ghost use Rattle.explore.specs.Explored.{ClassView};
 ghost use Rattle.explore.specs.Search.{IsOver};
 ghost use Rattle.explore.specs.Tally.{SameOutcome};
-ghost use Rattle.explore.specs.Layers.{LiveView, Keeps, IsLed, IsSure, AreLed, AreSure, IsTop, AreTops, IsReportOf, AreApartClasses, AreFoundIn, spot_by};
+ghost use Rattle.explore.specs.Want.{EndsWell};
+ghost use Rattle.explore.specs.Layers.{LiveView, Keeps, AreWell, IsTop, AreTops, IsReportOf, AreApartClasses, AreFoundIn, spot_by};
 
 use crate::found::{Class, Ending};
 use crate::growing::ended;
@@ -18,10 +19,10 @@ use crate::layer::{Live, Stand};
 use crate::tally::place_of;
 use path_text::NoMemory;
 use race_core::World;
+use schedule_graph::{Spot, Way};
 use std::alloc::Global;
 use std::vec::IntoIter;
 use tree_model::Tree;
-use turn_graph::{Spot, Way};
 
 // The first actor who has something left to do.
 fn first_busy<T: Tree>(world: &World<T>) -> Option<u32>
@@ -62,15 +63,15 @@ fn class_at<T: Tree + Drop>(
     Ok(at)
 }
 
-// Ends the world. The class of what it comes to, if nobody has anything left to do. NoMemory where memory ran short,
-// on the way to it too.
+// The class of what the world comes to, if nobody has anything left to do. Else it is given up. NoMemory where memory
+// ran short, on the way to it too.
 fn top_of<T: Tree + Drop>(
     alloc: Global,
     live: Live<T>,
     classes: &mut Vec<Class<T>>,
 ) -> Result<Option<usize>, NoMemory>
     requires actors { length live.world.seats ≤ ACTORS_MAX }
-    ensures sure { IfOk result (λ top. (w : WorldView) → IsLed w live → IsSure w live) }
+    ensures well { IfOk result (λ top. IsOver live.world → EndsWell live.world) }
     ensures top { IfOk result (λ top. IsTop classes.new.items live top) }
     ensures keeps { Keeps classes.old.items classes.new.items }
     ensures found { IfOk result (λ top. (k : ℕ) (c : ClassView) → slice_get classes.new.items k ≡ Some c
@@ -78,10 +79,11 @@ fn top_of<T: Tree + Drop>(
     ensures apart { AreApartClasses classes.old.items → AreApartClasses classes.new.items }
 {
     let busy = first_busy(live.seen.world());
-    let ending = ended(alloc, live)?;
     if busy.is_some() {
+        live.give_up(alloc);
         return Ok(None);
     }
+    let ending = ended(alloc, live)?;
     let at = class_at(alloc, classes, ending)?;
     Ok(Some(at))
 }
@@ -94,8 +96,7 @@ fn tops_of<T: Tree + Drop>(
 ) -> Result<Vec<Option<usize>>, NoMemory>
     requires actors { (m : ℕ) (live : LiveView) → slice_get (into_iter_items lives.old) m ≡ Some live
         → length live.world.seats ≤ ACTORS_MAX }
-    ensures sure { IfOk result (λ tops. (w : WorldView) → AreLed w (into_iter_items lives.old)
-        → AreSure w (into_iter_items lives.old)) }
+    ensures well { IfOk result (λ tops. AreWell (into_iter_items lives.old)) }
     ensures tops { IfOk result (λ tops. AreTops classes.new.items (into_iter_items lives.old) tops.items) }
     ensures keeps { Keeps classes.old.items classes.new.items }
     ensures found { IfOk result (λ tops. AreFoundIn (into_iter_items lives.old) classes.old.items classes.new.items) }
@@ -108,8 +109,8 @@ fn tops_of<T: Tree + Drop>(
     Ok(tops)
 }
 
-/// Ends the worlds. Of each in which nobody has anything left to do, the class of what it comes to.
-/// NoMemory where memory ran short, on the way to one of them too; all of them are ended then, too.
+/// Of each world in which nobody has anything left to do, the class of what it comes to. The others are given up.
+/// NoMemory where memory ran short, on the way to one of them too; all that are left are given up then.
 pub(crate) fn all_ended<T: Tree + Drop>(
     alloc: Global,
     worlds: Vec<Live<T>>,
@@ -117,7 +118,7 @@ pub(crate) fn all_ended<T: Tree + Drop>(
 ) -> Result<Vec<Option<usize>>, NoMemory>
     requires actors { (m : ℕ) (live : LiveView) → slice_get worlds.items m ≡ Some live
         → length live.world.seats ≤ ACTORS_MAX }
-    ensures sure { IfOk result (λ tops. (w : WorldView) → AreLed w worlds.items → AreSure w worlds.items) }
+    ensures well { IfOk result (λ tops. AreWell worlds.items) }
     ensures tops { IfOk result (λ tops. AreTops classes.new.items worlds.items tops.items) }
     ensures keeps { Keeps classes.old.items classes.new.items }
     ensures found { IfOk result (λ tops. AreFoundIn worlds.items classes.old.items classes.new.items) }
@@ -126,7 +127,7 @@ pub(crate) fn all_ended<T: Tree + Drop>(
     let mut lives = worlds.into_iter();
     let tops = tops_of(alloc, &mut lives, classes);
     'rest: while let Some(live) = lives.next() {
-        let _ending = ended(alloc, live);
+        live.give_up(alloc);
     }
     lives.destroy_empty();
     tops

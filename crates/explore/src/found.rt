@@ -41,7 +41,7 @@ pub struct Class<T: Tree> {
     /// The list with the fewest cuts, of these one with the fewest changes of actor, and of these the first one as
     /// lists of numbers go; and what it comes to.
     pub least: Ending<T>,
-    /// How many full lists lead to the outcome, exactly below `turn_graph::COUNT_CAP`.
+    /// How many full lists lead to the outcome, exactly below `schedule_graph::COUNT_CAP`.
     pub lists: u64,
     // The nodes of that report's tree.
     pub(crate) nodes: Snapshot,
@@ -63,7 +63,7 @@ impl<T: Tree> Model for Class<T> {
 pub struct Findings<T: Tree> {
     /// The outcomes, each once.
     pub classes: Vec<Class<T>>,
-    /// How many full lists there are, exactly below `turn_graph::COUNT_CAP`.
+    /// How many full lists there are, exactly below `schedule_graph::COUNT_CAP`.
     pub lists: u64,
     /// The number of turns of the longest.
     pub turns: usize,

@@ -1,20 +1,20 @@
-//! Worlds gone through from the beginning, each by its own list of turns, and one kept of alike ones.
-ghost use Rattle.std.specs.Prelude.{◌≡◌, ◌↔◌, ◌⊎◌, ◌<◌, ◌≤◌, ◌+◌, ◌^◌, ◌++◌, ◌∷◌, [], false, ℕ, length, Some, slice_get, IsTrue, IfOk, IfErr, IfSome, OnOk};
-ghost use Rattle.race_core.specs.Worlds.{WorldView, RunsTo};
+//! Worlds gone on from by a copy for each turn, or gone through from the beginning; and one kept of alike ones.
+ghost use Rattle.std.specs.Prelude.{◌≡◌, ◌↔◌, ◌⊎◌, ◌<◌, ◌≤◌, ◌^◌, [], false, ℕ, length, Some, slice_get, IsTrue, IfOk, IfErr, IfSome, OnOk};
+ghost use Rattle.race_core.specs.Worlds.{RunsTo};
 ghost use Rattle.race_core.specs.declared.opening.TheConstants.{ACTORS_MAX};
 ghost use Rattle.explore.specs.Counting.{IsTally};
 ghost use Rattle.explore.specs.Explored.{WhyNot};
 ghost use Rattle.explore.specs.Outside.{IsSame};
 ghost use Rattle.explore.specs.Points.{start, no_marks, Goes, IsTurn, AreWithin};
-ghost use Rattle.explore.specs.Search.{IsOver};
+ghost use Rattle.explore.specs.Search.{IsOver, IsLike};
 ghost use Rattle.explore.specs.Spreading.{AreWorldsAfter};
-ghost use Rattle.explore.specs.Want.{replies_want};
-ghost use Rattle.explore.specs.Layers.{LiveView, Keeps, IsLed, IsSure, Leads, IsReportOf};
+ghost use Rattle.explore.specs.Want.{EndsWell, replies_want};
+ghost use Rattle.explore.specs.Layers.{LiveView, Keeps, IsLed, Leads, IsBorn, IsReportOf};
 
 use crate::beginnings::Beginnings;
 use crate::fingerprint::Fingerprint;
 use crate::found::Ending;
-use crate::layer::Live;
+use crate::layer::{Live, Stand};
 use crate::limits::{Limits, SearchFault};
 use crate::marks::{Marks, marks_after, no_marks};
 use crate::outside::Tally;
@@ -22,7 +22,7 @@ use crate::seen::Seen;
 use crate::table::Table;
 use crate::want::tells_want;
 use path_text::NoMemory;
-use race_core::{ACTORS_MAX, Report, World};
+use race_core::{ACTORS_MAX, CopyTree, Report, World};
 use std::alloc::Global;
 use tree_model::Tree;
 
@@ -42,17 +42,19 @@ impl<T: Tree> Live<T> {
     }
 }
 
-/// Ends worlds of which nothing is to be told.
-pub(crate) fn give_up<T: Tree + Drop>(alloc: Global, mut worlds: Vec<Live<T>>) {
-    while let Some(live) = worlds.pop() {
-        end(alloc, live.into_world());
+impl<T: Tree + Drop> Live<T> {
+    /// Gives the world up: nothing is to be told of it.
+    pub(crate) fn give_up(self, alloc: Global) {
+        self.into_world().give_up(alloc);
     }
-    worlds.destroy_empty();
 }
 
-// Ends a world of which nothing is to be told.
-fn end<T: Tree + Drop>(alloc: Global, world: World<T>) {
-    let _report = world.run(alloc, [].as_slice());
+/// Gives the worlds up: nothing is to be told of them.
+pub(crate) fn give_up<T: Tree + Drop>(alloc: Global, mut worlds: Vec<Live<T>>) {
+    while let Some(live) = worlds.pop() {
+        live.give_up(alloc);
+    }
+    worlds.destroy_empty();
 }
 
 // One turn of that actor, and the marks after it and what was changed outside.
@@ -151,23 +153,23 @@ pub(crate) fn led<T: Tree + Drop, B: Beginnings<T>>(
 {
     let world = beginnings.world(alloc)?;
     if world.actors() > ACTORS_MAX {
-        end(alloc, world);
+        world.give_up(alloc);
         return Err(SearchFault::TooManyActors);
     }
     let Ok(tally) = Tally::of(alloc, &world, told) else {
-        end(alloc, world);
+        world.give_up(alloc);
         return Err(SearchFault::NoMemory);
     };
     match gone(alloc, world, tally, turns) {
         Ok(live) => Ok(live),
         Err(world) => {
-            end(alloc, world);
+            world.give_up(alloc);
             Err(SearchFault::NoMemory)
         }
     }
 }
 
-// The report on a world. NoMemory where memory ran short in its run, too.
+// The report on a world, once it has gone to its end. NoMemory where memory ran short in its run, too.
 fn told<T: Tree + Drop>(alloc: Global, world: World<T>) -> Result<Report<T>, NoMemory>
     ensures ran { IfOk result (λ report.
         RunsTo world [] (T.state report.tree) report.events.events report.replies.items report.kept.items) }
@@ -182,9 +184,9 @@ fn told<T: Tree + Drop>(alloc: Global, world: World<T>) -> Result<Report<T>, NoM
     Ok(report)
 }
 
-/// What the world comes to. NoMemory where memory ran short, on the way to it too.
+/// What the world comes to, once it has gone to its end. NoMemory where memory ran short, on the way to it too.
 pub(crate) fn ended<T: Tree + Drop>(alloc: Global, live: Live<T>) -> Result<Ending<T>, NoMemory>
-    ensures sure { IfOk result (λ ending. (w : WorldView) → IsLed w live → IsSure w live) }
+    ensures well { IfOk result (λ ending. EndsWell live.world) }
     ensures report { IfOk result (λ ending. IsOver live.world → IsReportOf live ending) }
     ensures actors { IfOk result (λ ending. length ending.replies ≡ length live.world.seats) }
 {
@@ -294,7 +296,7 @@ fn counted<T: Tree>(live: Live<T>, is_state: bool) -> Live<T>
 }
 
 // The place of a world that is the same as that one; it is put after the others where none is. NoMemory where its
-// room was refused, or where memory ran short in the one that isn't kept.
+// room was refused.
 fn put<T: Tree + Drop>(
     alloc: Global,
     worlds: &mut Vec<Live<T>>,
@@ -302,23 +304,23 @@ fn put<T: Tree + Drop>(
     live: Live<T>,
 ) -> Result<usize, NoMemory>
     ensures keeps { Keeps worlds.old.items worlds.new.items }
-    ensures leads { IfOk result (λ at. (w : WorldView) → IsLed w live
-        → Leads live.told w live.turns worlds.new.items at) }
+    ensures there { IfOk result (λ at. (other : LiveView)
+        × ((slice_get worlds.new.items at ≡ Some other) × IsLike live.told live.world other.world)) }
     ensures new { (k : ℕ) (born : LiveView) → slice_get worlds.new.items k ≡ Some born
         → (slice_get worlds.old.items k ≡ Some born) ⊎ (born ≡ live) }
 {
     let print = live.seen.fingerprint();
     if let Some(at) = same_at(worlds.as_slice(), table, print, &live) {
-        let _ending = ended(alloc, live)?;
+        live.give_up(alloc);
         return Ok(at);
     }
     if worlds.reserve(1).is_err() {
-        end(alloc, live.into_world());
+        live.give_up(alloc);
         return Err(NoMemory);
     }
     let is_state = is_unlike_all(worlds.as_slice(), table, print, &live);
     let Ok(()) = table.push(print) else {
-        end(alloc, live.into_world());
+        live.give_up(alloc);
         return Err(NoMemory);
     };
     let at = worlds.len();
@@ -338,29 +340,57 @@ pub(crate) fn count_states<T: Tree>(worlds: &[Live<T>], from: usize) -> u64 {
     count
 }
 
-/// The place, among the next layer's worlds, of one like that after these turns and the actor's; it is put after the
-/// others where none is. Changes outside of roots are told or not. NoMemory where room was refused.
-pub(crate) fn world_after<T: Tree + Drop, B: Beginnings<T>>(
+// The world after the actor's turn from that stand: a copy of the one that it is on takes the turn. NoMemory where
+// room was refused, or where memory for its report ran short.
+fn born<T: CopyTree + Drop>(
     alloc: Global,
-    beginnings: &B,
-    told: bool,
-    turns: &[u32],
+    live: &Live<T>,
+    stand: &Stand,
+    actor: u32,
+) -> Result<Live<T>, NoMemory>
+    requires few { AreWithin stand.now.marks (2 ^ 40) }
+    ensures { IfOk result (λ born. IsBorn stand.now live.now actor born) }
+{
+    let mut turns = Vec::with_capacity(alloc, stand.turns.len() + 1)?;
+    turns.extend_from_slice(stand.turns.as_slice())?;
+    turns.push(actor)?;
+    let mut marks = stand.marks;
+    let mut tally = live.tally.copy(alloc)?;
+    let mut world = live.seen.world().copy(alloc)?;
+    if take_turn(alloc, &mut world, &mut marks, &mut tally, actor).is_err() {
+        world.give_up(alloc);
+        return Err(NoMemory);
+    }
+    match Seen::new(alloc, world) {
+        Ok(seen) => Ok(Live {
+            seen,
+            turns,
+            marks,
+            tally,
+            is_state: true,
+        }),
+        Err(world) => {
+            world.give_up(alloc);
+            Err(NoMemory)
+        }
+    }
+}
+
+/// The place, among the next layer's worlds, of one like that after the actor's turn from that stand; it is put after
+/// the others where none is. NoMemory where room was refused.
+pub(crate) fn world_after<T: CopyTree + Drop>(
+    alloc: Global,
+    live: &Live<T>,
+    stand: &Stand,
     actor: u32,
     next: &mut Vec<Live<T>>,
     table: &mut Table,
 ) -> Result<usize, NoMemory>
-    requires few { length turns.now + 1 < 2 ^ 40 }
+    requires few { AreWithin stand.now.marks (2 ^ 40) }
     ensures keeps { Keeps next.old.items next.new.items }
-    ensures leads { IfOk result (λ at.
-        Leads told (B.opening beginnings.now) (turns.now ++ actor ∷ []) next.new.items at) }
-    ensures born { AreWorldsAfter (B.opening beginnings.now) told
-        (turns.now ++ actor ∷ []) next.old.items next.new.items }
+    ensures leads { IfOk result (λ at. Leads live.now actor next.new.items at) }
+    ensures born { AreWorldsAfter stand.now live.now actor next.old.items next.new.items }
 {
-    let mut all = Vec::with_capacity(alloc, turns.len() + 1)?;
-    all.extend_from_slice(turns)?;
-    all.push(actor)?;
-    let Ok(live) = led(alloc, beginnings, told, all) else {
-        return Err(NoMemory);
-    };
-    put(alloc, next, table, live)
+    let born = born(alloc, live, stand, actor)?;
+    put(alloc, next, table, born)
 }

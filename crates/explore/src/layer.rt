@@ -5,7 +5,7 @@ use crate::seen::Seen;
 use std::marker::Model;
 use tree_model::Tree;
 
-/// A world, and the list of turns by which it was gone through. Contracts see it as a `LiveView`.
+/// A world, and a list of turns that leads to it or to one like it. Contracts see it as a `LiveView`.
 pub(crate) struct Live<T: Tree> {
     pub(crate) seen: Seen<T>,
     pub(crate) turns: Vec<u32>,

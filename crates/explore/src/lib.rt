@@ -6,7 +6,8 @@
 //!
 //! Two worlds are *alike* where they differ in the numbers of their actors' handles alone (`specs/Alike.antt`), and
 //! `Seen::is_alike` tells exactly whether two are. The search goes on with one of alike worlds, layer by layer
-//! (`specs/Layers.antt`); the stands of lists on them make a graph, and the laws say that its words are the lists.
+//! (`specs/Layers.antt`): a copy of it takes each turn. The stands of lists on them make a graph, and the laws say that
+//! its words are the lists.
 //!
 //! Where it is asked for, what an actor changes outside of its root (`specs/Outside.antt`) is a part of an outcome:
 //! worlds are taken for one then only where each actor has made as many such changes.

@@ -14,7 +14,7 @@ use path_text::NoMemory;
 use race_core::World;
 use std::alloc::Global;
 use std::marker::Model;
-use tree_list::is_within;
+use tree_list::{copy_nodes, is_within};
 use tree_model::{
     Actor, Answer, Event, HandleNo, Inode, Node, OpenHandle, Snapshot, Step, StepOf, Tree,
 };
@@ -37,7 +37,12 @@ impl Model for Tally {
 
     ghost Value = { TallyView };
 
-    ghost view = { λ t. record { told = t.told; roots = t.roots.items; counts = t.counts.items; nodes = t.tree.nodes } };
+    ghost view = { λ t. record {
+      told = t.told;
+      roots = t.roots.items;
+      counts = t.counts.items;
+      nodes = t.tree.nodes;
+    } };
 }
 
 // The node of a handle, if it is open and the actor's.
@@ -223,6 +228,20 @@ impl Tally {
         } else {
             Ok(Tally::none(alloc, world))
         }
+    }
+
+    /// An equal tally. NoMemory where room was refused.
+    pub(crate) fn copy(&self, alloc: Global) -> Result<Tally, NoMemory>
+        ensures { IfOk result (λ copy. copy ≡ self.now) }
+    {
+        let nodes = copy_nodes(alloc, self.tree.nodes())?;
+        let handles = Vec::from_slice(alloc, self.tree.handles())?;
+        Ok(Tally {
+            told: self.told,
+            roots: Vec::from_slice(alloc, self.roots.as_slice())?,
+            counts: Vec::from_slice(alloc, self.counts.as_slice())?,
+            tree: Snapshot::new(nodes, handles),
+        })
     }
 
     // Counts the last event of the book, which is at that place. NoMemory where room was refused.

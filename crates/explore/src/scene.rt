@@ -3,10 +3,9 @@ ghost use Rattle.std.specs.Prelude.{◌≡◌, IfOk};
 
 use crate::beginnings::Beginnings;
 use path_text::NoMemory;
-use race_core::{ActorPlan, Planned, Plans, Ref, World};
+use race_core::{ActorPlan, Plans, World};
 use std::alloc::Global;
 use tree_list::ListTree;
-use tree_model::StepOf;
 
 /// A tree, what each actor is to do, and how many lines the book has. Each world is made over copies.
 #[derive(Drop)]
@@ -16,52 +15,13 @@ pub struct Scene {
     pub lines: u32,
 }
 
-// An equal step.
-fn copy_step(alloc: Global, step: &StepOf<Ref>) -> Result<StepOf<Ref>, NoMemory>
-    ensures { IfOk result (λ copy. copy ≡ step.now) }
-{
-    Ok(match step {
-        StepOf::Open(dir, name) => StepOf::Open(*dir, name.copy(alloc)?),
-        StepOf::Dup(handle) => StepOf::Dup(*handle),
-        StepOf::Parent(handle) => StepOf::Parent(*handle),
-        StepOf::ReadLink(handle) => StepOf::ReadLink(*handle),
-        StepOf::NameBelow(root, handle) => StepOf::NameBelow(*root, *handle),
-        StepOf::List(handle) => StepOf::List(*handle),
-        StepOf::Close(handle) => StepOf::Close(*handle),
-        StepOf::MakeDir(dir, name) => StepOf::MakeDir(*dir, name.copy(alloc)?),
-        StepOf::MakeFile(dir, name) => StepOf::MakeFile(*dir, name.copy(alloc)?),
-        StepOf::MakeLink(dir, name, text) => {
-            StepOf::MakeLink(*dir, name.copy(alloc)?, text.copy(alloc)?)
-        }
-        StepOf::RemoveFile(dir, name) => StepOf::RemoveFile(*dir, name.copy(alloc)?),
-        StepOf::RemoveDir(dir, name) => StepOf::RemoveDir(*dir, name.copy(alloc)?),
-        StepOf::Rename(from, old, to, new, mode) => {
-            StepOf::Rename(*from, old.copy(alloc)?, *to, new.copy(alloc)?, *mode)
-        }
-    })
-}
-
-// An equal call. An operation that holds what was opened elsewhere can't be copied.
-fn copy_planned(alloc: Global, call: &Planned) -> Result<Planned, NoMemory>
-    ensures { IfOk result (λ copy. copy ≡ call.now) }
-{
-    Ok(match call {
-        Planned::Call(request) => match request.copy(alloc) {
-            Ok(copy) => Planned::Call(copy),
-            Err(_) => return Err(NoMemory),
-        },
-        Planned::Single(step) => Planned::Single(copy_step(alloc, step)?),
-        Planned::Release(call) => Planned::Release(*call),
-    })
-}
-
 // Equal calls.
 fn copy_calls(alloc: Global, calls: &Plans) -> Result<Plans, NoMemory>
     ensures { IfOk result (λ copy. copy ≡ calls.now) }
 {
     let mut copies = Plans::new(alloc);
     for call in calls.as_slice() {
-        copies.push(copy_planned(alloc, call)?)?;
+        copies.push(call.copy(alloc)?)?;
     }
     Ok(copies)
 }
@@ -92,8 +52,8 @@ impl Beginnings<ListTree> for Scene {
 
     ghost opening = { λ s. opened_world s.tree s.plans.items s.lines };
 
-    /// The world over copies of the tree and the plans. NoMemory also where the world can't be made, and where a plan
-    /// has a Release of what was opened elsewhere, which can't be copied: see that `World::new` makes it first.
+    /// The world over copies of the tree and the plans. NoMemory also where the world can't be made: see that
+    /// `World::new` makes it first.
     fn world(&self, alloc: Global) -> Result<World<ListTree>, NoMemory> {
         let tree = self.tree.copy(alloc)?;
         let plans = copy_plans(alloc, self.plans.as_slice())?;

@@ -1,12 +1,14 @@
 //! All full lists of turns, by layers of merged worlds.
-ghost use Rattle.std.specs.Prelude.{◌≡◌, ◌<◌, ◌≤◌, ◌+◌, ◌^◌, ◌++◌, ◌∷◌, [], ℕ, Option, length, IfOk, IfErr, OnOk};
+ghost use Rattle.std.specs.Prelude.{◌≡◌, ◌<◌, ◌≤◌, ◌+◌, ◌^◌, ◌++◌, ◌∷◌, [], ℕ, Option, Some, length, slice_get, IsTrue, IfOk, IfErr, OnOk};
 ghost use Rattle.std.specs.Global.{Vec};
 ghost use Rattle.race_core.specs.declared.opening.TheConstants.{ACTORS_MAX};
-ghost use Rattle.turn_graph.specs.declared.graph.Spot.{Spot};
+ghost use Rattle.race_core.specs.Worlds.{WorldView};
+ghost use Rattle.schedule_graph.specs.declared.graph.Spot.{Spot};
 ghost use Rattle.explore.specs.Explored.{WhyNot};
 ghost use Rattle.explore.specs.Promise.{IsMerged};
 ghost use Rattle.explore.specs.Concluded.{IsToldBy, HasShort, AsksIn, AreShort, AskIn, AreToldIn};
-ghost use Rattle.explore.specs.Layers.{LayerView, AreOn, AreLed, IsFirst, IsPassed, HasSearched};
+ghost use Rattle.explore.specs.Layers.{LiveView, LayerView, AreOn, IsFirst, IsPassed, HasSearched};
+ghost use Rattle.explore.specs.Want.{EndsWell};
 
 use crate::beginnings::Beginnings;
 use crate::ends::{all_ended, spots_of};
@@ -18,14 +20,32 @@ use crate::marks::no_marks;
 use crate::progress::Progress;
 use crate::ways::spread;
 use path_text::NoMemory;
+use race_core::CopyTree;
+use schedule_graph::{Count, Graph};
 use std::alloc::Global;
 use tree_model::Tree;
-use turn_graph::{Count, Graph};
 
-// Ends the worlds of a layer that isn't gone on from.
+// Gives up the worlds of a layer that isn't gone on from.
 fn leave<T: Tree + Drop>(alloc: Global, layer: Layer<T>) {
     let Layer { worlds, stands: _ } = layer;
     give_up(alloc, worlds);
+}
+
+// The same, but one of them goes to its end. Whether there was one, and memory for it.
+fn leave_well<T: Tree + Drop>(alloc: Global, layer: Layer<T>) -> bool
+    ensures { IsTrue result → (m : ℕ) × ((live : LiveView)
+        × ((slice_get layer.worlds m ≡ Some live) × EndsWell live.world)) }
+{
+    let Layer {
+        mut worlds,
+        stands: _,
+    } = layer;
+    let Some(live) = worlds.pop() else {
+        worlds.destroy_empty();
+        return false;
+    };
+    give_up(alloc, worlds);
+    ended(alloc, live).is_ok()
 }
 
 // The layer of no turns, of one world.
@@ -61,20 +81,19 @@ fn first<T: Tree + Drop, B: Beginnings<T>>(
     let mut worlds = Vec::new(alloc);
     let Ok(()) = worlds.reserve(1) else {
         worlds.destroy_empty();
-        let _ending = ended(alloc, live)?;
+        live.give_up(alloc);
         return Err(SearchFault::NoMemory);
     };
     worlds.push_reserved(live);
     Ok(Layer { worlds, stands })
 }
 
-// Goes from one layer on to the next: its worlds are ended, and the spots of its stands added to the graph. The next
-// layer, and how many states it has.
+// Goes from one layer on to the next: it is told what its worlds come to, and the spots of its stands are added to
+// the graph. The next layer, and how many states it has.
 //
 // Errors: TooManyStates where it would have more than so many; NoMemory where room was refused.
-fn pass<T: Tree + Drop, B: Beginnings<T>>(
+fn pass<T: CopyTree + Drop>(
     alloc: Global,
-    beginnings: &B,
     limits: Limits,
     room: u64,
     layer: Layer<T>,
@@ -83,16 +102,13 @@ fn pass<T: Tree + Drop, B: Beginnings<T>>(
 ) -> Result<(Layer<T>, u64), SearchFault>
     requires few { length graph.old + 1 < 2 ^ 40 }
     requires on { AreOn (length graph.old) layer }
-    requires led { AreLed (B.opening beginnings.now) layer.worlds }
-    requires actors { length (B.opening beginnings.now).seats ≤ ACTORS_MAX }
     ensures passed { IfOk result (λ next. (spots : Vec Spot)
         × ((graph.new ≡ graph.old ++ spots ∷ [])
-        × IsPassed (B.opening beginnings.now) limits.scope
-        (length graph.old) layer next.0 spots.items classes.old.items classes.new.items)) }
+        × IsPassed limits.scope (length graph.old) layer next.0 spots.items classes.old.items classes.new.items)) }
     ensures room { IfOk result (λ next. next.1 ≤ room) }
-    ensures err { IfErr result (WhyNot (B.opening beginnings.now) limits) }
+    ensures err { (w : WorldView) → IfErr result (WhyNot w limits) }
 {
-    let went = spread(alloc, beginnings, limits, room, &layer);
+    let went = spread(alloc, limits, room, &layer);
     let Layer { worlds, stands } = layer;
     let ended = all_ended(alloc, worlds, classes);
     let (ways, next, states) = went?;
@@ -115,7 +131,7 @@ fn pass<T: Tree + Drop, B: Beginnings<T>>(
 //
 // Errors: TooManyActors over 64; TooManyTurns where a list has more turns than the limit; TooManyStates where there
 // are more worlds than the limit; NoMemory where room was refused.
-fn search<T: Tree + Drop, B: Beginnings<T>, P: Progress>(
+fn search<T: CopyTree + Drop, B: Beginnings<T>, P: Progress>(
     alloc: Global,
     beginnings: &B,
     limits: Limits,
@@ -136,17 +152,20 @@ fn search<T: Tree + Drop, B: Beginnings<T>, P: Progress>(
     let mut layer = first(alloc, beginnings, limits)?;
     'layers: while !layer.stands.is_empty() && graph.depth() <= limits.turns as usize {
         let room = limits.states - states;
-        let (next, more) = pass(alloc, beginnings, limits, room, layer, graph, classes)?;
+        let (next, more) = pass(alloc, limits, room, layer, graph, classes)?;
         layer = next;
         states += more;
         progress.passed(states);
     }
-    let over = layer.stands.is_empty();
-    leave(alloc, layer);
-    if !over {
+    if layer.stands.is_empty() {
+        leave(alloc, layer);
+        return Ok(states);
+    }
+    // The lists of the layer are too long, if there was memory on the way.
+    if leave_well(alloc, layer) {
         return Err(SearchFault::TooManyTurns);
     }
-    Ok(states)
+    Err(SearchFault::NoMemory)
 }
 
 // The class of which so many lists were counted; the least of them is gone through once more. NoMemory where room was
@@ -205,7 +224,7 @@ fn told_classes<T: Tree + Drop, B: Beginnings<T>>(
 /// Errors: TooManyActors over 64; TooManyTurns where a list has more turns than the limit; TooManyStates where there
 /// are more worlds than the limit; NoMemory where room was refused, in a world's run too. There are no findings
 /// then.
-pub fn explore<T: Tree + Drop, B: Beginnings<T>, P: Progress>(
+pub fn explore<T: CopyTree + Drop, B: Beginnings<T>, P: Progress>(
     alloc: Global,
     beginnings: &B,
     limits: Limits,

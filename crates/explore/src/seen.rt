@@ -270,7 +270,7 @@ impl<T: Tree> Seen<T> {
     }
 
     /// Whether the worlds are alike. Takes no memory. What differs first is mostly an actor.
-    #[tactic(auto, using(crate::proofs::Paired::alike_of, crate::proofs::Paired::books_of, crate::proofs::Paired::actors_of, crate::proofs::Paired::trees_of, crate::proofs::Paired::paired_of))]
+    #[tactic(auto, using(crate::proofs::Alike::Paired::alike_of, crate::proofs::Alike::Paired::books_of, crate::proofs::Alike::Paired::actors_of, crate::proofs::Alike::Paired::trees_of, crate::proofs::Alike::Paired::paired_of))]
     pub fn is_alike(&self, other: &Seen<T>) -> bool
         ensures { IsTrue result ↔ Alike self.now other.now }
     {

@@ -1,6 +1,6 @@
 //! The ways from each stand of a layer: the turns of all who may have the next one.
-ghost use Rattle.std.specs.Prelude.{◌≡◌, ◌⊎◌, ◌<◌, ◌≤◌, ◌+◌, ◌^◌, ◌++◌, ◌∷◌, [], suc, ℕ, length, Some, None, slice_get, IsTrue, ◌↔◌, IfOk, IfErr, IfSome, OnOk};
-ghost use Rattle.race_core.specs.declared.opening.TheConstants.{ACTORS_MAX};
+ghost use Rattle.std.specs.Prelude.{◌≡◌, ◌⊎◌, ◌<◌, ◌≤◌, ◌+◌, ◌^◌, suc, ℕ, length, Some, None, slice_get, IsTrue, ◌↔◌, IfOk, IfErr, IfSome, OnOk};
+ghost use Rattle.race_core.specs.Worlds.{WorldView};
 ghost use Rattle.explore.specs.declared.layer.Stand.{Stand};
 ghost use Rattle.explore.specs.Explored.{WhyNot};
 ghost use Rattle.explore.specs.Layers.{LiveView, Keeps, Leads, AreOn, AreJoined, AreAllWays, IsThere, IsKnown};
@@ -8,17 +8,17 @@ ghost use Rattle.explore.specs.Merged.{bounded_cuts};
 ghost use Rattle.explore.specs.Points.{AreWithin};
 ghost use Rattle.explore.specs.Spreading.{StandsAs, AreStandsAfter, AreWorldsAfter, IsOneBy, IsWayTo, AreFirstWays, AreWaysAt, IsNext, Grows};
 
-use crate::beginnings::Beginnings;
 use crate::growing::{count_states, give_up, world_after};
 use crate::layer::{Layer, Live, Stand};
 use crate::limits::{Limits, Scope, SearchFault};
 use crate::marks::{marks_after, may_go};
 use crate::table::Table;
 use path_text::NoMemory;
+use race_core::CopyTree;
+use schedule_graph::Way;
 use std::alloc::Global;
 use std::collections::HashMap;
 use tree_model::Tree;
-use turn_graph::Way;
 
 // An actor's turn from a world of a layer, as it is looked up.
 #[derive(Clone, Copy, Debug, PartialEq, Eq, Hash)]
@@ -183,26 +183,24 @@ fn known(
     known_at(stands, all, next, at, world, actor)
 }
 
-// The place, among the next layer's worlds, of one like that after the actor's turn from that stand. NoMemory where
-// room was refused.
-fn place_after<T: Tree + Drop, B: Beginnings<T>>(
+// The place, among the next layer's worlds, of one like that after the actor's turn from that stand, which is on that
+// world. NoMemory where room was refused.
+fn place_after<T: CopyTree + Drop>(
     alloc: Global,
-    beginnings: &B,
-    scope: Scope,
     layer: &Layer<T>,
     all: &[Vec<Way>],
     stand: &Stand,
+    live: &Live<T>,
     actor: u32,
     next: &mut Layer<T>,
     tables: &mut Tables,
 ) -> Result<usize, NoMemory>
-    requires few { length stand.now.turns.items + 1 < 2 ^ 40 }
+    requires few { AreWithin stand.now.marks (2 ^ 40) }
     ensures stands { next.new.stands ≡ next.old.stands }
     ensures keeps { Keeps next.old.worlds next.new.worlds }
-    ensures worlds { AreWorldsAfter (B.opening beginnings.now) scope.outside
-        (stand.now.turns.items ++ actor ∷ []) next.old.worlds next.new.worlds }
+    ensures worlds { AreWorldsAfter stand.now live.now actor next.old.worlds next.new.worlds }
     ensures leads { IfOk result (λ k. IsKnown layer.now.stands all.now next.old.stands stand.now.world actor k
-        ⊎ Leads scope.outside (B.opening beginnings.now) (stand.now.turns.items ++ actor ∷ []) next.new.worlds k) }
+        ⊎ Leads live.now actor next.new.worlds k) }
 {
     let world = stand.world;
     let (stands, others) = (layer.stands.as_slice(), next.stands.as_slice());
@@ -210,15 +208,8 @@ fn place_after<T: Tree + Drop, B: Beginnings<T>>(
         return Ok(place);
     }
     tables.moves.insert(Move { world, actor }, all.len())?;
-    world_after(
-        alloc,
-        beginnings,
-        scope.outside,
-        stand.turns.as_slice(),
-        actor,
-        &mut next.worlds,
-        &mut tables.worlds,
-    )
+    let (next, table) = (&mut next.worlds, &mut tables.worlds);
+    world_after(alloc, live, stand, actor, next, table)
 }
 
 // The actor's way from that stand to one on the next layer's world at that place. NoMemory where its room was refused.
@@ -257,9 +248,8 @@ fn way_to<T: Tree>(
 
 // The ways from the first stand that has none yet. The next layer grows by what they lead to. NoMemory where room was
 // refused.
-fn ways_from<T: Tree + Drop, B: Beginnings<T>>(
+fn ways_from<T: CopyTree + Drop>(
     alloc: Global,
-    beginnings: &B,
     scope: Scope,
     layer: &Layer<T>,
     all: &[Vec<Way>],
@@ -267,14 +257,12 @@ fn ways_from<T: Tree + Drop, B: Beginnings<T>>(
     tables: &mut Tables,
 ) -> Result<Vec<Way>, NoMemory>
     requires on { (n : ℕ) × ((n + 1 < 2 ^ 40) × AreOn n layer.now) }
-    requires actors { length (B.opening beginnings.now).seats ≤ ACTORS_MAX }
     requires stand { length all.now < length layer.now.stands }
-    requires ways { AreFirstWays (B.opening beginnings.now) scope layer.now next.old all.now }
-    requires next { IsNext (B.opening beginnings.now) scope layer.now next.old }
+    requires ways { AreFirstWays scope layer.now next.old all.now }
+    requires next { IsNext scope layer.now next.old }
     ensures grows { IfOk result (λ ways. Grows next.old next.new) }
-    ensures ways { IfOk result (λ ways.
-        AreWaysAt (B.opening beginnings.now) scope layer.now next.new (length all.now) ways.items) }
-    ensures next { IfOk result (λ ways. IsNext (B.opening beginnings.now) scope layer.now next.new) }
+    ensures ways { IfOk result (λ ways. AreWaysAt scope layer.now next.new (length all.now) ways.items) }
+    ensures next { IfOk result (λ ways. IsNext scope layer.now next.new) }
 {
     let stand = &layer.stands[all.len()];
     let live = &layer.worlds[stand.world];
@@ -283,9 +271,7 @@ fn ways_from<T: Tree + Drop, B: Beginnings<T>>(
     for at in 0..world.actors() {
         let actor = at as u32;
         if may_go(world, stand.marks, scope, actor) {
-            let place = place_after(
-                alloc, beginnings, scope, layer, all, stand, actor, next, tables,
-            )?;
+            let place = place_after(alloc, layer, all, stand, live, actor, next, tables)?;
             let (next, table) = (&mut next.stands, &mut tables.stands);
             let way = way_to(alloc, scope, stand, live, actor, place, next, table)?;
             ways.push(way)?;
@@ -296,9 +282,8 @@ fn ways_from<T: Tree + Drop, B: Beginnings<T>>(
 
 // The ways from each stand, and how many states the next layer has, which grows by what they lead to. TooManyStates
 // and NoMemory as of `spread`.
-fn all_ways<T: Tree + Drop, B: Beginnings<T>>(
+fn all_ways<T: CopyTree + Drop>(
     alloc: Global,
-    beginnings: &B,
     limits: Limits,
     room: u64,
     layer: &Layer<T>,
@@ -306,27 +291,17 @@ fn all_ways<T: Tree + Drop, B: Beginnings<T>>(
     tables: &mut Tables,
 ) -> Result<(Vec<Vec<Way>>, u64), SearchFault>
     requires on { (n : ℕ) × ((n + 1 < 2 ^ 40) × AreOn n layer.now) }
-    requires actors { length (B.opening beginnings.now).seats ≤ ACTORS_MAX }
-    requires next { IsNext (B.opening beginnings.now) limits.scope layer.now next.old }
-    ensures ways { IfOk result (λ all.
-        AreAllWays (B.opening beginnings.now) limits.scope layer.now next.new all.0.items) }
-    ensures next { IfOk result (λ all. IsNext (B.opening beginnings.now) limits.scope layer.now next.new) }
+    requires next { IsNext limits.scope layer.now next.old }
+    ensures ways { IfOk result (λ all. AreAllWays limits.scope layer.now next.new all.0.items) }
+    ensures next { IfOk result (λ all. IsNext limits.scope layer.now next.new) }
     ensures room { IfOk result (λ all. all.1 ≤ room) }
-    ensures err { IfErr result (WhyNot (B.opening beginnings.now) limits) }
+    ensures err { (w : WorldView) → IfErr result (WhyNot w limits) }
 {
     let mut all = Vec::new(alloc);
     let mut states: u64 = 0;
     for _at in 0..layer.stands.len() {
         let (scope, had) = (limits.scope, next.worlds.len());
-        let ways = ways_from(
-            alloc,
-            beginnings,
-            scope,
-            layer,
-            all.as_slice(),
-            next,
-            tables,
-        )?;
+        let ways = ways_from(alloc, scope, layer, all.as_slice(), next, tables)?;
         states = states.saturating_add(count_states(next.worlds.as_slice(), had));
         if states > room {
             return Err(SearchFault::TooManyStates);
@@ -342,36 +317,25 @@ fn all_ways<T: Tree + Drop, B: Beginnings<T>>(
 /// none is alike.
 ///
 /// Errors: TooManyStates where it would have more than so many; NoMemory where room was refused.
-pub(crate) fn spread<T: Tree + Drop, B: Beginnings<T>>(
+pub(crate) fn spread<T: CopyTree + Drop>(
     alloc: Global,
-    beginnings: &B,
     limits: Limits,
     room: u64,
     layer: &Layer<T>,
 ) -> Result<(Vec<Vec<Way>>, Layer<T>, u64), SearchFault>
     requires on { (n : ℕ) × ((n + 1 < 2 ^ 40) × AreOn n layer.now) }
-    requires actors { length (B.opening beginnings.now).seats ≤ ACTORS_MAX }
-    ensures joined { IfOk result (λ spread. AreJoined (B.opening beginnings.now) limits.scope layer.now spread.1) }
-    ensures ways { IfOk result (λ spread.
-        AreAllWays (B.opening beginnings.now) limits.scope layer.now spread.1 spread.0.items) }
+    ensures joined { IfOk result (λ spread. AreJoined limits.scope layer.now spread.1) }
+    ensures ways { IfOk result (λ spread. AreAllWays limits.scope layer.now spread.1 spread.0.items) }
     ensures on { IfOk result (λ spread. (n : ℕ) → AreOn n layer.now → AreOn (suc n) spread.1) }
     ensures room { IfOk result (λ spread. spread.2 ≤ room) }
-    ensures err { IfErr result (WhyNot (B.opening beginnings.now) limits) }
+    ensures err { (w : WorldView) → IfErr result (WhyNot w limits) }
 {
     let mut next = Layer {
         worlds: Vec::new(alloc),
         stands: Vec::new(alloc),
     };
     let mut tables = Tables::new(alloc);
-    match all_ways(
-        alloc,
-        beginnings,
-        limits,
-        room,
-        layer,
-        &mut next,
-        &mut tables,
-    ) {
+    match all_ways(alloc, limits, room, layer, &mut next, &mut tables) {
         Ok((all, states)) => Ok((all, next, states)),
         Err(fault) => {
             let Layer { worlds, stands: _ } = next;

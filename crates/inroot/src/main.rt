@@ -2,8 +2,8 @@
 //! explores scripts of calls that race, and lets workers make a script's calls.
 //!
 //! It hands the words of its command line to `command_line`, and standard input and output to `script_runs`,
-//! `script_drawings`, `script_jobs` and `surveys`, where it is stated what a run writes; it ends with the status that
-//! `command_line` says of what happened.
+//! `script_drawings`, `script_jobs` and `explore_text`, where it is stated what a run writes; it ends with the status
+//! that `command_line` says of what happened.
 #![tactic(auto)]
 
 ghost use Rattle.std.specs.Prelude.{◌<◌, ◌≤◌};
@@ -12,6 +12,7 @@ mod waiting;
 
 use clap::ArgMatches;
 use command_line::{Fault, Request, Walking, asked, command, is_strict, order_of, status};
+use explore_text::{Asked, explore_script, read_asked};
 use script_drawings::{Style, draw};
 use script_jobs::run_jobs;
 use script_runs::{replay, walk};
@@ -22,7 +23,6 @@ use std::process::ExitCode;
 use std::sync::Wait;
 use std::thread::Threads;
 use std::{env, io};
-use surveys::{Asked, explore_script, read_asked};
 use waiting::Waiting;
 
 /// Tells help, the version or a usage fault, and how the program ends after it.

@@ -1,7 +1,7 @@
 //! How far an exploration has come, told on standard error where somebody waits at a terminal.
+use explore_text::Progress;
 use std::io::IsTerminal;
 use std::time::{Duration, Instant};
-use surveys::Progress;
 
 /// Tells a terminal how many states there were, once a second, and nothing in the first one. What can't be told is
 /// passed over.

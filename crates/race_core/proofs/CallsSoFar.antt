@@ -30,7 +30,7 @@ use Rattle.root_ops.specs.declared.op.Request.{Request}
 use Rattle.root_ops.specs.Order.{Reply, done, fault, Doing, releasing, CallTurn, more, ends, reply_to, starts, take, due, IsUnmade, LeadsTo}
 use Rattle.root_ops.specs.TurnView.{below_of}
 use Rattle.root_ops.specs.View.{CallView}
-use Rattle.root_ops.proofs.Handles.OwnEvents.{events_append}
+use Rattle.step_resolver.proofs.DrivenWalks.{joined_events}
 use Rattle.root_ops.proofs.Refusals.{refusal_needs_no_room, unmade}
 use Rattle.race_core.specs.declared.plan.Planned.{Planned}
 use Rattle.race_core.specs.declared.plan.Planned.TheVariants as plans
@@ -418,7 +418,7 @@ module _ (plan : List Planned) (book : BookedHistory) (ledger : LedgerView) (cal
     is_below = c.is_below;
     leads = leads_more below c.lines (starts below c.room c.request.op) (more doing) (line ∷ []) _ c.leads leads;
     own = own_more a book.events event refl ∙ ap (λ es. es ++ event ∷ []) c.own ∙ append_assoc (events_of_calls a calls) (events_of a c.lines) (event ∷ [])
-        ∙ ap (λ es. events_of_calls a calls ++ (events_of a c.lines ++ es)) (sym is_event) ∙ ap (λ es. events_of_calls a calls ++ es) (sym (events_append a c.lines (line ∷ [])));
+        ∙ ap (λ es. events_of_calls a calls ++ (events_of a c.lines ++ es)) (sym is_event) ∙ ap (λ es. events_of_calls a calls ++ es) (sym (joined_events a c.lines (line ∷ [])));
     holds = holds_on (HeldIn plan book ledger) (HeldIn plan next_book ledger) (answer_now book a step) (FreedIn plan book ledger) (FreedIn plan next_book ledger) below b doing
         (held_moves (IsOwn plan ledger) (tree_now book) (tree_now next_book) a (spared_in ledger) step (answer_now book a step) (booked_moves book a step) (λ own. (c.spared own).are_open)) c.holds;
     spared = λ own. record {
@@ -446,7 +446,7 @@ module _ (plan : List Planned) (book : BookedHistory) (ledger : LedgerView) (cal
     standings = c.standings;
     is_below = c.is_below;
     leads = leads_more below c.lines (starts below c.room c.request.op) (more doing) (not_made error ∷ []) _ c.leads (why, sym (refusal_needs_no_room below room doing error));
-    own = c.own ∙ ap (λ es. events_of_calls a calls ++ es) (sym (append-nil (events_of a c.lines)) ∙ sym (events_append a c.lines (not_made error ∷ [])));
+    own = c.own ∙ ap (λ es. events_of_calls a calls ++ es) (sym (append-nil (events_of a c.lines)) ∙ sym (joined_events a c.lines (not_made error ∷ [])));
     holds = holds_on (HeldIn plan book ledger) (HeldIn plan book ledger) (Refused error) (FreedIn plan book ledger) (FreedIn plan book ledger) below room doing
         (unmoved (HeldIn plan book ledger) step error) c.holds;
     spared = c.spared;

@@ -17,7 +17,8 @@ use Rattle.root_ops.specs.declared.op.Op.TheVariants.{Resolve, ResolveNoFollow, 
 use Rattle.root_ops.specs.declared.op.Request.{Request}
 use Rattle.root_ops.specs.Order.{Reply, opened, link_text, done, count, stepped, kept, fault}
 use Rattle.root_ops.specs.TurnView.{below_of}
-use Rattle.root_ops.proofs.Handles.OwnEvents.{cut, nothing_more}
+use Rattle.bulk_ops.proofs.OwnEvents.{cut}
+use Rattle.root_ops.proofs.Handles.OwnEvents.{nothing_more}
 use Rattle.root_ops.proofs.Handles.WalkParts.{HasRoot, root_later}
 use Rattle.race_core.specs.EndHandles.{Word, words_of_done, words_of, words_of_call, all_words, last_word, HandlesAtEnd, RootsStayOpen, KeptIsReleased}
 use Rattle.race_core.specs.OwnHistory.{NoneCloses}

@@ -35,7 +35,7 @@ use Rattle.root_ops.specs.declared.aim.Wanted.TheVariants as wants
 use Rattle.root_ops.specs.declared.below.Below.{Below}
 use Rattle.root_ops.specs.declared.op.Op.{Op}
 use Rattle.root_ops.specs.declared.op.Op.TheVariants.{Resolve, ResolveNoFollow, ReadLink, CreateFile, CreateDir, CreateLink, RemoveFile, RemoveDir, Rename, MkdirAll, RemoveAll, Single, Release}
-use Rattle.root_ops.specs.Order.{Reply, opened, link_text, done, count, stepped, kept, fault, After, gives, acts, Doing, walking, acting, checking, closing, making, removing, releasing, CallTurn, more, ends, change_step, rename_step, reply_to, walked_on, walked, reached, renames, held_by, way_of, make_way, makes, clears, walks, unless_fault, in_directory as on_directory, clear_in, between, from_entry, renaming_of, is_single, single, releases, same_owner, starts, checked, take, due, IsUnmade}
+use Rattle.root_ops.specs.Order.{Reply, opened, link_text, done, count, stepped, kept, fault, After, gives, acts, Doing, walking, acting, checking, closing, making, removing, releasing, CallTurn, more, ends, change_step, rename_step, reply_to, walked_on, walked, reached, renames, held_by, way_of, make_way, makes, removing_turn, walks, unless_fault, in_directory as on_directory, clear_in, between, from_entry, renaming_of, is_single, single, releases, same_owner, starts, checked, take, due, IsUnmade}
 use Rattle.root_ops.specs.Order as call
 use Rattle.race_core.specs.Book.{is_close}
 use Rattle.race_core.proofs.HeldOpen.{AllOpen, with_opened, with_after, held_walking, then_walking, HeldAt, walk_taken, walk_begun, walk_started, held_making, then_making, HeldMaking, make_taken, make_begun, held_removing, then_removing, HeldRemoving, removal_taken, removal_begun}
@@ -159,7 +159,7 @@ module _ (Open Freed : ℕ → Type 0) (below : Below) where
   then_makes way (make.made handle names) all = all
   then_makes way (make.failed error) all = tt
 
-  then_clears : (turn : remove.Turn) → HeldRemoving Open turn → TurnHolds Open Freed (clears turn)
+  then_clears : (turn : remove.Turn) → HeldRemoving Open turn → TurnHolds Open Freed (removing_turn turn)
   then_clears (remove.more r) all = all
   then_clears (remove.removed n) all = tt
   then_clears (remove.failed error) all = tt

@@ -11,10 +11,10 @@ mod Granting
 mod HeldOpen
 mod HeldByCalls
 mod KeptOpen
-mod CallsSoFar
+pub mod CallsSoFar
 mod WorldSoFar
 mod ReportsTell
 mod HandlesLeft
 pub mod OneEnd
-mod LikeLists
+pub mod LikeLists
 pub mod LikeSeats

@@ -1,5 +1,5 @@
 -- An actor's own events in a history, and its root, which stays open where none of them closes it.
-use Rattle.std.proofs.Common.{◌≡◌, ℕ, ◌==◌, Bool, true, false, cond, List, [], ◌∷◌, ◌++◌, Some, refl, sym, ap, ◌∙◌, subst}
+use Rattle.std.proofs.Common.{◌≡◌, ℕ, ◌==◌, Bool, true, false, List, [], ◌∷◌, ◌++◌, Some, refl, sym, ap, ◌∙◌, subst}
 use Rattle.std.proofs.lemmas.Bool.{eqb-true, eqb-false}
 use Rattle.tree_model.specs.declared.answer.Event.{Event}
 use Rattle.tree_model.specs.History.{after_event, after_events}
@@ -8,7 +8,7 @@ use Rattle.tree_model.specs.Steps.{held}
 use Rattle.tree_model.proofs.StepLaws.{own_handles_stay, others_handles_stay}
 use Rattle.step_resolver.specs.WalkHistory.{own_events}
 use Rattle.root_ops.specs.declared.below.Below.{Below}
-use Rattle.root_ops.proofs.Handles.OwnEvents.{cut}
+use Rattle.bulk_ops.proofs.OwnEvents.{own_first, own_later, cut}
 use Rattle.root_ops.proofs.Handles.WalkParts.{HasRoot, root_later}
 use Rattle.race_core.specs.OwnHistory.{NoneCloses, IsHistory, Around}
 
@@ -43,12 +43,6 @@ none_both h (e ∷ es) fs first rest = (first.0, none_both h es fs first.1 rest)
 -- ---- the root's handle stays open
 
 module _ (a h x : ℕ) where
-  own_here : (event : Event) (rest : List Event) → (event.actor == a) ≡ true → own_events a (event ∷ rest) ≡ event ∷ own_events a rest
-  own_here event rest e = ap (λ b. cond b (event ∷ own_events a rest) (own_events a rest)) e
-
-  own_later : (event : Event) (rest : List Event) → (event.actor == a) ≡ false → own_events a (event ∷ rest) ≡ own_events a rest
-  own_later event rest e = ap (λ b. cond b (event ∷ own_events a rest) (own_events a rest)) e
-
   pub root_stays : (events : List Event) (s : State) → held s a h ≡ Some x → NoneCloses h (own_events a events) → held (after_events s events) a h ≡ Some x
   root_stays [] s e none = e
   root_stays (event ∷ rest) s e none = on (event.actor == a) refl (λ f n. root_stays rest (after_event s event) f n)
@@ -57,11 +51,11 @@ module _ (a h x : ℕ) where
           → (held (after_event s event) a h ≡ Some x → NoneCloses h (own_events a rest) → held (after_events (after_event s event) rest) a h ≡ Some x)
           → held (after_events (after_event s event) rest) a h ≡ Some x
       on true q go =
-          let now : NoneCloses h (event ∷ own_events a rest) = subst (NoneCloses h) (own_here event rest q) none in
+          let now : NoneCloses h (event ∷ own_events a rest) = subst (NoneCloses h) (own_first a event rest q) none in
           let same = eqb-true event.actor a q in
           let mine : held s event.actor h ≡ Some x = ap (λ b. held s b h) same ∙ e in
           go (ap (λ b. held (after_event s event) b h) (sym same) ∙ own_handles_stay s event.actor event.step h x mine now.0) now.1
-      on false q go = go (others_handles_stay s event.actor event.step a h (λ same. eqb-false event.actor a q (sym same)) ∙ e) (subst (NoneCloses h) (own_later event rest q) none)
+      on false q go = go (others_handles_stay s event.actor event.step a h (λ same. eqb-false event.actor a q (sym same)) ∙ e) (subst (NoneCloses h) (own_later a event rest q) none)
 
 -- the root as a window begins
 pub root_at : (below : Below) (opening : State) (events before : List Event) (node : ℕ) → IsHistory opening events below.root node

@@ -30,7 +30,7 @@ use Rattle.root_ops.specs.declared.op.Request.{Request}
 use Rattle.root_ops.specs.Order.{Reply, opened, done, kept, fault, releasing, CallTurn, more, ends, same_owner, starts, walked, unless_fault, walks, LeadsTo}
 use Rattle.root_ops.specs.Quiet.{QuietCallsMean}
 use Rattle.root_ops.specs.TurnView.{below_of}
-use Rattle.root_ops.proofs.Handles.OwnEvents.{events_append}
+use Rattle.step_resolver.proofs.DrivenWalks.{joined_events}
 use Rattle.root_ops.proofs.Handles.WalkParts.{IsEnded, walk_ends}
 use Rattle.root_ops.proofs.Replies.{at_its_end}
 use Rattle.race_core.specs.declared.plan.ActorPlan.{ActorPlan}
@@ -220,7 +220,7 @@ module _ (every : EveryWalk) (r : WholeRun) (i : ℕ) (plan : ActorPlan) (of : A
       → WalkTells r i of.node (events_of_calls i earlier) request goal path end
   walk_so first rest end whole leads =
       let in_two : events_of i c.lines ++ later ≡ events_of i first ++ (events_of i rest ++ later) =
-      ap (λ ls. events_of i ls ++ later) whole ∙ ap (λ es. es ++ later) (events_append i first rest) ∙ append_assoc (events_of i first) (events_of i rest) later in
+      ap (λ ls. events_of i ls ++ later) whole ∙ ap (λ es. es ++ later) (joined_events i first rest) ∙ append_assoc (events_of i first) (events_of i rest) later in
       let told = walk_tells every r i plan of way (reading_of path) first end (events_of_calls i earlier) (events_of i rest ++ later)
       closes_own refl (own ∙ ap (λ es. events_of_calls i earlier ++ es) in_two) leads in
       record { walked = told.0; placed = told.1.0; way = told.1.1.0; path_is = told.1.1.1.0; headline = told.1.1.1.1.1 }

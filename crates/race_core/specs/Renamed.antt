@@ -109,7 +109,7 @@ doing_call_handles (Some call) = call_handles call
 abbrev pub seat_handles : Seat → List ℕ
 seat_handles seat = ledger_handles seat.ledger ++ doing_call_handles seat.doing
 
--- ---- what is the same but for the numbers of handles, and gets one number for each handle in both, is the same with these
+-- ---- what is the same but for handles' numbers, and gets one number for each handle in both, is the same with these
 
 abbrev pub LikeSeats : Seat → Seat → Type 0
 LikeSeats s t = seat_by (λ h. 0) s ≡ seat_by (λ h. 0) t

@@ -1,5 +1,5 @@
 //! A tree and the history of the steps on it.
-ghost use Rattle.std.specs.Prelude.{◌≡◌, ◌<◌, ◌≤◌, ◌+◌, ◌++◌, [], ◌∷◌, suc, length, false, is_some, count_by, Some, None, Err, MatchResult, MatchOption, IfOk, IfErr};
+ghost use Rattle.std.specs.Prelude.{◌≡◌, ◌<◌, ◌≤◌, ◌+◌, ◌++◌, [], ◌∷◌, suc, false, is_some, count_by, Err, MatchResult, MatchOption, IfOk, IfErr};
 ghost use Rattle.event_log.specs.Records.{event_with};
 ghost use Rattle.tree_model.specs.History.{IsLegal};
 ghost use Rattle.tree_model.specs.StepLaws.{open_count, opened_count};

@@ -32,7 +32,13 @@ impl Model for Ledger {
 
     ghost Value = { LedgerView };
 
-    ghost view = { λ l. record { root = l.root; to_come = l.to_come.items; outcomes = l.outcomes; standings = l.standings.items; kept = l.kept.items } };
+    ghost view = { λ l. record {
+      root = l.root;
+      to_come = l.to_come.items;
+      outcomes = l.outcomes;
+      standings = l.standings.items;
+      kept = l.kept.items;
+    } };
 }
 
 // The handle that is named, where it is held.

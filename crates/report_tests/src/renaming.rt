@@ -1,9 +1,9 @@
-//! Outcomes as text, so that each test is a row: the nodes by their numbers and then, after each bar, an actor's replies.
-//! `1x` is a directory of that name in node 1, `1xf` a file, and `-` stands nowhere; `3` is a call that opened node 3, `s3` a
-//! step that did, and `.` another call.
+//! Outcomes as text, so that each test is a row: the nodes by their numbers and then, after each bar, an actor's
+//! replies. `1x` is a directory of that name in node 1, `1xf` a file, and `-` stands nowhere; `3` is a call that opened
+//! node 3, `s3` a step that did, and `.` another call.
+use node_numbering::{Renumbered, renumber};
 use path_text::{Errno, Name, Names, NoMemory};
 use race_core::{Outcome, Outcomes};
-use renumbered::{Renumbered, renumber};
 use std::alloc::Global;
 use std::test::Fail;
 use tree_model::{Answer, HandleNo, Inode, Kind, Node, Object, Place};

@@ -6,7 +6,7 @@ use race_core::{Outcome, Outcomes};
 use report_text::{event_words, events, held, replies, reply_words, rows, rows_have_lines};
 use std::alloc::Global;
 use std::test::Fail;
-use transcript::Output;
+use step_text::Output;
 use tree_list::ListTree;
 use tree_model::{Actor, Answer, Event, HandleNo, Kind, Node, StepOf, Tree};
 

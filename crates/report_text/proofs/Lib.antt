@@ -1,3 +1,3 @@
-pub mod Numbered
+pub mod AddedLines
 pub mod EventLines
 pub mod RowKinds

@@ -1,5 +1,5 @@
 pub use Rattle.tree_model.specs.Rows
-pub use Rattle.transcript.specs.Output
-pub use Rattle.transcript.specs.Words
+pub use Rattle.step_text.specs.Output
+pub use Rattle.step_text.specs.Words
 pub mod Report
 pub mod ReportLaws

@@ -14,6 +14,7 @@ mod words;
 
 pub use history::{event_words, events};
 pub use laws::rows_have_lines;
-pub use outcomes::{replies, reply_words};
+pub use outcomes::{replies, replies_of, reply_words};
 pub use state::{held, rows};
 pub use whole::report;
+pub use words::numbered;

@@ -1,13 +1,12 @@
 //! The lines of how calls ended.
-ghost use Rattle.std.specs.Prelude.{◌≡◌, ℕ, List, ◌++◌};
-ghost use Rattle.transcript.specs.Output.{Gains};
+ghost use Rattle.step_text.specs.Output.{Gains};
 ghost use Rattle.report_text.specs.Report.{reply_words, reply_line, actor_lines, reply_lines};
 
 use crate::words::numbered;
 use path_text::NoMemory;
 use race_core::{Outcome, Outcomes};
 use std::alloc::Global;
-use transcript::Output;
+use step_text::Output;
 
 /// Adds how a call ended, with no newline: `opened KIND NODE PATH`, `text TEXT`, `done`, `count N`, `stepped ANSWER`
 /// or `fault ENAME`. NoMemory where its room was refused.
@@ -47,8 +46,9 @@ fn reply(
     out.text("\n")
 }
 
-// Adds the line of each call of an actor.
-fn replies_of(
+/// Adds the line of each call of an actor, by the actor's number and the call's, its calls counted from 0: `reply I J
+/// REPLY`. NoMemory where its room was refused.
+pub fn replies_of(
     alloc: Global,
     out: &mut Output,
     actor: u64,

@@ -1,6 +1,5 @@
 //! The whole text.
-ghost use Rattle.std.specs.Prelude.{◌≡◌};
-ghost use Rattle.transcript.specs.Output.{Gains};
+ghost use Rattle.step_text.specs.Output.{Gains};
 ghost use Rattle.report_text.specs.Report.{report_text};
 
 use crate::history::events;
@@ -9,7 +8,7 @@ use crate::state::{held, rows};
 use path_text::NoMemory;
 use race_core::Report;
 use std::alloc::Global;
-use transcript::Output;
+use step_text::Output;
 use tree_model::Tree;
 
 /// Adds the text of a report: a line for each event, then for each call, then for each entry of the tree, then for

@@ -16,7 +16,7 @@ use Rattle.bulk_ops.specs.RemoveAllOrder as remove
 use Rattle.bulk_ops.specs.RemoveAllTurnView as removing_view
 use Rattle.bulk_ops.specs.RemoveAllView.{looks_up, is_named}
 use Rattle.root_ops.specs.declared.below.Below.{Below}
-use Rattle.root_ops.specs.Order.{Reply, CallTurn, ends, fault, making, removing, make_way, makes, clears, LeadsTo}
+use Rattle.root_ops.specs.Order.{Reply, CallTurn, ends, fault, making, removing, make_way, makes, removing_turn, LeadsTo}
 use Rattle.root_ops.specs.TurnView.{Either, TakesTo}
 use Rattle.root_ops.specs.View.{is_nameless}
 use Rattle.root_ops.proofs.Rooms.{FindsNone, first_turn, nameless_opens_none}
@@ -61,7 +61,7 @@ pub makes_by : (below : Below) (path : Reading) (outcome : BulkTurn MakingView) 
 makes_by below path outcome turn started by =
     begun_making (make_way below) path started.0 (walk.begins (make_way below) path) turn refl (first_turn (make_way below) path) (by (make.starts (make_way below) started.0 path) started.1)
 
-begun_clearing : (room : Bool) (begun : remove.Turn) (turn : CallTurn) → turn ≡ clears (remove.for_call room begun) → Either (clears begun) (ends (fault NoMemory)) turn
+begun_clearing : (room : Bool) (begun : remove.Turn) (turn : CallTurn) → turn ≡ removing_turn (remove.for_call room begun) → Either (removing_turn begun) (ends (fault NoMemory)) turn
 begun_clearing true begun turn is = (true, is)
 begun_clearing false (remove.more call) turn is = (false, is)
 begun_clearing false (remove.removed n) turn is = (true, is)
@@ -70,8 +70,8 @@ begun_clearing false (remove.failed error) turn is = (true, is)
 -- of a RemoveAll, as it was begun
 pub clears_by : (below : Below) (name : List ℕ) (path : Reading) (outcome : BulkTurn remove.Removing) (turn : CallTurn)
     → removing_view.StartsTo (way_from below.root Follow below.flags) name path outcome
-    → ((to : remove.Turn) → removing_view.IsTurn outcome to → turn ≡ clears to)
-    → Either (clears (remove.begins (way_from below.root Follow below.flags) name path)) (ends (fault NoMemory)) turn
+    → ((to : remove.Turn) → removing_view.IsTurn outcome to → turn ≡ removing_turn to)
+    → Either (removing_turn (remove.begins (way_from below.root Follow below.flags) name path)) (ends (fault NoMemory)) turn
 clears_by below name path outcome turn started by =
     begun_clearing started.0 (remove.begins (way_from below.root Follow below.flags) name path) turn
     (by (remove.starts (way_from below.root Follow below.flags) started.0 name path) started.1)
@@ -86,7 +86,7 @@ made_by below call answer outcome turn same taken by =
     (taken.0, by (make.take call.way taken.0 call.making answer) taken.1 ∙ ap (λ way. makes (make.take way taken.0 call.making answer)) same)
 
 pub cleared_by : (below : Below) (call : remove.Removing) (answer : Answer) (outcome : BulkTurn remove.Removing) (turn : CallTurn)
-    → removing_view.TakesTo call answer outcome → ((to : remove.Turn) → removing_view.IsTurn outcome to → turn ≡ clears to)
+    → removing_view.TakesTo call answer outcome → ((to : remove.Turn) → removing_view.IsTurn outcome to → turn ≡ removing_turn to)
     → TakesTo below (removing call) answer turn
 cleared_by below call answer outcome turn taken by = (taken.0, by (remove.take taken.0 call answer) taken.1)
 
@@ -116,9 +116,9 @@ makes_led below (make.failed error) (line ∷ lines) reply leads = absurd leads
 pub record ClearLed (turn : remove.Turn) (lines : List Line) (reply : Reply) : Type 0 where
   pub end : remove.Turn
   pub led : remove.LeadsTo turn lines end
-  pub is_reply : clears end ≡ ends reply
+  pub is_reply : removing_turn end ≡ ends reply
 
-pub clears_led : (below : Below) (turn : remove.Turn) (lines : List Line) (reply : Reply) → LeadsTo below (clears turn) lines (ends reply) → ClearLed turn lines reply
+pub clears_led : (below : Below) (turn : remove.Turn) (lines : List Line) (reply : Reply) → LeadsTo below (removing_turn turn) lines (ends reply) → ClearLed turn lines reply
 clears_led below turn [] reply leads = record { end = turn; led = refl; is_reply = leads }
 clears_led below (remove.more call) (answered step answer ∷ lines) reply leads =
     let later = clears_led below (remove.take true call answer) lines reply leads.1 in

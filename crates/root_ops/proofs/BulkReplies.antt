@@ -17,7 +17,7 @@ use Rattle.root_ops.specs.declared.reply.Reply.{Reply as Told}
 use Rattle.root_ops.specs.BulkTells.{BulkCallsTell}
 use Rattle.root_ops.specs.CallHistory.{CallInHistory, IsCallInHistory, RepliesWith}
 use Rattle.root_ops.specs.EachCall.{Makes, Clears, MakeAllTells, RemoveAllTells, BulkTells}
-use Rattle.root_ops.specs.Order.{opened, count, fault, ends, make_way, makes, clears, clear_in, unless_fault}
+use Rattle.root_ops.specs.Order.{opened, count, fault, ends, make_way, makes, removing_turn, clear_in, unless_fault}
 use Rattle.root_ops.specs.View.{reply_view}
 use Rattle.root_ops.proofs.Handles.AfterWalks.{same_reply}
 use Rattle.root_ops.proofs.FirstTurn.{ends_at_once}
@@ -58,7 +58,7 @@ module _ (bulk : BulkCallsTell) (c : CallInHistory) (reply : Told) (is : IsCallI
 
   -- ---- RemoveAll
 
-  clear_by_end : (text : List ℕ) (end : remove.Turn) → clears end ≡ ends (reply_view reply) → Clears c (reading_of text) end → RemoveAllTells c text reply
+  clear_by_end : (text : List ℕ) (end : remove.Turn) → removing_turn end ≡ ends (reply_view reply) → Clears c (reading_of text) end → RemoveAllTells c text reply
   clear_by_end text (remove.more call) e tells = cc (e)
   clear_by_end text (remove.removed n) e tells = subst (RemoveAllTells c text) (sym (is_count reply n (same_reply (count n) (reply_view reply) e))) tells
   clear_by_end text (remove.failed error) e tells =

@@ -40,7 +40,7 @@ use Rattle.root_ops.specs.declared.below.Below.{Below}
 use Rattle.root_ops.specs.declared.op.Op.{Op}
 use Rattle.root_ops.specs.declared.op.Op.TheVariants.{Resolve, ResolveNoFollow, ReadLink, CreateFile, CreateDir, CreateLink, RemoveFile, RemoveDir, Rename, MkdirAll, RemoveAll, Single, Release}
 use Rattle.root_ops.specs.Order as call
-use Rattle.root_ops.specs.Order.{Doing, walking, acting, checking, closing, making, removing, releasing, CallTurn, more, ends, make_way, makes, clears, clear_in, walks, unless_fault, in_directory, between, from_entry, is_single, single, same_owner, releases, lacks, starts, begins, way_of, renaming_of, steps_then, steps_left, Reply, LeadsTo}
+use Rattle.root_ops.specs.Order.{Doing, walking, acting, checking, closing, making, removing, releasing, CallTurn, more, ends, make_way, makes, removing_turn, clear_in, walks, unless_fault, in_directory, between, from_entry, is_single, single, same_owner, releases, lacks, starts, begins, way_of, renaming_of, steps_then, steps_left, Reply, LeadsTo}
 use Rattle.root_ops.specs.declared.call.CallTurn.{CallTurn as Outcome}
 use Rattle.root_ops.specs.TurnView.{turn_view, Keeps, StartsTo, steps_to_come, STEPS_MAX}
 use Rattle.root_ops.specs.StepCount.{is_walking, is_bulk, WalksOrFew, FiveAfterWalks, BulkAfterWalks}
@@ -256,7 +256,7 @@ lines_few below (suc k) (not_made error ∷ lines) (more doing) end few leads =
 lines_few below k (line ∷ lines) (ends reply) end few leads = absurd leads
 
 removing_few : (below : Below) (way : Way) (target : List ℕ) (handle : Handle) (names : List (List ℕ)) (lines : List Line) (reply : Reply)
-    → LeadsTo below (clears (remove.walked way target (found handle names))) lines (ends reply) → (length lines ≤ 2 * CLEARING_STEPS_MAX + 1) × IsBounded lines
+    → LeadsTo below (removing_turn (remove.walked way target (found handle names))) lines (ends reply) → (length lines ≤ 2 * CLEARING_STEPS_MAX + 1) × IsBounded lines
 removing_few below way target handle names lines reply leads =
     let by = clears_led below (remove.walked way target (found handle names)) lines reply leads in (
       lines_few below (2 * CLEARING_STEPS_MAX + 1) lines _ (ends reply)

@@ -20,7 +20,7 @@ use Rattle.step_resolver.specs.Order as walk
 use Rattle.step_resolver.specs.View.{way_from}
 use Rattle.bulk_ops.specs.MakeAllOrder as make
 use Rattle.bulk_ops.specs.RemoveAllOrder as remove
-use Rattle.bulk_ops.specs.RemoveAllTells.{first_part}
+use Rattle.bulk_ops.specs.RemoveAllTells.{walk_part}
 use Rattle.bulk_ops.proofs.RemovingAll.Parts.{WalkEnd, goes_on, walk_fails, walk_finds, walk_stops, walk_end}
 use Rattle.root_ops.specs.declared.aim.Aim.{Aim}
 use Rattle.root_ops.specs.declared.aim.Aim.TheVariants.{Opens, Reads, Changes, WalksOn}
@@ -31,10 +31,11 @@ use Rattle.root_ops.specs.declared.op.Op.TheVariants.{Resolve, ResolveNoFollow, 
 use Rattle.root_ops.specs.BulkTells.{bulk_of}
 use Rattle.root_ops.specs.CallHistory.{CallInHistory, actor_of, begin_of, IsCallInHistory, RepliesWith}
 use Rattle.root_ops.specs.EachCall.{IsDirectoryOf, HasName, WalksFirst, BeginsWithWalk}
-use Rattle.root_ops.specs.Order.{Reply, ends, make_way, makes, clears, clear_in, unless_fault, starts, goal_of, way_of, walked, walks, on_path, on_entry, in_directory, from_entry, between, renaming_of, LeadsTo}
+use Rattle.root_ops.specs.Order.{Reply, ends, make_way, makes, removing_turn, clear_in, unless_fault, starts, goal_of, way_of, walked, walks, on_path, on_entry, in_directory, from_entry, between, renaming_of, LeadsTo}
 use Rattle.root_ops.proofs.Bulk.{makes_led, clears_led}
 use Rattle.root_ops.proofs.FirstTurn.{led_from}
-use Rattle.root_ops.proofs.Handles.OwnEvents.{events_append, cut}
+use Rattle.step_resolver.proofs.DrivenWalks.{joined_events}
+use Rattle.bulk_ops.proofs.OwnEvents.{cut}
 use Rattle.root_ops.proofs.Handles.WalkParts.{IsEnded, walk_ends}
 
 -- ---- the walk's own lines
@@ -109,7 +110,7 @@ module _ (every : EveryWalk) (c : CallInHistory) (reply : Reply) (is : IsCallInH
   begins_with goal path of =
       let a = actor_of c in
       let way = way_from c.below.root goal c.below.flags in
-      let parts = cut a c.window (events_of a of.first) (events_of a of.rest) (is.own ∙ ap (events_of a) of.whole ∙ events_append a of.first of.rest) in
+      let parts = cut a c.window (events_of a of.first) (events_of a of.rest) (is.own ∙ ap (events_of a) of.whole ∙ joined_events a of.first of.rest) in
       record {
         window = parts.before;
         later = parts.after;
@@ -121,7 +122,7 @@ module _ (every : EveryWalk) (c : CallInHistory) (reply : Reply) (is : IsCallInH
         end = of.end;
         over = of.over;
         leads = of.leads;
-        headline = every (first_part (bulk_of c way path) parts.before of.first) of.end
+        headline = every (walk_part (bulk_of c way path) parts.before of.first) of.end
             (record {
               tree = is.tree;
               legal_before = is.legal_before;
@@ -153,12 +154,12 @@ module _ (every : EveryWalk) (c : CallInHistory) (reply : Reply) (is : IsCallInH
       let way = way_from c.below.root Follow c.below.flags in
       let begun = remove.begins way split.name split.dir in
       let by = clears_led c.below begun c.lines reply
-      (led_from c reply (RemoveAll text) true (clears begun) leads same room
+      (led_from c reply (RemoveAll text) true (removing_turn begun) leads same room
       (ap (λ (why : Option Errno). unless_fault why (clear_in c.below (split_of (reading_of text) Drop))) fine ∙ ap (λ (s : Result Split Errno). clear_in c.below s) at)) in
       begins_with Follow split.dir (clear_first way split.name (walk.begins way split.dir) c.lines by.end (cleared_too by.end by.is_reply)
       (walk_end way split.name c.lines (walk.begins way split.dir) by.end by.led))
     where
-      cleared_too : (end : remove.Turn) → clears end ≡ ends reply → IsCleared end
+      cleared_too : (end : remove.Turn) → removing_turn end ≡ ends reply → IsCleared end
       cleared_too (remove.more call) e = cc (e)
       cleared_too (remove.removed n) e = tt
       cleared_too (remove.failed error) e = tt

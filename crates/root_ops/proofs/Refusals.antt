@@ -8,7 +8,7 @@ use Rattle.step_resolver.specs.Order as walk
 use Rattle.bulk_ops.specs.MakeAllOrder as make
 use Rattle.bulk_ops.specs.RemoveAllOrder as remove
 use Rattle.root_ops.specs.declared.below.Below.{Below}
-use Rattle.root_ops.specs.Order.{way_of, make_way, makes, clears}
+use Rattle.root_ops.specs.Order.{way_of, make_way, makes, removing_turn}
 use Rattle.root_ops.specs.Order as call
 use Rattle.root_ops.proofs.Rooms.{FindsNone, same_room, not_opened, not_risen, closed}
 
@@ -73,7 +73,7 @@ refusal_needs_no_room below room (call.acting wanted step hs) error = refl
 refusal_needs_no_room below room (call.checking old new renaming) error = refl
 refusal_needs_no_room below room (call.closing h hs after) error = refl
 refusal_needs_no_room below room (call.making making) error = ap makes (of_a_make (make_way below) room making error)
-refusal_needs_no_room below room (call.removing removing) error = ap clears (of_a_removal room removing error)
+refusal_needs_no_room below room (call.removing removing) error = ap removing_turn (of_a_removal room removing error)
 refusal_needs_no_room below room (call.releasing h) error = refl
 
 -- ---- a step that may be left out

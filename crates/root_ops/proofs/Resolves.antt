@@ -14,7 +14,7 @@ use Rattle.step_resolver.specs.Order.{Handle}
 use Rattle.step_resolver.specs.Order as walk
 use Rattle.step_resolver.specs.TurnView.{standing_handle}
 use Rattle.step_resolver.specs.View.{way_from}
-use Rattle.bulk_ops.specs.RemoveAllTells.{first_part}
+use Rattle.bulk_ops.specs.RemoveAllTells.{walk_part}
 use Rattle.root_ops.specs.declared.aim.Aim.TheVariants.{Opens}
 use Rattle.root_ops.specs.declared.op.Op.{Op}
 use Rattle.root_ops.specs.declared.op.Op.TheVariants.{Resolve, ResolveNoFollow}
@@ -45,7 +45,7 @@ module _ (every : EveryWalk) (c : CallInHistory) (reply : Told) (is : IsCallInHi
       subst (WalkIsReply c goal text) (sym told.1.0) (record { begun = begun; is_end = same ∙ by_parts handle names told.0 told.1.1.0 told.1.1.1 })
   -- a walk to the deepest directory alone ends so
   by_end begun room (walk.partial handle names rest) same onward =
-      let part = first_part (bulk_of c (way_from c.below.root goal c.below.flags) (reading_of text)) begun.window begun.lines in
+      let part = walk_part (bulk_of c (way_from c.below.root goal c.below.flags) (reading_of text)) begun.window begun.lines in
       let headline = subst (λ (end : walk.Turn). Headline part end) same begun.headline in
       absurd (false≢true (sym shallow ∙ headline.tells.goal))
   by_end begun room (walk.failed error) same onward =

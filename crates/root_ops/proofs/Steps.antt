@@ -18,7 +18,7 @@ use Rattle.root_ops.specs.declared.aim.Aim.{Aim}
 use Rattle.root_ops.specs.declared.aim.Aim.TheVariants.{Opens, Reads, Changes, WalksOn, Renames}
 use Rattle.root_ops.specs.declared.aim.Renaming.{Renaming}
 use Rattle.root_ops.specs.declared.below.Below.{Below}
-use Rattle.root_ops.specs.Order.{After, gives, acts, Doing, walking, acting, checking, closing, making, removing, releasing, CallTurn, more, ends, make_way, makes, clears, closes, gives_up, renames, walked_on, reached, walked, take, checked, reply_to, way_of, held_by, steps_then, steps_after, steps_left}
+use Rattle.root_ops.specs.Order.{After, gives, acts, Doing, walking, acting, checking, closing, making, removing, releasing, CallTurn, more, ends, make_way, makes, removing_turn, closes, gives_up, renames, walked_on, reached, walked, take, checked, reply_to, way_of, held_by, steps_then, steps_after, steps_left}
 use Rattle.root_ops.specs.declared.call.CallTurn.{CallTurn as Outcome}
 use Rattle.root_ops.specs.declared.call.CallTurn.TheVariants as outcomes
 use Rattle.root_ops.specs.TurnView.{turn_view, Keeps, TakesTo, steps_to_come}
@@ -128,7 +128,7 @@ module _ (below : Below) (k : ℕ) where
   makes_fewer (make.made handle names) few = tt
   makes_fewer (make.failed error) few = tt
 
-  pub clears_fewer : (turn : remove.Turn) → remove_steps.FewerThan k turn → IsFewer below k (clears turn)
+  pub clears_fewer : (turn : remove.Turn) → remove_steps.FewerThan k turn → IsFewer below k (removing_turn turn)
   clears_fewer (remove.more call) few = few
   clears_fewer (remove.removed n) few = tt
   clears_fewer (remove.failed error) few = tt

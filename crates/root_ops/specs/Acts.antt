@@ -28,7 +28,7 @@ use Rattle.step_resolver.specs.Order.{Handle, Line, events_of, IsWant, found, fa
 use Rattle.step_resolver.specs.Order as walk
 use Rattle.step_resolver.specs.View.{way_from}
 use Rattle.step_resolver.specs.WalkHistory.{WalkInHistory, IsWalkInHistory, begin_of, state_at, timeline, own_events}
-use Rattle.bulk_ops.specs.RemoveAllTells.{event_at, LeavesEntries, AllLeaveEntries, first_part, second_part}
+use Rattle.bulk_ops.specs.RemoveAllTells.{event_at, LeavesEntries, AllLeaveEntries, walk_part, rest_part}
 use Rattle.root_ops.specs.declared.aim.Change.{Change}
 use Rattle.root_ops.specs.declared.aim.Change.TheVariants as changes
 use Rattle.root_ops.specs.declared.aim.Renaming.{Renaming}
@@ -52,13 +52,13 @@ pub record WalkedTo (w : WalkInHistory) (end : walk.Turn) : Type 0 where
   pub all_lines : w.lines ≡ lines ++ rest
   pub own_later : own_events w.actor later ≡ events_of w.actor rest
   pub leads : walk.LeadsTo w.way (walk.begins w.way w.path) lines end
-  pub is_walk : IsWalkInHistory (first_part w window lines)
-  pub headline : Headline (first_part w window lines) end
-  pub leaves : AllLeaveEntries (first_part w window lines)
+  pub is_walk : IsWalkInHistory (walk_part w window lines)
+  pub headline : Headline (walk_part w window lines) end
+  pub leaves : AllLeaveEntries (walk_part w window lines)
 
 -- what comes after the walk; its moments count from there
 abbrev pub after_walk : {w : WalkInHistory} {end : walk.Turn} → WalkedTo w end → WalkInHistory
-after_walk {w} walked = second_part w walked.window walked.later walked.rest
+after_walk {w} walked = rest_part w walked.window walked.later walked.rest
 
 -- a call's window, as that of a walk below the call's root along this path, with the call's flags
 abbrev pub along : CallInHistory → Goal → Reading → WalkInHistory

@@ -16,7 +16,7 @@ use Rattle.bulk_ops.specs.RemoveAllOrder.{Turn}
 use Rattle.bulk_ops.specs.RemoveAllTells.{Tells}
 use Rattle.root_ops.specs.declared.op.Op.TheVariants.{MkdirAll, RemoveAll}
 use Rattle.root_ops.specs.CallHistory.{CallInHistory, IsCallInHistory, RepliesWith, actor_of}
-use Rattle.root_ops.specs.Order.{Reply, ends, make_way, makes, clears}
+use Rattle.root_ops.specs.Order.{Reply, ends, make_way, makes, removing_turn}
 
 -- the same history, as that of a call of bulk_ops on this way along this path
 abbrev pub bulk_of : CallInHistory → Way → Reading → WalkInHistory
@@ -40,7 +40,7 @@ pub record MakeEnds (c : CallInHistory) (path : Reading) (reply : Reply) : Type 
 -- the same of a RemoveAll
 pub record ClearEnds (c : CallInHistory) (split : Split) (reply : Reply) : Type 0 where
   pub end : Turn
-  pub is_reply : clears end ≡ ends reply
+  pub is_reply : removing_turn end ≡ ends reply
   pub tells : Tells (bulk_of c (way_from c.below.root Follow c.below.flags) split.dir) split.name end
 
 -- Where the text has no fault, and its split none, and the first turn had memory, the reply is the end of a call of

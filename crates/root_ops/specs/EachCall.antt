@@ -21,7 +21,7 @@ use Rattle.step_resolver.specs.WalkHistory.{own_events}
 use Rattle.bulk_ops.specs.MakeAllOrder as make
 use Rattle.bulk_ops.specs.MakeAllTells.{MakeTells}
 use Rattle.bulk_ops.specs.RemoveAllOrder as remove
-use Rattle.bulk_ops.specs.RemoveAllTells.{Tells, first_part}
+use Rattle.bulk_ops.specs.RemoveAllTells.{Tells, walk_part}
 use Rattle.root_ops.specs.declared.op.Op.{Op}
 use Rattle.root_ops.specs.declared.op.Op.TheVariants.{Resolve, ResolveNoFollow, ReadLink, CreateFile, CreateDir, CreateLink, RemoveFile, RemoveDir, Rename, MkdirAll, RemoveAll, Single, Release}
 use Rattle.root_ops.specs.declared.reply.Reply.{Reply as Told}
@@ -74,7 +74,7 @@ pub record BeginsWithWalk (c : CallInHistory) (way : Way) (path : Reading) : Typ
   pub end : walk.Turn
   pub over : IsEnd end
   pub leads : walk.LeadsTo way (walk.begins way path) lines end
-  pub headline : Headline (first_part (bulk_of c way path) window lines) end
+  pub headline : Headline (walk_part (bulk_of c way path) window lines) end
 
 -- ---- the bulk calls
 

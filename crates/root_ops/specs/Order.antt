@@ -173,10 +173,10 @@ makes (make.made handle names) = ends (opened handle names)
 makes (make.failed error) = ends (fault error)
 
 -- where a RemoveAll has come to: what was removed is counted
-abbrev pub clears : remove.Turn → CallTurn
-clears (remove.more call) = more (removing call)
-clears (remove.removed n) = ends (count n)
-clears (remove.failed error) = ends (fault error)
+abbrev pub removing_turn : remove.Turn → CallTurn
+removing_turn (remove.more call) = more (removing call)
+removing_turn (remove.removed n) = ends (count n)
+removing_turn (remove.failed error) = ends (fault error)
 
 -- ---- the beginning
 
@@ -205,7 +205,7 @@ make_missing below text = unless_fault (text_fault text) (makes (make.begins (ma
 
 abbrev pub clear_in : Below → Result Split Errno → CallTurn
 clear_in below (Err error) = ends (fault error)
-clear_in below (Ok split) = clears (remove.begins (way_from below.root Follow below.flags) split.name split.dir)
+clear_in below (Ok split) = removing_turn (remove.begins (way_from below.root Follow below.flags) split.name split.dir)
 
 abbrev pub clear_entry : Below → List ℕ → CallTurn
 clear_entry below text = unless_fault (text_fault text) (clear_in below (split_of (reading_of text) Drop))
@@ -307,7 +307,7 @@ take below room (checking old new renaming) (Opened h x kind) = checked old new 
 take below room (checking old new renaming) answer = gives_up (new ∷ old ∷ []) (refusal_of answer)
 take below room (closing h hs after) answer = closes hs after
 take below room (making call) answer = makes (make.take (make_way below) room call answer)
-take below room (removing call) answer = clears (remove.take room call answer)
+take below room (removing call) answer = removing_turn (remove.take room call answer)
 take below room (releasing h) answer = ends (reply_to wants.Done answer)
 
 abbrev pub due : Below → Doing → StepOf ℕ

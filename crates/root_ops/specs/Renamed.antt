@@ -177,7 +177,7 @@ op_handles (ops.RemoveAll path) = []
 op_handles (ops.Single step) = step_handles step
 op_handles (ops.Release standing) = standing.handle ∷ []
 
--- ---- what is the same but for the numbers of handles, and gets one number for each handle in both, is the same with these
+-- ---- what is the same but for handles' numbers, and gets one number for each handle in both, is the same with these
 
 abbrev pub LikeAnswersAgree : Type 0
 LikeAnswersAgree = (f g : ℕ → ℕ) (a b : Answer) → answer_by (λ h. 0) a ≡ answer_by (λ h. 0) b

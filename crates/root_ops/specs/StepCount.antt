@@ -10,7 +10,7 @@ use Rattle.bulk_ops.specs.RemoveAllTells.{IsBounded}
 use Rattle.root_ops.specs.declared.below.Below.{Below}
 use Rattle.root_ops.specs.declared.op.Op.{Op}
 use Rattle.root_ops.specs.declared.op.Op.TheVariants.{Resolve, ResolveNoFollow, ReadLink, CreateFile, CreateDir, CreateLink, RemoveFile, RemoveDir, Rename, MkdirAll, RemoveAll, Single, Release}
-use Rattle.root_ops.specs.Order.{Doing, walking, acting, checking, closing, making, removing, releasing, CallTurn, more, ends, Reply, makes, clears, starts, take, steps_left, LeadsTo}
+use Rattle.root_ops.specs.Order.{Doing, walking, acting, checking, closing, making, removing, releasing, CallTurn, more, ends, Reply, makes, removing_turn, starts, take, steps_left, LeadsTo}
 
 abbrev pub is_walking : Doing → Bool
 is_walking (walking walk aim) = true
@@ -83,5 +83,5 @@ pub record BulkAfterWalks : Type 0 where
       → length lines ≤ 3 * length rest + 2)
   pub removing : (below : Below) (way : Way) (target : List ℕ) (handle : Handle) (names : List (List ℕ))
       (lines : List Line) (reply : Reply)
-      → LeadsTo below (clears (remove.walked way target (found handle names))) lines (ends reply)
+      → LeadsTo below (removing_turn (remove.walked way target (found handle names))) lines (ends reply)
       → (length lines ≤ 2 * CLEARING_STEPS_MAX + 1) × IsBounded lines

@@ -2,7 +2,7 @@
 ghost use Rattle.std.specs.Prelude.{◌≡◌, ◌||◌, [], Ok, IfOk};
 ghost use Rattle.path_text.specs.Split.{split_of};
 ghost use Rattle.path_text.specs.Text.{text_fault, reading_of};
-ghost use Rattle.root_ops.specs.Order.{held_by, walks, on_path, on_entry, from_entry, unless_fault, lacks, single, begins_without, releases, is_single, same_owner, ends, fault, make_way, makes, make_missing, clears, clear_entry};
+ghost use Rattle.root_ops.specs.Order.{held_by, walks, on_path, on_entry, from_entry, unless_fault, lacks, single, begins_without, releases, is_single, same_owner, ends, fault, make_way, makes, make_missing, removing_turn, clear_entry};
 ghost use Rattle.root_ops.specs.View.{HoldsNoCall};
 ghost use Rattle.step_resolver.specs.View.{way_from};
 ghost use Rattle.bulk_ops.specs.MakeAllOrder as make;
@@ -99,7 +99,7 @@ impl Call {
 
     // The entry of the name is removed with all below it.
     fn clear(alloc: Global, below: Below, directory: Path, name: Name) -> CallTurn
-        ensures turn { Either (clears (remove.begins (way_from below.root Follow below.flags) name directory))
+        ensures turn { Either (removing_turn (remove.begins (way_from below.root Follow below.flags) name directory))
             (ends (fault Errno.NoMemory)) (turn_view result) }
         ensures kept { Keeps below result }
     {

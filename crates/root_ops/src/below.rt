@@ -1,9 +1,9 @@
 //! Where a call walks, and what each answer makes of a call.
-ghost use Rattle.std.specs.Prelude.{◌≡◌, ◌≤◌, ◌∷◌, [], Bool, reverse};
+ghost use Rattle.std.specs.Prelude.{◌≡◌, ◌≤◌, Bool, reverse};
 ghost use Rattle.step_resolver.specs.View.{way_from};
 ghost use Rattle.step_resolver.specs.TurnView.{standing_handle};
 ghost use Rattle.step_resolver.specs.TurnView as walk;
-ghost use Rattle.root_ops.specs.Order.{comes, closes, gives_up, renames, walked_on, reached, walked, take, checking, goal_of, way_of, make_way, makes, clears};
+ghost use Rattle.root_ops.specs.Order.{comes, closes, gives_up, renames, walked_on, reached, walked, take, checking, goal_of, way_of, make_way, makes, removing_turn};
 ghost use Rattle.bulk_ops.specs.MakeAllOrder.{MakeTurn};
 ghost use Rattle.bulk_ops.specs.MakeAllView as making;
 ghost use Rattle.bulk_ops.specs.RemoveAllOrder.{Turn as ClearTurn};
@@ -197,7 +197,7 @@ impl Below {
 
     /// Where a call that removes an entry with all below it has come to.
     pub(crate) fn cleared(&self, turn: BulkTurn<RemoveAll>) -> Next
-        ensures turn { (to : ClearTurn) → removing.IsTurn turn to → next_view result ≡ clears to }
+        ensures turn { (to : ClearTurn) → removing.IsTurn turn to → next_view result ≡ removing_turn to }
         ensures kept { (to : ClearTurn) → removing.IsTurn turn to → IsNext self.now result }
     {
         match turn {

@@ -1,6 +1,5 @@
 //! A call that is under way.
 ghost use Rattle.std.specs.Prelude.{◌≡◌, ◌<◌, ◌≤◌, Bool, true, IfOk, IsOk};
-ghost use Rattle.step_resolver.specs.View.{opens_a_name};
 ghost use Rattle.step_resolver.specs.TurnView as walk;
 
 use crate::aim::{Aim, Change, Wanted};
@@ -49,7 +48,7 @@ pub enum CallTurn {
 }
 
 impl Call {
-    ghost use Rattle.root_ops.specs.Order.{due, steps_left, is_closing, walked, way_of, goal_of};
+    ghost use Rattle.root_ops.specs.Order.{due, steps_left, walked, way_of, goal_of};
     ghost use Rattle.root_ops.specs.View.{is_nameless, is_aimed, aim_of, next_view, HoldsNoCall, IsNext};
     ghost use Rattle.root_ops.specs.TurnView.{below_of, turn_view, Keeps, StartsTo, TakesTo, steps_to_come, STEPS_MAX};
 

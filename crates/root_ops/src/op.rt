@@ -1,5 +1,5 @@
 //! What a call is asked to do.
-ghost use Rattle.std.specs.Prelude.{◌≡◌, IfOk, MatchResult, Err, true, false};
+ghost use Rattle.std.specs.Prelude.{◌≡◌, MatchResult, Err, true, false};
 ghost use Rattle.root_ops.specs.Copies.{is_release};
 
 use handles::Standing;

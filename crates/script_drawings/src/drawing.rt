@@ -6,7 +6,7 @@ ghost use Rattle.script_drawings.specs.declared.drawing.DrawFault.TheVariants as
 ghost use Rattle.scripts.specs.declared.fault.RunFault.TheVariants.{NoMemory as OutOfMemory};
 ghost use Rattle.script_drawings.specs.Drawing.{form_text, opened_by, told_of, IsDraw, IsDrawingOf, IsNoDrawing, IsWellFormed};
 ghost use Rattle.scripts.specs.Scenario.{said_by, IsPlayable};
-ghost use Rattle.transcript.specs.Output.{Gains};
+ghost use Rattle.step_text.specs.Output.{Gains};
 
 use drawings::{Closes, Picture, PictureFault, calls_of};
 use path_text::NoMemory;
@@ -15,8 +15,8 @@ use script_runs::report_of;
 use scripts::{ACTORS_MAX, RunFault, Scenario, TurnOrder, read_scene};
 use std::alloc::Global;
 use std::io::{Read, Write};
+use step_text::Output;
 use thiserror::Error;
-use transcript::Output;
 use tree_list::ListTree;
 use tree_model::{Actor, Tree};
 

@@ -21,8 +21,8 @@ use std::alloc::Global;
 use std::io::{Read, Write};
 use std::sync::Wait;
 use std::thread::Threads;
+use step_text::Output;
 use thiserror::Error;
-use transcript::Output;
 use tree_slab::SlabTree;
 use workers::{ServeCause, Served, WORKERS_MAX, serve};
 

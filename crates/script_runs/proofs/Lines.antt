@@ -25,7 +25,7 @@ use Rattle.scripts.specs.declared.fault.ScriptFault.{ScriptFault}
 use Rattle.step_resolver.specs.Driver.{node_of, IsReady, Resolves}
 use Rattle.step_resolver.specs.declared.driver.Resolved.{Resolved}
 use Rattle.step_resolver.specs.declared.driver.Resolved.TheVariants.{Found}
-use Rattle.transcript.specs.Output.{opened_line, fault_line}
+use Rattle.step_text.specs.Output.{opened_line, fault_line}
 use Rattle.scripts.specs.Actors.{RootedTree, IsAtHand}
 use Rattle.scripts.specs.Script.{rooted_tree_of}
 use Rattle.scripts.specs.Checks.{then_with}

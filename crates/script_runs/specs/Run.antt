@@ -13,7 +13,7 @@ use Rattle.scripts.specs.declared.fault.RunFault.TheVariants.{Script, ReadFailed
 use Rattle.scripts.specs.declared.fault.ScriptFault.{ScriptFault}
 use Rattle.scripts.specs.declared.fault.ScriptFault.TheVariants.{TooLong}
 use Rattle.scripts.specs.Fault.{check_of}
-use Rattle.transcript.specs.Output.{opened_line, fault_line}
+use Rattle.step_text.specs.Output.{opened_line, fault_line}
 use Rattle.scripts.specs.Input.{data_of}
 use Rattle.scripts.specs.Limits.{MOST_BYTES}
 use Rattle.scripts.specs.Script.{rooted_tree_of}

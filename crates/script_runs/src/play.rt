@@ -9,7 +9,7 @@ use report_text::report;
 use scripts::{RunFault, Scenario, TurnOrder, read_scenario};
 use std::alloc::Global;
 use std::io::{Read, Write};
-use transcript::Output;
+use step_text::Output;
 use tree_model::Tree;
 use tree_slab::SlabTree;
 

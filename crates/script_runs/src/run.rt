@@ -4,7 +4,7 @@ ghost use Rattle.path_text.specs.declared.errno.Errno.TheVariants as errno;
 ghost use Rattle.serde_json.specs.View.{view};
 ghost use Rattle.step_resolver.specs.Meaning.{resolved};
 ghost use Rattle.step_resolver.specs.Driver.{node_of, IsReady, Resolves};
-ghost use Rattle.transcript.specs.Output.{opened_line, fault_line};
+ghost use Rattle.step_text.specs.Output.{opened_line, fault_line};
 ghost use Rattle.scripts.specs.declared.fault.RunFault.TheVariants as run_fault;
 ghost use Rattle.scripts.specs.Fault.{IsFaultOf};
 ghost use Rattle.script_runs.specs.Run.{IsRun, WritesNothingIfRefused, line_of, line_for, written_for};
@@ -16,7 +16,7 @@ use serde_json::Value;
 use std::alloc::Global;
 use std::io::{Read, Write};
 use step_resolver::{Goal, Resolved, Root, resolve};
-use transcript::Output;
+use step_text::Output;
 use tree_model::{Actor, HandleNo, Tree, name_below_is_standing};
 
 /// What a path text means below the root that is open. Errors: the text's faults, then those of `resolve`.

@@ -6,7 +6,6 @@ pub mod FirstRefused
 pub mod Roots
 pub mod Opened
 pub mod Scenarios
-pub mod Scenes
 pub mod Playable
 mod CallFaults
 pub mod Texts

@@ -2,9 +2,9 @@
 use Rattle.std.proofs.Common.{◌≡◌, ℕ, ◌+◌, ◌<◌, ◌≤◌, Bool, true, false, List, [], ◌∷◌, suc, length, refl, subst, arith}
 use Rattle.std.proofs.lemmas.Bool.{leb-true, leb-false, ltb-true, ltb-false}
 use Rattle.std.proofs.lemmas.List.Elements.{All-nil, All-cons}
-use Rattle.std.specs.Prelude.{not, Option, Some, None, Result, Ok, Err, All, IsOk, nat_lt, nat_le, ◌&&◌, if◌then◌else◌, is_none, option_and_then, codes}
+use Rattle.std.specs.Prelude.{not, Option, Some, None, Result, Ok, Err, All, IsOk, nat_lt, nat_le, ◌&&◌, if◌then◌else◌, option_and_then, codes}
 use Rattle.serde_json.specs.Data.{Data, Items, no_items, item}
-use Rattle.serde_json.specs.Find.{get, as_number, as_u64, as_array, as_object}
+use Rattle.serde_json.specs.Find.{get, as_number, as_u64, as_array}
 use Rattle.path_text.specs.declared.errno.Errno.{Errno}
 use Rattle.race_core.specs.declared.plan.ActorPlan.{ActorPlan}
 use Rattle.race_core.specs.declared.plan.Planned.{Planned}
@@ -32,7 +32,7 @@ use Rattle.scripts.specs.declared.labels.Label.{Label}
 use Rattle.scripts.specs.Plans.{root_at, actor_at, actors_in, actors_of}
 use Rattle.scripts.specs.Scenario.{Said, IsPlayable, IsFitFor, first_calls, lines_in, header_of, nodes_in, schedule_for, scenario_of}
 use Rattle.scripts.specs.Schedule.{turn_at, schedule_by}
-use Rattle.scripts.specs.Version.{version_in}
+use Rattle.scripts.specs.Version.{version_of}
 use Rattle.scripts.specs.declared.turns.TurnOrder.{TurnOrder}
 use Rattle.scripts.specs.declared.turns.TurnOrder.TheVariants.{OfScript, Asked}
 use Rattle.scripts.specs.Turns.{own_turns, first_foreign, few_turns}
@@ -163,8 +163,7 @@ bounded_lines (Some d) lines e = some_lines (option_and_then as_u64 (as_number d
 
 bounded : (d : Data) (header : Header) → header_of d ≡ Ok header → header.lines ≤ LINES_MAX
 bounded d header e =
-    let object = not_refused (is_none (as_object d)) fault.NotObject _ header e in
-    let version = was_there (version_in d) fault.Version _ header object in
+    let version = passed_then (version_of d) _ header e in
     let lines = was_there (lines_in d) fault.Lines _ header version.went in
     let went = lines.went in
     let same : ◌≡◌ {A = Header} (record { version = version.x; lines = lines.x }) header = cc (went) in

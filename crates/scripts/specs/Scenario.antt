@@ -1,8 +1,8 @@
 -- What a whole script says, over the data that its JSON text is (RFC 8259, as serde_json reads it). The checks are
 -- made in this order, and the first that fails is told.
-use Rattle.std.specs.Prelude.{⊤, ◌≡◌, ℕ, ◌<◌, ◌≤◌, ◌&&◌, List, [], ◌∷◌, length, if◌then◌else◌, nat_le, nat_lt, Option, Some, None, is_none, option_and_then, Result, Ok, Err, All, IsOk, IsTrue, codes}
+use Rattle.std.specs.Prelude.{⊤, ◌≡◌, ℕ, ◌<◌, ◌≤◌, ◌&&◌, List, [], ◌∷◌, length, if◌then◌else◌, nat_le, nat_lt, Option, Some, None, option_and_then, Result, Ok, Err, All, IsOk, IsTrue, codes}
 use Rattle.serde_json.specs.Data.{Data}
-use Rattle.serde_json.specs.Find.{get, as_number, as_u64, as_object}
+use Rattle.serde_json.specs.Find.{get, as_number, as_u64}
 use Rattle.race_core.specs.declared.plan.ActorPlan.{ActorPlan}
 use Rattle.race_core.specs.declared.plan.Planned.{Planned}
 use Rattle.tree_model.specs.declared.inode.Inode.{Inode}
@@ -14,7 +14,7 @@ use Rattle.scripts.specs.declared.calls.Purpose.TheVariants.{Turns, Jobs}
 use Rattle.scripts.specs.declared.fault.RunFault.{RunFault}
 use Rattle.scripts.specs.declared.fault.RunFault.TheVariants.{Script, ReadFailed, WriteFailed, NoMemory, BookFull}
 use Rattle.scripts.specs.declared.fault.ScriptFault.{ScriptFault}
-use Rattle.scripts.specs.declared.fault.ScriptFault.TheVariants.{TooLong, NotObject, Version, Lines, Tree}
+use Rattle.scripts.specs.declared.fault.ScriptFault.TheVariants.{TooLong, Lines, Tree}
 use Rattle.scripts.specs.declared.scenario.Header.{Header}
 use Rattle.scripts.specs.declared.scenario.Scenario.{Scenario}
 use Rattle.scripts.specs.declared.turns.TurnOrder.{TurnOrder}
@@ -29,7 +29,7 @@ use Rattle.scripts.specs.Plans.{actors_of}
 use Rattle.scripts.specs.Schedule.{schedule_of}
 use Rattle.scripts.specs.Tree.{tree_of}
 use Rattle.scripts.specs.Turns.{turns_asked}
-use Rattle.scripts.specs.Version.{version_in}
+use Rattle.scripts.specs.Version.{version_of}
 
 -- the tree's nodes, what each actor does, who takes each turn, and how many lines the book has
 pub record Said : Type 0 where
@@ -49,12 +49,12 @@ lines_in d = perhaps (get (codes "lines") d) MOST_LINES (λ lines.
     with_some (option_and_then as_u64 (as_number lines)) None
     (λ n. if nat_le 1 n && nat_le n MOST_LINES then Some n else None))
 
+-- the version and the lines
 abbrev pub header_of : Data → Result Header ScriptFault
 header_of d =
-    refuse_if (is_none (as_object d)) (Err NotObject)
-    (with_some (version_in d) (Err Version) (λ version.
+    then_with (version_of d) (λ version.
     with_some (lines_in d) (Err Lines) (λ lines.
-    Ok (record { version = version; lines = lines }))))
+    Ok (record { version = version; lines = lines })))
 
 abbrev pub nodes_in : Data → Result (List Inode) ScriptFault
 nodes_in d = with_some (list_in (codes "tree") d) (Err Tree) tree_of

@@ -1,6 +1,5 @@
 //! The keys that a script's objects may have.
-ghost use Rattle.std.specs.Prelude.{◌≡◌, IfSome};
-ghost use Rattle.std.specs.Prelude.{option_map};
+ghost use Rattle.std.specs.Prelude.{◌≡◌};
 ghost use Rattle.serde_json.specs.View.{view};
 ghost use Rattle.scripts.specs.Keys.{is_key, has_other_key, keys_of_op, keys_of_step, keys_of_call};
 

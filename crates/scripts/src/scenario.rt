@@ -2,16 +2,17 @@
 ghost use Rattle.std.specs.Prelude.{◌≡◌, [], Ok, IfOk, IfErr, IfSome};
 ghost use Rattle.serde_json.specs.View.{view};
 ghost use Rattle.tree_model.specs.Trees.{IsState};
+ghost use Rattle.scripts.specs.declared.calls.Purpose.TheVariants.{Turns};
 ghost use Rattle.scripts.specs.Fault.{IsFaultOf};
 ghost use Rattle.scripts.specs.Scenario.{lines_in, header_of, nodes_in, scenario_of, said_as, said_by, said_for, IsReadingFaultOf, IsPlayable, IsFitFor};
 
 use crate::actors::actors_of;
-use crate::calls::{Purpose, Version, version_in};
+use crate::calls::{Purpose, Version};
 use crate::fault::{RunFault, ScriptFault};
 use crate::fields::list_in;
 use crate::input::{read_script, value_of};
 use crate::schedule::schedule_for;
-use crate::script::is_no_object;
+use crate::script::version_of;
 use crate::tree::{indexed, list_of};
 use crate::turns::TurnOrder;
 use race_core::ActorPlan;
@@ -54,17 +55,12 @@ fn lines_in(script: &Value) -> Option<u32>
     }
 }
 
-/// The version and the lines of a script. Errors, in this order: `NotObject`, `Version`, `Lines`.
+/// The version and the lines of a script. Errors, in this order: those of `version_of`; `Lines`.
 fn header_of(script: &Value) -> Result<Header, RunFault>
     ensures ok { IfOk result (λ header. header_of (view script.now) ≡ Ok header) }
     ensures err { IfErr result (IsFaultOf (header_of (view script.now))) }
 {
-    if is_no_object(script) {
-        return Err(RunFault::Script(ScriptFault::NotObject));
-    }
-    let Some(version) = version_in(script) else {
-        return Err(RunFault::Script(ScriptFault::Version));
-    };
+    let version = version_of(script)?;
     let Some(lines) = lines_in(script) else {
         return Err(RunFault::Script(ScriptFault::Lines));
     };
@@ -84,9 +80,44 @@ pub fn plain_tree_of(alloc: Global, script: &Value) -> Result<ListTree, RunFault
     list_of(alloc, entries)
 }
 
+/// What a script says, read for this purpose, whose header and tree were read before. Errors: the first check that
+/// fails, in this order: those of its actors, each with its calls, and of its schedule, or of the turns that are asked
+/// for in its place; `NoMemory`.
+fn scenario_on(
+    alloc: Global,
+    purpose: Purpose,
+    script: &Value,
+    order: &TurnOrder,
+    header: Header,
+    list: ListTree,
+) -> Result<Scenario, RunFault>
+    requires head { header_of (view script.now) ≡ Ok header }
+    requires nodes { nodes_in (view script.now) ≡ Ok list.nodes }
+    requires none { list.handles ≡ [] }
+    requires tree { IsState list }
+    ensures said { IfOk result (λ scenario. scenario_of purpose order.now (view script.now) ≡ Ok (said_by scenario)) }
+    ensures playable { IfOk result (λ scenario. IsPlayable (said_by scenario)) }
+    ensures fit { IfOk result (λ scenario. IsFitFor purpose (said_by scenario)) }
+    ensures nodes { IfOk result (λ scenario. nodes_in (view script.now) ≡ Ok scenario.tree.nodes) }
+    ensures none { IfOk result (λ scenario. scenario.tree.handles ≡ []) }
+    ensures tree { IfOk result (λ scenario. IsState scenario.tree) }
+    ensures err { IfErr result (IsFaultOf (scenario_of purpose order.now (view script.now))) }
+{
+    let tree = indexed(alloc, &list)?;
+    let (nodes, _no_handles) = list.into_parts();
+    let plans = actors_of(alloc, purpose, &nodes, header.version, script)?;
+    let schedule = schedule_for(alloc, plans.len(), order, script)?;
+    let lines = header.lines;
+    Ok(Scenario {
+        tree,
+        plans,
+        schedule,
+        lines,
+    })
+}
+
 /// What a script says, read for this purpose. Errors: the first check that fails, in this order: those of its
-/// version and its lines, of its tree, of its actors, each with its calls, and of its schedule, or of the turns that
-/// are asked for in its place; `NoMemory`.
+/// version and its lines, of its tree, and those of `scenario_on`.
 pub fn scenario_of(
     alloc: Global,
     purpose: Purpose,
@@ -103,17 +134,26 @@ pub fn scenario_of(
 {
     let header = header_of(script)?;
     let list = plain_tree_of(alloc, script)?;
-    let tree = indexed(alloc, &list)?;
-    let (nodes, _no_handles) = list.into_parts();
-    let plans = actors_of(alloc, purpose, &nodes, header.version, script)?;
-    let schedule = schedule_for(alloc, plans.len(), order, script)?;
-    let lines = header.lines;
-    Ok(Scenario {
-        tree,
-        plans,
-        schedule,
-        lines,
-    })
+    scenario_on(alloc, purpose, script, order, header, list)
+}
+
+/// The same for actors that take turns, and its tree as a list, too. Errors as of `scenario_of`.
+fn scene_of(
+    alloc: Global,
+    script: &Value,
+    order: &TurnOrder,
+) -> Result<(Scenario, ListTree), RunFault>
+    ensures said { IfOk result (λ read. scenario_of Turns order.now (view script.now) ≡ Ok (said_by read.0)) }
+    ensures playable { IfOk result (λ read. IsPlayable (said_by read.0)) }
+    ensures none { IfOk result (λ read. read.0.tree.handles ≡ []) }
+    ensures same { IfOk result (λ read. read.1 ≡ read.0.tree) }
+    ensures err { IfErr result (IsFaultOf (scenario_of Turns order.now (view script.now))) }
+{
+    let header = header_of(script)?;
+    let list = plain_tree_of(alloc, script)?;
+    let tree = list.copy(alloc)?;
+    let scenario = scenario_on(alloc, Purpose::Turns, script, order, header, list)?;
+    Ok((scenario, tree))
 }
 
 /// Reads a script to its end, and what it says, for this purpose and with this order of turns. Errors as of
@@ -156,7 +196,7 @@ pub fn read_scenario<R: Read>(
     read_as(alloc, Purpose::Turns, reader, order)
 }
 
-/// Reads a script as `read_scenario` does, and its tree a second time, as a list. Errors as of `read_scenario`.
+/// Reads a script as `read_scenario` does, and gives its tree as a list, too. Errors as of `read_scenario`.
 pub fn read_scene<R: Read>(
     alloc: Global,
     reader: &mut R,
@@ -172,7 +212,5 @@ pub fn read_scene<R: Read>(
 {
     let bytes = read_script(alloc, reader)?;
     let script = value_of(alloc, &bytes)?;
-    let scenario = scenario_of(alloc, Purpose::Turns, &script, order)?;
-    let tree = plain_tree_of(alloc, &script)?;
-    Ok((scenario, tree))
+    scene_of(alloc, &script, order)
 }

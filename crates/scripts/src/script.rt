@@ -1,13 +1,13 @@
 //! A script that is opened: its version is read, its tree is built, and the first actor's root is open.
-ghost use Rattle.std.specs.Prelude.{◌≡◌, is_none, IfOk, IfErr};
+ghost use Rattle.std.specs.Prelude.{◌≡◌, Ok, IfOk, IfErr};
 ghost use Rattle.serde_json.specs.View.{view};
-ghost use Rattle.serde_json.specs.Find.{as_object};
 ghost use Rattle.scripts.specs.Actors.{IsAtHand};
 ghost use Rattle.scripts.specs.Fault.{IsFaultOf};
 ghost use Rattle.scripts.specs.Script.{rooted_tree_of};
-ghost use Rattle.scripts.specs.Version.{version_of, is_version};
+ghost use Rattle.scripts.specs.Version.{version_of};
 
 use crate::actors::{ACTOR, first_actor_of, open_root, root_of};
+use crate::calls::{Version, version_in};
 use crate::fault::{Cause, RunFault, ScriptFault};
 use crate::fields::list_in;
 use crate::tree::tree_of;
@@ -23,39 +23,27 @@ pub struct OpenedScript {
     pub root: HandleNo,
 }
 
-/// Whether the version is one that can be read.
-fn is_version(version: Option<u64>) -> bool
-    ensures { result ≡ is_version version }
+/// The version of a script, which each command looks at first. Errors, in this order: `NotObject`, `Version`.
+pub fn version_of(script: &Value) -> Result<Version, RunFault>
+    ensures ok { IfOk result (λ version. version_of (view script.now) ≡ Ok version) }
+    ensures err { IfErr result (IsFaultOf (version_of (view script.now))) }
 {
-    matches!(version, Some(1 | 2))
+    if script.as_object().is_none() {
+        return Err(RunFault::Script(ScriptFault::NotObject));
+    }
+    let Some(version) = version_in(script) else {
+        return Err(RunFault::Script(ScriptFault::Version));
+    };
+    Ok(version)
 }
 
-/// Whether the script is something else than an object.
-pub fn is_no_object(script: &Value) -> bool
-    ensures { result ≡ is_none (as_object (view script.now)) }
-{
-    script.as_object().is_none()
-}
-
-// Whether the script has a version that can be read.
-fn has_version(script: &Value) -> bool
-    ensures { result ≡ is_version (version_of (view script.now)) }
-{
-    is_version(script.get("version").and_then(Value::as_u64))
-}
-
-/// Opens a script: builds its tree, and opens the first actor's root. Errors: the first check that
+/// Opens a script of either version: builds its tree, and opens the first actor's root. Errors: the first check that
 /// fails, `NotObject`, `Version`, `Tree`, `TooManyEntries`, `TreeEntry`, `Actors` or `Actor` of the first; `NoMemory`.
 pub fn open_script(alloc: Global, script: &Value) -> Result<OpenedScript, RunFault>
     ensures ok { IfOk result (λ opened. IsAtHand (rooted_tree_of (view script.now)) opened.tree ACTOR opened.root) }
     ensures err { IfErr result (IsFaultOf (rooted_tree_of (view script.now))) }
 {
-    if is_no_object(script) {
-        return Err(RunFault::Script(ScriptFault::NotObject));
-    }
-    if !has_version(script) {
-        return Err(RunFault::Script(ScriptFault::Version));
-    }
+    let _version = version_of(script)?;
     let Some(entries) = list_in(script, "tree") else {
         return Err(RunFault::Script(ScriptFault::Tree));
     };

@@ -1,5 +1,5 @@
 //! The tree of a script: its entries, and the indexed tree that they name.
-ghost use Rattle.std.specs.Prelude.{◌≡◌, [], ◌++◌, Ok, IfOk, IfErr, option_map, map};
+ghost use Rattle.std.specs.Prelude.{◌≡◌, [], Ok, IfOk, IfErr, option_map, map};
 ghost use Rattle.serde_json.specs.View.{view, items_view};
 ghost use Rattle.tree_model.specs.Trees.{IsTree, IsState};
 ghost use Rattle.scripts.specs.declared.fault.RunFault.TheVariants as run_fault;

@@ -3,7 +3,7 @@ ghost use Rattle.std.specs.Prelude.{◌≡◌, ◌≢◌, ◌<◌, ◌≤◌, �
 ghost use Rattle.scripts.specs.declared.turns.Turns.{Turns};
 ghost use Rattle.scripts.specs.Fault.{IsFaultOf};
 ghost use Rattle.scripts.specs.Limits.{MOST_ACTORS, MOST_TURNS};
-ghost use Rattle.scripts.specs.Turns.{words_of, AreTurns, AllSay, SaysTurns, turns_of, few_turns, turns_asked};
+ghost use Rattle.scripts.specs.Turns.{words_of, AreTurns, AllSay, SaysTurns, few_turns, turns_asked};
 
 use crate::fault::{RunFault, ScriptFault};
 use crate::schedule::TURNS_MAX;

@@ -1,11 +1,11 @@
 //! Small graphs, with the counts that are wanted.
 ghost use Rattle.std.specs.Prelude.{Some, IfOk};
-ghost use Rattle.turn_graph.specs.Words.{AreApart, IsLayer, ways_from};
+ghost use Rattle.schedule_graph.specs.Words.{AreApart, IsLayer, ways_from};
 
 use path_text::NoMemory;
+use schedule_graph::{COUNT_CAP, Count, Counts, Graph, Spot, Way};
 use std::alloc::Global;
 use std::test::Fail;
-use turn_graph::{COUNT_CAP, Count, Counts, Graph, Spot, Way};
 
 /// A spot: the ways by letters 0, 1, ..., each with its mark (1 a cut, 2 a change, 3 both) and where it leads to; or,
 /// where there are none, the class of the words that end there.

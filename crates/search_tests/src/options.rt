@@ -1,7 +1,7 @@
 //! What is asked by the texts of options. Which texts are none are command lines of `explore`.
+use explore_text::{OptionFault, Options, Rule, read_asked};
 use std::alloc::Global;
 use std::test::Fail;
-use surveys::{OptionFault, Options, Rule, read_asked};
 
 const NONE: Options<'static> = Options {
     actors: &[],

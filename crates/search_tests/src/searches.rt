@@ -44,8 +44,8 @@ impl Progress for Last {
     }
 }
 
-/// A script, the most states and turns, and which lists; the numbers of lists, of states, of the longest list's turns and of
-/// outcomes, or why nothing is told.
+/// A script, the most states and turns, and which lists; the numbers of lists, of states, of the longest list's turns
+/// and of outcomes, or why nothing is told.
 type Search = (&'static str, u64, u32, Scope, Result<Found, SearchFault>);
 
 /// All lists, those without a cut, and all with what is changed outside of roots.
@@ -153,7 +153,8 @@ fn are_alike(alloc: Global, scene: &Scene, turns: &str, others: &str) -> Option<
     alike
 }
 
-/// Two lists of turns, and whether they lead to alike worlds: by 01 and by 10 each actor holds the same, by another number.
+/// Two lists of turns, and whether they lead to alike worlds: by 01 and by 10 each actor holds the same, by another
+/// number.
 const LIKENESSES: [(&str, &str, bool); 8] = [
     ("", "", true),
     ("01", "10", true),

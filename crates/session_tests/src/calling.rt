@@ -10,7 +10,7 @@ use std::alloc::Global;
 use std::sync::Wait;
 use std::thread;
 use std::thread::Threads;
-use transcript::Output;
+use step_text::Output;
 use tree_list::ListTree;
 use tree_model::{Mode, Tree};
 use tree_slab::SlabTree;
@@ -186,8 +186,8 @@ pub fn is_told<T: Tree, R: Wait, G: Gate>(
     told
 }
 
-/// Whether a session, if there is one, opens `a` on one service, as it is to stand, is told so of its release on another, and
-/// releases it.
+/// Whether a session, if there is one, opens `a` on one service, as it is to stand, is told so of its release on
+/// another, and releases it.
 pub fn opens_and_releases<T: Tree, R: Wait>(
     rt: &R,
     alloc: Global,

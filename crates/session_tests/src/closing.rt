@@ -27,7 +27,8 @@ struct Closing<T: Tree> {
     lists: [Vec<Session>; 4],
 }
 
-/// Moves of the last session of one list to the end of another. Where an end is stated, it is tried to close after that.
+/// Moves of the last session of one list to the end of another. Where an end is stated, it is tried to close after
+/// that.
 type Moves<'a> = &'a [(usize, usize, Option<Ended>)];
 
 fn events_of<T: Drop>(closed: Closed<T>) -> Ended {
@@ -134,8 +135,8 @@ fn wrong_sessions_close_nothing(rt: HostRuntime) {
     assert!(rt; wrong_sessions::<ListTree>(alloc) && wrong_sessions::<SlabTree>(alloc));
 }
 
-// Whether a service that isn't closed, for want of its session 1, gives up the tree: with what session 0 holds, its two steps, and
-// the opening, in which each session has its root.
+// Whether a service that isn't closed, for want of its session 1, gives up the tree: with what session 0 holds, its two
+// steps, and the opening, in which each session has its root.
 fn gives_up_the_tree<T: Base, R: Wait>(rt: &R, alloc: Global) -> bool {
     let Some((service, mut own)) = opened::<T>(alloc, &["/c", "/"], 1, 9) else {
         return false;
@@ -175,8 +176,8 @@ fn refused_closing_gives_up_the_tree(rt: HostRuntime) {
     );
 }
 
-// The user is the last of the others. Its own last gives way to the other's first, which has the number of its own first; comes
-// back; and gives way to the user, which comes last.
+// The user is the last of the others. Its own last gives way to the other's first, which has the number of its own
+// first; comes back; and gives way to the user, which comes last.
 const USER_LAST: Moves = &[
     (OTHERS, APART, None),
     (OWN, ASIDE, None),
@@ -200,7 +201,8 @@ const USER_FIRST: Moves = &[
     (OTHERS, OWN, Some(Ok(3))),
 ];
 
-// Two services of one tag, of two sessions each: whether the first serves the second one's session 1, and ends as it is stated.
+// Two services of one tag, of two sessions each: whether the first serves the second one's session 1, and ends as it is
+// stated.
 fn one_tag<T: Base, R: Wait>(rt: &R, alloc: Global, moves: Moves) -> bool {
     let Some((service, own)) = opened::<T>(alloc, &["/c", "/c"], 7, 99) else {
         return false;

@@ -8,7 +8,7 @@ use std::sync::Wait;
 use std::sync::atomic::{AtomicU64, Ordering};
 use std::thread;
 use std::thread::Threads;
-use transcript::Output;
+use step_text::Output;
 use tree_list::ListTree;
 use workers::{ServeCause, ServeRefusal, Served, serve};
 
@@ -85,8 +85,8 @@ fn are_lines(alloc: Global, replies: &[Reply], wanted: &str) -> bool {
     written && lines.as_slice() == wanted.as_bytes()
 }
 
-// The events of a service whose jobs were served, each answered by its line, where each object is released and the service
-// closed.
+// The events of a service whose jobs were served, each answered by its line, where each object is released and the
+// service closed.
 fn events_served<R: Wait>(
     rt: &R,
     alloc: Global,

@@ -1,5 +1,5 @@
-//! One race: a session's walk has made three steps as another session makes its calls. On two threads, which take turns,
-//! and on one.
+//! One race: a session's walk has made three steps as another session makes its calls. On two threads, which take
+//! turns, and on one.
 use crate::calling::{Base, Part, is_told, on_threads, opened};
 use event_log::EventLog;
 use sessions::{Closed, Gate, NoGate, Pause, Service, Session};
@@ -15,8 +15,8 @@ use tree_slab::SlabTree;
 /// The most turns of a wait.
 const TURNS_MAX: u32 = 10_000_000;
 
-/// Holds session 1 before its first step until session 0 is before its fourth, and session 0 there until all that session 1
-/// was asked is done.
+/// Holds session 1 before its first step until session 0 is before its fourth, and session 0 there until all that
+/// session 1 was asked is done.
 #[derive(Drop)]
 struct Turns {
     zero_waits: AtomicU64,
@@ -167,8 +167,8 @@ fn on_two_threads<T: Base, R: Wait + Threads + Sync>(rt: &R, alloc: Global) -> b
     told && well
 }
 
-/// The one's walk has made three steps as the other's calls begin, and goes on once they are over. A lock that is held for a
-/// whole call lets them wait until their turns run out.
+/// The one's walk has made three steps as the other's calls begin, and goes on once they are over. A lock that is held
+/// for a whole call lets them wait until their turns run out.
 #[test]
 fn two_threads_take_turns(rt: HostRuntime) {
     let alloc = rt.alloc();
@@ -204,8 +204,8 @@ impl<'a, T: Base, R: Wait + Sync> Gate for Meddles<'a, T, R> {
     }
 }
 
-// Whether session 0 misses the file that session 1 moves in the gate, and the gate is told of each step in its order. Both
-// come back to their places.
+// Whether session 0 misses the file that session 1 moves in the gate, and the gate is told of each step in its order.
+// Both come back to their places.
 fn is_meddled_with<T: Base, R: Wait + Sync>(
     rt: &R,
     alloc: Global,

@@ -9,7 +9,7 @@ use std::alloc::Global;
 use std::sync::atomic::{AtomicU64, Ordering};
 use std::sync::{Mutex, Wait};
 use std::thread::Threads;
-use transcript::Output;
+use step_text::Output;
 use tree_list::ListTree;
 use tree_model::{Actor, Answer, Event, HandleNo, Kind, Node, StepOf, Tree};
 use tree_slab::SlabTree;
@@ -29,8 +29,8 @@ impl Gate for Counts {
     }
 }
 
-/// The calls of a session as it saw them: how many steps it had made after each, and the lines of the replies. What found no
-/// memory to be noted is missing.
+/// The calls of a session as it saw them: how many steps it had made after each, and the lines of the replies. What
+/// found no memory to be noted is missing.
 #[derive(Drop)]
 struct Seen {
     actor: Actor,
@@ -111,8 +111,8 @@ fn all_mix<T: Base, R: Wait + Threads + Sync>(
     mixing.all.into_inner()
 }
 
-/// What the events of one call come to: the names that its walk has passed, what it opened last, and the place of the last
-/// event but for the closings.
+/// What the events of one call come to: the names that its walk has passed, what it opened last, and the place of the
+/// last event but for the closings.
 #[derive(Drop)]
 struct Told {
     passed: Names,
@@ -348,8 +348,8 @@ fn race_of_four<T: Base, R: Wait + Threads + Sync>(rt: &R, alloc: Global) -> boo
     told
 }
 
-/// Four sessions on four threads rename directories under one another's walks: the service closes, its events are those of
-/// the step table when they are made again, and each reply is the one that its own events there tell.
+/// Four sessions on four threads rename directories under one another's walks: the service closes, its events are those
+/// of the step table when they are made again, and each reply is the one that its own events there tell.
 #[test]
 fn four_threads_close(rt: HostRuntime) {
     let alloc = rt.alloc();

@@ -17,7 +17,7 @@ use Rattle.root_ops.specs.declared.op.Request.{Request as RequestTo}
 use Rattle.root_ops.specs.declared.reply.Reply.{Reply as Told}
 use Rattle.root_ops.specs.TurnView.{below_of, StartsTo, TakesTo}
 use Rattle.root_ops.specs.View.{reply_view, IsOwned}
-use Rattle.root_ops.proofs.Handles.OwnEvents.{events_append}
+use Rattle.step_resolver.proofs.DrivenWalks.{joined_events}
 use Rattle.root_ops.proofs.Refusals.{refusal_needs_no_room}
 use Rattle.sessions.specs.Session.{SessionView}
 use Rattle.sessions.specs.Call.{logs, logs_step, actor_of, root_of, released_by, IsAnswer, Leads, LeadsFirst, Made}
@@ -75,7 +75,7 @@ led_on below first second third from mid to one two =
       lines = one.lines ++ two.lines;
       leads = leads_on below one.lines from mid two.lines to one.leads two.leads;
       logged = logged_on first second third (events_of (actor_of first) one.lines) (events_of (actor_of first) two.lines) one.logged later
-          ∙ ap (logs first) (sym (events_append (actor_of first) one.lines two.lines));
+          ∙ ap (logs first) (sym (joined_events (actor_of first) one.lines two.lines));
     }
 
 -- what was to be released was closed, or wasn't open

@@ -9,7 +9,7 @@ use Rattle.step_resolver.specs.Headline.{Headline}
 use Rattle.step_resolver.specs.Order.{Line, Turn, found, failed, events_of}
 use Rattle.step_resolver.specs.TurnView.{standing_handle}
 use Rattle.step_resolver.specs.WalkHistory.{own_events}
-use Rattle.bulk_ops.specs.RemoveAllTells.{first_part}
+use Rattle.bulk_ops.specs.RemoveAllTells.{walk_part}
 use Rattle.root_ops.specs.declared.op.Op.{Op}
 use Rattle.root_ops.specs.declared.op.Op.TheVariants.{Resolve}
 use Rattle.root_ops.specs.declared.op.Request.{Request}
@@ -90,7 +90,7 @@ module _ (opening : State) (events : List Event) (session after : SessionView) (
     walk_so : (end : Turn) → WalksTo the_call (way_of_resolve session request) (reading_of path) end → WalkTells opening events session request node path end
     walk_so end to =
         let begun = to.begun in
-        let walked = first_part (bulk_of the_call (way_of_resolve session request) (reading_of path)) begun.window begun.lines in
+        let walked = walk_part (bulk_of the_call (way_of_resolve session request) (reading_of path)) begun.window begun.lines in
         record {
           walked = walked;
           placed = record {

@@ -1,5 +1,5 @@
 //! A session's calls: one lock hold for each step.
-ghost use Rattle.std.specs.Prelude.{◌≡◌, ◌<◌, ◌≤◌, ◌⊎◌, [], ◌∷◌, true, false, IfOk, IfErr};
+ghost use Rattle.std.specs.Prelude.{◌≡◌, ◌<◌, ◌≤◌, ◌⊎◌, true, false, IfOk, IfErr};
 ghost use Rattle.race_core.specs.Book.{is_close};
 ghost use Rattle.step_resolver.specs.Order.{IsWant};
 ghost use Rattle.tree_model.specs.StepLaws.{opened_count};

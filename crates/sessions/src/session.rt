@@ -1,6 +1,6 @@
 //! One actor's own side of a service: its root, and the log of its steps.
-ghost use Rattle.std.specs.Prelude.{◌≡◌, ◌≤◌, IfOk, suc};
-ghost use Rattle.sessions.specs.Session.{SessionView, left_open, begun};
+ghost use Rattle.std.specs.Prelude.{◌≡◌, IfOk};
+ghost use Rattle.sessions.specs.Session.{SessionView, begun};
 
 use crate::shared::OwnLog;
 use handles::Owner;

@@ -4,7 +4,7 @@ use event_log::EventLog;
 use path_text::{Errno, NoMemory};
 use std::alloc::Global;
 use std::test::Fail;
-use transcript::Output;
+use step_text::Output;
 use tree_model::{Actor, Answer, Event, HandleNo};
 
 /// Each step with each answer.

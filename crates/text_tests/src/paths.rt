@@ -5,7 +5,7 @@ use path_text::{Bytes, Component, Errno, Name, Names, NoMemory, Part, Parts, Pat
 use std::alloc::Global;
 use std::fmt;
 use std::test::Fail;
-use transcript::Output;
+use step_text::Output;
 
 /// A line has a call, a text and what the call tells of it: `CALL TEXT = ANSWER`.
 const SHORT: &str = "name  = EINVAL

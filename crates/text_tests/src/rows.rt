@@ -2,7 +2,7 @@
 use fixtures::names_of;
 use path_text::{Bytes, Errno};
 use std::alloc::Global;
-use transcript::read_step;
+use step_text::read_step;
 use tree_model::{Answer, HandleNo, Kind, Node, Step};
 
 pub const STEPS: [&str; 19] = [

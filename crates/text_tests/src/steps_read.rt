@@ -4,7 +4,7 @@ use fixtures::names_of;
 use path_text::{Errno, NoMemory};
 use std::alloc::Global;
 use std::test::Fail;
-use transcript::{Output, read_step};
+use step_text::{Output, read_step};
 use tree_model::{Kind, Node};
 
 const OTHERS: [&str; 20] = [

@@ -2,7 +2,7 @@
 use crate::trees::{indexed, plain, tell};
 use path_text::{Errno, NoMemory};
 use std::alloc::Global;
-use transcript::Output;
+use step_text::Output;
 use tree_list::ListTree;
 use tree_model::{Snapshot, Tree};
 use tree_slab::SlabTree;

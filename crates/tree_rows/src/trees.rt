@@ -5,7 +5,7 @@ ghost use Rattle.tree_model.specs.Trees.{IsTree};
 use fixtures::{answered, base_tree, names_of};
 use path_text::{Errno, NoMemory};
 use std::alloc::Global;
-use transcript::Output;
+use step_text::Output;
 use tree_list::ListTree;
 use tree_model::{Actor, HandleNo, Tree};
 use tree_slab::SlabTree;

@@ -4,7 +4,7 @@ use fixtures::names_of;
 use path_text::{Bytes, Errno, Name};
 use std::alloc::Global;
 use std::test::Fail;
-use transcript::read_step;
+use step_text::read_step;
 use tree_model::{
     Actor, Answer, HandleNo, Inode, Kind, Node, Object, OpenHandle, Place, Row, Snapshot, Step,
     child, has_entries, is_dir, is_gone, object_at, parent, place_at, top,

@@ -5,12 +5,13 @@ use path_text::{Errno, Flags, Name, Part, Path};
 use std::alloc::Global;
 use walk_plan::Plan;
 
-// A step, its text, and what the plan then shows: the next part, and nothing where no part is left; what that part is, as
-// `standing_of` tells it; the links left; and the names passed.
+// A step, its text, and what the plan then shows: the next part, and nothing where no part is left; what that part is,
+// as `standing_of` tells it; the links left; and the names passed.
 //
-// `path`, with the words of its goal and its restrictions, begins another plan; `along` does so, and passes all its parts;
-// and `unbegun` tells why none can begin. `pass` passes a part, and `down` another name in its place; `link` follows a link
-// with that text, `links` forty of them, and `refused` tells why that can't be done. `named` asks for the next name.
+// `path`, with the words of its goal and its restrictions, begins another plan; `along` does so, and passes all its
+// parts; and `unbegun` tells why none can begin. `pass` passes a part, and `down` another name in its place; `link`
+// follows a link with that text, `links` forty of them, and `refused` tells why that can't be done. `named` asks for
+// the next name.
 type Row<'a> = (&'a str, &'a [u8], &'a [u8], &'a str, u8, &'a [u8]);
 
 const LONG: [u8; 4096] = [b'/'; 4096];
@@ -262,8 +263,8 @@ fn wrong_last(alloc: Global, plan: &mut Plan, rows: &[Last<'_>]) -> Option<usize
     None
 }
 
-// A path, and the text of a link that is followed, or nothing; the same of another plan, with its goal; and what of the two
-// is the same, as `same_of` tells it.
+// A path, and the text of a link that is followed, or nothing; the same of another plan, with its goal; and what of the
+// two is the same, as `same_of` tells it.
 type Pair<'a> = (&'a str, &'a str, &'a str, &'a str, &'a str, &'a str);
 
 const PAIRS: [Pair; 7] = [

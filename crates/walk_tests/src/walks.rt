@@ -1,19 +1,19 @@
 //! Walks driven by answers made by hand: the steps in their order, and the ends, as openat2(2) and
 //! path_resolution(7) tell of them.
 //!
-//! A walk is a path below handle 0 and the words of its goal and its restrictions, as `l nofollow no_links`. Its steps come
-//! each with the answer after an arrow.
+//! A walk is a path below handle 0 and the words of its goal and its restrictions, as `l nofollow no_links`. Its steps
+//! come each with the answer after an arrow.
 use crate::words::{answer_of, are_parts, cut, goal_of, is_number, let_go, reached_by};
 use fixtures::{flags_of, root};
 use handles::{Reached, Standing};
 use path_text::{Errno, Path};
 use std::alloc::Global;
 use step_resolver::{Turn, Walk, like_held};
-use transcript::Output;
+use step_text::Output;
 use tree_model::{Answer, HandleNo, Step};
 
-// A walk, its steps, and its end: `more` where it goes on, and `opened dir 11 /a left b ..` where it is held at /a with the
-// parts `b` and `..` left.
+// A walk, its steps, and its end: `more` where it goes on, and `opened dir 11 /a left b ..` where it is held at /a with
+// the parts `b` and `..` left.
 type Row<'a> = (&'a str, &'a str, &'a str);
 
 const BEGINNINGS: [Row; 5] = [

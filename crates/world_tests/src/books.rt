@@ -5,7 +5,7 @@ use path_text::{Errno, NoMemory};
 use race_core::Book;
 use std::alloc::Global;
 use std::test::*;
-use transcript::{Output, read_step};
+use step_text::{Output, read_step};
 use tree_list::ListTree;
 use tree_model::{Actor, Answer, HandleNo, Step, StepOf, Tree};
 
@@ -58,8 +58,8 @@ fn step_into(
     }
 }
 
-/// Whether a step gets that answer or that refusal of the book: `ACTOR STEP = ANSWER`. It is made into the other log too,
-/// where there is one.
+/// Whether a step gets that answer or that refusal of the book: `ACTOR STEP = ANSWER`. It is made into the other log
+/// too, where there is one.
 fn is_answered(
     alloc: Global,
     book: &mut Book<ListTree>,

@@ -7,7 +7,7 @@ use path_text::{Errno, NoMemory};
 use race_core::{Book, Report, World};
 use std::alloc::Global;
 use std::test::*;
-use transcript::Output;
+use step_text::Output;
 use tree_list::ListTree;
 use tree_model::{Actor, HandleNo, StepOf};
 
@@ -125,8 +125,8 @@ fn told_of_both(
     Ok((of_copy, told_of(alloc, world, after)))
 }
 
-// Whether a world that is copied after these turns ends as one that isn't, and its copy as one that takes those turns first
-// and then the others.
+// Whether a world that is copied after these turns ends as one that isn't, and its copy as one that takes those turns
+// first and then the others.
 fn ends_alike(
     alloc: Global,
     lines: &str,
@@ -169,7 +169,8 @@ fn copies_go_on_by_themselves(rt: HostRuntime) {
     assert_eq!(rt; first_wrong(rt.alloc()), "");
 }
 
-// How many events a world of these plans has, in which one turn was made, and a copy of it that is given up after two more.
+// How many events a world of these plans has, in which one turn was made, and a copy of it that is given up after two
+// more.
 fn events_of(alloc: Global, lines: &str) -> Result<Option<(usize, usize)>, Errno> {
     let Some(world) = world_after(alloc, lines, &[0])? else {
         return Ok(None);

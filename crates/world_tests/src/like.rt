@@ -5,7 +5,7 @@ use path_text::NoMemory;
 use race_core::{World, WorldFault};
 use std::alloc::Global;
 use std::test::*;
-use transcript::Output;
+use step_text::Output;
 use tree_list::ListTree;
 
 // A world of these plans, after these actors' turns.

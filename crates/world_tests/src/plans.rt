@@ -1,8 +1,8 @@
-//! What worlds are made of: trees, and plans read from lines of text, an actor a line, its root and its calls each after a
-//! colon.
+//! What worlds are made of: trees, and plans read from lines of text, an actor a line, its root and its calls each
+//! after a colon.
 //!
-//! A step and a report have many parts, and each place where one is dropped is long to prove: they are moved, or given to
-//! `drop`.
+//! A step and a report have many parts, and each place where one is dropped is long to prove: they are moved, or given
+//! to `drop`.
 ghost use Rattle.std.specs.Prelude.{IfOk};
 ghost use Rattle.tree_model.specs.Trees.{IsTree};
 
@@ -11,7 +11,7 @@ use path_text::{Bytes, Errno, Flags, NoMemory};
 use race_core::{ActorPlan, Planned, Plans, Ref};
 use root_ops::{Op, Request};
 use std::alloc::Global;
-use transcript::read_step;
+use step_text::read_step;
 use tree_list::ListTree;
 use tree_model::{HandleNo, Step, StepOf};
 

@@ -10,7 +10,7 @@ use path_text::{Errno, Names, NoMemory};
 use race_core::Report;
 use std::alloc::Global;
 use std::test::*;
-use transcript::Output;
+use step_text::Output;
 use tree_list::ListTree;
 use tree_model::{Actor, Answer, HandleNo, Snapshot, Step, StepOf, Tree};
 
@@ -68,8 +68,8 @@ impl Tree for Short {
     }
 }
 
-// Of a world: its plans, its schedule, and what is told as the step of each number is refused, one number after another,
-// each text for so many of them. By the last one no step was left to refuse.
+// Of a world: its plans, its schedule, and what is told as the step of each number is refused, one number after
+// another, each text for so many of them. By the last one no step was left to refuse.
 struct Refusals<'a> {
     lines: &'a str,
     schedule: &'a [u32],

@@ -65,8 +65,8 @@ fn report_of_copy(
     }
 }
 
-// Whether the report has as many events, outcomes and kept Standings, where an actor is to release what is the owner's with
-// that tag, and its world is copied after so many turns.
+// Whether the report has as many events, outcomes and kept Standings, where an actor is to release what is the owner's
+// with that tag, and its world is copied after so many turns.
 fn releases(alloc: Global, tag: u64, turns: u32, wanted: [usize; 3]) -> Result<bool, Errno> {
     let Some(standing) = standing_of(alloc, tag)? else {
         return Ok(false);

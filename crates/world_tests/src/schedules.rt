@@ -7,7 +7,7 @@ use path_text::{Errno, NoMemory};
 use race_core::{Report, World};
 use std::alloc::Global;
 use std::test::*;
-use transcript::Output;
+use step_text::Output;
 use tree_list::ListTree;
 
 // One digit of an interleaving for each turn.

@@ -3,7 +3,7 @@ use event_log::EventLog;
 use path_text::NoMemory;
 use race_core::{ActorPlan, Outcome, Outcomes, Report, World, WorldFault};
 use std::alloc::Global;
-use transcript::Output;
+use step_text::Output;
 use tree_model::{Actor, Tree};
 
 /// The report on a world of that room that was run by that schedule.
@@ -63,8 +63,8 @@ fn tell_actor<T: Tree>(
     told.text("\n")
 }
 
-/// Of each actor: how many handles it holds, and how its calls ended, each on a line; and before that where it is wanted
-/// how many events are its own.
+/// Of each actor: how many handles it holds, and how its calls ended, each on a line; and before that where it is
+/// wanted how many events are its own.
 pub fn tell<T: Tree>(
     alloc: Global,
     told: &mut Output,

@@ -6,7 +6,7 @@ use path_text::{Errno, Flags, NoMemory};
 use race_core::{ActorPlan, Plans, World, WorldFault};
 use std::alloc::Global;
 use std::test::*;
-use transcript::Output;
+use step_text::Output;
 use tree_list::ListTree;
 use tree_model::{Row, Tree};
 use tree_slab::SlabTree;
@@ -121,7 +121,8 @@ const RUNS: [Run<'static>; 12] = [
         lines: RELEASES,
         schedule: &[],
         room: 100,
-        wanted: "5 held 1\nopened dir 2 /a\ndone\nfault EBADF\nfault EBADF\nfault ENOENT\nstepped listed 6 a abs dang e loop up\nfault EBADF\n",
+        wanted: "5 held 1\nopened dir 2 /a\ndone\nfault EBADF\nfault EBADF\nfault ENOENT\n\
+            stepped listed 6 a abs dang e loop up\nfault EBADF\n",
     },
 ];
 
@@ -254,8 +255,8 @@ fn idle_plans(alloc: Global, actors: usize) -> Result<Vec<ActorPlan>, Errno> {
     Ok(plans)
 }
 
-// The fault of the making of a world of that many actors, or else that of a turn of actor 64, where actor 63 had one and the
-// report has all actors.
+// The fault of the making of a world of that many actors, or else that of a turn of actor 64, where actor 63 had one
+// and the report has all actors.
 fn fault_of_many(alloc: Global, actors: usize) -> Result<Option<WorldFault>, Errno> {
     let plans = idle_plans(alloc, actors)?;
     let mut world = match World::new(alloc, tree(alloc)?, plans, 100) {

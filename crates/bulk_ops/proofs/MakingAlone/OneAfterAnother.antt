@@ -24,7 +24,7 @@ use Rattle.step_resolver.specs.Order.{Way, Handle, Line, answered, no_room, not_
 use Rattle.step_resolver.specs.Footprint.{is_want}
 use Rattle.step_resolver.proofs.Underway.StepOutcomes.{IsMore, with_handle-is_more, IsLess, Close-is_less, Opening, too_many, no_object, is_opened, opening_of, OpenCase, no_dir, no_child, at_child, open_case, below_is}
 use Rattle.bulk_ops.specs.MakeAllOrder.{Making, walking, making, opening, leaving, ending, closing, MakeTurn, more, made, failed, gives_up, goes_down, take, due, is_closing, LeadsTo}
-use Rattle.bulk_ops.specs.MakeAllQuiet.{chain_of, last_of, MakeMeant, refuses, gives, rest_means, IsMeantEnd, IsPartOf, ComesTo, IsOver}
+use Rattle.bulk_ops.specs.MakeAllQuiet.{chain_of, last_of, MakeMeant, refuses, gives, rest_means, IsMeantEnd, IsPartOf, MakingComesTo, IsOver}
 use Rattle.bulk_ops.proofs.MakingAlone.NewDirectories.{length-one_more, dir_stays, stands_on, with_new, new_inode, new_is_dir, new_not_gone, new_is_found, new_is_empty, new_stands, NewCase, dir_gone, no_number, is_new, new_case}
 
 -- ---- what is known
@@ -323,12 +323,12 @@ module _ (a : ℕ) (way : Way) (r : ℕ) (base : List Inode) (meant : MakeMeant)
 
   -- ---- the end
 
-  end_meant : (t : State) (end : MakeTurn) → IsOver end → GoodTurn t end → ComesTo base t.nodes r meant end
+  end_meant : (t : State) (end : MakeTurn) → IsOver end → GoodTurn t end → MakingComesTo base t.nodes r meant end
   end_meant t (more call) over good = absurd over
   end_meant t (made handle names) over good = inl (subst (λ m. IsMeantEnd base t.nodes r m (made handle names)) (sym good.0) (refl, (refl, good.1)))
   end_meant t (failed error) over (inl short) = inr short
   end_meant t (failed error) over (inr is) = inl (subst (λ m. IsMeantEnd base t.nodes r m (failed error)) (sym is.0) (refl, is.1))
 
   pub makes_on : (lines : List Line) (s : State) (turn end : MakeTurn) → GoodTurn s turn → LeadsTo way turn lines end → IsLegal s (events_of a lines)
-      → IsOver end → ComesTo base (after_events s (events_of a lines)).nodes r meant end
+      → IsOver end → MakingComesTo base (after_events s (events_of a lines)).nodes r meant end
   makes_on lines s turn end good leads legal over = end_meant (after_events s (events_of a lines)) end over (lines_good lines s turn end good leads legal)

@@ -35,7 +35,7 @@ use Rattle.step_resolver.proofs.Meaning.Deepest.{Missing, missing_parts, deepest
 use Rattle.step_resolver.proofs.Ends.EveryWalk.{walks_tell}
 use Rattle.step_resolver.proofs.Ends.WalksMean.{quiet_walks_mean}
 use Rattle.bulk_ops.specs.MakeAllOrder.{MakeTurn, made, begins, rest_fault, rest_names, gives_up, goes_down, begins_to_make, after_walk, LeadsTo}
-use Rattle.bulk_ops.specs.MakeAllQuiet.{MakeMeant, refuses, gives, chain_of, last_of, rest_means, make_means, IsPartOf, ComesTo, IsOver, QuietMakesMean}
+use Rattle.bulk_ops.specs.MakeAllQuiet.{MakeMeant, refuses, gives, chain_of, last_of, rest_means, make_means, IsPartOf, MakingComesTo, IsOver, QuietMakesMean}
 use Rattle.bulk_ops.proofs.MakingAlone.OneAfterAnother.{Ready, Fails, GoodTurn, makes_on}
 
 -- ---- the lines of the walk, and the rest
@@ -175,7 +175,7 @@ nothing_made nodes (up_to x b rest reads) = on (rest_fault rest)
     on None = by_gone (is_gone nodes x)
 nothing_made nodes (none error reads) = refl
 
-telling_leaves : (s : State) (events : List Event) → AllTell events → (after_events s events).nodes ≡ s.nodes
+pub telling_leaves : (s : State) (events : List Event) → AllTell events → (after_events s events).nodes ≡ s.nodes
 telling_leaves s [] tells = refl
 telling_leaves s (event ∷ events) tells =
     telling_leaves (after_event s event) events tells.1 ∙ nodes_are_left s event.actor event.step tells.0
@@ -330,13 +330,13 @@ module _ (s : State) (a r : ℕ) (way : Way) (path : Reading) (tree : IsState s)
 
   -- the whole call, alone
   alone : (lines : List Line) (end : MakeTurn) → IsOver end → LeadsTo way (begins way path) lines end → IsLegal s (events_of a lines)
-      → ComesTo s.nodes (after_events s (events_of a lines)).nodes r meant end
+      → MakingComesTo s.nodes (after_events s (events_of a lines)).nodes r meant end
   alone lines end over leads legal =
       let split : Split way (walk.begins way path) lines end = split_lines way true (walk.begins way path) lines end over leads in
       let same = ap (events_of a) split.joined ∙ joined_events a split.first split.rest in
       let both = legal_histories_join s (events_of a split.first) (events_of a split.rest) in
       let cut = both.0.0 (subst (IsLegal s) same legal) in
-      subst (λ (u : State). ComesTo s.nodes u.nodes r meant end) (sym (ap (after_events s) same ∙ both.1))
+      subst (λ (u : State). MakingComesTo s.nodes u.nodes r meant end) (sym (ap (after_events s) same ∙ both.1))
       (makes_on a way r s.nodes meant split.rest (after_events s (events_of a split.first)) (after_walk split.room split.walked) end
       (walked_good split.first cut.0 split.room split.walked split.over split.led) split.onward cut.1 over)
 
@@ -351,6 +351,6 @@ own_all a (event ∷ events) own =
 pub quiet_makes_mean : QuietMakesMean
 quiet_makes_mean w end is goal leads over quiet =
     let same = sym (own_all w.actor w.window quiet) ∙ is.own in
-    subst (λ events. ComesTo (begin_of w).nodes (after_events (begin_of w) events).nodes w.root (make_means (begin_of w).nodes (reading_deepest (ground w) w.path)) end) (sym same)
+    subst (λ events. MakingComesTo (begin_of w).nodes (after_events (begin_of w) events).nodes w.root (make_means (begin_of w).nodes (reading_deepest (ground w) w.path)) end) (sym same)
     (alone (begin_of w) w.actor w.root w.way w.path (histories_keep_trees w.opening w.before is.tree).0 is.root is.root_is_dir goal w.lines end over leads
     (subst (IsLegal (begin_of w)) same is.legal))

@@ -1,5 +1,5 @@
 -- What each end of a call tells, by induction on what the call was told.
-use Rattle.std.specs.Prelude.{◌≡◌, ◌≢◌, ℕ, zero, suc, ◌≤◌, ◌⊎◌, List, [], ◌∷◌, ◌++◌, Bool, true, false, Option, refl}
+use Rattle.std.specs.Prelude.{◌≡◌, ◌≢◌, ℕ, suc, ◌≤◌, ◌⊎◌, List, [], ◌∷◌, ◌++◌, Bool, true, false, Option, refl}
 use Rattle.std.proofs.Common.{sym, ap, subst, ◌∙◌, inl, inr, not-suc-le-zero, zero-add, arith}
 use Rattle.std.proofs.lemmas.Bool.{false≢true}
 use Rattle.std.proofs.lemmas.Option.{none-some}
@@ -23,15 +23,17 @@ use Rattle.step_resolver.proofs.Underway.LegalHistory.{lived}
 use Rattle.step_resolver.proofs.Underway.WalkInvariant.{Lived}
 use Rattle.step_resolver.proofs.Underway.OwnSteps.{own_events_leave_nodes}
 use Rattle.step_resolver.proofs.Ends.EveryWalk.{tree_laws}
+use Rattle.step_resolver.proofs.DrivenWalks.{joined_events}
 use Rattle.bulk_ops.specs.declared.remove_all.clearing.TheConstants.{CLEARING_STEPS_MAX}
 use Rattle.bulk_ops.specs.RemoveAllOrder.{Level, Stage, removes_file, lists, shuts, leaves, removes_dir, fails, removes, Removing, walking, clearing, closing, Turn, more, removed, failed, begins, walked, take, due, is_closing, LeadsTo}
 use Rattle.bulk_ops.specs.RemoveAllOrder as order
-use Rattle.bulk_ops.specs.RemoveAllTells.{removals, one_more_if, is_removal, TakesAway, LeavesEntries, OnlyTakesAway, IsLastOnTarget, IsClose, IsBounded, first_part, second_part, Parts, Tells, RemoveAllTells}
+use Rattle.bulk_ops.specs.RemoveAllTells.{removals, one_more_if, is_removal, TakesAway, LeavesEntries, OnlyTakesAway, IsLastOnTarget, IsClose, IsBounded, walk_part, rest_part, Parts, Tells, RemoveAllTells}
 use Rattle.bulk_ops.proofs.RemovingAll.Bounded.{lines_bounded, clearing_begins}
-use Rattle.bulk_ops.proofs.RemovingAll.Happening.{AloneAt, Rests, HappensAlone, lines_happen}
+use Rattle.bulk_ops.proofs.OwnEvents.{Cut, cut}
+use Rattle.bulk_ops.proofs.Happening.{AloneAt, Rests, HappensAlone, before_or_from, lines_happen}
 use Rattle.bulk_ops.proofs.RemovingAll.Underway.{Holds, wants_of_rest, TookAway, LastSoFar, Good, due_good}
 use Rattle.bulk_ops.proofs.RemovingAll.AfterAnswers.{file_good, dir_good, open_good, list_good, close_good, closing_good, not_made_good}
-use Rattle.bulk_ops.proofs.RemovingAll.Parts.{WalkEnd, goes_on, walk_fails, walk_finds, walk_stops, walk_end, walk_removes_none, events_of-append, Halves, halves}
+use Rattle.bulk_ops.proofs.RemovingAll.Parts.{WalkEnd, goes_on, walk_fails, walk_finds, walk_stops, walk_end, walk_removes_none}
 
 record EndsGood (c : WalkInHistory) (dir : ℕ) (target : List ℕ) (b : ℕ → Option ℕ) (end : Turn) : Type 0 where
   pub m : ℕ
@@ -85,19 +87,9 @@ module _ {c : WalkInHistory} (alive : Lived c) (dir : ℕ) (target : List ℕ) (
   lines_good (line ∷ lines) now (removed count) end good happens leads = absurd leads
   lines_good (line ∷ lines) now (failed error) end good happens leads = absurd leads
 
-order_of : (i j : ℕ) → (suc i ≤ j) ⊎ (j ≤ i)
-order_of zero zero = inr (omega arith)
-order_of zero (suc j) = inl (omega arith)
-order_of (suc i) zero = inr (omega arith)
-order_of (suc i) (suc j) = step (order_of i j)
-  where
-    step : (suc i ≤ j) ⊎ (j ≤ i) → (suc (suc i) ≤ suc j) ⊎ (suc j ≤ suc i)
-    step (inl a) = inl (omega arith)
-    step (inr a) = inr (omega arith)
-
 -- what holds of each own event before the last one's moment holds of all
 of_all : {c : WalkInHistory} {m : ℕ} (P : ℕ → Type 0) → Rests c m → ((t : ℕ) → suc t ≤ m → (timeline c).is_own t ≡ true → P t) → (t : ℕ) → (timeline c).is_own t ≡ true → P t
-of_all {c} {m} P rests each t own = on (order_of t m)
+of_all {c} {m} P rests each t own = on (before_or_from t m)
   where
     on : (suc t ≤ m) ⊎ (m ≤ t) → P t
     on (inl early) = each t early own
@@ -126,41 +118,41 @@ module _ {c : WalkInHistory} {m : ℕ} {dir : ℕ} {target : List ℕ} (rests : 
 -- the parts of the call, where its walk found the object
 module _ (tell : WalksTell) (w : WalkInHistory) (target : List ℕ) (end : Turn) (is : IsWalkInHistory w) where
   abbrev Halved : (walk_lines rest : List Line) → Type 0
-  Halved walk_lines rest = Halves w.actor w.window (events_of w.actor walk_lines) (events_of w.actor rest)
+  Halved walk_lines rest = Cut w.actor w.window (events_of w.actor walk_lines) (events_of w.actor rest)
 
   halved : (walk_lines rest : List Line) → w.lines ≡ walk_lines ++ rest → Halved walk_lines rest
-  halved walk_lines rest e = halves w.actor w.window (events_of w.actor walk_lines) (events_of w.actor rest)
-      (is.own ∙ ap (events_of w.actor) e ∙ events_of-append w.actor walk_lines rest)
+  halved walk_lines rest e = cut w.actor w.window (events_of w.actor walk_lines) (events_of w.actor rest)
+      (is.own ∙ ap (events_of w.actor) e ∙ joined_events w.actor walk_lines rest)
 
-  first_is : (walk_lines rest : List Line) → (h : Halved walk_lines rest) → IsWalkInHistory (first_part w h.first walk_lines)
+  first_is : (walk_lines rest : List Line) → (h : Halved walk_lines rest) → IsWalkInHistory (walk_part w h.before walk_lines)
   first_is walk_lines rest h = record {
     tree = is.tree;
     legal_before = is.legal_before;
-    legal = IsLegal-front (begin_of w) h.first h.second (subst (IsLegal (begin_of w)) h.whole is.legal);
-    own = h.first_own;
+    legal = IsLegal-front (begin_of w) h.before h.after (subst (IsLegal (begin_of w)) h.whole is.legal);
+    own = h.own_before;
     root = is.root;
     root_is_dir = is.root_is_dir;
   }
 
   -- where the walk ended, and clearing begins
   begins_there : (walk_lines rest : List Line) → (h : Halved walk_lines rest)
-      → begin_of (second_part w h.first h.second rest) ≡ end_of (first_part w h.first walk_lines)
-  begins_there walk_lines rest h = after_events-append w.opening w.before h.first
+      → begin_of (rest_part w h.before h.after rest) ≡ end_of (walk_part w h.before walk_lines)
+  begins_there walk_lines rest h = after_events-append w.opening w.before h.before
 
-  ends_there : (walk_lines rest : List Line) → (h : Halved walk_lines rest) → end_of (second_part w h.first h.second rest) ≡ end_of w
+  ends_there : (walk_lines rest : List Line) → (h : Halved walk_lines rest) → end_of (rest_part w h.before h.after rest) ≡ end_of w
   ends_there walk_lines rest h =
-      ap (λ s. after_events s h.second) (begins_there walk_lines rest h)
-      ∙ sym (after_events-append (begin_of w) h.first h.second) ∙ ap (after_events (begin_of w)) (sym h.whole)
+      ap (λ s. after_events s h.after) (begins_there walk_lines rest h)
+      ∙ sym (after_events-append (begin_of w) h.before h.after) ∙ ap (after_events (begin_of w)) (sym h.whole)
 
   module _ (walk_lines rest : List Line) (h : Halved walk_lines rest) (handle : Handle) (names : List (List ℕ))
-      (opens : Opens (first_part w h.first walk_lines) handle names) where
+      (opens : Opens (walk_part w h.before walk_lines) handle names) where
     abbrev c : WalkInHistory
-    c = second_part w h.first h.second rest
+    c = rest_part w h.before h.after rest
 
     abbrev b : ℕ → Option ℕ
     b k = held (begin_of w) w.actor k
 
-    there : (k : ℕ) → held (begin_of c) w.actor k ≡ held (end_of (first_part w h.first walk_lines)) w.actor k
+    there : (k : ℕ) → held (begin_of c) w.actor k ≡ held (end_of (walk_part w h.before walk_lines)) w.actor k
     there k = ap (λ s. held s w.actor k) (begins_there walk_lines rest h)
 
     root_is_other : w.way.root ≢ handle.number
@@ -169,13 +161,13 @@ module _ (tell : WalksTell) (w : WalkInHistory) (target : List ℕ) (end : Turn)
     second_is : IsWalkInHistory c
     second_is = record {
       tree = is.tree;
-      legal_before = IsLegal-append w.opening w.before h.first is.legal_before (first_is walk_lines rest h).legal;
-      legal = subst (λ s. IsLegal s h.second) (sym (begins_there walk_lines rest h))
-          (IsLegal-back (begin_of w) h.first h.second (subst (IsLegal (begin_of w)) h.whole is.legal));
-      own = h.second_own;
+      legal_before = IsLegal-append w.opening w.before h.before is.legal_before (first_is walk_lines rest h).legal;
+      legal = subst (λ s. IsLegal s h.after) (sym (begins_there walk_lines rest h))
+          (IsLegal-back (begin_of w) h.before h.after (subst (IsLegal (begin_of w)) h.whole is.legal));
+      own = h.own_after;
       root = there w.way.root ∙ opens.new.others w.way.root root_is_other ∙ is.root;
       root_is_dir = ap (λ (s : State). is_dir s.nodes w.root) (begins_there walk_lines rest h)
-          ∙ (lived tree_laws (first_part w h.first walk_lines) (first_is walk_lines rest h)).root_is_dir;
+          ∙ (lived tree_laws (walk_part w h.before walk_lines) (first_is walk_lines rest h)).root_is_dir;
     }
 
     first_good : Good c handle.node target b 0 rest (walked w.way target (walk.found handle names))
@@ -199,8 +191,8 @@ module _ (tell : WalksTell) (w : WalkInHistory) (target : List ℕ) (end : Turn)
 
     abbrev parts : w.lines ≡ walk_lines ++ rest → walk.LeadsTo w.way (walk.begins w.way w.path) walk_lines (walk.found handle names) → Parts w
     parts e walks = record {
-      walk_window = h.first;
-      window = h.second;
+      walk_window = h.before;
+      window = h.after;
       windows = h.whole;
       walk_lines = walk_lines;
       lines = rest;
@@ -210,7 +202,7 @@ module _ (tell : WalksTell) (w : WalkInHistory) (target : List ℕ) (end : Turn)
       walked = walks;
       is_walk = first_is walk_lines rest h;
       opens = opens;
-      leaves = own_events_leave_nodes (first_part w h.first walk_lines) (walk.found handle names) (first_is walk_lines rest h) walks;
+      leaves = own_events_leave_nodes (walk_part w h.before walk_lines) (walk.found handle names) (first_is walk_lines rest h) walks;
     }
 
     bounded : LeadsTo (walked w.way target (walk.found handle names)) rest end → IsBounded rest
@@ -241,13 +233,13 @@ module _ (tell : WalksTell) (w : WalkInHistory) (target : List ℕ) (end : Turn)
     why = inl (record { walked = leads; true_once = (tell w (walk.failed error) is leads).true_once; leaves = own_events_leave_nodes w (walk.failed error) is leads });
     handles = (tell w (walk.failed error) is leads).handles;
   })
-  told shallow (walk_finds handle names cut) =
-      let h = halved cut.walk_lines cut.rest cut.all in
-      let opens = tell (first_part w h.first cut.walk_lines) (walk.found handle names) (first_is cut.walk_lines cut.rest h) cut.walks in
-      cleared cut.walk_lines cut.rest h handle names opens cut.all cut.walks (bounded cut.walk_lines cut.rest h handle names opens cut.leads) end (ended cut.walk_lines cut.rest h handle names opens cut.leads)
-  told shallow (walk_stops handle names ps cut) =
-      let h = halved cut.walk_lines cut.rest cut.all in
-      let deepest = tell (first_part w h.first cut.walk_lines) (walk.partial handle names ps) (first_is cut.walk_lines cut.rest h) cut.walks in
+  told shallow (walk_finds handle names cut') =
+      let h = halved cut'.walk_lines cut'.rest cut'.all in
+      let opens = tell (walk_part w h.before cut'.walk_lines) (walk.found handle names) (first_is cut'.walk_lines cut'.rest h) cut'.walks in
+      cleared cut'.walk_lines cut'.rest h handle names opens cut'.all cut'.walks (bounded cut'.walk_lines cut'.rest h handle names opens cut'.leads) end (ended cut'.walk_lines cut'.rest h handle names opens cut'.leads)
+  told shallow (walk_stops handle names ps cut') =
+      let h = halved cut'.walk_lines cut'.rest cut'.all in
+      let deepest = tell (walk_part w h.before cut'.walk_lines) (walk.partial handle names ps) (first_is cut'.walk_lines cut'.rest h) cut'.walks in
       absurd (false≢true (sym shallow ∙ deepest.goal))
 
 pub every_call_tells : WalksTell → RemoveAllTells

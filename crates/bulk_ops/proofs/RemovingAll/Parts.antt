@@ -1,14 +1,12 @@
--- A call's lines are its walk's and then those of clearing, and its window is cut where the walk ends.
-use Rattle.std.specs.Prelude.{◌≡◌, ℕ, ◌==◌, List, [], ◌∷◌, ◌++◌, Bool, true, false, cond, refl}
+-- A call's lines are its walk's and then those of clearing.
+use Rattle.std.specs.Prelude.{◌≡◌, ℕ, List, [], ◌∷◌, ◌++◌, true, false, refl}
 use Rattle.std.proofs.Common.{sym, ap, ◌∙◌}
 use Rattle.path_text.specs.declared.errno.Errno.{Errno}
 use Rattle.tree_model.specs.declared.answer.Answer.{Answer}
 use Rattle.tree_model.specs.declared.answer.Answer.TheVariants.{Refused}
-use Rattle.tree_model.specs.declared.answer.Event.{Event}
 use Rattle.step_resolver.specs.Asked.{AskedPart}
-use Rattle.step_resolver.specs.Order.{Way, Handle, Walking, opening, reading, rising, judging, duping, ending, closing, Line, answered, no_room, not_made, events_of}
+use Rattle.step_resolver.specs.Order.{Way, Handle, Walking, opening, reading, rising, judging, duping, ending, closing, Line, answered, no_room, not_made}
 use Rattle.step_resolver.specs.Order as walk
-use Rattle.step_resolver.specs.WalkHistory.{own_events}
 use Rattle.bulk_ops.specs.RemoveAllOrder.{Removing, Turn, more, failed, walked, LeadsTo}
 use Rattle.bulk_ops.specs.RemoveAllTells.{removals, one_more_if, is_removal}
 
@@ -75,63 +73,3 @@ module _ (way : Way) (target : List ℕ) where
   walk_removes_none (line ∷ lines) rest (walk.found handle names) turn leads = absurd leads
   walk_removes_none (line ∷ lines) rest (walk.partial handle names parts) turn leads = absurd leads
   walk_removes_none (line ∷ lines) rest (walk.failed error) turn leads = absurd leads
-
--- ---- the window
-
-pub events_of-append : (a : ℕ) (xs ys : List Line) → events_of a (xs ++ ys) ≡ events_of a xs ++ events_of a ys
-events_of-append a [] ys = refl
-events_of-append a (answered step answer ∷ xs) ys = ap (λ es. record { actor = a; step = step; answer = answer } ∷ es) (events_of-append a xs ys)
-events_of-append a (no_room step answer ∷ xs) ys = ap (λ es. record { actor = a; step = step; answer = answer } ∷ es) (events_of-append a xs ys)
-events_of-append a (not_made error ∷ xs) ys = events_of-append a xs ys
-
-pub record Halves (a : ℕ) (window es fs : List Event) : Type 0 where
-  pub first : List Event
-  pub second : List Event
-  pub whole : window ≡ first ++ second
-  pub first_own : own_events a first ≡ es
-  pub second_own : own_events a second ≡ fs
-
-cons_not_nil : {A : Type 0} (x : A) (xs : List A) → x ∷ xs ≡ [] → ⊥
-cons_not_nil x xs e = cc (e)
-
-abbrev head_of : {A : Type 0} → A → List A → A
-head_of d [] = d
-head_of d (x ∷ xs) = x
-
-abbrev tail_of : {A : Type 0} → List A → List A
-tail_of [] = []
-tail_of (x ∷ xs) = xs
-
--- a window is cut where the own events are
-pub halves : (a : ℕ) (window es fs : List Event) → own_events a window ≡ es ++ fs → Halves a window es fs
-halves a window [] fs e = record { first = []; second = window; whole = refl; first_own = refl; second_own = e }
-halves a [] (v ∷ es) fs e = absurd (cons_not_nil v (es ++ fs) (sym e))
-halves a (event ∷ window) (v ∷ es) fs e = on (event.actor == a) refl (λ f. halves a window es fs f) (λ f. halves a window (v ∷ es) fs f)
-  where
-    own_with : (b : Bool) → (event.actor == a) ≡ b → (events : List Event) → own_events a (event ∷ events) ≡ cond b (event ∷ own_events a events) (own_events a events)
-    own_with b q events = ap (λ x. cond x (event ∷ own_events a events) (own_events a events)) q
-
-    on_own : (event.actor == a) ≡ true → Halves a window es fs → event ≡ v → Halves a (event ∷ window) (v ∷ es) fs
-    on_own q h same = record {
-      first = event ∷ h.first;
-      second = h.second;
-      whole = ap (λ events. event ∷ events) h.whole;
-      first_own = own_with true q h.first ∙ ap (λ events. event ∷ events) h.first_own ∙ ap (λ x. x ∷ es) same;
-      second_own = h.second_own;
-    }
-
-    on_other : (event.actor == a) ≡ false → Halves a window (v ∷ es) fs → Halves a (event ∷ window) (v ∷ es) fs
-    on_other q h = record {
-      first = event ∷ h.first;
-      second = h.second;
-      whole = ap (λ events. event ∷ events) h.whole;
-      first_own = own_with false q h.first ∙ h.first_own;
-      second_own = h.second_own;
-    }
-
-    on : (b : Bool) → (event.actor == a) ≡ b → (own_events a window ≡ es ++ fs → Halves a window es fs)
-        → (own_events a window ≡ v ∷ es ++ fs → Halves a window (v ∷ es) fs) → Halves a (event ∷ window) (v ∷ es) fs
-    on true q own other =
-        let f : event ∷ own_events a window ≡ v ∷ es ++ fs = sym (own_with true q window) ∙ e in
-        on_own q (own (ap tail_of f)) (ap (head_of event) f)
-    on false q own other = on_other q (other (sym (own_with false q window) ∙ e))

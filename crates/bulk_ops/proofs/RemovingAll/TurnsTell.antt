@@ -6,7 +6,7 @@ use Rattle.path_text.specs.Reading.{Reading}
 use Rattle.tree_model.specs.declared.answer.Answer.{Answer}
 use Rattle.tree_model.specs.declared.answer.Answer.TheVariants.{Refused}
 use Rattle.step_resolver.specs.Asked.{is_deepest}
-use Rattle.step_resolver.specs.Order.{Way, Walking, Line, answered, no_room, not_made, IsWant}
+use Rattle.step_resolver.specs.Order.{Way, Line, answered, no_room, not_made, IsWant}
 use Rattle.step_resolver.specs.Order as walk
 use Rattle.step_resolver.specs.TurnsTell.{first_lines}
 use Rattle.step_resolver.proofs.Ends.EveryWalk.{walks_tell}
@@ -18,6 +18,7 @@ use Rattle.bulk_ops.specs.RemoveAllTells.{RemoveAllTells}
 use Rattle.bulk_ops.specs.RemoveAllTurnsTell.{IsLineOf, TellsTaken, TellsBegun}
 use Rattle.bulk_ops.proofs.RemovingAll.EachEnd.{every_call_tells}
 use Rattle.bulk_ops.proofs.RemovingAll.FirstTurns.{IsFirst, begins_first}
+use Rattle.bulk_ops.proofs.Refusals.{walk_needs_no_room}
 
 -- lines that lead on from where others led
 leads_on : (lines : List Line) (turn mid : Turn) (others : List Line) (end : Turn) → LeadsTo turn lines mid → LeadsTo mid others end → LeadsTo turn (lines ++ others) end
@@ -30,16 +31,6 @@ leads_on (not_made error ∷ lines) (more call) mid others end first onward =
     (first.0, (first.1.0, leads_on lines (take true call (Refused error)) mid others end first.1.1 onward))
 leads_on (line ∷ lines) (removed count) mid others end first onward = absurd first
 leads_on (line ∷ lines) (failed error) mid others end first onward = absurd first
-
--- a refusal brings nothing that takes room
-walk_needs_no_room : (way : Way) (room : Bool) (w : Walking) (error : Errno) → walk.take way true w (Refused error) ≡ walk.take way room w (Refused error)
-walk_needs_no_room way room (walk.opening position own follow n rest) error = refl
-walk_needs_no_room way room (walk.reading position link rest) error = refl
-walk_needs_no_room way room (walk.rising old names rest) error = refl
-walk_needs_no_room way room (walk.judging new names rest) error = refl
-walk_needs_no_room way room (walk.duping rest) error = refl
-walk_needs_no_room way room (walk.ending handle names rest) error = refl
-walk_needs_no_room way room (walk.closing h hs after) error = refl
 
 refusal_needs_no_room : (room : Bool) (call : Removing) (error : Errno) → take true call (Refused error) ≡ take room call (Refused error)
 refusal_needs_no_room room (walking way target w) error = ap (walked way target) (walk_needs_no_room way room w error)

@@ -18,7 +18,7 @@ use Rattle.step_resolver.proofs.Underway.WalkInvariant.{held_at, IsNotIn}
 use Rattle.bulk_ops.specs.declared.remove_all.clearing.TheConstants.{CLEARING_STEPS_MAX}
 use Rattle.bulk_ops.specs.RemoveAllOrder.{Level, Stage, removes_file, opens, lists, shuts, leaves, removes_dir, End, fails, removes, walking, clearing, closing, Turn, more, removed, failed, dirs, before, closes, is_due}
 use Rattle.bulk_ops.specs.RemoveAllTells.{Down, here, under, outermost, removals, one_more_if, event_at, TakesAway, LeavesEntries, IsOn, ClosesAt, AllClose, TellsFault}
-use Rattle.bulk_ops.proofs.RemovingAll.Happening.{IsAlone, less_or_same}
+use Rattle.bulk_ops.proofs.Happening.{IsAlone, before_or_from, less_or_same}
 
 -- ---- handles
 
@@ -169,22 +169,12 @@ pub up_to : {c : WalkInHistory} {now t : ℕ} (P : ℕ → Type 0) → IsAlone c
     → (k : ℕ) → suc k ≤ suc t → (timeline c).is_own k ≡ true → P k
 up_to {c} {now} {t} P alone first here_too k le own = on (less_or_same k t le)
   where
-    order : (i j : ℕ) → (suc i ≤ j) ⊎ (j ≤ i)
-    order zero zero = inr (omega arith)
-    order zero (suc j) = inl (omega arith)
-    order (suc i) zero = inr (omega arith)
-    order (suc i) (suc j) = step (order i j)
-      where
-        step : (suc i ≤ j) ⊎ (j ≤ i) → (suc (suc i) ≤ suc j) ⊎ (suc j ≤ suc i)
-        step (inl a) = inl (omega arith)
-        step (inr a) = inr (omega arith)
-
     on_less : suc k ≤ t → (suc k ≤ now) ⊎ (now ≤ k) → P k
     on_less less (inl early) = first k early own
     on_less less (inr late) = absurd (false≢true (sym (alone.none k late less) ∙ own))
 
     on : (suc k ≤ t) ⊎ (k ≡ t) → P k
-    on (inl less) = on_less less (order k now)
+    on (inl less) = on_less less (before_or_from k now)
     on (inr same) = subst P (sym same) here_too
 
 -- the entries so far, the count, and the steps: so many were made, and so many are left

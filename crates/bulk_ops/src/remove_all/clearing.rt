@@ -3,8 +3,8 @@ ghost use Rattle.std.specs.Prelude.{◌≡◌, ◌<◌, ◌≤◌, ◌+◌, suc,
 ghost use Rattle.tree_model.specs.declared.answer.Answer.TheVariants.{Listed};
 ghost use Rattle.bulk_ops.specs.RemoveAllOrder.{closes, is_due, gives_up, finished, listed, opened, file_removed, dir_removed, removes_file, due_at};
 ghost use Rattle.bulk_ops.specs.declared.remove_all.clearing.TheConstants.{CLEARING_STEPS_MAX};
-ghost use Rattle.step_resolver.specs.Order.{refusal_of};
 
+use crate::answers::refusal_of;
 use crate::remove_all::frame::Frame;
 use crate::remove_all::phase::Phase;
 use handles::Reached;
@@ -70,16 +70,6 @@ pub(crate) struct Closing {
     pub(crate) end: End,
 }
 
-/// The refusal that an answer is. One that doesn't fit the step counts as BadHandle.
-fn refusal_of(answer: &Answer) -> Errno
-    ensures { result ≡ refusal_of answer.now }
-{
-    match answer {
-        Answer::Refused(error) => *error,
-        _ => Errno::BadHandle,
-    }
-}
-
 impl Stage {
     ghost use Rattle.bulk_ops.specs.RemoveAllView.{opened_of};
 
@@ -95,7 +85,8 @@ impl Stage {
 }
 
 impl Closing {
-    ghost use Rattle.bulk_ops.specs.RemoveAllView.{to_close, numbers_of, dirs_of, phase_turn, end_of};
+    ghost use Rattle.step_resolver.specs.View.{numbers_of};
+    ghost use Rattle.bulk_ops.specs.RemoveAllView.{to_close, dirs_of, phase_turn, end_of};
 
     /// What was opened is closed, where something was, then the directory, then those above it.
     pub(crate) fn of(opened: Option<Reached>, dir: Reached, above: Vec<Frame>, end: End) -> Phase

@@ -15,16 +15,17 @@ use Rattle.step_resolver.proofs.Underway.HandleCount.{one_more}
 use Rattle.step_resolver.proofs.Underway.LegalHistory.{lived}
 use Rattle.step_resolver.proofs.Underway.OwnSteps.{own_events_leave_nodes}
 use Rattle.step_resolver.proofs.Ends.EveryWalk.{tree_laws}
-use Rattle.bulk_ops.specs.RemoveAllTells.{first_part}
-use Rattle.bulk_ops.proofs.RemovingAll.Happening.{HappensAlone, lines_happen}
+use Rattle.bulk_ops.specs.RemoveAllTells.{walk_part}
+use Rattle.bulk_ops.proofs.Happening.{HappensAlone, lines_happen}
 use Rattle.root_ops.specs.Acts.{WalkedTo, after_walk, OneMoreHeld}
-use Rattle.root_ops.proofs.Handles.OwnEvents.{events_append, Cut, cut}
+use Rattle.step_resolver.proofs.DrivenWalks.{joined_events}
+use Rattle.bulk_ops.proofs.OwnEvents.{Cut, cut}
 
 module _ (every : EveryWalk) (w : WalkInHistory) (is : IsWalkInHistory w) (first rest : List Line) (whole : w.lines ≡ first ++ rest) where
   pub parts : Cut w.actor w.window (events_of w.actor first) (events_of w.actor rest)
-  parts = cut w.actor w.window (events_of w.actor first) (events_of w.actor rest) (is.own ∙ ap (events_of w.actor) whole ∙ events_append w.actor first rest)
+  parts = cut w.actor w.window (events_of w.actor first) (events_of w.actor rest) (is.own ∙ ap (events_of w.actor) whole ∙ joined_events w.actor first rest)
 
-  pub first_is : IsWalkInHistory (first_part w parts.before first)
+  pub first_is : IsWalkInHistory (walk_part w parts.before first)
   first_is = record {
     tree = is.tree;
     legal_before = is.legal_before;
@@ -46,8 +47,8 @@ module _ (every : EveryWalk) (w : WalkInHistory) (is : IsWalkInHistory w) (first
     own_later = parts.own_after;
     leads = leads;
     is_walk = first_is;
-    headline = every (first_part w parts.before first) end first_is leads;
-    leaves = own_events_leave_nodes (first_part w parts.before first) end first_is leads;
+    headline = every (walk_part w parts.before first) end first_is leads;
+    leaves = own_events_leave_nodes (walk_part w parts.before first) end first_is leads;
   }
 
 -- ---- what comes after a walk
@@ -63,10 +64,10 @@ happens_after w is end walked =
 -- where it found its object
 
 module _ (w : WalkInHistory) (is : IsWalkInHistory w) (handle : Handle) (names : List (List ℕ)) (walked : WalkedTo w (found handle names)) where
-  begins_there : begin_of (after_walk walked) ≡ end_of (first_part w walked.window walked.lines)
+  begins_there : begin_of (after_walk walked) ≡ end_of (walk_part w walked.window walked.lines)
   begins_there = after_events-append w.opening w.before walked.window
 
-  there : (k : ℕ) → held (begin_of (after_walk walked)) w.actor k ≡ held (end_of (first_part w walked.window walked.lines)) w.actor k
+  there : (k : ℕ) → held (begin_of (after_walk walked)) w.actor k ≡ held (end_of (walk_part w walked.window walked.lines)) w.actor k
   there k = ap (λ (s : State). held s w.actor k) begins_there
 
   -- the handle is open
@@ -93,5 +94,5 @@ module _ (w : WalkInHistory) (is : IsWalkInHistory w) (handle : Handle) (names :
     own = walked.own_later;
     root = stays_held w.way.root w.root is.root;
     root_is_dir = ap (λ (s : State). is_dir s.nodes w.root) begins_there
-        ∙ (lived tree_laws (first_part w walked.window walked.lines) walked.is_walk).root_is_dir;
+        ∙ (lived tree_laws (walk_part w walked.window walked.lines) walked.is_walk).root_is_dir;
   }

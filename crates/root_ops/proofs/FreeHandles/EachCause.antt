@@ -28,7 +28,7 @@ use Rattle.step_resolver.specs.Order as walk
 use Rattle.step_resolver.specs.View.{way_from}
 use Rattle.step_resolver.specs.WalkHistory.{WalkInHistory, begin_of, end_of, state_at}
 use Rattle.bulk_ops.specs.MakeAllTells.{DeepestAt, Reach, not_begun, begun, UnbegunCause, of_walk, no_directory, of_rest, MakingCause, for_want, full as at_limit, gone, missing, not_directory as no_directory_there, astray, Cause, IsAtLimit}
-use Rattle.bulk_ops.specs.RemoveAllTells.{first_part}
+use Rattle.bulk_ops.specs.RemoveAllTells.{walk_part}
 use Rattle.root_ops.specs.declared.aim.Change.{Change}
 use Rattle.root_ops.specs.declared.aim.Change.TheVariants as changes
 use Rattle.root_ops.specs.declared.aim.Renaming.{Renaming}
@@ -88,7 +88,7 @@ ends_there w end walked =
 -- a walk that failed so
 walk_failed : (w : WalkInHistory) (walked : WalkedTo w (failed TooMany)) → held_count (begin_of w) w.actor + 2 ≤ HANDLES_MAX → UsedUp (end_of w)
 walk_failed w walked free =
-    to_end w walked.window walked.later walked.windows (walk_numbers (first_part w walked.window walked.lines) walked.headline.tells.true_once free)
+    to_end w walked.window walked.later walked.windows (walk_numbers (walk_part w walked.window walked.lines) walked.headline.tells.true_once free)
 
 -- no memory or no room is another fault
 other_want : IsWant TooMany → ⊥
@@ -185,8 +185,8 @@ module _ (c : CallInHistory) (free : FourAreFree c) where
   walks_cause : (goal : Goal) (path : Reading) → WalksTo c (way_from c.below.root goal c.below.flags) path (failed TooMany) → Used
   walks_cause goal path to =
       let w = bulk_of c (way_from c.below.root goal c.below.flags) path in
-      let headline = subst (λ (end : walk.Turn). Headline (first_part w to.begun.window to.begun.lines) end) to.is_end to.begun.headline in
-      to_end w to.begun.window to.begun.later to.begun.windows (walk_numbers (first_part w to.begun.window to.begun.lines) headline.tells.true_once two_free)
+      let headline = subst (λ (end : walk.Turn). Headline (walk_part w to.begun.window to.begun.lines) end) to.is_end to.begun.headline in
+      to_end w to.begun.window to.begun.later to.begun.windows (walk_numbers (walk_part w to.begun.window to.begun.lines) headline.tells.true_once two_free)
 
   resolve_cause : (goal : Goal) (text : List ℕ) → WalkIsReply c goal text (Fault TooMany) → Used
   resolve_cause goal text (inl over) = at_its_first_turn text over

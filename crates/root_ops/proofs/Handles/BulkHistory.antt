@@ -18,7 +18,7 @@ use Rattle.bulk_ops.proofs.RemovingAll.EachEnd.{every_call_tells}
 use Rattle.root_ops.specs.declared.op.Op.TheVariants.{MkdirAll, RemoveAll}
 use Rattle.root_ops.specs.BulkTells.{bulk_of, MakeEnds, ClearEnds, BulkCallsTell}
 use Rattle.root_ops.specs.CallHistory.{CallInHistory, IsCallInHistory, RepliesWith}
-use Rattle.root_ops.specs.Order.{Reply, make_way, makes, clears, clear_in, unless_fault}
+use Rattle.root_ops.specs.Order.{Reply, make_way, makes, removing_turn, clear_in, unless_fault}
 use Rattle.root_ops.proofs.Bulk.{makes_led, clears_led}
 use Rattle.root_ops.proofs.FirstTurn.{led_from}
 
@@ -43,7 +43,7 @@ clears_so : (c : CallInHistory) (reply : Reply) (text : List ℕ) (split : Split
 clears_so c reply text split is leads same room fine at =
     let way = way_from c.below.root Follow c.below.flags in
     let begun = remove.begins way split.name split.dir in
-    let by = clears_led c.below begun c.lines reply (led_from c reply (RemoveAll text) true (clears begun) leads same room
+    let by = clears_led c.below begun c.lines reply (led_from c reply (RemoveAll text) true (removing_turn begun) leads same room
     (ap (λ (why : Option Errno). unless_fault why (clear_in c.below (split_of (reading_of text) Drop))) fine ∙ ap (λ (s : Result Split Errno). clear_in c.below s) at)) in
     record { end = by.end; is_reply = by.is_reply; tells = every_call_tells walks_tell (bulk_of c way split.dir) split.name by.end (is_bulk_of c Follow split.dir is) refl by.led }
 

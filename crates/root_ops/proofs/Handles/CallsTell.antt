@@ -46,7 +46,7 @@ use Rattle.root_ops.specs.declared.below.Below.{Below}
 use Rattle.root_ops.specs.declared.op.Op.{Op}
 use Rattle.root_ops.specs.declared.op.Op.TheVariants.{Resolve, ResolveNoFollow, ReadLink, CreateFile, CreateDir, CreateLink, RemoveFile, RemoveDir, Rename, MkdirAll, RemoveAll, Single, Release}
 use Rattle.root_ops.specs.Copies.{is_release}
-use Rattle.root_ops.specs.Order.{Reply, opened, link_text, done, count, stepped, kept, fault, gives, CallTurn, more, ends, releasing, walked, walked_on, walks, renames, way_of, goal_of, held_by, unless_fault, make_way, makes, clears, clear_in, in_directory, between, from_entry, renaming_of, single, is_single, releases, same_owner, starts, LeadsTo}
+use Rattle.root_ops.specs.Order.{Reply, opened, link_text, done, count, stepped, kept, fault, gives, CallTurn, more, ends, releasing, walked, walked_on, walks, renames, way_of, goal_of, held_by, unless_fault, make_way, makes, removing_turn, clear_in, in_directory, between, from_entry, renaming_of, single, is_single, releases, same_owner, starts, LeadsTo}
 use Rattle.root_ops.specs.Order as call
 use Rattle.root_ops.specs.CallHistory.{CallInHistory, IsCallInHistory, actor_of, begin_of, end_of, HandlesStay, AfterDone, HandlesAfter, CallsTell}
 use Rattle.root_ops.proofs.Rooms.{FindsNone, first_turn}
@@ -252,7 +252,7 @@ module _ (below : Below) (r : ℕ) (old : State) where
       made_told path window lines by.end reply by.is_reply
       (makes_tell (bulk_in (make_way below) path window lines) by.end (is_bulk_in Deepest path window lines has legal own) by.led)
 
-  cleared_told : (path : Reading) (window : List Event) (lines : List Line) (target : List ℕ) (end : remove.Turn) (reply : Reply) → clears end ≡ ends reply
+  cleared_told : (path : Reading) (window : List Event) (lines : List Line) (target : List ℕ) (end : remove.Turn) (reply : Reply) → removing_turn end ≡ ends reply
       → ClearTells (bulk_in (way_from below.root Follow below.flags) path window lines) target end → Told below.root.owner.actor old (after_events old window) reply
   cleared_told path window lines target (remove.more call) reply is tells = cc (is)
   cleared_told path window lines target (remove.removed n) reply is tells =
@@ -260,7 +260,7 @@ module _ (below : Below) (r : ℕ) (old : State) where
   cleared_told path window lines target (remove.failed error) reply is tells =
       subst (Told below.root.owner.actor old (after_events old window)) (same_reply (fault error) reply is) tells.handles
 
-  clears_at : (split : Split) → HasRoot below r old → EndsFrom old (clears (remove.begins (way_from below.root Follow below.flags) split.name split.dir))
+  clears_at : (split : Split) → HasRoot below r old → EndsFrom old (removing_turn (remove.begins (way_from below.root Follow below.flags) split.name split.dir))
   clears_at split has lines window reply legal own leads =
       let way = way_from below.root Follow below.flags in
       let by = clears_led below (remove.begins way split.name split.dir) lines reply leads in

@@ -22,7 +22,8 @@ use Rattle.step_resolver.proofs.Ends.EveryWalk.{walks_tell}
 use Rattle.root_ops.specs.declared.aim.Aim.{Aim}
 use Rattle.root_ops.specs.declared.below.Below.{Below}
 use Rattle.root_ops.specs.Order.{Reply, ends, walked, way_of, LeadsTo}
-use Rattle.root_ops.proofs.Handles.OwnEvents.{events_append, cut}
+use Rattle.step_resolver.proofs.DrivenWalks.{joined_events}
+use Rattle.bulk_ops.proofs.OwnEvents.{cut}
 
 -- not on its way any more
 abbrev pub IsEnded : Turn → Type 0
@@ -165,7 +166,7 @@ pub record Parted (a : ℕ) (now : State) (window : List Event) (first rest : Li
 pub part : (a : ℕ) (now : State) (window : List Event) (lines first rest : List Line) → IsLegal now window → own_events a window ≡ events_of a lines → lines ≡ first ++ rest
     → Parted a now window first rest
 part a now window lines first rest legal own whole =
-    let parts = cut a window (events_of a first) (events_of a rest) (own ∙ ap (events_of a) whole ∙ events_append a first rest) in
+    let parts = cut a window (events_of a first) (events_of a rest) (own ∙ ap (events_of a) whole ∙ joined_events a first rest) in
     let joined = legal_histories_join now parts.before parts.after in
     let both = joined.0.0 (subst (λ (es : List Event). IsLegal now es) parts.whole legal) in
     record {

@@ -38,16 +38,16 @@ use Rattle.bulk_ops.specs.RemoveAllTells as clear_tells
 use Rattle.bulk_ops.specs.RemoveAllTells.{TellsFault, Parts, TellsWalkFailed, TellsGivenUp}
 use Rattle.bulk_ops.specs.RemoveAllQuiet.{cleared, cleared_rows, is_short, IsFoundAt, QuietRemoved, QuietFailed, MeansFailure, MeansNoDirectory}
 use Rattle.bulk_ops.proofs.MakeAllEnds.{makes_tell}
-use Rattle.bulk_ops.proofs.MakingAlone.WalkFirst.{nothing_made, quiet_makes_mean}
+use Rattle.bulk_ops.proofs.MakingAlone.WalkFirst.{by_own, nothing_made, quiet_makes_mean}
 use Rattle.bulk_ops.proofs.RemovingAll.EachEnd.{every_call_tells}
 use Rattle.bulk_ops.proofs.RemovingAll.Quiet.Whole.{quiet_remove_all, found, partly, nothing_cleared, window_is}
 use Rattle.root_ops.specs.Meaning.{Caller, Whole, is_open, counts, fails, made, makes_along, clears as clears_in, unless_error, directory_of}
 use Rattle.root_ops.specs.Meaning as meaning
-use Rattle.root_ops.specs.Order.{Reply, opened, count, fault, ends, make_way, makes, clears, LeadsTo}
+use Rattle.root_ops.specs.Order.{Reply, opened, count, fault, ends, make_way, makes, removing_turn, LeadsTo}
 use Rattle.root_ops.specs.Quiet.{MetWant, MetBy, IsOpened, IsDone, MadePart, ClearedPart, IsAmong}
 use Rattle.root_ops.proofs.Bulk.{makes_led, clears_led}
 use Rattle.root_ops.proofs.Handles.AfterWalks.{same_reply}
-use Rattle.root_ops.proofs.Quiet.WalksAlone.{HasRoot, by_own, met_by, want_met, walked_alone}
+use Rattle.root_ops.proofs.Quiet.WalksAlone.{HasRoot, met_by, want_met, walked_alone}
 use Rattle.root_ops.proofs.Quiet.EntriesAlone.{met_behind}
 
 -- ---- wants that were met
@@ -155,13 +155,13 @@ module _ (c : Caller) (has : HasRoot c.tree c.actor c.below.root.handle c.root) 
     some_made (refuses error) same =
         record { new = []; left_out = []; is_after = same ∙ sym (append-nil c.tree.nodes); is_whole = sym same ∙ sym (append-nil end.nodes) }
 
-    made_so : (m : MakeMeant) (handle : Handle) (names : List (List ℕ)) → IsNewHandle w handle → made_quiet.ComesTo c.tree.nodes end.nodes c.root m (make.made handle names)
+    made_so : (m : MakeMeant) (handle : Handle) (names : List (List ℕ)) → IsNewHandle w handle → made_quiet.MakingComesTo c.tree.nodes end.nodes c.root m (make.made handle names)
         → IsDone c end (made c m) (opened handle names)
     made_so (gives x nodes) handle names new (inl is) = record { is_reply = is_opened x handle names new is.0 is.1.1; nodes = is.1.0 }
     made_so (refuses error) handle names new (inl is) = absurd is
     made_so m handle names new (inr short) = absurd short
 
-    failed_so : (m : MakeMeant) (error : Errno) (reach : Reach w) → Cause w reach error → made_quiet.ComesTo c.tree.nodes end.nodes c.root m (make.failed error)
+    failed_so : (m : MakeMeant) (error : Errno) (reach : Reach w) → Cause w reach error → made_quiet.MakingComesTo c.tree.nodes end.nodes c.root m (make.failed error)
         → IsDone c end (made c m) (fault error) ⊎ MadePart c end true lines (made c m) (fault error)
     failed_so (gives x nodes) error reach cause (inl is) = absurd is
     failed_so (refuses told) error reach cause (inl is) = inl (record { is_reply = is.0; nodes = is.1 })
@@ -260,7 +260,7 @@ module _ (c : Caller) (has : HasRoot c.tree c.actor c.below.root.handle c.root) 
           part = untouched walked.nodes;
         }
 
-    part_of : (parts : Parts v) → clear_tells.OnlyTakesAway (clear_tells.clears v parts) parts.handle.node split.name → IsFoundAt v parts.handle.node
+    part_of : (parts : Parts v) → clear_tells.OnlyTakesAway (clear_tells.clearing_part v parts) parts.handle.node split.name → IsFoundAt v parts.handle.node
         → IsAmong c.tree.nodes end.nodes whole.nodes
     part_of parts only found =
         subst (λ m. IsAmong c.tree.nodes end.nodes m.nodes) (sym (at_directory parts.handle.node found)) (on (is_dir c.tree.nodes parts.handle.node) refl)
@@ -283,7 +283,7 @@ module _ (c : Caller) (has : HasRoot c.tree c.actor c.below.root.handle c.root) 
           let all : length lines ≡ length parts.walk_lines + length parts.lines = ap length parts.all_lines ∙ length-append parts.walk_lines parts.lines in
           omega (arith, enough, all)
 
-      given_up_for : (error : Errno) → is_short error ≡ true → TellsFault (clear_tells.clears v parts) parts.handle.node error → Short error
+      given_up_for : (error : Errno) → is_short error ≡ true → TellsFault (clear_tells.clearing_part v parts) parts.handle.node error → Short error
       given_up_for NoMemory enough tells = inl (refl, inl (within NoMemory (want_met parts.lines NoMemory tells)))
       given_up_for BookFull enough tells = inl (refl, inl (within BookFull (want_met parts.lines BookFull tells)))
       given_up_for TooMany enough tells =
@@ -312,7 +312,7 @@ module _ (c : Caller) (has : HasRoot c.tree c.actor c.below.root.handle c.root) 
     failed_so_then error true e q (inl failure) = inr (of_walk_failed error e failure)
     failed_so_then error true e q (inr given) = inr (of_clearing error e given)
 
-    cleared_end : (last : remove.Turn) → remove.LeadsTo (remove.begins way split.name split.dir) lines last → clears last ≡ ends reply → Clears reply
+    cleared_end : (last : remove.Turn) → remove.LeadsTo (remove.begins way split.name split.dir) lines last → removing_turn last ≡ ends reply → Clears reply
     cleared_end (remove.more call) led is = cc (is)
     cleared_end (remove.removed n) led is =
         subst Clears (same_reply (count n) reply is)
@@ -322,5 +322,5 @@ module _ (c : Caller) (has : HasRoot c.tree c.actor c.below.root.handle c.root) 
         (failed_so_then error (is_short error) refl (quiet_remove_all v split.name (remove.failed error) (is_here Follow split.dir) refl led quiet)
         (every_call_tells walks_tell v split.name (remove.failed error) (is_here Follow split.dir) refl led).why)
 
-    pub clears_alone : LeadsTo c.below (clears (remove.begins way split.name split.dir)) lines (ends reply) → Clears reply
+    pub clears_alone : LeadsTo c.below (removing_turn (remove.begins way split.name split.dir)) lines (ends reply) → Clears reply
     clears_alone leads = let by = clears_led c.below (remove.begins way split.name split.dir) lines reply leads in cleared_end by.end by.led by.is_reply

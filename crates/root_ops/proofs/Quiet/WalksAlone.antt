@@ -1,20 +1,17 @@
 -- A call's walk, where nobody else acts: the call's lines are those of the walk and the rest, and the walk ends with what its
 -- path means.
-use Rattle.std.proofs.Common.{◌≡◌, ◌≢◌, ◌⊎◌, inl, inr, ⊎_elim, ℕ, zero, suc, List, [], ◌∷◌, ◌++◌, Bool, true, false, Result, Ok, Err, Some, None, slice_get, refl, sym, ap, ◌∙◌, subst}
+use Rattle.std.proofs.Common.{◌≡◌, ◌≢◌, ◌⊎◌, inl, inr, ⊎_elim, ℕ, List, [], ◌∷◌, ◌++◌, Bool, true, false, Result, Ok, Err, Some, None, refl, sym, ap, ◌∙◌, subst}
 use Rattle.std.specs.Option.{option_map}
 use Rattle.std.proofs.lemmas.Bool.{false≢true, true≢false}
-use Rattle.std.proofs.lemmas.Option.{none-some, same_Some}
 use Rattle.path_text.specs.declared.errno.Errno.{Errno}
 use Rattle.path_text.specs.declared.errno.Errno.TheVariants.{NoMemory, BookFull, TooMany}
 use Rattle.path_text.specs.Reading.{Reading}
 use Rattle.tree_model.specs.declared.answer.Answer.TheVariants.{Refused}
-use Rattle.tree_model.specs.declared.answer.Event.{Event}
 use Rattle.tree_model.specs.declared.step.StepOf.{StepOf}
 use Rattle.tree_model.specs.State.{State, Stands, object_at, is_dir}
 use Rattle.tree_model.specs.Steps.{held, kind_of}
 use Rattle.tree_model.specs.Trees.{IsState}
-use Rattle.tree_model.specs.History.{IsLegal, after_event, after_events}
-use Rattle.tree_model.proofs.StepLaws.{nodes_are_left}
+use Rattle.tree_model.specs.History.{IsLegal, after_events}
 use Rattle.tree_model.proofs.HistoryLaws.{legal_histories_join, histories_keep_trees}
 use Rattle.step_resolver.specs.Asked.{AskedPart, follows, is_deepest}
 use Rattle.step_resolver.specs.Meaning.{Meant, object, fails, resolution, reading_means}
@@ -26,9 +23,10 @@ use Rattle.step_resolver.specs.Headline.{IsNewHandle, Tells}
 use Rattle.step_resolver.specs.FootprintLaws.{IsQuietEnd}
 use Rattle.step_resolver.specs.WalkHistory.{WalkInHistory, IsWalkInHistory}
 use Rattle.step_resolver.proofs.DrivenWalks.{joined_events, all_own}
-use Rattle.step_resolver.proofs.Ends.EntriesLeftAlone.{AllTell, lines_only_tell}
+use Rattle.step_resolver.proofs.Ends.EntriesLeftAlone.{lines_only_tell}
 use Rattle.step_resolver.proofs.Ends.EveryWalk.{walks_tell}
 use Rattle.step_resolver.proofs.Ends.WalksMean.{quiet_walks_mean}
+use Rattle.bulk_ops.proofs.MakingAlone.WalkFirst.{by_own, telling_leaves}
 use Rattle.root_ops.specs.declared.aim.Aim.{Aim}
 use Rattle.root_ops.specs.declared.below.Below.{Below}
 use Rattle.root_ops.specs.Meaning as meaning
@@ -128,15 +126,6 @@ parted s a first rest lines joined legal =
     let cut = both.0.0 (subst (IsLegal s) same legal) in
     record { legal = cut.0; legal_rest = cut.1; after = sym (ap (after_events s) same ∙ both.1) }
 
--- each event is the actor's
-pub by_own : (a : ℕ) (lines : List Line) (t : ℕ) (event : Event) → slice_get (events_of a lines) t ≡ Some event → event.actor ≡ a
-by_own a [] t event e = absurd (none-some event e)
-by_own a (answered step answer ∷ lines) zero event e = sym (ap (λ (v : Event). v.actor) (same_Some _ event e))
-by_own a (answered step answer ∷ lines) (suc t) event e = by_own a lines t event e
-by_own a (no_room step answer ∷ lines) zero event e = sym (ap (λ (v : Event). v.actor) (same_Some _ event e))
-by_own a (no_room step answer ∷ lines) (suc t) event e = by_own a lines t event e
-by_own a (not_made error ∷ lines) t event e = by_own a lines t event e
-
 -- ---- the end of a walk
 
 -- what has the root open
@@ -167,11 +156,6 @@ pub record Walked (s t : State) (a r : ℕ) (way : Way) (path : Reading) (lines 
   pub tree : IsState t
   pub nodes : t.nodes ≡ s.nodes
   pub comes : EndsWith s t a r lines (found_by s r way path) end
-
-telling_leaves : (s : State) (events : List Event) → AllTell events → (after_events s events).nodes ≡ s.nodes
-telling_leaves s [] tells = refl
-telling_leaves s (event ∷ events) tells =
-    telling_leaves (after_event s event) events tells.1 ∙ nodes_are_left s event.actor event.step tells.0
 
 object_meant : (m : Meant) (handle : Handle) (names : List (List ℕ)) → IsMeant m (found handle names) → meaning.found (resolution m) ≡ Ok handle.node
 object_meant (object x b reads) handle names is = ap Ok (sym is)

@@ -7,7 +7,7 @@ use Rattle.root_ops.specs.MeaningWorked.{CALLER}
 use Rattle.root_ops.specs.Order.{done}
 use Rattle.root_ops.specs.Quiet.{IsQuiet, ClosesWhatIsOpen}
 use Rattle.root_ops.specs.QuietWorked.{rename_lines, rename_call, RenameIsWorked}
-use Rattle.root_ops.proofs.Quiet.WalksAlone.{by_own}
+use Rattle.bulk_ops.proofs.MakingAlone.WalkFirst.{by_own}
 use Rattle.root_ops.proofs.Quiet.CallsAlone.{quiet_calls_mean}
 
 called : IsCallInHistory rename_call

@@ -2,7 +2,8 @@
 use fixtures::{BENEATH, BOTH, NO_LINKS, PLAIN};
 use path_text::Flags;
 
-/// The root's node; whether a link at the very end is followed; the restrictions; what is wanted, and how many lines that is.
+/// The root's node; whether a link at the very end is followed; the restrictions; what is wanted, and how many lines
+/// that is.
 pub type Table<'a> = (u64, bool, Flags, &'a str, u64);
 
 const BASE_FOLLOWED: &str = "\

@@ -22,11 +22,12 @@ use Rattle.step_resolver.specs.FootprintLaws as quiet_walk
 use Rattle.step_resolver.specs.WalkHistory.{WalkInHistory, IsWalkInHistory, begin_of, end_of, state_at, timeline}
 use Rattle.step_resolver.proofs.Ends.EveryWalk.{walks_tell}
 use Rattle.step_resolver.proofs.Ends.WalksMean.{quiet_walks_mean}
+use Rattle.step_resolver.proofs.DrivenWalks.{joined_events}
 use Rattle.bulk_ops.specs.RemoveAllOrder.{Turn, more, removed, failed, walked, begins, LeadsTo}
-use Rattle.bulk_ops.specs.RemoveAllTells.{removals, OnlyTakesAway, IsLastOnTarget, TellsFault, first_part, Parts, clears, TellsGivenUp, TellsWalkFailed, Tells}
+use Rattle.bulk_ops.specs.RemoveAllTells.{removals, OnlyTakesAway, IsLastOnTarget, TellsFault, walk_part, Parts, clearing_part, TellsGivenUp, TellsWalkFailed, Tells}
 use Rattle.bulk_ops.specs.RemoveAllQuiet.{is_at_or_below, cleared, cleared_rows, directory_means, IsFoundAt, QuietRemoved, MeansFailure, QuietFailed, is_short, IsQuietEnd, QuietRemoveAll}
 use Rattle.bulk_ops.proofs.RemovingAll.EachEnd.{every_call_tells}
-use Rattle.bulk_ops.proofs.RemovingAll.Parts.{events_of-append, walk_removes_none}
+use Rattle.bulk_ops.proofs.RemovingAll.Parts.{walk_removes_none}
 use Rattle.bulk_ops.proofs.RemovingAll.Quiet.Gone.{placed, placed-without}
 use Rattle.bulk_ops.proofs.RemovingAll.Quiet.Falls.{removal_events, removals-events, removal_events-append, falls, all_own}
 use Rattle.bulk_ops.proofs.RemovingAll.Quiet.FirstStep.{after_walk, removes_none, same_rest}
@@ -57,10 +58,10 @@ fails_so w (fails cause reads) error e is = record { reads = reads; means = e �
 
 module _ (w : WalkInHistory) (target : List ℕ) (is : IsWalkInHistory w) (quiet : IsQuiet w) (shallow : is_deepest w.way.goal ≡ false) (parts : Parts w) where
   abbrev first : WalkInHistory
-  first = first_part w parts.walk_window parts.walk_lines
+  first = walk_part w parts.walk_window parts.walk_lines
 
   abbrev second : WalkInHistory
-  second = clears w parts
+  second = clearing_part w parts
 
   abbrev dir : ℕ
   dir = parts.handle.node
@@ -111,7 +112,7 @@ module _ (w : WalkInHistory) (target : List ℕ) (is : IsWalkInHistory w) (quiet
       ap removal_events (sym (all_own w.actor parts.walk_window first_quiet) ∙ parts.is_walk.own) in
       let lines : removals w.lines ≡ removal_events (events_of w.actor parts.walk_lines) + removal_events (events_of w.actor parts.lines) =
       ap removals parts.all_lines ∙ removals-events w.actor (parts.walk_lines ++ parts.lines)
-      ∙ ap removal_events (events_of-append w.actor parts.walk_lines parts.lines)
+      ∙ ap removal_events (joined_events w.actor parts.walk_lines parts.lines)
       ∙ removal_events-append (events_of w.actor parts.walk_lines) (events_of w.actor parts.lines) in
       let none : removals w.lines ≡ removal_events (events_of w.actor parts.lines) =
       ap removals parts.all_lines
@@ -156,7 +157,7 @@ module _ (w : WalkInHistory) (target : List ℕ) (is : IsWalkInHistory w) (quiet
   pub window_is : parts.window ≡ events_of w.actor parts.lines
   window_is = same_rest parts.walk_window parts.window (events_of w.actor parts.lines)
       (sym parts.windows ∙ sym (all_own w.actor w.window quiet) ∙ is.own ∙ ap (events_of w.actor) parts.all_lines
-      ∙ events_of-append w.actor parts.walk_lines parts.lines
+      ∙ joined_events w.actor parts.walk_lines parts.lines
       ∙ ap (λ es. es ++ events_of w.actor parts.lines) (sym parts.is_walk.own ∙ all_own w.actor parts.walk_window first_quiet))
 
   -- what is no directory is never cleared

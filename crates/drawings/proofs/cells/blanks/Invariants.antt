@@ -1,5 +1,5 @@
 use Rattle.std.proofs.Common.{◌≡◌, ◌++◌, replicate}
-use Rattle.transcript.specs.Words.{BLANK}
+use Rattle.step_text.specs.Words.{BLANK}
 use Rattle.drawings.proofs.cells.blanks.Given as goal
 
 -- so many blanks are written

@@ -3,7 +3,7 @@ use Rattle.std.specs.Prelude.{All}
 use Rattle.std.proofs.lemmas.List.{take_all}
 use Rattle.std.proofs.lemmas.List.Elements.{All-more}
 use Rattle.std.proofs.lemmas.Option.{slice_get_read}
-use Rattle.report_text.proofs.Numbered.{numbered_more}
+use Rattle.report_text.proofs.AddedLines.{numbered_more}
 use Rattle.drawings.specs.declared.picture.Head.{Head}
 use Rattle.drawings.specs.DrawingLaws.{AreBytes}
 use Rattle.drawings.specs.Svg.{svg_heading}

@@ -1,7 +1,7 @@
 use Rattle.std.proofs.Common.{◌≡◌, ◌≤◌, ◌++◌, ◌∷◌, [], List, subst, length, arith}
 use Rattle.explore.specs.Explored.{ClassView}
 use Rattle.explore.specs.Tally.{IsPlace}
-use Rattle.explore.proofs.Endings.{has_there, put_keeps, put_there, put_new, put_apart}
+use Rattle.explore.proofs.Layers.Endings.{has_there, put_keeps, put_there, put_new, put_apart}
 use Rattle.explore.proofs.ends.class_at.Goals as goal
 
 pub returns-then-at-len-clause-there : goal.returns-then-at-len-clause-there

@@ -2,8 +2,8 @@ use Rattle.std.proofs.Common.{◌≡◌, ◌∙◌, ◌⊎◌, ◌++◌, ◌∷�
 use Rattle.std.specs.Iterator.Adapters.{zip_first, zip_second}
 use Rattle.std.specs.Slice.Iter.{iter_rest}
 use Rattle.std.specs.Vec.Iter.{into_iter_items}
-use Rattle.turn_graph.specs.declared.graph.Spot.{Spot}
-use Rattle.explore.proofs.Endings.{spotted_none, spotted_more, spotted_all, spotted_each}
+use Rattle.schedule_graph.specs.declared.graph.Spot.{Spot}
+use Rattle.explore.proofs.Layers.Endings.{spotted_none, spotted_more, spotted_all, spotted_each}
 use Rattle.explore.proofs.ends.spots_of.Goals as goal
 
 pub loop-stand-init : goal.loop-stand-init

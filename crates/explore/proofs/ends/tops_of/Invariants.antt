@@ -1,5 +1,5 @@
 use Rattle.std.specs.Vec.Iter.{into_iter_items, into_iter_len}
-use Rattle.explore.proofs.Endings.{AreEnded}
+use Rattle.explore.proofs.Layers.Endings.{AreEnded}
 use Rattle.explore.proofs.ends.tops_of.Given as goal
 
 abbrev pub invariant-lives : goal.invariant-lives

@@ -1,19 +1,21 @@
 use Rattle.std.proofs.Common.{◌≡◌, [], length, subst}
 use Rattle.race_core.specs.Worlds.{WorldView, RunsTo}
-use Rattle.explore.specs.Layers.{LiveView, IsLed, IsSure, IsReportOf}
+use Rattle.explore.specs.Layers.{LiveView, IsReportOf}
 use Rattle.explore.specs.Search.{IsOver}
-use Rattle.explore.proofs.Counting.{counts_there}
-use Rattle.explore.proofs.Grown.{surely, is_report, replies_many}
+use Rattle.explore.proofs.Counts.Counting.{counts_there}
+use Rattle.explore.specs.Want.{EndsWell}
+use Rattle.explore.proofs.Wants.Followed.{ends_well}
+use Rattle.explore.proofs.Layers.Grown.{is_report, replies_many}
 use Rattle.explore.proofs.growing.ended.Goals as goal
 
-pub returns-clause-sure : goal.returns-clause-sure
-returns-clause-sure g c =
+pub returns-clause-well : goal.returns-clause-well
+returns-clause-well g c =
     let live : LiveView = record { told = c.live.inside.tally.told; world = c.live.inside.seen; marks = c.live.inside.marks; turns = c.live.inside.turns.items } in
     let ran : RunsTo live.world [] (g.T.Tree.state c.in_ok-report.report.tree) c.in_ok-report.report.events.events c.in_ok-report.report.replies.items c.in_ok-report.report.kept.items =
     subst (λ (v : WorldView). RunsTo v [] (g.T.Tree.state c.in_ok-report.report.tree) c.in_ok-report.report.events.events c.in_ok-report.report.replies.items c.in_ok-report.report.kept.items)
     c.into_world.ensures c.in_ok-report.ensures.ran in
-    subst (λ (l : LiveView). (w : WorldView) → IsLed w l → IsSure w l) c.live.view_is
-    (surely live (g.T.Tree.state c.in_ok-report.report.tree) c.in_ok-report.report.events.events
+    subst (λ (l : LiveView). EndsWell l.world) c.live.view_is
+    (ends_well live.world (g.T.Tree.state c.in_ok-report.report.tree) c.in_ok-report.report.events.events
     c.in_ok-report.report.replies.items c.in_ok-report.report.kept.items ran c.in_ok-report.ensures.none)
 
 pub returns-clause-report : goal.returns-clause-report

@@ -1,7 +1,7 @@
 use Rattle.std.proofs.Common.{◌∙◌, get_or}
 use Rattle.explore.specs.Points.{Point, start}
-use Rattle.explore.proofs.Grown.{goes_turn_at}
-use Rattle.explore.proofs.Turning.{turn_within, turn_actors}
+use Rattle.explore.proofs.Layers.Grown.{goes_turn_at}
+use Rattle.explore.proofs.Lists.Turning.{turn_within, turn_actors}
 use Rattle.explore.proofs.growing.take_turns.Goals as goal
 
 pub loop-actor-preserved : goal.loop-actor-preserved

@@ -1,5 +1,5 @@
-use Rattle.explore.proofs.OutsideAlike.{same_turns}
-use Rattle.explore.proofs.Worlds.{alike_turns, busy_alike, tell_alike, ends_alike}
+use Rattle.explore.proofs.Alike.OutsideAlike.{same_turns}
+use Rattle.explore.proofs.Alike.Worlds.{alike_turns, busy_alike, tell_alike, ends_alike}
 use Rattle.explore.proofs.laws.alike_worlds_go_alike.Goals as goal
 
 pub returns : goal.returns

@@ -1,4 +1,4 @@
-use Rattle.explore.proofs.Calls.{calls_begin_blindly, steps_are_due_blindly, answers_are_taken_blindly}
+use Rattle.explore.proofs.Alike.Calls.{calls_begin_blindly, steps_are_due_blindly, answers_are_taken_blindly}
 use Rattle.explore.proofs.laws.calls_are_blind.Goals as goal
 
 pub returns : goal.returns

@@ -1,4 +1,4 @@
-use Rattle.explore.proofs.SearchLaws.{chosen_lists_stand, reports_are_full, full_lists_are_reported}
+use Rattle.explore.proofs.Lists.SearchLaws.{chosen_lists_stand, reports_are_full, full_lists_are_reported}
 use Rattle.explore.proofs.laws.chosen_lists_stand_for_all.Goals as goal
 
 pub returns : goal.returns

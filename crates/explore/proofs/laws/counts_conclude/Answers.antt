@@ -1,4 +1,4 @@
-use Rattle.explore.proofs.Concluded.{found_have_leasts, counts_conclude}
+use Rattle.explore.proofs.Counts.Concluded.{found_have_leasts, counts_conclude}
 use Rattle.explore.proofs.laws.counts_conclude.Goals as goal
 
 pub returns : goal.returns

@@ -1,4 +1,4 @@
-use Rattle.explore.proofs.WantWorlds.{want_is_told, want_stays, runs_are_full}
+use Rattle.explore.proofs.Wants.WantWorlds.{want_is_told, want_stays, runs_are_full}
 use Rattle.explore.proofs.laws.want_is_told.Goals as goal
 
 pub returns : goal.returns

@@ -1,4 +1,4 @@
-use Rattle.explore.proofs.Merged.{words_are_lists}
+use Rattle.explore.proofs.Counts.Merged.{words_are_lists}
 use Rattle.explore.proofs.laws.words_are_lists.Goals as goal
 
 pub returns : goal.returns

@@ -2,7 +2,7 @@ use Rattle.std.proofs.Common.{◌≡◌, ◌∙◌, ◌++◌, ap}
 use Rattle.std.specs.Prelude.{slice_get}
 use Rattle.tree_model.specs.Steps.{node_held}
 use Rattle.race_core.specs.Renamed.{seat_handles}
-use Rattle.explore.proofs.Counting.{first_is, none_first}
+use Rattle.explore.proofs.Counts.Counting.{first_is, none_first}
 use Rattle.explore.proofs.outside.root_of.Goals as goal
 
 pub returns-in-Some : goal.returns-in-Some

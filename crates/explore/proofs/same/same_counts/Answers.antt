@@ -1,6 +1,6 @@
 use Rattle.std.proofs.Common.{◌≡◌, ℕ, ◌∙◌, sym, subst, ⊎_elim}
 use Rattle.tree_model.specs.Steps.{held_count}
-use Rattle.explore.proofs.Indices.{at_or_below}
+use Rattle.explore.proofs.Lists.Indices.{at_or_below}
 use Rattle.explore.proofs.same.same_counts.Goals as goal
 
 pub loop-at-preserved : goal.loop-at-preserved

@@ -1,10 +1,10 @@
 use Rattle.std.proofs.Common.{◌≡◌, ◌∙◌, List, sym, ap, subst, length, arith}
 use Rattle.race_core.specs.Worlds.{WorldView}
-use Rattle.turn_graph.specs.declared.count.Count.{Count}
+use Rattle.schedule_graph.specs.declared.count.Count.{Count}
 use Rattle.explore.specs.Concluded.{AreShort, AskIn, AreToldIn}
-use Rattle.explore.proofs.Concluded.{counts_conclude}
-use Rattle.explore.proofs.Fitting.{Fits, fits}
-use Rattle.explore.proofs.Merges.{leasts_short, all_told}
+use Rattle.explore.proofs.Counts.Concluded.{counts_conclude}
+use Rattle.explore.proofs.Layers.Fitting.{Fits, fits}
+use Rattle.explore.proofs.Counts.Merges.{leasts_short, all_told}
 use Rattle.explore.proofs.search.explore.Goals as goal
 
 pub told_classes-requires : goal.told_classes-requires

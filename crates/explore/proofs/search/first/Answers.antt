@@ -1,8 +1,8 @@
 use Rattle.std.proofs.Common.{◌++◌, ◌∷◌, [], List, ◌∙◌, ap, refl}
 use Rattle.explore.specs.declared.layer.Stand.{Stand}
 use Rattle.explore.specs.Layers.{LiveView}
-use Rattle.explore.proofs.Merges.{first_world, told_first}
-use Rattle.explore.proofs.Passing.{first_on}
+use Rattle.explore.proofs.Counts.Merges.{first_world, told_first}
+use Rattle.explore.proofs.Layers.Passing.{first_on}
 use Rattle.explore.proofs.search.first.Goals as goal
 
 pub returns-clause-first : goal.returns-clause-first

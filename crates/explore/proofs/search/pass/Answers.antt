@@ -1,10 +1,10 @@
-use Rattle.std.proofs.Common.{◌≡◌, ◌<◌, ◌≤◌, ◌∙◌, ℕ, List, Option, length, sym, ap, subst}
+use Rattle.std.proofs.Common.{◌≡◌, ◌<◌, ◌≤◌, ◌∙◌, ℕ, List, Option, length, sym, ap, subst, rules}
 use Rattle.std.specs.Prelude.{slice_get, Some}
-use Rattle.race_core.specs.Worlds.{WorldView}
 use Rattle.race_core.specs.declared.opening.TheConstants.{ACTORS_MAX}
 use Rattle.explore.specs.declared.layer.Stand.{Stand}
-use Rattle.explore.specs.Layers.{LiveView, LayerView, AreLed, AreSure, AreTops, AreFoundIn}
-use Rattle.explore.proofs.Merges.{ways_apart, tops_cover, spots_are}
+use Rattle.explore.specs.Explored.{WhyNot}
+use Rattle.explore.specs.Layers.{LiveView, LayerView, AreWell, AreTops, AreFoundIn}
+use Rattle.explore.proofs.Counts.Merges.{ways_apart, tops_cover, spots_are}
 use Rattle.explore.proofs.search.pass.Goals as goal
 
 pub all_ended-ended-requires : goal.all_ended-ended-requires
@@ -18,17 +18,21 @@ spots_of-requires-clause-on g c =
     let tops : AreTops c.all_ended-ended.new.classes.items c.args.layer.worlds c.in-Ok.tops.items =
     subst (λ (l : LayerView). AreTops c.all_ended-ended.new.classes.items l.worlds c.in-Ok.tops.items) c.layer.view_is c.in-Ok.ensures.tops in
     λ s stand there. subst (λ (ts : List (Option ℕ)). stand.world < length ts) (sym c.as_slice-2.ensures.value)
-    (tops_cover (g.B.Beginnings.opening c.args.beginnings.now) c.args.limits.scope c.args.layer c.in_ok-ways.next (length c.args.graph.now) c.requires.on
+    (tops_cover c.args.limits.scope c.args.layer c.in_ok-ways.next (length c.args.graph.now) c.requires.on
     c.all_ended-ended.new.classes.items c.in-Ok.tops.items tops s stand (ap (λ (xs : List Stand). slice_get xs s) (sym stands) ∙ there))
 
 pub spots_of-requires-clause-apart : goal.spots_of-requires-clause-apart
 spots_of-requires-clause-apart g c =
-    ways_apart (g.B.Beginnings.opening c.args.beginnings.now) c.args.limits.scope c.args.layer c.in_ok-ways.next (length c.args.graph.now) c.requires.on
+    ways_apart c.args.limits.scope c.args.layer c.in_ok-ways.next (length c.args.graph.now) c.requires.on
     c.in_ok-ways.ways.items c.in_ok-ways.ensures.ways
+
+pub returns-in_err-ways-clause-err : goal.returns-in_err-ways-clause-err
+returns-in_err-ways-clause-err g c = λ w.
+    let why : WhyNot w c.args.limits c.in_err-ways.field-0.0 = c.in_err-ways.ensures.err w in
+    search rules
 
 pub returns-clause-passed : goal.returns-clause-passed
 returns-clause-passed g c =
-    let w : WorldView = g.B.Beginnings.opening c.args.beginnings.now in
     let stands : c.as_slice.result.now ≡ c.args.layer.stands = c.as_slice.ensures.value ∙ ap (λ (l : LayerView). l.stands) c.layer.view_is in
     let tops : AreTops c.all_ended-ended.new.classes.items c.args.layer.worlds c.in-Ok.tops.items =
     subst (λ (l : LayerView). AreTops c.all_ended-ended.new.classes.items l.worlds c.in-Ok.tops.items) c.layer.view_is c.in-Ok.ensures.tops in (
@@ -38,8 +42,8 @@ returns-clause-passed g c =
         record {
           joined = c.in_ok-ways.ensures.joined;
           on = c.in_ok-ways.ensures.on (length c.args.graph.now) c.requires.on;
-          sure = subst (λ (l : LayerView). AreLed w l.worlds → AreSure w l.worlds) c.layer.view_is (c.in-Ok.ensures.sure w) c.requires.led;
-          spots = spots_are w c.args.limits.scope c.args.layer c.in_ok-ways.next (length c.args.graph.now) c.requires.on
+          well = subst (λ (l : LayerView). AreWell l.worlds) c.layer.view_is c.in-Ok.ensures.well;
+          spots = spots_are c.args.limits.scope c.args.layer c.in_ok-ways.next (length c.args.graph.now) c.requires.on
               c.all_ended-ended.new.classes.items c.in_ok-ways.ways.items c.in-Ok.tops.items c.in-Ok-spots_of.spots.items c.in_ok-ways.ensures.ways tops
               (c.in-Ok-spots_of.ensures.many ∙ ap length stands)
               (λ s stand ways top there on is. c.in-Ok-spots_of.ensures.each s stand ways top (ap (λ (xs : List Stand). slice_get xs s) stands ∙ there) on

@@ -1,12 +1,11 @@
-use Rattle.std.proofs.Common.{◌≡◌, [], suc, List, ◌∙◌, sym, ap, subst, length, vec_len, ◌==◌, false, arith}
-use Rattle.std.proofs.lemmas.Bool.{true≢false, eqb-true, eqb-false}
+use Rattle.std.proofs.Common.{◌≡◌, [], suc, List, ◌∙◌, sym, ap, subst, length, vec_len, ◌==◌, false, arith, rules}
+use Rattle.std.proofs.lemmas.Bool.{true≢false, eqb-true}
 use Rattle.std.specs.Global.{Vec}
 use Rattle.race_core.specs.Worlds.{WorldView}
-use Rattle.turn_graph.specs.declared.graph.Spot.{Spot}
-use Rattle.explore.specs.Explored.{ClassView}
+use Rattle.schedule_graph.specs.declared.graph.Spot.{Spot}
+use Rattle.explore.specs.Explored.{ClassView, WhyNot}
 use Rattle.explore.specs.Layers.{LayerView, HasSearched}
-use Rattle.explore.proofs.Merges.{born_led}
-use Rattle.explore.proofs.Passing.{length_push, passes, begun, first_led, last_on, left_long, none_left}
+use Rattle.explore.proofs.Layers.Passing.{length_push, passes, begun, last_on, left_long, none_left}
 use Rattle.explore.proofs.search.search.Goals as goal
 use Rattle.explore.proofs.search.search.Goals.{then-layers-test+else-depth-limits, else-layers-test}
 
@@ -18,8 +17,6 @@ layers-init g c =
           subst (λ (graph : List (Vec Spot)). HasSearched w c.args.limits.scope c.in_ok-layer.layer graph c.args.classes.now.items) (sym c.requires.graph)
           (subst (λ (classes : List ClassView). HasSearched w c.args.limits.scope c.in_ok-layer.layer [] classes) (sym c.requires.classes)
           (begun w c.args.limits.scope c.in_ok-layer.layer c.in_ok-layer.ensures.first c.in_ok-layer.ensures.on));
-      led = first_led w c.args.limits.scope c.in_ok-layer.layer c.in_ok-layer.ensures.first c.in_ok-layer.ensures.on;
-      actors = c.in_ok-layer.ensures.actors;
       depth = omega (arith, none);
       states = c.in_ok-layer.ensures.states;
     }
@@ -38,29 +35,30 @@ layers-preserved g c =
           subst (λ (graph : List (Vec Spot)). HasSearched w c.args.limits.scope c.in_ok-next.next graph c.pass.new.classes.items) (sym passed.1.0)
           (passes w c.args.limits.scope c.layers.layer c.in_ok-next.next c.layers.graph passed.0 c.layers.classes.items c.pass.new.classes.items
           c.layers.invariant.searched passed.1.1);
-      led = born_led w c.args.limits.scope c.layers.layer c.in_ok-next.next passed.1.1.joined;
-      actors = c.layers.invariant.actors;
       depth = omega (arith, long, c.if-depth-limits.true, c.depth.ensures);
       states = omega (arith, room, c.layers.invariant.states);
     }
 
-pub returns-then-not-over-clause-err : goal.returns-then-not-over-clause-err
-returns-then-not-over-clause-err g c =
-    let many : vec_len c.layer.inside.stands ≡ length c.layers.layer.stands =
-    c.layer.inside.stands.ok.0 ∙ ap (λ (l : LayerView). length l.stands) c.layer.view_is in
-    let some : (vec_len c.layer.inside.stands == 0) ≡ false = sym c.is_empty-over.ensures ∙ c.if-not-over.true in
-    let none : (vec_len c.layer.inside.stands ≡ 0) → ⊥ = eqb-false (vec_len c.layer.inside.stands) 0 some in
+pub returns-in_err-next-clause-err : goal.returns-in_err-next-clause-err
+returns-in_err-next-clause-err g c =
+    let w : WorldView = g.B.Beginnings.opening c.args.beginnings.now in
+    let why : WhyNot w c.args.limits c.in_err-next.field-0.0 = c.in_err-next.ensures.err w in
+    search rules
+
+pub returns-then-leave_well-clause-err : goal.returns-then-leave_well-clause-err
+returns-then-leave_well-clause-err g c =
+    let some : (vec_len c.layer.inside.stands == 0) ≡ false = sym c.is_empty-2.ensures ∙ c.if-is_empty.false in
     left_long (g.B.Beginnings.opening c.args.beginnings.now) c.args.limits.scope c.layers.layer c.layers.graph c.layers.classes.items c.layers.invariant.searched
     c.args.limits.turns
     (elim c.layers-test.branch [
       | then-layers-test+else-depth-limits w ↦ omega (arith, w.depth.ensures, w.if-depth-limits.false)
       | else-layers-test w ↦ absurd (true≢false (sym w.layers-test.false ∙ (c.is_empty.ensures ∙ some)))
     ])
-    (omega (arith, many, none))
+    (c.leave_well.ensures c.if-leave_well.true)
 
-pub returns-clause-searched : goal.returns-clause-searched
-returns-clause-searched g c =
+pub returns-then-is_empty-clause-searched : goal.returns-then-is_empty-clause-searched
+returns-then-is_empty-clause-searched g c =
     let many : vec_len c.layer.inside.stands ≡ length c.layers.layer.stands =
     c.layer.inside.stands.ok.0 ∙ ap (λ (l : LayerView). length l.stands) c.layer.view_is in
-    let over : vec_len c.layer.inside.stands ≡ 0 = eqb-true (vec_len c.layer.inside.stands) 0 (sym c.is_empty-over.ensures ∙ c.if-not-over.false) in
+    let over : vec_len c.layer.inside.stands ≡ 0 = eqb-true (vec_len c.layer.inside.stands) 0 (sym c.is_empty-2.ensures ∙ c.if-is_empty.true) in
     (c.layers.layer, (none_left c.layers.layer.stands (sym many ∙ over), c.layers.invariant.searched))

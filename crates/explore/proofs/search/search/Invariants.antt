@@ -1,13 +1,10 @@
 use Rattle.std.proofs.Common.{◌≤◌, ◌+◌, ◌-◌, length}
-use Rattle.race_core.specs.declared.opening.TheConstants.{ACTORS_MAX}
-use Rattle.explore.specs.Layers.{AreLed, HasSearched}
+use Rattle.explore.specs.Layers.{HasSearched}
 use Rattle.explore.proofs.search.search.Given as goal
 
 abbrev pub invariant-layers : goal.invariant-layers
 invariant-layers g l = record {
   searched : HasSearched (g.B.Beginnings.opening l.beginnings) l.limits.scope l.layer l.graph l.classes.items;
-  led : AreLed (g.B.Beginnings.opening l.beginnings) l.layer.worlds;
-  actors : length (g.B.Beginnings.opening l.beginnings).seats ≤ ACTORS_MAX;
   depth : length l.graph ≤ l.limits.turns + 1;
   states : l.states ≤ l.limits.states;
 }

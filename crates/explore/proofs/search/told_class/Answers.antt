@@ -1,8 +1,11 @@
 use Rattle.std.proofs.Common.{◌≡◌, ◌++◌, ℕ, List, ◌∙◌, sym, ap, subst, refl}
 use Rattle.race_core.specs.Worlds.{WorldView}
-use Rattle.turn_graph.specs.Words.{Rank}
+use Rattle.schedule_graph.specs.Words.{Rank}
 use Rattle.explore.specs.Explored.{IsAsked}
-use Rattle.explore.proofs.Merges.{asked_ends}
+use Rattle.explore.specs.Layers.{IsSure, point_of}
+use Rattle.explore.specs.Points.{start}
+use Rattle.explore.proofs.Wants.Lucky.{goes_full}
+use Rattle.explore.proofs.Counts.Merges.{asked_ends}
 use Rattle.explore.proofs.search.told_class.Goals as goal
 
 pub returns : goal.returns
@@ -17,6 +20,7 @@ returns g c = record {
       ∙ (c.as_slice.ensures.value ∙ ap (λ (r : Rank). r.turns) c.least.view_is))) in
       let asked : IsAsked w scope c.in-Ok.live.turns =
       subst (λ (is : List ℕ). IsAsked w scope is) (sym turns) (asks c.in-Some.least c.in-Some.is) in
-      let told = asked_ends w scope c.in-Ok.live c.in_ok-ending.ending c.in-Ok.ensures.told (c.in_ok-ending.ensures.sure w c.in-Ok.ensures.led) asked c.in_ok-ending.ensures.report in
+      let sure : IsSure w c.in-Ok.live = goes_full (start w) (point_of c.in-Ok.live) c.in-Ok.live.turns c.in-Ok.ensures.led c.in_ok-ending.ensures.well in
+      let told = asked_ends w scope c.in-Ok.live c.in_ok-ending.ending c.in-Ok.ensures.told sure asked c.in_ok-ending.ensures.report in
       record { ending = told.0; least = c.in-Some.least; counted = c.in-Some.is; turns = told.1 ∙ turns; lists = refl };
 }

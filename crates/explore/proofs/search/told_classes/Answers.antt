@@ -1,7 +1,7 @@
 use Rattle.std.proofs.Common.{◌≡◌, suc, ◌∙◌, ap, refl, length, arith}
 use Rattle.std.proofs.lemmas.Option.{slice_get_read}
-use Rattle.explore.proofs.Merges.{told_push}
-use Rattle.explore.proofs.Passing.{length_push}
+use Rattle.explore.proofs.Counts.Merges.{told_push}
+use Rattle.explore.proofs.Layers.Passing.{length_push}
 use Rattle.explore.proofs.search.told_classes.Goals as goal
 
 pub loop-count-preserved : goal.loop-count-preserved

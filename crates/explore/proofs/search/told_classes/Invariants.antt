@@ -1,4 +1,4 @@
-use Rattle.std.proofs.Common.{◌≡◌, ℕ, Option, length}
+use Rattle.std.proofs.Common.{◌≡◌, length}
 use Rattle.explore.specs.Concluded.{AskIn, AreToldIn}
 use Rattle.explore.proofs.search.told_classes.Given as goal
 

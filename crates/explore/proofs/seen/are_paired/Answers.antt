@@ -1,7 +1,7 @@
 use Rattle.std.proofs.Common.{sym, ◌∙◌, refl, arith}
 use Rattle.std.proofs.lemmas.Bool.{true≢false, false≢true}
 use Rattle.explore.specs.Paired.{AreAt}
-use Rattle.explore.proofs.PairedLists.{at_places, paired_more, paired_all}
+use Rattle.explore.proofs.Alike.PairedLists.{at_places, paired_more, paired_all}
 use Rattle.explore.proofs.seen.are_paired.Goals as goal
 
 pub returns-then-not-are_open_alike : goal.returns-then-not-are_open_alike

@@ -1,5 +1,5 @@
 use Rattle.std.proofs.Common.{arith}
-use Rattle.explore.proofs.PairedLists.{handles_more}
+use Rattle.explore.proofs.Alike.PairedLists.{handles_more}
 use Rattle.explore.proofs.seen.handles_of.Goals as goal
 
 pub loop-actor-preserved : goal.loop-actor-preserved

@@ -1,5 +1,5 @@
 use Rattle.std.proofs.Common.{sym, ◌∙◌, arith}
-use Rattle.explore.proofs.Ranks.{past_end}
+use Rattle.explore.proofs.Lists.Ranks.{past_end}
 use Rattle.explore.proofs.tally.is_not_after.Goals as goal
 
 pub returns-then-at-others : goal.returns-then-at-others

@@ -5,7 +5,7 @@ use Rattle.explore.proofs.ways.all_ways.Given as goal
 abbrev pub invariant-loop-at : goal.invariant-loop-at
 invariant-loop-at g l = record {
   many : length l.all.items ≡ l._at;
-  ways : AreFirstWays (g.B.Beginnings.opening l.beginnings) l.limits.scope l.layer l.next l.all.items;
-  next : IsNext (g.B.Beginnings.opening l.beginnings) l.limits.scope l.layer l.next;
+  ways : AreFirstWays l.limits.scope l.layer l.next l.all.items;
+  next : IsNext l.limits.scope l.layer l.next;
   room : l.states ≤ l.room;
 }

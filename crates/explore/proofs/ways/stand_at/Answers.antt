@@ -1,5 +1,5 @@
 use Rattle.std.proofs.Common.{◌≡◌, length, arith}
-use Rattle.explore.proofs.WaysFound.{pushed_there, pushed_new}
+use Rattle.explore.proofs.Layers.WaysFound.{pushed_there, pushed_new}
 use Rattle.explore.proofs.ways.stand_at.Goals as goal
 
 pub returns-clause-there : goal.returns-clause-there

@@ -3,8 +3,8 @@ use Rattle.race_core.specs.declared.seat.Seat.{Seat}
 use Rattle.race_core.specs.Worlds.{WorldView}
 use Rattle.explore.specs.Layers.{LiveView}
 use Rattle.explore.specs.Points.{marks_after}
-use Rattle.explore.proofs.WantWorlds.{ap_at, join}
-use Rattle.explore.proofs.WaysFound.{copied_on, way_is}
+use Rattle.explore.proofs.Wants.WantWorlds.{ap_at, join}
+use Rattle.explore.proofs.Layers.WaysFound.{copied_on, way_is}
 use Rattle.explore.proofs.ways.way_to.Goals as goal
 
 pub returns-clause-way : goal.returns-clause-way

@@ -1,4 +1,4 @@
-use Rattle.std.proofs.Common.{◌≡◌, ◌≤◌, ◌<◌, ◌+◌, ◌^◌, length}
+use Rattle.std.proofs.Common.{◌≡◌, ◌≤◌, ◌^◌, length}
 use Rattle.std.specs.Prelude.{slice_get, Some}
 use Rattle.race_core.specs.declared.opening.TheConstants.{ACTORS_MAX}
 use Rattle.explore.specs.Points.{AreWithin}
@@ -11,9 +11,8 @@ invariant-loop-at g l = record {
   on : slice_get l.layer.worlds l.stand.world ≡ Some l.live;
   world : l.world ≡ l.live.world;
   few : length l.world.seats ≤ ACTORS_MAX;
-  long : length l.stand.turns.items + 1 < 2 ^ 40;
   within : AreWithin l.stand.marks (2 ^ 40);
   grows : Grows l.fn.next l.next;
-  next : IsNext (g.B.Beginnings.opening l.beginnings) l.scope l.layer l.next;
-  ways : AreWaysBelow (g.B.Beginnings.opening l.beginnings) l.scope l.layer l.next l.stand l.live l.at l.ways.items;
+  next : IsNext l.scope l.layer l.next;
+  ways : AreWaysBelow l.scope l.layer l.next l.stand l.live l.at l.ways.items;
 }

@@ -1,6 +1,6 @@
 use Rattle.report_text.specs.Report.{event_line, event_lines}
 use Rattle.std.proofs.Common.{◌++◌, arith}
-use Rattle.report_text.proofs.Numbered.{numbered_next}
+use Rattle.report_text.proofs.AddedLines.{numbered_next}
 use Rattle.report_text.proofs.history.events.Goals as goal
 
 pub loop-at-preserved : goal.loop-at-preserved

@@ -1,4 +1,4 @@
-use Rattle.std.proofs.Common.{◌≡◌, subst, sym, ◌∙◌, rules}
+use Rattle.std.proofs.Common.{◌≡◌, subst, sym, rules}
 use Rattle.std.specs.Prelude.{IfErr}
 use Rattle.serde_json.specs.View.{view, items_view}
 use Rattle.tree_model.specs.State.{TOP}
@@ -17,8 +17,8 @@ returns-clause-ok c =
     (record {
       items = items_view c.in-Some.entries.now;
       actor = view c.in-Some-first_actor_of.actor.now;
-      object = sym c.is_no_object.ensures ∙ c.if-is_no_object.false;
-      version = sym c.has_version.ensures ∙ c.if-not-has_version.false;
+      version = c.in_ok-_version._version;
+      head = c.in_ok-_version.ensures.ok;
       entries = search rules;
       tree = c.in_ok-tree.ensures.ok.0;
       first = search rules;
@@ -33,8 +33,8 @@ returns-in_err-root-clause-err c =
     (record {
       items = items_view c.in-Some.entries.now;
       actor = view c.in-Some-first_actor_of.actor.now;
-      object = sym c.is_no_object.ensures ∙ c.if-is_no_object.false;
-      version = sym c.has_version.ensures ∙ c.if-not-has_version.false;
+      version = c.in_ok-_version._version;
+      head = c.in_ok-_version.ensures.ok;
       entries = search rules;
       tree = c.in_ok-tree.ensures.ok.0;
       first = search rules;

@@ -1,4 +1,4 @@
-use Rattle.turn_graph.specs.Words.{IsLayer}
+use Rattle.schedule_graph.specs.Words.{IsLayer}
 use Rattle.search_tests.proofs.graphs.layer_of.Given as goal
 
 abbrev pub invariant-loop-drawn : goal.invariant-loop-drawn

@@ -1,6 +1,6 @@
 use Rattle.std.proofs.Common.{◌≡◌, ℕ, length, Some}
 use Rattle.std.specs.Prelude.{slice_get}
-use Rattle.turn_graph.specs.declared.graph.Way.{Way}
+use Rattle.schedule_graph.specs.declared.graph.Way.{Way}
 use Rattle.search_tests.proofs.graphs.ways_of.Given as goal
 
 abbrev pub invariant-loop-at : goal.invariant-loop-at

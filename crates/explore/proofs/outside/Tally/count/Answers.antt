@@ -4,7 +4,7 @@ use Rattle.tree_model.specs.declared.answer.Event.{Event}
 use Rattle.race_core.specs.Book.{BookedHistory, tree_now}
 use Rattle.explore.specs.Counting.{TallyView, bumped}
 use Rattle.explore.specs.Outside.{changed_by, any_outside}
-use Rattle.explore.proofs.Counting.{count_room, count_none, count_change}
+use Rattle.explore.proofs.Counts.Counting.{count_room, count_none, count_change}
 use Rattle.explore.proofs.outside.Tally.count.Goals as goal
 
 pub returns-then-not-is_change-clause-counted : goal.returns-then-not-is_change-clause-counted

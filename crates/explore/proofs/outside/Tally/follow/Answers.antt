@@ -1,7 +1,7 @@
 use Rattle.std.proofs.Common.{◌≡◌, ◌∙◌, ap, sym, refl, arith}
 use Rattle.std.specs.Prelude.{length}
 use Rattle.race_core.specs.Book.{BookedHistory}
-use Rattle.explore.proofs.Counting.{follow_same, follow_one, follow_tally}
+use Rattle.explore.proofs.Counts.Counting.{follow_same, follow_one, follow_tally}
 use Rattle.explore.proofs.outside.Tally.follow.Goals as goal
 
 pub returns-then-len-events : goal.returns-then-len-events

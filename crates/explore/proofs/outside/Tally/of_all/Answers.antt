@@ -1,6 +1,6 @@
 use Rattle.std.proofs.Common.{◌∙◌, ap, arith}
 use Rattle.race_core.specs.Book.{tree_now}
-use Rattle.explore.proofs.Counting.{roots_more, counts_more}
+use Rattle.explore.proofs.Counts.Counting.{roots_more, counts_more}
 use Rattle.explore.proofs.outside.Tally.of_all.Goals as goal
 
 pub loop-at-preserved : goal.loop-at-preserved

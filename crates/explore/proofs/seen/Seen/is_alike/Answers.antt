@@ -4,7 +4,7 @@ use Rattle.race_core.specs.Book.{tree_now}
 use Rattle.race_core.specs.Worlds.{WorldView}
 use Rattle.explore.specs.Alike.{Alike}
 use Rattle.explore.specs.Paired.{SameTrees}
-use Rattle.explore.proofs.Paired.{paired_or_not}
+use Rattle.explore.proofs.Alike.Paired.{paired_or_not}
 use Rattle.explore.proofs.seen.Seen.is_alike.Goals as goal
 
 pub returns : goal.returns

@@ -1,0 +1,65 @@
+-- An actor's own events among those of others, and a window that is cut where they are.
+use Rattle.std.specs.Prelude.{◌≡◌, ℕ, ◌==◌, List, [], ◌∷◌, ◌++◌, Bool, true, false, cond, refl}
+use Rattle.std.proofs.Common.{sym, ap, ◌∙◌}
+use Rattle.tree_model.specs.declared.answer.Event.{Event}
+use Rattle.step_resolver.specs.WalkHistory.{own_events}
+
+pub cons_not_nil : {A : Type 0} (x : A) (xs : List A) → x ∷ xs ≡ [] → ⊥
+cons_not_nil x xs e = cc (e)
+
+abbrev head_of : {A : Type 0} → A → List A → A
+head_of d [] = d
+head_of d (x ∷ xs) = x
+
+abbrev tail_of : {A : Type 0} → List A → List A
+tail_of [] = []
+tail_of (x ∷ xs) = xs
+
+pub same_head : {A : Type 0} (x y : A) (xs ys : List A) → x ∷ xs ≡ y ∷ ys → x ≡ y
+same_head x y xs ys e = ap (head_of x) e
+
+pub same_tail : {A : Type 0} (x y : A) (xs ys : List A) → x ∷ xs ≡ y ∷ ys → xs ≡ ys
+same_tail x y xs ys e = ap tail_of e
+
+module _ (a : ℕ) where
+  -- an event of the actor's own, or of another
+  pub own_first : (event : Event) (rest : List Event) → (event.actor == a) ≡ true → own_events a (event ∷ rest) ≡ event ∷ own_events a rest
+  own_first event rest e = ap (λ b. cond b (event ∷ own_events a rest) (own_events a rest)) e
+
+  pub own_later : (event : Event) (rest : List Event) → (event.actor == a) ≡ false → own_events a (event ∷ rest) ≡ own_events a rest
+  own_later event rest e = ap (λ b. cond b (event ∷ own_events a rest) (own_events a rest)) e
+
+  -- a window in two, where the actor's own events are
+  pub record Cut (window first rest : List Event) : Type 0 where
+    pub before : List Event
+    pub after : List Event
+    pub whole : window ≡ before ++ after
+    pub own_before : own_events a before ≡ first
+    pub own_after : own_events a after ≡ rest
+
+  pub cut : (window first rest : List Event) → own_events a window ≡ first ++ rest → Cut window first rest
+  cut window [] rest e = record { before = []; after = window; whole = refl; own_before = refl; own_after = e }
+  cut [] (x ∷ first) rest e = absurd (cons_not_nil x (first ++ rest) (sym e))
+  cut (event ∷ window) (x ∷ first) rest e = on (event.actor == a) refl (λ own. cut window first rest own) (λ own. cut window (x ∷ first) rest own)
+    where
+      on : (b : Bool) → (event.actor == a) ≡ b → (own_events a window ≡ first ++ rest → Cut window first rest)
+          → (own_events a window ≡ x ∷ first ++ rest → Cut window (x ∷ first) rest) → Cut (event ∷ window) (x ∷ first) rest
+      on true q next later =
+          let same = sym (own_first event window q) ∙ e in
+          let cut_later = next (same_tail event x (own_events a window) (first ++ rest) same) in
+          record {
+            before = event ∷ cut_later.before;
+            after = cut_later.after;
+            whole = ap (λ es. event ∷ es) cut_later.whole;
+            own_before = own_first event cut_later.before q ∙ ap (λ es. event ∷ es) cut_later.own_before ∙ ap (λ y. y ∷ first) (same_head event x (own_events a window) (first ++ rest) same);
+            own_after = cut_later.own_after;
+          }
+      on false q next later =
+          let cut_later = later (sym (own_later event window q) ∙ e) in
+          record {
+            before = event ∷ cut_later.before;
+            after = cut_later.after;
+            whole = ap (λ es. event ∷ es) cut_later.whole;
+            own_before = own_later event cut_later.before q ∙ cut_later.own_before;
+            own_after = cut_later.own_after;
+          }

@@ -1,0 +1,47 @@
+//! The functions by which a C program makes calls: a static library of two exports, over `c_protocol`.
+//!
+//! Each export is the function of that name of `c_protocol`, with its clauses. What a C program owes is said in
+//! `host/calls.h`: a what is kept is empty (zero) before the first call, and is left alone between two turns.
+#![tactic(auto)]
+
+ghost use Rattle.std.specs.Prelude.{IfSome, IsSome};
+ghost use Rattle.root_ops.specs.declared.call.CallTurn.{CallTurn};
+ghost use Rattle.c_protocol.specs.Turns.{call_of, IsBegun, IsNext, IsTold};
+
+use c_protocol::{Answered, Asked, Kept, Told};
+use std::alloc::Global;
+
+/// Begins a call, and tells its first step or its reply: `c_protocol::begin`.
+#[unsafe(no_mangle)]
+pub extern "C" fn inroot_begin(
+    alloc: Global,
+    asked: &Asked,
+    first: &[u8],
+    second: &[u8],
+    kept: &mut Kept,
+    told: &mut Told,
+    room: &mut [u8],
+)
+    ensures { (turn : CallTurn) × IsBegun asked.now first.now second.now turn
+        × IsTold turn kept.new.held told.new room.old room.new }
+{
+    c_protocol::begin(alloc, asked, first, second, kept, told, room);
+}
+
+/// Takes the answer to the step that was told, and tells the next step or the reply: `c_protocol::next`.
+#[unsafe(no_mangle)]
+pub extern "C" fn inroot_next(
+    alloc: Global,
+    kept: &mut Kept,
+    answered: &Answered,
+    bytes: &[u8],
+    told: &mut Told,
+    room: &mut [u8],
+)
+    requires { IsSome (call_of kept.old.held) }
+    ensures { IfSome (call_of kept.old.held)
+        (λ call. (turn : CallTurn) × IsNext call answered.now bytes.now turn
+        × IsTold turn kept.new.held told.new room.old room.new) }
+{
+    c_protocol::next(alloc, kept, answered, bytes, told, room);
+}

@@ -1,0 +1,87 @@
+-- Bytes that are laid into a room, one after another.
+use Rattle.std.specs.Prelude.{◌≡◌, ℕ, ◌+◌, ◌<◌, ◌≤◌, List, [], ◌∷◌, ◌++◌, take, drop, length, Bool, nat_le, true, false, if◌then◌else◌, Some, slice_get, refl}
+use Rattle.std.proofs.Common.{ap, arith, length-append, append_assoc}
+use Rattle.std.proofs.Math.Seq.{take-add, take-append_seam}
+use Rattle.std.proofs.lemmas.Bool.{le-leb, lt-leb}
+use Rattle.std.proofs.lemmas.List.{append-nil, drop_more, take-append-drop}
+use Rattle.std.proofs.lemmas.Option.{slice_get_within, get_or_from_slice_get}
+use Rattle.std.proofs.lemmas.Slice.{drop-append-drop}
+use mathlib.Core.Path.{sym, ◌∙◌}
+use Rattle.path_text.specs.declared.name.TheConstants.{SLASH}
+use Rattle.path_text.specs.Print.{after_slashes, printed}
+use Rattle.c_protocol.specs.Numbers.{ended}
+use Rattle.c_protocol.specs.Turns.{laid}
+
+-- ---- one text after another
+
+-- bytes are laid right after a text that lies at the room's beginning
+pub put : (text bytes old room new : List ℕ) (at : ℕ) → at ≡ length text → room ≡ text ++ drop (length text) old
+    → new ≡ take at room ++ (bytes ++ drop (at + length bytes) room) → new ≡ (text ++ bytes) ++ drop (length (text ++ bytes)) old
+put text bytes old room new at is before laid_at =
+    laid_at ∙ ap (λ (r : List ℕ). take at r ++ (bytes ++ drop (at + length bytes) r)) before
+    ∙ ap (λ (k : ℕ). take k (text ++ drop (length text) old) ++ (bytes ++ drop (k + length bytes) (text ++ drop (length text) old))) is
+    ∙ ap (λ (l : List ℕ). l ++ (bytes ++ drop (length text + length bytes) (text ++ drop (length text) old))) (take-append_seam text (drop (length text) old))
+    ∙ ap (λ (l : List ℕ). text ++ (bytes ++ l)) (drop-append-drop (length text) old text (length text + length bytes) (omega arith) refl)
+    ∙ sym (append_assoc text bytes (drop (length text + length bytes) old))
+    ∙ ap (λ (k : ℕ). (text ++ bytes) ++ drop k old) (sym (length-append text bytes))
+
+-- at the room's beginning
+pub put_first : (bytes old new : List ℕ) → new ≡ take 0 old ++ (bytes ++ drop (0 + length bytes) old) → new ≡ bytes ++ drop (length bytes) old
+put_first bytes old new laid_at = put [] bytes old old new 0 refl refl laid_at
+
+-- what lies there fits
+pub laid_there : (bytes old new : List ℕ) → length bytes ≤ length old → new ≡ bytes ++ drop (length bytes) old → new ≡ laid bytes old
+laid_there bytes old new within is =
+    is ∙ ap (λ (t : Bool). if t then bytes ++ drop (length bytes) old else old) (sym (le-leb (length bytes) (length old) within))
+
+pub ended_length : (text : List ℕ) → length (ended text) ≡ length text + 1
+ended_length text = length-append text (0 ∷ [])
+
+-- ---- names
+
+slashes-append : (xs ys : List (List ℕ)) → after_slashes (xs ++ ys) ≡ after_slashes xs ++ after_slashes ys
+slashes-append [] ys = refl
+slashes-append (x ∷ xs) ys = ap (λ (l : List ℕ). SLASH ∷ l) (ap (λ (l : List ℕ). x ++ l) (slashes-append xs ys) ∙ sym (append_assoc x (after_slashes xs) (after_slashes ys)))
+
+left_at : (k : ℕ) (names : List (List ℕ)) (name : List ℕ) → slice_get names k ≡ Some name → drop k names ≡ name ∷ drop (k + 1) names
+left_at k names name found =
+    drop_more names k name (slice_get_within names k name found) ∙ ap (λ (n : List ℕ). n ∷ drop (k + 1) names) (get_or_from_slice_get names k name name found)
+
+-- one more name is laid
+pub cut : (k : ℕ) (names : List (List ℕ)) (name : List ℕ) → slice_get names k ≡ Some name
+    → after_slashes (take (k + 1) names) ≡ after_slashes (take k names) ++ SLASH ∷ name
+cut k names name found =
+    ap after_slashes (take-add k 1 names)
+    ∙ slashes-append (take k names) (take 1 (drop k names))
+    ∙ ap (λ (l : List (List ℕ)). after_slashes (take k names) ++ after_slashes (take 1 l)) (left_at k names name found)
+    ∙ ap (λ (l : List ℕ). after_slashes (take k names) ++ SLASH ∷ l) (append-nil name)
+
+whole : (k : ℕ) (names : List (List ℕ)) (name : List ℕ) → slice_get names k ≡ Some name
+    → after_slashes names ≡ after_slashes (take k names) ++ SLASH ∷ (name ++ after_slashes (drop (k + 1) names))
+whole k names name found =
+    ap after_slashes (sym (take-append-drop k names))
+    ∙ slashes-append (take k names) (drop k names)
+    ∙ ap (λ (l : List (List ℕ)). after_slashes (take k names) ++ after_slashes l) (left_at k names name found)
+
+-- there is room for one more name where there is room for all
+pub within : (k : ℕ) (names : List (List ℕ)) (name : List ℕ) → slice_get names k ≡ Some name
+    → length (after_slashes (take k names)) + (length name + 1) ≤ length (after_slashes names)
+within k names name found =
+    let all = ap length (whole k names name found) in
+    let cut_up = length-append (after_slashes (take k names)) (SLASH ∷ (name ++ after_slashes (drop (k + 1) names))) in
+    let named = length-append name (after_slashes (drop (k + 1) names)) in
+    omega (arith, all, cut_up, named)
+
+pub printed_some : (names : List (List ℕ)) → 0 < length names → printed names ≡ after_slashes names
+printed_some [] some = let never : ⊥ = omega (arith, some) in absurd never
+printed_some (name ∷ names) some = refl
+
+-- a name for which there is too little left is one too many
+pub too_short : (names : List (List ℕ)) (k room left : ℕ) (name : List ℕ) → slice_get names k ≡ Some name
+    → left + length (after_slashes (take k names)) ≡ room → left ≤ length name → false ≡ nat_le (length (ended (printed names))) room
+too_short names k room left name found is short =
+    let counted = ended_length (printed names) in
+    let some : 0 < length names = let at = slice_get_within names k name found in omega (arith, at) in
+    let same = ap length (printed_some names some) in
+    let more = within k names name found in
+    sym (lt-leb (length (ended (printed names))) room (omega (arith, counted, same, is, more, short)))

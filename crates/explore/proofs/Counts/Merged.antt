@@ -1,0 +1,208 @@
+-- The words of a graph that fits a world are the lists that are asked for.
+use Rattle.std.specs.Prelude.{◌≡◌, ◌≤◌, ◌+◌, ℕ, suc, List, [], ◌∷◌, Bool, true, false, ◌&&◌, length, slice_get, Option, Some, None, refl}
+use Rattle.std.specs.Global.{Vec}
+use Rattle.std.specs.Option.{option_map_or}
+use Rattle.std.proofs.Common.{sym, ap, ◌∙◌, subst, arith}
+use Rattle.std.proofs.lemmas.Bool.{true≢false}
+use Rattle.std.proofs.lemmas.Option.{none-some}
+use Rattle.race_core.specs.declared.seat.Seat.{Seat}
+use Rattle.race_core.specs.Worlds.{WorldView, turn, is_within_at}
+use Rattle.schedule_graph.specs.declared.graph.Way.{Way}
+use Rattle.schedule_graph.specs.declared.graph.Spot.{Spot}
+use Rattle.schedule_graph.specs.declared.graph.Spot.TheVariants.{Ends, Goes}
+use Rattle.schedule_graph.specs.Words.{spot_at, ways_from, way_of, IsWord, IsWordOf}
+use Rattle.schedule_graph.specs.Words as words
+use Rattle.explore.specs.declared.limits.Scope.{Scope}
+use Rattle.explore.specs.Alike.{Pairs, AlikeSeats, full, after_turns, TellTheSame}
+use Rattle.explore.specs.Search.{IsFull, IsLike, same, onward}
+use Rattle.explore.specs.Lists.{is_another, is_cut, plus, cuts_after, changes_after}
+use Rattle.explore.specs.Explored.{IsWithin, IsAsked, TellAlike, ClassView}
+use Rattle.explore.specs.Merged.{Place, bounded_cuts, cuts_with, MayFollow, IsWay, IsFit, IsListOf, WordsAreLists}
+use Rattle.explore.proofs.Alike.Worlds.{within_alike}
+use Rattle.explore.proofs.Lists.SearchLaws.{like_turns, like_trans, like_busy, like_tells, like_outside}
+
+-- ---- worlds like one another
+
+like_within : {told : Bool} {w v : WorldView} (i : ℕ) → IsLike told w v → is_within_at w.seats i ≡ is_within_at v.seats i
+like_within i (same u) = refl
+like_within i (onward w u v alike like) = within_alike w u i alike.alike ∙ like_within {w = u} {v = v} i like
+
+pub like_cut : {told : Bool} {w v : WorldView} (last : Option ℕ) (i : ℕ) → IsLike told w v → is_cut w.seats last i ≡ is_cut v.seats last i
+like_cut None i like = refl
+like_cut {told} {w} {v} (Some j) i like = ap (λ (b : Bool). is_another (Some j) i && b) (like_within {w = w} {v = v} j like)
+
+seats_as_many : (pairs : Pairs) (ss ts : List Seat) → AlikeSeats pairs ss ts → length ss ≡ length ts
+seats_as_many pairs [] [] alike = refl
+seats_as_many pairs (s ∷ ss) (t ∷ ts) alike = ap suc (seats_as_many pairs ss ts alike.1)
+seats_as_many pairs [] (t ∷ ts) alike = absurd alike
+seats_as_many pairs (s ∷ ss) [] alike = absurd alike
+
+like_actors : {told : Bool} {w v : WorldView} → IsLike told w v → length w.seats ≡ length v.seats
+like_actors (same u) = refl
+like_actors (onward w u v alike like) = seats_as_many alike.alike.0 w.seats u.seats alike.alike.1.seats ∙ like_actors {w = u} {v = v} like
+
+pub like_tells_on : {told : Bool} {w v : WorldView} (u : WorldView) → IsLike told w v → TellAlike told v u → TellAlike told w u
+like_tells_on {told} {w} {v} u like tells =
+    let first : TellTheSame w v = like_tells {w = w} {v = v} like in
+    let actors : length w.seats ≡ length v.seats = like_actors {w = w} {v = v} like in record {
+      replies = first.replies ∙ tells.replies;
+      nodes = first.nodes ∙ tells.nodes;
+      held = λ a lt. first.held a ∙ tells.held a (omega arith);
+      outside = like_outside {w = w} {v = v} like ∙ tells.outside;
+    }
+
+-- ---- bounds on cuts
+
+within_zero : (most : Option ℕ) → IsWithin most 0
+within_zero None = tt
+within_zero (Some n) = omega arith
+
+within_first : (most : Option ℕ) (m n : ℕ) → IsWithin most (m + n) → IsWithin most m
+within_first None m n few = tt
+within_first (Some k) m n few = let le : m + n ≤ k = few in omega arith
+
+within_bounded : (most : Option ℕ) (m n : ℕ) → IsWithin most (m + n) → IsWithin most (bounded_cuts most m + n)
+within_bounded None m n few = tt
+within_bounded (Some k) m n few = few
+
+within_unbounded : (most : Option ℕ) (m n : ℕ) → IsWithin most (bounded_cuts most m + n) → IsWithin most (m + n)
+within_unbounded None m n few = tt
+within_unbounded (Some k) m n few = few
+
+pub bounded_within : (most : Option ℕ) (n : ℕ) → IsWithin most n → IsWithin most (bounded_cuts most n)
+bounded_within None n few = tt
+bounded_within (Some k) n few = few
+
+plus_moves : (b : Bool) (m n : ℕ) → m + plus b n ≡ plus b m + n
+plus_moves true m n = omega arith
+plus_moves false m n = refl
+
+plus_same : (b : Bool) (n : ℕ) → words.plus b n ≡ plus b n
+plus_same true n = refl
+plus_same false n = refl
+
+-- ---- ways
+
+-- a way by a letter leads from a spot where words go on
+way_goes : (spot : Option Spot) (i : ℕ) (way : Way) → way_of (ways_from spot) i ≡ Some way
+    → (ways : Vec Way) × ((spot ≡ Some (Goes ways)) × (way_of ways.items i ≡ Some way))
+way_goes None i way e = absurd (none-some way e)
+way_goes (Some (Ends class)) i way e = absurd (none-some way e)
+way_goes (Some (Goes ways)) i way e = (ways, (refl, e))
+
+-- what a word from that spot comes to in a world like the spot's
+record IsRest (w : WorldView) (scope : Scope) (layers : List (Vec Spot)) (classes : List ClassView) (p : Place) (k s : ℕ) (v : WorldView) (is : List ℕ) (class : ℕ) : Type 0 where
+  whole : IsFull v is
+  few : IsWithin scope.cuts (p.cuts + cuts_after v p.last is)
+  outcome : ClassView
+  there : slice_get classes class ≡ Some outcome
+  tells : TellAlike scope.outside (after_turns v is) (after_turns w outcome.least.turns)
+  cuts : words.cuts layers k s is ≡ cuts_after v p.last is
+  changes : words.changes layers k s is ≡ changes_after p.last is
+
+module _ (w : WorldView) (scope : Scope) (layers : List (Vec Spot)) (classes : List ClassView) (at : ℕ → ℕ → Place) (fit : IsFit w scope layers classes at) where
+  -- the cuts that are left after a turn, in a world like the place's
+  few_moved : (k s : ℕ) (v : WorldView) (i n : ℕ) → IsLike scope.outside v (at k s).world
+      → (at k s).cuts + plus (is_cut v.seats (at k s).last i) n ≡ cuts_with (at k s) i + n
+  few_moved k s v i n like =
+      ap (λ (b : Bool). (at k s).cuts + plus b n) (like_cut {w = v} {v = (at k s).world} (at k s).last i like)
+      ∙ plus_moves (is_cut (at k s).world.seats (at k s).last i) (at k s).cuts n
+
+  -- a full list from a world like the spot's, with few cuts, is a word from the spot
+  listed : (k s : ℕ) (spot : Spot) (v : WorldView) → spot_at layers k s ≡ Some spot → IsLike scope.outside v (at k s).world → (is : List ℕ)
+      → IsFull v is → IsWithin scope.cuts ((at k s).cuts + cuts_after v (at k s).last is) → (class : ℕ) × IsWord layers k s is class
+  listed k s (Ends class) v there like [] whole few = (class, there)
+  listed k s (Ends class) v there like (i ∷ is) whole few =
+      absurd (true≢false (sym whole.0 ∙ like_busy {w = v} {v = (at k s).world} i like ∙ (fit.ends k s class there).over i))
+  listed k s (Goes ways) v there like [] whole few =
+      let somebody = (fit.goes k s ways there).busy in
+      absurd (true≢false (sym somebody.1 ∙ sym (like_busy {w = v} {v = (at k s).world} somebody.0 like) ∙ whole somebody.0))
+  listed k s (Goes ways) v there like (i ∷ is) whole few =
+      let here = fit.goes k s ways there in
+      let n = cuts_after (turn full v i) (Some i) is in
+      let left : IsWithin scope.cuts (cuts_with (at k s) i + n) = subst (λ m. IsWithin scope.cuts m) (few_moved k s v i n like) few in
+      let may : MayFollow scope (at k s) i =
+      record { busy = sym (like_busy {w = v} {v = (at k s).world} i like) ∙ whole.0; few = within_first scope.cuts (cuts_with (at k s) i) n left } in
+      let way = here.all i may in
+      let goes : IsWay scope layers at k s i way.0 = here.each i way.0 way.1 in
+      let q = at (suc k) way.0.to in
+      let moved : IsLike scope.outside (turn full v i) q.world =
+      like_trans {w = turn full v i} {u = turn full (at k s).world i} {v = q.world} (like_turns {w = v} {v = (at k s).world} i like) goes.next.world in
+      let then : IsWithin scope.cuts (q.cuts + cuts_after (turn full v i) q.last is) =
+      subst (λ (last : Option ℕ). IsWithin scope.cuts (q.cuts + cuts_after (turn full v i) last is)) (sym goes.next.last)
+      (subst (λ m. IsWithin scope.cuts (m + n)) (sym goes.next.cuts) (within_bounded scope.cuts (cuts_with (at k s) i) n left)) in
+      let rest = listed (suc k) way.0.to goes.spot (turn full v i) goes.there moved is whole.1 then in
+      (rest.0, (way.0, (ap (λ (spot : Option Spot). way_of (ways_from spot) i) there ∙ way.1, rest.1)))
+
+  -- and a word from the spot is such a list
+  rest_of : (k s : ℕ) (v : WorldView) → IsLike scope.outside v (at k s).world → IsWithin scope.cuts (at k s).cuts → (is : List ℕ) (class : ℕ)
+      → IsWord layers k s is class → IsRest w scope layers classes (at k s) k s v is class
+  rest_of k s v like few [] class word =
+      let end = fit.ends k s class word in record {
+        whole = λ i. like_busy {w = v} {v = (at k s).world} i like ∙ end.over i;
+        few = subst (λ n. IsWithin scope.cuts n) (omega arith) few;
+        outcome = end.outcome;
+        there = end.there;
+        tells = like_tells_on {w = v} {v = (at k s).world} (after_turns w end.outcome.least.turns) like end.tells;
+        cuts = refl;
+        changes = refl;
+      }
+  rest_of k s v like few (i ∷ is) class word =
+      let p = at k s in
+      let way = word.0 in
+      let q = at (suc k) way.to in
+      let found = way_goes (spot_at layers k s) i way word.1.0 in
+      let goes : IsWay scope layers at k s i way = (fit.goes k s found.0 found.1.0).each i way found.1.1 in
+      let moved : IsLike scope.outside (turn full v i) q.world =
+      like_trans {w = turn full v i} {u = turn full p.world i} {v = q.world} (like_turns {w = v} {v = p.world} i like) goes.next.world in
+      let then : IsWithin scope.cuts q.cuts = subst (λ n. IsWithin scope.cuts n) (sym goes.next.cuts) (bounded_within scope.cuts (cuts_with p i) goes.may.few) in
+      let later : IsRest w scope layers classes q (suc k) way.to (turn full v i) is class = rest_of (suc k) way.to (turn full v i) moved then is class word.1.1 in
+      let n = cuts_after (turn full v i) (Some i) is in
+      let left : IsWithin scope.cuts (bounded_cuts scope.cuts (cuts_with p i) + n) =
+      subst (λ m. IsWithin scope.cuts (m + n)) goes.next.cuts
+      (subst (λ (last : Option ℕ). IsWithin scope.cuts (q.cuts + cuts_after (turn full v i) last is)) goes.next.last later.few) in
+      let cut : way.cut ≡ is_cut v.seats p.last i = goes.cut ∙ sym (like_cut {w = v} {v = p.world} p.last i like) in
+      let cuts_then : words.cuts layers (suc k) way.to is ≡ n = later.cuts ∙ ap (λ (last : Option ℕ). cuts_after (turn full v i) last is) goes.next.last in
+      let changes_then : words.changes layers (suc k) way.to is ≡ changes_after (Some i) is =
+      later.changes ∙ ap (λ (last : Option ℕ). changes_after last is) goes.next.last in record {
+        whole = (like_busy {w = v} {v = p.world} i like ∙ goes.may.busy, later.whole);
+        few = subst (λ m. IsWithin scope.cuts m) (sym (few_moved k s v i n like)) (within_unbounded scope.cuts (cuts_with p i) n left);
+        outcome = later.outcome;
+        there = later.there;
+        tells = later.tells;
+        cuts =
+            ap (λ (way : Option Way). option_map_or (λ (way : Way). words.plus way.cut (words.cuts layers (suc k) way.to is)) way 0) word.1.0
+            ∙ plus_same way.cut (words.cuts layers (suc k) way.to is)
+            ∙ (λ j. plus (cut j) (cuts_then j));
+        changes =
+            ap (λ (way : Option Way). option_map_or (λ (way : Way). words.plus way.change (words.changes layers (suc k) way.to is)) way 0) word.1.0
+            ∙ plus_same way.change (words.changes layers (suc k) way.to is)
+            ∙ (λ j. plus (goes.change j) (changes_then j));
+      }
+
+  begin_like : IsLike scope.outside w (at 0 0).world
+  begin_like = subst (λ (p : Place). IsLike scope.outside w p.world) (sym fit.start) (same w)
+
+  pub begin_within : IsWithin scope.cuts (at 0 0).cuts
+  begin_within = subst (λ (p : Place). IsWithin scope.cuts p.cuts) (sym fit.start) (within_zero scope.cuts)
+
+  pub list_word : (is : List ℕ) → IsAsked w scope is → (class : ℕ) × IsWordOf layers class is
+  list_word is asked =
+      listed 0 0 fit.spot w fit.there begin_like is asked.whole
+      (subst (λ (p : Place). IsWithin scope.cuts (p.cuts + cuts_after w p.last is)) (sym fit.start)
+      (subst (λ n. IsWithin scope.cuts n) (omega arith) asked.few_cuts))
+
+  pub word_list : (is : List ℕ) (class : ℕ) → IsWordOf layers class is → IsListOf w scope layers classes class is
+  word_list is class word =
+      let rest = rest_of 0 0 w begin_like begin_within is class word in
+      let few : IsWithin scope.cuts (0 + cuts_after w None is) = subst (λ (p : Place). IsWithin scope.cuts (p.cuts + cuts_after w p.last is)) fit.start rest.few in record {
+        asked = record { whole = rest.whole; few_cuts = subst (λ n. IsWithin scope.cuts n) (omega arith) few };
+        outcome = rest.outcome;
+        there = rest.there;
+        agrees = rest.tells;
+        cuts = rest.cuts ∙ ap (λ (p : Place). cuts_after w p.last is) fit.start;
+        changes = rest.changes ∙ ap (λ (p : Place). changes_after p.last is) fit.start;
+      }
+
+pub words_are_lists : WordsAreLists
+words_are_lists w scope layers classes at fit = (list_word w scope layers classes at fit, word_list w scope layers classes at fit)

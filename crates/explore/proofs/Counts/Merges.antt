@@ -1,0 +1,171 @@
+-- What a layer that was gone through comes to, and the classes that are told in the end.
+use Rattle.std.specs.Prelude.{◌≡◌, ◌<◌, ◌+◌, ◌^◌, ◌++◌, ℕ, suc, List, [], ◌∷◌, Bool, Option, Some, None, length, slice_get, refl}
+use Rattle.std.specs.Global.{Vec}
+use Rattle.std.proofs.Common.{sym, ap, ◌∙◌, subst, ⊎_elim, arith}
+use Rattle.std.proofs.lemmas.Option.{same_Some, none-some, slice_get_within}
+use Rattle.race_core.specs.Worlds.{WorldView, Reports, ledgers_in, turn}
+use Rattle.schedule_graph.specs.declared.graph.Way.{Way}
+use Rattle.schedule_graph.specs.declared.graph.Spot.{Spot}
+use Rattle.schedule_graph.specs.declared.graph.Spot.TheVariants.{Ends}
+use Rattle.schedule_graph.specs.declared.count.Count.{Count}
+use Rattle.schedule_graph.specs.declared.count.Counts.{Counts}
+use Rattle.schedule_graph.specs.Words.{AreApart, spot_at, spot_in, way_at, way_of, ways_from, IsWord, IsWordOf}
+use Rattle.schedule_graph.specs.Words as words
+use Rattle.schedule_graph.specs.Counted.{IsLeast, AreCounts}
+use Rattle.explore.specs.declared.limits.Scope.{Scope}
+use Rattle.explore.specs.declared.layer.Stand.{Stand}
+use Rattle.explore.specs.Alike.{full, after_turns}
+use Rattle.explore.specs.Concluded.{IsToldBy, AreToldBy, HasLeast, AreShort, AsksIn, AskIn, AreToldIn}
+use Rattle.explore.specs.Explored.{IsAsked, EndingView, ClassView, IsEnding}
+use Rattle.explore.specs.Layers.{LiveView, LayerView, IsLed, IsSure, AreOn, IsTop, AreTops, AreWaysBy, AreAllWays, IsReportOf, IsSpot, AreSpots, point_of, spot_by}
+use Rattle.explore.specs.Lists.{cuts, changes}
+use Rattle.explore.specs.Outside.{outside_of}
+use Rattle.explore.specs.Points.{Point, start, no_marks, Goes}
+use Rattle.explore.specs.Search.{IsOver, IsFull}
+use Rattle.explore.proofs.Counts.Concluded.{found_have_leasts}
+use Rattle.explore.proofs.Lists.Indices.{within_some}
+use Rattle.explore.proofs.Layers.Fitting.{Fits}
+use Rattle.explore.proofs.Wants.Followed.{cuts_there, changes_there}
+use Rattle.explore.proofs.Lists.Told.{get_push}
+use Rattle.explore.proofs.Lists.Along.{along_world}
+
+-- ---- the first layer
+
+pub first_world : (w : WorldView) (live : LiveView) (turns : List ℕ) → IsLed w live → live.turns ≡ turns → turns ≡ []
+    → live ≡ record { told = live.told; world = w; marks = no_marks; turns = [] }
+first_world w live turns led is none =
+    let own : live.turns ≡ [] = is ∙ none in
+    let there : point_of live ≡ start w = subst (λ (ts : List ℕ). Goes (start w) ts (point_of live)) own led in
+    λ i. record { told = live.told; world = (there i).world; marks = (there i).marks; turns = own i }
+
+pub told_first : (live : LiveView) (told : Bool) → live.told ≡ told → (w : WorldView) → live ≡ record { told = live.told; world = w; marks = no_marks; turns = [] }
+    → live ≡ record { told = told; world = w; marks = no_marks; turns = [] }
+told_first live told e w is = is ∙ ap (λ (b : Bool). record { told = b; world = w; marks = no_marks; turns = [] }) e
+
+-- ---- the spots of a layer
+
+module _ (scope : Scope) (layer next : LayerView) (n : ℕ) (on : AreOn n layer) where
+  live_of : (s : ℕ) (stand : Stand) → slice_get layer.stands s ≡ Some stand → (live : LiveView) × (slice_get layer.worlds stand.world ≡ Some live)
+  live_of s stand there = within_some layer.worlds stand.world (on.stands s stand there).on
+
+  -- no two ways from one stand have the same letter
+  pub ways_apart : (all : List (Vec Way)) → AreAllWays scope layer next all → (s : ℕ) (ways : Vec Way) → slice_get all s ≡ Some ways → AreApart ways.items
+  ways_apart all are s ways there =
+      let lt = slice_get_within all s ways there in
+      let many = are.many in
+      let stand = within_some layer.stands s (omega arith) in
+      let live = live_of s stand.0 stand.1 in
+      (are.each s stand.0 live.0 ways stand.1 live.1 there).apart
+
+  -- each stand's world is told of
+  pub tops_cover : (classes : List ClassView) (tops : List (Option ℕ)) → AreTops classes layer.worlds tops
+      → (s : ℕ) (stand : Stand) → slice_get layer.stands s ≡ Some stand → stand.world < length tops
+  tops_cover classes tops are s stand there = subst (λ m. stand.world < m) (sym are.many) (on.stands s stand there).on
+
+  spot_of : (classes : List ClassView) (stand : Stand) (live : LiveView) (ways : Vec Way) → AreWaysBy scope layer next stand live ways.items
+      → (top : Option ℕ) → IsTop classes live top → IsSpot scope layer next classes stand live (spot_by top ways)
+  spot_of classes stand live ways are None busy = (busy, are)
+  spot_of classes stand live ways are (Some class) placed = placed
+
+  pub spots_are : (classes : List ClassView) (all : List (Vec Way)) (tops : List (Option ℕ)) (spots : List Spot)
+      → AreAllWays scope layer next all → AreTops classes layer.worlds tops → length spots ≡ length layer.stands
+      → ((s : ℕ) (stand : Stand) (ways : Vec Way) (top : Option ℕ) → slice_get layer.stands s ≡ Some stand → slice_get all s ≡ Some ways → slice_get tops stand.world ≡ Some top → slice_get spots s ≡ Some (spot_by top ways))
+      → AreSpots scope layer next classes spots
+  spots_are classes all tops spots are_ways are_tops many each = record { many = many; each = one }
+    where
+      one : (s : ℕ) (stand : Stand) (live : LiveView) (spot : Spot) → slice_get layer.stands s ≡ Some stand → slice_get layer.worlds stand.world ≡ Some live
+          → slice_get spots s ≡ Some spot → IsSpot scope layer next classes stand live spot
+      one s stand live spot there on_live is =
+          let in_stands = slice_get_within layer.stands s stand there in
+          let in_worlds = slice_get_within layer.worlds stand.world live on_live in
+          let as_many = are_ways.many in
+          let as_many_tops = are_tops.many in
+          let ways = within_some all s (omega arith) in
+          let top = within_some tops stand.world (omega arith) in
+          subst (λ (x : Spot). IsSpot scope layer next classes stand live x)
+          (same_Some (spot_by top.0 ways.0) spot (sym (each s stand ways.0 top.0 there ways.1 top.1) ∙ is))
+          (spot_of classes stand live ways.0 (are_ways.each s stand live ways.0 there on_live ways.1) top.0 (are_tops.each stand.world live top.0 on_live top.1))
+
+-- ---- a list gone through once more
+
+pub asked_ends : (w : WorldView) (scope : Scope) (live : LiveView) (ending : EndingView) → live.told ≡ scope.outside → IsSure w live
+    → IsAsked w scope live.turns → (IsOver live.world → IsReportOf live ending) → IsEnding w scope ending × (ending.turns ≡ live.turns)
+asked_ends w scope live ending told sure asked ends = (subst_ending, report.turns)
+  where
+    world : live.world ≡ after_turns w live.turns
+    world = ap (λ (p : Point). p.world) sure ∙ along_world (start w) live.turns
+
+    over_after : (v : WorldView) (is : List ℕ) → IsFull v is → IsOver (after_turns v is)
+    over_after v [] over = over
+    over_after v (i ∷ is) rest = over_after (turn full v i) is rest.1
+
+    report : IsReportOf live ending
+    report = ends (subst (λ (v : WorldView). IsOver v) (sym world) (over_after w live.turns asked.whole))
+
+    subst_ending : IsEnding w scope ending
+    subst_ending = record {
+      asked = subst (λ (is : List ℕ). IsAsked w scope is) (sym report.turns) asked;
+      ranked =
+          let c : ending.cuts ≡ cuts w ending.turns =
+          report.cuts ∙ (ap (λ (p : Point). p.marks.cuts) sure ∙ (cuts_there w live.turns ∙ ap (cuts w) (sym report.turns))) in
+          let d : ending.changes ≡ changes ending.turns =
+          report.changes ∙ (ap (λ (p : Point). p.marks.changes) sure ∙ (changes_there w live.turns ∙ ap changes (sym report.turns))) in
+          λ i. record { cuts = c i; changes = d i; turns = ending.turns };
+      report =
+          subst (λ (is : List ℕ). Reports (after_turns w is).book (ledgers_in (after_turns w is).seats) ending.tree ending.events ending.replies ending.kept) (sym report.turns)
+          (subst (λ (v : WorldView). Reports v.book (ledgers_in v.seats) ending.tree ending.events ending.replies ending.kept) world report.report);
+      outside = report.outside ∙ ((λ i. outside_of (told i) (world i)) ∙ ap (λ (is : List ℕ). outside_of scope.outside (after_turns w is)) (sym report.turns));
+    }
+
+-- ---- the counts' least lists
+
+-- a word has fewer letters than the graph has layers
+word_short : (graph : List (Vec Spot)) (k s class : ℕ) (word : List ℕ) → IsWord graph k s word class → k + length word < length graph
+word_short graph k s class [] e = within (slice_get graph k) refl e
+  where
+    within : (layer : Option (Vec Spot)) → slice_get graph k ≡ layer → spot_in layer s ≡ Some (Ends class) → k + 0 < length graph
+    within None q e = absurd (none-some (Ends class) e)
+    within (Some layer) q e = let lt = slice_get_within graph k layer q in omega arith
+word_short graph k s class (letter ∷ rest) h = let lt = word_short graph (suc k) h.0.to class rest h.1.1 in omega arith
+
+module _ (w : WorldView) (scope : Scope) (graph : List (Vec Spot)) (found : List ClassView) (fits : Fits w scope graph found)
+    (counts : Counts) (are : AreCounts graph counts) (many : length counts.classes.items ≡ length found) where
+  has_least : (k : ℕ) (count : Count) → slice_get counts.classes.items k ≡ Some count → (class : ClassView) × HasLeast w scope class count
+  has_least k count there =
+      let lt = slice_get_within counts.classes.items k count there in
+      let class = within_some found k (omega arith) in
+      (class.0, found_have_leasts w scope graph found fits.at counts fits.fit fits.found are k class.0 count class.1 there)
+
+  pub leasts_short : length graph < 2 ^ 40 → AreShort counts.classes.items
+  leasts_short few k count there =
+      let has = has_least k count there in
+      let is = (subst (λ (o : Option words.Rank). IsLeast (words.rank graph) (IsWordOf graph k) o) has.1.counted (are.each k count there).least).is in
+      let lt = word_short graph 0 0 k has.1.least.turns is in
+      record { least = has.1.least; counted = has.1.counted; short = omega arith }
+
+  pub leasts_asked : AskIn w scope counts.classes.items
+  leasts_asked k count there least counted =
+      let has = has_least k count there in
+      subst (λ (r : words.Rank). IsAsked w scope r.turns) (same_Some has.1.least least (sym has.1.counted ∙ counted)) has.1.asked
+
+  pub all_told : (classes : List ClassView) → length classes ≡ length counts.classes.items
+      → (AskIn w scope counts.classes.items → AreToldIn w scope counts.classes.items classes) → AreToldBy w scope found counts.classes.items classes
+  all_told classes long told = record { as_many = long ∙ many; each = told leasts_asked }
+
+-- ---- classes told one after another
+
+pub told_push : (w : WorldView) (scope : Scope) (counts : List Count) (classes new : List ClassView) (k : ℕ) (count : Count) (class : ClassView)
+    → length classes ≡ k → slice_get counts k ≡ Some count → new ≡ classes ++ class ∷ []
+    → (AskIn w scope counts → AreToldIn w scope counts classes) → (AsksIn w scope count → IsToldBy w scope count class)
+    → AskIn w scope counts → AreToldIn w scope counts new
+told_push w scope counts classes new k count class long there is before here ask =
+    subst (λ (xs : List ClassView). AreToldIn w scope counts xs) (sym is)
+    (λ l c e. ⊎_elim (λ h. before ask l c h)
+    (λ h. (
+      count,
+      (
+        subst (λ n. slice_get counts n ≡ Some count) (sym (h.0 ∙ long)) there,
+        subst (λ (d : ClassView). IsToldBy w scope count d) (sym h.1) (here (ask k count there)),
+      ),
+    ))
+    (get_push classes class l c e))

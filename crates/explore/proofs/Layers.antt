@@ -1,0 +1,9 @@
+-- The layers of a search, the ways between them, and the graph that they make.
+pub mod Reached
+pub mod SoFar
+pub mod Fitting
+pub mod Endings
+pub mod Grown
+pub mod Passing
+pub mod WaysGrown
+pub mod WaysFound

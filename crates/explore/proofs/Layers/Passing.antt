@@ -1,0 +1,202 @@
+-- One more layer is gone through.
+use Rattle.std.specs.Prelude.{◌≡◌, ◌<◌, ◌≤◌, ℕ, zero, suc, List, [], ◌∷◌, ◌++◌, Some, length, slice_get, refl}
+use Rattle.std.specs.Global.{Vec}
+use Rattle.std.proofs.Common.{◌⊎◌, inl, inr, sym, ap, ◌∙◌, subst, ⊎_elim, arith}
+use Rattle.std.proofs.lemmas.Option.{same_Some, none-some, slice_get_within}
+use Rattle.race_core.specs.declared.opening.TheConstants.{ACTORS_MAX}
+use Rattle.race_core.specs.Worlds.{WorldView}
+use Rattle.schedule_graph.specs.declared.graph.Spot.{Spot}
+use Rattle.schedule_graph.specs.declared.graph.Spot.TheVariants.{Ends, Goes}
+use Rattle.explore.specs.declared.limits.Scope.{Scope}
+use Rattle.explore.specs.declared.layer.Stand.{Stand}
+use Rattle.explore.specs.declared.marks.Marks.{Marks}
+use Rattle.explore.specs.Explored.{ClassView, IsTooLong}
+use Rattle.explore.specs.Layers.{Keeps, LiveView, LayerView, IsSpot, AreSpots, AreJoined, AreWell, IsOn, AreOn, IsFirst, IsFoundIn, IsPassed, HasSearched}
+use Rattle.explore.specs.Points.{no_marks, AreWithin}
+use Rattle.explore.specs.Want.{EndsWell}
+use Rattle.explore.proofs.Layers.SoFar.{too_long}
+use Rattle.explore.proofs.Lists.Told.{get_push, get_left, get_last}
+
+pub length_push : {A : Type 0} (xs : List A) (y : A) → length (xs ++ y ∷ []) ≡ suc (length xs)
+length_push [] y = refl
+length_push (x ∷ xs) y = ap suc (length_push xs y)
+
+less_or_same : (m n : ℕ) → m < suc n → (m < n) ⊎ (m ≡ n)
+less_or_same zero zero lt = inr refl
+less_or_same zero (suc n) lt = inl (omega arith)
+less_or_same (suc m) zero lt = absurd (omega arith)
+less_or_same (suc m) (suc n) lt = ⊎_elim (λ h. inl (omega arith)) (λ e. inr (ap suc e)) (less_or_same m n (omega arith))
+
+-- ---- spots stay what they are as classes are added
+
+spot_kept : (scope : Scope) (layer next : LayerView) (old new : List ClassView) → Keeps old new
+    → (stand : Stand) (live : LiveView) (spot : Spot) → IsSpot scope layer next old stand live spot → IsSpot scope layer next new stand live spot
+spot_kept scope layer next old new keeps stand live (Ends class) h =
+    record { ending = h.ending; is = h.is; class = h.class; there = keeps class h.class h.there; same = h.same }
+spot_kept scope layer next old new keeps stand live (Goes ways) h = h
+
+spots_kept : (scope : Scope) (layer next : LayerView) (old new : List ClassView) → Keeps old new
+    → (spots : List Spot) → AreSpots scope layer next old spots → AreSpots scope layer next new spots
+spots_kept scope layer next old new keeps spots are = record {
+  many = are.many;
+  each = λ s stand live spot on at there. spot_kept scope layer next old new keeps stand live spot (are.each s stand live spot on at there);
+}
+
+-- ---- one layer more
+
+module _ (w : WorldView) (scope : Scope) (layer next : LayerView) (graph : List (Vec Spot)) (spots : Vec Spot) (old new : List ClassView)
+    (so_far : HasSearched w scope layer graph old) (passed : IsPassed scope (length graph) layer next spots.items old new) where
+  abbrev layers : List LayerView
+  layers = so_far.layers
+
+  many : length layers ≡ suc (length graph)
+  many = so_far.searched.many
+
+  -- each but the new one was there before
+  before : (k : ℕ) (a : LayerView) → k < suc (length graph) → slice_get (layers ++ next ∷ []) k ≡ Some a → slice_get layers k ≡ Some a
+  before k a lt e = ⊎_elim (λ h. h) (λ h. let m = many in absurd (nope h.0 m)) (get_push layers next k a e)
+    where
+      nope : k ≡ length layers → length layers ≡ suc (length graph) → ⊥
+      nope p q = omega arith
+
+  -- and the last of those is the one gone through
+  last_before : (k : ℕ) (a : LayerView) → k ≡ length graph → slice_get (layers ++ next ∷ []) k ≡ Some a → a ≡ layer
+  last_before k a q e =
+      same_Some a layer (sym (before k a (omega arith) e) ∙ (ap (λ n. slice_get layers n) q ∙ so_far.is_last))
+
+  -- the one after that is new
+  newest : (k : ℕ) (a : LayerView) → k ≡ suc (length graph) → slice_get (layers ++ next ∷ []) k ≡ Some a → a ≡ next
+  newest k a q e = ⊎_elim (λ h. absurd (nope (slice_get_within layers k a h) many)) (λ h. h.1) (get_push layers next k a e)
+    where
+      nope : k < length layers → length layers ≡ suc (length graph) → ⊥
+      nope lt m = omega arith
+
+  on : (k : ℕ) (a : LayerView) → slice_get (layers ++ next ∷ []) k ≡ Some a → AreOn k a
+  on k a e =
+      ⊎_elim (λ h. so_far.searched.on k a h)
+      (λ h. subst (λ (b : LayerView). AreOn k b) (sym h.1) (subst (λ n. AreOn n next) (sym (h.0 ∙ many)) passed.on))
+      (get_push layers next k a e)
+
+  joined : (k : ℕ) (a b : LayerView) → slice_get (layers ++ next ∷ []) k ≡ Some a → slice_get (layers ++ next ∷ []) (suc k) ≡ Some b → AreJoined scope a b
+  joined k a b here there =
+      ⊎_elim
+      (λ h. let lt = slice_get_within layers (suc k) b h in
+      let m = many in so_far.searched.joined k a b (before k a (omega arith) here) h)
+      (λ h. let m = many in
+      let q : k ≡ length graph = last k h.0 m in
+      subst (λ (c : LayerView). AreJoined scope a c) (sym h.1)
+      (subst (λ (c : LayerView). AreJoined scope c next) (sym (last_before k a q here)) passed.joined))
+      (get_push layers next (suc k) b there)
+    where
+      last : (k : ℕ) → suc k ≡ length layers → length layers ≡ suc (length graph) → k ≡ length graph
+      last k p q = omega arith
+
+  well : (k : ℕ) (a : LayerView) → k < length (graph ++ spots ∷ []) → slice_get (layers ++ next ∷ []) k ≡ Some a → AreWell a.worlds
+  well k a lt e = by (less_or_same k (length graph) (subst (λ n. k < n) (length_push graph spots) lt))
+    where
+      by : (k < length graph) ⊎ (k ≡ length graph) → AreWell a.worlds
+      by (inl l) = so_far.searched.well k a l (before k a (omega arith) e)
+      by (inr q) = subst (λ (b : LayerView). AreWell b.worlds) (sym (last_before k a q e)) passed.well
+
+  all_spots : (k : ℕ) (a b : LayerView) (s : Vec Spot) → slice_get (layers ++ next ∷ []) k ≡ Some a → slice_get (layers ++ next ∷ []) (suc k) ≡ Some b
+      → slice_get (graph ++ spots ∷ []) k ≡ Some s → AreSpots scope a b new s.items
+  all_spots k a b s here there e =
+      ⊎_elim
+      (λ h. let lt = slice_get_within graph k s h in
+      spots_kept scope a b old new passed.keeps s.items
+      (so_far.searched.spots k a b s (before k a (omega arith) here) (before (suc k) b (omega arith) there) h))
+      (λ h. subst (λ (c : LayerView). AreSpots scope c b new s.items) (sym (last_before k a h.0 here))
+      (subst (λ (c : LayerView). AreSpots scope layer c new s.items) (sym (newest (suc k) b (ap suc h.0) there))
+      (subst (λ (v : Vec Spot). AreSpots scope layer next new v.items) (sym h.1) passed.spots)))
+      (get_push graph spots k s e)
+
+  found : (c : ℕ) (class : ClassView) → slice_get new c ≡ Some class
+      → (k : ℕ) × ((a : LayerView) × ((k < length (graph ++ spots ∷ [])) × ((slice_get (layers ++ next ∷ []) k ≡ Some a) × IsFoundIn a.worlds class)))
+  found c class there =
+      ⊎_elim
+      (λ h. let f = so_far.searched.found c class h in
+      (f.0, (f.1.0, (longer f.0 f.1.1.0, (get_left layers next f.0 f.1.0 f.1.1.1.0, f.1.1.1.1)))))
+      (λ h. (length graph, (layer, (subst (λ n. length graph < n) (sym (length_push graph spots)) (omega arith), (get_left layers next (length graph) layer so_far.is_last, h)))))
+      (passed.found c class there)
+    where
+      longer : (k : ℕ) → k < length graph → k < length (graph ++ spots ∷ [])
+      longer k lt = subst (λ n. k < n) (sym (length_push graph spots)) (omega arith)
+
+  pub passes : HasSearched w scope next (graph ++ spots ∷ []) new
+  passes = record {
+    layers = layers ++ next ∷ [];
+    searched = record {
+      first = so_far.searched.first;
+      begins = get_left layers next 0 so_far.searched.first so_far.searched.begins;
+      is_first = so_far.searched.is_first;
+      many = length_push layers next ∙ (ap suc many ∙ ap suc (sym (length_push graph spots)));
+      on = on;
+      joined = joined;
+      well = well;
+      spots = all_spots;
+      found = found;
+      apart = passed.apart so_far.searched.apart;
+    };
+    is_last = ap (λ n. slice_get (layers ++ next ∷ []) n) (length_push graph spots ∙ sym many) ∙ get_last layers next;
+  }
+
+-- ---- and the first one
+
+only_one : {A : Type 0} (x : A) (k : ℕ) (y : A) → slice_get (x ∷ []) k ≡ Some y → (k ≡ 0) × (y ≡ x)
+only_one x zero y e = (refl, sym (same_Some x y e))
+only_one x (suc k) y e = absurd (none-some y e)
+
+module _ (w : WorldView) (scope : Scope) (layer : LayerView) (first : IsFirst w scope layer) (on : AreOn 0 layer) where
+  pub begun : HasSearched w scope layer [] []
+  begun = record {
+    layers = layer ∷ [];
+    searched = record {
+      first = layer;
+      begins = refl;
+      is_first = first;
+      many = refl;
+      on = λ k a e. let one = only_one layer k a e in
+          subst (λ (b : LayerView). AreOn k b) (sym one.1) (subst (λ n. AreOn n layer) (sym one.0) on);
+      joined = λ k a b here there. let z = (only_one layer (suc k) b there).0 in absurd (omega (arith, z));
+      well = λ k a lt e. absurd (omega (arith, lt));
+      spots = λ k a b s here there e. let z = (only_one layer (suc k) b there).0 in absurd (omega (arith, z));
+      found = λ c class e. absurd (none-some class e);
+      apart = λ k l c d here there same. absurd (none-some c here);
+    };
+    is_last = refl;
+  }
+
+pub last_on : (w : WorldView) (scope : Scope) (last : LayerView) (graph : List (Vec Spot)) (classes : List ClassView)
+    → HasSearched w scope last graph classes → AreOn (length graph) last
+last_on w scope last graph classes so_far = so_far.searched.on (length graph) last so_far.is_last
+
+pub none_left : {A : Type 0} (xs : List A) → length xs ≡ 0 → xs ≡ []
+none_left [] e = refl
+none_left (x ∷ xs) e = absurd (omega arith)
+
+-- a world that is left after so many layers has a list of too many turns, if it ends well
+pub left_long : (w : WorldView) (scope : Scope) (last : LayerView) (graph : List (Vec Spot)) (classes : List ClassView) → HasSearched w scope last graph classes
+    → (turns : ℕ) → turns < length graph → (m : ℕ) × ((live : LiveView) × ((slice_get last.worlds m ≡ Some live) × EndsWell live.world)) → (is : List ℕ) × IsTooLong w scope turns is
+left_long w scope last graph classes so_far turns more left =
+    let live = left.1.0 in
+    (live.turns, too_long w scope so_far.layers graph classes so_far.searched (length graph) left.0 turns last live (omega arith) more so_far.is_last left.1.1.0 left.1.1.1)
+
+pub first_on : (w : WorldView) (scope : Scope) (layer : LayerView) → IsFirst w scope layer → length w.seats ≤ ACTORS_MAX → AreOn 0 layer
+first_on w scope layer first few = record { stands = stands; actors = actors }
+  where
+    own : IsOn 0 layer.worlds first.stand
+    own = record {
+      on = let many = ap length first.worlds in let at = first.on in omega arith;
+      long = ap length first.turns;
+      few = subst (λ (m : Marks). AreWithin m 0) (sym first.marks) (record { cuts = omega arith; changes = omega arith });
+    }
+
+    stands : (s : ℕ) (stand : Stand) → slice_get layer.stands s ≡ Some stand → IsOn 0 layer.worlds stand
+    stands s stand e =
+        let one = only_one first.stand s stand (ap (λ (xs : List Stand). slice_get xs s) (sym first.stands) ∙ e) in
+        subst (λ (x : Stand). IsOn 0 layer.worlds x) (sym one.1) own
+
+    actors : (m : ℕ) (live : LiveView) → slice_get layer.worlds m ≡ Some live → length live.world.seats ≤ ACTORS_MAX
+    actors m live e =
+        let one = only_one (record { told = scope.outside; world = w; marks = no_marks; turns = [] }) m live (ap (λ (xs : List LiveView). slice_get xs m) (sym first.worlds) ∙ e) in
+        subst (λ (l : LiveView). length l.world.seats ≤ ACTORS_MAX) (sym one.1) few

@@ -1,0 +1,179 @@
+-- Turns of those who have nothing left to do change nothing; and closed sets of lists stand for all.
+use Rattle.std.specs.Prelude.{◌≡◌, ℕ, zero, suc, List, [], ◌∷◌, ◌++◌, Bool, true, false, ◌||◌, Option, Some, None, is_some, slice_get, slice_set, length, refl}
+use Rattle.std.proofs.Common.{sym, ap, ◌∙◌, subst}
+use Rattle.std.proofs.lemmas.Bool.{true≢false}
+use Rattle.std.proofs.lemmas.Option.{same_Some}
+use Rattle.tree_model.specs.declared.answer.Event.{Event}
+use Rattle.tree_model.specs.State.{State}
+use Rattle.root_ops.specs.View.{CallView}
+use Rattle.race_core.specs.declared.plan.Planned.{Planned}
+use Rattle.race_core.specs.declared.report.Outcome.{Outcome}
+use Rattle.handles.specs.Objects.{StandingObject}
+use Rattle.race_core.specs.declared.seat.Seat.{Seat}
+use Rattle.race_core.specs.Book.{BookedHistory, tree_now}
+use Rattle.race_core.specs.Ledgers.{LedgerView}
+use Rattle.race_core.specs.Turns.{Turned, turned}
+use Rattle.race_core.specs.TurnView.{are_some}
+use Rattle.race_core.specs.Worlds.{WorldView, turn_of, turn, is_busy_in, is_busy_at, ledgers_in, replies_in, AllOver, Runs, RunsTo, again, AllGoToEnd, numbers_below}
+use Rattle.explore.specs.Alike.{full, after_turns, TellTheSame}
+use Rattle.explore.specs.Want.{replies_want}
+use Rattle.explore.specs.Search.{IsOver, IsFull, IsLike, same, onward, IsClosed, ChosenListsStandForAll, ReportsAreOfFullLists, FullListsAreReported}
+use Rattle.explore.specs.Outside.{outside_of}
+use Rattle.explore.proofs.Alike.OutsideAlike.{same_turns}
+use Rattle.explore.proofs.Alike.Worlds.{busy_alike, tell_alike}
+use Rattle.explore.proofs.Wants.WantWorlds.{runs_are_full, ap_at, join}
+
+-- ---- turns one after another
+
+pub after_append : (w : WorldView) (is js : List ℕ) → after_turns w (is ++ js) ≡ after_turns (after_turns w is) js
+after_append w [] js = refl
+after_append w (i ∷ is) js = after_append (turn full w i) is js
+
+pub runs_append : (w u v : WorldView) (is js : List ℕ) → Runs w is u → Runs u js v → Runs w (is ++ js) v
+runs_append w u v [] js run more = subst (λ x. Runs x js v) run more
+runs_append w u v (i ∷ is) js run more = (run.0, runs_append (turn run.0 w i) u v is js run.1 more)
+
+-- ---- worlds like one another
+
+pub like_turns : {told : Bool} {w v : WorldView} (i : ℕ) → IsLike told w v → IsLike told (turn full w i) (turn full v i)
+like_turns i (same u) = same (turn full u i)
+like_turns {told} i (onward w u v alike like) =
+    onward (turn full w i) (turn full u i) (turn full v i) (same_turns told w u full i alike) (like_turns {w = u} {v = v} i like)
+
+pub like_trans : {told : Bool} {w u v : WorldView} → IsLike told w u → IsLike told u v → IsLike told w v
+like_trans (same x) more = more
+like_trans {told} {w} {u} {v} (onward a b c alike like) more = onward a b v alike (like_trans {w = b} {u = c} {v = v} like more)
+
+pub like_busy : {told : Bool} {w v : WorldView} (i : ℕ) → IsLike told w v → is_busy_at w.seats i ≡ is_busy_at v.seats i
+like_busy i (same u) = refl
+like_busy i (onward w u v alike like) =
+    join (is_busy_at w.seats i) (is_busy_at u.seats i) (is_busy_at v.seats i) (busy_alike w u i alike.alike) (like_busy {w = u} {v = v} i like)
+
+pub like_tells : {told : Bool} {w v : WorldView} → IsLike told w v → TellTheSame w v
+like_tells (same u) = record { replies = refl; nodes = refl; held = λ a. refl }
+like_tells (onward w u v alike like) =
+    let first : TellTheSame w u = tell_alike w u alike.alike in
+    let rest : TellTheSame u v = like_tells {w = u} {v = v} like in
+    record { replies = first.replies ∙ rest.replies; nodes = first.nodes ∙ rest.nodes; held = λ a. first.held a ∙ rest.held a }
+
+pub like_outside : {told : Bool} {w v : WorldView} → IsLike told w v → outside_of told w ≡ outside_of told v
+like_outside (same u) = refl
+like_outside {told} (onward w u v alike like) = join (outside_of told w) (outside_of told u) (outside_of told v) alike.outside (like_outside {w = u} {v = v} like)
+
+module _ (told : Bool) (w : WorldView) (chosen : List ℕ → Bool) (closed : IsClosed told w chosen) where
+  stands : (u : WorldView) (is js : List ℕ) → chosen js ≡ true → IsLike told u (after_turns w js) → IsFull u is
+      → (ks : List ℕ) × ((chosen ks ≡ true) × (IsOver (after_turns w ks) × TellTheSame (after_turns u is) (after_turns w ks)))
+  stands u [] js e like over =
+      (js, (e, ((λ i. sym (like_busy {w = u} {v = after_turns w js} i like) ∙ over i), like_tells {w = u} {v = after_turns w js} like)))
+  stands u (i ∷ is) js e like rest =
+      let next = closed.goes_on js i e (sym (like_busy {w = u} {v = after_turns w js} i like) ∙ rest.0) in
+      let moved : IsLike told (turn full u i) (turn full (after_turns w js) i) = like_turns {w = u} {v = after_turns w js} i like in
+      let here : IsLike told (turn full u i) (after_turns w (js ++ i ∷ [])) =
+      subst (λ x. IsLike told (turn full u i) x) (sym (after_append w js (i ∷ []))) moved in
+      let there : IsLike told (turn full u i) (after_turns w next.0) =
+      like_trans {w = turn full u i} {u = after_turns w (js ++ i ∷ [])} {v = after_turns w next.0} here next.1.1 in
+      stands (turn full u i) is next.0 next.1.0 there rest.1
+
+pub chosen_lists_stand : ChosenListsStandForAll
+chosen_lists_stand told w chosen closed is whole = stands told w chosen closed w is [] closed.begins (same w) whole
+
+-- ---- idle turns
+
+set_same : (seats : List Seat) (i : ℕ) (seat : Seat) → slice_get seats i ≡ Some seat → slice_set seats i seat ≡ seats
+set_same [] i seat e = refl
+set_same (first ∷ seats) zero seat e = ap (λ s. s ∷ seats) (sym (same_Some first seat e))
+set_same (first ∷ seats) (suc i) seat e = ap (λ others. first ∷ others) (set_same seats i seat e)
+
+idle_turned : (book : BookedHistory) (ledger : LedgerView) (doing : Option CallView) → (is_some doing || are_some ledger.to_come) ≡ false
+    → turned full book ledger doing ≡ record { book = book; seat = record { ledger = ledger; doing = doing } }
+idle_turned book ledger (Some view) e = absurd (true≢false e)
+idle_turned book ledger None e = by ledger.to_come refl e
+  where
+    by : (to_come : List Planned) → ledger.to_come ≡ to_come → are_some to_come ≡ false
+        → turned full book ledger None ≡ record { book = book; seat = record { ledger = ledger; doing = None } }
+    by (next ∷ others) q e = absurd (true≢false e)
+    by [] q e =
+        let bare : LedgerView = record ledger { to_come = [] } in
+        let same : ledger ≡ bare = (λ i. record ledger { to_come = q i }) in
+        subst (λ l. turned full book l None ≡ record { book = book; seat = record { ledger = l; doing = None } }) (sym same) refl
+
+idle_turn : (w : WorldView) (i : ℕ) → is_busy_at w.seats i ≡ false → turn full w i ≡ w
+idle_turn w i idle = by (slice_get w.seats i) refl idle
+  where
+    by : (seat : Option Seat) → slice_get w.seats i ≡ seat → is_busy_in seat ≡ false → turn_of full w i seat ≡ w
+    by None e q = refl
+    by (Some seat) e q =
+        let rested : Turned = record { book = w.book; seat = seat } in
+        join (turn_of full w i (Some seat)) (record { book = w.book; seats = slice_set w.seats i seat; spent = w.spent }) w
+        (ap_at (λ (t : Turned). record { book = t.book; seats = slice_set w.seats i t.seat; spent = w.spent })
+        (turned full w.book seat.ledger seat.doing) rested (idle_turned w.book seat.ledger seat.doing q))
+        (ap_at (λ (seats : List Seat). record { book = w.book; seats = seats; spent = w.spent }) (slice_set w.seats i seat) w.seats (set_same w.seats i seat e))
+
+pub over_rests : (w : WorldView) (is : List ℕ) → IsOver w → after_turns w is ≡ w
+over_rests w [] over = refl
+over_rests w (i ∷ is) over =
+    join (after_turns (turn full w i) is) (after_turns w is) w (ap_at (λ (u : WorldView). after_turns u is) (turn full w i) w (idle_turn w i (over i))) (over_rests w is over)
+
+full_rests : (w : WorldView) (is js : List ℕ) → IsFull w is → after_turns w (is ++ js) ≡ after_turns w is
+full_rests w [] js over = over_rests w js over
+full_rests w (i ∷ is) js rest = full_rests (turn full w i) is js rest.1
+
+-- any list after which nobody has anything left to do comes to what a full one comes to
+tight : (w : WorldView) (is : List ℕ) → IsOver (after_turns w is) → (js : List ℕ) × (IsFull w js × (after_turns w is ≡ after_turns w js))
+tight w [] over = ([], (over, refl))
+tight w (i ∷ is) over = by (λ u rest. tight u is rest) (is_busy_at w.seats i) refl
+  where
+    by : ((u : WorldView) → IsOver (after_turns u is) → (js : List ℕ) × (IsFull u js × (after_turns u is ≡ after_turns u js)))
+        → (b : Bool) → is_busy_at w.seats i ≡ b → (js : List ℕ) × (IsFull w js × (after_turns (turn full w i) is ≡ after_turns w js))
+    by others true e = let rest = others (turn full w i) over in (i ∷ rest.0, ((e, rest.1.0), rest.1.1))
+    by others false e =
+        let moved : after_turns (turn full w i) is ≡ after_turns w is = ap_at (λ (u : WorldView). after_turns u is) (turn full w i) w (idle_turn w i e) in
+        let rest = others w (subst (λ (u : WorldView). IsOver u) moved over) in
+        (rest.0, (rest.1.0, join (after_turns (turn full w i) is) (after_turns w is) (after_turns w rest.0) moved rest.1.1))
+
+-- ---- runs to the end
+
+pub ends_run : (w v : WorldView) (is : List ℕ) → AllGoToEnd w is v → (js : List ℕ) × Runs w js v
+ends_run w v [] e = ([], e)
+ends_run w v (i ∷ is) goes =
+    let rest = ends_run goes.0 v is goes.2 in
+    (again i goes.1.turns ++ rest.0, runs_append w goes.0 v (again i goes.1.turns) rest.0 goes.1.run rest.1)
+
+pub over_at : (seats : List Seat) (i : ℕ) → AllOver seats → is_busy_at seats i ≡ false
+over_at [] i over = refl
+over_at (seat ∷ seats) zero over = over.0
+over_at (seat ∷ seats) (suc i) over = over_at seats i over.1
+
+-- what a report is of: the turns of the schedule and more, with memory for all
+pub reported : (w : WorldView) (schedule : List ℕ) (tree : State) (events : List Event) (replies : List (List Outcome)) (kept : List StandingObject)
+    → (ran : RunsTo w schedule tree events replies kept) → replies_want replies ≡ false
+    → (js : List ℕ) × ((ran.end ≡ after_turns w (schedule ++ js)) × IsOver (after_turns w (schedule ++ js)))
+reported w schedule tree events replies kept ran none =
+    let rest = ends_run ran.runs.middle ran.end (numbers_below (length w.seats)) ran.runs.rest in
+    let whole = runs_append w ran.runs.middle ran.end schedule rest.0 ran.runs.scheduled rest.1 in
+    let quiet : replies_want (replies_in (ledgers_in ran.end.seats)) ≡ false = sym (ap replies_want ran.reports.are_replies) ∙ none in
+    let is = runs_are_full w ran.end (schedule ++ rest.0) whole ran.over quiet in
+    (rest.0, (is, subst (λ (u : WorldView). IsOver u) is (λ i. over_at ran.end.seats i ran.over)))
+
+pub reports_are_full : ReportsAreOfFullLists
+reports_are_full w schedule tree events replies kept ran none =
+    let all = reported w schedule tree events replies kept ran none in
+    let short = tight w (schedule ++ all.0) all.1.1 in
+    let end : ran.end ≡ after_turns w short.0 = join ran.end (after_turns w (schedule ++ all.0)) (after_turns w short.0) all.1.0 short.1.1 in (
+      short.0,
+      (
+        short.1.0,
+        (
+          ran.reports.is_tree ∙ ap_at (λ (u : WorldView). tree_now u.book) ran.end (after_turns w short.0) end,
+          ran.reports.are_replies ∙ ap_at (λ (u : WorldView). replies_in (ledgers_in u.seats)) ran.end (after_turns w short.0) end,
+        ),
+      ),
+    )
+
+pub full_lists_are_reported : FullListsAreReported
+full_lists_are_reported w is tree events replies kept whole ran none =
+    let all = reported w is tree events replies kept ran none in
+    let end : ran.end ≡ after_turns w is = join ran.end (after_turns w (is ++ all.0)) (after_turns w is) all.1.0 (full_rests w is all.0 whole) in (
+      ran.reports.is_tree ∙ ap_at (λ (u : WorldView). tree_now u.book) ran.end (after_turns w is) end,
+      ran.reports.are_replies ∙ ap_at (λ (u : WorldView). replies_in (ledgers_in u.seats)) ran.end (after_turns w is) end,
+    )

@@ -1,0 +1,125 @@
+-- When two endings tell the same outcome; and what stands where in a list with one more at its end.
+use Rattle.std.specs.Prelude.{◌≡◌, ◌<◌, ℕ, zero, suc, List, [], ◌∷◌, ◌++◌, Bool, length, slice_get, slice_set, Option, Some, None, refl}
+use Rattle.std.proofs.Common.{◌⊎◌, inl, inr, sym, ap, ◌∙◌, subst, ⊎_elim}
+use Rattle.std.proofs.lemmas.Option.{same_Some, none-some}
+use Rattle.tree_model.specs.Steps.{held_count}
+use Rattle.race_core.specs.declared.seat.Seat.{Seat}
+use Rattle.race_core.specs.Worlds.{WorldView, turn, turn_of, ledgers_in, replies_in}
+use Rattle.race_core.specs.Turns.{turned}
+use Rattle.explore.specs.declared.limits.Scope.{Scope}
+use Rattle.explore.specs.Renamed.{replies_by}
+use Rattle.explore.specs.Alike.{full, after_turns}
+use Rattle.explore.specs.Explored.{TellAlike, AgreeIn, EndingView}
+use Rattle.explore.specs.Layers.{LiveView, IsReportOf}
+use Rattle.explore.specs.Outside.{outside_of}
+use Rattle.explore.specs.Tally.{SameOutcome}
+use Rattle.explore.proofs.Lists.Mapped.{other_reply_lengths}
+
+-- ---- as many actors as ever
+
+pub length_set : {A : Type 0} (xs : List A) (i : ℕ) (x : A) → length (slice_set xs i x) ≡ length xs
+length_set [] i x = refl
+length_set (y ∷ ys) zero x = refl
+length_set (y ∷ ys) (suc i) x = ap suc (length_set ys i x)
+
+turn_keeps : (w : WorldView) (i : ℕ) → length (turn full w i).seats ≡ length w.seats
+turn_keeps w i = by (slice_get w.seats i)
+  where
+    by : (seat : Option Seat) → length (turn_of full w i seat).seats ≡ length w.seats
+    by None = refl
+    by (Some seat) = length_set w.seats i (turned full w.book seat.ledger seat.doing).seat
+
+pub actors_stay : (w : WorldView) (is : List ℕ) → length (after_turns w is).seats ≡ length w.seats
+actors_stay w [] = refl
+actors_stay w (i ∷ is) = actors_stay (turn full w i) is ∙ turn_keeps w i
+
+pub replies_of_seats : (seats : List Seat) → length (replies_in (ledgers_in seats)) ≡ length seats
+replies_of_seats [] = refl
+replies_of_seats (seat ∷ seats) = ap suc (replies_of_seats seats)
+
+-- ---- worlds that tell the same outcome
+
+module _ (told : Bool) where
+  -- they have as many actors
+  tell_actors : (w v : WorldView) → TellAlike told w v → length w.seats ≡ length v.seats
+  tell_actors w v h =
+      sym (replies_of_seats w.seats)
+      ∙ (other_reply_lengths (λ h. 0) (replies_in (ledgers_in w.seats)) (replies_in (ledgers_in v.seats)) h.replies
+      ∙ replies_of_seats v.seats)
+
+  pub tell_same : (w : WorldView) → TellAlike told w w
+  tell_same w = record { replies = refl; nodes = refl; held = λ a lt. refl; outside = refl }
+
+  pub tell_turned : (w v : WorldView) → TellAlike told w v → TellAlike told v w
+  tell_turned w v h = record {
+    replies = sym h.replies;
+    nodes = sym h.nodes;
+    held = λ a lt. sym (h.held a (subst (λ n. a < n) (sym (tell_actors w v h)) lt));
+    outside = sym h.outside;
+  }
+
+  pub tell_on : (w u v : WorldView) → TellAlike told w u → TellAlike told u v → TellAlike told w v
+  tell_on w u v h k = record {
+    replies = h.replies ∙ k.replies;
+    nodes = h.nodes ∙ k.nodes;
+    held = λ a lt. h.held a lt ∙ k.held a (subst (λ n. a < n) (tell_actors w u h) lt);
+    outside = h.outside ∙ k.outside;
+  }
+
+-- ---- the same outcome
+
+pub agree_same : (w : WorldView) (scope : Scope) (is : List ℕ) → AgreeIn w scope is is
+agree_same w scope is = tell_same scope.outside (after_turns w is)
+
+pub agree_turned : (w : WorldView) (scope : Scope) (is js : List ℕ) → AgreeIn w scope is js → AgreeIn w scope js is
+agree_turned w scope is js h = tell_turned scope.outside (after_turns w is) (after_turns w js) h
+
+pub agree_on : (w : WorldView) (scope : Scope) (is js ks : List ℕ) → AgreeIn w scope is js → AgreeIn w scope js ks → AgreeIn w scope is ks
+agree_on w scope is js ks h k = tell_on scope.outside (after_turns w is) (after_turns w js) (after_turns w ks) h k
+
+-- two worlds that are told of
+module _ (live other : LiveView) (e d : EndingView) (is : IsReportOf live e) (are : IsReportOf other d) (told : live.told ≡ other.told) where
+  pub worlds_tell : SameOutcome e d → TellAlike live.told live.world other.world
+  worlds_tell h = record {
+    replies = ap (replies_by (λ h. 0)) (sym is.report.are_replies) ∙ (h.replies ∙ ap (replies_by (λ h. 0)) are.report.are_replies);
+    nodes = ap (λ s. s.nodes) (sym is.report.is_tree) ∙ (h.nodes ∙ ap (λ s. s.nodes) are.report.is_tree);
+    held = λ a lt.
+        ap (λ s. held_count s a) (sym is.report.is_tree)
+        ∙ (h.held a (subst (λ n. a < n) many lt)
+        ∙ ap (λ s. held_count s a) are.report.is_tree);
+    outside = sym is.outside ∙ (h.outside ∙ (are.outside ∙ ap (λ b. outside_of b other.world) (sym told)));
+  }
+    where
+      many : length live.world.seats ≡ length d.replies
+      many = sym (replies_of_seats live.world.seats) ∙ (ap length (sym is.report.are_replies) ∙ other_reply_lengths (λ h. 0) e.replies d.replies h.replies)
+
+  pub worlds_same : TellAlike live.told live.world other.world → SameOutcome e d
+  worlds_same h = record {
+    replies = ap (replies_by (λ h. 0)) is.report.are_replies ∙ (h.replies ∙ ap (replies_by (λ h. 0)) (sym are.report.are_replies));
+    held = λ a lt.
+        ap (λ s. held_count s a) is.report.is_tree
+        ∙ (h.held a (subst (λ n. a < n) many lt)
+        ∙ ap (λ s. held_count s a) (sym are.report.is_tree));
+    nodes = ap (λ s. s.nodes) is.report.is_tree ∙ (h.nodes ∙ ap (λ s. s.nodes) (sym are.report.is_tree));
+    outside = is.outside ∙ (h.outside ∙ (ap (λ b. outside_of b other.world) told ∙ sym are.outside));
+  }
+    where
+      many : length d.replies ≡ length live.world.seats
+      many = ap length are.report.are_replies ∙ (replies_of_seats other.world.seats ∙ sym (tell_actors live.told live.world other.world h))
+
+-- ---- places
+
+pub get_push : {A : Type 0} (xs : List A) (y : A) (k : ℕ) (x : A) → slice_get (xs ++ y ∷ []) k ≡ Some x → (slice_get xs k ≡ Some x) ⊎ ((k ≡ length xs) × (x ≡ y))
+get_push [] y zero x e = inr (refl, sym (same_Some y x e))
+get_push [] y (suc k) x e = absurd (none-some x e)
+get_push (z ∷ zs) y zero x e = inl e
+get_push (z ∷ zs) y (suc k) x e = ⊎_elim (λ h. inl h) (λ h. inr (ap suc h.0, h.1)) (get_push zs y k x e)
+
+pub get_left : {A : Type 0} (xs : List A) (y : A) (k : ℕ) (x : A) → slice_get xs k ≡ Some x → slice_get (xs ++ y ∷ []) k ≡ Some x
+get_left [] y k x e = absurd (none-some x e)
+get_left (z ∷ zs) y zero x e = e
+get_left (z ∷ zs) y (suc k) x e = get_left zs y k x e
+
+pub get_last : {A : Type 0} (xs : List A) (y : A) → slice_get (xs ++ y ∷ []) (length xs) ≡ Some y
+get_last [] y = refl
+get_last (z ∷ zs) y = get_last zs y

@@ -1,0 +1,34 @@
+-- A turn taken, and the marks after it.
+use Rattle.std.specs.Prelude.{◌≡◌, ◌≤◌, ℕ, ◌+◌, List, [], ◌∷◌, ◌++◌, Bool, true, false, Option, Some, None, length, slice_get, refl}
+use Rattle.std.proofs.Common.{sym, ap, ◌∙◌, subst, arith}
+use Rattle.race_core.specs.declared.seat.Seat.{Seat}
+use Rattle.race_core.specs.Turns.{Luck, turned}
+use Rattle.race_core.specs.Worlds.{WorldView, turn_of, turn}
+use Rattle.explore.specs.Lists.{plus, is_cut, is_another}
+use Rattle.explore.specs.Points.{Point, IsTurn, AreWithin}
+use Rattle.explore.proofs.Lists.Told.{length_set}
+
+pub turn_stays : (luck : Luck) (w : WorldView) (i : ℕ) → length (turn luck w i).seats ≡ length w.seats
+turn_stays luck w i = by (slice_get w.seats i)
+  where
+    by : (seat : Option Seat) → length (turn_of luck w i seat).seats ≡ length w.seats
+    by None = refl
+    by (Some seat) = length_set w.seats i (turned luck w.book seat.ledger seat.doing).seat
+
+pub turn_actors : (p q : Point) (i : ℕ) → IsTurn p i q → length q.world.seats ≡ length p.world.seats
+turn_actors p q i turned = ap (λ (x : Point). length x.world.seats) turned.1 ∙ turn_stays turned.0 p.world i
+
+plus_few : (b : Bool) (m n : ℕ) → m ≤ n → plus b m ≤ n + 1
+plus_few true m n le = omega arith
+plus_few false m n le = omega arith
+
+pub turn_within : (p q : Point) (i n : ℕ) → IsTurn p i q → AreWithin p.marks n → AreWithin q.marks (n + 1)
+turn_within p q i n turned within =
+    subst (λ (x : Point). AreWithin x.marks (n + 1)) (sym turned.1) (record {
+      cuts = plus_few (is_cut p.world.seats p.marks.last i) p.marks.cuts n within.cuts;
+      changes = plus_few (is_another p.marks.last i) p.marks.changes n within.changes;
+    })
+
+pub push_append : {A : Type 0} (xs : List A) (y : A) (zs : List A) → (xs ++ y ∷ []) ++ zs ≡ xs ++ y ∷ zs
+push_append [] y zs = refl
+push_append (x ∷ xs) y zs = ap (λ ys. x ∷ ys) (push_append xs y zs)

@@ -1,0 +1,84 @@
+-- What is asked, by the texts of a command line's options.
+use Rattle.std.specs.Prelude.{⊤, ◌≡◌, ◌<◌, ◌≤◌, ◌^◌, ℕ, List, [], ◌∷◌, ◌++◌, Bool, true, false, map, decimal, Option, Some, None}
+use Rattle.std.specs.Borrow.{Bor}
+use Rattle.std.specs.List.{list_all}
+use Rattle.explore_text.specs.declared.options.OptionFault.{OptionFault}
+use Rattle.explore_text.specs.declared.options.OptionFault.TheVariants.{Actor, Cuts, States, Text, NoMemory}
+use Rattle.explore_text.specs.declared.options.Options.{Options}
+use Rattle.explore_text.specs.declared.options.TheConstants.{CUTS_MAX, STATES_MAX, STATES}
+use Rattle.explore_text.specs.declared.property.Property.{Property}
+use Rattle.explore_text.specs.declared.property.Rule.{Rule}
+use Rattle.explore_text.specs.declared.property.Rule.TheVariants.{Never, Always}
+use Rattle.explore_text.specs.declared.search.Asked.{Asked}
+use Rattle.explore_text.specs.Property.{is_property}
+
+-- ---- what texts say
+
+-- the text is the number's decimal digits
+abbrev pub Says : List ℕ → ℕ → Type 0
+Says text n = (n < 2 ^ 32) × (text ≡ decimal n)
+
+-- each text is that of its number
+abbrev pub AllSay : List (List ℕ) → List ℕ → Type 0
+AllSay [] [] = ⊤
+AllSay [] (n ∷ ns) = ⊥
+AllSay (text ∷ texts) [] = ⊥
+AllSay (text ∷ texts) (n ∷ ns) = Says text n × AllSay texts ns
+
+-- no bound, or the one that the text says
+abbrev pub SaysCuts : Option (Bor (List ℕ)) → Option ℕ → Type 0
+SaysCuts None None = ⊤
+SaysCuts None (Some n) = ⊥
+SaysCuts (Some text) None = ⊥
+SaysCuts (Some text) (Some n) = (text.now ≡ decimal n) × (n ≤ CUTS_MAX)
+
+-- the usual number, or the one that the text says
+abbrev pub SaysMost : Option (Bor (List ℕ)) → ℕ → Type 0
+SaysMost None n = n ≡ STATES
+SaysMost (Some text) n = (text.now ≡ decimal n) × (1 ≤ n) × (n ≤ STATES_MAX)
+
+abbrev pub are_properties : Bool → List (List ℕ) → Bool
+are_properties outside texts = list_all (is_property outside) texts
+
+abbrev pub properties_by : Rule → List (List ℕ) → List Property
+properties_by rule texts = map (λ text. record { rule = rule; text = text }) texts
+
+-- ---- what the options say
+
+-- the texts of an option that may come more than once
+abbrev pub texts_in : List (Bor (List ℕ)) → List (List ℕ)
+texts_in given = map (λ text. text.now) given
+
+abbrev pub SaysActors : Options → List ℕ → Type 0
+SaysActors options numbers = AllSay (texts_in options.actors.now) numbers
+
+abbrev pub property_texts : Options → List (List ℕ)
+property_texts options = texts_in options.never.now ++ texts_in options.always.now
+
+-- what is asked is what the options say, the properties by `never` before those by `always`
+pub record AreAsked (options : Options) (asked : Asked) : Type 0 where
+  pub named : SaysActors options asked.named.items
+  pub cuts : SaysCuts options.cuts asked.cuts
+  pub most : SaysMost options.states asked.most
+  pub outside : asked.outside ≡ options.outside
+  pub properties : asked.properties.items
+      ≡ properties_by Never (texts_in options.never.now) ++ properties_by Always (texts_in options.always.now)
+  pub texts : are_properties options.outside (property_texts options) ≡ true
+
+-- ---- which option is refused: the first in this order
+
+abbrev pub IsSaid : {A : Type 0} → (A → Type 0) → Type 0
+IsSaid {A} SaysIt = (x : A) × SaysIt x
+
+abbrev pub IsUnsaid : {A : Type 0} → (A → Type 0) → Type 0
+IsUnsaid {A} SaysIt = (x : A) → SaysIt x → ⊥
+
+abbrev pub IsOptionFault : Options → OptionFault → Type 0
+IsOptionFault options Actor = IsUnsaid (SaysActors options)
+IsOptionFault options Cuts = IsSaid (SaysActors options) × IsUnsaid (SaysCuts options.cuts)
+IsOptionFault options States =
+    IsSaid (SaysActors options) × IsSaid (SaysCuts options.cuts) × IsUnsaid (SaysMost options.states)
+IsOptionFault options Text =
+    IsSaid (SaysActors options) × IsSaid (SaysCuts options.cuts) × IsSaid (SaysMost options.states)
+    × (are_properties options.outside (property_texts options) ≡ false)
+IsOptionFault options NoMemory = ⊤

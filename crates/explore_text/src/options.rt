@@ -1,0 +1,170 @@
+//! What is asked, by the texts of a command line's options.
+ghost use Rattle.std.specs.Prelude.{◌≡◌, ◌≢◌, ◌≤◌, ◌++◌, ℕ, true, IfOk, MatchOption, MatchResult, decimal};
+ghost use Rattle.explore_text.specs.declared.options.OptionFault.TheVariants as option_fault;
+ghost use Rattle.explore_text.specs.Options.{texts_in, AllSay, SaysCuts, SaysMost, IsUnsaid, are_properties, properties_by, AreAsked, IsOptionFault};
+
+use crate::property::{Property, Rule, read_property};
+use crate::search::Asked;
+use path_text::NoMemory;
+use scripts::number_of;
+use std::alloc::Global;
+use thiserror::Error;
+
+/// The most cuts that may be asked for.
+pub const CUTS_MAX: u32 = 1_000_000;
+
+/// The most worlds that may be asked for.
+pub const STATES_MAX: u32 = 10_000_000;
+
+/// How many worlds are gone through at most where nothing is said.
+pub const STATES: u32 = 100_000;
+
+/// The texts of the options, of each as often as it was given.
+#[derive(Clone, Copy, Debug, Default)]
+pub struct Options<'a> {
+    pub actors: &'a [&'a str],
+    pub cuts: Option<&'a str>,
+    pub states: Option<&'a str>,
+    pub outside: bool,
+    pub never: &'a [&'a str],
+    pub always: &'a [&'a str],
+}
+
+/// Which option has a text of another form.
+#[derive(Clone, Copy, Debug, PartialEq, Eq, Error)]
+pub enum OptionFault {
+    #[error("--actor is an actor's number, counted from 0")]
+    Actor,
+    #[error("--cuts is a number up to 1000000")]
+    Cuts,
+    #[error("--states is a number from 1 to 10000000")]
+    States,
+    #[error("--never and --always take a line's beginning: reply, row or held, or outside with --outside, and words after it")]
+    Text,
+    /// Room was refused.
+    #[error("no memory")]
+    NoMemory,
+}
+
+impl From<NoMemory> for OptionFault {
+    ghost from_gives = { λ _ fault. fault ≡ option_fault.NoMemory };
+
+    fn from(_error: NoMemory) -> OptionFault {
+        OptionFault::NoMemory
+    }
+}
+
+// The numbers that texts say, if each says one.
+fn numbers_in(alloc: Global, texts: &[&str]) -> Result<Option<Vec<u32>>, NoMemory>
+    ensures { IfOk result (λ said.
+        MatchOption said (IsUnsaid (AllSay (texts_in texts.now)))
+        (λ numbers. AllSay (texts_in texts.now) numbers.items)) }
+{
+    let mut numbers = Vec::with_capacity(alloc, texts.len())?;
+    for text in texts {
+        let Some(number) = number_of(text) else {
+            return Ok(None);
+        };
+        numbers.push(number)?;
+    }
+    Ok(Some(numbers))
+}
+
+// The number that a text says, if it says one from the least to the most.
+fn number_within(text: &str, least: u32, most: u32) -> Option<u32>
+    ensures { MatchOption result ((n : ℕ) → least ≤ n → n ≤ most → text.now ≢ decimal n)
+        (λ n. (text.now ≡ decimal n) × (least ≤ n) × (n ≤ most)) }
+{
+    let number = number_of(text)?;
+    if least <= number && number <= most {
+        Some(number)
+    } else {
+        None
+    }
+}
+
+// The bound on the cuts that a text says, if there is a text.
+fn cuts_in(text: Option<&str>) -> Result<Option<u64>, OptionFault>
+    ensures { MatchResult result (SaysCuts text.entry)
+        (λ fault. (fault ≡ option_fault.Cuts) × IsUnsaid (SaysCuts text.entry)) }
+{
+    let Some(text) = text else {
+        return Ok(None);
+    };
+    match number_within(text, 0, CUTS_MAX) {
+        Some(cuts) => Ok(Some(u64::from(cuts))),
+        None => Err(OptionFault::Cuts),
+    }
+}
+
+// How many worlds a text says, or the usual number where there is none.
+fn states_in(text: Option<&str>) -> Result<u64, OptionFault>
+    ensures { MatchResult result (SaysMost text.entry)
+        (λ fault. (fault ≡ option_fault.States) × IsUnsaid (SaysMost text.entry)) }
+{
+    let Some(text) = text else {
+        return Ok(u64::from(STATES));
+    };
+    match number_within(text, 1, STATES_MAX) {
+        Some(most) => Ok(u64::from(most)),
+        None => Err(OptionFault::States),
+    }
+}
+
+// Adds the properties that texts say by that rule. Whether each text says one.
+fn add_properties(
+    alloc: Global,
+    properties: &mut Vec<Property>,
+    outside: bool,
+    rule: Rule,
+    texts: &[&str],
+) -> Result<bool, NoMemory>
+    ensures all { IfOk result (λ all. all ≡ are_properties outside (texts_in texts.now)) }
+    ensures added { IfOk result (λ all. all ≡ true
+        → properties.new.items ≡ properties.old.items ++ properties_by rule (texts_in texts.now)) }
+{
+    for text in texts {
+        let Some(property) = read_property(alloc, outside, rule, text)? else {
+            return Ok(false);
+        };
+        properties.push(property)?;
+    }
+    Ok(true)
+}
+
+/// What the texts of options ask for, the properties by `never` before those by `always`.
+///
+/// Errors, in this order: `Actor` where one of `actors` is no number below 2^32; `Cuts` where `cuts` is no number up
+/// to 1,000,000; `States` where `states` is no number from 1 to 10,000,000; `Text` where one of `never` or `always`
+/// is no property's (`read_property`); `NoMemory` where room was refused, whatever else is wrong. Numbers are
+/// written in decimal digits, with no zero before them.
+pub fn read_asked(alloc: Global, options: Options) -> Result<Asked, OptionFault>
+    ensures { MatchResult result (AreAsked options.entry) (IsOptionFault options.entry) }
+{
+    let Some(named) = numbers_in(alloc, options.actors)? else {
+        return Err(OptionFault::Actor);
+    };
+    let cuts = cuts_in(options.cuts)?;
+    let most = states_in(options.states)?;
+    let outside = options.outside;
+    let mut properties = Vec::new(alloc);
+    if !add_properties(alloc, &mut properties, outside, Rule::Never, options.never)? {
+        return Err(OptionFault::Text);
+    }
+    if !add_properties(
+        alloc,
+        &mut properties,
+        outside,
+        Rule::Always,
+        options.always,
+    )? {
+        return Err(OptionFault::Text);
+    }
+    Ok(Asked {
+        named,
+        cuts,
+        most,
+        outside,
+        properties,
+    })
+}

@@ -1,0 +1,106 @@
+//! A script explored: all schedules of its world are gone through, and what they come to is written.
+ghost use Rattle.std.specs.Prelude.{◌≡◌, ◌≢◌, [], IfOk, MatchResult};
+ghost use Rattle.scripts.specs.Scenario.{said_by, IsPlayable};
+ghost use Rattle.explore_text.specs.declared.script.ExploreFault.TheVariants as explore_fault;
+ghost use Rattle.explore_text.specs.Explore.{told_by, IsExplore, IsNoSurvey, IsSurveyOf};
+
+use crate::search::{Asked, Survey, SurveyFault, survey_scene};
+use explore::{Progress, Scene};
+use scripts::{RunFault, Scenario, TurnOrder, read_scene};
+use std::alloc::Global;
+use std::io::{Read, Write};
+use thiserror::Error;
+use tree_list::ListTree;
+
+/// Why there is no answer. Nothing was written before it, but by a writer that failed.
+#[derive(Clone, Copy, Debug, PartialEq, Eq, Error)]
+pub enum ExploreFault {
+    #[error("{0}")]
+    Run(RunFault),
+    /// The first actor that is named and isn't there.
+    #[error("explore: actor {0}")]
+    NoSuchActor(u32),
+    /// The first property that no report can have a line for, by its place, counted from 0.
+    #[error("explore: property {0}")]
+    NoSuchLine(usize),
+    /// There are more worlds than are gone through.
+    #[error("explore: states")]
+    TooManyStates,
+    /// A schedule has more than 100,000 turns.
+    #[error("explore: turns")]
+    TooManyTurns,
+}
+
+impl From<RunFault> for ExploreFault {
+    ghost from_gives = { λ fault told. told ≡ explore_fault.Run fault };
+
+    fn from(fault: RunFault) -> ExploreFault {
+        ExploreFault::Run(fault)
+    }
+}
+
+// How it is told that there is no survey.
+fn told_by(fault: SurveyFault) -> ExploreFault
+    ensures { result ≡ told_by fault }
+{
+    match fault {
+        SurveyFault::NoSuchActor(actor) => ExploreFault::NoSuchActor(actor),
+        SurveyFault::NoSuchLine(place) => ExploreFault::NoSuchLine(place),
+        SurveyFault::TooManyStates => ExploreFault::TooManyStates,
+        SurveyFault::TooManyTurns => ExploreFault::TooManyTurns,
+        SurveyFault::NoMemory => ExploreFault::Run(RunFault::NoMemory),
+    }
+}
+
+// All schedules of what a script says gone through. Errors as of `explore_script`, but for those of reading and
+// writing.
+fn surveyed<P: Progress>(
+    alloc: Global,
+    scenario: Scenario,
+    tree: ListTree,
+    asked: &Asked,
+    progress: &mut P,
+) -> Result<Survey, ExploreFault>
+    requires same { tree ≡ scenario.tree }
+    requires none { scenario.tree.handles ≡ [] }
+    requires playable { IsPlayable (said_by scenario) }
+    ensures survey { MatchResult result (λ survey. IsSurveyOf asked.now survey.holds (said_by scenario) survey.text)
+        (IsNoSurvey asked.now (said_by scenario)) }
+    ensures some { IfOk result (λ survey. survey.text ≢ []) }
+{
+    let (plans, lines) = (scenario.plans, scenario.lines);
+    if (lines as usize) < plans.len() {
+        return Err(ExploreFault::Run(RunFault::BookFull));
+    }
+    let scene = Scene { tree, plans, lines };
+    match survey_scene(alloc, &scene, asked, progress) {
+        Ok(survey) => Ok(survey),
+        Err(fault) => Err(told_by(fault)),
+    }
+}
+
+/// Reads a script, goes through all schedules of its world, those with at most so many cuts, and writes what they
+/// come to. The script's own schedule is checked and not used. The result is whether no property fails. On the way
+/// `progress` gets the number of worlds so far.
+///
+/// Errors, in this order: those of `read_scenario`; `BookFull` where the script gives its book fewer lines than it
+/// has actors; `NoSuchActor` of the first that is named and isn't there; `NoSuchLine` of the first property that
+/// names an actor who isn't there, or a call that its actor doesn't have; `TooManyStates` where there are more
+/// worlds than are gone through, and `TooManyTurns` where one has more than 100,000, whichever is met first;
+/// `NoMemory`; `WriteFailed`. Nothing is written before the text is whole.
+pub fn explore_script<R: Read, W: Write, P: Progress>(
+    alloc: Global,
+    reader: &mut R,
+    writer: &mut W,
+    asked: &Asked,
+    progress: &mut P,
+) -> Result<bool, ExploreFault>
+    ensures run { IsExplore asked.now (R.remaining reader.old) (W.contents writer.old) (W.contents writer.new) result }
+{
+    let (scenario, tree) = read_scene(alloc, reader, &TurnOrder::OfScript)?;
+    let survey = surveyed(alloc, scenario, tree, asked, progress)?;
+    match writer.write_all(survey.text.as_slice()) {
+        Ok(()) => Ok(survey.holds),
+        Err(_) => Err(ExploreFault::Run(RunFault::WriteFailed)),
+    }
+}

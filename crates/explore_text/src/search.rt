@@ -1,0 +1,152 @@
+//! All schedules of a world gone through, and told.
+ghost use Rattle.std.specs.Prelude.{◌≡◌, ◌≤◌, length, find, nat_le, IfOk, MatchResult};
+ghost use Rattle.race_core.specs.declared.opening.TheConstants.{ACTORS_MAX as MOST_ACTORS};
+ghost use Rattle.explore_text.specs.declared.search.SurveyFault.TheVariants as survey_fault;
+ghost use Rattle.explore_text.specs.Surveyed.{IsTelling, IsSurvey, WhyNoSurvey};
+
+use crate::classes::tell_all;
+use crate::order::in_order;
+use crate::property::Property;
+use crate::survey::{all_hold, survey_text};
+use crate::tellable::first_untold;
+use explore::{Findings, Limits, Progress, Scene, Scope, SearchFault, explore};
+use path_text::NoMemory;
+use std::alloc::Global;
+use step_text::Output;
+use thiserror::Error;
+use tree_list::ListTree;
+use tree_model::Tree;
+
+/// The most turns of a list that is gone through.
+pub const TURNS_MAX: u32 = 100_000;
+
+/// What is asked of a world.
+#[derive(Debug, Drop)]
+pub struct Asked {
+    /// The actors whose replies alone make an outcome; with none the replies of all, the tree and the open handles do.
+    pub named: Vec<u32>,
+    /// Only the lists with at most so many cuts, or all of them.
+    pub cuts: Option<u64>,
+    /// The most worlds that are gone through, of alike ones one.
+    pub most: u64,
+    /// Whether it is told how many steps of each actor acted outside of its root: outcomes that differ in these
+    /// numbers are two then.
+    pub outside: bool,
+    /// Properties of every report, whatever actors are named.
+    pub properties: Vec<Property>,
+}
+
+/// The text of a survey, and whether no property fails.
+#[derive(Debug, Drop)]
+pub struct Survey {
+    pub text: Output,
+    pub holds: bool,
+}
+
+/// Why there is no survey.
+#[derive(Clone, Copy, Debug, PartialEq, Eq, Error)]
+pub enum SurveyFault {
+    /// The first actor that is named and isn't there.
+    #[error("actor {0}")]
+    NoSuchActor(u32),
+    /// The first property that no report can have a line for, by its place, counted from 0.
+    #[error("property {0}")]
+    NoSuchLine(usize),
+    /// There are more worlds than are gone through.
+    #[error("states")]
+    TooManyStates,
+    /// A schedule has more than 100,000 turns.
+    #[error("turns")]
+    TooManyTurns,
+    /// Room was refused.
+    #[error("no memory")]
+    NoMemory,
+}
+
+impl From<NoMemory> for SurveyFault {
+    ghost from_gives = { λ _ fault. fault ≡ survey_fault.NoMemory };
+
+    fn from(_error: NoMemory) -> SurveyFault {
+        SurveyFault::NoMemory
+    }
+}
+
+// The first of these that is none of so many actors.
+fn first_foreign(named: &[u32], actors: usize) -> Option<u32>
+    ensures { result ≡ find (λ i. nat_le actors i) named.now }
+{
+    for actor in named {
+        if actors <= *actor as usize {
+            return Some(*actor);
+        }
+    }
+    None
+}
+
+// What is told of what was found.
+fn survey_of(
+    alloc: Global,
+    scene: &Scene,
+    asked: &Asked,
+    found: Findings<ListTree>,
+) -> Result<Survey, NoMemory>
+    requires { length scene.now.plans.items ≤ MOST_ACTORS }
+    ensures { IfOk result (λ survey.
+        IsTelling asked.now scene.now.tree scene.now.plans.items found.classes.items found.lists found.states
+        found.turns survey.holds survey.text) }
+{
+    let (lists, states, turns) = (found.lists, found.states, found.turns as u64);
+    let opening = scene.tree.snapshot(alloc)?;
+    let actors = scene.plans.len() as u32;
+    let classes = in_order(alloc, found.classes)?;
+    let all = tell_all(alloc, &asked.named, &opening, actors, &classes)?;
+    let mut text = Output::new(alloc);
+    survey_text(&mut text, lists, states, turns, &all, &asked.properties)?;
+    let holds = all_hold(&all, &asked.properties);
+    Ok(Survey { text, holds })
+}
+
+/// Goes through all full lists of turns of the world of a tree and of plans, those with at most so many cuts, and
+/// says what they come to: how many there are, by how many worlds, how many turns the longest has, each outcome once
+/// with how many lead to it and a schedule for the least of them, and whether each property holds of every one.
+/// Outcomes are compared with their new nodes numbered anew, so these numbers make no difference between them. The
+/// number of steps that acted outside does, where it is asked for. On the way `progress` gets the number of worlds
+/// so far.
+///
+/// Errors, in this order: `NoSuchActor` of the first that is named and isn't there; `NoSuchLine` of the first
+/// property that names an actor who isn't there, or a call that its actor doesn't have; `TooManyStates` and
+/// `TooManyTurns` beyond the limits, whichever is met first; `NoMemory` where room was refused, and where the world
+/// can't be made.
+pub fn survey_scene<P: Progress>(
+    alloc: Global,
+    scene: &Scene,
+    asked: &Asked,
+    progress: &mut P,
+) -> Result<Survey, SurveyFault>
+    requires { length scene.now.plans.items ≤ MOST_ACTORS }
+    ensures { MatchResult result
+        (λ survey. IsSurvey asked.now scene.now.tree scene.now.plans.items scene.now.lines survey.holds survey.text)
+        (WhyNoSurvey asked.now scene.now.tree scene.now.plans.items scene.now.lines) }
+{
+    if let Some(actor) = first_foreign(&asked.named, scene.plans.len()) {
+        return Err(SurveyFault::NoSuchActor(actor));
+    }
+    if let Some(place) = first_untold(alloc, asked.outside, &scene.plans, &asked.properties)? {
+        return Err(SurveyFault::NoSuchLine(place));
+    }
+    let limits = Limits {
+        states: asked.most,
+        turns: TURNS_MAX,
+        scope: Scope {
+            cuts: asked.cuts,
+            outside: asked.outside,
+        },
+    };
+    match explore(alloc, scene, limits, progress) {
+        Ok(found) => Ok(survey_of(alloc, scene, asked, found)?),
+        Err(SearchFault::TooManyTurns) => Err(SurveyFault::TooManyTurns),
+        Err(SearchFault::TooManyStates) => Err(SurveyFault::TooManyStates),
+        // A world never has more actors than it may have.
+        Err(SearchFault::TooManyActors | SearchFault::NoMemory) => Err(SurveyFault::NoMemory),
+    }
+}

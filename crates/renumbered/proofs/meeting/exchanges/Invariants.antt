@@ -1,7 +1,0 @@
-use Rattle.std.proofs.Common.{length}
-use Rattle.renumbered.specs.Exchanges.{AreWithin}
-use Rattle.renumbered.proofs.meeting.exchanges.Given as goal
-
--- those so far exchange such numbers
-abbrev pub invariant-loop-number : goal.invariant-loop-number
-invariant-loop-number l = AreWithin l.fn.known (length l.nodes) l.exchanges.items

@@ -1,7 +1,0 @@
-use Rattle.std.proofs.Common.{drop}
-use Rattle.surveys.specs.Options.{texts_in}
-use Rattle.surveys.proofs.Numbers.{IsSaidSoFar}
-use Rattle.surveys.proofs.options.numbers_in.Given as goal
-
-abbrev pub invariant-loop-text : goal.invariant-loop-text
-invariant-loop-text l = IsSaidSoFar (texts_in l.texts) (texts_in (drop l.text-index l.texts)) l.numbers.items

@@ -1,0 +1,9 @@
+mod Splitting
+mod Passing
+mod TakenOff
+mod NextParts
+mod AfterOpen
+mod AfterReadLink
+mod AfterParent
+mod AtEnds
+mod EveryWalk

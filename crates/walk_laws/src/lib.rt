@@ -1,0 +1,11 @@
+//! Further laws of walks, on which no other crate stands.
+//!
+//! A walk and its headline are `step_resolver`'s: the laws here speak of the same walks in the same histories
+//! (`IsWalkInHistory`, `LeadsTo`), and of the trails of which `headline` tells. They stand on the contract of its law
+//! `walks_tell`, and on the lemmas with which it is proved. `steps_by_trail` says how many steps a walk makes for the
+//! parts that its trail passes.
+#![tactic(auto)]
+
+mod laws;
+
+pub use laws::steps_by_trail;

@@ -1,5 +1,0 @@
-use Rattle.wire.proofs.Outright.{conversations_tell}
-use Rattle.wire.proofs.laws.conversations_tell.Goals as goal
-
-pub returns : goal.returns
-returns c = conversations_tell c.conversations_are_calls.ensures c.each_call_tells.ensures

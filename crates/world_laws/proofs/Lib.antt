@@ -1,0 +1,10 @@
+mod OpensNothing
+mod Shorter
+mod LegalTurns
+mod GivesUp
+mod GivingUpEnds
+mod CutShort
+mod GivenUpWorlds
+mod CalmSteps
+mod CalmCalls
+mod CalmWorlds

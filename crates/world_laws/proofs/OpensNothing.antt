@@ -1,0 +1,404 @@
+-- A call that is given up opens nothing: no step of it is made but its Closes, and no object is found by one.
+use Rattle.std.specs.Prelude.{◌≡◌, ℕ, List, [], ◌∷◌, Bool, true, false, if◌then◌else◌, Option, Some, None, Result, Ok, Err, slice_get, slice_set, zero, suc, refl}
+use Rattle.std.proofs.Common.{sym, subst}
+use Rattle.std.proofs.lemmas.Bool.{false≢true}
+use Rattle.std.proofs.lemmas.Option.{none-some, same_Some}
+use Rattle.path_text.specs.declared.errno.Errno.{Errno}
+use Rattle.path_text.specs.declared.errno.Errno.TheVariants.{NoMemory, Exists, Invalid}
+use Rattle.path_text.specs.declared.path.Rule.{Rule}
+use Rattle.path_text.specs.declared.path.Rule.TheVariants.{Drop, Refuse}
+use Rattle.path_text.specs.declared.path.Split.{Split}
+use Rattle.path_text.specs.Split.{split_of}
+use Rattle.path_text.specs.Text.{text_fault, reading_of}
+use Rattle.tree_model.specs.declared.answer.Answer.{Answer}
+use Rattle.tree_model.specs.declared.answer.Answer.TheVariants.{Opened, Text, Done, Refused}
+use Rattle.tree_model.specs.declared.step.Mode.{Mode}
+use Rattle.tree_model.specs.declared.step.StepOf.{StepOf}
+use Rattle.handles.specs.Objects.{StandingObject}
+use Rattle.walk_plan.specs.declared.goal.Goal.TheVariants.{Follow, NoFollow}
+use Rattle.step_resolver.specs.Order.{Way, Handle, Walking, found, partial, failed, is_dir_kind}
+use Rattle.step_resolver.specs.Order as walk
+use Rattle.step_resolver.specs.View.{way_from}
+use Rattle.bulk_ops.specs.MakeAllOrder as make
+use Rattle.bulk_ops.specs.RemoveAllOrder as remove
+use Rattle.root_ops.specs.declared.aim.Aim.{Aim}
+use Rattle.root_ops.specs.declared.aim.Aim.TheVariants.{Opens, Reads, Changes, WalksOn, Renames}
+use Rattle.root_ops.specs.declared.aim.Change.{Change}
+use Rattle.root_ops.specs.declared.aim.Change.TheVariants as changes
+use Rattle.root_ops.specs.declared.aim.Renaming.{Renaming}
+use Rattle.root_ops.specs.declared.aim.Wanted.{Wanted}
+use Rattle.root_ops.specs.declared.aim.Wanted.TheVariants as wants
+use Rattle.root_ops.specs.declared.below.Below.{Below}
+use Rattle.root_ops.specs.declared.op.Op.{Op}
+use Rattle.root_ops.specs.declared.op.Op.TheVariants.{Resolve, ResolveNoFollow, ReadLink, CreateFile, CreateDir, CreateLink, RemoveFile, RemoveDir, Rename, MkdirAll, RemoveAll, Single, Release}
+use Rattle.root_ops.specs.declared.op.Request.{Request}
+use Rattle.root_ops.specs.Order.{Reply, opened, link_text, done, count, stepped, kept, fault, After, gives, acts, Doing, walking, acting, checking, closing, making, removing, releasing, CallTurn, more, ends, rename_step, reply_to, held_by, way_of, make_way, makes, removing_turn, reached, checked, is_single, same_owner, starts, take, due}
+use Rattle.root_ops.specs.Order as call
+use Rattle.root_ops.specs.TurnView.{below_of}
+use Rattle.root_ops.specs.View.{CallView}
+use Rattle.root_ops.proofs.Rooms.{FindsNone, closed, not_opened, not_risen}
+use Rattle.race_core.specs.declared.plan.Planned.{Planned}
+use Rattle.race_core.specs.declared.seat.Seat.{Seat}
+use Rattle.race_core.specs.Book.{BookedHistory, is_close}
+use Rattle.race_core.specs.JoinedRuns.{TakesTurns}
+use Rattle.race_core.specs.Ledgers.{LedgerView}
+use Rattle.race_core.specs.Opening.{seats_of}
+use Rattle.race_core.specs.Turns.{Luck, stepped_by, comes, begins, begins_next, begun, goes_on, turned, request_of, left_by}
+use Rattle.race_core.specs.Worlds.{WorldView, turn_of, turn}
+
+-- ---- what opens nothing
+
+abbrev pub OpensNone : Reply → Type 0
+OpensNone (opened handle names) = ⊥
+OpensNone (link_text text) = Unit {0}
+OpensNone done = Unit {0}
+OpensNone (count n) = Unit {0}
+OpensNone (stepped answer) = Unit {0}
+OpensNone (kept standing) = Unit {0}
+OpensNone (fault error) = Unit {0}
+
+-- where closings are due that end the call, it has opened nothing that it tells
+abbrev pub ClosesToNone : Doing → Type 0
+ClosesToNone (walking w aim) = Unit {0}
+ClosesToNone (acting wanted step hs) = Unit {0}
+ClosesToNone (checking old new renaming) = Unit {0}
+ClosesToNone (closing h hs (gives reply)) = OpensNone reply
+ClosesToNone (closing h hs (acts wanted step ks)) = Unit {0}
+ClosesToNone (making m) = Unit {0}
+ClosesToNone (removing r) = Unit {0}
+ClosesToNone (releasing h) = Unit {0}
+
+-- so it is at a turn that goes on
+abbrev pub GoesToNone : CallTurn → Type 0
+GoesToNone (more doing) = ClosesToNone doing
+GoesToNone (ends reply) = Unit {0}
+
+-- and a turn that ends the call opens nothing
+abbrev pub EndsInNone : CallTurn → Type 0
+EndsInNone (more doing) = ClosesToNone doing
+EndsInNone (ends reply) = OpensNone reply
+
+goes_too : (turn : CallTurn) → EndsInNone turn → GoesToNone turn
+goes_too (more doing) none = none
+goes_too (ends reply) none = tt
+
+-- ---- the parts of a call
+
+replies_none : (wanted : Wanted) (answer : Answer) → OpensNone (reply_to wanted answer)
+replies_none wants.Done Done = tt
+replies_none wants.Done answer = tt
+replies_none wants.Text (Text bytes) = tt
+replies_none wants.Text answer = tt
+replies_none wants.Any (Refused error) = tt
+replies_none wants.Any answer = tt
+
+closes_to : (hs : List ℕ) (reply : Reply) → OpensNone reply → EndsInNone (call.closes hs (gives reply))
+closes_to [] reply none = none
+closes_to (h ∷ hs) reply none = none
+
+closing_on : (h : ℕ) (hs : List ℕ) (after : After) → ClosesToNone (closing h hs after) → EndsInNone (call.closes hs after)
+closing_on h hs (gives reply) none = closes_to hs reply none
+closing_on h [] (acts wanted step ks) none = tt
+closing_on h (k ∷ hs) (acts wanted step ks) none = tt
+
+given_up_call : (hs : List ℕ) (error : Errno) → EndsInNone (call.gives_up hs error)
+given_up_call hs error = closes_to hs (fault error) tt
+
+renaming_both : (old new : ℕ) (renaming : Renaming) → EndsInNone (call.renames old new renaming)
+renaming_both old new renaming = on renaming.slash
+  where
+    on : (b : Bool) → EndsInNone (if b then more (checking old new renaming) else more (acting wants.Done (rename_step renaming old new) (new ∷ old ∷ [])))
+    on true = tt
+    on false = tt
+
+second_walk : (old : ℕ) (renaming : Renaming) (turn : walk.Turn) → EndsInNone (call.walked_on old renaming turn)
+second_walk old renaming (walk.more w) = tt
+second_walk old renaming (found handle names) = renaming_both old handle.number renaming
+second_walk old renaming (partial handle names rest) = tt
+second_walk old renaming (failed error) = tt
+
+-- a walk that found nothing
+walked_to_none : (below : Below) (room : Bool) (aim : Aim) (turn : walk.Turn) → FindsNone turn → EndsInNone (call.walked below room aim turn)
+walked_to_none below room aim (walk.more w) none = tt
+walked_to_none below room aim (found handle names) none = absurd none
+walked_to_none below room aim (partial handle names rest) none = absurd none
+walked_to_none below room aim (failed error) none = given_up_call (held_by aim) error
+
+reached_so : (below : Below) (room : Bool) (handle : Handle) (names : List (List ℕ)) (aim : Aim) → GoesToNone (reached below room handle names aim)
+reached_so below room handle names (Opens goal) = tt
+reached_so below room handle names Reads = tt
+reached_so below room handle names (Changes change n) = tt
+reached_so below room handle names (WalksOn path renaming) =
+    let turn = walk.starts (way_from below.root Follow below.flags) room path in
+    goes_too (call.walked_on handle.number renaming turn) (second_walk handle.number renaming turn)
+reached_so below room handle names (Renames old renaming) = goes_too (call.renames old handle.number renaming) (renaming_both old handle.number renaming)
+
+-- any walk
+walked_so : (below : Below) (room : Bool) (aim : Aim) (turn : walk.Turn) → GoesToNone (call.walked below room aim turn)
+walked_so below room aim (walk.more w) = tt
+walked_so below room aim (found handle names) = reached_so below room handle names aim
+walked_so below room aim (partial handle names rest) = tt
+walked_so below room aim (failed error) = goes_too (call.gives_up (held_by aim) error) (given_up_call (held_by aim) error)
+
+checked_so : (old new : ℕ) (renaming : Renaming) (child : ℕ) (is_dir : Bool) → GoesToNone (checked old new renaming child is_dir)
+checked_so old new renaming child true = tt
+checked_so old new renaming child false = tt
+
+made_so : (turn : make.MakeTurn) → GoesToNone (makes turn)
+made_so (make.more m) = tt
+made_so (make.made handle names) = tt
+made_so (make.failed error) = tt
+
+cleared_so : (turn : remove.Turn) → EndsInNone (removing_turn turn)
+cleared_so (remove.more r) = tt
+cleared_so (remove.removed n) = tt
+cleared_so (remove.failed error) = tt
+
+-- ---- a step that is refused, or a Close
+
+walk_refused : (way : Way) (room : Bool) (w : Walking) (error : Errno) → FindsNone (walk.take way room w (Refused error))
+walk_refused way room (walk.opening position own follow n rest) error = not_opened way position own follow n rest error
+walk_refused way room (walk.reading position link rest) error = tt
+walk_refused way room (walk.rising old names rest) error = not_risen way old error
+walk_refused way room (walk.judging new names rest) error = tt
+walk_refused way room (walk.duping rest) error = tt
+walk_refused way room (walk.ending handle names rest) error = tt
+walk_refused way room (walk.closing h hs after) error = closed way hs after
+
+walk_closed : (way : Way) (room : Bool) (w : Walking) (answer : Answer) → is_close (walk.due way w) ≡ true → FindsNone (walk.take way room w answer)
+walk_closed way room (walk.opening position own follow n rest) answer e = absurd (false≢true e)
+walk_closed way room (walk.reading position link rest) answer e = absurd (false≢true e)
+walk_closed way room (walk.rising old names rest) answer e = absurd (false≢true e)
+walk_closed way room (walk.judging new names rest) answer e = absurd (false≢true e)
+walk_closed way room (walk.duping rest) answer e = absurd (false≢true e)
+walk_closed way room (walk.ending handle names rest) answer e = absurd (false≢true e)
+walk_closed way room (walk.closing h hs after) answer e = closed way hs after
+
+-- a MkdirAll that isn't done
+abbrev MakesNone : make.MakeTurn → Type 0
+MakesNone (make.more m) = Unit {0}
+MakesNone (make.made handle names) = ⊥
+MakesNone (make.failed error) = Unit {0}
+
+makes_to_none : (turn : make.MakeTurn) → MakesNone turn → EndsInNone (makes turn)
+makes_to_none (make.more m) none = tt
+makes_to_none (make.made handle names) none = absurd none
+makes_to_none (make.failed error) none = tt
+
+make_given_up : (hs : List ℕ) (error : Errno) → MakesNone (make.gives_up hs error)
+make_given_up [] error = tt
+make_given_up (h ∷ hs) error = tt
+
+make_walked : (room : Bool) (turn : walk.Turn) → FindsNone turn → MakesNone (make.after_walk room turn)
+make_walked room (walk.more w) none = tt
+make_walked room (found handle names) none = absurd none
+make_walked room (partial handle names rest) none = absurd none
+make_walked room (failed error) none = tt
+
+not_made_so : (held : Handle) (names : List (List ℕ)) (n : List ℕ) (left : List (List ℕ)) (error : Errno) → MakesNone (make.refused_make held names n left error)
+not_made_so held names n left Exists = tt
+not_made_so held names n left error = tt
+
+goes_down_so : (held : Handle) (names left : List (List ℕ)) → MakesNone (make.goes_down held names left)
+goes_down_so held names [] = tt
+goes_down_so held names (n ∷ left) = tt
+
+make_refused : (way : Way) (room : Bool) (m : make.Making) (error : Errno) → MakesNone (make.take way room m (Refused error))
+make_refused way room (make.walking w) error = make_walked room (walk.take way room w (Refused error)) (walk_refused way room w error)
+make_refused way room (make.making held names n left) error = not_made_so held names n left error
+make_refused way room (make.opening held names n left) error = tt
+make_refused way room (make.leaving old new names left) error = goes_down_so new names left
+make_refused way room (make.ending held names) error = tt
+make_refused way room (make.closing h hs why) error = make_given_up hs why
+
+make_closed : (way : Way) (room : Bool) (m : make.Making) (answer : Answer) → is_close (make.due way m) ≡ true → MakesNone (make.take way room m answer)
+make_closed way room (make.walking w) answer e = make_walked room (walk.take way room w answer) (walk_closed way room w answer e)
+make_closed way room (make.making held names n left) answer e = absurd (false≢true e)
+make_closed way room (make.opening held names n left) answer e = absurd (false≢true e)
+make_closed way room (make.leaving old new names left) answer e = goes_down_so new names left
+make_closed way room (make.ending held names) answer e = absurd (false≢true e)
+make_closed way room (make.closing h hs why) answer e = make_given_up hs why
+
+-- a step that isn't made opens nothing
+pub refused_opens_none : (below : Below) (room : Bool) (doing : Doing) (error : Errno) → ClosesToNone doing → EndsInNone (take below room doing (Refused error))
+refused_opens_none below room (walking w aim) error none =
+    walked_to_none below room aim (walk.take (way_of below aim) room w (Refused error)) (walk_refused (way_of below aim) room w error)
+refused_opens_none below room (acting wanted step hs) error none = closes_to hs (reply_to wanted (Refused error)) (replies_none wanted (Refused error))
+refused_opens_none below room (checking old new renaming) error none = tt
+refused_opens_none below room (closing h hs after) error none = closing_on h hs after none
+refused_opens_none below room (making m) error none = makes_to_none (make.take (make_way below) room m (Refused error)) (make_refused (make_way below) room m error)
+refused_opens_none below room (removing r) error none = cleared_so (remove.take room r (Refused error))
+refused_opens_none below room (releasing h) error none = replies_none wants.Done (Refused error)
+
+-- nor does a Close
+pub close_opens_none : (below : Below) (room : Bool) (doing : Doing) (answer : Answer) → is_close (due below doing) ≡ true → ClosesToNone doing
+    → EndsInNone (take below room doing answer)
+close_opens_none below room (walking w aim) answer e none =
+    walked_to_none below room aim (walk.take (way_of below aim) room w answer) (walk_closed (way_of below aim) room w answer e)
+close_opens_none below room (acting wanted step hs) answer e none = closes_to hs (reply_to wanted answer) (replies_none wanted answer)
+close_opens_none below room (checking old new renaming) answer e none = absurd (false≢true e)
+close_opens_none below room (closing h hs after) answer e none = closing_on h hs after none
+close_opens_none below room (making m) answer e none = makes_to_none (make.take (make_way below) room m answer) (make_closed (make_way below) room m answer e)
+close_opens_none below room (removing r) answer e none = cleared_so (remove.take room r answer)
+close_opens_none below room (releasing h) answer e none = replies_none wants.Done answer
+
+-- ---- any step
+
+taken_so : (below : Below) (room : Bool) (doing : Doing) (answer : Answer) → ClosesToNone doing → GoesToNone (take below room doing answer)
+taken_so below room (walking w aim) answer none = walked_so below room aim (walk.take (way_of below aim) room w answer)
+taken_so below room (acting wanted step hs) answer none =
+    goes_too (call.closes hs (gives (reply_to wanted answer))) (closes_to hs (reply_to wanted answer) (replies_none wanted answer))
+taken_so below room (checking old new renaming) (Opened h x kind) none = checked_so old new renaming h (is_dir_kind kind)
+taken_so below room (checking old new renaming) answer none = tt
+taken_so below room (closing h hs after) answer none = goes_too (call.closes hs after) (closing_on h hs after none)
+taken_so below room (making m) answer none = made_so (make.take (make_way below) room m answer)
+taken_so below room (removing r) answer none = goes_too (removing_turn (remove.take room r answer)) (cleared_so (remove.take room r answer))
+taken_so below room (releasing h) answer none = tt
+
+-- ---- a call's start
+
+unless_so : (why : Option Errno) (turn : CallTurn) → GoesToNone turn → GoesToNone (call.unless_fault why turn)
+unless_so (Some error) turn none = tt
+unless_so None turn none = none
+
+module _ (below : Below) where
+  in_its_directory : (change : Change) (split : Result Split Errno) → GoesToNone (call.in_directory below change split)
+  in_its_directory change (Err error) = tt
+  in_its_directory change (Ok split) =
+      walked_so below true (Changes change split.name) (walk.starts (way_of below (Changes change split.name)) true split.dir)
+
+  on_an_entry : (rule : Rule) (change : Change) (text : List ℕ) → GoesToNone (call.on_entry below rule change text)
+  on_an_entry rule change text =
+      unless_so (text_fault text) (call.in_directory below change (split_of (reading_of text) rule)) (in_its_directory change (split_of (reading_of text) rule))
+
+  on_a_path : (aim : Aim) (text : List ℕ) → GoesToNone (call.on_path below aim text)
+  on_a_path aim text =
+      unless_so (text_fault text) (call.walks below aim (reading_of text)) (walked_so below true aim (walk.starts (way_of below aim) true (reading_of text)))
+
+  between_both : (mode : Mode) (old : Split) (split : Result Split Errno) → GoesToNone (call.between below mode old split)
+  between_both mode old (Err error) = tt
+  between_both mode old (Ok new) =
+      let aim = WalksOn new.dir (call.renaming_of old new mode) in walked_so below true aim (walk.starts (way_of below aim) true old.dir)
+
+  from_an_entry : (mode : Mode) (new : List ℕ) (split : Result Split Errno) → GoesToNone (call.from_entry below mode new split)
+  from_an_entry mode new (Err error) = tt
+  from_an_entry mode new (Ok old) =
+      unless_so (text_fault new) (call.between below mode old (split_of (reading_of new) Drop)) (between_both mode old (split_of (reading_of new) Drop))
+
+  clearing_in : (split : Result Split Errno) → GoesToNone (call.clear_in below split)
+  clearing_in (Err error) = tt
+  clearing_in (Ok split) =
+      let turn = remove.begins (way_from below.root Follow below.flags) split.name split.dir in goes_too (removing_turn turn) (cleared_so turn)
+
+  one_step : (step : StepOf ℕ) (b : Bool) → GoesToNone (if b then more (acting wants.Any step []) else ends (fault Invalid))
+  one_step step true = tt
+  one_step step false = tt
+
+  no_step : (b : Bool) → GoesToNone (if b then ends (fault NoMemory) else ends (fault Invalid))
+  no_step true = tt
+  no_step false = tt
+
+  released : (standing : StandingObject) (b : Bool) → GoesToNone (if b then more (releasing standing.handle) else ends (kept standing))
+  released standing true = tt
+  released standing false = tt
+
+  starts_so : (room : Bool) (op : Op) → GoesToNone (starts below room op)
+  starts_so true (Resolve path) = on_a_path (Opens Follow) path
+  starts_so true (ResolveNoFollow path) = on_a_path (Opens NoFollow) path
+  starts_so true (ReadLink path) = on_a_path Reads path
+  starts_so true (CreateFile path) = on_an_entry Refuse changes.MakeFile path
+  starts_so true (CreateDir path) = on_an_entry Drop changes.MakeDir path
+  starts_so true (CreateLink path text) = on_an_entry Refuse (changes.MakeLink text) path
+  starts_so true (RemoveFile path) = on_an_entry Refuse changes.RemoveFile path
+  starts_so true (RemoveDir path) = on_an_entry Drop changes.RemoveDir path
+  starts_so true (Rename old new mode) =
+      unless_so (text_fault old) (call.from_entry below mode new (split_of (reading_of old) Drop)) (from_an_entry mode new (split_of (reading_of old) Drop))
+  starts_so true (MkdirAll path) =
+      let turn = make.begins (make_way below) (reading_of path) in unless_so (text_fault path) (makes turn) (made_so turn)
+  starts_so true (RemoveAll path) =
+      unless_so (text_fault path) (call.clear_in below (split_of (reading_of path) Drop)) (clearing_in (split_of (reading_of path) Drop))
+  starts_so true (Single step) = one_step step (is_single step)
+  starts_so true (Release standing) = released standing (same_owner standing.owner below.root.owner)
+  starts_so false (Resolve path) = unless_so (text_fault path) (ends (fault NoMemory)) tt
+  starts_so false (ResolveNoFollow path) = unless_so (text_fault path) (ends (fault NoMemory)) tt
+  starts_so false (ReadLink path) = unless_so (text_fault path) (ends (fault NoMemory)) tt
+  starts_so false (CreateFile path) = unless_so (text_fault path) (ends (fault NoMemory)) tt
+  starts_so false (CreateDir path) = unless_so (text_fault path) (ends (fault NoMemory)) tt
+  starts_so false (CreateLink path text) = unless_so (text_fault path) (ends (fault NoMemory)) tt
+  starts_so false (RemoveFile path) = unless_so (text_fault path) (ends (fault NoMemory)) tt
+  starts_so false (RemoveDir path) = unless_so (text_fault path) (ends (fault NoMemory)) tt
+  starts_so false (Rename old new mode) = unless_so (text_fault old) (ends (fault NoMemory)) tt
+  starts_so false (MkdirAll path) = unless_so (text_fault path) (ends (fault NoMemory)) tt
+  starts_so false (RemoveAll path) = unless_so (text_fault path) (ends (fault NoMemory)) tt
+  starts_so false (Single step) = no_step (is_single step)
+  starts_so false (Release standing) = released standing (same_owner standing.owner below.root.owner)
+
+-- ---- an actor's turns
+
+abbrev pub CallGoesToNone : Option CallView → Type 0
+CallGoesToNone None = Unit {0}
+CallGoesToNone (Some view) = ClosesToNone view.doing
+
+comes_so : (ledger : LedgerView) (below : Below) (t : CallTurn) → GoesToNone t → CallGoesToNone (comes ledger below t).doing
+comes_so ledger below (more doing) none = none
+comes_so ledger below (ends reply) none = tt
+
+begins_so : (room : Bool) (ledger : LedgerView) (request : Option Request) → CallGoesToNone (begins room ledger request).doing
+begins_so room ledger None = tt
+begins_so room ledger (Some request) =
+    let below = below_of ledger.root request.flags in comes_so ledger below (starts below room request.op) (starts_so below room request.op)
+
+next_so : (room : Bool) (ledger : LedgerView) (calls : List Planned) → CallGoesToNone (begins_next room ledger calls).doing
+next_so room ledger [] = tt
+next_so room ledger (next ∷ others) =
+    begins_so room (record ledger { to_come = others; standings = left_by next ledger.standings }) (request_of ledger.root ledger.standings next)
+
+begun_so : (room : Bool) (ledger : LedgerView) (doing : Option CallView) → CallGoesToNone doing → CallGoesToNone (begun room ledger doing).doing
+begun_so room ledger None none = next_so room ledger ledger.to_come
+begun_so room ledger (Some view) none = none
+
+goes_so : (luck room : Bool) (book : BookedHistory) (ledger : LedgerView) (doing : Option CallView) → CallGoesToNone doing
+    → CallGoesToNone (goes_on luck room book ledger doing).seat.doing
+goes_so luck room book ledger None none = tt
+goes_so luck room book ledger (Some view) none =
+    let answer : Answer = (stepped_by luck book ledger.root.owner.actor (due view.below view.doing)).answer in
+    comes_so ledger view.below (take view.below room view.doing answer) (taken_so view.below room view.doing answer none)
+
+turned_so : (luck : Luck) (book : BookedHistory) (ledger : LedgerView) (doing : Option CallView) → CallGoesToNone doing
+    → CallGoesToNone (turned luck book ledger doing).seat.doing
+turned_so luck book ledger doing none =
+    let seat : Seat = begun luck.start ledger doing in goes_so luck.step luck.room book seat.ledger seat.doing (begun_so luck.start ledger doing none)
+
+-- ---- all actors
+
+abbrev pub AllGoToNone : List Seat → Type 0
+AllGoToNone [] = Unit {0}
+AllGoToNone (seat ∷ seats) = CallGoesToNone seat.doing × AllGoToNone seats
+
+pub opened_so : (ledgers : List LedgerView) → AllGoToNone (seats_of ledgers)
+opened_so [] = tt
+opened_so (ledger ∷ ledgers) = (tt, opened_so ledgers)
+
+one_so : (seats : List Seat) (i : ℕ) (seat : Seat) → AllGoToNone seats → slice_get seats i ≡ Some seat → CallGoesToNone seat.doing
+one_so [] i seat all e = absurd (none-some seat e)
+one_so (s ∷ seats) zero seat all e = subst (λ (t : Seat). CallGoesToNone t.doing) (same_Some s seat e) all.0
+one_so (s ∷ seats) (suc i) seat all e = one_so seats i seat all.1 e
+
+set_so : (seats : List Seat) (i : ℕ) (seat : Seat) → AllGoToNone seats → CallGoesToNone seat.doing → AllGoToNone (slice_set seats i seat)
+set_so [] i seat all none = tt
+set_so (s ∷ seats) zero seat all none = (none, all.1)
+set_so (s ∷ seats) (suc i) seat all none = (all.0, set_so seats i seat all.1 none)
+
+turn_so : (luck : Luck) (w : WorldView) (i : ℕ) → AllGoToNone w.seats → AllGoToNone (turn luck w i).seats
+turn_so luck w i all = on (slice_get w.seats i) refl
+  where
+    on : (o : Option Seat) → slice_get w.seats i ≡ o → AllGoToNone (turn_of luck w i o).seats
+    on None e = all
+    on (Some seat) e =
+        set_so w.seats i (turned luck w.book seat.ledger seat.doing).seat all (turned_so luck w.book seat.ledger seat.doing (one_so w.seats i seat all e))
+
+pub turns_go_to_none : (w : WorldView) (made : List ℕ) (v : WorldView) → TakesTurns w made v → AllGoToNone w.seats → AllGoToNone v.seats
+turns_go_to_none w [] v taken all = subst (λ (u : WorldView). AllGoToNone u.seats) (sym taken) all
+turns_go_to_none w (i ∷ made) v taken all =
+    let one = taken.1.1 in
+    turns_go_to_none taken.0 made v taken.2 (subst (λ (u : WorldView). AllGoToNone u.seats) (sym one.is) (turn_so one.luck w i all))

@@ -1,0 +1,2 @@
+pub mod GivenUpWorlds
+pub mod WantCauses
