@@ -17,6 +17,7 @@ complete -c inroot -n '__fish_seen_subcommand_from run' -l workers -x -a '1 2 3 
 complete -c inroot -n '__fish_seen_subcommand_from explore' -l actor -x -d 'Print the replies of this actor'
 complete -c inroot -n '__fish_seen_subcommand_from explore' -l cuts -x -d 'Take schedules with at most so many cuts'
 complete -c inroot -n '__fish_seen_subcommand_from explore' -l states -x -d 'Give up past so many states'
+complete -c inroot -n '__fish_seen_subcommand_from explore' -l jobs -x -d 'Search on so many threads'
 complete -c inroot -n '__fish_seen_subcommand_from explore' -l outside -d 'Count steps outside of the root'
 complete -c inroot -n '__fish_seen_subcommand_from explore' -l never -x -d 'Whether no report has this line'
 complete -c inroot -n '__fish_seen_subcommand_from explore' -l always -x -d 'Whether every report has it'

@@ -2,7 +2,6 @@
 use Rattle.std.specs.Borrow.{Bor}
 use Rattle.std.specs.Prelude.{◌≡◌, ◌≢◌, ◌<◌, ◌≤◌, ◌⊎◌, ℕ, List, [], Bool, true, false, Option, Some, None, option_map, unwrap_or, codes}
 use Rattle.std.specs.Str.Parse.{digits_value, without_leading_plus}
-use Rattle.path_text.specs.declared.flags.Flags.{Flags}
 use Rattle.clap.specs.Matches.{found_of, first_value, has_subcommand, matched_of, one_text, raw_values, subcommand_name_of}
 use Rattle.clap.specs.Simple.{subcommand_rows_of}
 use Rattle.clap.specs.Walk.{rows_of}
@@ -72,6 +71,7 @@ pub record IsExploration (matches : ArgMatches) (options : Options) : Type 0 whe
   pub actors : texts_in options.actors.now ≡ texts_given matches (codes "actor")
   pub cuts : option_map (λ text. text.now) options.cuts ≡ first_value (found_of matches) (codes "cuts")
   pub states : option_map (λ text. text.now) options.states ≡ first_value (found_of matches) (codes "states")
+  pub jobs : option_map (λ text. text.now) options.jobs ≡ first_value (found_of matches) (codes "jobs")
   pub outside : IsOption matches (codes "outside") options.outside
   pub never : texts_in options.never.now ≡ texts_given matches (codes "never")
   pub always : texts_in options.always.now ≡ texts_given matches (codes "always")

@@ -44,6 +44,8 @@ const CUTS: &str = "cuts";
 
 const STATES: &str = "states";
 
+const JOBS: &str = "jobs";
+
 const OUTSIDE: &str = "outside";
 
 const NEVER: &str = "never";
@@ -199,7 +201,8 @@ const EXPLORING: &str =
 Prints how many schedules there are, how many different states they go through, how many
 turns the longest has, and a block for each outcome: how many schedules lead to it, and
 one that replay takes, with how many calls it cuts. A line has TEXT where it is TEXT, or
-begins with TEXT and a blank, as 'reply 0 0 fault' or 'held 0 1'.
+begins with TEXT and a blank, as 'reply 0 0 fault' or 'held 0 1'. What is printed is the
+same on any number of threads.
 
 Example:
   inroot explore --actor 0 < examples/attacks/moved-out.json";
@@ -219,8 +222,8 @@ fn valued<'a>(
         .help(help)
 }
 
-// The command `explore`.
-fn explore<'a>(alloc: Global) -> Result<Command<'a>, AllocError> {
+// Adds the options of `explore` that take a number.
+fn with_numbers<'a>(alloc: Global, command: Command<'a>) -> Result<Command<'a>, AllocError> {
     let actor = valued(
         alloc,
         ACTOR,
@@ -242,6 +245,18 @@ fn explore<'a>(alloc: Global) -> Result<Command<'a>, AllocError> {
         ArgAction::Set,
         "Give up past N different states: 1 to 10000000, or 100000",
     );
+    let jobs = valued(
+        alloc,
+        JOBS,
+        "N",
+        ArgAction::Set,
+        "Search on N threads: 1 to 64, or 1",
+    );
+    command.arg(actor)?.arg(cuts)?.arg(states)?.arg(jobs)
+}
+
+// Adds the options of `explore` that say what is told beside the replies.
+fn with_properties<'a>(alloc: Global, command: Command<'a>) -> Result<Command<'a>, AllocError> {
     let outside = option(
         alloc,
         OUTSIDE,
@@ -261,17 +276,17 @@ fn explore<'a>(alloc: Global) -> Result<Command<'a>, AllocError> {
         ArgAction::Append,
         "Tell whether every report has a line with TEXT",
     );
-    Command::new(alloc, EXPLORE)
+    command.arg(outside)?.arg(never)?.arg(always)
+}
+
+// The command `explore`.
+fn explore<'a>(alloc: Global) -> Result<Command<'a>, AllocError> {
+    let command = Command::new(alloc, EXPLORE)
         .about("Run the actors' calls by every schedule, and print what came of them")
         .override_usage("inroot explore [OPTIONS] < SCRIPT")
-        .after_help(EXPLORING)
-        .arg(actor)?
-        .arg(cuts)?
-        .arg(states)?
-        .arg(outside)?
-        .arg(never)?
-        .arg(always)?
-        .arg(strict(alloc))
+        .after_help(EXPLORING);
+    let command = with_numbers(alloc, command)?;
+    with_properties(alloc, command)?.arg(strict(alloc))
 }
 
 /// The commands of the program.
@@ -382,6 +397,7 @@ fn exploration_asked<'m>(matches: &'m ArgMatches<'_>) -> Options<'m>
         actors: texts_of(matches, ACTOR),
         cuts: matches.get_str(CUTS),
         states: matches.get_str(STATES),
+        jobs: matches.get_str(JOBS),
         outside: matches.get_flag(OUTSIDE),
         never: texts_of(matches, NEVER),
         always: texts_of(matches, ALWAYS),

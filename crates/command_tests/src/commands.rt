@@ -13,6 +13,7 @@ fn ends_with_its_statuses(rt: HostRuntime) {
         (Ok(()), 0),
         (Err(Fault::PropertyFails), 1),
         (Err(Fault::Options(OptionFault::Cuts)), 2),
+        (Err(Fault::Options(OptionFault::Jobs)), 2),
         (Err(Fault::Options(OptionFault::NoMemory)), 4),
         (Err(Fault::ExploreActor(0)), 4),
         (Err(Fault::ExploreProperty(0)), 4),
@@ -116,6 +117,7 @@ fn asks_explored(alloc: Global, words: &[&str], want: Options) -> bool {
     options.actors == want.actors
         && options.cuts == want.cuts
         && options.states == want.states
+        && options.jobs == want.jobs
         && options.outside == want.outside
         && options.never == want.never
         && options.always == want.always
@@ -135,6 +137,8 @@ fn reads_what_is_to_be_explored(rt: HostRuntime) {
         "--cuts",
         "1",
         "--states=7",
+        "--jobs",
+        "4",
         "--outside",
         "--always",
         "held 1 1",
@@ -143,6 +147,7 @@ fn reads_what_is_to_be_explored(rt: HostRuntime) {
         actors: &["0", "2"],
         cuts: Some("1"),
         states: Some("7"),
+        jobs: Some("4"),
         outside: true,
         never: &["held 0 2"],
         always: &["held 1 1"],

@@ -10,3 +10,4 @@ pub mod OutsideAlike
 pub mod HandlesRenamed
 pub mod PairedLists
 pub mod Paired
+pub mod Prints

@@ -5,5 +5,8 @@ pub mod Fitting
 pub mod Endings
 pub mod Grown
 pub mod Passing
+pub mod Choosing
+pub mod Gone
 pub mod WaysGrown
 pub mod WaysFound
+pub mod Marks

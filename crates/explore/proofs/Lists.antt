@@ -6,3 +6,4 @@ pub mod Told
 pub mod Mapped
 pub mod Turning
 pub mod Indices
+pub mod Chains

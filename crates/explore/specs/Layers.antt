@@ -27,13 +27,14 @@ Keeps {A} old new = (k : ℕ) (x : A) → slice_get old k ≡ Some x → slice_g
 
 -- ---- worlds
 
--- a world, a list of turns that leads to one like it, what counted in that, and whether changes outside of roots are
--- told
+-- a world, a list of turns that leads to one like it, what counted in that, whether changes outside of roots are
+-- told, and whether the world counts as a state
 pub record LiveView : Type 0 where
   pub told : Bool
   pub world : WorldView
   pub marks : Marks
   pub turns : List ℕ
+  pub is_state : Bool
 
 abbrev pub point_of : LiveView → Point
 point_of live = record { world = live.world; marks = live.marks }
@@ -78,7 +79,8 @@ pub record AreOn (n : ℕ) (layer : LayerView) : Type 0 where
 
 -- the first layer: no turns
 pub record IsFirst (w : WorldView) (scope : Scope) (layer : LayerView) : Type 0 where
-  pub worlds : layer.worlds ≡ record { told = scope.outside; world = w; marks = no_marks; turns = [] } ∷ []
+  pub worlds : layer.worlds
+      ≡ record { told = scope.outside; world = w; marks = no_marks; turns = []; is_state = true } ∷ []
   pub stand : Stand
   pub stands : layer.stands ≡ stand ∷ []
   pub on : stand.world ≡ 0
@@ -230,23 +232,6 @@ pub record IsThere (scope : Scope) (stand : Stand) (stands : List Stand) (t : �
   pub world : other.world ≡ stand.world
   pub last : other.marks.last ≡ stand.marks.last
   pub cuts : bounded_cuts scope.cuts other.marks.cuts ≡ bounded_cuts scope.cuts stand.marks.cuts
-
--- of a stand before, on that world, one of these ways is that actor's turn, and leads to a stand on the next layer's
--- world at place k
-pub record IsKnown (stands : List Stand) (all : List (Vec Way)) (next : List Stand) (m i k : ℕ) : Type 0 where
-  pub s : ℕ
-  pub stand : Stand
-  pub there : slice_get stands s ≡ Some stand
-  pub same : stand.world ≡ m
-  pub ways : Vec Way
-  pub ways_there : slice_get all s ≡ Some ways
-  pub at : ℕ
-  pub way : Way
-  pub way_there : slice_get ways.items at ≡ Some way
-  pub letter : way.letter ≡ i
-  pub after : Stand
-  pub after_there : slice_get next way.to ≡ Some after
-  pub leads : after.world ≡ k
 
 -- ---- spots
 

@@ -16,4 +16,8 @@ pub mod Merged
 pub mod Promise
 pub mod Concluded
 pub mod Layers
+pub mod Moves
 pub mod Spreading
+pub mod Fingerprint
+pub mod Chained
+pub mod Marked

@@ -1,14 +1,13 @@
--- How far a layer has been gone on from.
-use Rattle.std.specs.Prelude.{◌≡◌, ◌<◌, ◌⊎◌, ℕ, suc, List, [], ◌∷◌, ◌++◌, Some, slice_get}
+-- The stands of the next layer, and the ways to them.
+use Rattle.std.specs.Prelude.{◌≡◌, ◌<◌, ◌⊎◌, ◌==◌, ℕ, List, [], ◌∷◌, ◌++◌, not, length, Option, Some, slice_get}
 use Rattle.std.specs.Global.{Vec}
+use Rattle.schedule_graph.specs.declared.graph.Spot.{Spot}
 use Rattle.schedule_graph.specs.declared.graph.Way.{Way}
-use Rattle.schedule_graph.specs.Words.{AreApart}
 use Rattle.explore.specs.declared.limits.Scope.{Scope}
 use Rattle.explore.specs.declared.layer.Stand.{Stand}
-use Rattle.explore.specs.Lists.{is_another, is_cut}
+use Rattle.explore.specs.declared.moves.Choice.{Choice}
 use Rattle.explore.specs.Merged.{bounded_cuts}
-use Rattle.explore.specs.Points.{marks_after, MayGo}
-use Rattle.explore.specs.Layers.{LiveView, LayerView, Keeps, IsBorn, AreOn, AreJoined, AreWaysBy, IsWayBy, IsThere, point_at}
+use Rattle.explore.specs.Layers.{IsThere, spot_by}
 
 -- ---- stands
 
@@ -18,68 +17,102 @@ pub record StandsAs (scope : Scope) (stand other : Stand) : Type 0 where
   pub last : other.marks.last ≡ stand.marks.last
   pub cuts : bounded_cuts scope.cuts other.marks.cuts ≡ bounded_cuts scope.cuts stand.marks.cuts
 
--- the stand after the actor's turn, on that world of the next layer
-pub record IsStandAfter (stand : Stand) (live : LiveView) (i world : ℕ) (born : Stand) : Type 0 where
+-- the stand after that choice, on that world of the next layer
+pub record IsStandBy (stand : Stand) (choice : Choice) (world : ℕ) (born : Stand) : Type 0 where
   pub on : born.world ≡ world
-  pub turns : born.turns.items ≡ stand.turns.items ++ i ∷ []
-  pub marks : born.marks ≡ marks_after live.world.seats stand.marks i
-
--- of the next layer's stands each was there before or is that one
-abbrev pub AreStandsAfter : Stand → LiveView → ℕ → ℕ → List Stand → List Stand → Type 0
-AreStandsAfter stand live i world old new = (t : ℕ) (born : Stand) → slice_get new t ≡ Some born
-    → (slice_get old t ≡ Some born) ⊎ IsStandAfter stand live i world born
-
--- ---- worlds
-
--- of the next layer's worlds each was there before or is the one after the actor's turn from that stand
-abbrev pub AreWorldsAfter : Stand → LiveView → ℕ → List LiveView → List LiveView → Type 0
-AreWorldsAfter stand live i old new = (k : ℕ) (born : LiveView) → slice_get new k ≡ Some born
-    → (slice_get old k ≡ Some born) ⊎ IsBorn stand live i born
+  pub turns : born.turns.items ≡ stand.turns.items ++ choice.actor ∷ []
+  pub marks : born.marks ≡ choice.marks
 
 -- ---- ways
 
--- one of the ways is by that letter
-abbrev pub IsOneBy : List Way → ℕ → Way → Type 0
-IsOneBy ways letter way = (at : ℕ) × ((slice_get ways at ≡ Some way) × (way.letter ≡ letter))
-
--- the way is the actor's turn from that stand, and leads to whoever stands as the one after it
-pub record IsWayTo (scope : Scope) (stand : Stand) (live : LiveView) (i world : ℕ) (next : List Stand)
+-- the way is that of the choice from that stand, and leads to whoever stands as the one after it
+pub record IsWayTo (scope : Scope) (stand : Stand) (choice : Choice) (world : ℕ) (next : List Stand)
     (way : Way) : Type 0 where
-  pub letter : way.letter ≡ i
-  pub cut : way.cut ≡ is_cut live.world.seats stand.marks.last i
-  pub change : way.change ≡ is_another stand.marks.last i
+  pub letter : way.letter ≡ choice.actor
+  pub cut : way.cut ≡ not (choice.marks.cuts == stand.marks.cuts)
+  pub change : way.change ≡ not (choice.marks.changes == stand.marks.changes)
   pub to : Stand
-  pub after : IsStandAfter stand live i world to
+  pub after : IsStandBy stand choice world to
   pub there : IsThere scope to next way.to
 
--- the turns from that stand of those actors below n who may have the next one
-pub record AreWaysBelow (scope : Scope) (layer next : LayerView) (stand : Stand) (live : LiveView)
-    (n : ℕ) (ways : List Way) : Type 0 where
-  pub all : (i : ℕ) → i < n → MayGo scope (point_at live stand) i → (way : Way) × IsOneBy ways i way
-  pub each : (k : ℕ) (way : Way) → slice_get ways k ≡ Some way → IsWayBy scope layer next stand live way.letter way
-  pub below : (k : ℕ) (way : Way) → slice_get ways k ≡ Some way → way.letter < n
-  pub apart : AreApart ways
+-- the ways of these choices, in order, to worlds at the places of their moves
+abbrev pub AreEachWay : Scope → Stand → List Choice → List ℕ → List Stand → List Way → Type 0
+AreEachWay scope stand choices places next ways = (k : ℕ) (choice : Choice) (world : ℕ) (way : Way)
+    → slice_get choices k ≡ Some choice → slice_get places choice.at ≡ Some world → slice_get ways k ≡ Some way
+    → IsWayTo scope stand choice world next way
 
--- of each of the first stands
-abbrev pub AreFirstWays : Scope → LayerView → LayerView → List (Vec Way) → Type 0
-AreFirstWays scope layer next all = (s : ℕ) (stand : Stand) (live : LiveView) (ways : Vec Way)
-    → slice_get layer.stands s ≡ Some stand → slice_get layer.worlds stand.world ≡ Some live
-    → slice_get all s ≡ Some ways → AreWaysBy scope layer next stand live ways.items
+pub record AreWaysTo (scope : Scope) (stand : Stand) (choices : List Choice) (places : List ℕ) (next : List Stand)
+    (ways : List Way) : Type 0 where
+  pub many : length ways ≡ length choices
+  pub each : AreEachWay scope stand choices places next ways
 
--- of that one
-abbrev pub AreWaysAt : Scope → LayerView → LayerView → ℕ → List Way → Type 0
-AreWaysAt scope layer next s ways = (stand : Stand) (live : LiveView) → slice_get layer.stands s ≡ Some stand
-    → slice_get layer.worlds stand.world ≡ Some live
-    → AreWaysBy scope layer next stand live ways
+-- it is the stand after one of these choices
+pub record IsStandOf (stand : Stand) (choices : List Choice) (places : List ℕ) (born : Stand) : Type 0 where
+  pub at : ℕ
+  pub choice : Choice
+  pub there : slice_get choices at ≡ Some choice
+  pub world : ℕ
+  pub place : slice_get places choice.at ≡ Some world
+  pub is : IsStandBy stand choice world born
 
--- ---- the next layer
+-- of the next layer's stands each was there before or is such a one
+abbrev pub AreStandsBy : Stand → List Choice → List ℕ → List Stand → List Stand → Type 0
+AreStandsBy stand choices places old new = (t : ℕ) (born : Stand) → slice_get new t ≡ Some born
+    → (slice_get old t ≡ Some born) ⊎ IsStandOf stand choices places born
 
--- the next layer so far
-pub record IsNext (scope : Scope) (layer next : LayerView) : Type 0 where
-  pub joined : AreJoined scope layer next
-  pub on : (n : ℕ) → AreOn n layer → AreOn (suc n) next
+-- ---- the ways from all stands
 
--- it only grew
-pub record Grows (old new : LayerView) : Type 0 where
-  pub worlds : Keeps old.worlds new.worlds
-  pub stands : Keeps old.stands new.stands
+-- no two choices of a stand are of one actor
+abbrev pub AreApartChoices : List (Vec Choice) → Type 0
+AreApartChoices all = (s : ℕ) (choices : Vec Choice) (k l : ℕ) (choice other : Choice) → slice_get all s ≡ Some choices
+    → slice_get choices.items k ≡ Some choice → slice_get choices.items l ≡ Some other → choice.actor ≡ other.actor
+    → k ≡ l
+
+-- each choice's move has its place among those from the stand's world
+abbrev pub IsFitting : List Choice → List ℕ → Type 0
+IsFitting choices places = (k : ℕ) (choice : Choice) → slice_get choices k ≡ Some choice → choice.at < length places
+
+abbrev pub AreFit : List Stand → List (Vec Choice) → List (Vec ℕ) → Type 0
+AreFit stands choices places = (s : ℕ) (stand : Stand) (those : Vec Choice) → slice_get stands s ≡ Some stand
+    → slice_get choices s ≡ Some those
+    → (row : Vec ℕ) × ((slice_get places stand.world ≡ Some row) × IsFitting those.items row.items)
+
+-- the stand is one turn after one of these
+pub record IsStandFrom (stands : List Stand) (choices : List (Vec Choice)) (places : List (Vec ℕ))
+    (born : Stand) : Type 0 where
+  pub s : ℕ
+  pub stand : Stand
+  pub there : slice_get stands s ≡ Some stand
+  pub those : Vec Choice
+  pub chosen : slice_get choices s ≡ Some those
+  pub row : Vec ℕ
+  pub places_there : slice_get places stand.world ≡ Some row
+  pub is : IsStandOf stand those.items row.items born
+
+abbrev pub AreStandsFrom : List Stand → List (Vec Choice) → List (Vec ℕ) → List Stand → Type 0
+AreStandsFrom stands choices places next =
+    (t : ℕ) (born : Stand) → slice_get next t ≡ Some born → IsStandFrom stands choices places born
+
+-- the ways of all choices from the first stands
+abbrev pub AreFirstWays : Scope → List Stand → List (Vec Choice) → List (Vec ℕ) → List Stand → List (Vec Way) → Type 0
+AreFirstWays scope stands choices places next all = (s : ℕ) (stand : Stand) (those : Vec Choice) (row : Vec ℕ)
+    (ways : Vec Way) → slice_get stands s ≡ Some stand → slice_get choices s ≡ Some those
+    → slice_get places stand.world ≡ Some row → slice_get all s ≡ Some ways
+    → AreWaysTo scope stand those.items row.items next ways.items
+
+-- and from all of them
+pub record AreWaysOfAll (scope : Scope) (stands : List Stand) (choices : List (Vec Choice)) (places : List (Vec ℕ))
+    (next : List Stand) (all : List (Vec Way)) : Type 0 where
+  pub many : length all ≡ length stands
+  pub ways : AreFirstWays scope stands choices places next all
+  pub born : AreStandsFrom stands choices places next
+
+-- ---- spots
+
+-- each stand's spot: an end of its world's class, if that has one, and else the ways from it
+pub record AreSpotsBy (stands : List Stand) (tops : List (Option ℕ)) (all : List (Vec Way))
+    (spots : List Spot) : Type 0 where
+  pub many : length spots ≡ length stands
+  pub each : (s : ℕ) (stand : Stand) (ways : Vec Way) (top : Option ℕ) → slice_get stands s ≡ Some stand
+      → slice_get all s ≡ Some ways → slice_get tops stand.world ≡ Some top
+      → slice_get spots s ≡ Some (spot_by top ways)

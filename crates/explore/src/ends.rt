@@ -1,7 +1,6 @@
-//! What the worlds of a layer come to, and the spots of its stands.
+//! The classes of what worlds come to, and the spots of stands.
 ghost use Rattle.std.specs.Prelude.{◌≡◌, ◌⊎◌, ◌<◌, ◌≤◌, ℕ, length, Option, Some, None, true, slice_get, IfOk, IfSome};
 ghost use Rattle.std.specs.Global.{Vec};
-ghost use Rattle.std.specs.Vec.Iter.{into_iter_items};
 ghost use Rattle.race_core.specs.Worlds.{is_busy_at};
 ghost use Rattle.race_core.specs.declared.opening.TheConstants.{ACTORS_MAX};
 ghost use Rattle.schedule_graph.specs.declared.graph.Way.{Way};
@@ -10,22 +9,19 @@ ghost use Rattle.explore.specs.declared.layer.Stand.{Stand};
 ghost use Rattle.explore.specs.Explored.{ClassView};
 ghost use Rattle.explore.specs.Search.{IsOver};
 ghost use Rattle.explore.specs.Tally.{SameOutcome};
-ghost use Rattle.explore.specs.Want.{EndsWell};
-ghost use Rattle.explore.specs.Layers.{LiveView, Keeps, AreWell, IsTop, AreTops, IsReportOf, AreApartClasses, AreFoundIn, spot_by};
+ghost use Rattle.explore.specs.Layers.{Keeps, AreApartClasses, spot_by};
 
 use crate::found::{Class, Ending};
-use crate::growing::ended;
-use crate::layer::{Live, Stand};
+use crate::layer::Stand;
 use crate::tally::place_of;
 use path_text::NoMemory;
 use race_core::World;
 use schedule_graph::{Spot, Way};
 use std::alloc::Global;
-use std::vec::IntoIter;
 use tree_model::Tree;
 
-// The first actor who has something left to do.
-fn first_busy<T: Tree>(world: &World<T>) -> Option<u32>
+/// The first actor who has something left to do.
+pub(crate) fn first_busy<T: Tree>(world: &World<T>) -> Option<u32>
     requires few { length world.now.seats ≤ ACTORS_MAX }
     ensures some { IfSome result (λ i. is_busy_at world.now.seats i ≡ true) }
     ensures none { result ≡ None → IsOver world.now }
@@ -39,9 +35,9 @@ fn first_busy<T: Tree>(world: &World<T>) -> Option<u32>
     None
 }
 
-// The place of the class of that outcome; a new one is put after the others where none has it. NoMemory where room was
-// refused.
-fn class_at<T: Tree + Drop>(
+/// The place of the class of that outcome; a new one is put after the others where none has it. NoMemory where room was
+/// refused.
+pub(crate) fn class_at<T: Tree + Drop>(
     alloc: Global,
     classes: &mut Vec<Class<T>>,
     ending: Ending<T>,
@@ -61,76 +57,6 @@ fn class_at<T: Tree + Drop>(
     }
     classes.push(Class::of(ending, nodes))?;
     Ok(at)
-}
-
-// The class of what the world comes to, if nobody has anything left to do. Else it is given up. NoMemory where memory
-// ran short, on the way to it too.
-fn top_of<T: Tree + Drop>(
-    alloc: Global,
-    live: Live<T>,
-    classes: &mut Vec<Class<T>>,
-) -> Result<Option<usize>, NoMemory>
-    requires actors { length live.world.seats ≤ ACTORS_MAX }
-    ensures well { IfOk result (λ top. IsOver live.world → EndsWell live.world) }
-    ensures top { IfOk result (λ top. IsTop classes.new.items live top) }
-    ensures keeps { Keeps classes.old.items classes.new.items }
-    ensures found { IfOk result (λ top. (k : ℕ) (c : ClassView) → slice_get classes.new.items k ≡ Some c
-        → (slice_get classes.old.items k ≡ Some c) ⊎ IsReportOf live c.least) }
-    ensures apart { AreApartClasses classes.old.items → AreApartClasses classes.new.items }
-{
-    let busy = first_busy(live.seen.world());
-    if busy.is_some() {
-        live.give_up(alloc);
-        return Ok(None);
-    }
-    let ending = ended(alloc, live)?;
-    let at = class_at(alloc, classes, ending)?;
-    Ok(Some(at))
-}
-
-// The same of each of the worlds that are still to come. NoMemory where memory ran short; some may be left then.
-fn tops_of<T: Tree + Drop>(
-    alloc: Global,
-    lives: &mut IntoIter<Live<T>>,
-    classes: &mut Vec<Class<T>>,
-) -> Result<Vec<Option<usize>>, NoMemory>
-    requires actors { (m : ℕ) (live : LiveView) → slice_get (into_iter_items lives.old) m ≡ Some live
-        → length live.world.seats ≤ ACTORS_MAX }
-    ensures well { IfOk result (λ tops. AreWell (into_iter_items lives.old)) }
-    ensures tops { IfOk result (λ tops. AreTops classes.new.items (into_iter_items lives.old) tops.items) }
-    ensures keeps { Keeps classes.old.items classes.new.items }
-    ensures found { IfOk result (λ tops. AreFoundIn (into_iter_items lives.old) classes.old.items classes.new.items) }
-    ensures apart { AreApartClasses classes.old.items → AreApartClasses classes.new.items }
-{
-    let mut tops = Vec::new(alloc);
-    'lives: while let Some(live) = lives.next() {
-        tops.push(top_of(alloc, live, classes)?)?;
-    }
-    Ok(tops)
-}
-
-/// Of each world in which nobody has anything left to do, the class of what it comes to. The others are given up.
-/// NoMemory where memory ran short, on the way to one of them too; all that are left are given up then.
-pub(crate) fn all_ended<T: Tree + Drop>(
-    alloc: Global,
-    worlds: Vec<Live<T>>,
-    classes: &mut Vec<Class<T>>,
-) -> Result<Vec<Option<usize>>, NoMemory>
-    requires actors { (m : ℕ) (live : LiveView) → slice_get worlds.items m ≡ Some live
-        → length live.world.seats ≤ ACTORS_MAX }
-    ensures well { IfOk result (λ tops. AreWell worlds.items) }
-    ensures tops { IfOk result (λ tops. AreTops classes.new.items worlds.items tops.items) }
-    ensures keeps { Keeps classes.old.items classes.new.items }
-    ensures found { IfOk result (λ tops. AreFoundIn worlds.items classes.old.items classes.new.items) }
-    ensures apart { AreApartClasses classes.old.items → AreApartClasses classes.new.items }
-{
-    let mut lives = worlds.into_iter();
-    let tops = tops_of(alloc, &mut lives, classes);
-    'rest: while let Some(live) = lives.next() {
-        live.give_up(alloc);
-    }
-    lives.destroy_empty();
-    tops
 }
 
 // An end of that class, if there is one, and else these ways.

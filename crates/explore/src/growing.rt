@@ -1,15 +1,18 @@
 //! Worlds gone on from by a copy for each turn, or gone through from the beginning; and one kept of alike ones.
-ghost use Rattle.std.specs.Prelude.{◌≡◌, ◌↔◌, ◌⊎◌, ◌<◌, ◌≤◌, ◌^◌, [], false, ℕ, length, Some, slice_get, IsTrue, IfOk, IfErr, IfSome, OnOk};
+ghost use Rattle.std.specs.Prelude.{◌≡◌, ◌↔◌, ◌⊎◌, ◌<◌, ◌≤◌, ◌^◌, [], ◌∷◌, ◌++◌, false, ℕ, drop, length, Some, slice_get, IsTrue, IfOk, IfErr, IfSome, IfNone, OnOk};
+ghost use Rattle.std.specs.List.{count_by};
 ghost use Rattle.race_core.specs.Worlds.{RunsTo};
 ghost use Rattle.race_core.specs.declared.opening.TheConstants.{ACTORS_MAX};
 ghost use Rattle.explore.specs.Counting.{IsTally};
 ghost use Rattle.explore.specs.Explored.{WhyNot};
+ghost use Rattle.explore.specs.Fingerprint.{print_of};
+ghost use Rattle.explore.specs.Marked.{IsSameAt, IsAlikeAt, IsNew, AreLookedUp, prints_of, counted};
+ghost use Rattle.explore.specs.Moves.{IsTurned};
 ghost use Rattle.explore.specs.Outside.{IsSame};
 ghost use Rattle.explore.specs.Points.{start, no_marks, Goes, IsTurn, AreWithin};
 ghost use Rattle.explore.specs.Search.{IsOver, IsLike};
-ghost use Rattle.explore.specs.Spreading.{AreWorldsAfter};
 ghost use Rattle.explore.specs.Want.{EndsWell, replies_want};
-ghost use Rattle.explore.specs.Layers.{LiveView, Keeps, IsLed, Leads, IsBorn, IsReportOf};
+ghost use Rattle.explore.specs.Layers.{LiveView, Keeps, IsLed, IsBorn, IsReportOf};
 
 use crate::beginnings::Beginnings;
 use crate::fingerprint::Fingerprint;
@@ -19,6 +22,7 @@ use crate::limits::{Limits, SearchFault};
 use crate::marks::{Marks, marks_after, no_marks};
 use crate::outside::Tally;
 use crate::seen::Seen;
+use crate::spares::{Spare, set_aside};
 use crate::table::Table;
 use crate::want::tells_want;
 use path_text::NoMemory;
@@ -116,6 +120,7 @@ fn gone<T: Tree + Drop>(
     ensures led { IfOk result (λ live. IsLed world live) }
     ensures turns { IfOk result (λ live. live.turns ≡ turns.items) }
     ensures told { IfOk result (λ live. live.told ≡ tally.told) }
+    ensures state { IfOk result (λ live. IsTrue live.is_state) }
     ensures actors { IfOk result (λ live. length live.world.seats ≡ length world.seats) }
 {
     let mut marks = no_marks();
@@ -147,6 +152,7 @@ pub(crate) fn led<T: Tree + Drop, B: Beginnings<T>>(
     ensures led { IfOk result (λ live. IsLed (B.opening beginnings.now) live) }
     ensures turns { IfOk result (λ live. live.turns ≡ turns.items) }
     ensures told { IfOk result (λ live. live.told ≡ told) }
+    ensures state { IfOk result (λ live. IsTrue live.is_state) }
     ensures actors { IfOk result (λ live. length live.world.seats ≡ length (B.opening beginnings.now).seats) }
     ensures few { OnOk result (length (B.opening beginnings.now).seats ≤ ACTORS_MAX) }
     ensures err { (limits : Limits) → IfErr result (WhyNot (B.opening beginnings.now) limits) }
@@ -220,8 +226,7 @@ impl<T: Tree> Live<T> {
 
 // Whether the world at that place is the same as that one.
 fn is_same_at<T: Tree>(worlds: &[Live<T>], at: usize, live: &Live<T>) -> bool
-    ensures { IsTrue result → (other : LiveView)
-        × ((slice_get worlds.now at ≡ Some other) × IsSame live.now.told live.now.world other.world) }
+    ensures { IsTrue result ↔ IsSameAt live.now worlds.now at }
 {
     match worlds.get(at) {
         Some(other) => live.is_same(other),
@@ -229,15 +234,17 @@ fn is_same_at<T: Tree>(worlds: &[Live<T>], at: usize, live: &Live<T>) -> bool
     }
 }
 
-// The place of a world that is the same as that one, of that fingerprint.
+// The place of a world that is the same as that one, of that fingerprint. Where there is none, no world is the same.
 fn same_at<T: Tree>(
     worlds: &[Live<T>],
     table: &Table,
     print: Fingerprint,
     live: &Live<T>,
 ) -> Option<usize>
-    ensures { IfSome result (λ at. (other : LiveView)
-        × ((slice_get worlds.now at ≡ Some other) × IsSame live.now.told live.now.world other.world)) }
+    requires prints { table.now ≡ prints_of worlds.now }
+    requires own { print.0 ≡ print_of live.now.world }
+    ensures same { IfSome result (λ at. IsSameAt live.now worlds.now at) }
+    ensures none { IfNone result ((at : ℕ) → IsSameAt live.now worlds.now at → ⊥) }
 {
     let mut place = table.last(print);
     while let Some(at) = place {
@@ -250,21 +257,26 @@ fn same_at<T: Tree>(
 }
 
 // Whether the world at that place is alike.
-fn is_alike_at<T: Tree>(worlds: &[Live<T>], at: usize, live: &Live<T>) -> bool {
+fn is_alike_at<T: Tree>(worlds: &[Live<T>], at: usize, live: &Live<T>) -> bool
+    ensures { IsTrue result ↔ IsAlikeAt live.now.world worlds.now at }
+{
     match worlds.get(at) {
         Some(other) => live.seen.is_alike(&other.seen),
         None => false,
     }
 }
 
-// Whether none of the worlds of that fingerprint is alike. It tells what is counted as a state, of which nothing is
-// proved.
+// Whether none of the worlds is alike. Those of that fingerprint are compared.
 fn is_unlike_all<T: Tree>(
     worlds: &[Live<T>],
     table: &Table,
     print: Fingerprint,
     live: &Live<T>,
-) -> bool {
+) -> bool
+    requires prints { table.now ≡ prints_of worlds.now }
+    requires own { print.0 ≡ print_of live.now.world }
+    ensures { IsNew result worlds.now (length worlds.now) live.now.world }
+{
     let mut place = table.last(print);
     while let Some(at) = place {
         if is_alike_at(worlds, at, live) {
@@ -277,7 +289,7 @@ fn is_unlike_all<T: Tree>(
 
 // The same world, counted as a state or not.
 fn counted<T: Tree>(live: Live<T>, is_state: bool) -> Live<T>
-    ensures { result ≡ live }
+    ensures { result ≡ counted is_state live }
 {
     let Live {
         seen,
@@ -295,23 +307,27 @@ fn counted<T: Tree>(live: Live<T>, is_state: bool) -> Live<T>
     }
 }
 
-// The place of a world that is the same as that one; it is put after the others where none is. NoMemory where its
-// room was refused.
-fn put<T: Tree + Drop>(
+/// The place of a world that is the same as that one, of that fingerprint: it is set aside then. It is put after the
+/// others where none is, and counts as a state where none is alike. NoMemory where its room was refused.
+pub(crate) fn put<T: Tree + Drop>(
     alloc: Global,
     worlds: &mut Vec<Live<T>>,
     table: &mut Table,
     live: Live<T>,
+    print: Fingerprint,
+    spares: &mut Vec<Spare<T>>,
 ) -> Result<usize, NoMemory>
+    requires own { print.0 ≡ print_of live.world }
+    requires looked_up { AreLookedUp worlds.old.items table.old }
+    ensures looked_up { AreLookedUp worlds.new.items table.new }
     ensures keeps { Keeps worlds.old.items worlds.new.items }
     ensures there { IfOk result (λ at. (other : LiveView)
         × ((slice_get worlds.new.items at ≡ Some other) × IsLike live.told live.world other.world)) }
     ensures new { (k : ℕ) (born : LiveView) → slice_get worlds.new.items k ≡ Some born
-        → (slice_get worlds.old.items k ≡ Some born) ⊎ (born ≡ live) }
+        → (slice_get worlds.old.items k ≡ Some born) ⊎ (born ≡ counted born.is_state live) }
 {
-    let print = live.seen.fingerprint();
     if let Some(at) = same_at(worlds.as_slice(), table, print, &live) {
-        live.give_up(alloc);
+        set_aside(alloc, spares, live);
         return Ok(at);
     }
     if worlds.reserve(1).is_err() {
@@ -328,35 +344,54 @@ fn put<T: Tree + Drop>(
     Ok(at)
 }
 
-/// How many of the worlds from that place on have none before them that is alike.
-pub(crate) fn count_states<T: Tree>(worlds: &[Live<T>], from: usize) -> u64 {
+// Whether the world counts as a state.
+fn is_state<T: Tree>(live: &Live<T>) -> bool
+    ensures { result ≡ live.now.is_state }
+{
+    live.is_state
+}
+
+/// How many of the worlds from that place on count as states: have none before them that is alike.
+pub(crate) fn count_states<T: Tree>(worlds: &[Live<T>], from: usize) -> u64
+    ensures { result ≡ count_by (λ live. live.is_state) (drop from worlds.now) }
+{
     let mut count: u64 = 0;
     for at in from..worlds.len() {
-        let live = &worlds[at];
-        if live.is_state {
-            count = count.saturating_add(1);
+        if is_state(&worlds[at]) {
+            count += 1;
         }
     }
     count
 }
 
-// The world after the actor's turn from that stand: a copy of the one that it is on takes the turn. NoMemory where
-// room was refused, or where memory for its report ran short.
-fn born<T: CopyTree + Drop>(
+/// These turns and one of that actor. NoMemory where their room was refused.
+pub(crate) fn turns_and(alloc: Global, before: &[u32], actor: u32) -> Result<Vec<u32>, NoMemory>
+    ensures { IfOk result (λ turns. turns.items ≡ before.now ++ actor ∷ []) }
+{
+    let mut turns = Vec::with_capacity(alloc, before.len() + 1)?;
+    turns.extend_from_slice(before)?;
+    turns.push(actor)?;
+    Ok(turns)
+}
+
+// The world after the actor's turn from that stand. NoMemory where room was refused, or where memory for its report ran
+// short.
+fn turned<T: Tree + Drop>(
     alloc: Global,
-    live: &Live<T>,
+    mut world: World<T>,
+    mut tally: Tally,
     stand: &Stand,
     actor: u32,
 ) -> Result<Live<T>, NoMemory>
     requires few { AreWithin stand.now.marks (2 ^ 40) }
-    ensures { IfOk result (λ born. IsBorn stand.now live.now actor born) }
+    requires tally { IsTally world tally }
+    ensures { IfOk result (λ after. IsTurned world tally.told stand.now actor after) }
 {
-    let mut turns = Vec::with_capacity(alloc, stand.turns.len() + 1)?;
-    turns.extend_from_slice(stand.turns.as_slice())?;
-    turns.push(actor)?;
+    let Ok(turns) = turns_and(alloc, stand.turns.as_slice(), actor) else {
+        world.give_up(alloc);
+        return Err(NoMemory);
+    };
     let mut marks = stand.marks;
-    let mut tally = live.tally.copy(alloc)?;
-    let mut world = live.seen.world().copy(alloc)?;
     if take_turn(alloc, &mut world, &mut marks, &mut tally, actor).is_err() {
         world.give_up(alloc);
         return Err(NoMemory);
@@ -376,21 +411,38 @@ fn born<T: CopyTree + Drop>(
     }
 }
 
-/// The place, among the next layer's worlds, of one like that after the actor's turn from that stand; it is put after
-/// the others where none is. NoMemory where room was refused.
-pub(crate) fn world_after<T: CopyTree + Drop>(
+/// The world after the actor's turn from that stand: a copy of the one that it is on takes the turn. NoMemory where
+/// room was refused, or where memory for its report ran short.
+pub(crate) fn after_copy<T: CopyTree + Drop>(
     alloc: Global,
     live: &Live<T>,
     stand: &Stand,
     actor: u32,
-    next: &mut Vec<Live<T>>,
-    table: &mut Table,
-) -> Result<usize, NoMemory>
+) -> Result<Live<T>, NoMemory>
     requires few { AreWithin stand.now.marks (2 ^ 40) }
-    ensures keeps { Keeps next.old.items next.new.items }
-    ensures leads { IfOk result (λ at. Leads live.now actor next.new.items at) }
-    ensures born { AreWorldsAfter stand.now live.now actor next.old.items next.new.items }
+    ensures { IfOk result (λ after. IsBorn stand.now live.now actor after) }
 {
-    let born = born(alloc, live, stand, actor)?;
-    put(alloc, next, table, born)
+    let tally = live.tally.copy(alloc)?;
+    let world = live.seen.world().copy(alloc)?;
+    turned(alloc, world, tally, stand, actor)
+}
+
+/// The same, but the world itself takes the turn.
+pub(crate) fn after_turn<T: Tree + Drop>(
+    alloc: Global,
+    live: Live<T>,
+    stand: &Stand,
+    actor: u32,
+) -> Result<Live<T>, NoMemory>
+    requires few { AreWithin stand.now.marks (2 ^ 40) }
+    ensures { IfOk result (λ after. IsBorn stand.now live actor after) }
+{
+    let Live {
+        seen,
+        turns: _,
+        marks: _,
+        tally,
+        is_state: _,
+    } = live;
+    turned(alloc, seen.into_world(), tally, stand, actor)
 }

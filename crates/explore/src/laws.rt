@@ -1,6 +1,7 @@
 //! What holds of every call and of alike worlds: laws, the contracts of functions without a body.
 ghost use Rattle.explore.specs.Alike.{AlikeWorldsTakeAlikeTurns, AlikeWorldsAreBusyAlike, AlikeWorldsTellTheSame, AlikeWorldsEndAlike};
 ghost use Rattle.explore.specs.Concluded.{FoundClassesHaveLeasts, CountsConclude};
+ghost use Rattle.explore.specs.Fingerprint.{AlikeWorldsHaveOneFingerprint};
 ghost use Rattle.explore.specs.Laws.{CallsBeginBlindly, StepsAreDueBlindly, AnswersAreTakenBlindly};
 ghost use Rattle.explore.specs.Search.{ChosenListsStandForAll, ReportsAreOfFullLists, FullListsAreReported};
 ghost use Rattle.explore.specs.Merged.{WordsAreLists};
@@ -24,6 +25,12 @@ pub fn alike_worlds_go_alike()
     ensures tell { AlikeWorldsTellTheSame }
     ensures ends { AlikeWorldsEndAlike }
     ensures outside { AlikeWorldsActOutsideAlike }
+{}
+
+/// Alike worlds have the same fingerprint. So whoever looks a world up by its own among others misses none that is
+/// alike.
+pub fn alike_worlds_have_one_fingerprint()
+    ensures { AlikeWorldsHaveOneFingerprint }
 {}
 
 /// Want of memory is told: a turn that lacked some is the turn with memory, or else its actor's call closes what it

@@ -21,7 +21,13 @@ impl<T: Tree> Model for Live<T> {
 
     ghost Value = { LiveView };
 
-    ghost view = { λ l. record { told = l.tally.told; world = l.seen; marks = l.marks; turns = l.turns.items } };
+    ghost view = { λ l. record {
+      told = l.tally.told;
+      world = l.seen;
+      marks = l.marks;
+      turns = l.turns.items;
+      is_state = l.is_state;
+    } };
 
     ghost invariant = { λ l. IsTally l.seen l.tally };
 }

@@ -1,28 +1,36 @@
 //! All full lists of turns, by layers of merged worlds.
-ghost use Rattle.std.specs.Prelude.{◌≡◌, ◌<◌, ◌≤◌, ◌+◌, ◌^◌, ◌++◌, ◌∷◌, [], ℕ, Option, Some, length, slice_get, IsTrue, IfOk, IfErr, OnOk};
+ghost use Rattle.std.specs.Prelude.{◌≡◌, ◌<◌, ◌≤◌, ◌+◌, ◌^◌, ◌++◌, ◌∷◌, [], ℕ, List, Option, Some, length, slice_get, IsTrue, IfOk, IfErr, OnOk};
 ghost use Rattle.std.specs.Global.{Vec};
 ghost use Rattle.race_core.specs.declared.opening.TheConstants.{ACTORS_MAX};
 ghost use Rattle.race_core.specs.Worlds.{WorldView};
 ghost use Rattle.schedule_graph.specs.declared.graph.Spot.{Spot};
+ghost use Rattle.schedule_graph.specs.declared.graph.Way.{Way};
+ghost use Rattle.explore.specs.declared.layer.Stand.{Stand};
 ghost use Rattle.explore.specs.Explored.{WhyNot};
 ghost use Rattle.explore.specs.Promise.{IsMerged};
 ghost use Rattle.explore.specs.Concluded.{IsToldBy, HasShort, AsksIn, AreShort, AskIn, AreToldIn};
 ghost use Rattle.explore.specs.Layers.{LiveView, LayerView, AreOn, IsFirst, IsPassed, HasSearched};
+ghost use Rattle.explore.specs.Spreading.{AreApartChoices, AreFit, AreWaysOfAll, AreSpotsBy};
 ghost use Rattle.explore.specs.Want.{EndsWell};
 
 use crate::beginnings::Beginnings;
-use crate::ends::{all_ended, spots_of};
+use crate::ends::spots_of;
 use crate::found::{Class, Findings};
 use crate::growing::{ended, give_up, led};
+use crate::jobs::Jobs;
 use crate::layer::{Layer, Stand};
 use crate::limits::{Limits, Scope, SearchFault};
 use crate::marks::no_marks;
+use crate::moves::{Choice, listed};
 use crate::progress::Progress;
-use crate::ways::spread;
+use crate::rounds::{Course, go_on};
+use crate::ways::all_ways;
 use path_text::NoMemory;
 use race_core::CopyTree;
 use schedule_graph::{Count, Graph};
 use std::alloc::Global;
+use std::marker::{Send, Sync};
+use std::thread::Threads;
 use tree_model::Tree;
 
 // Gives up the worlds of a layer that isn't gone on from.
@@ -88,12 +96,39 @@ fn first<T: Tree + Drop, B: Beginnings<T>>(
     Ok(Layer { worlds, stands })
 }
 
-// Goes from one layer on to the next: it is told what its worlds come to, and the spots of its stands are added to
-// the graph. The next layer, and how many states it has.
+// The next layer's stands. The spots of this layer's stands are added to the graph: an end where the stand's world has
+// a class, and else the ways of its choices. NoMemory where room was refused.
+fn spread(
+    alloc: Global,
+    scope: Scope,
+    stands: &[Stand],
+    choices: &[Vec<Choice>],
+    places: &[Vec<usize>],
+    tops: &[Option<usize>],
+    graph: &mut Graph,
+) -> Result<Vec<Stand>, NoMemory>
+    requires many { length choices.now ≡ length stands.now }
+    requires fit { AreFit stands.now choices.now places.now }
+    requires apart { AreApartChoices choices.now }
+    requires on { (s : ℕ) (stand : Stand) → slice_get stands.now s ≡ Some stand → stand.world < length tops.now }
+    ensures { IfOk result (λ next. (all : List (Vec Way)) × ((spots : Vec Spot) × ((graph.new ≡ graph.old ++ spots ∷ [])
+        × (AreWaysOfAll scope stands.now choices.now places.now next.items all
+        × AreSpotsBy stands.now tops.now all spots.items)))) }
+{
+    let (ways, next) = all_ways(alloc, scope, stands, choices, places)?;
+    let spots = spots_of(alloc, stands, tops, ways)?;
+    graph.push_layer(spots)?;
+    Ok(next)
+}
+
+// Goes from one layer on to the next, in at most so many threads at a time: it is told what its worlds come to, and the
+// spots of its stands are added to the graph. The next layer, and how many states it has.
 //
 // Errors: TooManyStates where it would have more than so many; NoMemory where room was refused.
-fn pass<T: CopyTree + Drop>(
+fn pass<T: CopyTree + Drop + Send, R: Threads + Sync>(
     alloc: Global,
+    threads: &R,
+    jobs: Jobs,
     limits: Limits,
     room: u64,
     layer: Layer<T>,
@@ -108,31 +143,38 @@ fn pass<T: CopyTree + Drop>(
     ensures room { IfOk result (λ next. next.1 ≤ room) }
     ensures err { (w : WorldView) → IfErr result (WhyNot w limits) }
 {
-    let went = spread(alloc, limits, room, &layer);
+    let scope = limits.scope;
+    let listed = listed(alloc, scope, &layer);
     let Layer { worlds, stands } = layer;
-    let ended = all_ended(alloc, worlds, classes);
-    let (ways, next, states) = went?;
-    let Ok(tops) = ended else {
-        leave(alloc, next);
+    let Ok((moves, choices)) = listed else {
+        give_up(alloc, worlds);
         return Err(SearchFault::NoMemory);
     };
-    let Ok(spots) = spots_of(alloc, stands.as_slice(), tops.as_slice(), ways) else {
-        leave(alloc, next);
+    let those = stands.as_slice();
+    let course = go_on(alloc, threads, jobs, room, those, worlds, moves, classes)?;
+    let Course {
+        known,
+        tops,
+        places,
+        states,
+    } = course;
+    let worlds = known.into_worlds();
+    let (choices, places, tops) = (choices.as_slice(), places.as_slice(), tops.as_slice());
+    let Ok(stands) = spread(alloc, scope, those, choices, places, tops, graph) else {
+        give_up(alloc, worlds);
         return Err(SearchFault::NoMemory);
     };
-    let Ok(()) = graph.push_layer(spots) else {
-        leave(alloc, next);
-        return Err(SearchFault::NoMemory);
-    };
-    Ok((next, states))
+    Ok((Layer { worlds, stands }, states))
 }
 
 // Goes from layer to layer until nobody may have a turn; how many states there were.
 //
 // Errors: TooManyActors over 64; TooManyTurns where a list has more turns than the limit; TooManyStates where there
 // are more worlds than the limit; NoMemory where room was refused.
-fn search<T: CopyTree + Drop, B: Beginnings<T>, P: Progress>(
+fn search<T: CopyTree + Drop + Send, B: Beginnings<T>, P: Progress, R: Threads + Sync>(
     alloc: Global,
+    threads: &R,
+    jobs: Jobs,
     beginnings: &B,
     limits: Limits,
     progress: &mut P,
@@ -152,7 +194,7 @@ fn search<T: CopyTree + Drop, B: Beginnings<T>, P: Progress>(
     let mut layer = first(alloc, beginnings, limits)?;
     'layers: while !layer.stands.is_empty() && graph.depth() <= limits.turns as usize {
         let room = limits.states - states;
-        let (next, more) = pass(alloc, limits, room, layer, graph, classes)?;
+        let (next, more) = pass(alloc, threads, jobs, limits, room, layer, graph, classes)?;
         layer = next;
         states += more;
         progress.passed(states);
@@ -219,13 +261,16 @@ fn told_classes<T: Tree + Drop, B: Beginnings<T>>(
 /// Goes through every full list of turns of that scope, and tells each outcome once, with the number of its lists
 /// and the least of them. Of worlds that differ in the numbers of handles alone, one is gone on from; where changes
 /// outside of roots are told, of those in which each actor has made as many. After each layer `progress` is told how
-/// many states there were.
+/// many states there were. It uses at most so many threads; with one it starts none. What is found doesn't depend on
+/// their number.
 ///
 /// Errors: TooManyActors over 64; TooManyTurns where a list has more turns than the limit; TooManyStates where there
 /// are more worlds than the limit; NoMemory where room was refused, in a world's run too. There are no findings
 /// then.
-pub fn explore<T: CopyTree + Drop, B: Beginnings<T>, P: Progress>(
+pub fn explore<T: CopyTree + Drop + Send, B: Beginnings<T>, P: Progress, R: Threads + Sync>(
     alloc: Global,
+    threads: &R,
+    jobs: Jobs,
     beginnings: &B,
     limits: Limits,
     progress: &mut P,
@@ -239,6 +284,8 @@ pub fn explore<T: CopyTree + Drop, B: Beginnings<T>, P: Progress>(
     let mut classes = Vec::new(alloc);
     let states = search(
         alloc,
+        threads,
+        jobs,
         beginnings,
         limits,
         progress,

@@ -3,15 +3,16 @@ ghost use Rattle.std.specs.Prelude.{◌≡◌, ◌<◌, ◌≤◌, ℕ, IsTrue, 
 ghost use Rattle.std.specs.List.{count_by};
 ghost use Rattle.tree_model.specs.Steps.{is_held_by};
 ghost use Rattle.explore.specs.Alike.{Alike};
+ghost use Rattle.explore.specs.Fingerprint.{print_of};
 ghost use Rattle.explore.specs.Paired.{all_handles, AreApart, IsApartBefore, OpenAlike, HoldsAsMany, ArePaired, SameTrees, SameBooks};
 
-use crate::fingerprint::Fingerprint;
+use crate::fingerprint::{Fingerprint, with_actors, with_handles, with_nodes};
 use crate::same::same_nodes;
 use path_text::NoMemory;
 use race_core::World;
 use std::alloc::Global;
 use std::marker::Model;
-use tree_model::{Actor, HandleNo, Inode, Object, OpenHandle, Snapshot, Tree};
+use tree_model::{Actor, HandleNo, OpenHandle, Snapshot, Tree};
 
 /// A world, and what it is compared by: its tree as a value, and the handles of all actors. Contracts see it as the
 /// world.
@@ -171,47 +172,6 @@ fn same_books<T: Tree>(world: &World<T>, other: &World<T>) -> bool
     book.lines() == other.lines() && book.events().len() == other.events().len()
 }
 
-// The fingerprint with an object.
-fn with_object(print: Fingerprint, object: &Object) -> Fingerprint {
-    match object {
-        Object::Dir => print.with(0),
-        Object::File => print.with(1),
-        Object::Link(text) => print.with(2).with_bytes(text.as_slice()),
-    }
-}
-
-// The fingerprint with a node.
-fn with_node(print: Fingerprint, inode: &Inode) -> Fingerprint {
-    let with = with_object(print, &inode.object);
-    match &inode.place {
-        Some(place) => with
-            .with(place.parent.number())
-            .with_bytes(place.name.bytes()),
-        None => with.with(0),
-    }
-}
-
-// The fingerprint with what that handle is open on.
-fn with_handle(
-    print: Fingerprint,
-    handles: &[Option<OpenHandle>],
-    handle: HandleNo,
-) -> Fingerprint {
-    match handles.get(handle.number() as usize) {
-        Some(Some(open)) => print
-            .with(u64::from(open.actor.number()))
-            .with(open.node.number()),
-        _ => print.with(0),
-    }
-}
-
-// The fingerprint with what the actor is about.
-fn with_actor<T: Tree>(print: Fingerprint, world: &World<T>, actor: u32) -> Fingerprint {
-    print
-        .with(u64::from(world.has_turns(actor)))
-        .with(u64::from(world.is_within_call(actor)))
-}
-
 impl<T: Tree> Seen<T> {
     /// The world, to be compared. It comes back as it was where room was refused.
     pub fn new(alloc: Global, world: World<T>) -> Result<Seen<T>, World<T>>
@@ -251,22 +211,19 @@ impl<T: Tree> Seen<T> {
     }
 
     /// A number that alike worlds have in common: it is made of what they are compared by, and the numbers of
-    /// handles don't count. Nothing is proved of it.
-    pub(crate) fn fingerprint(&self) -> Fingerprint {
-        let mut print = Fingerprint::new().with(self.world.book().events().len() as u64);
-        for inode in self.tree.nodes() {
-            print = with_node(print, inode);
-        }
-        print = print.with(self.tree.handles().len() as u64);
-        for handle in self.handles.as_slice() {
-            print = with_handle(print, self.tree.handles(), *handle);
-        }
-        let mut actor: u32 = 0;
-        for _at in 0..self.world.actors() {
-            print = with_actor(print, &self.world, actor);
-            actor = actor.wrapping_add(1);
-        }
-        print
+    /// handles are no part of it. Takes no memory.
+    pub(crate) fn fingerprint(&self) -> Fingerprint
+        ensures { result.0 ≡ print_of self.now }
+    {
+        let print = Fingerprint::new().with(self.world.book().events().len() as u64);
+        let print = with_nodes(print, self.tree.nodes());
+        let opened = self.tree.handles();
+        let print = with_handles(
+            print.with(opened.len() as u64),
+            opened,
+            self.handles.as_slice(),
+        );
+        with_actors(print, &self.world)
     }
 
     /// Whether the worlds are alike. Takes no memory. What differs first is mostly an actor.

@@ -4,3 +4,6 @@ mod Pieces
 mod Ordered
 mod Numbers
 mod ToldOnes
+mod Sums
+mod Heads
+mod Beginnings

@@ -8,7 +8,7 @@ use Rattle.explore_text.specs.declared.survey.Told.{Told}
 use Rattle.explore_text.specs.Survey.{is_new, new_among}
 
 -- the one at a place comes first among those that are left
-new_at : (all : List Told) (at : ℕ) (x : Told) → at < length all → x ≡ get_or all at x
+pub new_at : (all : List Told) (at : ℕ) (x : Told) → at < length all → x ≡ get_or all at x
     → new_among (take at all) (drop at all) ≡ (if is_new (take at all) x then x ∷ [] else []) ++ new_among (take (at + 1) all) (drop (at + 1) all)
 new_at all at x within is =
     let front = take at all in

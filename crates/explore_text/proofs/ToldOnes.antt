@@ -1,5 +1,5 @@
 -- What is told of outcomes, one after another.
-use Rattle.std.proofs.Common.{List, [], ◌∷◌, ◌++◌, ℕ, Bool}
+use Rattle.std.proofs.Common.{List, [], ◌∷◌, ◌++◌, ℕ}
 use Rattle.explore.specs.Explored.{ClassView}
 use Rattle.tree_model.specs.State.{State}
 use Rattle.explore_text.specs.declared.survey.Told.{Told}

@@ -2,6 +2,7 @@ pub mod Changes
 pub mod Classes
 pub mod Counts
 pub mod Explore
+pub mod Looks
 pub mod Options
 pub mod Order
 pub mod Outcome

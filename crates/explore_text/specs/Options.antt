@@ -2,8 +2,9 @@
 use Rattle.std.specs.Prelude.{⊤, ◌≡◌, ◌<◌, ◌≤◌, ◌^◌, ℕ, List, [], ◌∷◌, ◌++◌, Bool, true, false, map, decimal, Option, Some, None}
 use Rattle.std.specs.Borrow.{Bor}
 use Rattle.std.specs.List.{list_all}
+use Rattle.explore.specs.declared.jobs.Jobs.{Jobs}
 use Rattle.explore_text.specs.declared.options.OptionFault.{OptionFault}
-use Rattle.explore_text.specs.declared.options.OptionFault.TheVariants.{Actor, Cuts, States, Text, NoMemory}
+use Rattle.explore_text.specs.declared.options.OptionFault.TheVariants.{Actor, Cuts, States, Jobs as JobsOption, Text, NoMemory}
 use Rattle.explore_text.specs.declared.options.Options.{Options}
 use Rattle.explore_text.specs.declared.options.TheConstants.{CUTS_MAX, STATES_MAX, STATES}
 use Rattle.explore_text.specs.declared.property.Property.{Property}
@@ -31,6 +32,13 @@ SaysCuts None None = ⊤
 SaysCuts None (Some n) = ⊥
 SaysCuts (Some text) None = ⊥
 SaysCuts (Some text) (Some n) = (text.now ≡ decimal n) × (n ≤ CUTS_MAX)
+
+-- no number of threads, or the one that the text says
+abbrev pub SaysJobs : Option (Bor (List ℕ)) → Option Jobs → Type 0
+SaysJobs None None = ⊤
+SaysJobs None (Some jobs) = ⊥
+SaysJobs (Some text) None = ⊥
+SaysJobs (Some text) (Some jobs) = text.now ≡ decimal jobs.count
 
 -- the usual number, or the one that the text says
 abbrev pub SaysMost : Option (Bor (List ℕ)) → ℕ → Type 0
@@ -60,6 +68,7 @@ pub record AreAsked (options : Options) (asked : Asked) : Type 0 where
   pub named : SaysActors options asked.named.items
   pub cuts : SaysCuts options.cuts asked.cuts
   pub most : SaysMost options.states asked.most
+  pub jobs : SaysJobs options.jobs asked.jobs
   pub outside : asked.outside ≡ options.outside
   pub properties : asked.properties.items
       ≡ properties_by Never (texts_in options.never.now) ++ properties_by Always (texts_in options.always.now)
@@ -78,7 +87,10 @@ IsOptionFault options Actor = IsUnsaid (SaysActors options)
 IsOptionFault options Cuts = IsSaid (SaysActors options) × IsUnsaid (SaysCuts options.cuts)
 IsOptionFault options States =
     IsSaid (SaysActors options) × IsSaid (SaysCuts options.cuts) × IsUnsaid (SaysMost options.states)
+IsOptionFault options JobsOption =
+    IsSaid (SaysActors options) × IsSaid (SaysCuts options.cuts) × IsSaid (SaysMost options.states)
+    × IsUnsaid (SaysJobs options.jobs)
 IsOptionFault options Text =
     IsSaid (SaysActors options) × IsSaid (SaysCuts options.cuts) × IsSaid (SaysMost options.states)
-    × (are_properties options.outside (property_texts options) ≡ false)
+    × IsSaid (SaysJobs options.jobs) × (are_properties options.outside (property_texts options) ≡ false)
 IsOptionFault options NoMemory = ⊤

@@ -1,5 +1,5 @@
 -- Properties of reports: a line that no report may have, or that every report must have.
-use Rattle.std.specs.Prelude.{ℕ, ◌==◌, ◌||◌, ◌&&◌, not, List, Bool, false, length, slice_get, nat_eq, nat_le, codes, Option, Some, None}
+use Rattle.std.specs.Prelude.{ℕ, ◌-◌, ◌==◌, ◌||◌, ◌&&◌, not, List, Bool, false, length, slice_get, nat_eq, nat_le, codes, Option, Some, None}
 use Rattle.std.specs.List.{list_any, list_all, slice_split, starts_with}
 use Rattle.path_text.specs.Name.{same_bytes}
 use Rattle.step_text.specs.Words.{BLANK}
@@ -39,12 +39,17 @@ names_a_line outside text =
     tells (codes "reply") text || tells (codes "row") text || tells (codes "held") text
     || (outside && tells (codes "outside") text)
 
+-- its last byte is a blank, so that its last word is none
+abbrev pub ends_in_blank : List ℕ → Bool
+ends_in_blank text = is_blank (slice_get text (length text - 1))
+
 -- a line has such bytes alone
 abbrev pub is_printed : ℕ → Bool
 is_printed b = nat_le 0x20 b && nat_le b 0x7e
 
 abbrev pub is_property : Bool → List ℕ → Bool
-is_property outside text = names_a_line outside text && list_all is_printed text
+is_property outside text =
+    names_a_line outside text && not (ends_in_blank text) && list_all is_printed text
 
 abbrev pub rule_word : Rule → List ℕ
 rule_word Never = codes "never "

@@ -39,11 +39,14 @@ lists_to all told = lists_where (looks_like told) all
 unfoldable pub witness_words : Told → List ℕ
 witness_words told = (codes " cuts " ++ decimal told.cuts) ++ (codes " schedule " ++ (told.schedule ++ codes "\n"))
 
--- a block by its number: `outcome K schedules N cuts C schedule S`, and its lines
-unfoldable pub block_text : List Told → ℕ → Told → List ℕ
-block_text all k told =
+-- a block by its number, of so many lists: `outcome K schedules N cuts C schedule S`, and its lines
+unfoldable pub block_words : ℕ → ℕ → Told → List ℕ
+block_words k lists told =
     (codes "outcome " ++ decimal k)
-    ++ ((codes " schedules " ++ count_words (lists_to all told)) ++ (witness_words told ++ told.block))
+    ++ ((codes " schedules " ++ count_words lists) ++ (witness_words told ++ told.block))
+
+abbrev pub block_text : List Told → ℕ → Told → List ℕ
+block_text all k told = block_words k (lists_to all told) told
 
 abbrev pub blocks_text : List Told → List ℕ
 blocks_text all = numbered (block_text all) 0 (new_ones all)
@@ -77,13 +80,13 @@ all_hold all properties = list_all (λ property. is_none (find (breaks property)
 -- ---- the whole
 
 -- how many lists there are, by how many worlds, how many turns the longest has, how many outcomes look different
-abbrev pub numbers_text : ℕ → ℕ → ℕ → List Told → List ℕ
-numbers_text lists states longest all =
+abbrev pub numbers_text : ℕ → ℕ → ℕ → ℕ → List ℕ
+numbers_text lists states longest outcomes =
     (codes "schedules " ++ count_words lists)
     ++ ((codes "\nstates " ++ decimal states) ++ ((codes "\nturns " ++ decimal longest)
-    ++ ((codes "\noutcomes " ++ decimal (length (new_ones all))) ++ codes "\n")))
+    ++ ((codes "\noutcomes " ++ decimal outcomes) ++ codes "\n")))
 
 -- these, then a block for each that looks new, then each property
 abbrev pub survey_text : ℕ → ℕ → ℕ → List Told → List Property → List ℕ
 survey_text lists states longest all properties =
-    numbers_text lists states longest all ++ (blocks_text all ++ properties_text all properties)
+    numbers_text lists states longest (length (new_ones all)) ++ (blocks_text all ++ properties_text all properties)

@@ -1,9 +1,14 @@
 -- Which properties name a line that a report on a script's run can have: one of an actor that is there, and of a
--- call of his.
-use Rattle.std.specs.Prelude.{ℕ, suc, List, [], ◌∷◌, ◌++◌, ◌||◌, ◌&&◌, Bool, false, not, codes, decimal, Option}
-use Rattle.std.specs.List.{position_from}
+-- call of his, and with the words that a reply begins with.
+use Rattle.std.specs.Prelude.{◌≡◌, ℕ, suc, List, [], ◌∷◌, ◌++◌, ◌||◌, ◌&&◌, Bool, true, false, not, map, codes, decimal, Option}
+use Rattle.std.specs.List.{list_any, position_from}
+use Rattle.path_text.specs.declared.errno.Errno.{Errno}
+use Rattle.path_text.specs.declared.errno.Errno.TheVariants.{NotFound, BadHandle, Raced, NoMemory, Busy, Exists, CrossRoot, NotDir, IsDir, Invalid, TooMany, BookFull, TooLong, NotEmpty, Loop}
 use Rattle.race_core.specs.declared.plan.ActorPlan.{ActorPlan}
 use Rattle.race_core.specs.declared.plan.Planned.{Planned}
+use Rattle.race_core.specs.declared.report.Outcome.{Outcome}
+use Rattle.report_text.specs.Report.{reply_words}
+use Rattle.step_text.specs.Output.{fault_words}
 use Rattle.explore_text.specs.declared.property.Property.{Property}
 use Rattle.explore_text.specs.Property.{tells}
 
@@ -16,13 +21,37 @@ abbrev pub any_numbered : {A : Type 0} → (ℕ → A → Bool) → ℕ → List
 any_numbered test k [] = false
 any_numbered test k (x ∷ xs) = test k x || any_numbered test (suc k) xs
 
--- reply I J
-unfoldable pub reply_start : ℕ → ℕ → List ℕ
-reply_start actor call = (codes "reply " ++ decimal actor) ++ (codes " " ++ decimal call)
+abbrev pub errors : List Errno
+errors =
+    NotFound ∷ BadHandle ∷ Raced ∷ NoMemory ∷ Busy ∷ Exists ∷ CrossRoot ∷ NotDir ∷ IsDir ∷ Invalid ∷ TooMany
+    ∷ BookFull ∷ TooLong ∷ NotEmpty ∷ Loop ∷ []
 
--- it meets the reply to a call of an actor, by the actor's number
+-- what a reply begins with: a word of these, or `fault` and an error's name
+abbrev pub reply_heads : List (List ℕ)
+reply_heads =
+    codes "opened" ∷ codes "text" ∷ codes "done" ∷ codes "count" ∷ codes "stepped" ∷ map fault_words errors
+
+-- each reply begins with one of these
+abbrev pub RepliesHaveHeads : Type 0
+RepliesHaveHeads = (outcome : Outcome) → list_any (λ head. tells head (reply_words outcome)) reply_heads ≡ true
+
+-- reply I J, and what the reply begins with
+unfoldable pub reply_start : ℕ → ℕ → List ℕ → List ℕ
+reply_start actor call head =
+    (codes "reply " ++ decimal actor) ++ ((codes " " ++ decimal call) ++ (codes " " ++ head))
+
+-- it meets the line of a reply to a call
+unfoldable pub meets_reply : List ℕ → ℕ → ℕ → Bool
+meets_reply text actor call = list_any (λ head. meets text (reply_start actor call head)) reply_heads
+
+-- no text is refused that is the line of a reply, or its beginning by words
+abbrev pub RepliesPass : Type 0
+RepliesPass = (text : List ℕ) (actor call : ℕ) (outcome : Outcome)
+    → tells text (reply_start actor call (reply_words outcome)) ≡ true → meets_reply text actor call ≡ true
+
+-- to a call of an actor, by the actor's number
 abbrev pub is_reply_of : List ℕ → ℕ → List Planned → Bool
-is_reply_of text actor calls = any_numbered (λ call planned. meets text (reply_start actor call)) 0 calls
+is_reply_of text actor calls = any_numbered (λ call planned. meets_reply text actor call) 0 calls
 
 -- or of one of the actors
 abbrev pub is_reply : List ℕ → List ActorPlan → Bool

@@ -10,6 +10,8 @@
 mod changes;
 mod classes;
 mod counts;
+mod laws;
+mod looks;
 mod options;
 mod order;
 mod outcome;
@@ -22,7 +24,8 @@ mod tellable;
 mod telling;
 
 pub use counts::COUNT_MAX;
-pub use explore::{Progress, Silent};
+pub use explore::{JOBS_MAX, Jobs, Progress, Silent};
+pub use laws::replies_have_heads;
 pub use options::{CUTS_MAX, OptionFault, Options, STATES, STATES_MAX, read_asked};
 pub use property::{Property, Rule, read_property};
 pub use script::{ExploreFault, explore_script};

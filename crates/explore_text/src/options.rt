@@ -1,10 +1,11 @@
 //! What is asked, by the texts of a command line's options.
 ghost use Rattle.std.specs.Prelude.{◌≡◌, ◌≢◌, ◌≤◌, ◌++◌, ℕ, true, IfOk, MatchOption, MatchResult, decimal};
 ghost use Rattle.explore_text.specs.declared.options.OptionFault.TheVariants as option_fault;
-ghost use Rattle.explore_text.specs.Options.{texts_in, AllSay, SaysCuts, SaysMost, IsUnsaid, are_properties, properties_by, AreAsked, IsOptionFault};
+ghost use Rattle.explore_text.specs.Options.{texts_in, AllSay, SaysCuts, SaysMost, SaysJobs, IsUnsaid, are_properties, properties_by, AreAsked, IsOptionFault};
 
 use crate::property::{Property, Rule, read_property};
 use crate::search::Asked;
+use explore::{JOBS_MAX, Jobs};
 use path_text::NoMemory;
 use scripts::number_of;
 use std::alloc::Global;
@@ -25,6 +26,7 @@ pub struct Options<'a> {
     pub actors: &'a [&'a str],
     pub cuts: Option<&'a str>,
     pub states: Option<&'a str>,
+    pub jobs: Option<&'a str>,
     pub outside: bool,
     pub never: &'a [&'a str],
     pub always: &'a [&'a str],
@@ -39,6 +41,8 @@ pub enum OptionFault {
     Cuts,
     #[error("--states is a number from 1 to 10000000")]
     States,
+    #[error("--jobs is a number from 1 to 64")]
+    Jobs,
     #[error("--never and --always take a line's beginning: reply, row or held, or outside with --outside, and words after it")]
     Text,
     /// Room was refused.
@@ -111,6 +115,23 @@ fn states_in(text: Option<&str>) -> Result<u64, OptionFault>
     }
 }
 
+// How many threads a text says, if there is a text.
+fn jobs_in(text: Option<&str>) -> Result<Option<Jobs>, OptionFault>
+    ensures { MatchResult result (SaysJobs text.entry)
+        (λ fault. (fault ≡ option_fault.Jobs) × IsUnsaid (SaysJobs text.entry)) }
+{
+    let Some(text) = text else {
+        return Ok(None);
+    };
+    let Some(number) = number_within(text, 1, JOBS_MAX as u32) else {
+        return Err(OptionFault::Jobs);
+    };
+    match Jobs::new(number as usize) {
+        Some(jobs) => Ok(Some(jobs)),
+        None => unreachable!(),
+    }
+}
+
 // Adds the properties that texts say by that rule. Whether each text says one.
 fn add_properties(
     alloc: Global,
@@ -135,9 +156,9 @@ fn add_properties(
 /// What the texts of options ask for, the properties by `never` before those by `always`.
 ///
 /// Errors, in this order: `Actor` where one of `actors` is no number below 2^32; `Cuts` where `cuts` is no number up
-/// to 1,000,000; `States` where `states` is no number from 1 to 10,000,000; `Text` where one of `never` or `always`
-/// is no property's (`read_property`); `NoMemory` where room was refused, whatever else is wrong. Numbers are
-/// written in decimal digits, with no zero before them.
+/// to 1,000,000; `States` where `states` is no number from 1 to 10,000,000; `Jobs` where `jobs` is no number from 1 to
+/// 64; `Text` where one of `never` or `always` is no property's (`read_property`); `NoMemory` where room was refused,
+/// whatever else is wrong. Numbers are written in decimal digits, with no zero before them.
 pub fn read_asked(alloc: Global, options: Options) -> Result<Asked, OptionFault>
     ensures { MatchResult result (AreAsked options.entry) (IsOptionFault options.entry) }
 {
@@ -146,6 +167,7 @@ pub fn read_asked(alloc: Global, options: Options) -> Result<Asked, OptionFault>
     };
     let cuts = cuts_in(options.cuts)?;
     let most = states_in(options.states)?;
+    let jobs = jobs_in(options.jobs)?;
     let outside = options.outside;
     let mut properties = Vec::new(alloc);
     if !add_properties(alloc, &mut properties, outside, Rule::Never, options.never)? {
@@ -164,6 +186,7 @@ pub fn read_asked(alloc: Global, options: Options) -> Result<Asked, OptionFault>
         named,
         cuts,
         most,
+        jobs,
         outside,
         properties,
     })

@@ -1,6 +1,7 @@
 //! Properties of reports: a line that no report may have, or that every report must have.
 ghost use Rattle.std.specs.Prelude.{◌≡◌, IfOk, MatchOption, false, true, slice_get};
-ghost use Rattle.explore_text.specs.Property.{is_blank, tells, has, fails, names_a_line, is_printed, is_property, rule_word};
+ghost use Rattle.std.specs.List.{list_all};
+ghost use Rattle.explore_text.specs.Property.{is_blank, tells, has, fails, names_a_line, ends_in_blank, is_printed, is_property, rule_word};
 
 use path_text::{Bytes, NoMemory};
 use std::alloc::Global;
@@ -59,6 +60,13 @@ fn names_a_line(outside: bool, text: &[u8]) -> bool
         || (outside && tells(b"outside", text))
 }
 
+// Whether a text's last byte is a blank, so that its last word is none.
+fn ends_in_blank(text: &[u8]) -> bool
+    ensures { result ≡ ends_in_blank text.now }
+{
+    has_blank(text, text.len().saturating_sub(1))
+}
+
 // Whether a line can have such a byte.
 fn is_printed(byte: u8) -> bool
     ensures { result ≡ is_printed byte }
@@ -66,16 +74,23 @@ fn is_printed(byte: u8) -> bool
     0x20 <= byte && byte <= 0x7e
 }
 
+// Whether a line can have each of these bytes.
+fn are_printed(text: &[u8]) -> bool
+    ensures { result ≡ list_all is_printed text.now }
+{
+    text.iter().all(|byte| is_printed(*byte))
+}
+
 // Whether a text can be a property's.
 fn is_property(outside: bool, text: &[u8]) -> bool
     ensures { result ≡ is_property outside text.now }
 {
-    names_a_line(outside, text) && text.iter().all(|byte| is_printed(*byte))
+    names_a_line(outside, text) && !ends_in_blank(text) && are_printed(text)
 }
 
 /// The property that a text says by that rule, if a line can have it: its first word is `reply`, `row` or `held`, or
-/// `outside` where steps outside are counted, and each of its bytes is from 0x20 to 0x7e. NoMemory where room was
-/// refused.
+/// `outside` where steps outside are counted, it doesn't end in a blank, and each of its bytes is from 0x20 to 0x7e.
+/// NoMemory where room was refused.
 pub fn read_property(
     alloc: Global,
     outside: bool,

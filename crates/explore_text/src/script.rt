@@ -9,6 +9,7 @@ use explore::{Progress, Scene};
 use scripts::{RunFault, Scenario, TurnOrder, read_scene};
 use std::alloc::Global;
 use std::io::{Read, Write};
+use std::thread::Threads;
 use thiserror::Error;
 use tree_list::ListTree;
 
@@ -54,8 +55,9 @@ fn told_by(fault: SurveyFault) -> ExploreFault
 
 // All schedules of what a script says gone through. Errors as of `explore_script`, but for those of reading and
 // writing.
-fn surveyed<P: Progress>(
+fn surveyed<Rt: Threads + Sync, P: Progress>(
     alloc: Global,
+    threads: &Rt,
     scenario: Scenario,
     tree: ListTree,
     asked: &Asked,
@@ -73,7 +75,7 @@ fn surveyed<P: Progress>(
         return Err(ExploreFault::Run(RunFault::BookFull));
     }
     let scene = Scene { tree, plans, lines };
-    match survey_scene(alloc, &scene, asked, progress) {
+    match survey_scene(alloc, threads, &scene, asked, progress) {
         Ok(survey) => Ok(survey),
         Err(fault) => Err(told_by(fault)),
     }
@@ -81,15 +83,16 @@ fn surveyed<P: Progress>(
 
 /// Reads a script, goes through all schedules of its world, those with at most so many cuts, and writes what they
 /// come to. The script's own schedule is checked and not used. The result is whether no property fails. On the way
-/// `progress` gets the number of worlds so far.
+/// `progress` gets the number of worlds so far. What is written is the same on any number of threads.
 ///
 /// Errors, in this order: those of `read_scenario`; `BookFull` where the script gives its book fewer lines than it
 /// has actors; `NoSuchActor` of the first that is named and isn't there; `NoSuchLine` of the first property that
-/// names an actor who isn't there, or a call that its actor doesn't have; `TooManyStates` where there are more
-/// worlds than are gone through, and `TooManyTurns` where one has more than 100,000, whichever is met first;
-/// `NoMemory`; `WriteFailed`. Nothing is written before the text is whole.
-pub fn explore_script<R: Read, W: Write, P: Progress>(
+/// names an actor who isn't there, a call that its actor doesn't have, or a reply that begins with other words than
+/// one can; `TooManyStates` where there are more worlds than are gone through, and `TooManyTurns` where one has more
+/// than 100,000, whichever is met first; `NoMemory`; `WriteFailed`. Nothing is written before the text is whole.
+pub fn explore_script<Rt: Threads + Sync, R: Read, W: Write, P: Progress>(
     alloc: Global,
+    threads: &Rt,
     reader: &mut R,
     writer: &mut W,
     asked: &Asked,
@@ -98,7 +101,7 @@ pub fn explore_script<R: Read, W: Write, P: Progress>(
     ensures run { IsExplore asked.now (R.remaining reader.old) (W.contents writer.old) (W.contents writer.new) result }
 {
     let (scenario, tree) = read_scene(alloc, reader, &TurnOrder::OfScript)?;
-    let survey = surveyed(alloc, scenario, tree, asked, progress)?;
+    let survey = surveyed(alloc, threads, scenario, tree, asked, progress)?;
     match writer.write_all(survey.text.as_slice()) {
         Ok(()) => Ok(survey.holds),
         Err(_) => Err(ExploreFault::Run(RunFault::WriteFailed)),

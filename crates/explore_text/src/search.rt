@@ -1,5 +1,5 @@
 //! All schedules of a world gone through, and told.
-ghost use Rattle.std.specs.Prelude.{◌≡◌, ◌≤◌, length, find, nat_le, IfOk, MatchResult};
+ghost use Rattle.std.specs.Prelude.{◌≡◌, ◌≤◌, length, find, nat_le, IfOk, IfSome, MatchResult};
 ghost use Rattle.race_core.specs.declared.opening.TheConstants.{ACTORS_MAX as MOST_ACTORS};
 ghost use Rattle.explore_text.specs.declared.search.SurveyFault.TheVariants as survey_fault;
 ghost use Rattle.explore_text.specs.Surveyed.{IsTelling, IsSurvey, WhyNoSurvey};
@@ -9,9 +9,10 @@ use crate::order::in_order;
 use crate::property::Property;
 use crate::survey::{all_hold, survey_text};
 use crate::tellable::first_untold;
-use explore::{Findings, Limits, Progress, Scene, Scope, SearchFault, explore};
+use explore::{Findings, Jobs, Limits, Progress, Scene, Scope, SearchFault, explore};
 use path_text::NoMemory;
 use std::alloc::Global;
+use std::thread::Threads;
 use step_text::Output;
 use thiserror::Error;
 use tree_list::ListTree;
@@ -29,6 +30,8 @@ pub struct Asked {
     pub cuts: Option<u64>,
     /// The most worlds that are gone through, of alike ones one.
     pub most: u64,
+    /// On how many threads they are gone through; with none on one. It makes no difference to what is told.
+    pub jobs: Option<Jobs>,
     /// Whether it is told how many steps of each actor acted outside of its root: outcomes that differ in these
     /// numbers are two then.
     pub outside: bool,
@@ -83,6 +86,16 @@ fn first_foreign(named: &[u32], actors: usize) -> Option<u32>
     None
 }
 
+// On how many threads worlds are gone through: on as many as are asked for, or on one.
+fn jobs_of(asked: Option<Jobs>) -> Jobs
+    ensures { IfSome asked (λ jobs. result ≡ jobs) }
+{
+    if let Some(jobs) = asked {
+        return jobs;
+    }
+    Jobs::one()
+}
+
 // What is told of what was found.
 fn survey_of(
     alloc: Global,
@@ -101,7 +114,15 @@ fn survey_of(
     let classes = in_order(alloc, found.classes)?;
     let all = tell_all(alloc, &asked.named, &opening, actors, &classes)?;
     let mut text = Output::new(alloc);
-    survey_text(&mut text, lists, states, turns, &all, &asked.properties)?;
+    survey_text(
+        alloc,
+        &mut text,
+        lists,
+        states,
+        turns,
+        &all,
+        &asked.properties,
+    )?;
     let holds = all_hold(&all, &asked.properties);
     Ok(Survey { text, holds })
 }
@@ -110,15 +131,16 @@ fn survey_of(
 /// says what they come to: how many there are, by how many worlds, how many turns the longest has, each outcome once
 /// with how many lead to it and a schedule for the least of them, and whether each property holds of every one.
 /// Outcomes are compared with their new nodes numbered anew, so these numbers make no difference between them. The
-/// number of steps that acted outside does, where it is asked for. On the way `progress` gets the number of worlds
-/// so far.
+/// number of steps that acted outside does, where it is asked for. The number of threads makes none. On the way
+/// `progress` gets the number of worlds so far.
 ///
 /// Errors, in this order: `NoSuchActor` of the first that is named and isn't there; `NoSuchLine` of the first
-/// property that names an actor who isn't there, or a call that its actor doesn't have; `TooManyStates` and
-/// `TooManyTurns` beyond the limits, whichever is met first; `NoMemory` where room was refused, and where the world
-/// can't be made.
-pub fn survey_scene<P: Progress>(
+/// property that names an actor who isn't there, a call that its actor doesn't have, or a reply that begins with other
+/// words than one can; `TooManyStates` and `TooManyTurns` beyond the limits, whichever is met first; `NoMemory` where
+/// room was refused, and where the world can't be made.
+pub fn survey_scene<R: Threads + Sync, P: Progress>(
     alloc: Global,
+    threads: &R,
     scene: &Scene,
     asked: &Asked,
     progress: &mut P,
@@ -142,7 +164,8 @@ pub fn survey_scene<P: Progress>(
             outside: asked.outside,
         },
     };
-    match explore(alloc, scene, limits, progress) {
+    let jobs = jobs_of(asked.jobs);
+    match explore(alloc, threads, jobs, scene, limits, progress) {
         Ok(found) => Ok(survey_of(alloc, scene, asked, found)?),
         Err(SearchFault::TooManyTurns) => Err(SurveyFault::TooManyTurns),
         Err(SearchFault::TooManyStates) => Err(SurveyFault::TooManyStates),

@@ -1,13 +1,17 @@
 //! The text of what a search found.
-ghost use Rattle.std.specs.Prelude.{◌≡◌, length, find};
+ghost use Rattle.std.specs.Prelude.{◌≡◌, find};
 ghost use Rattle.std.specs.Option.{option_copied};
 ghost use Rattle.step_text.specs.Output.{Gains};
-ghost use Rattle.explore_text.specs.Survey.{is_new, new_ones, lists_to, lists_breaking, looks_like, breaks, witness_words, numbers_text, block_text, blocks_text, property_text, properties_text, all_hold, survey_text};
+ghost use Rattle.explore_text.specs.Looks.{AreSums};
+ghost use Rattle.explore_text.specs.Survey.{lists_breaking, breaks, witness_words, numbers_text, block_words, blocks_text, property_text, properties_text, all_hold, survey_text};
 
 use crate::counts::{counted, plus};
+use crate::looks::sums_of;
 use crate::property::Property;
 use path_text::NoMemory;
 use report_text::numbered;
+use std::alloc::Global;
+use std::collections::HashMap;
 use step_text::Output;
 
 /// An outcome as it is printed, and of how many lists of turns.
@@ -28,13 +32,6 @@ pub struct Told {
 }
 
 impl Told {
-    // Whether what is printed of it, with new nodes numbered anew, is the same as of another.
-    fn looks_like(&self, other: &Told) -> bool
-        ensures { result ≡ looks_like other.now self.now }
-    {
-        self.look.as_slice() == other.look.as_slice()
-    }
-
     // Adds how many cuts the least list has, and the schedule that leads to it.
     #[tactic(auto, unfolding(crate::specs::Survey::witness_words))]
     fn witness(&self, out: &mut Output) -> Result<(), NoMemory>
@@ -47,81 +44,43 @@ impl Told {
     }
 }
 
-// Whether none of these looks like it.
-fn is_new(earlier: &[Told], told: &Told) -> bool
-    ensures { result ≡ is_new earlier.now told.now }
-{
-    for other in earlier {
-        if other.looks_like(told) {
-            return false;
-        }
-    }
-    true
-}
-
-// How many look like none before them.
-fn count_new(all: &[Told]) -> usize
-    ensures { result ≡ length (new_ones all.now) }
-{
-    let mut found = 0;
-    for at in 0..all.len() {
-        if is_new(&all[..at], &all[at]) {
-            found += 1;
-        }
-    }
-    found
-}
-
-// How many lists come to what looks like this.
-fn lists_to(all: &[Told], told: &Told) -> u64
-    ensures { result ≡ lists_to all.now told.now }
-{
-    let mut lists = 0;
-    for other in all {
-        if other.looks_like(told) {
-            lists = plus(lists, other.lists);
-        }
-    }
-    lists
-}
-
-// Adds how many lists there are, by how many worlds, how many turns the longest has, and how many look like none
-// before them.
+// Adds how many lists there are, by how many worlds, how many turns the longest has, and how many outcomes look
+// different.
 fn numbers(
     out: &mut Output,
     lists: u64,
     states: u64,
     longest: u64,
-    all: &[Told],
+    outcomes: u64,
 ) -> Result<(), NoMemory>
-    ensures { Gains out.old out.new (numbers_text lists states longest all.now) result }
+    ensures { Gains out.old out.new (numbers_text lists states longest outcomes) result }
 {
     counted(out, "schedules ", lists)?;
     numbered(out, "\nstates ", states)?;
     numbered(out, "\nturns ", longest)?;
-    numbered(out, "\noutcomes ", count_new(all) as u64)?;
+    numbered(out, "\noutcomes ", outcomes)?;
     out.text("\n")
 }
 
-// Adds a block by its number.
-fn block(out: &mut Output, all: &[Told], number: u64, told: &Told) -> Result<(), NoMemory>
-    ensures { Gains out.old out.new (block_text all.now number told.now) result }
+// Adds a block by its number, of so many lists.
+fn block(out: &mut Output, number: u64, lists: u64, told: &Told) -> Result<(), NoMemory>
+    ensures { Gains out.old out.new (block_words number lists told.now) result }
 {
     numbered(out, "outcome ", number)?;
-    counted(out, " schedules ", lists_to(all, told))?;
+    counted(out, " schedules ", lists)?;
     told.witness(out)?;
     out.bytes(told.block.as_slice())
 }
 
-// Adds a block of each that looks like none before it.
-fn blocks(out: &mut Output, all: &[Told]) -> Result<(), NoMemory>
+// Adds a block of each that looks like none before it, and takes its lists out of the table.
+fn blocks(out: &mut Output, sums: &mut HashMap<&[u8], u64>, all: &[Told]) -> Result<(), NoMemory>
+    requires { AreSums sums.old all.now }
     ensures { Gains out.old out.new (blocks_text all.now) result }
 {
     let mut number = 0;
-    for at in 0..all.len() {
-        let told = &all[at];
-        if is_new(&all[..at], told) {
-            block(out, all, number, told)?;
+    for told in all {
+        if let Some(lists) = sums.remove(told.look.as_slice()) {
+            block(out, number, lists, told)?;
             number += 1;
         }
     }
@@ -191,9 +150,10 @@ pub fn all_hold(all: &[Told], properties: &[Property]) -> bool
 
 /// Adds the text of outcomes, which come in the order of their least lists, where there are so many lists by so many
 /// worlds, and the longest has so many turns: these numbers, how many outcomes look different, a block for each of
-/// these, and the line of each property. NoMemory where its room was refused, and a part of the text may have been
-/// added then.
+/// these, and the line of each property. NoMemory where room was refused, and a part of the text may have been added
+/// then.
 pub fn survey_text(
+    alloc: Global,
     out: &mut Output,
     lists: u64,
     states: u64,
@@ -203,7 +163,8 @@ pub fn survey_text(
 ) -> Result<(), NoMemory>
     ensures { Gains out.old out.new (survey_text lists states longest all.now properties.now) result }
 {
-    numbers(out, lists, states, longest, all)?;
-    blocks(out, all)?;
+    let mut sums = sums_of(alloc, all)?;
+    numbers(out, lists, states, longest, sums.len() as u64)?;
+    blocks(out, &mut sums, all)?;
     property_lines(out, all, properties)
 }

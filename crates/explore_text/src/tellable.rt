@@ -1,6 +1,7 @@
 //! Which properties name a line that a report on a world's run can have.
-ghost use Rattle.std.specs.Prelude.{◌≡◌, ◌++◌, IfOk, decimal};
-ghost use Rattle.explore_text.specs.Tellable.{meets, reply_start, is_reply_of, is_reply, is_of_actor, is_count, can_be_told, first_untold};
+ghost use Rattle.std.specs.Prelude.{◌≡◌, ◌++◌, IfOk, decimal, map};
+ghost use Rattle.std.specs.List.{list_any};
+ghost use Rattle.explore_text.specs.Tellable.{meets, reply_start, meets_reply, is_reply_of, is_reply, is_of_actor, is_count, can_be_told, first_untold};
 
 use crate::property::{Property, tells};
 use path_text::NoMemory;
@@ -16,15 +17,74 @@ fn meets(text: &[u8], start: &[u8]) -> bool
     tells(text, start) || tells(start, text)
 }
 
-// Whether a text meets the line of the reply to a call, by its actor's number and its own.
+// What a reply begins with: a word, or `fault` and the name of an error.
+const REPLY_HEADS: [&str; 20] = [
+    "opened",
+    "text",
+    "done",
+    "count",
+    "stepped",
+    "fault ENOENT",
+    "fault EBADF",
+    "fault EAGAIN",
+    "fault ENOMEM",
+    "fault EBUSY",
+    "fault EEXIST",
+    "fault EXDEV",
+    "fault ENOTDIR",
+    "fault EISDIR",
+    "fault EINVAL",
+    "fault EMFILE",
+    "fault ENOSPC",
+    "fault ENAMETOOLONG",
+    "fault ENOTEMPTY",
+    "fault ELOOP",
+];
+
+// Whether a text meets the line of a reply that begins so, by the numbers of the actor and of its call.
 #[tactic(auto, unfolding(crate::specs::Tellable::reply_start))]
-fn meets_reply(alloc: Global, text: &[u8], actor: u64, call: u64) -> Result<bool, NoMemory>
-    ensures { IfOk result (λ is. is ≡ meets text.now (reply_start actor call)) }
+fn meets_head(
+    alloc: Global,
+    text: &[u8],
+    actor: u64,
+    call: u64,
+    head: &str,
+) -> Result<bool, NoMemory>
+    ensures { IfOk result (λ is. is ≡ meets text.now (reply_start actor call head.now)) }
 {
     let mut start = Output::new(alloc);
     numbered(&mut start, "reply ", actor)?;
     numbered(&mut start, " ", call)?;
+    start.text(" ")?;
+    start.text(head)?;
     Ok(meets(text, start.as_slice()))
+}
+
+// Whether it meets that of a reply that begins with one of these.
+fn meets_one(
+    alloc: Global,
+    text: &[u8],
+    actor: u64,
+    call: u64,
+    heads: &[&str],
+) -> Result<bool, NoMemory>
+    ensures { IfOk result (λ is.
+        is ≡ list_any (λ head. meets text.now (reply_start actor call head.now)) heads.now) }
+{
+    for head in heads {
+        if meets_head(alloc, text, actor, call, head)? {
+            return Ok(true);
+        }
+    }
+    Ok(false)
+}
+
+// Whether it meets that of the reply to a call.
+#[tactic(auto, unfolding(crate::specs::Tellable::meets_reply))]
+fn meets_reply(alloc: Global, text: &[u8], actor: u64, call: u64) -> Result<bool, NoMemory>
+    ensures { IfOk result (λ is. is ≡ meets_reply text.now actor call) }
+{
+    meets_one(alloc, text, actor, call, &REPLY_HEADS)
 }
 
 // Whether it meets that of one of an actor's calls.
@@ -112,8 +172,8 @@ fn can_be_told(
     is_reply(alloc, text, plans)
 }
 
-/// The place, counted from 0, of the first property that names an actor who isn't there, or a call that its actor
-/// doesn't have. NoMemory where room was refused.
+/// The place, counted from 0, of the first property that names an actor who isn't there, a call that its actor doesn't
+/// have, or a reply that begins with other words than one can. NoMemory where room was refused.
 pub(crate) fn first_untold(
     alloc: Global,
     outside: bool,

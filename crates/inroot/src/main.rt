@@ -79,7 +79,7 @@ fn task_of<'m>(alloc: Global, matches: &'m ArgMatches<'_>) -> Result<Task<'m>, F
     })
 }
 
-/// Does it, over a script. Only `run` starts threads.
+/// Does it, over a script. Only `run` and `explore` start threads.
 fn perform<R: Threads + Wait + Sync, S: Read>(
     rt: &HostRuntime,
     threads: &R,
@@ -97,7 +97,7 @@ fn perform<R: Threads + Wait + Sync, S: Read>(
         Task::Run(workers) => run_jobs(threads, alloc, script, &mut output, workers.count)?,
         Task::Explore(asked) => {
             let mut waiting = Waiting::new(rt);
-            let explored = explore_script(alloc, script, &mut output, asked, &mut waiting);
+            let explored = explore_script(alloc, threads, script, &mut output, asked, &mut waiting);
             waiting.end();
             if !explored? {
                 return Err(Fault::PropertyFails);

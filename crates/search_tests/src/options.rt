@@ -1,5 +1,5 @@
 //! What is asked by the texts of options. Which texts are none are command lines of `explore`.
-use explore_text::{OptionFault, Options, Rule, read_asked};
+use explore_text::{Jobs, OptionFault, Options, Rule, read_asked, replies_have_heads};
 use std::alloc::Global;
 use std::test::Fail;
 
@@ -7,6 +7,7 @@ const NONE: Options<'static> = Options {
     actors: &[],
     cuts: None,
     states: None,
+    jobs: None,
     outside: false,
     never: &[],
     always: &[],
@@ -16,6 +17,7 @@ const ALL: Options<'static> = Options {
     actors: &["1", "0"],
     cuts: Some("1000000"),
     states: Some("1"),
+    jobs: Some("64"),
     outside: true,
     never: &["outside 0 1"],
     always: &["held 1 1", "row"],
@@ -31,6 +33,7 @@ fn reads_all(alloc: Global) -> Result<bool, OptionFault> {
         asked.named.as_slice() == [1, 0].as_slice()
             && asked.cuts == Some(1_000_000)
             && asked.most == 1
+            && asked.jobs == Jobs::new(64)
             && asked.outside
             && rules == [Rule::Never, Rule::Always, Rule::Always],
     )
@@ -38,7 +41,18 @@ fn reads_all(alloc: Global) -> Result<bool, OptionFault> {
 
 fn reads_none(alloc: Global) -> Result<bool, OptionFault> {
     let asked = read_asked(alloc, NONE)?;
-    Ok(asked.named.is_empty() && asked.cuts.is_none() && asked.most == 100_000)
+    Ok(
+        asked.named.is_empty()
+            && asked.cuts.is_none()
+            && asked.most == 100_000
+            && asked.jobs.is_none(),
+    )
+}
+
+// The law is called as a caller has it at hand. It does nothing.
+#[test]
+fn replies_begin_as_stated() {
+    replies_have_heads();
 }
 
 #[test]

@@ -8,3 +8,12 @@ mod GivenUpWorlds
 mod CalmSteps
 mod CalmCalls
 mod CalmWorlds
+mod OnceEach
+mod OneOrder
+mod OneAnswer
+mod Sums
+mod PickedOnce
+mod PartsCounted
+mod PartsJoined
+mod WholePart
+mod Beginnings

@@ -1,2 +1,4 @@
 pub mod GivenUpWorlds
+pub mod OneAnswer
+pub mod Parts
 pub mod WantCauses

@@ -1,5 +1,5 @@
 -- What a layer that was gone through comes to, and the classes that are told in the end.
-use Rattle.std.specs.Prelude.{◌≡◌, ◌<◌, ◌+◌, ◌^◌, ◌++◌, ℕ, suc, List, [], ◌∷◌, Bool, Option, Some, None, length, slice_get, refl}
+use Rattle.std.specs.Prelude.{◌≡◌, ◌<◌, ◌≤◌, ◌+◌, ◌^◌, ◌++◌, ℕ, suc, List, [], ◌∷◌, Bool, Option, Some, None, length, slice_get, refl, true}
 use Rattle.std.specs.Global.{Vec}
 use Rattle.std.proofs.Common.{sym, ap, ◌∙◌, subst, ⊎_elim, arith}
 use Rattle.std.proofs.lemmas.Option.{same_Some, none-some, slice_get_within}
@@ -14,53 +14,44 @@ use Rattle.schedule_graph.specs.Words as words
 use Rattle.schedule_graph.specs.Counted.{IsLeast, AreCounts}
 use Rattle.explore.specs.declared.limits.Scope.{Scope}
 use Rattle.explore.specs.declared.layer.Stand.{Stand}
+use Rattle.explore.specs.declared.moves.Choice.{Choice}
 use Rattle.explore.specs.Alike.{full, after_turns}
 use Rattle.explore.specs.Concluded.{IsToldBy, AreToldBy, HasLeast, AreShort, AsksIn, AskIn, AreToldIn}
 use Rattle.explore.specs.Explored.{IsAsked, EndingView, ClassView, IsEnding}
-use Rattle.explore.specs.Layers.{LiveView, LayerView, IsLed, IsSure, AreOn, IsTop, AreTops, AreWaysBy, AreAllWays, IsReportOf, IsSpot, AreSpots, point_of, spot_by}
+use Rattle.explore.specs.Layers.{LiveView, LayerView, IsLed, IsSure, AreOn, IsTop, AreTops, AreWaysBy, AreAllWays, IsReportOf, IsSpot, AreSpots, IsPassed, point_of, spot_by}
 use Rattle.explore.specs.Lists.{cuts, changes}
+use Rattle.explore.specs.Moves.{AreAllChoices, Going, AreGone}
 use Rattle.explore.specs.Outside.{outside_of}
 use Rattle.explore.specs.Points.{Point, start, no_marks, Goes}
 use Rattle.explore.specs.Search.{IsOver, IsFull}
+use Rattle.explore.specs.Spreading.{AreWaysOfAll, AreSpotsBy}
 use Rattle.explore.proofs.Counts.Concluded.{found_have_leasts}
 use Rattle.explore.proofs.Lists.Indices.{within_some}
 use Rattle.explore.proofs.Layers.Fitting.{Fits}
+use Rattle.explore.proofs.Layers.WaysFound.{after_joined, after_on, after_ways, tops_many}
 use Rattle.explore.proofs.Wants.Followed.{cuts_there, changes_there}
 use Rattle.explore.proofs.Lists.Told.{get_push}
 use Rattle.explore.proofs.Lists.Along.{along_world}
 
 -- ---- the first layer
 
-pub first_world : (w : WorldView) (live : LiveView) (turns : List ℕ) → IsLed w live → live.turns ≡ turns → turns ≡ []
-    → live ≡ record { told = live.told; world = w; marks = no_marks; turns = [] }
-first_world w live turns led is none =
+pub first_world : (w : WorldView) (live : LiveView) (turns : List ℕ) → IsLed w live → live.turns ≡ turns → turns ≡ [] → live.is_state ≡ true
+    → live ≡ record { told = live.told; world = w; marks = no_marks; turns = []; is_state = true }
+first_world w live turns led is none state =
     let own : live.turns ≡ [] = is ∙ none in
     let there : point_of live ≡ start w = subst (λ (ts : List ℕ). Goes (start w) ts (point_of live)) own led in
-    λ i. record { told = live.told; world = (there i).world; marks = (there i).marks; turns = own i }
+    λ i. record { told = live.told; world = (there i).world; marks = (there i).marks; turns = own i; is_state = state i }
 
-pub told_first : (live : LiveView) (told : Bool) → live.told ≡ told → (w : WorldView) → live ≡ record { told = live.told; world = w; marks = no_marks; turns = [] }
-    → live ≡ record { told = told; world = w; marks = no_marks; turns = [] }
-told_first live told e w is = is ∙ ap (λ (b : Bool). record { told = b; world = w; marks = no_marks; turns = [] }) e
+pub told_first : (live : LiveView) (told : Bool) → live.told ≡ told → (w : WorldView)
+    → live ≡ record { told = live.told; world = w; marks = no_marks; turns = []; is_state = true }
+    → live ≡ record { told = told; world = w; marks = no_marks; turns = []; is_state = true }
+told_first live told e w is = is ∙ ap (λ (b : Bool). record { told = b; world = w; marks = no_marks; turns = []; is_state = true }) e
 
 -- ---- the spots of a layer
 
 module _ (scope : Scope) (layer next : LayerView) (n : ℕ) (on : AreOn n layer) where
   live_of : (s : ℕ) (stand : Stand) → slice_get layer.stands s ≡ Some stand → (live : LiveView) × (slice_get layer.worlds stand.world ≡ Some live)
   live_of s stand there = within_some layer.worlds stand.world (on.stands s stand there).on
-
-  -- no two ways from one stand have the same letter
-  pub ways_apart : (all : List (Vec Way)) → AreAllWays scope layer next all → (s : ℕ) (ways : Vec Way) → slice_get all s ≡ Some ways → AreApart ways.items
-  ways_apart all are s ways there =
-      let lt = slice_get_within all s ways there in
-      let many = are.many in
-      let stand = within_some layer.stands s (omega arith) in
-      let live = live_of s stand.0 stand.1 in
-      (are.each s stand.0 live.0 ways stand.1 live.1 there).apart
-
-  -- each stand's world is told of
-  pub tops_cover : (classes : List ClassView) (tops : List (Option ℕ)) → AreTops classes layer.worlds tops
-      → (s : ℕ) (stand : Stand) → slice_get layer.stands s ≡ Some stand → stand.world < length tops
-  tops_cover classes tops are s stand there = subst (λ m. stand.world < m) (sym are.many) (on.stands s stand there).on
 
   spot_of : (classes : List ClassView) (stand : Stand) (live : LiveView) (ways : Vec Way) → AreWaysBy scope layer next stand live ways.items
       → (top : Option ℕ) → IsTop classes live top → IsSpot scope layer next classes stand live (spot_by top ways)
@@ -85,6 +76,25 @@ module _ (scope : Scope) (layer next : LayerView) (n : ℕ) (on : AreOn n layer)
           subst (λ (x : Spot). IsSpot scope layer next classes stand live x)
           (same_Some (spot_by top.0 ways.0) spot (sym (each s stand ways.0 top.0 there ways.1 top.1) ∙ is))
           (spot_of classes stand live ways.0 (are_ways.each s stand live ways.0 there on_live ways.1) top.0 (are_tops.each stand.world live top.0 on_live top.1))
+
+-- ---- a layer that was gone through
+
+module _ (g : Going) (worlds : List LiveView) (tops : List (Option ℕ)) (places : List (Vec ℕ)) (classes : List ClassView) (gone : AreGone g worlds tops places classes)
+    (whole : length g.layer.worlds ≤ length tops) (n : ℕ) (on : AreOn n g.layer) (choices : List (Vec Choice)) (are : AreAllChoices g.scope g.layer g.moves choices)
+    (next : List Stand) (all : List (Vec Way)) (of : AreWaysOfAll g.scope g.layer.stands choices places next all) (spots : List Spot)
+    (spotted : AreSpotsBy g.layer.stands tops all spots) where
+  pub passed_by : IsPassed g.scope n g.layer (record { worlds = worlds; stands = next }) spots g.found classes
+  passed_by = record {
+    joined = after_joined g worlds tops places classes gone whole n on choices are next all of;
+    on = after_on g worlds tops places classes gone whole n on choices are next all of;
+    well = λ m live there over. gone.well m live (let lt = slice_get_within g.layer.worlds m live there in omega (arith, lt, whole)) there over;
+    spots = spots_are g.scope g.layer (record { worlds = worlds; stands = next }) n on classes all tops spots
+        (after_ways g worlds tops places classes gone whole n on choices are next all of)
+        (record { many = tops_many g worlds tops places classes gone whole n on choices are; each = gone.are_tops }) spotted.many spotted.each;
+    keeps = gone.keeps;
+    found = gone.are_found;
+    apart = gone.apart;
+  }
 
 -- ---- a list gone through once more
 

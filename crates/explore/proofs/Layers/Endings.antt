@@ -10,15 +10,12 @@ use Rattle.schedule_graph.specs.declared.graph.Spot.{Spot}
 use Rattle.schedule_graph.specs.Words.{AreApart, IsLayer, ways_from}
 use Rattle.explore.specs.declared.layer.Stand.{Stand}
 use Rattle.explore.specs.Explored.{EndingView, ClassView}
-use Rattle.explore.specs.Search.{IsOver}
 use Rattle.explore.specs.Tally.{SameOutcome, IsPlace}
-use Rattle.explore.specs.Want.{EndsWell}
-use Rattle.explore.specs.Layers.{LiveView, Keeps, AreWell, IsReportOf, IsTop, AreTops, AreApartClasses, IsFoundIn, AreFoundIn, spot_by}
+use Rattle.explore.specs.Layers.{Keeps, AreApartClasses, spot_by}
 use Rattle.explore.proofs.Lists.Indices.{at_or_below}
 use Rattle.explore.proofs.Lists.Indices.{within_some}
 use Rattle.explore.proofs.Lists.Mapped.{other_reply_lengths}
 use Rattle.explore.proofs.Lists.Told.{get_push}
-use Rattle.explore.proofs.Lists.Turning.{push_append}
 
 -- ---- lists
 
@@ -39,7 +36,7 @@ pushed_or (x ∷ xs) y zero = inl refl
 pushed_or (x ∷ xs) y (suc k) = pushed_or xs y k
 
 -- what stands at the front of the rest
-front_of : {A : Type 0} (n : ℕ) (xs : List A) (x : A) (ys : List A) → x ∷ ys ≡ drop n xs → (slice_get xs n ≡ Some x) × (ys ≡ drop (suc n) xs)
+pub front_of : {A : Type 0} (n : ℕ) (xs : List A) (x : A) (ys : List A) → x ∷ ys ≡ drop n xs → (slice_get xs n ≡ Some x) × (ys ≡ drop (suc n) xs)
 front_of zero [] x ys e = cc
 front_of zero (z ∷ zs) x ys e = (let q : z ≡ x = cc in ap (λ a. Some a) q, let q : ys ≡ zs = cc in q)
 front_of (suc n) [] x ys e = cc
@@ -115,115 +112,6 @@ module _ (classes new : List ClassView) (e : EndingView) (at : ℕ) (place : IsP
       (λ g. h.0 ∙ sym g.0)
       (new_or l d there))
       (new_or k c here)
-
--- ---- one world is ended
-
-pub told_of : (live : LiveView) (e : EndingView) (old new : List ClassView) → IsReportOf live e
-    → ((k : ℕ) (c : ClassView) → slice_get new k ≡ Some c → (slice_get old k ≡ Some c) ⊎ (c.least ≡ e))
-    → (k : ℕ) (c : ClassView) → slice_get new k ≡ Some c → (slice_get old k ≡ Some c) ⊎ IsReportOf live c.least
-told_of live e old new is born k c there = ⊎_elim (λ h. inl h) (λ h. inr (subst (IsReportOf live) (sym h) is)) (born k c there)
-
--- ---- one world after another is ended
-
--- it stays that class's, whatever is found later
-top_on : (old new : List ClassView) (live : LiveView) (top : Option ℕ) → Keeps old new → IsTop old live top → IsTop new live top
-top_on old new live None keeps is = is
-top_on old new live (Some at) keeps is = record { ending = is.ending; is = is.is; class = is.class; there = keeps at is.class is.there; same = is.same }
-
--- The worlds are ended but for these that are left.
-pub record AreEnded (all left : List LiveView) (old new : List ClassView) (tops : List (Option ℕ)) : Type 0 where
-  pub done : List LiveView
-  pub split : all ≡ done ++ left
-  pub well : AreWell done
-  pub are_tops : AreTops new done tops
-  pub keeps : Keeps old new
-  pub found : AreFoundIn done old new
-  pub apart : AreApartClasses old → AreApartClasses new
-
-pub ended_none : (all : List LiveView) (old : List ClassView) (tops : List (Option ℕ)) → tops ≡ [] → AreEnded all all old old tops
-ended_none all old tops none = record {
-  done = [];
-  split = refl;
-  well = λ k live e. absurd (none-some live e);
-  are_tops = record { many = ap length none; each = λ m live top e. absurd (none-some live e) };
-  keeps = λ k c e. e;
-  found = λ k c e. inl e;
-  apart = λ apart. apart;
-}
-
-append_none : {A : Type 0} (xs : List A) → xs ++ [] ≡ xs
-append_none [] = refl
-append_none (x ∷ xs) = ap (λ ys. x ∷ ys) (append_none xs)
-
-after_those : {A : Type 0} (xs : List A) (y : A) (zs : List A) → slice_get (xs ++ y ∷ zs) (length xs) ≡ Some y
-after_those [] y zs = refl
-after_those (x ∷ xs) y zs = after_those xs y zs
-
--- the next one is one of all
-pub left_there : (all left left' : List LiveView) (old new : List ClassView) (tops : List (Option ℕ)) (live : LiveView) → AreEnded all left old new tops → left ≡ live ∷ left'
-    → (m : ℕ) × (slice_get all m ≡ Some live)
-left_there all left left' old new tops live so e =
-    (length so.done, ap (λ xs. slice_get xs (length so.done)) (so.split ∙ ap (λ xs. so.done ++ xs) e) ∙ after_those so.done live left')
-
-module _ (done : List LiveView) (old mid new : List ClassView) (tops : List (Option ℕ)) (live : LiveView) (top : Option ℕ) where
-  well_more : AreWell done → (IsOver live.world → EndsWell live.world) → AreWell (done ++ live ∷ [])
-  well_more well own k one e =
-      ⊎_elim (λ before. well k one before)
-      (λ h. subst (λ (x : LiveView). IsOver x.world → EndsWell x.world) (sym h.1) own)
-      (get_push done live k one e)
-
-  tops_more : AreTops mid done tops → Keeps mid new → IsTop new live top → AreTops new (done ++ live ∷ []) (tops ++ top ∷ [])
-  tops_more are keeps own = record {
-    many = let a = length-append tops (top ∷ []) in let b = length-append done (live ∷ []) in let same = are.many in omega (arith, a, b, same);
-    each = λ m one t e f. ⊎_elim
-        (λ before. ⊎_elim
-        (λ early. top_on mid new one t keeps (are.each m one t before early))
-        (λ h. absurd (let lt = slice_get_within done m one before in let at = h.0 in let same = are.many in omega (arith, lt, at, same)))
-        (get_push tops top m t f))
-        (λ h. ⊎_elim
-        (λ early. absurd (let lt = slice_get_within tops m t early in let at = h.0 in let same = are.many in omega (arith, lt, at, same)))
-        (λ g. subst (λ x. IsTop new x t) (sym h.1) (subst (λ x. IsTop new live x) (sym g.1) own))
-        (get_push tops top m t f))
-        (get_push done live m one e);
-  }
-
-  found_more : AreFoundIn done old mid → ((k : ℕ) (c : ClassView) → slice_get new k ≡ Some c → (slice_get mid k ≡ Some c) ⊎ IsReportOf live c.least)
-      → AreFoundIn (done ++ live ∷ []) old new
-  found_more found own k c e =
-      ⊎_elim
-      (λ before. ⊎_elim (λ early. inl early)
-      (λ (in_done : IsFoundIn done c). inr (record { at = in_done.at; live = in_done.live; there = keeps_push done live in_done.at in_done.live in_done.there; is = in_done.is }))
-      (found k c before))
-      (λ is. inr (record { at = length done; live = live; there = last_there done live; is = is }))
-      (own k c e)
-
-pub ended_more : (all left left' : List LiveView) (old mid new : List ClassView) (tops later : List (Option ℕ)) (live : LiveView) (top : Option ℕ) → AreEnded all left old mid tops
-    → left ≡ live ∷ left' → later ≡ tops ++ top ∷ []
-    → (IsOver live.world → EndsWell live.world) → IsTop new live top → Keeps mid new
-    → ((k : ℕ) (c : ClassView) → slice_get new k ≡ Some c → (slice_get mid k ≡ Some c) ⊎ IsReportOf live c.least)
-    → (AreApartClasses mid → AreApartClasses new) → AreEnded all left' old new later
-ended_more all left left' old mid new tops later live top so e is well own keeps found apart = record {
-  done = so.done ++ live ∷ [];
-  split = so.split ∙ (ap (λ xs. so.done ++ xs) e ∙ sym (push_append so.done live left'));
-  well = well_more so.done old mid new tops live top so.well well;
-  are_tops = subst (AreTops new (so.done ++ live ∷ [])) (sym is) (tops_more so.done old mid new tops live top so.are_tops keeps own);
-  keeps = λ k c there. keeps k c (so.keeps k c there);
-  found = found_more so.done old mid new tops live top so.found found;
-  apart = λ were. apart (so.apart were);
-}
-
--- nothing is left
-none_of : {A : Type 0} (xs : List A) → length xs ≡ 0 → xs ≡ []
-none_of [] e = refl
-none_of (x ∷ xs) e = absurd (omega (arith, e))
-
-pub ended_all : (all left : List LiveView) (old new : List ClassView) (tops : List (Option ℕ)) → AreEnded all left old new tops → length left ≡ 0
-    → AreWell all × (AreTops new all tops × AreFoundIn all old new)
-ended_all all left old new tops so none =
-    let is : so.done ≡ all = sym (so.split ∙ (ap (λ xs. so.done ++ xs) (none_of left none) ∙ append_none so.done)) in (
-      subst AreWell is so.well,
-      (subst (λ xs. AreTops new xs tops) is so.are_tops, subst (λ xs. AreFoundIn xs old new) is so.found),
-    )
 
 -- ---- the spots of the stands
 

@@ -290,12 +290,12 @@ module _ (w : WorldView) (scope : Scope) (layers : List LayerView) (graph : List
     first_there : slice_get searched.first.stands 0 ≡ Some first.stand
     first_there = ap (λ (xs : List Stand). slice_get xs 0) first.stands
 
-    first_on : slice_get searched.first.worlds first.stand.world ≡ Some (record { told = scope.outside; world = w; marks = no_marks; turns = [] })
+    first_on : slice_get searched.first.worlds first.stand.world ≡ Some (record { told = scope.outside; world = w; marks = no_marks; turns = []; is_state = true })
     first_on = ap (λ n. slice_get searched.first.worlds n) first.on ∙ ap (λ (xs : List LiveView). slice_get xs 0) first.worlds
 
     begins_there : place_at w scope layers 0 0 ≡ begins w
     begins_there =
-        let fresh : LiveView = record { told = scope.outside; world = w; marks = no_marks; turns = [] } in
+        let fresh : LiveView = record { told = scope.outside; world = w; marks = no_marks; turns = []; is_state = true } in
         let marked : Marks → Place = (λ marks. record { world = w; last = marks.last; cuts = bounded_cuts scope.cuts marks.cuts }) in
         join (place_at w scope layers 0 0) (marked first.stand.marks) (begins w) (place_is w scope layers 0 0 searched.first first.stand fresh searched.begins first_there first_on)
         (join (marked first.stand.marks) (marked no_marks) (begins w) (ap_at marked first.stand.marks no_marks first.marks)

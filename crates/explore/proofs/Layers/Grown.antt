@@ -15,7 +15,6 @@ use Rattle.explore.specs.Layers.{LiveView, point_of, point_at, Keeps, Leads, IsB
 use Rattle.explore.specs.Points.{Point, IsTurn, Goes}
 use Rattle.explore.specs.Points as points
 use Rattle.explore.specs.Search.{IsOver, IsLike, same, onward}
-use Rattle.explore.specs.Spreading.{AreWorldsAfter}
 use Rattle.explore.specs.Want.{replies_want}
 use Rattle.explore.proofs.Wants.Lucky.{goes_push}
 use Rattle.explore.proofs.Lists.SearchLaws.{over_rests, reported}
@@ -109,7 +108,3 @@ module _ (stand : Stand) (live : LiveView) (i : ℕ) (born : LiveView) (is : IsB
         like = subst (λ (told : Bool). IsLike told (turn luck live.world i) found.0.world) is.told
             (subst (λ (u : WorldView). IsLike born.told u found.0.world) world found.1.1);
       }
-
-  pub are_after : (old new : List LiveView) → ((k : ℕ) (b : LiveView) → slice_get new k ≡ Some b → (slice_get old k ≡ Some b) ⊎ (b ≡ born))
-      → AreWorldsAfter stand live i old new
-  are_after old new put k b there = ⊎_elim (λ was. inl was) (λ e. inr (subst (λ (x : LiveView). IsBorn stand live i x) (sym e) is)) (put k b there)

@@ -1,5 +1,5 @@
 -- One more layer is gone through.
-use Rattle.std.specs.Prelude.{◌≡◌, ◌<◌, ◌≤◌, ℕ, zero, suc, List, [], ◌∷◌, ◌++◌, Some, length, slice_get, refl}
+use Rattle.std.specs.Prelude.{◌≡◌, ◌<◌, ◌≤◌, ℕ, zero, suc, List, [], ◌∷◌, ◌++◌, Some, length, slice_get, refl, true}
 use Rattle.std.specs.Global.{Vec}
 use Rattle.std.proofs.Common.{◌⊎◌, inl, inr, sym, ap, ◌∙◌, subst, ⊎_elim, arith}
 use Rattle.std.proofs.lemmas.Option.{same_Some, none-some, slice_get_within}
@@ -198,5 +198,5 @@ first_on w scope layer first few = record { stands = stands; actors = actors }
 
     actors : (m : ℕ) (live : LiveView) → slice_get layer.worlds m ≡ Some live → length live.world.seats ≤ ACTORS_MAX
     actors m live e =
-        let one = only_one (record { told = scope.outside; world = w; marks = no_marks; turns = [] }) m live (ap (λ (xs : List LiveView). slice_get xs m) (sym first.worlds) ∙ e) in
+        let one = only_one (record { told = scope.outside; world = w; marks = no_marks; turns = []; is_state = true }) m live (ap (λ (xs : List LiveView). slice_get xs m) (sym first.worlds) ∙ e) in
         subst (λ (l : LiveView). length l.world.seats ≤ ACTORS_MAX) (sym one.1) few

@@ -1,5 +1,5 @@
 -- The layers of a search so far: the lists of their stands, and the worlds that those lead to.
-use Rattle.std.specs.Prelude.{◌≡◌, ◌<◌, ◌≤◌, ◌+◌, ℕ, zero, suc, List, [], ◌∷◌, ◌++◌, Bool, length, slice_get, Some, refl}
+use Rattle.std.specs.Prelude.{◌≡◌, ◌<◌, ◌≤◌, ◌+◌, ℕ, zero, suc, List, [], ◌∷◌, ◌++◌, Bool, length, slice_get, Some, refl, true}
 use Rattle.std.specs.Global.{Vec}
 use Rattle.std.proofs.Common.{sym, ap, ◌∙◌, subst, arith, length-append}
 use Rattle.std.proofs.lemmas.Option.{same_Some, none-some}
@@ -103,7 +103,7 @@ pub record IsFoundBy (w : WorldView) (scope : Scope) (class : ClassView) : Type 
 
 -- a world and no turns
 abbrev fresh : Bool → WorldView → LiveView
-fresh told w = record { told = told; world = w; marks = no_marks; turns = [] }
+fresh told w = record { told = told; world = w; marks = no_marks; turns = []; is_state = true }
 
 only : {A : Type 0} (x y : A) (xs : List A) (k : ℕ) → xs ≡ x ∷ [] → slice_get xs k ≡ Some y → x ≡ y
 only x y xs k e there = by k (sym (ap (λ ys. slice_get ys k) e) ∙ there)

@@ -1,44 +1,29 @@
 -- The ways from the stands of a layer, and the layer that they lead to.
-use Rattle.std.specs.Prelude.{◌≡◌, ◌<◌, ◌≤◌, ◌+◌, ◌⊎◌, ◌++◌, ℕ, suc, List, [], ◌∷◌, length, ◌==◌, ◌^◌, Bool, true, false, not, Option, Some, None, slice_get, refl}
+use Rattle.std.specs.Prelude.{◌≡◌, ◌<◌, ◌≤◌, ◌+◌, ◌⊎◌, ◌++◌, ℕ, suc, List, [], ◌∷◌, length, ◌==◌, Bool, true, false, not, Option, Some, slice_get, refl}
 use Rattle.std.specs.Global.{Vec}
-use Rattle.std.proofs.Common.{inl, inr, ⊎_elim, sym, ap, ◌∙◌, subst, arith, length-append, get_or, eq-eqb, eqb-true}
-use Rattle.std.proofs.lemmas.Bool.{false≢true}
-use Rattle.std.proofs.lemmas.Option.{same_Some, none-some, slice_get_within, slice_get_read}
+use Rattle.std.proofs.Common.{inl, inr, ⊎_elim, sym, ap, ◌∙◌, subst, arith, length-append, eq-eqb, eqb-true}
+use Rattle.std.proofs.lemmas.Option.{same_Some, none-some, slice_get_within}
 use Rattle.tree_model.proofs.Places.{slice_get-last}
 use Rattle.race_core.specs.declared.opening.TheConstants.{ACTORS_MAX}
-use Rattle.race_core.specs.declared.seat.Seat.{Seat}
-use Rattle.race_core.specs.Worlds.{is_busy_in, is_busy_at}
 use Rattle.schedule_graph.specs.declared.graph.Way.{Way}
-use Rattle.schedule_graph.specs.Words.{way_of}
+use Rattle.schedule_graph.specs.Words.{way_of, AreApart}
 use Rattle.schedule_graph.proofs.Leading.{own_way}
 use Rattle.explore.specs.declared.limits.Scope.{Scope}
 use Rattle.explore.specs.declared.layer.Stand.{Stand}
 use Rattle.explore.specs.declared.marks.Marks.{Marks}
+use Rattle.explore.specs.declared.moves.Move.{Move}
+use Rattle.explore.specs.declared.moves.Choice.{Choice}
 use Rattle.explore.specs.Alike.{full}
+use Rattle.explore.specs.Explored.{ClassView}
 use Rattle.explore.specs.Lists.{is_another, is_cut, plus}
 use Rattle.explore.specs.Merged.{bounded_cuts}
-use Rattle.explore.specs.Points.{marks_after, onward, AreWithin, MayGo}
-use Rattle.explore.specs.Layers.{LiveView, LayerView, Keeps, Leads, IsOn, AreOn, point_of, point_at, IsBorn, IsOnward, IsMove, IsBornWorld, IsBornStand, AreWaysBy, IsWayBy, IsThere, IsKnown}
-use Rattle.explore.specs.Spreading.{IsStandAfter, AreStandsAfter, AreWorldsAfter, IsOneBy, IsWayTo, AreWaysBelow, AreFirstWays, AreWaysAt, IsNext, Grows}
-use Rattle.explore.proofs.Lists.Indices.{at_or_below}
+use Rattle.explore.specs.Moves.{AreChoices, AreAllChoices, AreLeads, Going, AreGone}
+use Rattle.explore.specs.Points.{marks_after, onward, AreWithin}
+use Rattle.explore.specs.Layers.{LiveView, LayerView, Keeps, Leads, IsOn, AreOn, point_of, point_at, IsOnward, IsMove, IsBornStand, AreJoined, AreWaysBy, AreAllWays, IsWayBy, IsThere}
+use Rattle.explore.specs.Spreading.{IsStandBy, IsWayTo, AreEachWay, AreWaysTo, AreStandsBy, IsFitting, AreFit, AreStandsFrom, AreFirstWays, AreWaysOfAll, AreApartChoices}
+use Rattle.explore.proofs.Lists.Indices.{within_some}
 use Rattle.explore.proofs.Lists.Told.{get_push}
 use Rattle.explore.proofs.Lists.Turning.{turn_actors, turn_within}
-use Rattle.explore.proofs.Layers.WaysGrown.{keeps_push, keeps_within, move_on, born_on, below_on}
-
-nothing : {A : Type 0} (k : ℕ) (x : A) → slice_get [] k ≡ Some x → ⊥
-nothing k x e = none-some x e
-
-pub next_none : (scope : Scope) (layer next : LayerView) → next.worlds ≡ [] → next.stands ≡ [] → IsNext scope layer next
-next_none scope layer next worlds stands = record {
-  joined = record { worlds = λ k born there. absurd (no_world k born there); stands = λ t born there. absurd (no_stand t born there) };
-  on = λ n on. record { stands = λ t born there. absurd (no_stand t born there); actors = λ k born there. absurd (no_world k born there) };
-}
-  where
-    no_world : (k : ℕ) (born : LiveView) → slice_get next.worlds k ≡ Some born → ⊥
-    no_world k born there = nothing k born (ap (λ lives. slice_get lives k) (sym worlds) ∙ there)
-
-    no_stand : (t : ℕ) (born : Stand) → slice_get next.stands t ≡ Some born → ⊥
-    no_stand t born there = nothing t born (ap (λ those. slice_get those t) (sym stands) ∙ there)
 
 -- ---- a stand that is put last
 
@@ -55,10 +40,6 @@ pub pushed_new : (stand : Stand) (old new : List Stand) → new ≡ old ++ stand
 pushed_new stand old new e t born there =
     ⊎_elim (λ was. inl was) (λ last. inr last.1) (get_push old stand t born (ap (λ stands. slice_get stands t) (sym e) ∙ there))
 
-pub copied_on : (was copy long given more : List ℕ) (i : ℕ) → copy ≡ [] → given ≡ was → long ≡ copy ++ given → more ≡ long ++ i ∷ [] → more ≡ was ++ i ∷ []
-copied_on was copy long given more i none same put pushed =
-    pushed ∙ ap (λ is. is ++ i ∷ []) (put ∙ (ap (λ is. is ++ given) none ∙ same))
-
 -- the count is another where it is one more
 is_more : (b : Bool) (n : ℕ) → not (plus b n == n) ≡ b
 is_more false n = ap not (eq-eqb n n refl)
@@ -68,243 +49,267 @@ is_more true n = by (suc n == n) refl
     by true e = let q : suc n ≡ n = eqb-true (suc n) n e in absurd (omega (arith, q))
     by false e = refl
 
-pub way_is : (scope : Scope) (stand : Stand) (live : LiveView) (i world : ℕ) (next : List Stand) (to : ℕ) (born : Stand)
-    → IsStandAfter stand live i world born → IsThere scope born next to
-    → IsWayTo scope stand live i world next (record { letter = i; cut = not (born.marks.cuts == stand.marks.cuts); change = not (born.marks.changes == stand.marks.changes); to = to })
-way_is scope stand live i world next to born after there = record {
-  letter = refl;
-  cut = ap (λ (marks : Marks). not (marks.cuts == stand.marks.cuts)) after.marks ∙ is_more (is_cut live.world.seats stand.marks.last i) stand.marks.cuts;
-  change = ap (λ (marks : Marks). not (marks.changes == stand.marks.changes)) after.marks ∙ is_more (is_another stand.marks.last i) stand.marks.changes;
-  to = born;
-  after = after;
-  there = there;
-}
-
--- ---- one actor's turn from a stand
-
-module _ (scope : Scope) (layer : LayerView) (stand : Stand) (live : LiveView) (i : ℕ) (onward_from : IsOnward scope layer stand live i) where
-  -- an earlier stand's move from the same world, or the world that was put there
-  pub move_there : (old : LayerView) (new : List LiveView) (all : List (Vec Way)) (k : ℕ) → Keeps old.worlds new → AreFirstWays scope layer old all
-      → IsKnown layer.stands all old.stands stand.world i k ⊎ Leads live i new k → IsMove layer stand.world i new k
-  move_there old new all k keeps first (inr leads) = record { from = live; here = onward_from.on; leads = leads }
-  move_there old new all k keeps first (inl known) =
-      let on : slice_get layer.worlds known.stand.world ≡ Some live = ap (slice_get layer.worlds) known.same ∙ onward_from.on in
-      let by = (first known.s known.stand live known.ways known.there on known.ways_there).each known.at known.way known.way_there in
-      let same : by.after.after ≡ known.after = same_Some by.after.after known.after (sym by.after.there ∙ known.after_there) in
-      move_on layer stand.world i old.worlds new k keeps
-      (subst (λ m. IsMove layer m i old.worlds k) known.same
-      (subst (λ j. IsMove layer known.stand.world j old.worlds k) known.letter
-      (subst (λ j. IsMove layer known.stand.world known.way.letter old.worlds j) (ap (λ (s : Stand). s.world) same ∙ known.leads) by.after.move)))
-
-  -- the worlds have grown
-  pub next_worlds : (old new : LayerView) → new.stands ≡ old.stands → Keeps old.worlds new.worlds → AreWorldsAfter stand live i old.worlds new.worlds
-      → IsNext scope layer old → IsNext scope layer new
-  next_worlds old new same keeps are is = record {
-    joined = record { worlds = worlds; stands = λ t born there. born_on scope layer old.worlds new.worlds born keeps (is.joined.stands t born (was t born there)) };
-    on = λ n on. record {
-      stands = λ t born there. let old_on = (is.on n on).stands t born (was t born there) in
-          record { on = keeps_within old.worlds new.worlds born.world keeps old_on.on; long = old_on.long; few = old_on.few };
-      actors = λ k born there. ⊎_elim (λ before. (is.on n on).actors k born before) (λ after. few born after (on.actors stand.world live onward_from.on)) (are k born there);
-    };
-  }
-    where
-      was : (t : ℕ) (born : Stand) → slice_get new.stands t ≡ Some born → slice_get old.stands t ≡ Some born
-      was t born there = ap (λ stands. slice_get stands t) (sym same) ∙ there
-
-      worlds : (k : ℕ) (born : LiveView) → slice_get new.worlds k ≡ Some born → IsBornWorld scope layer born
-      worlds k born there = ⊎_elim (λ before. is.joined.worlds k born before)
-          (λ after. record { stand = stand; live = live; i = i; onward = onward_from; is = after }) (are k born there)
-
-      few : (born : LiveView) → IsBorn stand live i born → length live.world.seats ≤ ACTORS_MAX → length born.world.seats ≤ ACTORS_MAX
-      few born after less = subst (λ m. m ≤ ACTORS_MAX) (sym (turn_actors (point_at live stand) (point_of born) i after.turned)) less
-
-  -- the stands have grown
-  module _ (k : ℕ) (old new : LayerView) (worlds : new.worlds ≡ old.worlds) (move : IsMove layer stand.world i old.worlds k) where
-    new_move : (m : ℕ) → m ≡ k → IsMove layer stand.world i new.worlds m
-    new_move m e = subst (λ lives. IsMove layer stand.world i lives m) (sym worlds) (subst (λ n. IsMove layer stand.world i old.worlds n) (sym e) move)
-
-    within : (m : ℕ) → m ≡ k → m < length new.worlds
-    within m e = let is = new_move m e in slice_get_within new.worlds m is.leads.to is.leads.there
-
-    keeps : Keeps old.worlds new.worlds
-    keeps m live there = ap (λ lives. slice_get lives m) worlds ∙ there
-
-    born_stand : (born : Stand) → IsStandAfter stand live i k born → IsBornStand scope layer new.worlds born
-    born_stand born after = record {
-      stand = stand;
-      live = live;
-      i = i;
-      onward = onward_from;
-      turns = after.turns;
-      marks = after.marks;
-      move = new_move born.world after.on;
-    }
-
-    is_on : (n : ℕ) → AreOn n layer → (born : Stand) → IsStandAfter stand live i k born → IsOn (suc n) new.worlds born
-    is_on n on born after =
-        let before = on.stands onward_from.at stand onward_from.there in
-        let up : n + 1 ≡ suc n = omega arith in
-        let more : length (stand.turns.items ++ i ∷ []) ≡ length stand.turns.items + 1 = length-append stand.turns.items (i ∷ []) in
-        record {
-          on = within born.world after.on;
-          long = ap length after.turns ∙ (more ∙ (ap (λ m. m + 1) before.long ∙ up));
-          few = subst (λ (marks : Marks). AreWithin marks (suc n)) (sym after.marks) (subst (λ m. AreWithin (marks_after live.world.seats stand.marks i) m) up
-              (turn_within (point_at live stand) (onward full (point_at live stand) i) i n (full, refl) before.few));
-        }
-
-    pub next_stands : AreStandsAfter stand live i k old.stands new.stands → IsNext scope layer old → IsNext scope layer new
-    next_stands are is = record {
-      joined = record {
-        worlds = λ m born there. is.joined.worlds m born (ap (λ lives. slice_get lives m) (sym worlds) ∙ there);
-        stands = λ t born there. ⊎_elim (λ before. born_on scope layer old.worlds new.worlds born keeps (is.joined.stands t born before)) (born_stand born) (are t born there);
-      };
-      on = λ n on. record {
-        stands = λ t born there. ⊎_elim
-            (λ before. let old_on = (is.on n on).stands t born before in
-            record { on = keeps_within old.worlds new.worlds born.world keeps old_on.on; long = old_on.long; few = old_on.few })
-            (is_on n on born) (are t born there);
-        actors = λ m born there. (is.on n on).actors m born (ap (λ lives. slice_get lives m) (sym worlds) ∙ there);
-      };
-    }
-
-    pub way_there : (way : Way) → IsWayTo scope stand live i k new.stands way → IsWayBy scope layer new stand live i way
-    way_there way to = record {
-      may = onward_from.may;
-      letter = to.letter;
-      cut = to.cut;
-      change = to.change;
-      after = record {
-        after = to.there.other;
-        there = to.there.there;
-        last = to.there.last ∙ ap (λ (m : Marks). m.last) to.after.marks;
-        cuts = to.there.cuts ∙ ap (λ (m : Marks). bounded_cuts scope.cuts m.cuts) to.after.marks;
-        move = new_move to.there.other.world (to.there.world ∙ to.after.on);
-      };
-    }
+pub way_is : (scope : Scope) (stand : Stand) (choice : Choice) (world : ℕ) (next : List Stand) (to : ℕ) (born : Stand) → IsStandBy stand choice world born → IsThere scope born next to
+    → IsWayTo scope stand choice world next (record { letter = choice.actor; cut = not (choice.marks.cuts == stand.marks.cuts); change = not (choice.marks.changes == stand.marks.changes); to = to })
+way_is scope stand choice world next to born after there = record { letter = refl; cut = refl; change = refl; to = born; after = after; there = there }
 
 -- ---- the ways from a stand
 
-module _ (scope : Scope) (layer next : LayerView) (stand : Stand) (live : LiveView) where
-  pub below_none : AreWaysBelow scope layer next stand live 0 []
-  below_none = record {
-    all = λ i lt may. absurd (omega (arith, lt));
-    each = λ k way there. absurd (nothing k way there);
-    below = λ k way there. absurd (nothing k way there);
-    apart = λ k l v u there. absurd (nothing k v there);
-  }
+there_on : (scope : Scope) (stand : Stand) (old new : List Stand) (t : ℕ) → Keeps old new → IsThere scope stand old t → IsThere scope stand new t
+there_on scope stand old new t keeps is = record { other = is.other; there = keeps t is.other is.there; world = is.world; last = is.last; cuts = is.cuts }
 
-  module _ (n : ℕ) (ways : List Way) (are : AreWaysBelow scope layer next stand live n ways) where
-    less : (k : ℕ) (way : Way) → slice_get ways k ≡ Some way → way.letter < n + 1
-    less k way there = let lt : way.letter < n = are.below k way there in omega arith
+way_on : (scope : Scope) (stand : Stand) (choice : Choice) (world : ℕ) (old new : List Stand) (way : Way) → Keeps old new → IsWayTo scope stand choice world old way
+    → IsWayTo scope stand choice world new way
+way_on scope stand choice world old new way keeps is =
+    record { letter = is.letter; cut = is.cut; change = is.change; to = is.to; after = is.after; there = there_on scope is.to old new way.to keeps is.there }
 
-    -- that actor may not have the next turn
-    pub below_other : (MayGo scope (point_at live stand) n → ⊥) → AreWaysBelow scope layer next stand live (n + 1) ways
-    below_other not_so = record {
-      all = λ i lt may. ⊎_elim (λ l. are.all i l may) (λ e. absurd (not_so (subst (λ j. MayGo scope (point_at live stand) j) e may))) (at_or_below i n lt);
-      each = are.each;
-      below = less;
-      apart = are.apart;
-    }
+module _ (scope : Scope) (stand : Stand) (choices : List Choice) (places : List ℕ) where
+  pub each_none : (next : List Stand) (ways : List Way) → ways ≡ [] → AreEachWay scope stand choices places next ways
+  each_none next ways none k choice world way here at there = absurd (none-some way (ap (λ (xs : List Way). slice_get xs k) (sym none) ∙ there))
 
-    -- it may, and this is its way
-    module _ (way : Way) (by : IsWayBy scope layer next stand live n way) where
-      own : IsOneBy (ways ++ way ∷ []) n way
-      own = (length ways, (slice_get-last ways way, by.letter))
+  pub each_on : (old new : List Stand) (ways : List Way) → Keeps old new → AreEachWay scope stand choices places old ways → AreEachWay scope stand choices places new ways
+  each_on old new ways keeps are k choice world way here at there = way_on scope stand choice world old new way keeps (are k choice world way here at there)
 
-      later : (i : ℕ) → (v : Way) × IsOneBy ways i v → (v : Way) × IsOneBy (ways ++ way ∷ []) i v
-      later i found = (found.0, (found.1.0, (keeps_push ways way found.1.0 found.0 found.1.1.0, found.1.1.1)))
+  pub each_more : (next : List Stand) (ways more : List Way) (n : ℕ) (choice : Choice) (world : ℕ) (way : Way) → length ways ≡ n → slice_get choices n ≡ Some choice
+      → slice_get places choice.at ≡ Some world → IsWayTo scope stand choice world next way → more ≡ ways ++ way ∷ []
+      → AreEachWay scope stand choices places next ways → AreEachWay scope stand choices places next more
+  each_more next ways more n choice world way long here at own is are k c m w c_here m_at w_there = ⊎_elim
+      (are k c m w c_here m_at)
+      (λ last.
+      let same : choice ≡ c = same_Some choice c (sym here ∙ (ap (slice_get choices) (sym (last.0 ∙ long)) ∙ c_here)) in
+      let place : world ≡ m = same_Some world m (sym at ∙ (ap (λ (x : Choice). slice_get places x.at) same ∙ m_at)) in
+      subst (λ (x : Way). IsWayTo scope stand c m next x) (sym last.1)
+      (subst (λ (x : Choice). IsWayTo scope stand x m next way) same (subst (λ j. IsWayTo scope stand choice j next way) place own)))
+      (get_push ways way k w (ap (λ (xs : List Way). slice_get xs k) (sym is) ∙ w_there))
 
-      is_by : (v : Way) → v ≡ way → IsWayBy scope layer next stand live v.letter v
-      is_by v e =
-          subst (λ (u : Way). IsWayBy scope layer next stand live u.letter u) (sym e) (subst (λ j. IsWayBy scope layer next stand live j way) (sym by.letter) by)
-
-      last_is : (v : Way) → v ≡ way → v.letter ≡ n
-      last_is v e = ap (λ (u : Way). u.letter) e ∙ by.letter
-
-      clash : (k l : ℕ) (v u : Way) → slice_get ways k ≡ Some v → u ≡ way → v.letter ≡ u.letter → k ≡ l
-      clash k l v u there e q =
-          let lt : v.letter < n = are.below k v there in
-          let same : v.letter ≡ n = q ∙ last_is u e in
-          absurd (omega (arith, lt, same))
-
-      pub below_more : AreWaysBelow scope layer next stand live (n + 1) (ways ++ way ∷ [])
-      below_more = record {
-        all = λ i lt may. ⊎_elim (λ l. later i (are.all i l may)) (λ e. subst (λ j. (v : Way) × IsOneBy (ways ++ way ∷ []) j v) (sym e) (way, own)) (at_or_below i n lt);
-        each = λ k v there. ⊎_elim (are.each k v) (λ last. is_by v last.1) (get_push ways way k v there);
-        below = λ k v there. ⊎_elim (less k v) (λ last. let e : v.letter ≡ n = last_is v last.1 in omega (arith, e)) (get_push ways way k v there);
-        apart = λ k l v u here there q.
-            ⊎_elim
-            (λ h. ⊎_elim (λ t. are.apart k l v u h t q) (λ t. clash k l v u h t.1 q) (get_push ways way l u there))
-            (λ h. ⊎_elim (λ t. sym (clash l k u v t h.1 (sym q))) (λ t. h.0 ∙ sym t.0) (get_push ways way l u there))
-            (get_push ways way k v here);
-      }
-
-  busy_within : (seats : List Seat) (i : ℕ) → is_busy_at seats i ≡ true → i < length seats
-  busy_within seats i busy = by (slice_get seats i) refl busy
-    where
-      by : (seat : Option Seat) → slice_get seats i ≡ seat → is_busy_in seat ≡ true → i < length seats
-      by None e b = absurd (false≢true b)
-      by (Some seat) e b = slice_get_within seats i seat e
-
-  -- all actors have been asked
-  pub below_all : (n : ℕ) (ways : List Way) → n ≡ length live.world.seats → AreWaysBelow scope layer next stand live n ways → AreWaysBy scope layer next stand live ways
-  below_all n ways e are = record {
-    all = λ i may.
-        let lt : i < n = subst (λ m. i < m) (sym e) (busy_within live.world.seats i may.busy) in
-        let found = are.all i lt may in
-        (found.0, ap (λ j. way_of ways j) (sym found.1.1.1) ∙ own_way ways found.1.0 found.0 are.apart found.1.1.0);
-    each = are.each;
-    apart = are.apart;
-  }
+  pub stands_more : (old mid new : List Stand) (n : ℕ) (choice : Choice) (world : ℕ) → slice_get choices n ≡ Some choice → slice_get places choice.at ≡ Some world
+      → ((t : ℕ) (born : Stand) → slice_get new t ≡ Some born → (slice_get mid t ≡ Some born) ⊎ IsStandBy stand choice world born)
+      → AreStandsBy stand choices places old mid → AreStandsBy stand choices places old new
+  stands_more old mid new n choice world here at own are t born there = ⊎_elim (are t born)
+      (λ is. inr (record { at = n; choice = choice; there = here; world = world; place = at; is = is })) (own t born there)
 
 -- ---- the ways from all stands
 
-pub first_more : (scope : Scope) (layer next : LayerView) (all : List (Vec Way)) (ways : Vec Way)
-    → AreFirstWays scope layer next all → AreWaysAt scope layer next (length all) ways.items → AreFirstWays scope layer next (all ++ ways ∷ [])
-first_more scope layer next all ways are own s stand live these there on at =
-    ⊎_elim (are s stand live these there on)
-    (λ last. subst (λ (vs : Vec Way). AreWaysBy scope layer next stand live vs.items) (sym last.1) (own stand live (ap (slice_get layer.stands) (sym last.0) ∙ there) on))
-    (get_push all ways s these at)
+module _ (scope : Scope) (stands : List Stand) (choices : List (Vec Choice)) (places : List (Vec ℕ)) where
+  module _ (old new : List Stand) (s : ℕ) (stand : Stand) (those : Vec Choice) (row : Vec ℕ) (here : slice_get stands s ≡ Some stand) (chosen : slice_get choices s ≡ Some those)
+      (at : slice_get places stand.world ≡ Some row) where
+    pub from_more : AreStandsBy stand those.items row.items old new → AreStandsFrom stands choices places old → AreStandsFrom stands choices places new
+    from_more own are t born there = ⊎_elim (are t born)
+        (λ is. record { s = s; stand = stand; there = here; those = those; chosen = chosen; row = row; places_there = at; is = is }) (own t born there)
 
--- ---- the stand that is gone on from, and one actor after another
+    pub first_more : (all more : List (Vec Way)) (ways : Vec Way) → Keeps old new → length all ≡ s → AreWaysTo scope stand those.items row.items new ways.items
+        → more ≡ all ++ ways ∷ [] → AreFirstWays scope stands choices places old all → AreFirstWays scope stands choices places new more
+    first_more all more ways keeps long own is are r st cs ps ws st_here cs_chosen ps_at ws_there = ⊎_elim
+        (λ was. let before = are r st cs ps ws st_here cs_chosen ps_at was in
+        record { many = before.many; each = each_on scope st cs.items ps.items old new ws.items keeps before.each })
+        (λ last.
+        let e : r ≡ s = last.0 ∙ long in
+        let same : stand ≡ st = same_Some stand st (sym here ∙ (ap (slice_get stands) (sym e) ∙ st_here)) in
+        let same_those : those ≡ cs = same_Some those cs (sym chosen ∙ (ap (slice_get choices) (sym e) ∙ cs_chosen)) in
+        let same_row : row ≡ ps = same_Some row ps (sym at ∙ (ap (λ (x : Stand). slice_get places x.world) same ∙ ps_at)) in
+        subst (λ (v : Vec Way). AreWaysTo scope st cs.items ps.items new v.items) (sym last.1)
+        (subst (λ (x : Stand). AreWaysTo scope x cs.items ps.items new ways.items) same
+        (subst (λ (v : Vec Choice). AreWaysTo scope stand v.items ps.items new ways.items) same_those
+        (subst (λ (v : Vec ℕ). AreWaysTo scope stand those.items v.items new ways.items) same_row own))))
+        (get_push all ways r ws (ap (λ (xs : List (Vec Way)). slice_get xs r) (sym is) ∙ ws_there))
 
-pub read_at : {A : Type 0} (xs ys : List A) (i : ℕ) (x : A) → xs ≡ ys → x ≡ get_or xs i x → i < length ys → slice_get ys i ≡ Some x
-read_at xs ys i x e q lt = slice_get_read ys (length ys) i x refl lt (subst (λ zs. x ≡ get_or zs i x) e q)
+-- ---- what they come to
 
-pub few_marks : (marks : Marks) (n : ℕ) → n + 1 < 2 ^ 40 → AreWithin marks n → AreWithin marks (2 ^ 40)
-few_marks marks n lt within =
-    let a : marks.cuts ≤ n = within.cuts in
-    let b : marks.changes ≤ n = within.changes in
-    record { cuts = omega (arith, a, lt); changes = omega (arith, b, lt) }
+module _ (g : Going) (worlds : List LiveView) (tops : List (Option ℕ)) (places : List (Vec ℕ)) (classes : List ClassView) (gone : AreGone g worlds tops places classes)
+    (whole : length g.layer.worlds ≤ length tops) (n : ℕ) (on : AreOn n g.layer) (choices : List (Vec Choice)) (are : AreAllChoices g.scope g.layer g.moves choices) where
+  -- a stand with its world, its choices, and the places of its moves
+  record IsSeen (s : ℕ) (stand : Stand) (those : Vec Choice) (row : Vec ℕ) : Type 0 where
+    pub live : LiveView
+    pub there : slice_get g.layer.worlds stand.world ≡ Some live
+    pub moves : Vec Move
+    pub are_choices : AreChoices g.scope (point_at live stand) moves.items those.items
+    pub leads : AreLeads live moves.items worlds row.items
 
-pub ways_at : (scope : Scope) (layer next : LayerView) (s : ℕ) (stand : Stand) (live : LiveView) (ways : List Way)
-    → slice_get layer.stands s ≡ Some stand → slice_get layer.worlds stand.world ≡ Some live → AreWaysBy scope layer next stand live ways → AreWaysAt scope layer next s ways
-ways_at scope layer next s stand live ways here on are stand' live' there on' =
-    let same : stand ≡ stand' = same_Some stand stand' (sym here ∙ there) in
-    let alive : live ≡ live' = same_Some live live' (sym on ∙ (ap (λ (st : Stand). slice_get layer.worlds st.world) same ∙ on')) in
-    subst (λ (st : Stand). AreWaysBy scope layer next st live' ways) same (subst (λ (l : LiveView). AreWaysBy scope layer next stand l ways) alive are)
+  row_of : (s : ℕ) (stand : Stand) → slice_get g.layer.stands s ≡ Some stand → (row : Vec ℕ) × (slice_get places stand.world ≡ Some row)
+  row_of s stand here = within_some places stand.world (let lt = (on.stands s stand here).on in let e = gone.many in omega (arith, lt, e, whole))
 
-module _ (scope : Scope) (layer : LayerView) (stand : Stand) (live : LiveView) (i k : ℕ) (from : IsOnward scope layer stand live i)
-    (old mid new : LayerView) (stands_same : mid.stands ≡ old.stands) (worlds_same : new.worlds ≡ mid.worlds)
-    (keeps_worlds : Keeps old.worlds mid.worlds) (keeps_stands : Keeps mid.stands new.stands) where
-  pub grown : Grows old new
-  grown = record {
-    worlds = λ m x e. ap (λ xs. slice_get xs m) worlds_same ∙ keeps_worlds m x e;
-    stands = λ t x e. keeps_stands t x (ap (λ xs. slice_get xs t) stands_same ∙ e);
-  }
+  seen : (s : ℕ) (stand : Stand) (those : Vec Choice) (row : Vec ℕ) → slice_get g.layer.stands s ≡ Some stand → slice_get choices s ≡ Some those
+      → slice_get places stand.world ≡ Some row → IsSeen s stand those row
+  seen s stand those row here chosen at =
+      let lt = (on.stands s stand here).on in
+      let live = within_some g.layer.worlds stand.world lt in
+      let moves = within_some g.moves stand.world (let e = g.listed.many in omega (arith, lt, e)) in
+      record {
+        live = live.0;
+        there = live.1;
+        moves = moves.0;
+        are_choices = are.each s stand live.0 moves.0 those here live.1 moves.1 chosen;
+        leads = gone.leads stand.world live.0 moves.0 row live.1 moves.1 at;
+      }
 
-  module _ (all : List (Vec Way)) (first : AreFirstWays scope layer old all)
-      (leads : IsKnown layer.stands all old.stands stand.world i k ⊎ Leads live i mid.worlds k) where
-    moved : IsMove layer stand.world i mid.worlds k
-    moved = move_there scope layer stand live i from old mid.worlds all k keeps_worlds first leads
+  lead : (s : ℕ) (stand : Stand) (those : Vec Choice) (row : Vec ℕ) → (is : IsSeen s stand those row) → (k : ℕ) (choice : Choice) → slice_get those.items k ≡ Some choice
+      → (to : ℕ) × ((slice_get row.items choice.at ≡ Some to) × Leads is.live choice.actor worlds to)
+  lead s stand those row is k choice there =
+      let of = (is.are_choices.each k choice there).move in
+      let by = is.leads choice.at of.0 of.1.0 in
+      (by.0, (by.1.0, subst (λ i. Leads is.live i worlds by.0) of.1.1 by.1.1))
 
-    pub turned : AreWorldsAfter stand live i old.worlds mid.worlds → AreStandsAfter stand live i k mid.stands new.stands
-        → IsNext scope layer old → IsNext scope layer new
-    turned worlds stands is =
-        next_stands scope layer stand live i from k mid new worlds_same moved stands (next_worlds scope layer stand live i from old mid stands_same keeps_worlds worlds is)
+  pub fits : AreFit g.layer.stands choices places
+  fits s stand those here chosen =
+      let row = row_of s stand here in
+      let is = seen s stand those row.0 here chosen row.1 in
+      (row.0, (row.1, λ k choice there. let by = lead s stand those row.0 is k choice there in slice_get_within row.0.items choice.at by.0 by.1.0))
 
-    pub taken : (way : Way) → IsWayTo scope stand live i k new.stands way → (ways : List Way)
-        → AreWaysBelow scope layer old stand live i ways → AreWaysBelow scope layer new stand live (i + 1) (ways ++ way ∷ [])
-    taken way to ways are =
-        below_more scope layer new stand live i ways (below_on scope layer old new grown stand live i ways are)
-        way (way_there scope layer stand live i from k mid new worlds_same moved way to)
+  pub choices_apart : AreApartChoices choices
+  choices_apart s those k l choice other chosen here there same =
+      let stand = within_some g.layer.stands s (let lt = slice_get_within choices s those chosen in let e = are.many in omega (arith, lt, e)) in
+      let row = row_of s stand.0 stand.1 in
+      (seen s stand.0 those row.0 stand.1 chosen row.1).are_choices.apart k l choice other here there same
+
+  pub tops_there : (s : ℕ) (stand : Stand) → slice_get g.layer.stands s ≡ Some stand → stand.world < length tops
+  tops_there s stand here = let lt = (on.stands s stand here).on in omega (arith, lt, whole)
+
+  pub tops_many : length tops ≡ length g.layer.worlds
+  tops_many = let le = gone.fits in omega (arith, le, whole)
+
+  module _ (next : List Stand) (all : List (Vec Way)) (of : AreWaysOfAll g.scope g.layer.stands choices places next all) where
+    abbrev after : LayerView
+    after = record { worlds = worlds; stands = next }
+
+    move : (s : ℕ) (stand : Stand) (those : Vec Choice) (row : Vec ℕ) (is : IsSeen s stand those row) (k : ℕ) (choice : Choice) → slice_get those.items k ≡ Some choice
+        → (world : ℕ) → slice_get row.items choice.at ≡ Some world → (m : ℕ) → m ≡ world → IsMove g.layer stand.world choice.actor worlds m
+    move s stand those row is k choice there world at m e =
+        let by = lead s stand those row is k choice there in
+        let same : by.0 ≡ m = same_Some by.0 world (sym by.1.0 ∙ at) ∙ sym e in
+        record { from = is.live; here = is.there; leads = subst (λ j. Leads is.live choice.actor worlds j) same by.1.1 }
+
+    onward_of : (s : ℕ) (stand : Stand) (those : Vec Choice) (row : Vec ℕ) (is : IsSeen s stand those row) (k : ℕ) (choice : Choice) → slice_get g.layer.stands s ≡ Some stand
+        → slice_get those.items k ≡ Some choice → IsOnward g.scope g.layer stand is.live choice.actor
+    onward_of s stand those row is k choice here there = record { at = s; there = here; on = is.there; may = (is.are_choices.each k choice there).may }
+
+    born_stand : (t : ℕ) (born : Stand) → slice_get next t ≡ Some born → IsBornStand g.scope g.layer worlds born
+    born_stand t born there =
+        let from = of.born t born there in
+        let is = seen from.s from.stand from.those from.row from.there from.chosen from.places_there in
+        let by = from.is in record {
+          stand = from.stand;
+          live = is.live;
+          i = by.choice.actor;
+          onward = onward_of from.s from.stand from.those from.row is by.at by.choice from.there by.there;
+          turns = by.is.turns;
+          marks = by.is.marks ∙ (is.are_choices.each by.at by.choice by.there).marks;
+          move = move from.s from.stand from.those from.row is by.at by.choice by.there by.world by.place born.world by.is.on;
+        }
+
+    is_on : (t : ℕ) (born : Stand) → slice_get next t ≡ Some born → IsOn (suc n) worlds born
+    is_on t born there =
+        let is = born_stand t born there in
+        let before = on.stands is.onward.at is.stand is.onward.there in
+        let up : n + 1 ≡ suc n = omega arith in
+        let more : length (is.stand.turns.items ++ is.i ∷ []) ≡ length is.stand.turns.items + 1 = length-append is.stand.turns.items (is.i ∷ []) in
+        record {
+          on = slice_get_within worlds born.world is.move.leads.to is.move.leads.there;
+          long = ap length is.turns ∙ (more ∙ (ap (λ m. m + 1) before.long ∙ up));
+          few = subst (λ (marks : Marks). AreWithin marks (suc n)) (sym is.marks) (subst (λ m. AreWithin (marks_after is.live.world.seats is.stand.marks is.i) m) up
+              (turn_within (point_at is.live is.stand) (onward full (point_at is.live is.stand) is.i) is.i n (full, refl) before.few));
+        }
+
+    few : (k : ℕ) (born : LiveView) → slice_get worlds k ≡ Some born → length born.world.seats ≤ ACTORS_MAX
+    few k born there =
+        let is = gone.born k born there in
+        subst (λ m. m ≤ ACTORS_MAX) (sym (turn_actors (point_at is.live is.stand) (point_of born) is.i is.is.turned)) (on.actors is.stand.world is.live is.onward.on)
+
+    pub after_joined : AreJoined g.scope g.layer after
+    after_joined = record { worlds = gone.born; stands = born_stand }
+
+    pub after_on : AreOn (suc n) after
+    after_on = record { stands = is_on; actors = few }
+
+    module _ (s : ℕ) (stand : Stand) (those : Vec Choice) (row : Vec ℕ) (ways : Vec Way) (here : slice_get g.layer.stands s ≡ Some stand) (chosen : slice_get choices s ≡ Some those)
+        (at : slice_get places stand.world ≡ Some row) (there : slice_get all s ≡ Some ways) where
+      abbrev is : IsSeen s stand those row
+      is = seen s stand those row here chosen at
+
+      to : AreWaysTo g.scope stand those.items row.items next ways.items
+      to = of.ways s stand those row ways here chosen at there
+
+      -- the way of each choice
+      way_at : (k : ℕ) (choice : Choice) → slice_get those.items k ≡ Some choice
+          → (way : Way) × ((slice_get ways.items k ≡ Some way) × ((world : ℕ) × ((slice_get row.items choice.at ≡ Some world) × IsWayTo g.scope stand choice world next way)))
+      way_at k choice c_there =
+          let way = within_some ways.items k (let lt = slice_get_within those.items k choice c_there in let e = to.many in omega (arith, lt, e)) in
+          let by = lead s stand those row is k choice c_there in
+          (way.0, (way.1, (by.0, (by.1.0, to.each k choice by.0 way.0 c_there by.1.0 way.1))))
+
+      choice_at : (k : ℕ) (way : Way) → slice_get ways.items k ≡ Some way → (choice : Choice) × ((slice_get those.items k ≡ Some choice)
+          × ((world : ℕ) × ((slice_get row.items choice.at ≡ Some world) × IsWayTo g.scope stand choice world next way)))
+      choice_at k way w_there =
+          let choice = within_some those.items k (let lt = slice_get_within ways.items k way w_there in let e = to.many in omega (arith, lt, e)) in
+          let by = lead s stand those row is k choice.0 choice.1 in
+          (choice.0, (choice.1, (by.0, (by.1.0, to.each k choice.0 by.0 way choice.1 by.1.0 w_there))))
+
+      apart : AreApart ways.items
+      apart k l v w v_there w_there same =
+          let c = choice_at k v v_there in
+          let d = choice_at l w w_there in
+          is.are_choices.apart k l c.0 d.0 c.1.0 d.1.0 (sym c.1.1.1.1.letter ∙ (same ∙ d.1.1.1.1.letter))
+
+      way_by : (k : ℕ) (way : Way) → slice_get ways.items k ≡ Some way → IsWayBy g.scope g.layer after stand is.live way.letter way
+      way_by k way w_there =
+          let c = choice_at k way w_there in
+          let choice = c.0 in
+          let own = is.are_choices.each k choice c.1.0 in
+          let by = c.1.1.1.1 in
+          subst (λ i. IsWayBy g.scope g.layer after stand is.live i way) (sym by.letter) (record {
+            may = own.may;
+            letter = by.letter;
+            cut = by.cut ∙ (ap (λ (m : Marks). not (m.cuts == stand.marks.cuts)) own.marks ∙ is_more (is_cut is.live.world.seats stand.marks.last choice.actor) stand.marks.cuts);
+            change = by.change ∙ (ap (λ (m : Marks). not (m.changes == stand.marks.changes)) own.marks ∙ is_more (is_another stand.marks.last choice.actor) stand.marks.changes);
+            after = record {
+              after = by.there.other;
+              there = by.there.there;
+              last = by.there.last ∙ ap (λ (m : Marks). m.last) (by.after.marks ∙ own.marks);
+              cuts = by.there.cuts ∙ ap (λ (m : Marks). bounded_cuts g.scope.cuts m.cuts) (by.after.marks ∙ own.marks);
+              move = move s stand those row is k choice c.1.0 c.1.1.0 c.1.1.1.0 by.there.other.world (by.there.world ∙ by.after.on);
+            };
+          })
+
+      ways_by : AreWaysBy g.scope g.layer after stand is.live ways.items
+      ways_by = record {
+        all = λ i may.
+            let chosen_one = is.are_choices.all i may in
+            let way = way_at chosen_one.0 chosen_one.1.0 chosen_one.1.1.0 in
+            let letter : way.0.letter ≡ i = way.1.1.1.1.letter ∙ chosen_one.1.1.1 in
+            (way.0, ap (λ j. way_of ways.items j) (sym letter) ∙ own_way ways.items chosen_one.0 way.0 apart way.1.0);
+        each = way_by;
+        apart = apart;
+      }
+
+    pub after_ways : AreAllWays g.scope g.layer after all
+    after_ways = record {
+      many = of.many;
+      each = λ s stand live ways here on_live there.
+          let those = within_some choices s (let lt = slice_get_within g.layer.stands s stand here in let e = are.many in omega (arith, lt, e)) in
+          let row = row_of s stand here in
+          let seen_here = seen s stand those.0 row.0 here those.1 row.1 in
+          subst (λ (l : LiveView). AreWaysBy g.scope g.layer after stand l ways.items) (same_Some seen_here.live live (sym seen_here.there ∙ on_live))
+          (ways_by s stand those.0 row.0 ways here those.1 row.1 there);
+    }
+
+-- ---- ways that are apart, for their spots
+
+pub ways_apart : (scope : Scope) (stands : List Stand) (choices : List (Vec Choice)) (places : List (Vec ℕ)) (next : List Stand) (all : List (Vec Way))
+    → length choices ≡ length stands → AreFit stands choices places → AreApartChoices choices → AreWaysOfAll scope stands choices places next all
+    → (s : ℕ) (ways : Vec Way) → slice_get all s ≡ Some ways → AreApart ways.items
+ways_apart scope stands choices places next all many fit choices_are of s ways there k l v w v_there w_there same =
+    let lt = slice_get_within all s ways there in
+    let e = of.many in
+    let stand = within_some stands s (omega (arith, lt, e)) in
+    let those = within_some choices s (omega (arith, lt, e, many)) in
+    let row = fit s stand.0 those.0 stand.1 those.1 in
+    let to = of.ways s stand.0 those.0 row.0 ways stand.1 those.1 row.1.0 there in
+    let c = choice_at stand.0 those.0 row.0 ways to row.1.1 k v v_there in
+    let d = choice_at stand.0 those.0 row.0 ways to row.1.1 l w w_there in
+    choices_are s those.0 k l c.0 d.0 those.1 c.1.0 d.1.0 (sym c.1.1 ∙ (same ∙ d.1.1))
+  where
+    choice_at : (stand : Stand) (those : Vec Choice) (row : Vec ℕ) (ways : Vec Way) → AreWaysTo scope stand those.items row.items next ways.items → IsFitting those.items row.items
+        → (k : ℕ) (way : Way) → slice_get ways.items k ≡ Some way → (choice : Choice) × ((slice_get those.items k ≡ Some choice) × (way.letter ≡ choice.actor))
+    choice_at stand those row ways to fitting k way w_there =
+        let choice = within_some those.items k (let lt = slice_get_within ways.items k way w_there in let e = to.many in omega (arith, lt, e)) in
+        let world = within_some row.items choice.0.at (fitting k choice.0 choice.1) in
+        (choice.0, (choice.1, (to.each k choice.0 world.0 way choice.1 world.1 w_there).letter))

@@ -10,7 +10,7 @@ use Rattle.explore.proofs.growing.ended.Goals as goal
 
 pub returns-clause-well : goal.returns-clause-well
 returns-clause-well g c =
-    let live : LiveView = record { told = c.live.inside.tally.told; world = c.live.inside.seen; marks = c.live.inside.marks; turns = c.live.inside.turns.items } in
+    let live : LiveView = record { told = c.live.inside.tally.told; world = c.live.inside.seen; marks = c.live.inside.marks; turns = c.live.inside.turns.items; is_state = c.live.inside.is_state } in
     let ran : RunsTo live.world [] (g.T.Tree.state c.in_ok-report.report.tree) c.in_ok-report.report.events.events c.in_ok-report.report.replies.items c.in_ok-report.report.kept.items =
     subst (λ (v : WorldView). RunsTo v [] (g.T.Tree.state c.in_ok-report.report.tree) c.in_ok-report.report.events.events c.in_ok-report.report.replies.items c.in_ok-report.report.kept.items)
     c.into_world.ensures c.in_ok-report.ensures.ran in
@@ -20,7 +20,7 @@ returns-clause-well g c =
 
 pub returns-clause-report : goal.returns-clause-report
 returns-clause-report g c =
-    let live : LiveView = record { told = c.live.inside.tally.told; world = c.live.inside.seen; marks = c.live.inside.marks; turns = c.live.inside.turns.items } in
+    let live : LiveView = record { told = c.live.inside.tally.told; world = c.live.inside.seen; marks = c.live.inside.marks; turns = c.live.inside.turns.items; is_state = c.live.inside.is_state } in
     let ran : RunsTo live.world [] (g.T.Tree.state c.in_ok-report.report.tree) c.in_ok-report.report.events.events c.in_ok-report.report.replies.items c.in_ok-report.report.kept.items =
     subst (λ (v : WorldView). RunsTo v [] (g.T.Tree.state c.in_ok-report.report.tree) c.in_ok-report.report.events.events c.in_ok-report.report.replies.items c.in_ok-report.report.kept.items)
     c.into_world.ensures c.in_ok-report.ensures.ran in
@@ -40,7 +40,7 @@ returns-clause-report g c =
 
 pub returns-clause-actors : goal.returns-clause-actors
 returns-clause-actors g c =
-    let live : LiveView = record { told = c.live.inside.tally.told; world = c.live.inside.seen; marks = c.live.inside.marks; turns = c.live.inside.turns.items } in
+    let live : LiveView = record { told = c.live.inside.tally.told; world = c.live.inside.seen; marks = c.live.inside.marks; turns = c.live.inside.turns.items; is_state = c.live.inside.is_state } in
     let ran : RunsTo live.world [] (g.T.Tree.state c.in_ok-report.report.tree) c.in_ok-report.report.events.events c.in_ok-report.report.replies.items c.in_ok-report.report.kept.items =
     subst (λ (v : WorldView). RunsTo v [] (g.T.Tree.state c.in_ok-report.report.tree) c.in_ok-report.report.events.events c.in_ok-report.report.replies.items c.in_ok-report.report.kept.items)
     c.into_world.ensures c.in_ok-report.ensures.ran in

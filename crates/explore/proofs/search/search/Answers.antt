@@ -22,7 +22,7 @@ layers-init g c =
     }
 
 pub pass-requires-clause-on : goal.pass-requires-clause-on
-pass-requires-clause-on g c =
+pass-requires-clause-on g c = λ κs under.
     last_on (g.B.Beginnings.opening c.args.beginnings.now) c.args.limits.scope c.layers.layer c.layers.graph c.layers.classes.items c.layers.invariant.searched
 
 pub layers-preserved : goal.layers-preserved

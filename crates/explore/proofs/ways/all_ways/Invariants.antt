@@ -1,11 +1,10 @@
-use Rattle.std.proofs.Common.{◌≡◌, ◌≤◌, length}
-use Rattle.explore.specs.Spreading.{AreFirstWays, IsNext}
+use Rattle.std.proofs.Common.{◌≡◌, length}
+use Rattle.explore.specs.Spreading.{AreFirstWays, AreStandsFrom}
 use Rattle.explore.proofs.ways.all_ways.Given as goal
 
 abbrev pub invariant-loop-at : goal.invariant-loop-at
-invariant-loop-at g l = record {
-  many : length l.all.items ≡ l._at;
-  ways : AreFirstWays l.limits.scope l.layer l.next l.all.items;
-  next : IsNext l.limits.scope l.layer l.next;
-  room : l.states ≤ l.room;
+invariant-loop-at l = record {
+  many : length l.all.items ≡ l.at;
+  ways : AreFirstWays l.scope l.stands l.choices l.places l.next.items l.all.items;
+  born : AreStandsFrom l.stands l.choices l.places l.next.items;
 }

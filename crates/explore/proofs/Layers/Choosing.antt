@@ -1,0 +1,217 @@
+-- The moves from a layer, and who may have the next turn from its stands.
+use Rattle.std.specs.Prelude.{◌≡◌, ◌<◌, ◌≤◌, ◌+◌, ◌^◌, ◌⊎◌, ◌++◌, ℕ, zero, suc, List, [], ◌∷◌, length, true, Option, Some, None, slice_get, slice_set, refl}
+use Rattle.std.specs.Global.{Vec}
+use Rattle.std.proofs.Common.{inl, inr, ⊎_elim, sym, ap, ◌∙◌, subst, arith, length-append, get_or}
+use Rattle.std.proofs.lemmas.Bool.{false≢true}
+use Rattle.std.proofs.lemmas.Option.{same_Some, none-some, slice_get_within, slice_get_read}
+use Rattle.tree_model.proofs.Places.{slice_get-last}
+use Rattle.race_core.specs.declared.seat.Seat.{Seat}
+use Rattle.race_core.specs.Worlds.{is_busy_in, is_busy_at}
+use Rattle.schedule_graph.proofs.Spreading.{get_set}
+use Rattle.explore.specs.declared.limits.Scope.{Scope}
+use Rattle.explore.specs.declared.layer.Stand.{Stand}
+use Rattle.explore.specs.declared.marks.Marks.{Marks}
+use Rattle.explore.specs.declared.moves.Move.{Move}
+use Rattle.explore.specs.declared.moves.Choice.{Choice}
+use Rattle.explore.specs.Layers.{LiveView, LayerView, Keeps, AreOn, point_at}
+use Rattle.explore.specs.Moves.{IsOf, IsOneOf, IsChoice, IsChosen, AreChoices, AreFirstChoices, IsMoveFrom, AreMoves, AreNoMoves, CanGoOn}
+use Rattle.explore.specs.Points.{Point, AreWithin, MayGo}
+use Rattle.explore.proofs.Lists.Indices.{at_or_below}
+use Rattle.explore.proofs.Lists.Told.{get_push, length_set}
+use Rattle.explore.proofs.Layers.WaysGrown.{keeps_push}
+
+-- ---- the move of an actor
+
+pub of_on : (moves new : List Move) (i at : ℕ) → Keeps moves new → IsOf moves i at → IsOf new i at
+of_on moves new i at keeps is = (is.0, (keeps at is.0 is.1.0, is.1.1))
+
+pub push_keeps : (moves new : List Move) (one : Move) → new ≡ moves ++ one ∷ [] → Keeps moves new
+push_keeps moves new one is k x there = ap (λ (xs : List Move). slice_get xs k) is ∙ keeps_push moves one k x there
+
+pub push_new : (moves new : List Move) (one : Move) → new ≡ moves ++ one ∷ [] → (j : ℕ) (x : Move) → slice_get new j ≡ Some x
+    → (slice_get moves j ≡ Some x) ⊎ (x ≡ one)
+push_new moves new one is j x there =
+    ⊎_elim (λ was. inl was) (λ last. inr last.1) (get_push moves one j x (ap (λ (xs : List Move). slice_get xs j) (sym is) ∙ there))
+
+-- ---- one actor after another is asked
+
+-- those below n who may have the next turn there
+pub record AreChoicesBelow (scope : Scope) (p : Point) (moves : List Move) (n : ℕ) (choices : List Choice) : Type 0 where
+  pub all : (i : ℕ) → i < n → MayGo scope p i → IsChosen choices i
+  pub each : (k : ℕ) (choice : Choice) → slice_get choices k ≡ Some choice → IsChoice scope p moves choice
+  pub below : (k : ℕ) (choice : Choice) → slice_get choices k ≡ Some choice → choice.actor < n
+  pub apart : (k l : ℕ) (choice other : Choice) → slice_get choices k ≡ Some choice → slice_get choices l ≡ Some other → choice.actor ≡ other.actor → k ≡ l
+
+choice_on : (scope : Scope) (p : Point) (moves new : List Move) (choice : Choice) → Keeps moves new → IsChoice scope p moves choice → IsChoice scope p new choice
+choice_on scope p moves new choice keeps is = record { may = is.may; marks = is.marks; move = of_on moves new choice.actor choice.at keeps is.move }
+
+module _ (scope : Scope) (p : Point) where
+  -- whom a stand may have next, when its world's moves have grown
+  pub choices_on : (moves new : List Move) (choices : List Choice) → Keeps moves new → AreChoices scope p moves choices → AreChoices scope p new choices
+  choices_on moves new choices keeps are = record {
+    all = are.all;
+    each = λ k choice there. choice_on scope p moves new choice keeps (are.each k choice there);
+    apart = are.apart;
+  }
+
+  module _ (moves : List Move) (n : ℕ) (choices : List Choice) (are : AreChoicesBelow scope p moves n choices) where
+    less : (k : ℕ) (choice : Choice) → slice_get choices k ≡ Some choice → choice.actor < n + 1
+    less k choice there = let lt : choice.actor < n = are.below k choice there in omega arith
+
+    -- that actor may not have the next turn
+    pub choices_other : (MayGo scope p n → ⊥) → AreChoicesBelow scope p moves (n + 1) choices
+    choices_other not_so = record {
+      all = λ i lt may. ⊎_elim (λ l. are.all i l may) (λ e. absurd (not_so (subst (λ j. MayGo scope p j) e may))) (at_or_below i n lt);
+      each = are.each;
+      below = less;
+      apart = are.apart;
+    }
+
+    -- it may, and this is its choice
+    module _ (new : List Move) (keeps : Keeps moves new) (choice : Choice) (is : IsChoice scope p new choice) (own : choice.actor ≡ n) where
+      later : (i : ℕ) → IsChosen choices i → IsChosen (choices ++ choice ∷ []) i
+      later i found = (found.0, (found.1.0, (keeps_push choices choice found.0 found.1.0 found.1.1.0, found.1.1.1)))
+
+      clash : (k l : ℕ) (c d : Choice) → slice_get choices k ≡ Some c → d ≡ choice → c.actor ≡ d.actor → k ≡ l
+      clash k l c d there e q =
+          let lt : c.actor < n = are.below k c there in
+          let same : c.actor ≡ n = q ∙ (ap (λ (x : Choice). x.actor) e ∙ own) in
+          absurd (omega (arith, lt, same))
+
+      pub choices_more : AreChoicesBelow scope p new (n + 1) (choices ++ choice ∷ [])
+      choices_more = record {
+        all = λ i lt may. ⊎_elim (λ l. later i (are.all i l may))
+            (λ e. (length choices, (choice, (slice_get-last choices choice, own ∙ sym e)))) (at_or_below i n lt);
+        each = λ k c there. ⊎_elim (λ was. choice_on scope p moves new c keeps (are.each k c was))
+            (λ last. subst (λ (x : Choice). IsChoice scope p new x) (sym last.1) is) (get_push choices choice k c there);
+        below = λ k c there. ⊎_elim (less k c)
+            (λ last. let e : c.actor ≡ n = ap (λ (x : Choice). x.actor) last.1 ∙ own in omega (arith, e)) (get_push choices choice k c there);
+        apart = λ k l c d here there q.
+            ⊎_elim
+            (λ h. ⊎_elim (λ t. are.apart k l c d h t q) (λ t. clash k l c d h t.1 q) (get_push choices choice l d there))
+            (λ h. ⊎_elim (λ t. sym (clash l k d c t h.1 (sym q))) (λ t. h.0 ∙ sym t.0) (get_push choices choice l d there))
+            (get_push choices choice k c here);
+      }
+
+  pub busy_within : (seats : List Seat) (i : ℕ) → is_busy_at seats i ≡ true → i < length seats
+  busy_within seats i busy = by (slice_get seats i) refl busy
+    where
+      by : (seat : Option Seat) → slice_get seats i ≡ seat → is_busy_in seat ≡ true → i < length seats
+      by None e b = absurd (false≢true b)
+      by (Some seat) e b = slice_get_within seats i seat e
+
+  -- all actors have been asked
+  pub choices_all : (moves : List Move) (n : ℕ) (choices : List Choice) → n ≡ length p.world.seats → AreChoicesBelow scope p moves n choices → AreChoices scope p moves choices
+  choices_all moves n choices e are = record {
+    all = λ i may. are.all i (subst (λ m. i < m) (sym e) (busy_within p.world.seats i may.busy)) may;
+    each = are.each;
+    apart = are.apart;
+  }
+
+-- a move from a stand is one that was there, or its own
+pub one_of : (scope : Scope) (stand : ℕ) (p : Point) (i : ℕ) (one : Move) → MayGo scope p i → one ≡ record { stand = stand; actor = i } → IsOneOf scope stand p one
+one_of scope stand p i one may is = record {
+  from = ap (λ (x : Move). x.stand) is;
+  may = subst (λ j. MayGo scope p j) (sym (ap (λ (x : Move). x.actor) is)) may;
+}
+
+-- ---- no moves yet
+
+-- ---- one stand after another
+
+module _ (scope : Scope) (layer : LayerView) (moves new : List (Vec Move)) (m : ℕ) (row grown : Vec Move) (was : slice_get moves m ≡ Some row)
+    (set : new ≡ slice_set moves m grown) (keeps : Keeps row.items grown.items) where
+  each_row : (k : ℕ) (those : Vec Move) → slice_get new k ≡ Some those → ((k ≡ m) × (those ≡ grown)) ⊎ (slice_get moves k ≡ Some those)
+  each_row k those there =
+      ⊎_elim (λ h. inl h) (λ h. inr h.1) (get_set moves m k grown those (ap (λ (xs : List (Vec Move)). slice_get xs k) (sym set) ∙ there))
+
+  module _ (s : ℕ) (stand : Stand) (live : LiveView) (here : slice_get layer.stands s ≡ Some stand) (at : stand.world ≡ m)
+      (on : slice_get layer.worlds stand.world ≡ Some live)
+      (own : (j : ℕ) (one : Move) → slice_get grown.items j ≡ Some one → (slice_get row.items j ≡ Some one) ⊎ IsOneOf scope s (point_at live stand) one) where
+    from_here : (one : Move) → IsOneOf scope s (point_at live stand) one → IsMoveFrom scope layer m one
+    from_here one is = record {
+      stand = stand;
+      live = live;
+      there = ap (slice_get layer.stands) is.from ∙ here;
+      same = at;
+      on = ap (slice_get layer.worlds) (sym at) ∙ on;
+      may = is.may;
+    }
+
+    pub moves_more : AreMoves scope layer moves → AreMoves scope layer new
+    moves_more are = record {
+      many = ap length set ∙ (length_set moves m grown ∙ are.many);
+      each = λ k those j one there there_in. ⊎_elim
+          (λ h. subst (λ n. IsMoveFrom scope layer n one) (sym h.0)
+          (⊎_elim (are.each m row j one was) (from_here one)
+          (own j one (ap (λ (v : Vec Move). slice_get v.items j) (sym h.1) ∙ there_in))))
+          (λ h. are.each k those j one h there_in)
+          (each_row k those there);
+    }
+
+  -- the choices of the stands before
+  pub first_on : (all : List (Vec Choice)) → AreFirstChoices scope layer moves all → AreFirstChoices scope layer new all
+  first_on all are s stand live those choices here on there is = ⊎_elim
+      (λ h. choices_on scope (point_at live stand) row.items those.items choices.items
+      (subst (λ (v : Vec Move). Keeps row.items v.items) (sym h.1) keeps)
+      (are s stand live row choices here on (ap (slice_get moves) h.0 ∙ was) is))
+      (λ h. are s stand live those choices here on h is)
+      (each_row stand.world those there)
+
+pub first_more : (scope : Scope) (layer : LayerView) (moves : List (Vec Move)) (all new : List (Vec Choice)) (choices : Vec Choice) (stand : Stand) (live : LiveView) (those : Vec Move)
+    → new ≡ all ++ choices ∷ [] → slice_get layer.stands (length all) ≡ Some stand → slice_get layer.worlds stand.world ≡ Some live → slice_get moves stand.world ≡ Some those
+    → AreChoices scope (point_at live stand) those.items choices.items → AreFirstChoices scope layer moves all → AreFirstChoices scope layer moves new
+first_more scope layer moves all new choices stand live those is here on there own are s st l mvs cs st_here l_on mvs_there cs_there = ⊎_elim
+    (are s st l mvs cs st_here l_on mvs_there)
+    (λ last.
+    let same : stand ≡ st = same_Some stand st (sym here ∙ (ap (slice_get layer.stands) (sym last.0) ∙ st_here)) in
+    let alive : live ≡ l = same_Some live l (sym on ∙ (ap (λ (x : Stand). slice_get layer.worlds x.world) same ∙ l_on)) in
+    let row : those ≡ mvs = same_Some those mvs (sym there ∙ (ap (λ (x : Stand). slice_get moves x.world) same ∙ mvs_there)) in
+    subst (λ (c : Vec Choice). AreChoices scope (point_at l st) mvs.items c.items) (sym last.1)
+    (subst (λ (x : Stand). AreChoices scope (point_at l x) mvs.items choices.items) same
+    (subst (λ (x : LiveView). AreChoices scope (point_at x stand) mvs.items choices.items) alive
+    (subst (λ (x : Vec Move). AreChoices scope (point_at live stand) x.items choices.items) row own))))
+    (get_push all choices s cs (ap (λ (xs : List (Vec Choice)). slice_get xs s) (sym is) ∙ cs_there))
+
+-- ---- what the moves allow
+
+pub few_up : (marks : Marks) (n : ℕ) → n + 1 < 2 ^ 40 → AreWithin marks n → AreWithin marks (2 ^ 40)
+few_up marks n lt within =
+    let a : marks.cuts ≤ n = within.cuts in
+    let b : marks.changes ≤ n = within.changes in
+    record { cuts = omega (arith, a, lt); changes = omega (arith, b, lt) }
+
+-- the layer's worlds can be gone on from
+pub can_go_on : (scope : Scope) (layer : LayerView) (moves : List (Vec Move)) (n : ℕ) → n + 1 < 2 ^ 40 → AreOn n layer → AreMoves scope layer moves
+    → CanGoOn layer.stands layer.worlds moves
+can_go_on scope layer moves n lt on are = record {
+  many = are.many;
+  at = λ m those there j one here. let from = are.each m those j one there here in
+      (from.stand, (from.there, few_up from.stand.marks n lt (on.stands one.stand from.stand from.there).few));
+  actors = on.actors;
+}
+
+-- ---- one stand of the layer, and its world
+
+pub read_at : {A : Type 0} (xs ys : List A) (i : ℕ) (x : A) → xs ≡ ys → x ≡ get_or xs i x → i < length ys → slice_get ys i ≡ Some x
+read_at xs ys i x e q lt = slice_get_read ys (length ys) i x refl lt (subst (λ zs. x ≡ get_or zs i x) e q)
+
+pub set_there : {A : Type 0} (xs : List A) (i : ℕ) (x y : A) → slice_get xs i ≡ Some y → slice_get (slice_set xs i x) i ≡ Some x
+set_there [] i x y e = absurd (none-some y e)
+set_there (z ∷ zs) zero x y e = refl
+set_there (z ∷ zs) (suc i) x y e = set_there zs i x y e
+
+module _ (scope : Scope) (layer : LayerView) (moves : List (Vec Move)) (s : ℕ) (stand : Stand) (live : LiveView) (row grown : Vec Move)
+    (here : slice_get layer.stands s ≡ Some stand) (on : slice_get layer.worlds stand.world ≡ Some live) (was : slice_get moves stand.world ≡ Some row)
+    (keeps : Keeps row.items grown.items)
+    (own : (j : ℕ) (one : Move) → slice_get grown.items j ≡ Some one → (slice_get row.items j ≡ Some one) ⊎ IsOneOf scope s (point_at live stand) one) where
+  pub moves_grown : AreMoves scope layer moves → AreMoves scope layer (slice_set moves stand.world grown)
+  moves_grown are = moves_more scope layer moves (slice_set moves stand.world grown) stand.world row grown was refl keeps s stand live here refl on own are
+
+  pub choices_grown : (all new : List (Vec Choice)) (choices : Vec Choice) → length all ≡ s → new ≡ all ++ choices ∷ []
+      → AreChoices scope (point_at live stand) grown.items choices.items → AreFirstChoices scope layer moves all
+      → AreFirstChoices scope layer (slice_set moves stand.world grown) new
+  choices_grown all new choices long is are before =
+      first_more scope layer (slice_set moves stand.world grown) all new choices stand live grown is (ap (slice_get layer.stands) long ∙ here) on
+      (set_there moves stand.world grown row was) are
+      (first_on scope layer moves (slice_set moves stand.world grown) stand.world row grown was refl keeps all before)
