@@ -1,20 +1,20 @@
 -- A call's lines in a window: each is an event at a moment, and between these moments the actor does nothing.
-use Rattle.std.specs.Prelude.{◌≡◌, ℕ, zero, suc, ◌+◌, ◌-◌, ◌≤◌, ◌==◌, ◌⊎◌, List, [], ◌∷◌, Bool, true, false, slice_get, Some, refl}
+use Rattle.std.specs.Prelude.{◌≡◌, ℕ, zero, suc, ◌-◌, ◌≤◌, ◌==◌, ◌⊎◌, List, [], ◌∷◌, Bool, true, false, Some, refl}
 use Rattle.std.proofs.Common.{sym, ap, ◌∙◌, inl, inr, le_refl, le_trans, not-suc-le-zero, le_of_suc-le-suc, arith}
 use Rattle.std.proofs.Math.Nat.{le-suc}
-use Rattle.std.proofs.lemmas.Bool.{eqb-false}
 use Rattle.tree_model.specs.declared.answer.Answer.{Answer}
 use Rattle.tree_model.specs.declared.answer.Event.{Event}
 use Rattle.tree_model.specs.declared.step.StepOf.{StepOf}
 use Rattle.tree_model.specs.State.{State}
 use Rattle.tree_model.specs.Steps.{outcome, held}
-use Rattle.tree_model.specs.History.{IsLegal, after_event, after_events, tree_at}
+use Rattle.tree_model.specs.History.{IsLegal, after_event}
 use Rattle.tree_model.specs.StepLaws.{OthersHandlesStay}
 use Rattle.step_resolver.specs.Trail.{is_by}
 use Rattle.step_resolver.specs.Order.{Line, answered, no_room, not_made, events_of}
 use Rattle.step_resolver.specs.WalkHistory.{WalkInHistory, begin_of, end_of, state_at, timeline, own_events}
 use Rattle.step_resolver.proofs.Underway.WalkInvariant.{StepAt, held_at}
-use Rattle.bulk_ops.proofs.OwnEvents.{own_first, own_later, cons_not_nil, same_head, same_tail}
+use Rattle.step_resolver.proofs.Underway.LegalHistory.{IsRest, one_less, cons_not_nil, same_head, same_tail, other_keeps, whole_rest}
+use Rattle.bulk_ops.proofs.OwnEvents.{own_first, own_later}
 
 -- from m on the actor does nothing before t
 pub record IsAlone (w : WalkInHistory) (m t : ℕ) : Type 0 where
@@ -60,19 +60,6 @@ pub not_below : (k : ℕ) → suc k ≤ k → ⊥
 not_below zero le = not-suc-le-zero le
 not_below (suc k) le = not_below k (le_of_suc-le-suc le)
 
--- these events are what is left of the window at moment m, in the state as it is then
-record IsRest (w : WalkInHistory) (m : ℕ) (s : State) (rest : List Event) : Type 0 where
-  pub states : (j k : ℕ) → j ≡ m + k → state_at w j ≡ tree_at s rest k
-  pub events : (j k : ℕ) → j ≡ m + k → slice_get w.window j ≡ slice_get rest k
-  pub ends : end_of w ≡ after_events s rest
-
-one_less : {w : WalkInHistory} {m : ℕ} {s : State} {event : Event} {rest : List Event} → IsRest w m s (event ∷ rest) → IsRest w (suc m) (after_event s event) rest
-one_less is = record {
-  states = λ j k e. is.states j (suc k) (omega arith);
-  events = λ j k e. is.events j (suc k) (omega arith);
-  ends = is.ends;
-}
-
 -- the next event, and what is left after it
 record IsNext (w : WalkInHistory) (n : ℕ) (step : StepOf ℕ) (answer : Answer) (others : List Event) : Type 0 where
   pub t : ℕ
@@ -93,9 +80,6 @@ module _ (others_stay : OthersHandlesStay) (w : WalkInHistory) where
   is_own : (event : Event) (rest : List Event) (others : List Event) → (event.actor == w.actor) ≡ true → own_events w.actor (event ∷ rest) ≡ others
       → event ∷ own_events w.actor rest ≡ others
   is_own event rest others q e = sym (own_first w.actor event rest q) ∙ e
-
-  other_keeps : (s : State) (event : Event) → (event.actor == w.actor) ≡ false → (h : ℕ) → held (after_event s event) w.actor h ≡ held s w.actor h
-  other_keeps s event e h = others_stay s event.actor event.step w.actor h (λ q. eqb-false event.actor w.actor e (sym q))
 
   -- one moment more without an own event
   longer : {n m : ℕ} → IsAlone w n m → (timeline w).is_own m ≡ false → IsAlone w n (suc m)
@@ -123,7 +107,7 @@ module _ (others_stay : OthersHandlesStay) (w : WalkInHistory) where
       on : (b : Bool) → (event.actor == w.actor) ≡ b
           → (((h : ℕ) → held (after_event s event) w.actor h ≡ held_at w n h) → IsAlone w n (suc m) → own_events w.actor rest ≡ [] → Rests w n) → Rests w n
       on true q more = absurd (cons_not_nil event (own_events w.actor rest) (is_own event rest [] q e))
-      on false q more = more (λ h. other_keeps s event q h ∙ kept h) (longer alone (at_first is ∙ q)) (not_own event rest [] q e)
+      on false q more = more (λ h. other_keeps others_stay w.actor s event q h ∙ kept h) (longer alone (at_first is ∙ q)) (not_own event rest [] q e)
 
   next_event : (rest : List Event) (m n : ℕ) (s : State) (step : StepOf ℕ) (answer : Answer) (others : List Event) → n ≤ m → IsRest w m s rest → IsLegal s rest
       → ((h : ℕ) → held s w.actor h ≡ held_at w n h) → IsAlone w n m
@@ -169,7 +153,7 @@ module _ (others_stay : OthersHandlesStay) (w : WalkInHistory) where
       on true q more =
           let f = is_own event rest (record { actor = w.actor; step = step; answer = answer } ∷ others) q e in
           own_step q (same_head event _ (own_events w.actor rest) others f) (same_tail event _ (own_events w.actor rest) others f)
-      on false q more = more (λ h. other_keeps s event q h ∙ kept h) (longer alone (at_first is ∙ q)) (not_own event rest _ q e)
+      on false q more = more (λ h. other_keeps others_stay w.actor s event q h ∙ kept h) (longer alone (at_first is ∙ q)) (not_own event rest _ q e)
 
   -- nothing lies between a moment and itself
   at_once : (m : ℕ) → IsAlone w m m
@@ -188,13 +172,4 @@ module _ (others_stay : OthersHandlesStay) (w : WalkInHistory) where
 
   -- the lines happen in the window
   pub lines_happen : IsLegal (begin_of w) w.window → own_events w.actor w.window ≡ events_of w.actor w.lines → HappensAlone w 0 w.lines
-  lines_happen legal own = happen w.lines w.window 0 0 (begin_of w) (le_refl 0)
-      (record {
-        states = λ j k e. ap (state_at w) (same_number j k e);
-        events = λ j k e. ap (slice_get w.window) (same_number j k e);
-        ends = refl;
-      })
-      legal (λ h. refl) (at_once 0) own
-    where
-      same_number : (j k : ℕ) → j ≡ 0 + k → j ≡ k
-      same_number j k e = omega arith
+  lines_happen legal own = happen w.lines w.window 0 0 (begin_of w) (le_refl 0) (whole_rest w) legal (λ h. refl) (at_once 0) own

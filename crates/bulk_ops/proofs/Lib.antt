@@ -1,6 +1,5 @@
 pub mod OwnEvents
 pub mod Happening
-pub mod Refusals
 pub mod MakeAllNames
 pub mod MakeAllSteps
 pub mod RemovingAll

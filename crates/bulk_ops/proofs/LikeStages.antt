@@ -1,11 +1,12 @@
 -- What comparing two calls to MkdirAll comes to, by the kind of the step that is due, and by the names.
 use Rattle.std.specs.Prelude.{◌≡◌, ◌<◌, ◌≤◌, ℕ, List, [], ◌∷◌, ◌++◌, length, take, drop, reverse, refl}
 use Rattle.std.proofs.Common.{ap, sym, ◌∙◌, arith}
-use Rattle.std.proofs.lemmas.List.{reverse-reverse, take-append-drop, length-drop, length-take}
+use Rattle.std.proofs.lemmas.List.{take-append-drop, length-drop, length-take}
 use Rattle.std.specs.Global.{Global}
 use Rattle.std.specs.Prelude.{Box}
 use Rattle.handles.specs.Objects.{ReachedObject}
 use Rattle.step_resolver.specs.Order.{Handle}
+use Rattle.step_resolver.proofs.Underway.AfterParent.{reversed_same}
 use Rattle.bulk_ops.specs.MakeAllOrder.{Making, walking, making, opening, leaving, ending, closing}
 use Rattle.bulk_ops.specs.MakeAllView.{IsStage, making_of, at_next, to_come}
 use Rattle.bulk_ops.specs.Renamed.{handle_by, making_by, LikeMaking}
@@ -16,12 +17,9 @@ use Rattle.bulk_ops.specs.declared.make_all.Stage.TheVariants.{Walking, Making a
 
 -- ---- names
 
-pub same_reversed : (names names' : List (List ℕ)) → reverse names ≡ reverse names' → names ≡ names'
-same_reversed names names' e = sym (reverse-reverse names) ∙ (ap reverse e ∙ reverse-reverse names')
-
 module _ (names names' : List (List ℕ)) (done done' : ℕ) (within : done ≤ length names) (within' : done' ≤ length names') (passed : reverse (take done names) ≡ reverse (take done' names')) where
   taken_alike : take done names ≡ take done' names'
-  taken_alike = same_reversed (take done names) (take done' names') passed
+  taken_alike = reversed_same (take done names) (take done' names') passed
 
   pub same_count_passed : done ≡ done'
   same_count_passed = omega (arith, ap length taken_alike, length-take done names, length-take done' names')
@@ -35,7 +33,7 @@ like_endings m m' held held' names names' e e' same = (
   (λ q. let ends : making_by (λ h. 0) (ending held (reverse names)) ≡ making_by (λ h. 0) (ending held' (reverse names')) = cc (ap reverse q) in
       ap (making_by (λ h. 0)) e ∙ (ends ∙ sym (ap (making_by (λ h. 0)) e'))),
   (λ like. let ends : making_by (λ h. 0) (ending held (reverse names)) ≡ making_by (λ h. 0) (ending held' (reverse names')) = sym (ap (making_by (λ h. 0)) e) ∙ (like ∙ ap (making_by (λ h. 0)) e') in
-      same_reversed names names' (cc)),
+      reversed_same names names' (cc)),
 )
 
 -- ---- kinds of steps

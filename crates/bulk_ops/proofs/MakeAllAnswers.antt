@@ -30,10 +30,11 @@ use Rattle.step_resolver.proofs.Underway.WalkInvariant.{Lived, StepAt, held_at, 
 use Rattle.step_resolver.proofs.Underway.HandleCount.{few_held}
 use Rattle.step_resolver.proofs.Underway.HandlesHeld.{handles_swapped, kept_on, more_on}
 use Rattle.step_resolver.proofs.Underway.LegalHistory.{TreeLaws}
+use Rattle.step_resolver.proofs.Underway.NextPart.{a_directory, no_directory}
 use Rattle.bulk_ops.specs.MakeAllOrder.{making, opening, leaving, ending, closing, MakeTurn, more, made, rest_fault, rest_names, gives_up, take, enters}
 use Rattle.bulk_ops.specs.MakeAllTells.{into, AtName, LeavesNodes, Reach, not_begun, begun, MayDo, MakingCause, full, gone, missing, not_directory, astray}
 use Rattle.bulk_ops.proofs.Happening.{IsAlone}
-use Rattle.bulk_ops.proofs.MakeAllGood.{DidUntil, Chained, OnWay, Failing, GoodCall, GoodTurn, did_further, gives_up_good, goes_down_good, dir_of_kind, no_dir_of_kind, chained_later, MakeCase, dir_gone, is_there, no_number, is_made, make_case, BelowCase, stands_there, stands_elsewhere, stands_nowhere, below_case, below_kept, below_nodes}
+use Rattle.bulk_ops.proofs.MakeAllGood.{DidUntil, Chained, OnWay, Failing, GoodCall, GoodTurn, did_further, gives_up_good, goes_down_good, chained_later, MakeCase, dir_gone, is_there, no_number, is_made, make_case, BelowCase, stands_there, stands_elsewhere, stands_nowhere, below_case, below_kept, below_nodes}
 
 -- each name of a rest without fault is short enough
 not_empty : (xs : List (List ℕ)) (n : List ℕ) (ys : List (List ℕ)) → [] ≡ xs ++ n ∷ ys → ⊥
@@ -167,12 +168,12 @@ module _ {w : WalkInHistory} (lived : Lived w) (now t : ℕ) (held : Handle) (na
             split = c.split ∙ sym (append_assoc (reverse c.passed) (n ∷ []) left) ∙ ap (λ (ns : List (List ℕ)). ns ++ left) (sym (reverse-append (n ∷ []) c.passed));
             to = down_to c.to x n (suc t);
             down = into n t x c.down (record { dir = c.dir; short = short; at = own_earlier (timeline w) c.past is.at; child = child_there })
-                (ap is_directory (lived.objects t x what is_what) ∙ dir_of_kind what dir);
+                (ap is_directory (lived.objects t x what is_what) ∙ a_directory what dir);
             node = refl;
             at_names = ap (λ (ns : List (List ℕ)). n ∷ ns) c.at_names;
             names_are = ap (λ (ns : List (List ℕ)). n ∷ ns) c.names_are;
             past = le_refl (suc t);
-            dir = ap is_directory (lived.objects t x what is_what) ∙ dir_of_kind what dir;
+            dir = ap is_directory (lived.objects t x what is_what) ∙ a_directory what dir;
             kind = dir;
             is_held = new_held;
           };
@@ -186,7 +187,7 @@ module _ {w : WalkInHistory} (lived : Lived w) (now t : ℕ) (held : Handle) (na
       not_in other = record {
         reach = begun way.p;
         did = did_now;
-        cause = (c.whole, not_directory c.to n t x (at_name (Open held.number n) is) child_there (ap is_directory (lived.objects t x what is_what) ∙ no_dir_of_kind what other));
+        cause = (c.whole, not_directory c.to n t x (at_name (Open held.number n) is) child_there (ap is_directory (lived.objects t x what is_what) ∙ no_directory what other));
         handles = handles_now;
       }
 

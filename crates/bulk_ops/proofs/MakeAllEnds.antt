@@ -16,13 +16,13 @@ use Rattle.step_resolver.specs.Meaning.{LINKS_MAX}
 use Rattle.step_resolver.specs.Trail.{Trail}
 use Rattle.step_resolver.specs.Order.{Way, Handle, root_itself, holds, todo, Walking, IsWant, is_dir_kind, end_of, goes_on, Line, answered, no_room, not_made}
 use Rattle.step_resolver.specs.Order as walk
-use Rattle.step_resolver.specs.WalkHistory.{WalkInHistory, IsWalkInHistory, state_at, timeline, parts_of_walk, start}
+use Rattle.step_resolver.specs.WalkHistory.{WalkInHistory, state_at, timeline, parts_of_walk, start}
 use Rattle.step_resolver.specs.WalkHistory as history
 use Rattle.step_resolver.specs.Failures.{TellsError, TellsWant, MetRefusal}
 use Rattle.step_resolver.specs.Headline.{IsNewHandle}
 use Rattle.step_resolver.proofs.Trail.Joined.{own_earlier}
 use Rattle.step_resolver.proofs.Underway.WalkInvariant.{Lived, StepAt, held_at, HandlesAre, handles_kept, root_open, IsHeld, held_kept, spot_at, Going, no_stop, trail_at, EndsAt, at_all, at_missing, GoodEnd, GoodWalk, FoundAt, Good}
-use Rattle.step_resolver.proofs.Underway.NextPart.{goes_on_good}
+use Rattle.step_resolver.proofs.Underway.NextPart.{goes_on_good, no_directory as no_kind_of_dir}
 use Rattle.step_resolver.proofs.Underway.AfterDupAndClose.{not_made_good}
 use Rattle.step_resolver.proofs.Underway.LegalHistory.{lived}
 use Rattle.step_resolver.proofs.Ends.EachEnd.{take_good}
@@ -30,7 +30,7 @@ use Rattle.step_resolver.proofs.Ends.EveryWalk.{tree_laws}
 use Rattle.bulk_ops.specs.MakeAllOrder.{Making, walking, making, opening, leaving, ending, closing, MakeTurn, more, made, failed, begins, rest_fault, rest_names, gives_up, begins_to_make, after_walk, take, due, is_closing, LeadsTo}
 use Rattle.bulk_ops.specs.MakeAllTells.{stays, DeepestAt, start_of, Reach, not_begun, begun, MayDo, Did, of_walk, no_directory, of_rest, for_want, MadeEnd, MakeTells, MakesTell}
 use Rattle.bulk_ops.proofs.Happening.{IsAlone, Rests, HappensAlone, before_or_from, lines_happen}
-use Rattle.bulk_ops.proofs.MakeAllGood.{DidUntil, OnWay, Failing, MadeBy, GoodCall, GoodTurn, did_further, goes_down_good, kind_of_dir, no_dir_of_kind, BelowCase, stands_there, stands_elsewhere, stands_nowhere, below_case, below_kept}
+use Rattle.bulk_ops.proofs.MakeAllGood.{DidUntil, OnWay, Failing, MadeBy, GoodCall, GoodTurn, did_further, goes_down_good, kind_of_dir, BelowCase, stands_there, stands_elsewhere, stands_nowhere, below_case, below_kept}
 use Rattle.bulk_ops.proofs.MakeAllAnswers.{making_good, opening_good, leaving_good, closing_good, ending_good}
 use Rattle.bulk_ops.proofs.MakeAllSteps.{GoesOnWithin, IsEnding, take_within, begun_within, refused_within}
 
@@ -65,7 +65,7 @@ module _ {w : WalkInHistory} (lived_ : Lived w) where
         reach = not_begun;
         did = did;
         cause = no_directory (spot_at w (holds handle names) f.links f.m) f.held.what (found_trail f) f.held.is_what
-            (no_dir_of_kind f.held.what (ap is_dir_kind f.held.kind ∙ e));
+            (no_kind_of_dir f.held.what (ap is_dir_kind f.held.kind ∙ e));
         handles = f.handles;
       }
 

@@ -16,13 +16,13 @@ use Rattle.tree_model.specs.declared.tree.TheConstants.{NUMBERS_MAX}
 use Rattle.tree_model.specs.State.{State, Stands, child, is_dir, is_directory, is_gone, names_below}
 use Rattle.tree_model.specs.Entries.{refuse_if, with_some, makes}
 use Rattle.tree_model.specs.Steps.{Outcome, outcome, refused, changes, shows, held, kind_of}
+use Rattle.tree_model.proofs.Standing.{Stands-names_below}
+use Rattle.tree_model.proofs.PlaceLaws.{below_is}
 use Rattle.step_resolver.specs.Trail.{Spot}
 use Rattle.step_resolver.specs.Order.{Handle, is_dir_kind}
 use Rattle.step_resolver.specs.WalkHistory.{WalkInHistory, state_at, timeline}
 use Rattle.step_resolver.specs.Headline.{StoodAt}
 use Rattle.handles.proofs.SameNames.{same_where_equal}
-use Rattle.step_resolver.proofs.Meaning.NodesAtEntries.{names_below-stands}
-use Rattle.step_resolver.proofs.Underway.StepOutcomes.{below_is}
 use Rattle.step_resolver.proofs.Underway.WalkInvariant.{Lived, StepAt, held_at, HandlesAre, IsHeld, held_kept, GoodWalk, FoundAt}
 use Rattle.step_resolver.proofs.Underway.AfterParent.{names_same, reversed_same}
 use Rattle.step_resolver.proofs.Underway.HandlesHeld.{kept_on}
@@ -114,20 +114,10 @@ pub goes_down_good : {w : WalkInHistory} {now : ℕ} (held : Handle) (names left
 goes_down_good held names [] way = way
 goes_down_good held names (n ∷ left) way = way
 
-pub dir_of_kind : (what : Object) → is_dir_kind (kind_of what) ≡ true → is_directory (Some what) ≡ true
-dir_of_kind Dir e = refl
-dir_of_kind File e = e
-dir_of_kind (Link text) e = e
-
 pub kind_of_dir : (what : Object) → is_directory (Some what) ≡ true → is_dir_kind (kind_of what) ≡ true
 kind_of_dir Dir e = refl
 kind_of_dir File e = e
 kind_of_dir (Link text) e = e
-
-pub no_dir_of_kind : (what : Object) → is_dir_kind (kind_of what) ≡ false → is_directory (Some what) ≡ false
-no_dir_of_kind Dir e = e
-no_dir_of_kind File e = refl
-no_dir_of_kind (Link text) e = refl
 
 abbrev pub chained_later : {w : WalkInHistory} {now k : ℕ} {p : DeepestAt w} {held : Handle} {names left : List (List ℕ)} → now ≤ k
     → ((h : ℕ) → held_at w k h ≡ held_at w now h) → Chained w now p held names left → Chained w k p held names left
@@ -226,7 +216,7 @@ module _ {w : WalkInHistory} (lived : Lived w) (m u h node : ℕ) (names : List 
       on_test : (told : List (List ℕ)) → names_below (state_at w u).nodes w.root node ≡ Some told → (b : Bool) → same_names (reverse told) (reverse names) ≡ b
           → BelowCase w u node names answer
       on_test told q true e = stands_there (reverse told) (answer_is (Some told) q) e
-          (names_below-stands (state_at w u).nodes w.root node names (q ∙ ap Some (reversed_same told names (names_same (reverse told) (reverse names) e))))
+          (Stands-names_below (state_at w u).nodes w.root node names (q ∙ ap Some (reversed_same told names (names_same (reverse told) (reverse names) e))))
       on_test told q false e = stands_elsewhere (reverse told) (answer_is (Some told) q) e
           (λ stands. false≢true (sym e ∙ same_where_equal (reverse told) (reverse names) (ap reverse (same_Some told names (sym q ∙ lived.below u node names stands)))))
 

@@ -1,8 +1,8 @@
 -- The names of a path's rest, those that are expected at the end, and what the answers make of the next one.
 use Rattle.std.specs.Prelude.{◌≡◌, ◌≢◌, ℕ, zero, suc, ◌<◌, List, [], ◌∷◌, ◌++◌, Bool, true, false, length, take, drop, reverse, slice_get, Option, Some, None, if◌then◌else◌, refl}
-use Rattle.std.proofs.Common.{sym, ap, subst, ◌∙◌, not-suc-le-zero, le_of_suc-le-suc}
-use Rattle.std.proofs.lemmas.List.{reverse-append, reverse-reverse}
-use Rattle.std.proofs.lemmas.Option.{same_Some}
+use Rattle.std.proofs.Common.{◌+◌, sym, ap, subst, ◌∙◌, not-suc-le-zero, le_of_suc-le-suc}
+use Rattle.std.proofs.lemmas.List.{drop_more, reverse-append, reverse-reverse}
+use Rattle.std.proofs.lemmas.Option.{same_Some, slice_get_within, get_or_from_slice_get}
 use Rattle.path_text.specs.declared.errno.Errno.{Errno}
 use Rattle.path_text.specs.declared.errno.Errno.TheVariants.{Exists, NotDir, TooLong, Raced, NoMemory}
 use Rattle.path_text.specs.declared.part.Part.{Part}
@@ -58,6 +58,15 @@ named n whole short = on (is_component n) refl
     on : (b : Bool) → is_component n ≡ b → name_fault n ≡ None
     on true e = rw (e, short) refl
     on false e = cc (rw e at whole)
+
+-- what is left of the rest begins with the part at that place
+pub part_at : (rest : List Part) (at : ℕ) (p : Part) → slice_get rest at ≡ Some p → drop at rest ≡ p ∷ drop (at + 1) rest
+part_at rest at p e = drop_more rest at p (slice_get_within rest at p e) ∙ ap (λ (q : Part). q ∷ drop (at + 1) rest) (get_or_from_slice_get rest at p p e)
+
+-- one more name, which is the next
+pub name_added : (names : List (List ℕ)) (n : List ℕ) (left : List (List ℕ)) → (names ++ n ∷ []) ++ left ≡ names ++ n ∷ left
+name_added [] n left = refl
+name_added (first ∷ names) n left = ap (λ (ns : List (List ℕ)). first ∷ ns) (name_added names n left)
 
 -- ---- the next name
 

@@ -5,7 +5,6 @@ use Rattle.std.proofs.Common.{ap, ◌∙◌, subst, arith, le_refl, le_trans}
 use Rattle.std.proofs.Math.Nat.{le-suc}
 use Rattle.path_text.specs.declared.errno.Errno.{Errno}
 use Rattle.path_text.specs.declared.errno.Errno.TheVariants.{NotFound, Raced, NoMemory, CrossRoot, NotDir, TooLong, Loop, Exists}
-use Rattle.path_text.specs.declared.part.Part.{Part}
 use Rattle.path_text.specs.declared.path.TheConstants.{PARTS_MAX}
 use Rattle.path_text.specs.Names.{same_names}
 use Rattle.path_text.specs.Reading.{Reading}
@@ -22,7 +21,7 @@ use Rattle.step_resolver.specs.TurnView.{STEPS_MAX, turn_view}
 use Rattle.step_resolver.specs.TurnView.{TakesTo as TakesWalk, StartsTo as StartsWalk}
 use Rattle.step_resolver.specs.declared.walk.Turn.{Turn as Outcome}
 use Rattle.walk_plan.specs.declared.goal.Goal.TheVariants.{Deepest}
-use Rattle.step_resolver.proofs.WalkSteps.{FewerThan, take_lowers, a_step_left, begins_few}
+use Rattle.step_resolver.proofs.WalkSteps.{FewerThan, take_lowers, a_step_left, begins_few, asked_length}
 use Rattle.bulk_ops.specs.MakeAllOrder.{Making, walking, MakeTurn, rest_fault, rest_names, goes_down, begins_to_make, after_walk, own_in, own_after, own_here, own_left, steps_left, take, LeadsTo}
 use Rattle.bulk_ops.specs.MakeAllOrder as make
 use Rattle.bulk_ops.specs.MakeAllSteps.{StepsAfterTheWalk}
@@ -351,11 +350,6 @@ taken_fewer way call answer result taken =
 
 -- ---- a call begins with few
 
-asked_few : (follow : Bool) (ps : List Part) → length (asked follow ps) ≡ length ps
-asked_few follow [] = refl
-asked_few follow (p ∷ []) = refl
-asked_few follow (p ∷ q ∷ ps) = ap (λ (k : ℕ). suc k) (asked_few follow (q ∷ ps))
-
 for_walk_few : (k : ℕ) (room : Bool) (turn : walk.Turn) → FewerThan k turn → FewerThan k (for_walk room turn)
 for_walk_few k true turn few = few
 for_walk_few k false (walk.more w) few = tt
@@ -374,7 +368,7 @@ starts_few way room path few =
     let within : EndsWithin (length (asked (follows way.goal) path.parts)) turn =
     ends_within _ _ (for_walk_within _ room (walk.begins way path) (begun_within way path)) in
     stays_fewer (suc STEPS_MAX + (3 * length (asked (follows way.goal) path.parts) + 2)) (suc MAKE_STEPS_MAX) (after_walk room turn)
-    (omega (arith, few, asked_few (follows way.goal) path.parts))
+    (omega (arith, few, asked_length (follows way.goal) path.parts))
     (after_walk_few (suc STEPS_MAX) (length (asked (follows way.goal) path.parts)) room turn (omega arith)
     (for_walk_few (suc STEPS_MAX) room (walk.begins way path) (begins_few way path few)) within)
 

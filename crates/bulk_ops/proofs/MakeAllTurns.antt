@@ -5,17 +5,17 @@ use Rattle.path_text.specs.declared.errno.Errno.{Errno}
 use Rattle.path_text.specs.Reading.{Reading}
 use Rattle.tree_model.specs.declared.answer.Answer.{Answer}
 use Rattle.tree_model.specs.declared.answer.Answer.TheVariants.{Refused}
-use Rattle.step_resolver.specs.Order.{Way, Line, answered, no_room, not_made, IsWant, for_walk}
+use Rattle.step_resolver.specs.Order.{Way, Line, answered, no_room, not_made, for_walk}
 use Rattle.step_resolver.specs.Order as walk
 use Rattle.step_resolver.specs.TurnsTell.{first_lines}
 use Rattle.step_resolver.proofs.FirstTurns.{first_lines_lead}
+use Rattle.step_resolver.proofs.TurnsTell.{refusal_needs_no_room as walk_needs_no_room}
 use Rattle.bulk_ops.specs.MakeAllOrder.{Making, walking, making, opening, leaving, ending, closing, MakeTurn, more, made, failed, after_walk, begins, starts, take, LeadsTo}
 use Rattle.bulk_ops.specs.MakeAllTurnsTell.{IsLineOf, TellsTaken, TellsBegun}
 use Rattle.bulk_ops.specs.MakeAllView.{MakingView, TakesTo, StartsTo}
 use Rattle.bulk_ops.specs.declared.turn.BulkTurn.{BulkTurn}
 use Rattle.bulk_ops.proofs.MakeAllSteps.{GoesOnWithin, begun_within, refused_within, needs_no_room}
 use Rattle.bulk_ops.proofs.MakeAllEnds.{makes_tell}
-use Rattle.bulk_ops.proofs.Refusals.{walk_needs_no_room}
 
 -- lines that lead on from where others led
 leads_on : (way : Way) (lines : List Line) (turn mid : MakeTurn) (others : List Line) (end : MakeTurn) → LeadsTo way turn lines mid → LeadsTo way mid others end → LeadsTo way turn (lines ++ others) end

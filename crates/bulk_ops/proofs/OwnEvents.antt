@@ -1,25 +1,16 @@
 -- An actor's own events among those of others, and a window that is cut where they are.
-use Rattle.std.specs.Prelude.{◌≡◌, ℕ, ◌==◌, List, [], ◌∷◌, ◌++◌, Bool, true, false, cond, refl}
-use Rattle.std.proofs.Common.{sym, ap, ◌∙◌}
+use Rattle.std.specs.Prelude.{◌≡◌, ℕ, suc, ◌==◌, List, [], ◌∷◌, ◌++◌, Bool, true, false, cond, slice_get, Some, refl}
+use Rattle.std.proofs.Common.{sym, ap, ◌∙◌, eq-eqb}
 use Rattle.tree_model.specs.declared.answer.Event.{Event}
 use Rattle.step_resolver.specs.WalkHistory.{own_events}
+use Rattle.step_resolver.proofs.Underway.LegalHistory.{cons_not_nil, same_head, same_tail}
 
-pub cons_not_nil : {A : Type 0} (x : A) (xs : List A) → x ∷ xs ≡ [] → ⊥
-cons_not_nil x xs e = cc (e)
-
-abbrev head_of : {A : Type 0} → A → List A → A
-head_of d [] = d
-head_of d (x ∷ xs) = x
-
-abbrev tail_of : {A : Type 0} → List A → List A
-tail_of [] = []
-tail_of (x ∷ xs) = xs
-
-pub same_head : {A : Type 0} (x y : A) (xs ys : List A) → x ∷ xs ≡ y ∷ ys → x ≡ y
-same_head x y xs ys e = ap (head_of x) e
-
-pub same_tail : {A : Type 0} (x y : A) (xs ys : List A) → x ∷ xs ≡ y ∷ ys → xs ≡ ys
-same_tail x y xs ys e = ap tail_of e
+-- a window in which all events are one actor's is that of its own events
+pub all_own : (a : ℕ) (window : List Event) → ((t : ℕ) (event : Event) → slice_get window t ≡ Some event → event.actor ≡ a) → own_events a window ≡ window
+all_own a [] quiet = refl
+all_own a (event ∷ window) quiet =
+    ap (λ b. cond b (event ∷ own_events a window) (own_events a window)) (eq-eqb event.actor a (quiet 0 event refl))
+    ∙ ap (λ events. event ∷ events) (all_own a window (λ t v e. quiet (suc t) v e))
 
 module _ (a : ℕ) where
   -- an event of the actor's own, or of another

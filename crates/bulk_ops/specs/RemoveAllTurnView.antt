@@ -4,7 +4,7 @@ use Rattle.path_text.specs.Reading.{Reading}
 use Rattle.tree_model.specs.declared.answer.Answer.{Answer}
 use Rattle.step_resolver.specs.Order.{Way, Position, root_itself, holds, Walking, opening, reading, rising, judging, duping, ending}
 use Rattle.step_resolver.specs.Order as walk
-use Rattle.step_resolver.specs.TurnView.{STEPS_MAX}
+use Rattle.step_resolver.specs.TurnView.{STEPS_MAX, IsFirstWalk}
 use Rattle.bulk_ops.specs.declared.remove_all.clearing.TheConstants.{CLEARING_STEPS_MAX}
 use Rattle.bulk_ops.specs.declared.remove_all.phase.Phase.{Phase}
 use Rattle.bulk_ops.specs.declared.remove_all.phase.Phase.TheVariants as phase
@@ -43,17 +43,7 @@ steps_to_come (Failed error) = 0
 abbrev pub REMOVE_STEPS_MAX : ℕ
 REMOVE_STEPS_MAX = STEPS_MAX + (2 * CLEARING_STEPS_MAX + 1)
 
--- nothing is held yet: the first name is opened from the root itself, or the root is opened again
-abbrev pub IsFirstWalk : Walking → Type 0
-IsFirstWalk (opening root_itself own follow n rest) = Unit {0}
-IsFirstWalk (opening (holds handle names) own follow n rest) = ⊥
-IsFirstWalk (reading position link rest) = ⊥
-IsFirstWalk (rising handle names rest) = ⊥
-IsFirstWalk (judging handle names rest) = ⊥
-IsFirstWalk (duping rest) = Unit {0}
-IsFirstWalk (ending handle names rest) = ⊥
-IsFirstWalk (walk.closing h hs after) = ⊥
-
+-- nothing is held yet
 abbrev pub IsFirstPhase : Phase → Type 0
 IsFirstPhase (phase.Walking to) = IsFirstWalk to.walk.walking
 IsFirstPhase (phase.Clearing c) = ⊥

@@ -14,7 +14,6 @@
 //! these alone.
 #![tactic(auto)]
 
-mod answers;
 mod held;
 mod like_laws;
 mod make_all;

@@ -4,13 +4,12 @@ ghost use Rattle.step_resolver.specs.Order.{is_dir_kind};
 ghost use Rattle.bulk_ops.specs.MakeAllOrder.{raced_if_missing};
 ghost use Rattle.bulk_ops.specs.MakeAllView.{fault_in, names_in};
 
-use crate::answers::{check_refusal, refusal_of};
 use crate::turn::BulkTurn;
 use handles::{Reached, Standing};
 use path_text::{Errno, Flags, Name, Names, NoMemory, PARTS_MAX, Part, Parts, Path};
 use std::alloc::Global;
 use std::marker::Model;
-use step_resolver::{Goal, Root, Turn, Walk};
+use step_resolver::{Goal, Root, Turn, Walk, check_refusal, refusal_of};
 use tree_model::{Answer, Kind, Step, StepOf};
 
 mod copy;
@@ -377,13 +376,13 @@ impl Chain {
 }
 
 // Adds the names of these parts.
-#[tactic(auto, using(crate::proofs::MakeAllNames::named))]
+#[tactic(auto, using(crate::proofs::MakeAllNames::named, crate::proofs::MakeAllNames::part_at))]
 fn add_names(names: &mut Names, rest: &Parts) -> Result<(), NoMemory>
     requires { fault_in rest.now ≡ None }
     ensures { OnOk result (names.new ≡ names.old ++ names_in rest.now) }
 {
-    for part in rest.as_slice() {
-        if let Part::Named(name) = part {
+    for at in 0..rest.len() {
+        if let Part::Named(name) = rest.get(at) {
             names.push_bytes(name.bytes())?;
         }
     }
@@ -398,11 +397,12 @@ fn is_directory(kind: Kind) -> bool
 }
 
 // Why nothing is made for these parts: the first that goes up, or is a name that is too long.
+#[tactic(auto, using(crate::proofs::MakeAllNames::part_at))]
 fn fault_in(rest: &Parts) -> Option<Errno>
     ensures { result ≡ fault_in rest.now }
 {
-    for part in rest.as_slice() {
-        match part {
+    for at in 0..rest.len() {
+        match rest.get(at) {
             Part::Cur => {}
             Part::Up => return Some(Errno::NotFound),
             Part::Named(name) => {

@@ -1,6 +1,6 @@
 //! An entry removed with all that is below it.
 ghost use Rattle.std.specs.Prelude.{◌≡◌, ◌<◌, ◌≤◌, false, IfOk, IsOk};
-ghost use Rattle.bulk_ops.specs.RemoveAllTurnView.{IsFirstWalk};
+ghost use Rattle.step_resolver.specs.TurnView.{IsFirstWalk};
 
 use crate::remove_all::clearing::End;
 use crate::remove_all::phase::{Phase, WalkTo};

@@ -69,7 +69,7 @@ impl Bulk for RemoveAll {
     ghost to_come = { steps_to_come };
 
     fn begin(alloc: Global, path: &str, flags: Flags) -> Result<BulkTurn<RemoveAll>, Errno> {
-        let split = Path::parse(alloc, path.as_bytes())?.split_last(Rule::Drop)?;
+        let split = Path::parse(alloc, path.as_bytes())?.split_last(alloc, Rule::Drop)?;
         Ok(RemoveAll::start(alloc, root(0), split.dir, split.name, flags))
     }
 

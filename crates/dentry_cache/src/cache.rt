@@ -19,6 +19,8 @@ pub const CAP_MAX: usize = 65_536;
 #[derive(Debug, Drop)]
 pub struct DentryCache {
     inner: LruCache<Key, Option<Node>>,
+    // the key of the call that is under way, set anew by each
+    sought: Key,
 }
 
 impl Model for DentryCache {
@@ -82,7 +84,10 @@ impl DentryCache {
     {
         let cap = checked_cap(cap)?;
         let inner = LruCache::sparse(alloc, cap).map_err(|_refused| Errno::NoMemory)?;
-        Ok(DentryCache { inner })
+        Ok(DentryCache {
+            inner,
+            sought: Key::blank(),
+        })
     }
 
     /// How many entries are remembered.
@@ -101,8 +106,8 @@ impl DentryCache {
     {
         // Tells that no two keys are equal.
         let _ = self.inner.len();
-        let key = Key::new(dir, name);
-        self.inner.get(&key).copied()
+        self.sought.set(dir, name);
+        self.inner.get(&self.sought).copied()
     }
 
     /// Notes to which node an entry leads, or with None that there is no such entry. At a full cache the least
@@ -113,7 +118,8 @@ impl DentryCache {
         ensures succeeds { IsSome (found self.old dir name.now) → IsOk result }
     {
         let _ = self.inner.len();
-        self.inner.put(Key::new(dir, name), there)?;
+        self.sought.set(dir, name);
+        self.inner.put(self.sought.copy(), there)?;
         Ok(())
     }
 
@@ -122,8 +128,8 @@ impl DentryCache {
         ensures { self.new ≡ forgotten self.old dir name.now }
     {
         let _ = self.inner.len();
-        let key = Key::new(dir, name);
-        let _ = self.inner.pop(&key);
+        self.sought.set(dir, name);
+        let _ = self.inner.pop(&self.sought);
     }
 
     /// Forgets all entries of a directory. Takes no memory, and a time that grows with all that is remembered.

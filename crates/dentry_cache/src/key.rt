@@ -1,5 +1,6 @@
 //! A key that holds its name in place.
-ghost use Rattle.std.specs.Prelude.{◌≡◌, ◌++◌, List, ℕ, true, nat_eq};
+ghost use Rattle.std.specs.Prelude.{◌≡◌, ◌≤◌, ◌++◌, List, ℕ, [], true, nat_eq, length, take};
+ghost use Rattle.path_text.specs.declared.name.TheConstants.{NAME_MAX};
 ghost use Rattle.std.specs.Hash as fed;
 ghost use Rattle.std.specs.Cmp.Rules.{comparing, hashing};
 ghost use Rattle.std.proofs.Common.{rules};
@@ -26,19 +27,34 @@ impl Model for Key {
     ghost view = { λ k. (k.dir, take k.len k.room) };
 }
 
+// Puts the bytes of a name at the room's beginning.
+fn put_first(room: &mut [u8; NAME_MAX], name: &[u8])
+    requires { length name.now ≤ NAME_MAX }
+    ensures { take (length name.now) room.new ≡ name.now }
+{
+    room[..name.len()].copy_from_slice(name);
+}
+
 impl Key {
-    /// The key of an entry.
-    pub(crate) fn new(dir: Node, name: &Name) -> Key
-        ensures { result ≡ (dir, name.now) }
+    /// A key of no name, which is to be set.
+    pub(crate) fn blank() -> Key
+        ensures { result ≡ (0, []) }
+    {
+        Key {
+            dir: Node::new(0),
+            len: 0,
+            room: [0; NAME_MAX],
+        }
+    }
+
+    /// Makes it the key of that entry. It writes the name alone, where a new key would be filled and moved whole.
+    pub(crate) fn set(&mut self, dir: Node, name: &Name)
+        ensures { self.new ≡ (dir, name.now) }
     {
         let bytes = name.bytes();
-        let mut room = [0; NAME_MAX];
-        room[..bytes.len()].copy_from_slice(bytes);
-        Key {
-            dir,
-            len: bytes.len() as u8,
-            room,
-        }
+        self.dir = dir;
+        self.len = bytes.len() as u8;
+        put_first(&mut self.room, bytes);
     }
 
     /// An equal key.

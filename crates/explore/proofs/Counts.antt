@@ -3,3 +3,4 @@ pub mod Counting
 pub mod Merged
 pub mod Concluded
 pub mod Merges
+pub mod Begun

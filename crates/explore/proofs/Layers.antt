@@ -1,6 +1,7 @@
 -- The layers of a search, the ways between them, and the graph that they make.
 pub mod Reached
 pub mod SoFar
+pub mod Beginning
 pub mod Fitting
 pub mod Endings
 pub mod Grown

@@ -1,4 +1,5 @@
 pub mod Alike
+pub mod Local
 pub mod Wants
 pub mod Lists
 pub mod Layers

@@ -1,5 +1,5 @@
 -- What is asked of a search of all schedules of a world, and what it tells.
-use Rattle.std.specs.Prelude.{◌≡◌, ◌<◌, ◌≤◌, ℕ, List, [], ◌∷◌, Bool, true, length, Option, Some, None, slice_get}
+use Rattle.std.specs.Prelude.{◌≡◌, ◌<◌, ◌≤◌, ℕ, suc, List, [], ◌∷◌, Bool, true, false, length, take, Option, Some, None, slice_get}
 use Rattle.tree_model.specs.declared.answer.Event.{Event}
 use Rattle.tree_model.specs.State.{State}
 use Rattle.tree_model.specs.Steps.{held_count}
@@ -8,6 +8,7 @@ use Rattle.race_core.specs.declared.opening.TheConstants.{ACTORS_MAX}
 use Rattle.race_core.specs.declared.report.Outcome.{Outcome}
 use Rattle.race_core.specs.Book.{tree_now}
 use Rattle.race_core.specs.Worlds.{WorldView, turn, is_busy_at, ledgers_in, replies_in, Reports}
+use Rattle.explore.specs.declared.limits.Bounds.{Bounds}
 use Rattle.explore.specs.declared.limits.Scope.{Scope}
 use Rattle.explore.specs.declared.limits.Limits.{Limits}
 use Rattle.explore.specs.declared.limits.SearchFault.{SearchFault}
@@ -25,10 +26,32 @@ abbrev pub IsWithin : Option ℕ → ℕ → Type 0
 IsWithin None n = Unit {0}
 IsWithin (Some scope) n = n ≤ scope
 
--- a full list with at most so many cuts
+-- the list begins with these turns
+abbrev pub BeginsWith : List ℕ → List ℕ → Type 0
+BeginsWith [] is = Unit {0}
+BeginsWith (j ∷ js) [] = ⊥
+BeginsWith (j ∷ js) (i ∷ is) = (i ≡ j) × BeginsWith js is
+
+-- a full list with at most so many cuts, which begins with the turns that are asked for
 pub record IsAsked (w : WorldView) (scope : Scope) (is : List ℕ) : Type 0 where
   pub whole : IsFull w is
   pub few_cuts : IsWithin scope.cuts (cuts w is)
+  pub begins : BeginsWith scope.begin.items is
+
+-- it begins with them, or they begin with it
+abbrev pub GoAlong : List ℕ → List ℕ → Type 0
+GoAlong [] is = Unit {0}
+GoAlong (j ∷ js) [] = Unit {0}
+GoAlong (j ∷ js) (i ∷ is) = (i ≡ j) × GoAlong js is
+
+-- it is that actor, if there is one
+abbrev pub IsOnly : Option ℕ → ℕ → Type 0
+IsOnly None i = Unit {0}
+IsOnly (Some j) i = i ≡ j
+
+-- what the turn after so many is bound by
+abbrev pub bounds_at : Scope → ℕ → Bounds
+bounds_at scope turns = record { cuts = scope.cuts; only = slice_get scope.begin.items turns }
 
 -- each turn is of an actor who has something left to do then
 abbrev pub AreBusy : WorldView → List ℕ → Type 0
@@ -90,14 +113,24 @@ pub record IsLongest (w : WorldView) (scope : Scope) (turns : ℕ) : Type 0 wher
 -- ---- why nothing is told
 
 -- each turn of the list is of an actor who has something left to do then, there are few cuts, and more turns than so
--- many
+-- many; it begins as is asked for, as far as it goes
 pub record IsTooLong (w : WorldView) (scope : Scope) (turns : ℕ) (is : List ℕ) : Type 0 where
   pub busy : AreBusy w is
   pub few_cuts : IsWithin scope.cuts (cuts w is)
+  pub begins : GoAlong scope.begin.items is
   pub more : turns < length is
+
+-- the turn at that place of the beginning is of an actor who has nothing left to do then
+pub record IsIdle (w : WorldView) (begin : List ℕ) (at : ℕ) : Type 0 where
+  pub actor : ℕ
+  pub there : slice_get begin at ≡ Some actor
+  pub idle : is_busy_at (after_turns w (take at begin)).seats actor ≡ false
 
 abbrev pub WhyNot : WorldView → Limits → SearchFault → Type 0
 WhyNot w limits fault.TooManyActors = ACTORS_MAX < length w.seats
 WhyNot w limits fault.TooManyTurns = (is : List ℕ) × IsTooLong w limits.scope limits.turns is
 WhyNot w limits fault.TooManyStates = Unit {0}
+WhyNot w limits (fault.NotBusy at) = IsIdle w limits.scope.begin.items at
+WhyNot w limits (fault.TooManyCuts at) =
+    IsWithin limits.scope.cuts (cuts w (take (suc at) limits.scope.begin.items)) → ⊥
 WhyNot w limits fault.NoMemory = Unit {0}

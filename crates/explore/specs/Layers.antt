@@ -8,10 +8,11 @@ use Rattle.schedule_graph.specs.declared.graph.Way.{Way}
 use Rattle.schedule_graph.specs.declared.graph.Spot.{Spot}
 use Rattle.schedule_graph.specs.declared.graph.Spot.TheVariants.{Ends, Goes}
 use Rattle.schedule_graph.specs.Words.{way_of, AreApart}
+use Rattle.explore.specs.declared.limits.Bounds.{Bounds}
 use Rattle.explore.specs.declared.limits.Scope.{Scope}
 use Rattle.explore.specs.declared.layer.Stand.{Stand}
 use Rattle.explore.specs.declared.marks.Marks.{Marks}
-use Rattle.explore.specs.Explored.{EndingView, ClassView}
+use Rattle.explore.specs.Explored.{AreBusy, EndingView, ClassView, bounds_at}
 use Rattle.explore.specs.Lists.{is_another, is_cut}
 use Rattle.explore.specs.Merged.{bounded_cuts}
 use Rattle.explore.specs.Outside.{outside_of}
@@ -92,11 +93,11 @@ abbrev pub point_at : LiveView → Stand → Point
 point_at live stand = record { world = live.world; marks = stand.marks }
 
 -- a stand of the layer, the world that it is on, and an actor who may have the next turn there
-pub record IsOnward (scope : Scope) (layer : LayerView) (stand : Stand) (live : LiveView) (i : ℕ) : Type 0 where
+pub record IsOnward (bounds : Bounds) (layer : LayerView) (stand : Stand) (live : LiveView) (i : ℕ) : Type 0 where
   pub at : ℕ
   pub there : slice_get layer.stands at ≡ Some stand
   pub on : slice_get layer.worlds stand.world ≡ Some live
-  pub may : MayGo scope (point_at live stand) i
+  pub may : MayGo bounds (point_at live stand) i
 
 -- the actor's turn from the world at place m leads to the next layer's world at place k
 pub record IsMove (layer : LayerView) (m i : ℕ) (next : List LiveView) (k : ℕ) : Type 0 where
@@ -113,69 +114,69 @@ pub record IsBorn (stand : Stand) (live : LiveView) (i : ℕ) (born : LiveView) 
   pub told : born.told ≡ live.told
 
 -- it is that after one turn from some stand
-pub record IsBornWorld (scope : Scope) (layer : LayerView) (born : LiveView) : Type 0 where
+pub record IsBornWorld (bounds : Bounds) (layer : LayerView) (born : LiveView) : Type 0 where
   pub stand : Stand
   pub live : LiveView
   pub i : ℕ
-  pub onward : IsOnward scope layer stand live i
+  pub onward : IsOnward bounds layer stand live i
   pub is : IsBorn stand live i born
 
-abbrev pub AreBornWorlds : Scope → LayerView → List LiveView → Type 0
-AreBornWorlds scope layer next =
-    (k : ℕ) (born : LiveView) → slice_get next k ≡ Some born → IsBornWorld scope layer born
+abbrev pub AreBornWorlds : Bounds → LayerView → List LiveView → Type 0
+AreBornWorlds bounds layer next =
+    (k : ℕ) (born : LiveView) → slice_get next k ≡ Some born → IsBornWorld bounds layer born
 
 -- the stand is one turn after another
-pub record IsBornStand (scope : Scope) (layer : LayerView) (next : List LiveView) (born : Stand) : Type 0 where
+pub record IsBornStand (bounds : Bounds) (layer : LayerView) (next : List LiveView) (born : Stand) : Type 0 where
   pub stand : Stand
   pub live : LiveView
   pub i : ℕ
-  pub onward : IsOnward scope layer stand live i
+  pub onward : IsOnward bounds layer stand live i
   pub turns : born.turns.items ≡ stand.turns.items ++ i ∷ []
   pub marks : born.marks ≡ marks_after live.world.seats stand.marks i
   pub move : IsMove layer stand.world i next born.world
 
-abbrev pub AreBornStands : Scope → LayerView → LayerView → Type 0
-AreBornStands scope layer next =
-    (t : ℕ) (born : Stand) → slice_get next.stands t ≡ Some born → IsBornStand scope layer next.worlds born
+abbrev pub AreBornStands : Bounds → LayerView → LayerView → Type 0
+AreBornStands bounds layer next =
+    (t : ℕ) (born : Stand) → slice_get next.stands t ≡ Some born → IsBornStand bounds layer next.worlds born
 
-pub record AreJoined (scope : Scope) (layer next : LayerView) : Type 0 where
-  pub worlds : AreBornWorlds scope layer next.worlds
-  pub stands : AreBornStands scope layer next
+pub record AreJoined (bounds : Bounds) (layer next : LayerView) : Type 0 where
+  pub worlds : AreBornWorlds bounds layer next.worlds
+  pub stands : AreBornStands bounds layer next
 
 -- ---- ways
 
 -- the stand of the next layer after the actor's turn: on a world that it leads to, with what counts there
-pub record IsAfter (scope : Scope) (layer next : LayerView) (stand : Stand) (live : LiveView)
+pub record IsAfter (bounds : Bounds) (layer next : LayerView) (stand : Stand) (live : LiveView)
     (i t : ℕ) : Type 0 where
   pub after : Stand
   pub there : slice_get next.stands t ≡ Some after
   pub last : after.marks.last ≡ Some i
-  pub cuts : bounded_cuts scope.cuts after.marks.cuts
-      ≡ bounded_cuts scope.cuts (marks_after live.world.seats stand.marks i).cuts
+  pub cuts : bounded_cuts bounds.cuts after.marks.cuts
+      ≡ bounded_cuts bounds.cuts (marks_after live.world.seats stand.marks i).cuts
   pub move : IsMove layer stand.world i next.worlds after.world
 
 -- the way is the actor's turn from that stand
-pub record IsWayBy (scope : Scope) (layer next : LayerView) (stand : Stand) (live : LiveView)
+pub record IsWayBy (bounds : Bounds) (layer next : LayerView) (stand : Stand) (live : LiveView)
     (i : ℕ) (way : Way) : Type 0 where
-  pub may : MayGo scope (point_at live stand) i
+  pub may : MayGo bounds (point_at live stand) i
   pub letter : way.letter ≡ i
   pub cut : way.cut ≡ is_cut live.world.seats stand.marks.last i
   pub change : way.change ≡ is_another stand.marks.last i
-  pub after : IsAfter scope layer next stand live i way.to
+  pub after : IsAfter bounds layer next stand live i way.to
 
 -- the ways are the turns from that stand of all who may have the next one, each once
-pub record AreWaysBy (scope : Scope) (layer next : LayerView) (stand : Stand) (live : LiveView)
+pub record AreWaysBy (bounds : Bounds) (layer next : LayerView) (stand : Stand) (live : LiveView)
     (ways : List Way) : Type 0 where
-  pub all : (i : ℕ) → MayGo scope (point_at live stand) i → (way : Way) × (way_of ways i ≡ Some way)
-  pub each : (k : ℕ) (way : Way) → slice_get ways k ≡ Some way → IsWayBy scope layer next stand live way.letter way
+  pub all : (i : ℕ) → MayGo bounds (point_at live stand) i → (way : Way) × (way_of ways i ≡ Some way)
+  pub each : (k : ℕ) (way : Way) → slice_get ways k ≡ Some way → IsWayBy bounds layer next stand live way.letter way
   pub apart : AreApart ways
 
 -- of each stand, in order
-pub record AreAllWays (scope : Scope) (layer next : LayerView) (all : List (Vec Way)) : Type 0 where
+pub record AreAllWays (bounds : Bounds) (layer next : LayerView) (all : List (Vec Way)) : Type 0 where
   pub many : length all ≡ length layer.stands
   pub each : (s : ℕ) (stand : Stand) (live : LiveView) (ways : Vec Way) → slice_get layer.stands s ≡ Some stand
       → slice_get layer.worlds stand.world ≡ Some live
-      → slice_get all s ≡ Some ways → AreWaysBy scope layer next stand live ways.items
+      → slice_get all s ≡ Some ways → AreWaysBy bounds layer next stand live ways.items
 
 -- ---- ends
 
@@ -226,12 +227,12 @@ AreFoundIn lives old new =
 -- ---- stands that are the same
 
 -- whoever stands there stands as that one does: on the same world, with what counts from then on
-pub record IsThere (scope : Scope) (stand : Stand) (stands : List Stand) (t : ℕ) : Type 0 where
+pub record IsThere (bounds : Bounds) (stand : Stand) (stands : List Stand) (t : ℕ) : Type 0 where
   pub other : Stand
   pub there : slice_get stands t ≡ Some other
   pub world : other.world ≡ stand.world
   pub last : other.marks.last ≡ stand.marks.last
-  pub cuts : bounded_cuts scope.cuts other.marks.cuts ≡ bounded_cuts scope.cuts stand.marks.cuts
+  pub cuts : bounded_cuts bounds.cuts other.marks.cuts ≡ bounded_cuts bounds.cuts stand.marks.cuts
 
 -- ---- spots
 
@@ -240,27 +241,33 @@ abbrev pub spot_by : Option ℕ → Vec Way → Spot
 spot_by None ways = Goes ways
 spot_by (Some class) ways = Ends class
 
--- the stand's spot: an end of its world's class, or the ways from it
-abbrev pub IsSpot : Scope → LayerView → LayerView → List ClassView → Stand → LiveView → Spot → Type 0
-IsSpot scope layer next classes stand live (Ends class) = IsPlaced classes live class
-IsSpot scope layer next classes stand live (Goes ways) =
-    ((i : ℕ) × (is_busy_at live.world.seats i ≡ true)) × AreWaysBy scope layer next stand live ways.items
+-- there is one, where the turn is to be that actor's
+abbrev pub HasWay : Option ℕ → List Way → Type 0
+HasWay None ways = Unit {0}
+HasWay (Some i) ways = 0 < length ways
 
-pub record AreSpots (scope : Scope) (layer next : LayerView) (classes : List ClassView)
+-- the stand's spot: an end of its world's class, or the ways from it
+abbrev pub IsSpot : Bounds → LayerView → LayerView → List ClassView → Stand → LiveView → Spot → Type 0
+IsSpot bounds layer next classes stand live (Ends class) = IsPlaced classes live class
+IsSpot bounds layer next classes stand live (Goes ways) =
+    ((i : ℕ) × (is_busy_at live.world.seats i ≡ true))
+    × (HasWay bounds.only ways.items × AreWaysBy bounds layer next stand live ways.items)
+
+pub record AreSpots (bounds : Bounds) (layer next : LayerView) (classes : List ClassView)
     (spots : List Spot) : Type 0 where
   pub many : length spots ≡ length layer.stands
   pub each : (s : ℕ) (stand : Stand) (live : LiveView) (spot : Spot) → slice_get layer.stands s ≡ Some stand
       → slice_get layer.worlds stand.world ≡ Some live
-      → slice_get spots s ≡ Some spot → IsSpot scope layer next classes stand live spot
+      → slice_get spots s ≡ Some spot → IsSpot bounds layer next classes stand live spot
 
 -- ---- a layer gone through
 
-pub record IsPassed (scope : Scope) (n : ℕ) (layer next : LayerView) (here : List Spot)
+pub record IsPassed (bounds : Bounds) (n : ℕ) (layer next : LayerView) (here : List Spot)
     (old new : List ClassView) : Type 0 where
-  pub joined : AreJoined scope layer next
+  pub joined : AreJoined bounds layer next
   pub on : AreOn (suc n) next
   pub well : AreWell layer.worlds
-  pub spots : AreSpots scope layer next new here
+  pub spots : AreSpots bounds layer next new here
   pub keeps : Keeps old new
   pub found : AreFoundIn layer.worlds old new
   pub apart : AreApartClasses old → AreApartClasses new
@@ -268,20 +275,21 @@ pub record IsPassed (scope : Scope) (n : ℕ) (layer next : LayerView) (here : L
 -- ---- all layers so far
 
 -- These are the layers, of which all but the last were gone through, with the spots of each and the classes that
--- were found.
+-- were found. The turns that all lists begin with are of actors who have something left to do then.
 pub record IsSearched (w : WorldView) (scope : Scope) (layers : List LayerView) (graph : List (Vec Spot))
     (classes : List ClassView) : Type 0 where
   pub first : LayerView
+  pub can_begin : AreBusy w scope.begin.items
   pub begins : slice_get layers 0 ≡ Some first
   pub is_first : IsFirst w scope first
   pub many : length layers ≡ suc (length graph)
   pub on : (k : ℕ) (layer : LayerView) → slice_get layers k ≡ Some layer → AreOn k layer
   pub joined : (k : ℕ) (layer next : LayerView) → slice_get layers k ≡ Some layer
-      → slice_get layers (suc k) ≡ Some next → AreJoined scope layer next
+      → slice_get layers (suc k) ≡ Some next → AreJoined (bounds_at scope k) layer next
   pub well : (k : ℕ) (layer : LayerView) → k < length graph → slice_get layers k ≡ Some layer → AreWell layer.worlds
   pub spots : (k : ℕ) (layer next : LayerView) (spots : Vec Spot) → slice_get layers k ≡ Some layer
       → slice_get layers (suc k) ≡ Some next
-      → slice_get graph k ≡ Some spots → AreSpots scope layer next classes spots.items
+      → slice_get graph k ≡ Some spots → AreSpots (bounds_at scope k) layer next classes spots.items
   pub found : (c : ℕ) (class : ClassView) → slice_get classes c ≡ Some class
       → (k : ℕ) × ((layer : LayerView)
       × ((k < length graph) × ((slice_get layers k ≡ Some layer) × IsFoundIn layer.worlds class)))

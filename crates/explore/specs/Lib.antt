@@ -6,6 +6,7 @@ pub mod Search
 pub mod JustOne
 pub mod Lists
 pub mod Outside
+pub mod Local
 pub mod Counting
 pub mod Explored
 pub mod Points

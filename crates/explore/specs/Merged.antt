@@ -8,11 +8,12 @@ use Rattle.schedule_graph.specs.declared.graph.Spot.{Spot}
 use Rattle.schedule_graph.specs.declared.graph.Spot.TheVariants.{Ends, Goes}
 use Rattle.schedule_graph.specs.Words.{spot_at, way_of, IsWordOf}
 use Rattle.schedule_graph.specs.Words as words
+use Rattle.explore.specs.declared.limits.Bounds.{Bounds}
 use Rattle.explore.specs.declared.limits.Scope.{Scope}
 use Rattle.explore.specs.Alike.{full, after_turns}
 use Rattle.explore.specs.Search.{IsOver, IsLike}
 use Rattle.explore.specs.Lists.{is_another, is_cut, plus, cuts, changes}
-use Rattle.explore.specs.Explored.{IsWithin, IsAsked, TellAlike, AgreeIn, ClassView}
+use Rattle.explore.specs.Explored.{IsWithin, IsAsked, IsOnly, bounds_at, AreBusy, TellAlike, AgreeIn, ClassView}
 
 -- the world that a spot stands for, whose turn came last there, and how many cuts came before, where they are bounded
 pub record Place : Type 0 where
@@ -31,10 +32,11 @@ bounded_cuts (Some scope) n = n
 abbrev pub cuts_with : Place → ℕ → ℕ
 cuts_with p i = plus (is_cut p.world.seats p.last i) p.cuts
 
--- the actor has something left to do there, and its turn leaves the cuts within the bound
-pub record MayFollow (scope : Scope) (p : Place) (i : ℕ) : Type 0 where
+-- the actor has something left to do there, its turn leaves the cuts within the bound, and it may be that actor's
+pub record MayFollow (bounds : Bounds) (p : Place) (i : ℕ) : Type 0 where
+  pub only : IsOnly bounds.only i
   pub busy : is_busy_at p.world.seats i ≡ true
-  pub few : IsWithin scope.cuts (cuts_with p i)
+  pub few : IsWithin bounds.cuts (cuts_with p i)
 
 -- the place after the actor's turn: of a world like that one
 pub record IsNextPlace (scope : Scope) (p : Place) (i : ℕ) (q : Place) : Type 0 where
@@ -48,17 +50,18 @@ Places = ℕ → ℕ → Place
 
 -- the way is the actor's turn, and leads to the spot of the place after it
 pub record IsWay (scope : Scope) (layers : List (Vec Spot)) (at : Places) (k s i : ℕ) (way : Way) : Type 0 where
-  pub may : MayFollow scope (at k s) i
+  pub may : MayFollow (bounds_at scope k) (at k s) i
   pub cut : way.cut ≡ is_cut (at k s).world.seats (at k s).last i
   pub change : way.change ≡ is_another (at k s).last i
   pub spot : Spot
   pub there : spot_at layers (suc k) way.to ≡ Some spot
   pub next : IsNextPlace scope (at k s) i (at (suc k) way.to)
 
--- somebody has something left to do there, and the ways are the turns of all who may have the next one
+-- somebody has something left to do there; the ways are the turns of all who may have the next one, and there is one
 pub record AreWays (scope : Scope) (layers : List (Vec Spot)) (at : Places) (k s : ℕ) (ways : List Way) : Type 0 where
   pub busy : (i : ℕ) × (is_busy_at (at k s).world.seats i ≡ true)
-  pub all : (i : ℕ) → MayFollow scope (at k s) i → (way : Way) × (way_of ways i ≡ Some way)
+  pub some : (i : ℕ) × ((way : Way) × (way_of ways i ≡ Some way))
+  pub all : (i : ℕ) → MayFollow (bounds_at scope k) (at k s) i → (way : Way) × (way_of ways i ≡ Some way)
   pub each : (i : ℕ) (way : Way) → way_of ways i ≡ Some way → IsWay scope layers at k s i way
 
 -- nobody has anything left to do there, and it tells what the class's list comes to
@@ -68,10 +71,12 @@ pub record IsEndOf (w : WorldView) (scope : Scope) (classes : List ClassView) (p
   pub there : slice_get classes class ≡ Some outcome
   pub tells : TellAlike scope.outside p.world (after_turns w outcome.least.turns)
 
--- The graph's spots stand for these places, from the world on.
+-- The graph's spots stand for these places, from the world on. The turns that all lists begin with are of actors who
+-- have something left to do then.
 pub record IsFit (w : WorldView) (scope : Scope) (layers : List (Vec Spot)) (classes : List ClassView)
     (at : Places) : Type 0 where
   pub start : at 0 0 ≡ begins w
+  pub can_begin : AreBusy w scope.begin.items
   pub spot : Spot
   pub there : spot_at layers 0 0 ≡ Some spot
   pub ends : (k s class : ℕ) → spot_at layers k s ≡ Some (Ends class) → IsEndOf w scope classes (at k s) class

@@ -3,11 +3,11 @@ use Rattle.std.specs.Prelude.{◌≡◌, ◌≤◌, ℕ, List, [], ◌∷◌, tr
 use Rattle.race_core.specs.declared.seat.Seat.{Seat}
 use Rattle.race_core.specs.Turns.{Luck}
 use Rattle.race_core.specs.Worlds.{WorldView, turn, is_busy_at}
-use Rattle.explore.specs.declared.limits.Scope.{Scope}
+use Rattle.explore.specs.declared.limits.Bounds.{Bounds}
 use Rattle.explore.specs.declared.marks.Marks.{Marks}
 use Rattle.explore.specs.Alike.{full}
 use Rattle.explore.specs.Lists.{is_another, is_cut, plus}
-use Rattle.explore.specs.Explored.{IsWithin}
+use Rattle.explore.specs.Explored.{IsWithin, IsOnly}
 
 -- a world after some turns, and what counted in them
 pub record Point : Type 0 where
@@ -51,7 +51,8 @@ pub record AreWithin (marks : Marks) (n : ℕ) : Type 0 where
 
 -- ---- who may have the next turn
 
--- has something left to do, and the turn leaves the cuts within the bound
-pub record MayGo (scope : Scope) (p : Point) (i : ℕ) : Type 0 where
+-- has something left to do, the turn leaves the cuts within the bound, and it may be that actor's
+pub record MayGo (bounds : Bounds) (p : Point) (i : ℕ) : Type 0 where
+  pub only : IsOnly bounds.only i
   pub busy : is_busy_at p.world.seats i ≡ true
-  pub few : IsWithin scope.cuts (marks_after p.world.seats p.marks i).cuts
+  pub few : IsWithin bounds.cuts (marks_after p.world.seats p.marks i).cuts

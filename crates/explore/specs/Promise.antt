@@ -3,6 +3,8 @@
 -- Of all schedules of a world, or of those with at most so many cuts,
 --     `IsAsked`: the full lists of turns (`Search.IsFull`) with no more cuts (`Lists.cuts`) than that. The report of
 --     every schedule is that of a full list (`Search.ReportsAreOfFullLists`);
+-- or of those whose turns begin with the ones that are asked for,
+--     its `begins` (`Explored.BeginsWith`);
 -- it tells how many there are,
 --     `IsMerged`, its `counted`: exactly below `schedule_graph`'s cap, and else the cap (`Counted.AreSoMany`);
 -- and how many turns the longest has;

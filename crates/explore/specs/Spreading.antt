@@ -1,9 +1,9 @@
 -- The stands of the next layer, and the ways to them.
-use Rattle.std.specs.Prelude.{◌≡◌, ◌<◌, ◌⊎◌, ◌==◌, ℕ, List, [], ◌∷◌, ◌++◌, not, length, Option, Some, slice_get}
+use Rattle.std.specs.Prelude.{◌≡◌, ◌<◌, ◌⊎◌, ◌==◌, ℕ, List, [], ◌∷◌, ◌++◌, not, length, Option, Some, None, slice_get}
 use Rattle.std.specs.Global.{Vec}
 use Rattle.schedule_graph.specs.declared.graph.Spot.{Spot}
 use Rattle.schedule_graph.specs.declared.graph.Way.{Way}
-use Rattle.explore.specs.declared.limits.Scope.{Scope}
+use Rattle.explore.specs.declared.limits.Bounds.{Bounds}
 use Rattle.explore.specs.declared.layer.Stand.{Stand}
 use Rattle.explore.specs.declared.moves.Choice.{Choice}
 use Rattle.explore.specs.Merged.{bounded_cuts}
@@ -12,10 +12,10 @@ use Rattle.explore.specs.Layers.{IsThere, spot_by}
 -- ---- stands
 
 -- on the same world, with what counts from then on
-pub record StandsAs (scope : Scope) (stand other : Stand) : Type 0 where
+pub record StandsAs (bounds : Bounds) (stand other : Stand) : Type 0 where
   pub world : other.world ≡ stand.world
   pub last : other.marks.last ≡ stand.marks.last
-  pub cuts : bounded_cuts scope.cuts other.marks.cuts ≡ bounded_cuts scope.cuts stand.marks.cuts
+  pub cuts : bounded_cuts bounds.cuts other.marks.cuts ≡ bounded_cuts bounds.cuts stand.marks.cuts
 
 -- the stand after that choice, on that world of the next layer
 pub record IsStandBy (stand : Stand) (choice : Choice) (world : ℕ) (born : Stand) : Type 0 where
@@ -26,25 +26,25 @@ pub record IsStandBy (stand : Stand) (choice : Choice) (world : ℕ) (born : Sta
 -- ---- ways
 
 -- the way is that of the choice from that stand, and leads to whoever stands as the one after it
-pub record IsWayTo (scope : Scope) (stand : Stand) (choice : Choice) (world : ℕ) (next : List Stand)
+pub record IsWayTo (bounds : Bounds) (stand : Stand) (choice : Choice) (world : ℕ) (next : List Stand)
     (way : Way) : Type 0 where
   pub letter : way.letter ≡ choice.actor
   pub cut : way.cut ≡ not (choice.marks.cuts == stand.marks.cuts)
   pub change : way.change ≡ not (choice.marks.changes == stand.marks.changes)
   pub to : Stand
   pub after : IsStandBy stand choice world to
-  pub there : IsThere scope to next way.to
+  pub there : IsThere bounds to next way.to
 
 -- the ways of these choices, in order, to worlds at the places of their moves
-abbrev pub AreEachWay : Scope → Stand → List Choice → List ℕ → List Stand → List Way → Type 0
-AreEachWay scope stand choices places next ways = (k : ℕ) (choice : Choice) (world : ℕ) (way : Way)
+abbrev pub AreEachWay : Bounds → Stand → List Choice → List ℕ → List Stand → List Way → Type 0
+AreEachWay bounds stand choices places next ways = (k : ℕ) (choice : Choice) (world : ℕ) (way : Way)
     → slice_get choices k ≡ Some choice → slice_get places choice.at ≡ Some world → slice_get ways k ≡ Some way
-    → IsWayTo scope stand choice world next way
+    → IsWayTo bounds stand choice world next way
 
-pub record AreWaysTo (scope : Scope) (stand : Stand) (choices : List Choice) (places : List ℕ) (next : List Stand)
+pub record AreWaysTo (bounds : Bounds) (stand : Stand) (choices : List Choice) (places : List ℕ) (next : List Stand)
     (ways : List Way) : Type 0 where
   pub many : length ways ≡ length choices
-  pub each : AreEachWay scope stand choices places next ways
+  pub each : AreEachWay bounds stand choices places next ways
 
 -- it is the stand after one of these choices
 pub record IsStandOf (stand : Stand) (choices : List Choice) (places : List ℕ) (born : Stand) : Type 0 where
@@ -59,6 +59,23 @@ pub record IsStandOf (stand : Stand) (choices : List Choice) (places : List ℕ)
 abbrev pub AreStandsBy : Stand → List Choice → List ℕ → List Stand → List Stand → Type 0
 AreStandsBy stand choices places old new = (t : ℕ) (born : Stand) → slice_get new t ≡ Some born
     → (slice_get old t ≡ Some born) ⊎ IsStandOf stand choices places born
+
+-- ---- stands that are gone on from
+
+-- its world is over, and then has a class, or there is a choice
+abbrev pub GoesOn : Option ℕ → List Choice → Type 0
+GoesOn None choices = 0 < length choices
+GoesOn (Some class) choices = Unit {0}
+
+abbrev pub HaveChoices : List Stand → List (Vec Choice) → List (Option ℕ) → Type 0
+HaveChoices stands choices tops = (s : ℕ) (stand : Stand) (those : Vec Choice) (top : Option ℕ)
+    → slice_get stands s ≡ Some stand → slice_get choices s ≡ Some those → slice_get tops stand.world ≡ Some top
+    → GoesOn top those.items
+
+-- so it is with each, where the turn may be only one actor's
+abbrev pub AllGoOn : Option ℕ → List Stand → List (Vec Choice) → List (Option ℕ) → Type 0
+AllGoOn None stands choices tops = Unit {0}
+AllGoOn (Some i) stands choices tops = HaveChoices stands choices tops
 
 -- ---- the ways from all stands
 
@@ -94,17 +111,17 @@ AreStandsFrom stands choices places next =
     (t : ℕ) (born : Stand) → slice_get next t ≡ Some born → IsStandFrom stands choices places born
 
 -- the ways of all choices from the first stands
-abbrev pub AreFirstWays : Scope → List Stand → List (Vec Choice) → List (Vec ℕ) → List Stand → List (Vec Way) → Type 0
-AreFirstWays scope stands choices places next all = (s : ℕ) (stand : Stand) (those : Vec Choice) (row : Vec ℕ)
+abbrev pub AreFirstWays : Bounds → List Stand → List (Vec Choice) → List (Vec ℕ) → List Stand → List (Vec Way) → Type 0
+AreFirstWays bounds stands choices places next all = (s : ℕ) (stand : Stand) (those : Vec Choice) (row : Vec ℕ)
     (ways : Vec Way) → slice_get stands s ≡ Some stand → slice_get choices s ≡ Some those
     → slice_get places stand.world ≡ Some row → slice_get all s ≡ Some ways
-    → AreWaysTo scope stand those.items row.items next ways.items
+    → AreWaysTo bounds stand those.items row.items next ways.items
 
 -- and from all of them
-pub record AreWaysOfAll (scope : Scope) (stands : List Stand) (choices : List (Vec Choice)) (places : List (Vec ℕ))
+pub record AreWaysOfAll (bounds : Bounds) (stands : List Stand) (choices : List (Vec Choice)) (places : List (Vec ℕ))
     (next : List Stand) (all : List (Vec Way)) : Type 0 where
   pub many : length all ≡ length stands
-  pub ways : AreFirstWays scope stands choices places next all
+  pub ways : AreFirstWays bounds stands choices places next all
   pub born : AreStandsFrom stands choices places next
 
 -- ---- spots

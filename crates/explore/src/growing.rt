@@ -61,8 +61,8 @@ pub(crate) fn give_up<T: Tree + Drop>(alloc: Global, mut worlds: Vec<Live<T>>) {
     worlds.destroy_empty();
 }
 
-// One turn of that actor, and the marks after it and what was changed outside.
-fn take_turn<T: Tree>(
+/// One turn of that actor, and the marks after it and what was changed outside.
+pub(crate) fn take_turn<T: Tree>(
     alloc: Global,
     world: &mut World<T>,
     marks: &mut Marks,
@@ -175,8 +175,8 @@ pub(crate) fn led<T: Tree + Drop, B: Beginnings<T>>(
     }
 }
 
-// The report on a world, once it has gone to its end. NoMemory where memory ran short in its run, too.
-fn told<T: Tree + Drop>(alloc: Global, world: World<T>) -> Result<Report<T>, NoMemory>
+/// The report on a world, once it has gone to its end. NoMemory where memory ran short in its run, too.
+pub(crate) fn told<T: Tree + Drop>(alloc: Global, world: World<T>) -> Result<Report<T>, NoMemory>
     ensures ran { IfOk result (λ report.
         RunsTo world [] (T.state report.tree) report.events.events report.replies.items report.kept.items) }
     ensures none { IfOk result (λ report. replies_want report.replies.items ≡ false) }

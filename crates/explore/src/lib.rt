@@ -1,7 +1,8 @@
 //! Every schedule of actors' planned calls.
 //!
 //! `explore` tells what all full lists of turns of a world come to, those with at most so many cuts: the outcomes,
-//! of each how many lists lead to it, and the least of them with its report (`IsMerged` of `specs/Promise.antt`).
+//! of each how many lists lead to it, and the least of them with its report (`IsMerged` of `specs/Promise.antt`). It
+//! may be asked for those alone that begin with some turns.
 //! The layer above uses that contract alone.
 //!
 //! Two worlds are *alike* where they differ in the numbers of their actors' handles alone (`specs/Alike.antt`), and
@@ -15,6 +16,7 @@
 //! worlds are taken for one then only where each actor has made as many such changes.
 #![tactic(auto)]
 
+mod begin;
 mod beginnings;
 mod ends;
 mod fingerprint;
@@ -25,6 +27,7 @@ mod known;
 mod laws;
 mod layer;
 mod limits;
+mod local_laws;
 mod marks;
 mod moves;
 mod outside;
@@ -50,6 +53,7 @@ pub use laws::{
     chosen_lists_stand_for_all, counts_conclude, want_is_told, words_are_lists,
 };
 pub use limits::{Limits, Scope, SearchFault};
+pub use local_laws::{same_parts_go_alike, turns_are_local};
 pub use progress::{Progress, Silent};
 pub use report_laws::reports_without_want_are_one;
 pub use scene::Scene;

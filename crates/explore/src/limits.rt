@@ -1,21 +1,45 @@
 //! What a search is bounded by, and why it tells nothing.
 ghost use Rattle.std.specs.Prelude.{◌≡◌};
 ghost use Rattle.explore.specs.declared.limits.SearchFault.TheVariants as search_fault;
+ghost use Rattle.explore.specs.Explored.{bounds_at};
 
 use path_text::NoMemory;
 use thiserror::Error;
 
 /// Which lists are gone through, and what tells their outcomes apart.
-#[derive(Clone, Copy, Debug, PartialEq, Eq)]
+#[derive(Debug, Drop)]
 pub struct Scope {
     /// Only the lists with at most so many cuts, or all of them.
     pub cuts: Option<u64>,
     /// Whether how many changes each actor makes outside of its root is told: outcomes that differ in it are two then.
     pub outside: bool,
+    /// Only the lists that begin with turns of these actors; with none all of them.
+    pub begin: Vec<u32>,
+}
+
+/// What a turn is bound by.
+#[derive(Clone, Copy, Debug, PartialEq, Eq)]
+pub(crate) struct Bounds {
+    /// The list has at most so many cuts then, or any number.
+    pub(crate) cuts: Option<u64>,
+    /// Whose alone the turn may be, or anybody's.
+    pub(crate) only: Option<u32>,
+}
+
+impl Scope {
+    /// What the turn after so many is bound by.
+    pub(crate) fn bounds(&self, turns: usize) -> Bounds
+        ensures { result ≡ bounds_at self.now turns }
+    {
+        Bounds {
+            cuts: self.cuts,
+            only: self.begin.get(turns).copied(),
+        }
+    }
 }
 
 /// What is gone through at most.
-#[derive(Clone, Copy, Debug, PartialEq, Eq)]
+#[derive(Debug, Drop)]
 pub struct Limits {
     /// The most worlds, of alike ones one.
     pub states: u64,
@@ -37,6 +61,12 @@ pub enum SearchFault {
     /// There are more worlds than the limit, of alike ones one.
     #[error("too many states")]
     TooManyStates,
+    /// The turn at that place of the beginning, counted from 0, is of an actor who has nothing left to do then.
+    #[error("turn {0} of the beginning is of an actor who has nothing left to do")]
+    NotBusy(usize),
+    /// With the turn at that place of the beginning, counted from 0, there are more cuts than are asked for.
+    #[error("turn {0} of the beginning is one cut too many")]
+    TooManyCuts(usize),
     /// Room was refused.
     #[error("out of memory")]
     NoMemory,

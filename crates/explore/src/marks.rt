@@ -1,9 +1,9 @@
 //! What counts in a list of turns, and who may have the next one.
 ghost use Rattle.std.specs.Prelude.{◌≡◌, ◌^◌, ◌↔◌, IsTrue};
-ghost use Rattle.explore.specs.Explored.{IsWithin};
+ghost use Rattle.explore.specs.Explored.{IsWithin, IsOnly};
 ghost use Rattle.explore.specs.Points.{no_marks, marks_after, AreWithin, MayGo};
 
-use crate::limits::Scope;
+use crate::limits::Bounds;
 use race_core::World;
 use tree_model::Tree;
 
@@ -45,8 +45,8 @@ pub(crate) fn marks_after<T: Tree>(world: &World<T>, marks: Marks, actor: u32) -
     after
 }
 
-// Whether that many cuts are within the bound, if there is one.
-fn is_within(most: Option<u64>, cuts: u64) -> bool
+/// Whether that many cuts are within the bound, if there is one.
+pub(crate) fn is_within(most: Option<u64>, cuts: u64) -> bool
     ensures { IsTrue result ↔ IsWithin most cuts }
 {
     match most {
@@ -55,11 +55,23 @@ fn is_within(most: Option<u64>, cuts: u64) -> bool
     }
 }
 
-/// Whether the actor may have the next turn: it has something left to do, and its turn leaves the cuts within the
-/// bound.
-pub(crate) fn may_go<T: Tree>(world: &World<T>, marks: Marks, scope: Scope, actor: u32) -> bool
-    requires { AreWithin marks (2 ^ 40) }
-    ensures { IsTrue result ↔ MayGo scope (record { world = world.now; marks = marks }) actor }
+// Whether the actor is that one, if there is one.
+fn is_only(only: Option<u32>, actor: u32) -> bool
+    ensures { IsTrue result ↔ IsOnly only actor }
 {
-    world.has_turns(actor) && is_within(scope.cuts, marks_after(world, marks, actor).cuts)
+    match only {
+        Some(only) => actor == only,
+        None => true,
+    }
+}
+
+/// Whether the actor may have the next turn: it has something left to do, its turn leaves the cuts within the bound,
+/// and it is the one who alone may have it, where one is named.
+pub(crate) fn may_go<T: Tree>(world: &World<T>, marks: Marks, bounds: Bounds, actor: u32) -> bool
+    requires { AreWithin marks (2 ^ 40) }
+    ensures { IsTrue result ↔ MayGo bounds (record { world = world.now; marks = marks }) actor }
+{
+    is_only(bounds.only, actor)
+        && world.has_turns(actor)
+        && is_within(bounds.cuts, marks_after(world, marks, actor).cuts)
 }

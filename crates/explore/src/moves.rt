@@ -7,7 +7,7 @@ ghost use Rattle.explore.specs.Moves.{IsOf, IsOneOf, AreChoices, AreMoves, AreAl
 ghost use Rattle.explore.specs.Points.{AreWithin, MayGo};
 
 use crate::layer::Layer;
-use crate::limits::Scope;
+use crate::limits::Bounds;
 use crate::marks::{Marks, marks_after, may_go};
 use path_text::NoMemory;
 use race_core::World;
@@ -64,7 +64,7 @@ fn move_at(moves: &mut Vec<Move>, stand: usize, actor: u32) -> Result<usize, NoM
 // by theirs. NoMemory where room was refused.
 fn choices_at<T: Tree>(
     alloc: Global,
-    scope: Scope,
+    bounds: Bounds,
     stand: usize,
     marks: Marks,
     world: &World<T>,
@@ -75,14 +75,14 @@ fn choices_at<T: Tree>(
     ensures keeps { IfOk result (λ choices. Keeps moves.old.items moves.new.items) }
     ensures new { IfOk result (λ choices. (j : ℕ) (one : Move) → slice_get moves.new.items j ≡ Some one
         → (slice_get moves.old.items j ≡ Some one)
-        ⊎ IsOneOf scope stand (record { world = world.now; marks = marks }) one) }
+        ⊎ IsOneOf bounds stand (record { world = world.now; marks = marks }) one) }
     ensures choices { IfOk result (λ choices.
-        AreChoices scope (record { world = world.now; marks = marks }) moves.new.items choices.items) }
+        AreChoices bounds (record { world = world.now; marks = marks }) moves.new.items choices.items) }
 {
     let mut choices = Vec::new(alloc);
     for number in 0..world.actors() {
         let actor = number as u32;
-        if may_go(world, marks, scope, actor) {
+        if may_go(world, marks, bounds, actor) {
             let at = move_at(moves, stand, actor)?;
             choices.push(Choice {
                 actor,
@@ -109,12 +109,12 @@ fn no_moves(alloc: Global, worlds: usize) -> Result<Vec<Vec<Move>>, NoMemory>
 /// refused.
 pub(crate) fn listed<T: Tree>(
     alloc: Global,
-    scope: Scope,
+    bounds: Bounds,
     layer: &Layer<T>,
 ) -> Result<(Vec<Vec<Move>>, Vec<Vec<Choice>>), NoMemory>
     requires on { (n : ℕ) × ((n + 1 < 2 ^ 40) × AreOn n layer.now) }
-    ensures moves { IfOk result (λ listed. AreMoves scope layer.now listed.0.items) }
-    ensures choices { IfOk result (λ listed. AreAllChoices scope layer.now listed.0.items listed.1.items) }
+    ensures moves { IfOk result (λ listed. AreMoves bounds layer.now listed.0.items) }
+    ensures choices { IfOk result (λ listed. AreAllChoices bounds layer.now listed.0.items listed.1.items) }
 {
     let mut moves = no_moves(alloc, layer.worlds.len())?;
     let mut all = Vec::new(alloc);
@@ -122,7 +122,7 @@ pub(crate) fn listed<T: Tree>(
         let stand = &layer.stands[at];
         let live = &layer.worlds[stand.world];
         let (world, those) = (live.seen.world(), &mut moves[stand.world]);
-        let choices = choices_at(alloc, scope, at, stand.marks, world, those)?;
+        let choices = choices_at(alloc, bounds, at, stand.marks, world, those)?;
         all.push(choices)?;
     }
     Ok((moves, all))

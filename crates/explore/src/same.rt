@@ -4,7 +4,7 @@ ghost use Rattle.tree_model.specs.Steps.{held_count};
 ghost use Rattle.explore.specs.Renamed.{replies_by};
 
 use race_core::{ACTORS_MAX, Outcomes, like_outcomes};
-use tree_model::{Actor, Inode, Tree};
+use tree_model::{Actor, Tree};
 
 /// Whether the calls of each actor ended in the same way but for the numbers of handles.
 pub(crate) fn same_replies(replies: &[Outcomes], others: &[Outcomes]) -> bool
@@ -15,21 +15,6 @@ pub(crate) fn same_replies(replies: &[Outcomes], others: &[Outcomes]) -> bool
     }
     for (actor, outcomes) in replies.iter().enumerate() {
         if !like_outcomes(outcomes.as_slice(), others[actor].as_slice()) {
-            return false;
-        }
-    }
-    true
-}
-
-/// Whether the nodes are equal, one by one.
-pub(crate) fn same_nodes(nodes: &[Inode], others: &[Inode]) -> bool
-    ensures { IsTrue result ↔ (nodes.now ≡ others.now) }
-{
-    if nodes.len() != others.len() {
-        return false;
-    }
-    for (x, inode) in nodes.iter().enumerate() {
-        if !inode.same(&others[x]) {
             return false;
         }
     }

@@ -6,25 +6,27 @@ ghost use Rattle.race_core.specs.Worlds.{WorldView};
 ghost use Rattle.schedule_graph.specs.declared.graph.Spot.{Spot};
 ghost use Rattle.schedule_graph.specs.declared.graph.Way.{Way};
 ghost use Rattle.explore.specs.declared.layer.Stand.{Stand};
-ghost use Rattle.explore.specs.Explored.{WhyNot};
+ghost use Rattle.explore.specs.declared.limits.Limits.{Limits};
+ghost use Rattle.explore.specs.Explored.{AreBusy, WhyNot};
 ghost use Rattle.explore.specs.Promise.{IsMerged};
 ghost use Rattle.explore.specs.Concluded.{IsToldBy, HasShort, AsksIn, AreShort, AskIn, AreToldIn};
 ghost use Rattle.explore.specs.Layers.{LiveView, LayerView, AreOn, IsFirst, IsPassed, HasSearched};
 ghost use Rattle.explore.specs.Spreading.{AreApartChoices, AreFit, AreWaysOfAll, AreSpotsBy};
 ghost use Rattle.explore.specs.Want.{EndsWell};
 
+use crate::begin::can_begin;
 use crate::beginnings::Beginnings;
 use crate::ends::spots_of;
 use crate::found::{Class, Findings};
 use crate::growing::{ended, give_up, led};
 use crate::jobs::Jobs;
 use crate::layer::{Layer, Stand};
-use crate::limits::{Limits, Scope, SearchFault};
+use crate::limits::{Bounds, Limits, Scope, SearchFault};
 use crate::marks::no_marks;
 use crate::moves::{Choice, listed};
 use crate::progress::Progress;
 use crate::rounds::{Course, go_on};
-use crate::ways::all_ways;
+use crate::ways::{all_go_on, all_ways};
 use path_text::NoMemory;
 use race_core::CopyTree;
 use schedule_graph::{Count, Graph};
@@ -62,13 +64,13 @@ fn leave_well<T: Tree + Drop>(alloc: Global, layer: Layer<T>) -> bool
 fn first<T: Tree + Drop, B: Beginnings<T>>(
     alloc: Global,
     beginnings: &B,
-    limits: Limits,
+    limits: &Limits,
 ) -> Result<Layer<T>, SearchFault>
-    ensures first { IfOk result (λ layer. IsFirst (B.opening beginnings.now) limits.scope layer) }
+    ensures first { IfOk result (λ layer. IsFirst (B.opening beginnings.now) limits.now.scope layer) }
     ensures on { IfOk result (λ layer. AreOn 0 layer) }
     ensures actors { OnOk result (length (B.opening beginnings.now).seats ≤ ACTORS_MAX) }
-    ensures states { OnOk result (1 ≤ limits.states) }
-    ensures err { IfErr result (WhyNot (B.opening beginnings.now) limits) }
+    ensures states { OnOk result (1 ≤ limits.now.states) }
+    ensures err { IfErr result (WhyNot (B.opening beginnings.now) limits.now) }
 {
     if limits.states == 0 {
         return Err(SearchFault::TooManyStates);
@@ -100,7 +102,7 @@ fn first<T: Tree + Drop, B: Beginnings<T>>(
 // a class, and else the ways of its choices. NoMemory where room was refused.
 fn spread(
     alloc: Global,
-    scope: Scope,
+    bounds: Bounds,
     stands: &[Stand],
     choices: &[Vec<Choice>],
     places: &[Vec<usize>],
@@ -112,10 +114,10 @@ fn spread(
     requires apart { AreApartChoices choices.now }
     requires on { (s : ℕ) (stand : Stand) → slice_get stands.now s ≡ Some stand → stand.world < length tops.now }
     ensures { IfOk result (λ next. (all : List (Vec Way)) × ((spots : Vec Spot) × ((graph.new ≡ graph.old ++ spots ∷ [])
-        × (AreWaysOfAll scope stands.now choices.now places.now next.items all
+        × (AreWaysOfAll bounds stands.now choices.now places.now next.items all
         × AreSpotsBy stands.now tops.now all spots.items)))) }
 {
-    let (ways, next) = all_ways(alloc, scope, stands, choices, places)?;
+    let (ways, next) = all_ways(alloc, bounds, stands, choices, places)?;
     let spots = spots_of(alloc, stands, tops, ways)?;
     graph.push_layer(spots)?;
     Ok(next)
@@ -124,12 +126,13 @@ fn spread(
 // Goes from one layer on to the next, in at most so many threads at a time: it is told what its worlds come to, and the
 // spots of its stands are added to the graph. The next layer, and how many states it has.
 //
-// Errors: TooManyStates where it would have more than so many; NoMemory where room was refused.
+// Errors: TooManyStates where it would have more than so many; NoMemory where room was refused, and where the actor
+// who alone may have the turn can't have it: memory ran short on the way then.
 fn pass<T: CopyTree + Drop + Send, R: Threads + Sync>(
     alloc: Global,
     threads: &R,
     jobs: Jobs,
-    limits: Limits,
+    bounds: Bounds,
     room: u64,
     layer: Layer<T>,
     graph: &mut Graph,
@@ -139,12 +142,11 @@ fn pass<T: CopyTree + Drop + Send, R: Threads + Sync>(
     requires on { AreOn (length graph.old) layer }
     ensures passed { IfOk result (λ next. (spots : Vec Spot)
         × ((graph.new ≡ graph.old ++ spots ∷ [])
-        × IsPassed limits.scope (length graph.old) layer next.0 spots.items classes.old.items classes.new.items)) }
+        × IsPassed bounds (length graph.old) layer next.0 spots.items classes.old.items classes.new.items)) }
     ensures room { IfOk result (λ next. next.1 ≤ room) }
-    ensures err { (w : WorldView) → IfErr result (WhyNot w limits) }
+    ensures err { (w : WorldView) (limits : Limits) → IfErr result (WhyNot w limits) }
 {
-    let scope = limits.scope;
-    let listed = listed(alloc, scope, &layer);
+    let listed = listed(alloc, bounds, &layer);
     let Layer { worlds, stands } = layer;
     let Ok((moves, choices)) = listed else {
         give_up(alloc, worlds);
@@ -160,7 +162,11 @@ fn pass<T: CopyTree + Drop + Send, R: Threads + Sync>(
     } = course;
     let worlds = known.into_worlds();
     let (choices, places, tops) = (choices.as_slice(), places.as_slice(), tops.as_slice());
-    let Ok(stands) = spread(alloc, scope, those, choices, places, tops, graph) else {
+    if !all_go_on(bounds.only, those, choices, tops) {
+        give_up(alloc, worlds);
+        return Err(SearchFault::NoMemory);
+    }
+    let Ok(stands) = spread(alloc, bounds, those, choices, places, tops, graph) else {
         give_up(alloc, worlds);
         return Err(SearchFault::NoMemory);
     };
@@ -176,25 +182,27 @@ fn search<T: CopyTree + Drop + Send, B: Beginnings<T>, P: Progress, R: Threads +
     threads: &R,
     jobs: Jobs,
     beginnings: &B,
-    limits: Limits,
+    limits: &Limits,
     progress: &mut P,
     graph: &mut Graph,
     classes: &mut Vec<Class<T>>,
 ) -> Result<u64, SearchFault>
+    requires busy { AreBusy (B.opening beginnings.now) limits.now.scope.begin.items }
     requires graph { graph.old ≡ [] }
     requires classes { classes.old.items ≡ [] }
     ensures searched { OnOk result ((last : LayerView)
         × ((last.stands ≡ [])
-        × HasSearched (B.opening beginnings.now) limits.scope last graph.new classes.new.items)) }
-    ensures states { IfOk result (λ states. states ≤ limits.states) }
-    ensures depth { OnOk result (length graph.new ≤ limits.turns + 1) }
-    ensures err { IfErr result (WhyNot (B.opening beginnings.now) limits) }
+        × HasSearched (B.opening beginnings.now) limits.now.scope last graph.new classes.new.items)) }
+    ensures states { IfOk result (λ states. states ≤ limits.now.states) }
+    ensures depth { OnOk result (length graph.new < 2 ^ 40) }
+    ensures err { IfErr result (WhyNot (B.opening beginnings.now) limits.now) }
 {
     let mut states = 1;
     let mut layer = first(alloc, beginnings, limits)?;
     'layers: while !layer.stands.is_empty() && graph.depth() <= limits.turns as usize {
         let room = limits.states - states;
-        let (next, more) = pass(alloc, threads, jobs, limits, room, layer, graph, classes)?;
+        let bounds = limits.scope.bounds(graph.depth());
+        let (next, more) = pass(alloc, threads, jobs, bounds, room, layer, graph, classes)?;
         layer = next;
         states += more;
         progress.passed(states);
@@ -215,12 +223,12 @@ fn search<T: CopyTree + Drop + Send, B: Beginnings<T>, P: Progress, R: Threads +
 fn told_class<T: Tree + Drop, B: Beginnings<T>>(
     alloc: Global,
     beginnings: &B,
-    scope: Scope,
+    scope: &Scope,
     count: &Count,
 ) -> Result<Class<T>, NoMemory>
     requires short { HasShort count.now }
-    ensures told { IfOk result (λ class. AsksIn (B.opening beginnings.now) scope count.now
-        → IsToldBy (B.opening beginnings.now) scope count.now class) }
+    ensures told { IfOk result (λ class. AsksIn (B.opening beginnings.now) scope.now count.now
+        → IsToldBy (B.opening beginnings.now) scope.now count.now class) }
 {
     let Some(least) = &count.least else {
         unreachable!();
@@ -243,13 +251,13 @@ fn told_class<T: Tree + Drop, B: Beginnings<T>>(
 fn told_classes<T: Tree + Drop, B: Beginnings<T>>(
     alloc: Global,
     beginnings: &B,
-    scope: Scope,
+    scope: &Scope,
     counts: &[Count],
 ) -> Result<Vec<Class<T>>, NoMemory>
     requires short { AreShort counts.now }
     ensures many { IfOk result (λ classes. length classes.items ≡ length counts.now) }
-    ensures told { IfOk result (λ classes. AskIn (B.opening beginnings.now) scope counts.now
-        → AreToldIn (B.opening beginnings.now) scope counts.now classes.items) }
+    ensures told { IfOk result (λ classes. AskIn (B.opening beginnings.now) scope.now counts.now
+        → AreToldIn (B.opening beginnings.now) scope.now counts.now classes.items) }
 {
     let mut classes = Vec::new(alloc);
     for count in counts {
@@ -262,24 +270,25 @@ fn told_classes<T: Tree + Drop, B: Beginnings<T>>(
 /// and the least of them. Of worlds that differ in the numbers of handles alone, one is gone on from; where changes
 /// outside of roots are told, of those in which each actor has made as many. After each layer `progress` is told how
 /// many states there were. It uses at most so many threads; with one it starts none. What is found doesn't depend on
-/// their number.
+/// their number. Where the lists are to begin with some turns, these are taken first in a world of their own.
 ///
-/// Errors: TooManyActors over 64; TooManyTurns where a list has more turns than the limit; TooManyStates where there
-/// are more worlds than the limit; NoMemory where room was refused, in a world's run too. There are no findings
-/// then.
+/// Errors: TooManyActors over 64; NotBusy and TooManyCuts of the first turn that the lists are to begin with and can't;
+/// TooManyTurns where a list has more turns than the limit; TooManyStates where there are more worlds than the limit;
+/// NoMemory where room was refused, in a world's run too. There are no findings then.
 pub fn explore<T: CopyTree + Drop + Send, B: Beginnings<T>, P: Progress, R: Threads + Sync>(
     alloc: Global,
     threads: &R,
     jobs: Jobs,
     beginnings: &B,
-    limits: Limits,
+    limits: &Limits,
     progress: &mut P,
 ) -> Result<Findings<T>, SearchFault>
     ensures merged { IfOk result (λ found.
-        IsMerged (B.opening beginnings.now) limits.scope found.classes.items found.lists found.turns) }
-    ensures states { IfOk result (λ found. found.states ≤ limits.states) }
-    ensures err { IfErr result (WhyNot (B.opening beginnings.now) limits) }
+        IsMerged (B.opening beginnings.now) limits.now.scope found.classes.items found.lists found.turns) }
+    ensures states { IfOk result (λ found. found.states ≤ limits.now.states) }
+    ensures err { IfErr result (WhyNot (B.opening beginnings.now) limits.now) }
 {
+    can_begin(alloc, beginnings, limits)?;
     let mut graph = Graph::new(alloc);
     let mut classes = Vec::new(alloc);
     let states = search(
@@ -293,7 +302,7 @@ pub fn explore<T: CopyTree + Drop + Send, B: Beginnings<T>, P: Progress, R: Thre
         &mut classes,
     )?;
     let counts = graph.counted(alloc, classes.len())?;
-    let told = told_classes(alloc, beginnings, limits.scope, counts.classes.as_slice())?;
+    let told = told_classes(alloc, beginnings, &limits.scope, counts.classes.as_slice())?;
     Ok(Findings {
         classes: told,
         lists: counts.all.words,

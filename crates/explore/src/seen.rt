@@ -7,12 +7,11 @@ ghost use Rattle.explore.specs.Fingerprint.{print_of};
 ghost use Rattle.explore.specs.Paired.{all_handles, AreApart, IsApartBefore, OpenAlike, HoldsAsMany, ArePaired, SameTrees, SameBooks};
 
 use crate::fingerprint::{Fingerprint, with_actors, with_handles, with_nodes};
-use crate::same::same_nodes;
 use path_text::NoMemory;
 use race_core::World;
 use std::alloc::Global;
 use std::marker::Model;
-use tree_model::{Actor, HandleNo, OpenHandle, Snapshot, Tree};
+use tree_model::{Actor, HandleNo, OpenHandle, Snapshot, Tree, same_nodes};
 
 /// A world, and what it is compared by: its tree as a value, and the handles of all actors. Contracts see it as the
 /// world.

@@ -6,11 +6,11 @@ ghost use Rattle.explore.specs.Lists.{is_not_after, is_at_most};
 ghost use Rattle.explore.specs.Tally.{SameOutcome, rank_of, IsPlace};
 
 use crate::found::{Class, Ending};
-use crate::same::{same_counts, same_nodes, same_replies};
+use crate::same::{same_counts, same_replies};
 use path_text::NoMemory;
 use race_core::Outcomes;
 use std::alloc::Global;
-use tree_model::{Snapshot, Tree};
+use tree_model::{Snapshot, Tree, same_nodes};
 
 // Whether the first list isn't after the second, in the order of words.
 fn is_not_after(turns: &[u32], others: &[u32]) -> bool

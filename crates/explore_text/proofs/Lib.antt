@@ -7,3 +7,4 @@ mod ToldOnes
 mod Sums
 mod Heads
 mod Beginnings
+mod Unsurveyed

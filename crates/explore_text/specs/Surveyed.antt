@@ -1,5 +1,5 @@
 -- The text of what a search of all schedules finds.
-use Rattle.std.specs.Prelude.{⊤, ◌≡◌, ◌≤◌, ℕ, Bool, List, length, find, nat_le, Option, Some, None}
+use Rattle.std.specs.Prelude.{⊤, ◌≡◌, ◌≤◌, ℕ, Bool, List, [], length, find, nat_le, Option, Some, None}
 use Rattle.explore.specs.declared.limits.Scope.{Scope}
 use Rattle.explore.specs.Promise.{IsMerged}
 use Rattle.explore.specs.Explored.{ClassView, IsTooLong}
@@ -25,9 +25,11 @@ pub record IsOfThese (asked : Asked) (plans : List ActorPlan) : Type 0 where
   pub actors : first_foreign asked plans ≡ None
   pub properties : first_untold asked.outside plans asked.properties.items ≡ None
 
--- which lists are gone through, and whether what was changed outside of roots is told
-abbrev pub scope_of : Asked → Scope
-scope_of asked = record { cuts = asked.cuts; outside = asked.outside }
+-- which lists are gone through, whatever turns they begin with, and whether what was changed outside of roots is told
+pub record IsScopeOf (asked : Asked) (scope : Scope) : Type 0 where
+  pub cuts : scope.cuts ≡ asked.cuts
+  pub outside : scope.outside ≡ asked.outside
+  pub begin : scope.begin.items ≡ []
 
 -- What is told of each outcome, in the order of their least lists, makes the text, and says whether no property fails.
 pub record IsTelling (asked : Asked) (tree : State) (plans : List ActorPlan) (classes : List ClassView)
@@ -46,7 +48,9 @@ pub record IsSurvey (asked : Asked) (tree : State) (plans : List ActorPlan) (lin
   pub lists : ℕ
   pub states : ℕ
   pub turns : ℕ
-  pub explored : IsMerged (opened_world tree plans lines) (scope_of asked) classes lists turns
+  pub scope : Scope
+  pub scope_is : IsScopeOf asked scope
+  pub explored : IsMerged (opened_world tree plans lines) scope classes lists turns
   pub few : states ≤ asked.most
   pub telling : IsTelling asked tree plans classes lists states turns holds text
 
@@ -59,5 +63,6 @@ WhyNoSurvey asked tree plans lines (NoSuchLine place) =
     (first_foreign asked plans ≡ None) × (first_untold asked.outside plans asked.properties.items ≡ Some place)
 WhyNoSurvey asked tree plans lines TooManyStates = IsOfThese asked plans
 WhyNoSurvey asked tree plans lines TooManyTurns = IsOfThese asked plans
-    × ((is : List ℕ) × IsTooLong (opened_world tree plans lines) (scope_of asked) TURNS_MAX is)
+    × ((scope : Scope) × (IsScopeOf asked scope
+    × ((is : List ℕ) × IsTooLong (opened_world tree plans lines) scope TURNS_MAX is)))
 WhyNoSurvey asked tree plans lines NoMemory = ⊤

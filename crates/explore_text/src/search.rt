@@ -162,14 +162,20 @@ pub fn survey_scene<R: Threads + Sync, P: Progress>(
         scope: Scope {
             cuts: asked.cuts,
             outside: asked.outside,
+            begin: Vec::new(alloc),
         },
     };
     let jobs = jobs_of(asked.jobs);
-    match explore(alloc, threads, jobs, scene, limits, progress) {
+    match explore(alloc, threads, jobs, scene, &limits, progress) {
         Ok(found) => Ok(survey_of(alloc, scene, asked, found)?),
         Err(SearchFault::TooManyTurns) => Err(SurveyFault::TooManyTurns),
         Err(SearchFault::TooManyStates) => Err(SurveyFault::TooManyStates),
-        // A world never has more actors than it may have.
-        Err(SearchFault::TooManyActors | SearchFault::NoMemory) => Err(SurveyFault::NoMemory),
+        // A world never has more actors than it may have, and no turns are asked for.
+        Err(
+            SearchFault::TooManyActors
+            | SearchFault::NotBusy(_)
+            | SearchFault::TooManyCuts(_)
+            | SearchFault::NoMemory,
+        ) => Err(SurveyFault::NoMemory),
     }
 }

@@ -9,7 +9,6 @@ use Rattle.step_resolver.specs.Order.{Way, Walking, Turn, more, found, partial, 
 use Rattle.step_resolver.specs.Order.{take as takes}
 use Rattle.step_resolver.specs.Footprint.{IsEnd}
 use Rattle.step_resolver.specs.Headline.{EveryWalk}
-use Rattle.step_resolver.specs.Driver.{IsWithoutBook}
 use Rattle.step_resolver.specs.View.{WalkView}
 use Rattle.step_resolver.specs.TurnView.{turn_view, StartsTo, TakesTo}
 use Rattle.step_resolver.specs.declared.walk.Turn.{Turn as Outcome}
@@ -17,7 +16,7 @@ use Rattle.step_resolver.specs.declared.walk.Turn.TheVariants.{More, Found, Part
 use Rattle.step_resolver.specs.TurnsTell.{first_lines}
 use Rattle.step_resolver.proofs.FirstTurns.{first_lines_lead}
 use Rattle.step_resolver.proofs.TurnsTell.{leads_on, line_leads}
-use Rattle.step_resolver.proofs.DrivenWalks.{joined_events}
+use Rattle.step_resolver.proofs.DrivenWalks.{joined_events, joined_without_book}
 use Rattle.headline_only.specs.Alone.{TellsAlone, IsAnswer, Leads}
 
 pub is_over : (goal : Goal) (outcome : Outcome) → ((walk : WalkView) → outcome ≡ More walk → ⊥) → IsEnd (turn_view goal outcome)
@@ -56,12 +55,6 @@ module _ (way : Way) (a : ℕ) (before after : List Event) (walking : Walking) (
 pub led_nowhere : (way : Way) (a : ℕ) (events : List Event) (turn : Turn) → Leads way a events turn events turn
 led_nowhere way a events turn = record { lines = []; leads = refl; booked = sym (append-nil events); without_book = tt }
 
-both_without_book : (lines others : List Line) → IsWithoutBook lines → IsWithoutBook others → IsWithoutBook (lines ++ others)
-both_without_book [] others first second = second
-both_without_book (answered step answer ∷ lines) others first second = both_without_book lines others first second
-both_without_book (no_room step answer ∷ lines) others first second = both_without_book lines others first second
-both_without_book (not_made error ∷ lines) others first second = (first.0, both_without_book lines others first.1 second)
-
 pub led_on : (way : Way) (a : ℕ) (first second third : List Event) (from mid to : Turn)
     → Leads way a first from second mid → Leads way a second mid third to → Leads way a first from third to
 led_on way a first second third from mid to one two = record {
@@ -69,7 +62,7 @@ led_on way a first second third from mid to one two = record {
   leads = leads_on way one.lines from mid two.lines to one.leads two.leads;
   booked = two.booked ∙ ap (λ es. es ++ events_of a two.lines) one.booked ∙ append_assoc first (events_of a one.lines) (events_of a two.lines)
       ∙ ap (λ es. first ++ es) (sym (joined_events a one.lines two.lines));
-  without_book = both_without_book one.lines two.lines one.without_book two.without_book;
+  without_book = joined_without_book one.lines two.lines one.without_book two.without_book;
 }
 
 -- ---- the end

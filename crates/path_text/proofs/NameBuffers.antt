@@ -45,7 +45,7 @@ all_at P xs at x h e = rw (sym (get_or_from_slice_get xs at x x e)) (All-get_or 
 
 -- ---- one more
 
-cut_of_more : (s e : ℕ) (bytes more : List ℕ) → e ≤ length bytes → s ≤ e → take (e - s) (drop s (bytes ++ more)) ≡ take (e - s) (drop s bytes)
+pub cut_of_more : (s e : ℕ) (bytes more : List ℕ) → e ≤ length bytes → s ≤ e → take (e - s) (drop s (bytes ++ more)) ≡ take (e - s) (drop s bytes)
 cut_of_more s e bytes more h k =
     ap (take (e - s)) (drop-append-le s bytes more (omega (arith, h, k)))
     ∙ take-append-le (e - s) (drop s bytes) more (omega (arith, h, k, length-drop s bytes))

@@ -1,10 +1,10 @@
 -- Facts about the pieces of a text.
-use Rattle.std.proofs.Common.{◌≡◌, ℕ, ◌+◌, ◌-◌, ◌*◌, ◌≤◌, ◌<◌, Bool, true, false, not, ◌==◌, ◌&&◌, ◌||◌, cond, nat_lt, List, [], ◌∷◌, ◌++◌, length, get_or, map, take, refl, sym, ap, ◌∙◌, arith, nat_eq, add-one}
+use Rattle.std.proofs.Common.{◌≡◌, ℕ, ◌+◌, ◌-◌, ◌*◌, ◌≤◌, ◌<◌, Bool, true, false, not, ◌==◌, ◌&&◌, ◌||◌, cond, nat_lt, List, [], ◌∷◌, ◌++◌, length, get_or, map, refl, sym, ◌∙◌, arith, nat_eq, add-one}
 use Rattle.std.specs.Prelude.{Some, None, slice_get, if◌then◌else◌}
 use Rattle.std.specs.Option.{option_eq}
 use Rattle.std.specs.List.{list_any, list_all, filter, onto_first}
 use Rattle.std.proofs.lemmas.Bool.Decides.{nat_tests}
-use Rattle.std.proofs.lemmas.List.{take_more, take_all, map-append, length-append, length-map}
+use Rattle.std.proofs.lemmas.List.{length-append, length-map}
 use Rattle.std.proofs.lemmas.List.Sums.{AllPass-from_list_all}
 use native.Mathlib.Numerals.{unary_clauses}
 use Rattle.path_text.specs.declared.name.TheConstants.{SLASH}
@@ -65,16 +65,6 @@ is_piece_filter ((b ∷ bs) ∷ xs) h =
 -- each piece of a text without NUL can stand between two slashes
 pub is_piece_of : (text : List ℕ) → list_any (λ b. b == NUL) text ≡ false → (i : ℕ) (d : List ℕ) → i < length (pieces text) → is_piece (get_or (pieces text) i d) ≡ true
 is_piece_of text h = AllPass-from_list_all is_piece (pieces text) (is_piece_filter (between_slashes text) (is_clean_between text h))
-
--- ---- one more piece
-
-pub parts_more : (ps : List (List ℕ)) (i j : ℕ) (p : List ℕ) (parts new : List Part) → (i < length ps) × (p ≡ get_or ps i p) → j ≡ i + 1 → parts ≡ map part_of (take i ps) → new ≡ parts ++ part_of p ∷ [] → new ≡ map part_of (take j ps)
-parts_more ps i j p parts new h count so_far pushed =
-    let more = ap (map part_of) (take_more ps i p h.0) ∙ map-append part_of (take i ps) _ ∙ ap (λ x. map part_of (take i ps) ++ part_of x ∷ []) (sym h.1) in
-    rw (pushed, so_far, count) (sym more)
-
-pub parts_all : (ps : List (List ℕ)) (i : ℕ) (parts : List Part) → parts ≡ map part_of (take i ps) → i ≡ length ps → parts ≡ map part_of ps
-parts_all ps i parts so_far count = so_far ∙ ap (map part_of) (take_all i ps (omega arith))
 
 -- ---- how many parts there are
 
@@ -160,6 +150,10 @@ pieces_few text h =
     let low : 2 * length (pieces text) + bit (ends_with_slash text) ≤ length text + 1 =
     omega (arith, count_bound text, starts_bound (between_slashes text)) in
     few_parts (list_any (λ p. not (is_empty p)) (between_slashes text)) (ends_with_slash text) (length (pieces text)) (length text) low (is_short text h)
+
+-- any text has at most a piece for two bytes
+pub pieces_half : (text : List ℕ) → 2 * length (pieces text) ≤ length text + 1
+pieces_half text = omega (arith, count_bound text, starts_bound (between_slashes text))
 
 few_with : (e : Bool) (ps : List (List ℕ)) → length ps + bit e ≤ PARTS_MAX → length (map part_of ps ++ (if e then Cur ∷ [] else [])) ≤ PARTS_MAX
 few_with true ps h = simp (length-append, length-map) (omega arith)

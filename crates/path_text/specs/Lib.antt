@@ -1,6 +1,7 @@
 pub mod Errno
 pub mod Name
 pub mod Names
+pub mod Parts
 pub mod Print
 pub mod Reading
 pub mod Spelling

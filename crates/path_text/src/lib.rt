@@ -14,7 +14,9 @@ mod name;
 mod names;
 mod parse;
 mod part;
+mod parts;
 mod path;
+mod places;
 mod split;
 
 pub use bytes::Bytes;
@@ -25,5 +27,6 @@ pub use laws::{
 };
 pub use name::{NAME_MAX, Name, SLASH};
 pub use names::Names;
-pub use part::{Component, Part, Parts};
+pub use part::{Component, Part};
+pub use parts::Parts;
 pub use path::{PARTS_MAX, Path, Rule, Split, TEXT_MAX};

@@ -4,7 +4,7 @@ ghost use Rattle.path_text.specs.Text.{text_fault};
 
 use crate::errno::Errno;
 use crate::name::Name;
-use crate::part::{Part, Parts};
+use crate::parts::Parts;
 use std::alloc::Global;
 use std::marker::Model;
 

@@ -19,7 +19,7 @@ use Rattle.tree_model.proofs.Outcomes.{Does, refuses, tells, opens_on, closes, c
 use Rattle.tree_model.proofs.Refusals.{refuse_if-both, with_some-both}
 use Rattle.tree_model.proofs.StepLaws.{telling_changes_nothing}
 use Rattle.event_log.specs.Shapes.{step_texts, answer_texts}
-use Rattle.tree_model.proofs.Counts.{handles_are_counted}
+use Rattle.tree_model.proofs.Counts.{handles_are_counted, tells-opened}
 use Rattle.tree_model.proofs.HistoryLaws.{after_events-append, legal_goes_on}
 use Rattle.race_core.specs.Book.{tree_now, free_lines, booked, is_close, is_done, lines_needed, IsBook}
 use Rattle.race_core.specs.BookLaws.{FreeLinesNeverRise}
@@ -90,18 +90,9 @@ opened_few (Listed names) = omega arith
 opened_few Done = omega arith
 opened_few (Refused error) = omega arith
 
-told : (answer : Answer) → only_tells answer ≡ true → opened_count answer ≡ 0
-told (Opened h x kind) e = absurd (false≢true e)
-told (Text text) e = refl
-told (Names names) e = refl
-told NotBelow e = refl
-told (Listed names) e = refl
-told Done e = refl
-told (Refused error) e = refl
-
 entries_open_none : {s : State} {a : ℕ} {step : StepOf ℕ} {o : Outcome} → is_on_entries step ≡ true → Does s a step o → opened_count o.answer ≡ 0
 entries_open_none e (refuses error) = refl
-entries_open_none e (tells answer t) = told answer t
+entries_open_none e (tells answer t) = tells-opened answer t
 entries_open_none e (opens_on x what e1 e2 e3) = absurd (false≢true (sym e1 ∙ e))
 entries_open_none e (closes h x e1) = refl
 entries_open_none e (changes_to nodes e1 changed) = refl

@@ -1,26 +1,21 @@
 -- An actor's calls so far, and what a turn makes of them.
-use Rattle.std.proofs.Common.{◌≡◌, ◌≢◌, ◌⊎◌, ℕ, ◌==◌, List, [], ◌∷◌, ◌++◌, Bool, true, false, cond, if◌then◌else◌, ◌||◌, length, Option, Some, None, is_some, not, refl, sym, ap, subst, ◌∙◌, inl, inr, eq-eqb, append-nil, append_assoc, le_refl, ltb-true, arith}
-use Rattle.std.specs.Prelude.{nat_lt}
+use Rattle.std.proofs.Common.{◌≡◌, ◌≢◌, ◌⊎◌, ℕ, List, [], ◌∷◌, ◌++◌, Bool, true, false, Option, Some, None, not, refl, sym, ap, subst, ◌∙◌, inl, inr, append-nil, append_assoc}
 use Rattle.std.specs.Option.{option_map}
-use Rattle.std.proofs.lemmas.Bool.{false≢true, ne_eqb}
+use Rattle.std.proofs.lemmas.Bool.{false≢true}
 use Rattle.std.proofs.lemmas.List.{map-append}
-use Rattle.std.proofs.lemmas.List.Elements.{filter-append}
-use Rattle.std.proofs.lemmas.Option.{none-some, same_Some, slice_get_past}
+use Rattle.std.proofs.lemmas.Option.{none-some, same_Some}
 use Rattle.path_text.specs.declared.errno.Errno.{Errno}
-use Rattle.path_text.specs.declared.errno.Errno.TheVariants.{NoMemory, BookFull, BadHandle}
+use Rattle.path_text.specs.declared.errno.Errno.TheVariants.{BadHandle}
 use Rattle.tree_model.specs.declared.answer.Answer.{Answer}
 use Rattle.tree_model.specs.declared.answer.Answer.TheVariants.{Refused}
 use Rattle.tree_model.specs.declared.answer.Event.{Event}
 use Rattle.tree_model.specs.declared.step.StepOf.{StepOf}
 use Rattle.tree_model.specs.declared.step.StepOf.TheVariants as steps
 use Rattle.tree_model.specs.State.{State}
-use Rattle.tree_model.specs.Steps.{outcome, held, node_held}
-use Rattle.tree_model.proofs.HistoryLaws.{after_events-append}
-use Rattle.tree_model.proofs.StepLaws.{own_handles_stay, others_handles_stay, opened_is_open}
 use Rattle.handles.specs.declared.owner.Owner.{Owner}
 use Rattle.handles.specs.Objects.{StandingObject}
 use Rattle.step_resolver.specs.declared.walk.Root.{Root}
-use Rattle.step_resolver.specs.Order.{Line, answered, no_room, not_made, events_of, IsWant}
+use Rattle.step_resolver.specs.Order.{Line, answered, no_room, not_made, events_of}
 use Rattle.step_resolver.specs.WalkHistory.{own_events}
 use Rattle.step_resolver.proofs.Underway.WalkInvariant.{IsNotIn}
 use Rattle.root_ops.specs.declared.aim.Wanted.TheVariants as wants
@@ -32,111 +27,23 @@ use Rattle.root_ops.specs.TurnView.{below_of}
 use Rattle.root_ops.specs.View.{CallView}
 use Rattle.step_resolver.proofs.DrivenWalks.{joined_events}
 use Rattle.root_ops.proofs.Refusals.{refusal_needs_no_room, unmade}
+use Rattle.root_ops.proofs.FirstTurn.{leads_on}
 use Rattle.race_core.specs.declared.plan.Planned.{Planned}
 use Rattle.race_core.specs.declared.plan.Planned.TheVariants as plans
 use Rattle.race_core.specs.declared.seat.Seat.{Seat}
-use Rattle.race_core.specs.Book.{BookedHistory, tree_now, free_lines, lines_needed, is_close, closes_nothing, refusal, answer_now, booked}
+use Rattle.race_core.specs.Book.{BookedHistory, tree_now, is_close, closes_nothing, answer_now, booked}
 use Rattle.race_core.specs.Ledgers.{LedgerView}
 use Rattle.race_core.specs.OwnHistory.{NoneCloses}
-use Rattle.race_core.specs.Turns.{Luck, Stepped, unless_refused, stepped_by, standing_under, request_of, left_by, opened_by, outcome_of, comes, ended, begins, begins_next, begun, goes_on, turned}
+use Rattle.race_core.specs.Turns.{Luck, Stepped, stepped_by, standing_under, request_of, left_by, opened_by, outcome_of, comes, ended, begins, begins_next, begun, goes_on, turned}
 use Rattle.race_core.specs.WorldCalls.{CallMade, IsMadeAs, kept_after, kept_after_all, AreMade, planned_of, outcomes_of, events_of_calls, ReleasesOwn, KeptAreReleased}
 use Rattle.race_core.proofs.Booked.{close_done}
-use Rattle.race_core.proofs.HeldByCalls.{opened_by_reply, CallHolds, TurnHolds, started, Moves, unmoved, holds_on, closes_open, all_more, turn_holds_more}
+use Rattle.race_core.proofs.HeldByCalls.{opened_by_reply, CallHolds, TurnHolds, started, unmoved, holds_on, closes_open, all_more, turn_holds_more}
 use Rattle.race_core.proofs.HeldOpen.{AllOpen}
 use Rattle.race_core.proofs.KeptOpen.{IsOpen, kept_handles, release_of, owners_are_one, owned_at, all_owned, open_left, released_at, IsHeld, IsFreed, Spares, no_close, another_close, spares_first, held_moves, kept_still, kept_then, release_begins, done_more, asks_for_kept}
 use Rattle.race_core.proofs.OwnHistory.{none_both}
-
--- ---- a step through the book
-
--- made and booked; or not made for want of memory or lines, as no Close is; or the Close of nothing
-pub data StepEffect (book : BookedHistory) (a : ℕ) (step : StepOf ℕ) (s : Stepped) : Type 0 where
-  was_made : s ≡ record { answer = answer_now book a step; book = booked book a step } → StepEffect book a step s
-  was_not : (error : Errno) → IsWant error → is_close step ≡ false → s ≡ record { answer = Refused error; book = book } → StepEffect book a step s
-  was_shut : closes_nothing (tree_now book) a step ≡ true → s ≡ record { answer = Refused BadHandle; book = book } → StepEffect book a step s
-
-close_needs_none : (free : ℕ) (step : StepOf ℕ) → nat_lt free (lines_needed step) ≡ true → is_close step ≡ false
-close_needs_none free (steps.Open h n) e = refl
-close_needs_none free (steps.Dup h) e = refl
-close_needs_none free (steps.Parent h) e = refl
-close_needs_none free (steps.ReadLink h) e = refl
-close_needs_none free (steps.NameBelow r h) e = refl
-close_needs_none free (steps.List h) e = refl
-close_needs_none free (steps.Close h) e = absurd (omega (arith, ltb-true free 0 e))
-close_needs_none free (steps.MakeDir h n) e = refl
-close_needs_none free (steps.MakeFile h n) e = refl
-close_needs_none free (steps.MakeLink h n text) e = refl
-close_needs_none free (steps.RemoveFile h n) e = refl
-close_needs_none free (steps.RemoveDir h n) e = refl
-close_needs_none free (steps.Rename h n k m mode) e = refl
-
-either_false : (a b : Bool) → (a || b) ≡ false → b ≡ false
-either_false true b e = absurd (false≢true (sym e))
-either_false false b e = e
-
-module _ (book : BookedHistory) (a : ℕ) (step : StepOf ℕ) where
-  by_refusal : (full shut : Bool) → nat_lt (free_lines book) (lines_needed step) ≡ full → closes_nothing (tree_now book) a step ≡ shut
-      → StepEffect book a step (unless_refused book a step (if full then Some BookFull else (if shut then Some BadHandle else None)))
-  by_refusal true shut f s = was_not BookFull (inr refl) (close_needs_none (free_lines book) step f) refl
-  by_refusal false true f s = was_shut s refl
-  by_refusal false false f s = was_made refl
-
-  by_luck : (tried luck : Bool) → (luck || is_close step) ≡ tried
-      → StepEffect book a step (if tried then unless_refused book a step (refusal book a step) else record { answer = Refused NoMemory; book = book })
-  by_luck true luck e = by_refusal (nat_lt (free_lines book) (lines_needed step)) (closes_nothing (tree_now book) a step) refl refl
-  by_luck false luck e = was_not NoMemory (inl refl) (either_false luck (is_close step) e) refl
-
-  pub effect_of : (luck : Bool) → StepEffect book a step (stepped_by luck book a step)
-  effect_of luck = by_luck (luck || is_close step) luck refl
-
--- ---- handles
-
-open_on : (o : Option ℕ) → is_some o ≡ true → (x : ℕ) × (o ≡ Some x)
-open_on None e = absurd (false≢true e)
-open_on (Some x) e = (x, refl)
-
-pub open_among_others : (s : State) (b a : ℕ) (step : StepOf ℕ) → a ≢ b → (h : ℕ) → IsOpen s a h → IsOpen (outcome s b step).after a h
-open_among_others s b a step ne h is = ap is_some (others_handles_stay s b step a h ne) ∙ is
-
-step_moves : (s : State) (a : ℕ) (step : StepOf ℕ) → Moves (IsOpen s a) step (outcome s a step).answer (IsOpen (outcome s a step).after a)
-step_moves s a step = record {
-  stays = λ k is e. ap is_some (own_handles_stay s a step k (open_on (held s a k) is).0 (open_on (held s a k) is).1 e);
-  is_new = λ h x kind e.
-      let opened = opened_is_open s a step h x kind e in
-      (ap is_some opened.1, λ was. false≢true (sym (ap is_some (ap (held s a) opened.0 ∙ ap (node_held a) (slice_get_past s.handles (length s.handles) (le_refl (length s.handles))))) ∙ was));
-}
-
-pub tree_booked : (book : BookedHistory) (a : ℕ) (step : StepOf ℕ) → tree_now (booked book a step) ≡ (outcome (tree_now book) a step).after
-tree_booked book a step = after_events-append book.opening book.events (record { actor = a; step = step; answer = answer_now book a step } ∷ [])
-
-pub booked_moves : (book : BookedHistory) (a : ℕ) (step : StepOf ℕ) → Moves (IsOpen (tree_now book) a) step (answer_now book a step) (IsOpen (tree_now (booked book a step)) a)
-booked_moves book a step = subst (λ (t : State). Moves (IsOpen (tree_now book) a) step (answer_now book a step) (IsOpen t a)) (sym (tree_booked book a step)) (step_moves (tree_now book) a step)
-
--- ---- own events
-
-own_of_one : (a : ℕ) (event : Event) → event.actor ≡ a → own_events a (event ∷ []) ≡ event ∷ []
-own_of_one a event e = ap (λ b. cond b (event ∷ []) []) (eq-eqb event.actor a e)
-
-none_of_one : (a : ℕ) (event : Event) → event.actor ≢ a → own_events a (event ∷ []) ≡ []
-none_of_one a event ne = ap (λ b. cond b (event ∷ []) []) (ne_eqb event.actor a ne)
-
-pub own_more : (a : ℕ) (events : List Event) (event : Event) → event.actor ≡ a → own_events a (events ++ event ∷ []) ≡ own_events a events ++ event ∷ []
-own_more a events event e = filter-append (λ (v : Event). v.actor == a) events (event ∷ []) ∙ ap (λ es. own_events a events ++ es) (own_of_one a event e)
-
-pub own_stays : (a : ℕ) (events : List Event) (event : Event) → event.actor ≢ a → own_events a (events ++ event ∷ []) ≡ own_events a events
-own_stays a events event ne = filter-append (λ (v : Event). v.actor == a) events (event ∷ []) ∙ ap (λ es. own_events a events ++ es) (none_of_one a event ne) ∙ append-nil (own_events a events)
+use Rattle.race_core.proofs.BookMoves.{StepEffect, was_made, was_not, was_shut, effect_of, open_among_others, tree_booked, booked_moves, own_more, own_stays, BookMoves, same as book_same, one_more as book_more}
 
 -- ---- one call more
-
-pub leads_more : (below : Below) (lines : List Line) (turn mid : CallTurn) (others : List Line) (end : CallTurn)
-    → LeadsTo below turn lines mid → LeadsTo below mid others end → LeadsTo below turn (lines ++ others) end
-leads_more below [] turn mid others end first onward = subst (λ t. LeadsTo below t others end) (sym first) onward
-leads_more below (answered step answer ∷ lines) (more doing) mid others end first onward =
-    (first.0, leads_more below lines (take below true doing answer) mid others end first.1 onward)
-leads_more below (no_room step answer ∷ lines) (more doing) mid others end first onward =
-    (first.0, leads_more below lines (take below false doing answer) mid others end first.1 onward)
-leads_more below (not_made error ∷ lines) (more doing) mid others end first onward =
-    (first.0, leads_more below lines (take below true doing (Refused error)) mid others end first.1 onward)
-leads_more below (line ∷ lines) (ends reply) mid others end first onward = absurd first
 
 made_more : (root : Root) (standings : List (Option StandingObject)) (calls : List CallMade) (c : CallMade) → AreMade root standings calls
     → IsMadeAs root (request_of root (kept_after_all root.owner standings calls) c.planned) c → AreMade root standings (calls ++ c ∷ [])
@@ -416,7 +323,7 @@ module _ (plan : List Planned) (book : BookedHistory) (ledger : LedgerView) (cal
     asked = c.asked;
     standings = c.standings;
     is_below = c.is_below;
-    leads = leads_more below c.lines (starts below c.room c.request.op) (more doing) (line ∷ []) _ c.leads leads;
+    leads = leads_on below c.lines (starts below c.room c.request.op) (more doing) (line ∷ []) _ c.leads leads;
     own = own_more a book.events event refl ∙ ap (λ es. es ++ event ∷ []) c.own ∙ append_assoc (events_of_calls a calls) (events_of a c.lines) (event ∷ [])
         ∙ ap (λ es. events_of_calls a calls ++ (events_of a c.lines ++ es)) (sym is_event) ∙ ap (λ es. events_of_calls a calls ++ es) (sym (joined_events a c.lines (line ∷ [])));
     holds = holds_on (HeldIn plan book ledger) (HeldIn plan next_book ledger) (answer_now book a step) (FreedIn plan book ledger) (FreedIn plan next_book ledger) below b doing
@@ -445,7 +352,7 @@ module _ (plan : List Planned) (book : BookedHistory) (ledger : LedgerView) (cal
     asked = c.asked;
     standings = c.standings;
     is_below = c.is_below;
-    leads = leads_more below c.lines (starts below c.room c.request.op) (more doing) (not_made error ∷ []) _ c.leads (why, sym (refusal_needs_no_room below room doing error));
+    leads = leads_on below c.lines (starts below c.room c.request.op) (more doing) (not_made error ∷ []) _ c.leads (why, sym (refusal_needs_no_room below room doing error));
     own = c.own ∙ ap (λ es. events_of_calls a calls ++ es) (sym (append-nil (events_of a c.lines)) ∙ sym (joined_events a c.lines (not_made error ∷ [])));
     holds = holds_on (HeldIn plan book ledger) (HeldIn plan book ledger) (Refused error) (FreedIn plan book ledger) (FreedIn plan book ledger) below room doing
         (unmoved (HeldIn plan book ledger) step error) c.holds;
@@ -508,54 +415,6 @@ turns_so_far plan luck book ledger doing far =
 
 -- ---- another's turn
 
--- the book is as it was, or has one event more, which is this actor's
-pub data BookMoves (book : BookedHistory) (a : ℕ) (new : BookedHistory) : Type 0 where
-  same : new ≡ book → BookMoves book a new
-  one_more : (step : StepOf ℕ) → new ≡ booked book a step → BookMoves book a new
-
-effect_moves : (book : BookedHistory) (a : ℕ) (step : StepOf ℕ) (s : Stepped) → StepEffect book a step s → BookMoves book a s.book
-effect_moves book a due_step s (was_made is) = one_more due_step (ap (λ (t : Stepped). t.book) is)
-effect_moves book a due_step s (was_not error want none is) = same (ap (λ (t : Stepped). t.book) is)
-effect_moves book a due_step s (was_shut nothing is) = same (ap (λ (t : Stepped). t.book) is)
-
-goes_on_moves : (luck room : Bool) (book : BookedHistory) (ledger : LedgerView) (doing : Option CallView) → BookMoves book ledger.root.owner.actor (goes_on luck room book ledger doing).book
-goes_on_moves luck room book ledger None = same refl
-goes_on_moves luck room book ledger (Some call) =
-    effect_moves book ledger.root.owner.actor (due call.below call.doing) _ (effect_of book ledger.root.owner.actor (due call.below call.doing) luck)
-
-comes_root : (ledger : LedgerView) (below : Below) (turn : CallTurn) → (comes ledger below turn).ledger.root ≡ ledger.root
-comes_root ledger below (more doing) = refl
-comes_root ledger below (ends reply) = refl
-
-begins_root : (room : Bool) (ledger : LedgerView) (request : Option Request) → (begins room ledger request).ledger.root ≡ ledger.root
-begins_root room ledger None = refl
-begins_root room ledger (Some request) = comes_root ledger _ (starts (below_of ledger.root request.flags) room request.op)
-
-begins_next_root : (room : Bool) (ledger : LedgerView) (to_come : List Planned) → (begins_next room ledger to_come).ledger.root ≡ ledger.root
-begins_next_root room ledger [] = refl
-begins_next_root room ledger (next ∷ others) = begins_root room _ (request_of ledger.root ledger.standings next)
-
-begun_root : (room : Bool) (ledger : LedgerView) (doing : Option CallView) → (begun room ledger doing).ledger.root ≡ ledger.root
-begun_root room ledger None = begins_next_root room ledger ledger.to_come
-begun_root room ledger (Some call) = refl
-
-goes_on_root : (luck room : Bool) (book : BookedHistory) (ledger : LedgerView) (doing : Option CallView) → (goes_on luck room book ledger doing).seat.ledger.root ≡ ledger.root
-goes_on_root luck room book ledger None = refl
-goes_on_root luck room book ledger (Some call) =
-    comes_root ledger call.below (take call.below room call.doing (stepped_by luck book ledger.root.owner.actor (due call.below call.doing)).answer)
-
--- a turn keeps the root, and books at most one event, which is the actor's
-pub turn_keeps_root : (luck : Luck) (book : BookedHistory) (ledger : LedgerView) (doing : Option CallView) → (turned luck book ledger doing).seat.ledger.root ≡ ledger.root
-turn_keeps_root luck book ledger doing =
-    let seat = begun luck.start ledger doing in
-    goes_on_root luck.step luck.room book seat.ledger seat.doing ∙ begun_root luck.start ledger doing
-
-pub turn_moves : (luck : Luck) (book : BookedHistory) (ledger : LedgerView) (doing : Option CallView) → BookMoves book ledger.root.owner.actor (turned luck book ledger doing).book
-turn_moves luck book ledger doing =
-    let seat = begun luck.start ledger doing in
-    subst (λ (r : Root). BookMoves book r.owner.actor (turned luck book ledger doing).book) (begun_root luck.start ledger doing)
-    (goes_on_moves luck.step luck.room book seat.ledger seat.doing)
-
 module _ (plan : List Planned) (book : BookedHistory) (b : ℕ) (step : StepOf ℕ) (ledger : LedgerView) (calls : List CallMade) (other : b ≢ ledger.root.owner.actor) where
   still_own : own_events ledger.root.owner.actor (booked book b step).events ≡ own_events ledger.root.owner.actor book.events
   still_own = own_stays ledger.root.owner.actor book.events _ other
@@ -598,7 +457,7 @@ module _ (plan : List Planned) (book : BookedHistory) (b : ℕ) (step : StepOf �
 -- another's turn leaves them as they are
 pub so_far_among_others : (plan : List Planned) (book : BookedHistory) (b : ℕ) (new : BookedHistory) (ledger : LedgerView) (doing : Option CallView) → b ≢ ledger.root.owner.actor
     → BookMoves book b new → SoFar plan book ledger doing → SoFar plan new ledger doing
-so_far_among_others plan book b new ledger doing other (same is) far = subst (λ (k : BookedHistory). SoFar plan k ledger doing) (sym is) far
-so_far_among_others plan book b new ledger doing other (one_more made_step is) far =
+so_far_among_others plan book b new ledger doing other (book_same is) far = subst (λ (k : BookedHistory). SoFar plan k ledger doing) (sym is) far
+so_far_among_others plan book b new ledger doing other (book_more made_step is) far =
     subst (λ (k : BookedHistory). SoFar plan k ledger doing) (sym is)
     (record { calls = far.calls; made = far.made; outcomes = far.outcomes; released = far.released; at = at_among_others plan book b made_step ledger far.calls other doing far.at })

@@ -69,7 +69,7 @@ cut_later book old middle book_after new starts cut = record {
 
 -- ---- in a world
 
-placed_twice : {A : Type 0} (xs : List A) (i : ℕ) (x y : A) → slice_set (slice_set xs i x) i y ≡ slice_set xs i y
+pub placed_twice : {A : Type 0} (xs : List A) (i : ℕ) (x y : A) → slice_set (slice_set xs i x) i y ≡ slice_set xs i y
 placed_twice [] i x y = refl
 placed_twice (z ∷ xs) zero x y = refl
 placed_twice (z ∷ xs) (suc i) x y = ap (λ zs. z ∷ zs) (placed_twice xs i x y)

@@ -42,7 +42,7 @@ one_step book a (steps.RemoveFile h n) = record { closed = []; is = refl }
 one_step book a (steps.RemoveDir h n) = record { closed = []; is = refl }
 one_step book a (steps.Rename h n k m mode) = record { closed = []; is = refl }
 
-closed_both : (a : ℕ) (book : BookedHistory) (hs ks : List ℕ) → closed_all a book (hs ++ ks) ≡ closed_all a (closed_all a book hs) ks
+pub closed_both : (a : ℕ) (book : BookedHistory) (hs ks : List ℕ) → closed_all a book (hs ++ ks) ≡ closed_all a (closed_all a book hs) ks
 closed_both a book [] ks = refl
 closed_both a book (h ∷ hs) ks = closed_both a (booked book a (steps.Close h)) hs ks
 

@@ -7,10 +7,12 @@ use Rattle.tree_model.specs.History.{IsLegal, after_events}
 use Rattle.tree_model.specs.State.{State}
 use Rattle.tree_model.specs.Steps.{held}
 use Rattle.tree_model.proofs.HistoryLaws.{IsLegal-front, IsLegal-back, after_events-append}
+use Rattle.tree_model.proofs.StepLaws.{others_handles_stay}
 use Rattle.handles.specs.Objects.{StandingObject}
 use Rattle.step_resolver.specs.declared.walk.Root.{Root}
 use Rattle.step_resolver.specs.Order.{events_of}
 use Rattle.step_resolver.specs.WalkHistory.{own_events}
+use Rattle.step_resolver.proofs.Underway.LegalHistory.{nothing_more}
 use Rattle.root_ops.specs.CallHistory.{CallInHistory, IsCallInHistory, begin_of, end_of, actor_of, HandlesAfter, AfterDone, CallsTell}
 use Rattle.root_ops.specs.declared.op.Op.{Op}
 use Rattle.root_ops.specs.declared.op.Op.TheVariants.{Resolve, ResolveNoFollow, ReadLink, CreateFile, CreateDir, CreateLink, RemoveFile, RemoveDir, Rename, MkdirAll, RemoveAll, Single, Release}
@@ -18,7 +20,6 @@ use Rattle.root_ops.specs.declared.op.Request.{Request}
 use Rattle.root_ops.specs.Order.{Reply, opened, link_text, done, count, stepped, kept, fault}
 use Rattle.root_ops.specs.TurnView.{below_of}
 use Rattle.bulk_ops.proofs.OwnEvents.{cut}
-use Rattle.root_ops.proofs.Handles.OwnEvents.{nothing_more}
 use Rattle.root_ops.proofs.Handles.WalkParts.{HasRoot, root_later}
 use Rattle.race_core.specs.EndHandles.{Word, words_of_done, words_of, words_of_call, all_words, last_word, HandlesAtEnd, RootsStayOpen, KeptIsReleased}
 use Rattle.race_core.specs.OwnHistory.{NoneCloses}
@@ -29,7 +30,7 @@ use Rattle.race_core.proofs.OwnHistory.{none_first, none_rest, root_stays}
 
 -- ---- words
 
-words_on : (before : Option ℕ) (h : ℕ) (words others : List Word) → last_word before h (words ++ others) ≡ last_word (last_word before h words) h others
+pub words_on : (before : Option ℕ) (h : ℕ) (words others : List Word) → last_word before h (words ++ others) ≡ last_word (last_word before h words) h others
 words_on before h [] others = refl
 words_on before h (word ∷ words) others = words_on (if word.handle == h then word.node else before) h words others
 
@@ -86,7 +87,7 @@ module _ (tell : CallsTell) (root : Root) (node : ℕ) where
 
   after_one : (s : State) (rest : List Event) (c : CallMade) (request : Option Request) → IsMadeAs root request c → IsHere s rest → own_events a rest ≡ events_of a c.lines
       → (h : ℕ) → held (after_events s rest) a h ≡ last_word (held s a h) h (words_of_call request c.reply)
-  after_one s rest c None made here own h = nothing_more a rest s (own ∙ ap (events_of a) made.0) h
+  after_one s rest c None made here own h = nothing_more others_handles_stay a rest s (own ∙ ap (events_of a) made.0) h
   after_one s rest c (Some request) made here own h =
       let the_call : CallInHistory = record {
         opening = s;
@@ -105,7 +106,7 @@ module _ (tell : CallsTell) (root : Root) (node : ℕ) where
   after_all : (calls : List CallMade) (standings : List (Option StandingObject)) (s : State) (rest : List Event) → AreMade root standings calls → IsHere s rest
       → own_events a rest ≡ events_of_calls a calls → NoneCloses root.handle (events_of_calls a calls)
       → (h : ℕ) → held (after_events s rest) a h ≡ last_word (held s a h) h (all_words root standings calls)
-  after_all [] standings s rest made here own none h = nothing_more a rest s own h
+  after_all [] standings s rest made here own none h = nothing_more others_handles_stay a rest s own h
   after_all (c ∷ calls) standings s rest made here own none h =
       let parts = cut a rest (events_of a c.lines) (events_of_calls a calls) own in
       let whole : IsLegal s (parts.before ++ parts.after) = subst (IsLegal s) parts.whole here.legal in

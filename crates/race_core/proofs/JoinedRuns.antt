@@ -17,7 +17,7 @@ length-placed [] i x = refl
 length-placed (y ∷ xs) zero x = refl
 length-placed (y ∷ xs) (suc i) x = ap suc (length-placed xs i x)
 
-spent_of : (luck : Luck) (w : WorldView) (i : ℕ) (o : Option Seat) → (turn_of luck w i o).spent ≡ w.spent
+pub spent_of : (luck : Luck) (w : WorldView) (i : ℕ) (o : Option Seat) → (turn_of luck w i o).spent ≡ w.spent
 spent_of luck w i None = refl
 spent_of luck w i (Some seat) = refl
 

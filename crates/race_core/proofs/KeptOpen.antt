@@ -2,7 +2,7 @@
 use Rattle.std.proofs.Common.{◌≡◌, ◌≢◌, ℕ, zero, suc, List, [], ◌∷◌, ◌++◌, Bool, true, false, if◌then◌else◌, Option, Some, None, is_some, refl, sym, ap, subst, ◌∙◌, eq-eqb, eqb-true, append-nil}
 use Rattle.std.specs.Prelude.{slice_set, ◌==◌, ◌&&◌}
 use Rattle.std.specs.Option.{option_map}
-use Rattle.std.proofs.lemmas.Bool.{false≢true, ne_eqb}
+use Rattle.std.proofs.lemmas.Bool.{ne_eqb, and_parts}
 use Rattle.std.proofs.lemmas.Option.{none-some, same_Some}
 use Rattle.tree_model.specs.declared.answer.Answer.{Answer}
 use Rattle.tree_model.specs.declared.step.StepOf.{StepOf}
@@ -42,14 +42,9 @@ AreOwned owner (Some standing ∷ standings) = (standing.owner ≡ owner) × Are
 
 -- ---- owners
 
-both : (a b : Bool) → (a && b) ≡ true → (a ≡ true) × (b ≡ true)
-both true true e = (refl, refl)
-both true false e = absurd (false≢true e)
-both false b e = absurd (false≢true e)
-
 pub owners_are_one : (a b : Owner) → same_owner a b ≡ true → a ≡ b
 owners_are_one a b e =
-    let two = both (a.tag == b.tag) (a.actor == b.actor) e in
+    let two = and_parts (a.tag == b.tag) (a.actor == b.actor) e in
     λ i. record { tag = eqb-true a.tag b.tag two.0 i; actor = eqb-true a.actor b.actor two.1 i }
 
 owner_is_itself : (a : Owner) → same_owner a a ≡ true

@@ -3,18 +3,19 @@ pub mod OwnHistory
 mod Stepping
 mod Starting
 mod Running
-mod GivenUp
-mod CutShort
-mod JoinedRuns
-mod ReportsThere
+pub mod GivenUp
+pub mod CutShort
+pub mod JoinedRuns
+pub mod ReportsThere
 mod Granting
 mod HeldOpen
 mod HeldByCalls
 mod KeptOpen
+pub mod BookMoves
 pub mod CallsSoFar
-mod WorldSoFar
+pub mod WorldSoFar
 mod ReportsTell
-mod HandlesLeft
+pub mod HandlesLeft
 pub mod OneEnd
 pub mod LikeLists
 pub mod LikeSeats

@@ -1,8 +1,9 @@
 -- Turns with memory lead a world to one end.
-use Rattle.std.proofs.Common.{◌≡◌, ℕ, zero, suc, List, [], ◌∷◌, Bool, true, false, ◌||◌, length, Option, Some, None, is_some, slice_get, refl, sym, ap, subst, ◌∙◌}
+use Rattle.std.proofs.Common.{◌≡◌, ℕ, zero, suc, List, [], ◌∷◌, true, false, length, Option, Some, None, is_some, slice_get, refl, sym, ap, subst, ◌∙◌}
 use Rattle.std.specs.Prelude.{slice_set}
 use Rattle.std.proofs.lemmas.Bool.{false≢true}
 use Rattle.std.proofs.lemmas.Option.{same_Some}
+use Rattle.path_text.proofs.TextLemmas.{or_false}
 use Rattle.handles.specs.Objects.{StandingObject}
 use Rattle.root_ops.specs.View.{CallView}
 use Rattle.tree_model.specs.declared.answer.Event.{Event}
@@ -28,11 +29,7 @@ played (i ∷ is) w v ran had = played is (turn ran.0 w i) v ran.1 had.1 ∙ ap 
 
 -- ---- an actor that has nothing left to do
 
-neither : (a b : Bool) → (a || b) ≡ false → (a ≡ false) × (b ≡ false)
-neither true b e = absurd (false≢true (sym e))
-neither false b e = (refl, e)
-
-none_left : (o : Option CallView) → is_some o ≡ false → o ≡ None
+pub none_left : (o : Option CallView) → is_some o ≡ false → o ≡ None
 none_left None e = refl
 none_left (Some call) e = absurd (false≢true (sym e))
 
@@ -46,7 +43,7 @@ idle_turned luck book ledger doing e q =
     ap (λ (d : Option CallView). turned luck book ledger d) e
     ∙ ap (λ (ps : List Planned). goes_on luck.step luck.room book (begins_next luck.start ledger ps).ledger (begins_next luck.start ledger ps).doing) q
 
-set_same : {A : Type 0} (xs : List A) (i : ℕ) (x : A) → slice_get xs i ≡ Some x → slice_set xs i x ≡ xs
+pub set_same : {A : Type 0} (xs : List A) (i : ℕ) (x : A) → slice_get xs i ≡ Some x → slice_set xs i x ≡ xs
 set_same [] i x e = refl
 set_same (y ∷ xs) zero x e = ap (λ z. z ∷ xs) (sym (same_Some y x e))
 set_same (y ∷ xs) (suc i) x e = ap (λ zs. y ∷ zs) (set_same xs i x e)
@@ -57,7 +54,7 @@ idle_turn_by luck w i idle = on (slice_get w.seats i) refl (idle)
     on : (o : Option Seat) → slice_get w.seats i ≡ o → is_busy_in (slice_get w.seats i) ≡ false → turn_of luck w i o ≡ w
     on None e idle = refl
     on (Some seat) e idle =
-        let over = neither (is_some seat.doing) (are_some seat.ledger.to_come) (sym (ap is_busy_in e) ∙ idle) in
+        let over = or_false (is_some seat.doing) (are_some seat.ledger.to_come) (sym (ap is_busy_in e) ∙ idle) in
         let done = none_left seat.doing over.0 in
         ap (λ (t : Turned). record { book = t.book; seats = slice_set w.seats i t.seat; spent = w.spent })
         (idle_turned luck w.book seat.ledger seat.doing done (none_to_come seat.ledger.to_come over.1)

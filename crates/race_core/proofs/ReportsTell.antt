@@ -32,7 +32,7 @@ use Rattle.root_ops.specs.Quiet.{QuietCallsMean}
 use Rattle.root_ops.specs.TurnView.{below_of}
 use Rattle.step_resolver.proofs.DrivenWalks.{joined_events}
 use Rattle.root_ops.proofs.Handles.WalkParts.{IsEnded, walk_ends}
-use Rattle.root_ops.proofs.Replies.{at_its_end}
+use Rattle.root_ops.proofs.Replies.{at_its_end, no_lines}
 use Rattle.race_core.specs.declared.plan.ActorPlan.{ActorPlan}
 use Rattle.race_core.specs.declared.plan.Planned.{Planned}
 use Rattle.race_core.specs.declared.plan.Planned.TheVariants as planned
@@ -185,11 +185,6 @@ calls_in_reports tell mean act bulk r i plan of earlier c later request closes_o
     call_tells r i plan of earlier c later request split tell mean act bulk closes_own asked
 
 -- ---- one Resolve
-
--- from an end no line leads on
-no_lines : (below : Below) (reply other : Reply) (lines : List Line) → LeadsTo below (ends reply) lines (ends other) → lines ≡ []
-no_lines below reply other [] leads = refl
-no_lines below reply other (line ∷ lines) leads = absurd leads
 
 starts_so : (below : Below) (op : Op) (goal : Goal) (path : List ℕ) → IsResolve op goal path
     → (starts below true op ≡ unless_fault (text_fault path) (walks below (Opens goal) (reading_of path)))

@@ -4,6 +4,7 @@ use Rattle.std.proofs.lemmas.Bool.{false≢true}
 use Rattle.tree_model.specs.declared.step.StepOf.{StepOf}
 use Rattle.tree_model.specs.History.{IsLegal}
 use Rattle.tree_model.proofs.HistoryLaws.{IsLegal-append}
+use Rattle.tree_model.proofs.StepLaws.{slice_get-set_other}
 use Rattle.root_ops.specs.declared.below.Below.{Below}
 use Rattle.root_ops.specs.declared.call.CallTurn.TheVariants as outcome
 use Rattle.root_ops.specs.declared.op.Op.{Op}
@@ -21,11 +22,11 @@ use Rattle.race_core.specs.OneReport.{full, HadMemory, AllHadMemory, ReportsAreT
 use Rattle.race_core.specs.TurnView.{are_some, turns_of, turns_left}
 use Rattle.race_core.specs.Turns.{Luck, Stepped, stepped_by, turned, comes, begins, begins_next, goes_on, request_of, left_by}
 use Rattle.race_core.specs.Worlds.{WorldView, turn_of, turn, Runs, again, GoesToEnd, AllGoToEnd, numbers_below, is_busy_in, is_busy_at, turns_in, turns_at, ledgers_in, replies_in, kept_in}
-use Rattle.race_core.proofs.CallsSoFar.{StepEffect, was_made, was_not, was_shut, effect_of}
 use Rattle.race_core.proofs.Running.{all_over}
 use Rattle.race_core.proofs.JoinedRuns.{as_many}
 use Rattle.race_core.proofs.OneEnd.{idle_turn_by}
-use Rattle.race_core.proofs.WorldSoFar.{placed_there, placed_elsewhere}
+use Rattle.race_core.proofs.WorldSoFar.{placed_there}
+use Rattle.race_core.proofs.BookMoves.{StepEffect, was_made, was_not, was_shut, effect_of}
 
 -- ---- with memory a turn of an actor who has something left to do leaves less of it
 
@@ -135,7 +136,7 @@ idle_stays luck w i j idle = by (i == j) refl
   where
     elsewhere : i ≢ j → (o : Option Seat) → slice_get (turn_of luck w i o).seats j ≡ slice_get w.seats j
     elsewhere ne None = refl
-    elsewhere ne (Some seat) = placed_elsewhere w.seats i j (turned luck w.book seat.ledger seat.doing).seat (λ e. ne (sym e))
+    elsewhere ne (Some seat) = slice_get-set_other w.seats i (turned luck w.book seat.ledger seat.doing).seat j (λ e. ne (sym e))
 
     by : (b : Bool) → (i == j) ≡ b → is_busy_at (turn luck w i).seats j ≡ false
     by true e =
@@ -176,7 +177,7 @@ all_idle (suc n) w v j gone less = idle_by n w v j gone (λ u before lower. all_
 
 -- ---- the history stays legal
 
-abbrev IsLegalBook : BookedHistory → Type 0
+abbrev pub IsLegalBook : BookedHistory → Type 0
 IsLegalBook book = IsLegal book.opening book.events
 
 legal_step : (luck : Bool) (book : BookedHistory) (a : ℕ) (step : StepOf ℕ) (s : Stepped) → StepEffect book a step s → IsLegalBook book → IsLegalBook s.book
@@ -192,15 +193,15 @@ legal_on luck room book ledger (Some call) legal =
     let step = due call.below call.doing in
     legal_step luck book ledger.root.owner.actor step (stepped_by luck book ledger.root.owner.actor step) (effect_of book ledger.root.owner.actor step luck) legal
 
-legal_turn : (luck : Luck) (w : WorldView) (i : ℕ) (o : Option Seat) → IsLegalBook w.book → IsLegalBook (turn_of luck w i o).book
+pub legal_turn : (luck : Luck) (w : WorldView) (i : ℕ) (o : Option Seat) → IsLegalBook w.book → IsLegalBook (turn_of luck w i o).book
 legal_turn luck w i None legal = legal
 legal_turn luck w i (Some seat) legal = legal_on luck.step luck.room w.book _ _ legal
 
-legal_run : (is : List ℕ) (w v : WorldView) → Runs w is v → IsLegalBook w.book → IsLegalBook v.book
+pub legal_run : (is : List ℕ) (w v : WorldView) → Runs w is v → IsLegalBook w.book → IsLegalBook v.book
 legal_run [] w v run legal = subst (λ (u : WorldView). IsLegalBook u.book) (sym run) legal
 legal_run (i ∷ is) w v run legal = legal_run is (turn run.0 w i) v run.1 (legal_turn run.0 w i (slice_get w.seats i) legal)
 
-legal_after : (is : List ℕ) (w v : WorldView) → AllGoToEnd w is v → IsLegalBook w.book → IsLegalBook v.book
+pub legal_after : (is : List ℕ) (w v : WorldView) → AllGoToEnd w is v → IsLegalBook w.book → IsLegalBook v.book
 legal_after [] w v gone legal = subst (λ (u : WorldView). IsLegalBook u.book) (sym gone) legal
 legal_after (i ∷ is) w v gone legal = legal_after is gone.0 v gone.2 (legal_run (again i gone.1.turns) w gone.0 gone.1.run legal)
 

@@ -13,6 +13,7 @@ use Rattle.tree_model.specs.Steps.{held, node_held, is_full, with_handle, direct
 use Rattle.tree_model.specs.Trees.{IsState}
 use Rattle.tree_model.specs.History.{IsLegal, after_events}
 use Rattle.tree_model.proofs.StepsKept.{directory_at-is_dir, grants_keep_trees}
+use Rattle.tree_model.proofs.StepLaws.{slice_get-set_other}
 use Rattle.step_resolver.specs.declared.walk.Root.{Root}
 use Rattle.step_resolver.specs.WalkHistory.{own_events}
 use Rattle.step_resolver.proofs.Underway.StepOutcomes.{with_handle-is_more}
@@ -29,7 +30,8 @@ use Rattle.race_core.specs.Turns.{Luck, turned, opened_ledger}
 use Rattle.race_core.specs.WorldCalls.{WholeRun, IsRun, opening_of, root_of, AreMade, planned_of, events_of_calls, ReleasesOwn, KeptAreReleased, ActorsCalls}
 use Rattle.race_core.specs.WorldLaws.{CallsInOrder}
 use Rattle.race_core.specs.Worlds.{WorldView, turn_of, turn, Runs, again, AllGoToEnd, RunsOut, AllOver, ledgers_in, replies_in}
-use Rattle.race_core.proofs.CallsSoFar.{SoFar, SeatSoFar, BookMoves, same, one_more, turns_so_far, turn_keeps_root, turn_moves, so_far_among_others}
+use Rattle.race_core.proofs.CallsSoFar.{SoFar, SeatSoFar, turns_so_far, so_far_among_others}
+use Rattle.race_core.proofs.BookMoves.{BookMoves, same, one_more, turn_keeps_root, turn_moves}
 
 -- ---- places
 
@@ -38,12 +40,10 @@ placed_there [] i x y e = absurd (none-some x e)
 placed_there (z ∷ xs) zero x y e = refl
 placed_there (z ∷ xs) (suc i) x y e = placed_there xs i x y e
 
-pub placed_elsewhere : {A : Type 0} (xs : List A) (i k : ℕ) (y : A) → k ≢ i → slice_get (slice_set xs i y) k ≡ slice_get xs k
-placed_elsewhere [] i k y ne = refl
-placed_elsewhere (x ∷ xs) zero zero y ne = absurd (ne refl)
-placed_elsewhere (x ∷ xs) zero (suc k) y ne = refl
-placed_elsewhere (x ∷ xs) (suc i) zero y ne = refl
-placed_elsewhere (x ∷ xs) (suc i) (suc k) y ne = placed_elsewhere xs i k y (λ e. ne (ap suc e))
+-- what comes after a list is at the place of its length
+pub got_after : {A : Type 0} (xs : List A) (x : A) (rest : List A) → slice_get (xs ++ x ∷ rest) (length xs) ≡ Some x
+got_after [] x rest = refl
+got_after (y ∷ xs) x rest = got_after xs x rest
 
 -- ---- a turn
 
@@ -81,7 +81,7 @@ module _ (opening : State) (i : ℕ) (root : Root) (plan : List Planned) where
         on (inl q) =
             let mine : new_seat ≡ other = same_Some new_seat other (sym (placed_there w.seats j seat new_seat at) ∙ ap (slice_get after.seats) (sym q) ∙ e) in
             ap (λ (s : Seat). s.ledger.root.owner.actor) (sym mine) ∙ ap (λ (r : Root). r.owner.actor) (turn_keeps_root luck w.book seat.ledger seat.doing) ∙ under.numbered j seat at ∙ sym q
-        on (inr ne) = under.numbered k other (sym (placed_elsewhere w.seats j k new_seat ne) ∙ e)
+        on (inr ne) = under.numbered k other (sym (slice_get-set_other w.seats j new_seat k ne) ∙ e)
 
     by_itself : j ≡ i → IsUnder after
     by_itself q =
@@ -104,7 +104,7 @@ module _ (opening : State) (i : ℕ) (root : Root) (plan : List Planned) where
           opened = opens_so w.book seat.ledger.root.owner.actor after.book moves ∙ under.opened;
           numbered = numbered_still;
           seat = under.seat;
-          there = placed_elsewhere w.seats j i new_seat ne ∙ under.there;
+          there = slice_get-set_other w.seats j new_seat i ne ∙ under.there;
           rooted = under.rooted;
           far = so_far_among_others plan w.book seat.ledger.root.owner.actor after.book under.seat.ledger under.seat.doing other moves under.far;
         }

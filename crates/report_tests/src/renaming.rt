@@ -6,7 +6,7 @@ use path_text::{Errno, Name, Names, NoMemory};
 use race_core::{Outcome, Outcomes};
 use std::alloc::Global;
 use std::test::Fail;
-use tree_model::{Answer, HandleNo, Inode, Kind, Node, Object, Place};
+use tree_model::{Answer, HandleNo, Inode, Kind, Node, Object, Place, same_nodes};
 
 /// How many nodes the opening tree has, the actors that are named, an outcome, and the same one numbered anew.
 type Row = (usize, &'static [u32], &'static str, &'static str);
@@ -98,15 +98,6 @@ fn read(alloc: Global, text: &str) -> Result<Renumbered, Errno> {
         replies.push(outcomes_of(alloc, part)?)?;
     }
     Ok(Renumbered { nodes, replies })
-}
-
-fn same_nodes(nodes: &[Inode], others: &[Inode]) -> bool {
-    for (node, other) in nodes.iter().zip(others) {
-        if node.place != other.place || node.object.kind() != other.object.kind() {
-            return false;
-        }
-    }
-    nodes.len() == others.len()
 }
 
 /// What a call opened, by a step or not.

@@ -14,4 +14,3 @@ pub mod FirstWalks
 pub mod Resolves
 pub mod BulkReplies
 pub mod LikeCalls
-pub mod Reversed

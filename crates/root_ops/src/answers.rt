@@ -1,24 +1,13 @@
 //! What the answer to a call's own step gives.
 ghost use Rattle.std.specs.Prelude.{◌≡◌};
-ghost use Rattle.step_resolver.specs.Order.{refusal_of};
 ghost use Rattle.handles.specs.declared.owner.Owner.{Owner};
 ghost use Rattle.root_ops.specs.Order.{reply_to};
 ghost use Rattle.root_ops.specs.View.{reply_view, IsOwned};
 
 use crate::aim::Wanted;
 use crate::reply::Reply;
-use path_text::Errno;
+use step_resolver::refusal_of;
 use tree_model::Answer;
-
-/// The refusal that an answer is. One that doesn't fit the step counts as BadHandle.
-pub(crate) fn refusal_of(answer: &Answer) -> Errno
-    ensures { result ≡ refusal_of answer.now }
-{
-    match answer {
-        Answer::Refused(error) => *error,
-        _ => Errno::BadHandle,
-    }
-}
 
 /// The reply that an answer gives.
 pub(crate) fn reply_to(wanted: Wanted, answer: Answer) -> Reply

@@ -137,7 +137,7 @@ impl Call {
         ensures kept { Keeps below result }
     {
         match Path::parse(alloc, text.as_slice()) {
-            Ok(path) => match path.split_last(rule) {
+            Ok(path) => match path.split_last(alloc, rule) {
                 Ok(split) => {
                     let aim = Aim::Changes(change, split.name);
                     Call::walk(alloc, below, aim, split.dir)
@@ -165,7 +165,7 @@ impl Call {
         ensures kept { Keeps below result }
     {
         match Path::parse(alloc, text.as_slice()) {
-            Ok(path) => match path.split_last(Rule::Drop) {
+            Ok(path) => match path.split_last(alloc, Rule::Drop) {
                 Ok(split) => Call::clear(alloc, below, split.dir, split.name),
                 Err(error) => failed(error),
             },
@@ -187,7 +187,7 @@ impl Call {
         ensures kept { Keeps below result }
     {
         match Path::parse(alloc, old.as_slice()) {
-            Ok(path) => match path.split_last(Rule::Drop) {
+            Ok(path) => match path.split_last(alloc, Rule::Drop) {
                 Ok(old) => Call::renamed(alloc, below, old, new, mode),
                 Err(error) => failed(error),
             },
@@ -202,7 +202,7 @@ impl Call {
         ensures kept { Keeps below result }
     {
         match Path::parse(alloc, new.as_slice()) {
-            Ok(path) => match path.split_last(Rule::Drop) {
+            Ok(path) => match path.split_last(alloc, Rule::Drop) {
                 Ok(new) => {
                     let slash = one_has_slash(&old, &new);
                     let renaming = Renaming {

@@ -12,14 +12,14 @@ ghost use Rattle.root_ops.specs.View.{doing_view, after_view, list_of, next_view
 ghost use Rattle.root_ops.specs.TurnView.{TakesTo};
 
 use crate::aim::{Aim, Renaming, Wanted};
-use crate::answers::{refusal_of, reply_to};
+use crate::answers::reply_to;
 use crate::doing::{After, Doing, Handles, Next};
 use crate::reply::Reply;
 use bulk_ops::{BulkTurn, MkdirAll, RemoveAll};
 use handles::{Owner, Standing};
 use path_text::{Errno, Flags, Path};
 use std::alloc::Global;
-use step_resolver::{Root, Turn, Walk};
+use step_resolver::{Root, Turn, Walk, refusal_of};
 use tree_model::{Answer, HandleNo, Kind, StepOf};
 use walk_plan::Goal;
 

@@ -7,7 +7,7 @@ use Rattle.schedule_graph.specs.declared.graph.Way.{Way}
 use Rattle.schedule_graph.specs.Words.{plus, is_less_or, is_not_after, Rank, is_at_most}
 use Rattle.schedule_graph.specs.Adding.{went}
 
-less_cases : (m n : ℕ) (b : Bool) → is_less_or m n b ≡ true → (m < n) ⊎ ((m ≡ n) × (b ≡ true))
+pub less_cases : (m n : ℕ) (b : Bool) → is_less_or m n b ≡ true → (m < n) ⊎ ((m ≡ n) × (b ≡ true))
 less_cases m n b e = grind (arith, nat_tests)
 
 less_by : (m n : ℕ) (b : Bool) → m < n → is_less_or m n b ≡ true

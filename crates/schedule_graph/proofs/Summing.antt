@@ -53,12 +53,25 @@ counted_none rk P none = record {
   least = none;
 }
 
+-- ---- the same words
+
+pub so_many_as : {P Q : List ℕ → Type 0} (n : ℕ) → ((is : List ℕ) → P is → Q is) → ((is : List ℕ) → Q is → P is) → AreSoMany P n → AreSoMany Q n
+so_many_as n to from so = record {
+  words = so.words;
+  are_all = record {
+    each = λ is h. to is (so.are_all.each is h);
+    all = λ is q. so.are_all.all is (from is q);
+    once = so.are_all.once;
+  };
+  count = so.count;
+}
+
 -- ---- words of two kinds
 
-longer : (m n : ℕ) → (max m n ≡ m) ⊎ (max m n ≡ n)
+pub longer : (m n : ℕ) → (max m n ≡ m) ⊎ (max m n ≡ n)
 longer m n = grind arith
 
-capped_sum : (cap a b m n : ℕ) → m ≡ min a cap → n ≡ min b cap → min (m + n) cap ≡ min (a + b) cap
+pub capped_sum : (cap a b m n : ℕ) → m ≡ min a cap → n ≡ min b cap → min (m + n) cap ≡ min (a + b) cap
 capped_sum cap a b m n e f = omega arith
 
 module _ (rk : List ℕ → Rank) (P Q : List ℕ → Type 0) (c m : Count) (r : Rank) (is : IsCount rk P c) (more : IsCount rk Q m)

@@ -3,6 +3,7 @@ use explore::{
     Beginnings, Class, Findings, JOBS_MAX, Jobs, Limits, Progress, Scene, Scope, SearchFault, Seen,
     Silent, explore,
 };
+use path_text::NoMemory;
 use race_core::World;
 use scripts::{RunFault, TurnOrder, read_scene};
 use std::alloc::Global;
@@ -48,25 +49,41 @@ impl Progress for Last {
     }
 }
 
+/// The most cuts, and whether what is changed outside of roots is told.
+type Which = (Option<u64>, bool);
+
 /// A script, the most states and turns, and which lists; the numbers of lists, of states, of the longest list's turns
 /// and of outcomes, or why nothing is told.
-type Search = (&'static str, u64, u32, Scope, Result<Found, SearchFault>);
+type Search = (&'static str, u64, u32, Which, Result<Found, SearchFault>);
 
 /// All lists, those without a cut, and all with what is changed outside of roots.
-const ALL: Scope = Scope {
-    cuts: None,
-    outside: false,
-};
+const ALL: Which = (None, false);
 
-const WHOLE: Scope = Scope {
-    cuts: Some(0),
-    outside: false,
-};
+const WHOLE: Which = (Some(0), false);
 
-const OUTSIDE: Scope = Scope {
-    cuts: None,
-    outside: true,
-};
+const OUTSIDE: Which = (None, true);
+
+/// The most states and turns, and which lists: those that begin with these turns.
+fn limits_of(
+    alloc: Global,
+    states: u64,
+    turns: u32,
+    which: Which,
+    begin: &[u32],
+) -> Result<Limits, NoMemory> {
+    let (cuts, outside) = which;
+    let mut first = Vec::new(alloc);
+    first.extend_from_slice(begin)?;
+    Ok(Limits {
+        states,
+        turns,
+        scope: Scope {
+            cuts,
+            outside,
+            begin: first,
+        },
+    })
+}
 
 type Found = (u64, u64, usize, usize);
 
@@ -89,7 +106,7 @@ fn found<R: Threads + Sync>(
     threads: &R,
     jobs: Jobs,
     scene: &Scene,
-    limits: Limits,
+    limits: &Limits,
 ) -> Result<Found, SearchFault> {
     let mut last = Last(0);
     let found = explore(alloc, threads, jobs, scene, limits, &mut last)?;
@@ -103,14 +120,10 @@ fn first_wrong<R: Threads + Sync>(
     threads: &R,
     jobs: Jobs,
 ) -> Result<Option<usize>, RunFault> {
-    for (at, (script, states, turns, scope, wanted)) in SEARCHES.iter().enumerate() {
+    for (at, (script, states, turns, which, wanted)) in SEARCHES.iter().enumerate() {
         let scene = scene_of(alloc, script)?;
-        let limits = Limits {
-            states: *states,
-            turns: *turns,
-            scope: *scope,
-        };
-        if found(alloc, threads, jobs, &scene, limits) != *wanted {
+        let limits = limits_of(alloc, *states, *turns, *which, [].as_slice())?;
+        if found(alloc, threads, jobs, &scene, &limits) != *wanted {
             return Ok(Some(at));
         }
     }
@@ -127,6 +140,49 @@ fn searches_keep_to_limits(rt: HostRuntime) -> Result<(), Fail> {
     for count in [1, 2, 4, 64] {
         assert_eq!(rt; first_wrong(rt.alloc(), &rt, jobs_of(count))?, None);
     }
+    Ok(())
+}
+
+/// A script, the most turns, which lists, and the turns that they begin with; what is found then, or why nothing is.
+type Part = (
+    &'static str,
+    u32,
+    Which,
+    &'static [u32],
+    Result<Found, SearchFault>,
+);
+
+const PARTS: [Part; 9] = [
+    (REMOVED, 6, ALL, &[0], Ok((5, 13, 6, 2))),
+    (REMOVED, 6, ALL, &[1], Ok((1, 3, 2, 1))),
+    (REMOVED, 6, ALL, &[0, 1, 0], Ok((1, 5, 4, 1))),
+    (REMOVED, 6, ALL, &[0, 0, 0, 0, 0, 1], Ok((1, 7, 6, 1))),
+    (REMOVED, 6, ALL, &[0, 1, 1], Err(SearchFault::NotBusy(2))),
+    (REMOVED, 6, ALL, &[0, 2], Err(SearchFault::NotBusy(1))),
+    (REMOVED, 6, WHOLE, &[0, 1], Err(SearchFault::TooManyCuts(1))),
+    (REMOVED, 1, ALL, &[0, 1, 0], Err(SearchFault::TooManyTurns)),
+    (MOVED_OUT, 14, WHOLE, &[1, 1], Ok((3, 27, 14, 2))),
+];
+
+/// The place of the first part, from 0, of which something else is found.
+fn first_wrong_part<R: Threads + Sync>(
+    alloc: Global,
+    threads: &R,
+) -> Result<Option<usize>, RunFault> {
+    for (at, (script, turns, which, begin, wanted)) in PARTS.iter().enumerate() {
+        let scene = scene_of(alloc, script)?;
+        let limits = limits_of(alloc, 1_000, *turns, *which, begin)?;
+        let got = found(alloc, threads, Jobs::one(), &scene, &limits);
+        if got != *wanted {
+            return Ok(Some(at));
+        }
+    }
+    Ok(None)
+}
+
+#[test]
+fn lists_begin_as_is_asked_for(rt: HostRuntime) -> Result<(), Fail> {
+    assert_eq!(rt; first_wrong_part(rt.alloc(), &rt)?, None);
     Ok(())
 }
 
@@ -177,14 +233,10 @@ fn finds_the_same<R: Threads + Sync>(
     script: &str,
 ) -> Result<bool, RunFault> {
     let scene = scene_of(alloc, script)?;
-    let limits = Limits {
-        states: 1_000,
-        turns: 100,
-        scope: OUTSIDE,
-    };
+    let all = || limits_of(alloc, 1_000, 100, OUTSIDE, [].as_slice());
     let (one, many) = (Jobs::one(), jobs_of(count));
-    let alone = explore(alloc, threads, one, &scene, limits, &mut Silent);
-    let found = explore(alloc, threads, many, &scene, limits, &mut Silent);
+    let alone = explore(alloc, threads, one, &scene, &all()?, &mut Silent);
+    let found = explore(alloc, threads, many, &scene, &all()?, &mut Silent);
     Ok(match (&alone, &found) {
         (Ok(alone), Ok(found)) => are_same_findings(alone, found),
         _ => false,

@@ -6,19 +6,20 @@ use Rattle.tree_model.specs.declared.answer.Answer.{Answer}
 use Rattle.tree_model.specs.declared.answer.Answer.TheVariants.{Done, Refused}
 use Rattle.tree_model.specs.declared.answer.Event.{Event}
 use Rattle.tree_model.specs.declared.step.StepOf.TheVariants.{Close}
-use Rattle.step_resolver.specs.Order.{Way, Walking, opening, reading, rising, judging, duping, ending, Line, answered, no_room, not_made, events_of, IsWant}
+use Rattle.step_resolver.specs.Order.{answered, no_room, not_made, events_of}
 use Rattle.step_resolver.specs.Order as walk
 use Rattle.root_ops.specs.declared.below.Below.{Below}
 use Rattle.handles.specs.Objects.{StandingObject}
 use Rattle.root_ops.specs.declared.op.Op.{Op}
 use Rattle.root_ops.specs.declared.op.Op.TheVariants.{Release, Resolve}
-use Rattle.root_ops.specs.Order.{kept, same_owner, starts, Doing, walking, acting, checking, closing, releasing, CallTurn, more, ends, due, take, way_of, IsUnmade, LeadsTo}
+use Rattle.root_ops.specs.Order.{kept, same_owner, starts, Doing, releasing, CallTurn, more, ends, due, take, IsUnmade}
 use Rattle.root_ops.specs.declared.op.Request.{Request as RequestTo}
 use Rattle.root_ops.specs.declared.reply.Reply.{Reply as Told}
 use Rattle.root_ops.specs.TurnView.{below_of, StartsTo, TakesTo}
 use Rattle.root_ops.specs.View.{reply_view, IsOwned}
 use Rattle.step_resolver.proofs.DrivenWalks.{joined_events}
 use Rattle.root_ops.proofs.Refusals.{refusal_needs_no_room}
+use Rattle.root_ops.proofs.FirstTurn.{leads_on}
 use Rattle.sessions.specs.Session.{SessionView}
 use Rattle.sessions.specs.Call.{logs, logs_step, actor_of, root_of, released_by, IsAnswer, Leads, LeadsFirst, Made}
 
@@ -41,17 +42,6 @@ module _ (below : Below) (old new : SessionView) (doing : Doing) (answer : Answe
   pub advanced : IsAnswer below doing old new answer → TakesTo below doing answer to → Leads below old (more doing) new to
   advanced (inl is) taken = made taken.0 taken.1 is
   advanced (inr is) taken = left_out taken.0 is.0 taken.1 is.1.0 is.1.1.0 (is.1.1.1 ∙ ap (λ (log : List Event). record { owner = old.owner; root = old.root; log = log; marked = old.marked }) (sym (append-nil old.log)))
-
-leads_on : (below : Below) (lines : List Line) (turn mid : CallTurn) (others : List Line) (end : CallTurn)
-    → LeadsTo below turn lines mid → LeadsTo below mid others end → LeadsTo below turn (lines ++ others) end
-leads_on below [] turn mid others end first onward = subst (λ t. LeadsTo below t others end) (sym first) onward
-leads_on below (answered step answer ∷ lines) (more doing) mid others end first onward =
-    (first.0, leads_on below lines (take below true doing answer) mid others end first.1 onward)
-leads_on below (no_room step answer ∷ lines) (more doing) mid others end first onward =
-    (first.0, leads_on below lines (take below false doing answer) mid others end first.1 onward)
-leads_on below (not_made error ∷ lines) (more doing) mid others end first onward =
-    (first.0, leads_on below lines (take below true doing (Refused error)) mid others end first.1 onward)
-leads_on below (line ∷ lines) (ends reply) mid others end first onward = absurd first
 
 pub led_nowhere : (below : Below) (session : SessionView) (turn : CallTurn) → Leads below session turn session turn
 led_nowhere below session turn = record {

@@ -5,12 +5,16 @@ use Rattle.std.proofs.lemmas.Bool.{false≢true, eqb-true, eqb-false, ltb-true, 
 use Rattle.std.proofs.lemmas.List.{length-take-le, take_all}
 use Rattle.std.proofs.lemmas.List.Elements.{filter-append}
 use Rattle.std.proofs.lemmas.Option.{slice_get_past, slice_get_within}
+use Rattle.path_text.proofs.TextLemmas.{or_false}
 use Rattle.tree_model.specs.declared.answer.Event.{Event}
 use Rattle.tree_model.specs.History.{IsLegal, after_events}
 use Rattle.tree_model.specs.State.{State}
 use Rattle.step_resolver.specs.WalkHistory.{own_events}
+use Rattle.step_resolver.proofs.Meaning.PlainResolution.{slice_get-some}
+use Rattle.bulk_ops.proofs.OwnEvents.{own_later}
 use Rattle.race_core.specs.Book.{BookedHistory, tree_now}
-use Rattle.sessions.specs.Close.{StoppedView, or_else, least, is_strange, is_strange_at, is_stranger, is_missing, AllKnown, FitsAt, AllFit, IsClosable, IsClosed}
+use Rattle.race_core.proofs.WorldSoFar.{got_after}
+use Rattle.sessions.specs.Close.{StoppedView, or_else, least, is_strange, is_strange_at, is_stranger, is_missing, FitsAt, AllFit, IsClosable, IsClosed}
 use Rattle.sessions.specs.Session.{SessionView}
 
 -- ---- the least number
@@ -79,13 +83,6 @@ all_fit_below z ss i n long below p = on (nat_lt p n) refl
 
 -- ---- an actor's own events
 
-there_is : {A : Type 0} (xs : List A) (i : ℕ) → i < length xs → (x : A) × (slice_get xs i ≡ Some x)
-there_is [] i within = absurd (omega (arith, within))
-there_is (x ∷ xs) zero within = (x, refl)
-there_is (x ∷ xs) (suc i) within =
-    let less : i < length xs = omega (arith, within) in
-    there_is xs i less
-
 -- a list at one of its places
 split_at : {A : Type 0} (xs : List A) (i : ℕ) (x : A) → slice_get xs i ≡ Some x → (rest : List A) × ((xs ≡ take i xs ++ x ∷ rest) × (take (suc i) xs ≡ take i xs ++ x ∷ []))
 split_at [] i x e = cc (e)
@@ -96,26 +93,19 @@ split_at (y ∷ xs) (suc i) x e =
     let later = split_at xs i x e in
     (later.0, (ap (λ zs. y ∷ zs) later.1.0, ap (λ zs. y ∷ zs) later.1.1))
 
-get-mid : {A : Type 0} (xs : List A) (x : A) (rest : List A) → slice_get (xs ++ x ∷ rest) (length xs) ≡ Some x
-get-mid [] x rest = refl
-get-mid (y ∷ xs) x rest = get-mid xs x rest
-
 own_one : (a : ℕ) (event : Event) (rest : List Event) → event.actor ≡ a → own_events a (event ∷ rest) ≡ event ∷ own_events a rest
 own_one a event rest e = ap (λ b. cond b (event ∷ own_events a rest) (own_events a rest)) (eq-eqb event.actor a e)
-
-own_none : (a : ℕ) (event : Event) (rest : List Event) → (event.actor == a) ≡ false → own_events a (event ∷ rest) ≡ own_events a rest
-own_none a event rest e = ap (λ b. cond b (event ∷ own_events a rest) (own_events a rest)) e
 
 module _ (a at next : ℕ) (es log : List Event) (within : at < length es) (short : next ≤ length log) (same : take next log ≡ own_events a (take at es)) where
   -- another's event
   pub not_own : (b : Bool) → IfSome (slice_get es at) (λ event. IsTrue b ↔ (event.actor ≡ a)) → b ≡ false → take next log ≡ own_events a (take (at + 1) es)
   not_own b who other =
-      let here = there_is es at within in
+      let here = slice_get-some es at within in
       let e = here.0 in
       let at_e = here.1 in
       let is_b : IsTrue b ↔ (e.actor ≡ a) = subst (λ o. IfSome o (λ event. IsTrue b ↔ (event.actor ≡ a))) at_e who in
       let next_at : suc at ≡ at + 1 = omega arith in
-      let none : own_events a (e ∷ []) ≡ [] = own_none a e [] (ne_eqb e.actor a (λ q. false≢true (sym other ∙ is_b.1 q))) in
+      let none : own_events a (e ∷ []) ≡ [] = own_later a e [] (ne_eqb e.actor a (λ q. false≢true (sym other ∙ is_b.1 q))) in
       same ∙ sym (append-nil (own_events a (take at es))) ∙ ap (λ fs. own_events a (take at es) ++ fs) (sym none)
       ∙ sym (filter-append (λ event. event.actor == a) (take at es) (e ∷ [])) ∙ ap (own_events a) (sym (split_at es at e at_e).1.1) ∙ ap (λ n. own_events a (take n es)) next_at
 
@@ -123,7 +113,7 @@ module _ (a at next : ℕ) (es log : List Event) (within : at < length es) (shor
   pub is_own : (b : Bool) → IfSome (slice_get es at) (λ event. IsTrue b ↔ (event.actor ≡ a)) → b ≡ true → slice_get log next ≡ slice_get es at
       → (next + 1 ≤ length log) × (take (next + 1) log ≡ own_events a (take (at + 1) es))
   is_own b who own found =
-      let here = there_is es at within in
+      let here = slice_get-some es at within in
       let e = here.0 in
       let at_e = here.1 in
       let is_b : IsTrue b ↔ (e.actor ≡ a) = subst (λ o. IfSome o (λ event. IsTrue b ↔ (event.actor ≡ a))) at_e who in
@@ -139,7 +129,7 @@ module _ (a at next : ℕ) (es log : List Event) (within : at < length es) (shor
   -- its own, which the log lacks
   pub lacks : (b : Bool) → IfSome (slice_get es at) (λ event. IsTrue b ↔ (event.actor ≡ a)) → b ≡ true → (slice_get log next ≡ slice_get es at → ⊥) → log ≡ own_events a es → ⊥
   lacks b who own lost all =
-      let here = there_is es at within in
+      let here = slice_get-some es at within in
       let e = here.0 in
       let at_e = here.1 in
       let is_b : IsTrue b ↔ (e.actor ≡ a) = subst (λ o. IfSome o (λ event. IsTrue b ↔ (event.actor ≡ a))) at_e who in
@@ -148,7 +138,7 @@ module _ (a at next : ℕ) (es log : List Event) (within : at < length es) (shor
       ap (own_events a) cut.1.0 ∙ filter-append (λ event. event.actor == a) (take at es) (e ∷ cut.0)
       ∙ ap (λ fs. own_events a (take at es) ++ fs) (own_one a e cut.0 (is_b.0 own)) ∙ ap (λ fs. fs ++ e ∷ own_events a cut.0) (sym same) in
       let size : length (take next log) ≡ next = length-take-le next log short in
-      lost (ap (λ l. slice_get l next) (all ∙ whole) ∙ ap (slice_get (take next log ++ e ∷ own_events a cut.0)) (sym size) ∙ get-mid (take next log) e (own_events a cut.0) ∙ sym at_e)
+      lost (ap (λ l. slice_get l next) (all ∙ whole) ∙ ap (slice_get (take next log ++ e ∷ own_events a cut.0)) (sym size) ∙ got_after (take next log) e (own_events a cut.0) ∙ sym at_e)
 
 -- at the end of the events
 pub at_the_end : (a at next : ℕ) (es log : List Event) → length es ≤ at → next ≤ length log → take next log ≡ own_events a (take at es)
@@ -160,10 +150,6 @@ at_the_end a at next es log past short same =
     )
 
 -- ---- a closed service
-
-both_false : (a b : Bool) → (a || b) ≡ false → (a ≡ false) × (b ≡ false)
-both_false true b e = cc (e)
-both_false false b e = (refl, e)
 
 not_not : (b : Bool) → not b ≡ false → b ≡ true
 not_not true e = refl
@@ -186,8 +172,8 @@ module _ (z : StoppedView) (ss : List SessionView) (is : IsClosable z ss) where
       let plain : is_stranger z ss p ≡ false = least_none (is_stranger z ss) (length ss) p is.none_strange (slice_get_within ss p s at) in
       let none : is_strange z (take p ss) s ≡ false = sym (ap (is_strange_at z (take p ss)) at) ∙ plain in
       let twice = list_any (λ t. t.owner.actor == s.owner.actor) (take p ss) in
-      let two = both_false (not (s.owner.tag == z.tag) || not (nat_lt s.owner.actor z.count)) twice none in
-      let within = (both_false (not (s.owner.tag == z.tag)) (not (nat_lt s.owner.actor z.count)) two.0).1 in
+      let two = or_false (not (s.owner.tag == z.tag) || not (nat_lt s.owner.actor z.count)) twice none in
+      let within = (or_false (not (s.owner.tag == z.tag)) (not (nat_lt s.owner.actor z.count)) two.0).1 in
       ltb-true s.owner.actor z.count (not_not (nat_lt s.owner.actor z.count) within)
 
   own_log : (p : ℕ) (s : SessionView) → slice_get ss p ≡ Some s → s.log ≡ own_events s.owner.actor z.book.events

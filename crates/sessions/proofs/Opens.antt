@@ -1,5 +1,5 @@
 -- What a granted handle changes, and what its Close takes back.
-use Rattle.std.proofs.Common.{◌≡◌, ◌≢◌, ℕ, zero, suc, ◌+◌, ◌==◌, ◌<◌, ◌≤◌, Bool, true, false, List, [], ◌∷◌, ◌++◌, length, slice_get, Option, Some, None, Ok, Err, ◌⊎◌, inl, inr, refl, sym, ap, ◌∙◌, subst, le_refl, append_assoc, nat_lt, if◌then◌else◌, arith}
+use Rattle.std.proofs.Common.{◌≡◌, ◌≢◌, ℕ, zero, suc, ◌+◌, ◌==◌, ◌<◌, ◌≤◌, Bool, true, false, List, [], ◌∷◌, ◌++◌, length, slice_get, Some, None, Ok, Err, ◌⊎◌, inl, inr, refl, sym, ap, ◌∙◌, subst, le_refl, append_assoc, nat_lt, if◌then◌else◌, arith}
 use Rattle.std.specs.Prelude.{Result, is_err, OnOk}
 use Rattle.std.proofs.lemmas.Bool.{eqb-true, eqb-false, ltb-true}
 use Rattle.std.proofs.lemmas.Option.{slice_get_past}
@@ -12,21 +12,15 @@ use Rattle.tree_model.specs.State.{State, TOP}
 use Rattle.tree_model.specs.Steps.{outcome, held, node_held, is_full, with_handle, directory_at, grants, grants_at, IsGrant}
 use Rattle.tree_model.proofs.Places.{slice_get-last}
 use Rattle.tree_model.proofs.StepLaws.{nodes_are_left, others_handles_stay}
-use Rattle.step_resolver.proofs.Underway.StepOutcomes.{IsMore, with_handle-is_more, Close-is_less}
+use Rattle.step_resolver.proofs.Underway.StepOutcomes.{with_handle-is_more, Close-is_less, slice_get-other}
 use Rattle.sessions.specs.declared.open.OpenCause.{OpenCause}
 use Rattle.sessions.specs.declared.open.OpenCause.TheVariants.{TooManySessions, NoMemory}
 use Rattle.sessions.specs.declared.open.TheConstants.{SESSIONS_MAX}
-use Rattle.sessions.specs.Open.{granted, after_grant, book_cause, cause_after, opening_cause, root_cause, first_sessions, IsAsItWas, IsOpened, HasRoot}
+use Rattle.sessions.specs.Open.{granted, after_grant, book_cause, cause_after, opening_cause, root_cause, first_sessions, IsAsItWas, IsOpened}
 use Rattle.sessions.specs.Service.{ServiceView}
 use Rattle.sessions.specs.Session.{SessionView, begun}
 
 -- ---- one handle more
-
-slice_get-other : {A : Type 0} (xs : List A) (y : A) (h : ℕ) → h ≢ length xs → slice_get (xs ++ y ∷ []) h ≡ slice_get xs h
-slice_get-other [] y zero ne = absurd (ne refl)
-slice_get-other [] y (suc h) ne = refl
-slice_get-other (x ∷ xs) y zero ne = refl
-slice_get-other (x ∷ xs) y (suc h) ne = slice_get-other xs y h (λ e. ne (ap suc e))
 
 module _ (s : State) (i x : ℕ) where
   -- the others' handles, and the actor's own other ones

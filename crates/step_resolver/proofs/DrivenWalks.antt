@@ -21,7 +21,6 @@ use Rattle.tree_model.specs.HistoryLaws.{LegalHistoriesJoin, NumbersGrowByEvents
 use Rattle.handles.specs.declared.owner.Owner.{Owner}
 use Rattle.handles.specs.Objects.{StandingObject}
 use Rattle.walk_plan.specs.declared.goal.Goal.{Goal}
-use Rattle.walk_plan.specs.declared.goal.Goal.TheVariants.{Follow, NoFollow, Deepest}
 use Rattle.step_resolver.specs.Asked.{asked, follows, is_deepest}
 use Rattle.step_resolver.specs.Meaning.{Ground, Meant, object, fails, reading_means, Deep, whole, up_to, none, reading_deepest}
 use Rattle.step_resolver.specs.Order.{Way, Walking, Turn, more, found, partial, failed, begins, for_walk, due, Line, answered, no_room, not_made, events_of, LeadsTo, steps_left_at}
@@ -44,6 +43,7 @@ use Rattle.step_resolver.proofs.FirstTurns.{first_lines_lead}
 use Rattle.step_resolver.proofs.TurnsTell.{leads_on, line_leads}
 use Rattle.step_resolver.proofs.WalkSteps.{FewerThan, a_step_left, begins_few}
 use Rattle.step_resolver.proofs.Ends.EntriesLeftAlone.{due_tells}
+use Rattle.step_resolver.proofs.Ends.DeepestMeaning.{follows_deepest}
 
 -- ---- step by step
 
@@ -103,7 +103,7 @@ joined_events a (answered step answer ∷ lines) others = ap (λ es. record { ac
 joined_events a (no_room step answer ∷ lines) others = ap (λ es. record { actor = a; step = step; answer = answer } ∷ es) (joined_events a lines others)
 joined_events a (not_made error ∷ lines) others = joined_events a lines others
 
-joined_without_book : (lines others : List Line) → IsWithoutBook lines → IsWithoutBook others → IsWithoutBook (lines ++ others)
+pub joined_without_book : (lines others : List Line) → IsWithoutBook lines → IsWithoutBook others → IsWithoutBook (lines ++ others)
 joined_without_book [] others first second = second
 joined_without_book (answered step answer ∷ lines) others first second = joined_without_book lines others first second
 joined_without_book (no_room step answer ∷ lines) others first second = joined_without_book lines others first second
@@ -143,7 +143,7 @@ all_own a (no_room step answer ∷ lines) =
     ∙ ap (λ es. record { actor = a; step = step; answer = answer } ∷ es) (all_own a lines)
 all_own a (not_made error ∷ lines) = all_own a lines
 
-by_own : (a : ℕ) (lines : List Line) (t : ℕ) (event : Event) → slice_get (events_of a lines) t ≡ Some event → event.actor ≡ a
+pub by_own : (a : ℕ) (lines : List Line) (t : ℕ) (event : Event) → slice_get (events_of a lines) t ≡ Some event → event.actor ≡ a
 by_own a [] t event e = absurd (none-some event e)
 by_own a (answered step answer ∷ lines) zero event e = sym (ap (λ (v : Event). v.actor) (same_Some _ event e))
 by_own a (answered step answer ∷ lines) (suc t) event e = by_own a lines t event e
@@ -193,12 +193,6 @@ abbrev pub turn_of : Result Resolved Errno → Outcome
 turn_of (Ok (Found standing)) = turn.Found standing
 turn_of (Ok (Partial standing rest)) = turn.Partial standing rest
 turn_of (Err error) = turn.Failed error
-
--- the deepest directory is of a path whose links are all followed
-deepest_follows : (goal : Goal) → is_deepest goal ≡ true → follows goal ≡ true
-deepest_follows Follow e = absurd (false≢true e)
-deepest_follows NoFollow e = absurd (false≢true e)
-deepest_follows Deepest e = refl
 
 module _ (laws : Laws) (s t : State) (a r : ℕ) (way : Way) (path : Reading) (ready : IsReady s a way.root r)
     (few : steps_left_at (begins way path) ≤ STEPS_MAX) where
@@ -352,7 +346,7 @@ module _ (laws : Laws) (s t : State) (a r : ℕ) (way : Way) (path : Reading) (r
       on (whole x b reads) e = e
       on (up_to x b missing reads) e = (
         object_by end d standing (laws.tell (walked end d) end (is_walked end d) d.leads).new x e.0 quiet.nodes quiet.names,
-        ap (λ follow. asked follow rest) (sym (deepest_follows way.goal deep)) ∙ e.1,
+        ap (λ follow. asked follow rest) (sym (follows_deepest way.goal deep)) ∙ e.1,
       )
       on (none error reads) e = e
   resolves_deepest deep (Err error) d = on_want (is_want error) refl

@@ -14,19 +14,10 @@ use Rattle.step_resolver.specs.View.{walking_of, HoldsNothing, IsPending}
 use Rattle.step_resolver.specs.TurnsTell.{first_lines}
 use Rattle.step_resolver.specs.declared.pending.Pending.{Pending}
 use Rattle.step_resolver.specs.declared.pending.Pending.TheVariants as pending
+use Rattle.step_resolver.specs.TurnView.{IsFirstWalk}
 
-abbrev IsFirstStep : Walking → Type 0
-IsFirstStep (opening root_itself own follow n rest) = Unit {0}
-IsFirstStep (opening (holds handle names) own follow n rest) = ⊥
-IsFirstStep (reading position link rest) = ⊥
-IsFirstStep (rising handle names rest) = ⊥
-IsFirstStep (judging handle names rest) = ⊥
-IsFirstStep (duping rest) = Unit {0}
-IsFirstStep (ending handle names rest) = ⊥
-IsFirstStep (closing h hs after) = ⊥
-
-abbrev IsFirst : Turn → Type 0
-IsFirst (more walk) = IsFirstStep walk
+abbrev pub IsFirst : Turn → Type 0
+IsFirst (more walk) = IsFirstWalk walk
 IsFirst (found handle names) = ⊥
 IsFirst (partial handle names rest) = ⊥
 IsFirst (failed error) = Unit {0}
@@ -52,23 +43,23 @@ module _ (way : Way) where
   from_root : (rest : Todo) → IsFirst (goes_on way root_itself rest)
   from_root (todo inner own b) = parts_first inner own b
 
-  begins_first : (path : Reading) → IsFirst (begins way path)
+  pub begins_first : (path : Reading) → IsFirst (begins way path)
   begins_first path =
       either (leads_out path.absolute way.flags) (failed CrossRoot) (goes_on way root_itself (todo [] (asked (follows way.goal) path.parts) LINKS_MAX)) tt
       (from_root (todo [] (asked (follows way.goal) path.parts) LINKS_MAX))
 
   -- the first step isn't made for want of memory
-  fails_for_want : (walk : Walking) → IsFirstStep walk → take way true walk (Refused NoMemory) ≡ failed NoMemory
-  fails_for_want (opening root_itself own follow n (todo inner rest b)) first = refl
-  fails_for_want (opening (holds handle names) own follow n rest) first = absurd first
-  fails_for_want (reading position link rest) first = absurd first
-  fails_for_want (rising handle names rest) first = absurd first
-  fails_for_want (judging handle names rest) first = absurd first
-  fails_for_want (duping rest) first = refl
-  fails_for_want (ending handle names rest) first = absurd first
-  fails_for_want (closing h hs after) first = absurd first
+  pub fails_for_want : (room : Bool) (walk : Walking) → IsFirstWalk walk → take way room walk (Refused NoMemory) ≡ failed NoMemory
+  fails_for_want room (opening root_itself own follow n (todo inner rest b)) first = refl
+  fails_for_want room (opening (holds handle names) own follow n rest) first = absurd first
+  fails_for_want room (reading position link rest) first = absurd first
+  fails_for_want room (rising handle names rest) first = absurd first
+  fails_for_want room (judging handle names rest) first = absurd first
+  fails_for_want room (duping rest) first = refl
+  fails_for_want room (ending handle names rest) first = absurd first
+  fails_for_want room (closing h hs after) first = absurd first
 
-  no_closing : (walk : Walking) → IsFirstStep walk → is_closing walk ≡ false
+  no_closing : (walk : Walking) → IsFirstWalk walk → is_closing walk ≡ false
   no_closing (opening position own follow n rest) first = refl
   no_closing (reading position link rest) first = refl
   no_closing (rising handle names rest) first = refl
@@ -79,7 +70,7 @@ module _ (way : Way) where
 
   lines_lead : (room : Bool) (turn : Turn) → IsFirst turn → LeadsTo way turn (first_lines room turn) (for_walk room turn)
   lines_lead true turn first = refl
-  lines_lead false (more walk) first = (inl refl, (no_closing walk first, fails_for_want walk first))
+  lines_lead false (more walk) first = (inl refl, (no_closing walk first, fails_for_want true walk first))
   lines_lead false (found handle names) first = refl
   lines_lead false (partial handle names rest) first = refl
   lines_lead false (failed error) first = refl
@@ -90,7 +81,7 @@ module _ (way : Way) where
 
 -- ---- the pending step
 
-by_step : (p : PlanState) (place : Option ReachedObject) (step : Pending) → IsFirstStep (walking_of p place step) → IsPending p place step → HoldsNothing place step
+by_step : (p : PlanState) (place : Option ReachedObject) (step : Pending) → IsFirstWalk (walking_of p place step) → IsPending p place step → HoldsNothing place step
 by_step p None pending.Opening first is = (refl, tt)
 by_step p (Some held) pending.Opening first is = absurd first
 by_step p place (pending.Reading link) first is = absurd first

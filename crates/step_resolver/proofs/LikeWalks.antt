@@ -1,7 +1,7 @@
 -- Walks that are the same but for the numbers of their handles: by what they hold, and what their plans have to do.
-use Rattle.std.specs.Prelude.{◌≡◌, ◌≤◌, ◌↔◌, length, ℕ, ◌-◌, List, [], ◌∷◌, ◌++◌, Bool, true, false, not, ◌||◌, ◌&&◌, map, reverse, Option, Some, None, IsSome, IsTrue, refl}
+use Rattle.std.specs.Prelude.{◌≡◌, ◌≤◌, ◌↔◌, length, ℕ, ◌-◌, List, [], ◌∷◌, ◌++◌, Bool, true, false, not, ◌||◌, ◌&&◌, map, Option, Some, None, IsSome, IsTrue, refl}
 use Rattle.std.proofs.Common.{sym, ap, subst, ◌∙◌, arith}
-use Rattle.std.proofs.lemmas.List.{reverse-reverse}
+use Rattle.std.proofs.Math.Bool.{or-true}
 use Rattle.path_text.specs.declared.name.TheConstants.{NAME_MAX}
 use Rattle.path_text.specs.declared.part.Part.{Part}
 use Rattle.path_text.specs.declared.part.Part.TheVariants as part
@@ -16,10 +16,6 @@ use Rattle.step_resolver.specs.View.{own_to_come, todo_of, name_in, walking_of, 
 use Rattle.step_resolver.specs.declared.pending.AfterClose.TheVariants.{Onward, Judges}
 use Rattle.step_resolver.specs.declared.pending.Pending.TheVariants.{Opening, Reading, Rising, Judging, Duping, Ending}
 use Rattle.step_resolver.proofs.WalkParts.{ask_own}
-
--- names that are the same in the other order
-pub same_reversed : (names others : List (List ℕ)) → reverse names ≡ reverse others → names ≡ others
-same_reversed names others same = sym (reverse-reverse names) ∙ (ap reverse same ∙ reverse-reverse others)
 
 -- what says the same as one of two that say the same says the same as the other
 pub as_told : (A B C : Type 0) → A ↔ B → B ↔ C → A ↔ C
@@ -58,14 +54,10 @@ or_false : (b : Bool) → (b || false) ≡ b
 or_false true = refl
 or_false false = refl
 
-or_true : (b : Bool) → (b || true) ≡ true
-or_true true = refl
-or_true false = refl
-
 asked_last : (follow : Bool) (ps : List Part) → last_followed (asked follow ps) ≡ (follow || not (is_name (last_part ps)))
-asked_last follow [] = sym (or_true follow)
-asked_last follow (part.Cur ∷ []) = sym (or_true follow)
-asked_last follow (part.Up ∷ []) = sym (or_true follow)
+asked_last follow [] = sym (or-true follow)
+asked_last follow (part.Cur ∷ []) = sym (or-true follow)
+asked_last follow (part.Up ∷ []) = sym (or-true follow)
 asked_last follow (part.Named n ∷ []) = sym (or_false follow)
 asked_last follow (p ∷ q ∷ []) = asked_last follow (q ∷ [])
 asked_last follow (p ∷ q ∷ r ∷ ps) = asked_last follow (q ∷ r ∷ ps)
@@ -117,7 +109,7 @@ next_asked [] (part.Up ∷ own) f b named = cc
 next_asked [] (part.Named n ∷ own) f b named = ap (λ (parts : List AskedPart). todo [] parts b) (sym (ask_own f (part.Named n) own))
 next_asked (part.Cur ∷ inner) own f b named = cc
 next_asked (part.Up ∷ inner) own f b named = cc
-next_asked (part.Named n ∷ inner) own f b named = ap (λ (follow : Bool). todo (Named follow n ∷ followed inner) (asked f own) b) (or_true f)
+next_asked (part.Named n ∷ inner) own f b named = ap (λ (follow : Bool). todo (Named follow n ∷ followed inner) (asked f own) b) (or-true f)
 
 before_alike : (o p f g : Bool) (n m : List ℕ) (inner own others rest : List AskedPart) (b c : ℕ)
     → (o ≡ true → inner ≡ []) → (p ≡ true → others ≡ [])

@@ -34,7 +34,7 @@ leads_on way (line ∷ lines) (partial handle names rest) mid others end first o
 leads_on way (line ∷ lines) (failed error) mid others end first onward = absurd first
 
 -- a refusal brings nothing that takes room
-refusal_needs_no_room : (way : Way) (room : Bool) (walk : Walking) (error : Errno) → take way true walk (Refused error) ≡ take way room walk (Refused error)
+pub refusal_needs_no_room : (way : Way) (room : Bool) (walk : Walking) (error : Errno) → take way true walk (Refused error) ≡ take way room walk (Refused error)
 refusal_needs_no_room way room (opening position own follow n rest) error = refl
 refusal_needs_no_room way room (reading position link rest) error = refl
 refusal_needs_no_room way room (rising old names rest) error = refl

@@ -7,6 +7,7 @@ use Rattle.std.proofs.lemmas.Option.{same_Some}
 use Rattle.std.proofs.lemmas.Grind.{reverse_onto}
 use Rattle.std.proofs.lemmas.Bool.{not-false as not_false, not-true as not_true}
 use Rattle.std.proofs.lemmas.Bool.Decides.{nat_tests}
+use Rattle.std.proofs.Math.Bool.{or-true}
 use Rattle.path_text.specs.declared.flags.Flags.{Flags}
 use Rattle.path_text.specs.declared.errno.Errno.TheVariants.{NotDir, CrossRoot, TooLong}
 use Rattle.path_text.specs.declared.name.TheConstants.{NAME_MAX}
@@ -39,10 +40,6 @@ names_at (Some held) names e = refl
 
 -- ---- the next part
 
-or_true : (b : Bool) → (b || true) ≡ true
-or_true true = refl
-or_true false = refl
-
 -- the first of the caller's own parts is followed as the caller says where it is the last
 pub ask_own : (follow : Bool) (q : Part) (own : List Part) → asked follow (q ∷ own) ≡ ask (follow || not (is_single (q ∷ own))) q ∷ asked follow own
 ask_own true q [] = refl
@@ -63,7 +60,7 @@ module _ (way : Way) (position : Position) (b : ℕ) (goal : Goal) where
   inner_first : (q : Part) (inner own : List Part)
       → on_parts way position (followed (q ∷ inner)) (asked (follows goal) own) b
       ≡ on_part way position (ask (follows goal || true) q) false (todo (followed inner) (asked (follows goal) own) b) (on_parts way position (followed inner) (asked (follows goal) own) b)
-  inner_first q inner own = rw (or_true (follows goal)) refl
+  inner_first q inner own = rw (or-true (follows goal)) refl
 
 pub on_next : (way : Way) (position : Position) (p : PlanState) (q : Part) → next_part p ≡ Some q
     → goes_on way position (todo_of p) ≡ on_part way position (ask (follows_next p) q) (is_own p) (todo_of (stayed p)) (goes_on way position (todo_of (stayed p)))

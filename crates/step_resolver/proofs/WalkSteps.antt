@@ -197,7 +197,7 @@ pub taken_lowers : (way : Way) (walking : Walking) (answer : Answer) (outcome : 
 taken_lowers way walking answer outcome taken =
     lowers way.goal walking outcome (subst (FewerThan (steps_left walking)) (sym taken.1) (take_lowers way taken.0 walking answer))
 
-asked_length : (follow : Bool) (ps : List Part) → length (asked follow ps) ≡ length ps
+pub asked_length : (follow : Bool) (ps : List Part) → length (asked follow ps) ≡ length ps
 asked_length follow [] = refl
 asked_length follow (p ∷ []) = refl
 asked_length follow (p ∷ q ∷ ps) = ap (λ (k : ℕ). suc k) (asked_length follow (q ∷ ps))

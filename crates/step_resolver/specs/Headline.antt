@@ -1,15 +1,18 @@
 -- The headline, clause by clause.
 --
 -- For every interleaving of actors' single steps,
---     `EveryWalk`: every walk in every legal history of steps (`WalkHistory.WalkInHistory`), whatever the other actors do in between;
+--     `EveryWalk`: every walk in every legal history of steps (`WalkHistory.WalkInHistory`), whatever the other actors
+--     do in between;
 -- a resolution that succeeds opens an object
 --     `Opens`: what was reached is the `node` of the handle, which is open (`new`);
 -- reached by its path's parts, each passed as the tree stood at rising moments of the call,
---     its `trail`, over all the parts of the path from the root on, at the walk's own events, with LINKS_MAX links at most;
+--     its `trail`, over all the parts of the path from the root on, at the walk's own events,
+--     with LINKS_MAX links at most;
 -- and at its last check the object stood under the root at the names passed;
 --     its `stood`, at an own event `when` that comes after all of the trail;
 -- where no entry that it reads is changed meanwhile,
---     `Means`, its premise `AllLeftAlone`: by others, of the entries that the path reads in the tree as the window begins;
+--     `Means`, its premise `AllLeftAlone`: by others, of the entries that the path reads in the tree
+--     as the window begins;
 -- its object or error is what in-root resolution of the whole path means.
 --     its conclusion `IsMeant`, of the meaning in that tree (`Meaning.reading_means`).
 --

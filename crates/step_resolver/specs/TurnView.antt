@@ -9,7 +9,7 @@ use Rattle.walk_plan.specs.declared.goal.Goal.{Goal}
 use Rattle.walk_plan.specs.declared.goal.Goal.TheVariants.{Follow}
 use Rattle.step_resolver.specs.Asked.{asked, follows}
 use Rattle.step_resolver.specs.Meaning.{LINKS_MAX}
-use Rattle.step_resolver.specs.Order.{Way, Handle, Walking, Turn, more, found, partial, failed, starts, take, steps_left_at}
+use Rattle.step_resolver.specs.Order.{Way, Handle, root_itself, holds, Walking, opening, reading, rising, judging, duping, ending, closing, Turn, more, found, partial, failed, starts, take, steps_left_at}
 use Rattle.walk_plan.specs.Plan.{is_own}
 use Rattle.step_resolver.specs.View.{course_way, walking_of, own_to_come, IsPending}
 use Rattle.step_resolver.specs.declared.course.Course.{Course}
@@ -56,6 +56,17 @@ steps_to_come turn = steps_left_at (turn_view Follow turn)
 -- four steps for each part passed, of the path and of forty links' texts, and four more
 abbrev pub STEPS_MAX : ℕ
 STEPS_MAX = 4 * (PARTS_MAX * (LINKS_MAX + 1)) + 4
+
+-- nothing is held yet: the first name is opened from the root itself, or the root is opened again
+abbrev pub IsFirstWalk : Walking → Type 0
+IsFirstWalk (opening root_itself own follow n rest) = Unit {0}
+IsFirstWalk (opening (holds handle names) own follow n rest) = ⊥
+IsFirstWalk (reading position link rest) = ⊥
+IsFirstWalk (rising handle names rest) = ⊥
+IsFirstWalk (judging handle names rest) = ⊥
+IsFirstWalk (duping rest) = Unit {0}
+IsFirstWalk (ending handle names rest) = ⊥
+IsFirstWalk (closing h hs after) = ⊥
 
 -- ---- the same of a course
 

@@ -7,7 +7,7 @@ use path_text::Errno;
 use tree_model::Answer;
 
 /// The refusal that an answer is. One that doesn't fit the step counts as BadHandle.
-pub(crate) fn refusal_of(answer: &Answer) -> Errno
+pub fn refusal_of(answer: &Answer) -> Errno
     ensures { result ≡ refusal_of answer.now }
 {
     match answer {
@@ -17,7 +17,7 @@ pub(crate) fn refusal_of(answer: &Answer) -> Errno
 }
 
 /// Why the check of a place failed, where it did: other names, or none, are Raced (EAGAIN of openat2(2)).
-pub(crate) fn check_refusal(answer: &Answer) -> Errno
+pub fn check_refusal(answer: &Answer) -> Errno
     ensures { result ≡ check_refusal answer.now }
 {
     match answer {

@@ -67,7 +67,8 @@ pub fn resolve<T: Tree>(
     goal: Goal,
     flags: Flags,
 ) -> Result<Resolved, Errno>
-    requires { IsReady (T.state tree.old) root.owner.actor root.handle (node_of (T.state tree.old) root.owner.actor root.handle) }
+    requires { IsReady (T.state tree.old) root.owner.actor root.handle
+        (node_of (T.state tree.old) root.owner.actor root.handle) }
     ensures means { ResolvesBelow (T.state tree.old) root.owner.actor root.handle path goal flags result }
     ensures owner { IsOwned root.owner result }
     ensures nodes { (T.state tree.new).nodes ≡ (T.state tree.old).nodes }

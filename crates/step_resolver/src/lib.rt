@@ -20,6 +20,7 @@ mod plain;
 mod trail_laws;
 mod walk;
 
+pub use answers::{check_refusal, refusal_of};
 pub use driver::{Resolved, advance, resolve};
 pub use footprint_laws::{quiet_walks_mean, raced_tells_of_change, walks_mean};
 pub use laws::{

@@ -128,7 +128,7 @@ impl Walk {
             ) {
                 Ok(state) => Turn::More(Walk { state }),
                 Err(AllocFailed { value }) => {
-                    let _ = value.over();
+                    value.unboxed();
                     Turn::Failed(Errno::NoMemory)
                 }
             },
@@ -290,6 +290,15 @@ impl State {
             Pending::Reading(link) => self.course.read(alloc, &mut self.place, link, answer),
             _ => unreachable!(),
         }
+    }
+
+    // Lets go of what found no box. Apart from `on_course`, which for its sake would move a walk into its box piece by
+    // piece.
+    #[inline(never)]
+    fn unboxed(self)
+        requires { HoldsNothing self.place self.pending }
+    {
+        let _ = self.over();
     }
 
     // Lets a walk's box go where nothing is held any more. Apart from `taken`, so that a turn which goes on makes no

@@ -15,7 +15,7 @@ name a/b = EINVAL
 name / = EINVAL
 name a\0 = EINVAL
 name \0 = EINVAL
-part  = EINVAL
+part  = ENOENT
 part . = EINVAL
 part .. = EINVAL
 part a/b = EINVAL
@@ -109,8 +109,8 @@ fn show(out: &mut Output, path: &Path) -> Result<(), NoMemory> {
     if path.absolute {
         out.text("/")?;
     }
-    for part in path.parts.as_slice() {
-        let piece = match part {
+    for at in 0..path.parts.len() {
+        let piece = match path.parts.get(at) {
             Part::Cur => b".".as_slice(),
             Part::Up => b"..".as_slice(),
             Part::Named(component) => component.bytes(),
@@ -156,7 +156,7 @@ fn show_split(out: &mut Output, split: &Split) -> Result<(), NoMemory> {
 
 /// Whether a path is split so, or is refused so: an error that a row wants is that of the split.
 fn splits_to(alloc: Global, path: Path, rule: Rule, wanted: &str) -> Result<bool, Errno> {
-    let split = path.split_last(rule)?;
+    let split = path.split_last(alloc, rule)?;
     let mut out = Output::new(alloc);
     show_split(&mut out, &split)?;
     Ok(out.as_slice() == wanted.as_bytes())
@@ -197,14 +197,24 @@ fn is_name(alloc: Global, text: &[u8]) -> Result<bool, Errno> {
     Ok(name.bytes() == text)
 }
 
+/// The one part of a path, where that is a name.
+fn only_name<'a>(path: &'a Path) -> Result<Component<'a>, Errno> {
+    match path.parts.first() {
+        Some(Part::Named(part)) if path.parts.len() == 1 && !path.absolute => Ok(part),
+        _ => Err(Errno::Invalid),
+    }
+}
+
 fn is_part(alloc: Global, text: &[u8], is_too_long: bool) -> Result<bool, Errno> {
-    let part = Component::new(alloc, text)?;
+    let path = Path::parse(alloc, text)?;
+    let part = only_name(&path)?;
     Ok(part.bytes() == text && part.is_too_long() == is_too_long)
 }
 
 /// Whether a part is a name of the same bytes.
 fn is_named(alloc: Global, text: &[u8]) -> Result<bool, Errno> {
-    let part = Component::new(alloc, text)?;
+    let path = Path::parse(alloc, text)?;
+    let part = only_name(&path)?;
     if part.is_too_long() {
         return Ok(false);
     }
@@ -212,21 +222,9 @@ fn is_named(alloc: Global, text: &[u8]) -> Result<bool, Errno> {
     Ok(name.bytes() == text)
 }
 
-/// Whether a part becomes a name of the same bytes.
-fn becomes_name(alloc: Global, text: &[u8]) -> Result<bool, Errno> {
-    let part = Component::new(alloc, text)?;
-    if part.is_too_long() {
-        return Ok(false);
-    }
-    let name = part.into_name();
-    Ok(name.bytes() == text)
-}
-
 fn is_kept(alloc: Global, text: &[u8], wanted: &str) -> Result<bool, Errno> {
     match wanted {
-        "a name" => {
-            Ok(is_part(alloc, text, false)? && is_named(alloc, text)? && becomes_name(alloc, text)?)
-        }
+        "a name" => Ok(is_part(alloc, text, false)? && is_named(alloc, text)?),
         "too long" => is_part(alloc, text, true),
         _ => {
             is_part(alloc, text, false)?;
@@ -412,29 +410,32 @@ fn names_turn_round(alloc: Global) -> Result<bool, Errno> {
     Ok(first.bytes() == b"b".as_slice())
 }
 
-/// The parts `a`, `..`.
-fn two_parts(alloc: Global) -> Result<Parts, Errno> {
-    let mut parts = Parts::new(alloc);
-    let a = Component::new(alloc, b"a")?;
-    parts.push(Part::Named(a))?;
-    parts.push(Part::Up)?;
-    Ok(Parts::from_vec(parts.into_vec()))
+/// The parts `a`, `..`, `b`.
+fn three_parts(alloc: Global) -> Result<Parts, Errno> {
+    Ok(Path::parse(alloc, b"a/../b")?.parts)
 }
 
-/// Whether two parts lose `..`, and `a` is left.
-fn lose_up(parts: &mut Parts) -> bool {
-    let both = parts.len() == 2 && matches!(parts.pop(), Some(Part::Up));
-    both && matches!(parts.as_slice(), [Part::Named(part)] if part.bytes() == b"a".as_slice())
+/// Whether the only part is `..`.
+fn is_up(parts: &Parts) -> bool {
+    parts.len() == 1 && matches!(parts.last(), Some(Part::Up))
 }
 
-fn lose_nothing(parts: &mut Parts) -> bool {
-    parts.is_empty() && parts.pop().is_none()
+fn parts_go_at_both_ends(alloc: Global) -> Result<bool, Errno> {
+    let mut parts = three_parts(alloc)?;
+    parts.drop_first();
+    parts.drop_last();
+    let is_left = is_up(&parts);
+    parts.drop_first();
+    parts.drop_last();
+    Ok(is_left && parts.is_empty())
 }
 
-fn parts_grow_and_shrink(alloc: Global) -> Result<bool, Errno> {
-    let mut none = Parts::new(alloc);
-    let mut two = two_parts(alloc)?;
-    Ok(lose_nothing(&mut none) && lose_up(&mut two))
+/// Whether a text's parts come in the place of the first.
+fn parts_are_put(alloc: Global) -> Result<bool, Errno> {
+    let mut parts = three_parts(alloc)?;
+    let slash = parts.put_for_first(b"../")?;
+    let wanted = Path::parse(alloc, b".././../b")?.parts;
+    Ok(slash && parts.same(&wanted) && parts.same(&wanted.copy(alloc)?))
 }
 
 fn bytes_are_copied(alloc: Global) -> Result<bool, Errno> {
@@ -448,7 +449,8 @@ fn lists_are_right(alloc: Global) -> Result<bool, Errno> {
     Ok(
         names_grow_and_shrink(alloc)?
             && names_turn_round(alloc)?
-            && parts_grow_and_shrink(alloc)?
+            && parts_go_at_both_ends(alloc)?
+            && parts_are_put(alloc)?
             && bytes_are_copied(alloc)?,
     )
 }

@@ -35,7 +35,7 @@ count_by-set p (z ∷ xs) (suc i) x y e =
     let rest = count_by-set p xs i x y e in
     omega (arith, sum_by-cons (λ x. cond (p x) 1 0) z xs, sum_by-cons (λ x. cond (p x) 1 0) z (slice_set xs i y), rest)
 
-tells-opened : (answer : Answer) → only_tells answer ≡ true → opened_count answer ≡ 0
+pub tells-opened : (answer : Answer) → only_tells answer ≡ true → opened_count answer ≡ 0
 tells-opened (Opened h x kind) e = absurd (false≢true e)
 tells-opened (Text text) e = refl
 tells-opened (Names names) e = refl

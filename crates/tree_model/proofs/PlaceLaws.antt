@@ -201,8 +201,8 @@ names_below_are_standing nodes t r x = (
   ((λ e names h. none-some names (sym e ∙ names_below-Stands nodes t r x names h)), (λ nowhere. names_below-none nodes r x nowhere)),
 )
 
-shown : (s : State) (a r h y x : ℕ) → held s a r ≡ Some y → held s a h ≡ Some x → outcome s a (NameBelow r h) ≡ shows s (names_below s.nodes y x)
-shown s a r h y x e e' =
+pub below_is : (s : State) (a r h y x : ℕ) → held s a r ≡ Some y → held s a h ≡ Some x → outcome s a (NameBelow r h) ≡ shows s (names_below s.nodes y x)
+below_is s a r h y x e e' =
     on_held s a r y (λ y. on_handle s a h (λ x. shows s (names_below s.nodes y x))) e
     ∙ on_held s a h x (λ x. shows s (names_below s.nodes y x)) e'
 
@@ -218,7 +218,7 @@ none_shown s (Some ns) e = cc (e)
 
 pub name_below_is_standing : NameBelowIsStanding
 name_below_is_standing s t a r h y x e e' =
-    let is : (outcome s a (NameBelow r h)).answer ≡ (shows s (names_below s.nodes y x)).answer = ap (λ o. o.answer) (shown s a r h y x e e') in (
+    let is : (outcome s a (NameBelow r h)).answer ≡ (shows s (names_below s.nodes y x)).answer = ap (λ o. o.answer) (below_is s a r h y x e e') in (
       (λ names. (
         (λ q. Stands-names_below s.nodes y x (reverse names) (names_shown s (names_below s.nodes y x) names (sym is ∙ q))),
         (λ st. is ∙ ap (λ o. (shows s o).answer) (names_below-Stands s.nodes t.tree y x (reverse names) st) ∙ ap Names (reverse-reverse names)),

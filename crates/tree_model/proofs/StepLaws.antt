@@ -112,7 +112,7 @@ slice_get-append [] ys i x e = absurd (none-some x e)
 slice_get-append (y ∷ xs) ys zero x e = e
 slice_get-append (y ∷ xs) ys (suc i) x e = slice_get-append xs ys i x e
 
-slice_get-set_other : {A : Type 0} (xs : List A) (i : ℕ) (y : A) (k : ℕ) → k ≢ i → slice_get (slice_set xs i y) k ≡ slice_get xs k
+pub slice_get-set_other : {A : Type 0} (xs : List A) (i : ℕ) (y : A) (k : ℕ) → k ≢ i → slice_get (slice_set xs i y) k ≡ slice_get xs k
 slice_get-set_other [] i y k ne = refl
 slice_get-set_other (x ∷ xs) zero y zero ne = absurd (ne refl)
 slice_get-set_other (x ∷ xs) zero y (suc k) ne = refl

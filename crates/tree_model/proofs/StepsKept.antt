@@ -63,7 +63,7 @@ steps_keep_trees s a step t = keeps t (does s a step)
 
 -- ---- handles that are granted
 
-directory-within : (nodes : List Inode) (x : ℕ) → is_dir nodes x ≡ true → x < length nodes
+pub directory-within : (nodes : List Inode) (x : ℕ) → is_dir nodes x ≡ true → x < length nodes
 directory-within nodes x e = by (object_at nodes x) refl
   where
     by : (o : Option Object) → object_at nodes x ≡ o → x < length nodes

@@ -58,7 +58,7 @@ is_directory-is (Some Dir) e = refl
 is_directory-is (Some File) e = absurd (false≢true e)
 is_directory-is (Some (Link text)) e = absurd (false≢true e)
 
-none_from : {A : Type 0} (o : Option A) → is_none o ≡ true → o ≡ None
+pub none_from : {A : Type 0} (o : Option A) → is_none o ≡ true → o ≡ None
 none_from None e = refl
 none_from (Some x) e = absurd (false≢true e)
 

@@ -1,5 +1,6 @@
 -- A small tree with each kind of node, on which definitions can be tried out:
---     /c (1), /c/a (2), /c/a/b (3), the file /c/a/b/f (4), the links /c/abs (5), /c/up (6), /c/loop (7) and /c/dang (8), /secret (9), the file /secret/key (10)
+--     /c (1), /c/a (2), /c/a/b (3), the file /c/a/b/f (4), the links /c/abs (5), /c/up (6), /c/loop (7) and
+--     /c/dang (8), /secret (9), the file /secret/key (10)
 use Rattle.std.specs.Prelude.{ℕ, List, [], ◌∷◌, Option, Some, None, codes}
 use Rattle.tree_model.specs.declared.inode.Inode.{Inode}
 use Rattle.tree_model.specs.declared.inode.Object.{Object}

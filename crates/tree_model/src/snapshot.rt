@@ -76,8 +76,8 @@ impl Snapshot {
     }
 }
 
-// Whether the nodes are equal, one by one.
-fn same_nodes(nodes: &[Inode], others: &[Inode]) -> bool
+/// Whether the nodes are equal, one by one. Takes no memory.
+pub fn same_nodes(nodes: &[Inode], others: &[Inode]) -> bool
     ensures { IsTrue result ↔ (nodes.now ≡ others.now) }
 {
     if nodes.len() != others.len() {

@@ -7,7 +7,7 @@ use std::test::Fail;
 use step_text::read_step;
 use tree_model::{
     Actor, Answer, HandleNo, Inode, Kind, Node, Object, OpenHandle, Place, Row, Snapshot, Step,
-    child, has_entries, is_dir, is_gone, object_at, parent, place_at, top,
+    child, has_entries, is_dir, is_gone, object_at, parent, place_at, same_nodes, top,
 };
 
 /// One step of each kind at least, no two of them equal.
@@ -249,10 +249,22 @@ fn are_rows(rows: &[Row]) -> bool {
     rows.len() == ROWS.len()
 }
 
+/// Whether the snapshot has the table's nodes, and not where the last is left out, or is another.
+fn has_nodes(alloc: Global, taken: &Snapshot) -> Result<bool, Errno> {
+    let mut inodes = inodes(alloc)?;
+    let whole = same_nodes(taken.nodes(), &inodes);
+    let _ = inodes.pop();
+    let fewer = same_nodes(taken.nodes(), &inodes);
+    inodes.push(inode(alloc, &NODES[0])?)?;
+    let other = same_nodes(taken.nodes(), &inodes);
+    Ok(whole && !fewer && !other)
+}
+
 fn snapshots_are_right(alloc: Global) -> Result<bool, Errno> {
     let taken = snapshot(alloc, 3)?;
     let rows = taken.rows(alloc)?;
-    Ok(are_counted(&taken) && are_rows(&rows) && is_with_node_3(alloc, &taken)?)
+    let has_all = has_nodes(alloc, &taken)?;
+    Ok(are_counted(&taken) && are_rows(&rows) && has_all && is_with_node_3(alloc, &taken)?)
 }
 
 #[test]

@@ -96,7 +96,7 @@ fn node_below(alloc: Global, text: &str) -> Result<(u64, usize), Errno> {
 fn end_of(resolved: Resolved) -> (u64, usize) {
     match resolved {
         Resolved::Found(standing) => (standing.node().number(), 0),
-        Resolved::Partial(standing, rest) => (standing.node().number(), rest.as_slice().len()),
+        Resolved::Partial(standing, rest) => (standing.node().number(), rest.len()),
     }
 }
 

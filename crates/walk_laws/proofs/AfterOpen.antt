@@ -23,10 +23,11 @@ use Rattle.step_resolver.proofs.Trail.Joined.{own_earlier}
 use Rattle.step_resolver.proofs.Underway.StepOutcomes.{IsMore, Opening, too_many, no_object, is_opened, opening_of, OpenCase, no_dir, no_child, at_child, open_case}
 use Rattle.step_resolver.proofs.Underway.WalkInvariant.{Lived, StepAt, held_at, IsHeld, dir_at, node_at, spot_at, within_link, at_missing, GoodOpening}
 use Rattle.step_resolver.proofs.Underway.HandlesHeld.{more_on, position_open}
+use Rattle.step_resolver.proofs.Underway.NextPart.{names_not_empty}
 use Rattle.walk_laws.proofs.Passing.{TellsOf, tells_whole, TellsAnywhere, on_the_way, Ahead, AheadFor, AheadAt, AheadIn, passed_alone, paid_by, paid_for, stopped_for, given_up, gave_up_in}
-use Rattle.walk_laws.proofs.NextParts.{alone_for, names_not_empty, closes_ahead}
+use Rattle.walk_laws.proofs.NextParts.{alone_for, closes_ahead}
 
-two_at_most : (k : ℕ) → k ≤ 1 → suc k ≤ 4
+pub two_at_most : (k : ℕ) → k ≤ 1 → suc k ≤ 4
 two_at_most k le = omega (arith, le)
 
 three_at_most : (k : ℕ) → k ≤ 1 → suc (suc k) ≤ 4

@@ -1,6 +1,5 @@
 -- What is passed from a Parent on, and from the NameBelow after it.
-use Rattle.std.specs.Prelude.{◌≡◌, ℕ, suc, ◌+◌, ◌≤◌, ◌==◌, List, [], ◌∷◌, Bool, true, false, if◌then◌else◌, length, reverse, Option, Some, None, refl}
-use Rattle.std.specs.Option.{option_map}
+use Rattle.std.specs.Prelude.{◌≡◌, ℕ, suc, ◌+◌, ◌≤◌, List, [], ◌∷◌, Bool, true, false, if◌then◌else◌, length, reverse, Option, Some, None, refl}
 use Rattle.std.proofs.Common.{sym, ap, subst, ◌∙◌, le_refl, inl, inr, arith}
 use Rattle.std.proofs.lemmas.Bool.{false≢true}
 use Rattle.std.proofs.lemmas.Option.{none-some, same_Some}
@@ -8,44 +7,24 @@ use Rattle.path_text.specs.declared.errno.Errno.TheVariants.{NotFound, Raced, To
 use Rattle.path_text.specs.Names.{same_names}
 use Rattle.tree_model.specs.declared.answer.Answer.{Answer}
 use Rattle.tree_model.specs.declared.answer.Answer.TheVariants.{Opened, Names, NotBelow, Refused}
-use Rattle.tree_model.specs.declared.inode.Inode.{Inode}
-use Rattle.tree_model.specs.declared.inode.Place.{Place}
 use Rattle.tree_model.specs.declared.step.StepOf.TheVariants.{Parent, NameBelow}
-use Rattle.tree_model.specs.State.{TOP, object_at, place_at, parent, is_directory, Stands, names_below}
+use Rattle.tree_model.specs.State.{parent, Stands, names_below}
 use Rattle.tree_model.specs.Steps.{outcome, opens, shows, kind_of}
-use Rattle.tree_model.specs.Trees.{IsTree}
+use Rattle.tree_model.proofs.Standing.{Stands-names_below}
+use Rattle.tree_model.proofs.PlaceLaws.{below_is}
 use Rattle.handles.proofs.SameNames.{same_where_equal}
 use Rattle.step_resolver.specs.Asked.{AskedPart, Up}
 use Rattle.step_resolver.specs.Trail.{climb}
 use Rattle.step_resolver.specs.Order.{Handle, holds, todo, rising, judging, Turn, failed, gives_up, goes_on, judged, take}
 use Rattle.step_resolver.specs.WalkHistory.{WalkInHistory, state_at, timeline}
 use Rattle.step_resolver.proofs.Trail.Joined.{own_earlier}
-use Rattle.step_resolver.proofs.Meaning.NodesAtEntries.{names_below-stands}
-use Rattle.step_resolver.proofs.Underway.StepOutcomes.{Opening, too_many, no_object, is_opened, opening_of, ParentCase, not_dir, no_parent, at_parent, parent_case, below_is}
+use Rattle.step_resolver.proofs.Underway.StepOutcomes.{Opening, too_many, no_object, is_opened, opening_of, ParentCase, not_dir, no_parent, at_parent, parent_case}
 use Rattle.step_resolver.proofs.Underway.WalkInvariant.{Lived, StepAt, held_at, HandlesAre, root_open, held_kept, dir_at, spot_at, GoodRising, GoodJudging}
 use Rattle.step_resolver.proofs.Underway.HandlesHeld.{kept_on}
-use Rattle.step_resolver.proofs.Underway.AfterParent.{names_same, reversed_same}
+use Rattle.step_resolver.proofs.Underway.AfterParent.{names_same, reversed_same, parent_is_something}
 use Rattle.walk_laws.proofs.Passing.{tells_whole, on_the_way, AheadAt, AheadIn, paid_for, passed_alone, stopped_for, given_up, gave_up_in}
 use Rattle.walk_laws.proofs.NextParts.{goes_on_ahead}
-
--- what a parent is told to be is something
-parent_is_something : (nodes : List Inode) → IsTree nodes → (x e : ℕ) → parent nodes x ≡ Some e → object_at nodes e ≡ None → ⊥
-parent_is_something nodes is x e p none = on (x == TOP) refl
-  where
-    parent_of : Bool → Option ℕ
-    parent_of b = if b then Some TOP else option_map (λ place. place.parent) (place_at nodes x)
-
-    on_place : (o : Option Place) → place_at nodes x ≡ o → option_map (λ place. place.parent) (place_at nodes x) ≡ Some e → ⊥
-    on_place None q h = none-some e (sym (ap (option_map (λ place. place.parent)) q) ∙ h)
-    on_place (Some place) q h =
-        let same : place.parent ≡ e = same_Some place.parent e (sym (ap (option_map (λ y. y.parent)) q) ∙ h) in
-        false≢true (sym (ap is_directory (ap (object_at nodes) same ∙ none)) ∙ is.parents_are_dirs x place q)
-
-    on : (b : Bool) → (x == TOP) ≡ b → ⊥
-    on true t =
-        let same : TOP ≡ e = same_Some TOP e (sym (ap parent_of t) ∙ p) in
-        none-some _ (sym none ∙ ap (object_at nodes) (sym same) ∙ is.top_is_dir)
-    on false t = on_place (place_at nodes x) refl (sym (ap parent_of t) ∙ p)
+use Rattle.walk_laws.proofs.AfterOpen.{two_at_most}
 
 -- Names that are told are judged: they are those passed, and the node stands there; or the walk gives up.
 pub judged_ahead : {w : WalkInHistory} → Lived w → (m u : ℕ) (handle : Handle) (names : List (List ℕ)) (turn : Turn) (answer : Answer)
@@ -63,7 +42,7 @@ judged_ahead {w} lived m u handle names turn answer is root_is handle_is taken o
     on_test : (told : List (List ℕ)) → names_below (state_at w u).nodes w.root handle.node ≡ Some told → ((h : ℕ) → held_at w (suc u) h ≡ held_at w m h)
         → (b : Bool) → same_names (reverse told) (reverse names) ≡ b → Then (if b then turn else gives_up (handle.number ∷ []) Raced) → Before
     on_test told q kept true e a =
-        stood (names_below-stands (state_at w u).nodes w.root handle.node names
+        stood (Stands-names_below (state_at w u).nodes w.root handle.node names
         (q ∙ ap Some (reversed_same told names (names_same (reverse told) (reverse names) e)))) kept a
     on_test told q kept false e a =
         astray (λ stands. false≢true (sym e ∙ same_where_equal (reverse told) (reverse names)
@@ -74,9 +53,6 @@ judged_ahead {w} lived m u handle names turn answer is root_is handle_is taken o
         (subst Then on_none (subst (λ v. Then (taken v)) (is.told ∙ ap (λ r. r.answer) (outcome_is ∙ ap (shows (state_at w u)) q)) ahead))
     on_told (Some told) q = on_test told q (kept_on is (ap (λ r. r.after) (outcome_is ∙ ap (shows (state_at w u)) q))) (same_names (reverse told) (reverse names)) refl
         (subst Then (on_names (reverse told)) (subst (λ v. Then (taken v)) (is.told ∙ ap (λ r. r.answer) (outcome_is ∙ ap (shows (state_at w u)) q)) ahead))
-
-two_lines : (n : ℕ) → n ≤ 1 → suc n ≤ 4
-two_lines n le = omega (arith, le)
 
 two_lines_of_two : (n : ℕ) → n ≤ 1 → suc n ≤ 2
 two_lines_of_two n le = omega (arith, le)
@@ -99,7 +75,7 @@ module _ {w : WalkInHistory} (lived : Lived w) (end : Turn) (texts now t n : ℕ
   parentless : parent (state_at w t).nodes old.node ≡ None → Then (gives_up (old.number ∷ []) Raced) → Before
   parentless none ahead = λ own alone name m past.
       let fails = given_up w end texts (suc t) n (old.number ∷ []) Raced ahead in
-      stopped_for w end texts (suc n) 4 m own Up inner rest (spot_at w (holds old (name ∷ names)) b m) alone (le_refl m) (two_lines n fails.0) fails.2
+      stopped_for w end texts (suc n) 4 m own Up inner rest (spot_at w (holds old (name ∷ names)) b m) alone (le_refl m) (two_at_most n fails.0) fails.2
       (fails.1 [] (spot_at w (holds old (name ∷ names)) b m) (Some Up)
       (tells_whole w (failed Raced) [] (spot_at w (holds old (name ∷ names)) b m) (Some Up) refl
       (λ stop few exact. inl (

@@ -11,7 +11,7 @@ use Rattle.tree_model.specs.declared.step.StepOf.TheVariants.{Dup, NameBelow, Cl
 use Rattle.tree_model.specs.State.{Stands}
 use Rattle.tree_model.specs.Steps.{opens}
 use Rattle.step_resolver.specs.Asked.{AskedPart, Up}
-use Rattle.step_resolver.specs.Trail.{Spot, all}
+use Rattle.step_resolver.specs.Trail.{all}
 use Rattle.step_resolver.specs.Order.{Handle, root_itself, holds, Todo, todo, After, gives, onward, judges, Walking, opening, reading, rising, judging, duping, ending, closing, Turn, failed, handles_of, gives_up, closes, take, is_closing, IsWant}
 use Rattle.step_resolver.specs.Order.{end_of as ends_with}
 use Rattle.step_resolver.specs.WalkHistory.{WalkInHistory, state_at, timeline}
@@ -20,13 +20,10 @@ use Rattle.step_resolver.proofs.Trail.Joined.{own_earlier}
 use Rattle.step_resolver.proofs.Underway.StepOutcomes.{IsLess, Close-is_less, Opening, too_many, no_object, is_opened, opening_of, dup_is}
 use Rattle.step_resolver.proofs.Underway.WalkInvariant.{Lived, StepAt, held_at, root_open, held_node, spot_at, EndsAt, at_all, at_missing, GoodEnd, GoodClosing}
 use Rattle.step_resolver.proofs.Underway.HandlesHeld.{position_kept, position_less}
+use Rattle.step_resolver.proofs.Underway.AfterDupAndClose.{ends_later}
 use Rattle.walk_laws.proofs.Passing.{TellsOf, tells_whole, on_the_way, AheadAt, AheadIn, AheadJudging, AheadAtEnd, Fails, paid_by, paid_for, none_passed, nothing_in, given_up, gave_up_in}
 use Rattle.walk_laws.proofs.NextParts.{rooted, closes_ahead}
 use Rattle.walk_laws.proofs.AfterParent.{judged_ahead}
-
-ends_later : {w : WalkInHistory} {m k : ℕ} {to : Spot} {rest : List AskedPart} → m ≤ k → EndsAt w m to rest → EndsAt w k to rest
-ends_later le (at_all e) = at_all e
-ends_later le (at_missing deep follow n others e short first missing past) = at_missing deep follow n others e short first missing (le_trans past le)
 
 one_line : (n c : ℕ) → n ≤ 0 → 1 ≤ c → suc n ≤ c
 one_line n c none some = omega (arith, none, some)

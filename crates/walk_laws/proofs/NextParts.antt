@@ -4,10 +4,7 @@ use Rattle.std.proofs.Common.{sym, ap, ◌∙◌, le_refl, inl, inr, arith}
 use Rattle.std.proofs.lemmas.Bool.{false≢true}
 use Rattle.path_text.specs.declared.errno.Errno.{Errno}
 use Rattle.path_text.specs.declared.errno.Errno.TheVariants.{NotDir, CrossRoot, TooLong}
-use Rattle.tree_model.specs.declared.inode.Object.{Object}
-use Rattle.tree_model.specs.declared.inode.Object.TheVariants.{Dir, File, Link}
 use Rattle.tree_model.specs.State.{is_directory}
-use Rattle.tree_model.specs.Steps.{kind_of}
 use Rattle.step_resolver.specs.Asked.{AskedPart, Cur, Up, Named}
 use Rattle.step_resolver.specs.Meaning.{is_too_long}
 use Rattle.step_resolver.specs.Trail.{all, before, stay, top}
@@ -15,7 +12,7 @@ use Rattle.step_resolver.specs.Order.{Position, root_itself, holds, todo, onward
 use Rattle.step_resolver.specs.WalkHistory.{WalkInHistory, timeline}
 use Rattle.step_resolver.proofs.WalkSteps.{one_handle}
 use Rattle.step_resolver.proofs.Underway.WalkInvariant.{Lived, IsPositionHeld, node_at, spot_at, Going, GoesFor, at_all}
-use Rattle.step_resolver.proofs.Underway.NextPart.{at_the_root}
+use Rattle.step_resolver.proofs.Underway.NextPart.{at_the_root, no_directory, a_directory}
 use Rattle.walk_laws.proofs.Passing.{TellsOf, tells_whole, Ahead, AheadFor, AheadAt, passed_alone, paid_by, stopped_for, given_up}
 
 -- where no names are passed, the place is the root
@@ -39,19 +36,6 @@ pub alone_for : (w : WalkInHistory) (m b : ℕ) (own : Bool) (p : AskedPart) (po
     → GoesFor w m own p position (todo inner rest b) → own ≡ true → inner ≡ []
 alone_for w m b false p position inner rest going e = absurd (false≢true e)
 alone_for w m b true p position inner rest going e = going.0
-
-pub names_not_empty : (n : List ℕ) (ns : List (List ℕ)) → n ∷ ns ≡ [] → ⊥
-names_not_empty n ns e = cc e
-
-a_directory : (what : Object) → is_dir_kind (kind_of what) ≡ true → is_directory (Some what) ≡ true
-a_directory Dir e = refl
-a_directory File e = e
-a_directory (Link text) e = e
-
-no_directory : (what : Object) → is_dir_kind (kind_of what) ≡ false → is_directory (Some what) ≡ false
-no_directory Dir e = e
-no_directory File e = refl
-no_directory (Link text) e = refl
 
 at_most_four : (n k : ℕ) → n ≤ k → k ≤ 1 → n ≤ 4
 at_most_four n k le few = omega (arith, le, few)

@@ -4,7 +4,6 @@ use Rattle.std.proofs.Common.{sym, ap, subst, ◌∙◌, length-append, arith}
 use Rattle.std.proofs.lemmas.List.{length-map}
 use Rattle.path_text.specs.declared.errno.Errno.{Errno}
 use Rattle.path_text.specs.declared.errno.Errno.TheVariants.{NotFound, Raced, NoMemory, CrossRoot, NotDir, TooLong, Loop}
-use Rattle.path_text.specs.declared.part.Part.{Part}
 use Rattle.path_text.specs.Names.{same_names}
 use Rattle.path_text.specs.Reading.{Reading}
 use Rattle.path_text.specs.Text.{text_fault, parts_of, begins_with_slash}
@@ -15,6 +14,7 @@ use Rattle.step_resolver.specs.Asked.{AskedPart, Cur, Up, Named, ask, asked, fol
 use Rattle.step_resolver.specs.Meaning.{LINKS_MAX, is_too_long}
 use Rattle.step_resolver.specs.Order.{Way, Handle, Position, root_itself, holds, Todo, todo, After, gives, onward, judges, Walking, opening, reading, rising, judging, duping, ending, closing, Turn, more, found, partial, failed, handles_of, is_dir_position, is_followed, gives_up, at_end, in_directory, on_part, on_own, on_parts, goes_on, begins, closes, refusal_of, with_room, follows_link, enters, refused_open, from_link, read_text, end_of, judged, refused_rise, take, due, Line, answered, no_room, not_made, LeadsTo}
 use Rattle.step_resolver.specs.StepCount.{parts_in, to_come, to_come_at, brought, passed, passed_from, passed_by, parts_passed, walk_passed}
+use Rattle.step_resolver.proofs.WalkSteps.{asked_length}
 use Rattle.walk_laws.specs.TrailSteps.{parts_told_by, parts_read}
 use Rattle.walk_laws.proofs.Passing.{IsSuccess}
 
@@ -254,11 +254,6 @@ module _ (way : Way) where
   taken_off (line ∷ lines) (partial handle names rest) end came comes leads success = absurd leads
   taken_off (line ∷ lines) (failed error) end came comes leads success = absurd leads
 
-asked_few : (follow : Bool) (ps : List Part) → length (asked follow ps) ≡ length ps
-asked_few follow [] = refl
-asked_few follow (p ∷ []) = refl
-asked_few follow (p ∷ q ∷ ps) = ap suc (asked_few follow (q ∷ ps))
-
 begun_sum : (came asked left passed rest read : ℕ) → asked ≡ came → left ≤ asked → passed + rest ≡ left + read → came - left + passed + rest ≡ asked + read
 begun_sum came asked left passed rest read e le sum = omega (arith, e, le, sum)
 
@@ -279,5 +274,5 @@ plan_taken_off way path lines end leads success = on (to_come_at (begins way pat
     on (Some left) e =
         ap (λ k. k + parts_passed way (begins way path) lines + left_at end) (ap (passed (length path.parts)) e)
         ∙ begun_sum (length path.parts) (length (asked (follows way.goal) path.parts)) left (parts_passed way (begins way path) lines) (left_at end) (parts_read lines)
-        (asked_few (follows way.goal) path.parts)
+        (asked_length (follows way.goal) path.parts)
         (subst (AtMost (length (asked (follows way.goal) path.parts))) e kept) (taken_off way lines (begins way path) end left e leads success)

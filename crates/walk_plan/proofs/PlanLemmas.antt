@@ -1,9 +1,9 @@
 -- What the calls of a plan leave of it.
-use Rattle.std.proofs.Common.{◌≡◌, ◌≢◌, ℕ, ◌+◌, ◌≤◌, ◌<◌, Bool, true, false, ◌||◌, ◌==◌, List, [], ◌∷◌, ◌++◌, length, refl, sym, subst, arith, length-append}
-use Rattle.std.specs.Prelude.{Option, Some, None, Result, Ok, Err, IfOk, IsSome, MatchOption, MatchResult, if◌then◌else◌}
+use Rattle.std.proofs.Common.{◌≡◌, ◌≢◌, ℕ, ◌+◌, ◌-◌, ◌≤◌, ◌<◌, Bool, true, false, ◌||◌, ◌==◌, List, [], ◌∷◌, ◌++◌, length, refl, arith, length-append}
+use Rattle.std.specs.Prelude.{Option, Some, None, IsSome, if◌then◌else◌}
 use Rattle.std.proofs.lemmas.Bool.Decides.{nat_tests}
 use Rattle.path_text.specs.declared.errno.Errno.{Errno}
-use Rattle.path_text.specs.declared.errno.Errno.TheVariants.{Loop, NoMemory}
+use Rattle.path_text.specs.declared.errno.Errno.TheVariants.{Loop, CrossRoot}
 use Rattle.path_text.specs.declared.part.Part.{Part}
 use Rattle.path_text.specs.declared.path.TheConstants.{PARTS_MAX}
 use Rattle.path_text.specs.Text.{text_fault, parts_of, reading_of, begins_with_slash}
@@ -45,28 +45,11 @@ followed p text h =
     let left = passed.0 in
     (grind (arith, nat_tests), (first_fault_none (text_fault text) _ passed.1).0)
 
-first_fault-None : (fault : Option Errno) → first_fault fault None ≡ fault
-first_fault-None None = refl
-first_fault-None (Some fault) = refl
-
--- where links are allowed and one is left, and the text doesn't lead out, only a fault of the text is in the way
-text_alone : (p : PlanState) (text : List ℕ) → p.flags.no_links ≡ false → p.links_left ≢ 0 → leads_out (begins_with_slash text) p.flags ≡ false → through_fault p text ≡ text_fault text
-text_alone p text allowed left within =
+-- where links are allowed and one is left, only the text can be in the way
+pub text_alone : (p : PlanState) (text : List ℕ) → p.flags.no_links ≡ false → p.links_left ≢ 0 → through_fault p text ≡ first_fault (text_fault text) (if leads_out (begins_with_slash text) p.flags then Some CrossRoot else None)
+text_alone p text allowed left =
     let some : (p.links_left == 0) ≡ false = grind (arith, nat_tests) in
-    rw (allowed, some, within) (first_fault-None (text_fault text))
-
--- what was read had no fault
-without_fault : (fault : Option Errno) (path : Reading) (result : Result Reading Errno) → MatchOption fault (MatchResult result (λ read. read ≡ path) (λ error. error ≡ NoMemory)) (λ f. result ≡ Err f) → IfOk result (λ read. (fault ≡ None) × (read ≡ path))
-without_fault None path (Ok read) h = (refl, h)
-without_fault None path (Err error) h = tt
-without_fault (Some fault) path (Ok read) h = cc
-without_fault (Some fault) path (Err error) h = tt
-
--- what was read is a link's text that nothing keeps from being followed
-pub link_read : (p : PlanState) (text : List ℕ) (result : Result Reading Errno) → p.flags.no_links ≡ false → p.links_left ≢ 0 → leads_out (begins_with_slash text) p.flags ≡ false → MatchOption (text_fault text) (MatchResult result (λ read. read ≡ reading_of text) (λ error. error ≡ NoMemory)) (λ f. result ≡ Err f) → IfOk result (λ read. (through_fault p text ≡ None) × (read ≡ reading_of text))
-link_read p text result allowed left within parsed =
-    let Reads : Option Errno → Type 0 = λ fault. IfOk result (λ read. (fault ≡ None) × (read ≡ reading_of text)) in
-    subst Reads (sym (text_alone p text allowed left within)) (without_fault (text_fault text) (reading_of text) result parsed)
+    rw (allowed, some) refl
 
 -- ---- what stays true of a plan
 
@@ -76,6 +59,11 @@ IsPlan-spliced p text is_plan few left =
     let inner = after_first_shorter p.inner in
     let both = length-append text.parts (after_first p.inner) in
     record { few_links = omega arith; few_own = omega arith; few_inner = omega arith }
+
+pub plan_followed : (p q : PlanState) (text : List ℕ) → IsPlan p → text_fault text ≡ None → 0 < p.links_left → q.inner ≡ parts_of text ++ after_first p.inner → q.own ≡ own_after_next p.inner p.own → q.links_left ≡ p.links_left - 1 → IsPlan q
+plan_followed p q text is_plan none left inner own links =
+    let h = IsPlan-spliced p (reading_of text) is_plan (reading_few text none) left in
+    record { few_links = rw links h.few_links; few_own = rw own h.few_own; few_inner = rw (inner, links) h.few_inner }
 
 pub IsPlan-through : (p : PlanState) (text : List ℕ) → IsPlan p → through_fault p text ≡ None → IsPlan (through p text)
 IsPlan-through p text is_plan none =

@@ -1,20 +1,25 @@
--- Lists of parts that are kept with the next part last.
-use Rattle.std.proofs.Common.{◌≡◌, ◌∙◌, List, [], ◌∷◌, ◌++◌, reverse, refl, ap, sym}
-use Rattle.std.specs.Prelude.{Some, slice_get}
-use Rattle.std.proofs.lemmas.List.{reverse-reverse, reverse-append}
+-- The very last of the parts to come.
+use Rattle.std.proofs.Common.{◌≡◌, ◌-◌, ◌<◌, ◌≤◌, zero, suc, ℕ, List, [], ◌∷◌, length, drop, refl, arith}
+use Rattle.std.specs.Prelude.{None, slice_get}
 use Rattle.path_text.specs.declared.part.Part.{Part}
 use Rattle.walk_plan.specs.Same.{last_part}
 
-last_added : (parts : List Part) (part : Part) → last_part (parts ++ part ∷ []) ≡ Some part
-last_added [] part = refl
-last_added (first ∷ []) part = refl
-last_added (first ∷ second ∷ parts) part = last_added (second ∷ parts) part
+pub last_is : (parts : List Part) → last_part parts ≡ slice_get parts (length parts - 1)
+last_is [] = refl
+last_is (part ∷ []) = refl
+last_is (part ∷ other ∷ parts) =
+    let more : length (part ∷ other ∷ parts) - 1 ≡ suc (length (other ∷ parts) - 1) = omega arith in rw more (last_is (other ∷ parts))
 
--- the very last part is kept first
-pub last_is_first : (parts : List Part) → last_part (reverse parts) ≡ slice_get parts 0
-last_is_first [] = refl
-last_is_first (part ∷ parts) = ap last_part (reverse-append (part ∷ []) parts) ∙ last_added (reverse parts) part
+-- it is the same after some of them, where any are left
+pub last_after : (passed : ℕ) (parts : List Part) → passed < length parts → last_part (drop passed parts) ≡ slice_get parts (length parts - 1)
+last_after zero parts h = last_is parts
+last_after (suc passed) [] h = absurd (omega (arith, h))
+last_after (suc passed) (part ∷ []) h = absurd (omega (arith, h))
+last_after (suc passed) (part ∷ other ∷ parts) h =
+    let more : length (part ∷ other ∷ parts) - 1 ≡ suc (length (other ∷ parts) - 1) = omega arith in rw more (last_after passed (other ∷ parts) (omega (arith, h)))
 
--- parts that are the same in the other order
-pub same_reversed : (parts others : List Part) → reverse parts ≡ reverse others → parts ≡ others
-same_reversed parts others same = sym (reverse-reverse parts) ∙ (ap reverse same ∙ reverse-reverse others)
+pub none_after : (passed : ℕ) (parts : List Part) → length parts ≤ passed → last_part (drop passed parts) ≡ None
+none_after zero [] h = refl
+none_after zero (part ∷ parts) h = absurd (omega (arith, h))
+none_after (suc passed) [] h = refl
+none_after (suc passed) (part ∷ parts) h = none_after passed parts (omega (arith, h))

@@ -12,4 +12,4 @@ mod plan;
 
 pub use goal::Goal;
 pub use laws::{fewer_parts_are_left, plans_keep_their_limits};
-pub use plan::{LINKS_MAX, Plan, copy_parts};
+pub use plan::{LINKS_MAX, Plan};

@@ -1,39 +1,32 @@
 //! The plan of a walk: its parts to come, the names that it passed, the links that it may still follow.
-ghost use Rattle.std.specs.Prelude.{◌≡◌, ◌≢◌, ◌≤◌, ◌<◌, [], ◌++◌, length, reverse, IfOk, OnOk, OnErr, Some, None, Ok, Err, if◌then◌else◌, IsTrue, IfErr, unwrap_or};
-ghost use Rattle.std.specs.Option.{option_copied};
-ghost use Rattle.std.specs.Vec.{vec_len};
-ghost use Rattle.smallvec.specs.SmallVec.{HasRoomFor};
+ghost use Rattle.std.specs.Prelude.{◌≡◌, ◌≢◌, ◌≤◌, ◌<◌, [], ◌++◌, ◌==◌, false, length, IfOk, OnOk, OnErr, Some, None, Ok, Err, if◌then◌else◌, IsTrue, IfErr, unwrap_or};
 ghost use Rattle.path_text.specs.declared.errno.Errno.TheVariants.{CrossRoot};
 ghost use Rattle.path_text.specs.declared.part.Part.TheVariants.{Up, Named};
 ghost use Rattle.path_text.specs.declared.name.TheConstants.{NAME_MAX};
 ghost use Rattle.path_text.specs.declared.path.TheConstants.{PARTS_MAX};
-ghost use Rattle.path_text.specs.Text.{begins_with_slash, reading_of};
+ghost use Rattle.std.specs.List.{list_any};
+ghost use Rattle.path_text.specs.Name.{NUL};
+ghost use Rattle.path_text.specs.Text.{begins_with_slash, parts_of, reading_of, text_fault};
 ghost use Rattle.walk_plan.specs.Plan.{IsPlan, IsNameAnd, IfName, CanStay, next_part, is_last, is_own, is_name, follows_next_link, stayed, went_up, went_down, spliced, through, through_fault, leads_out, begun, first_part, after_first, own_after_next};
 
 use crate::goal::Goal;
 use path_text::{Errno, Flags, Name, Names, NoMemory, Part, Parts, Path, SLASH};
-use smallvec::SmallVec;
 use std::alloc::Global;
 use std::marker::Model;
 
 mod copy;
 mod same;
 
-pub use copy::copy_parts;
-
 /// The most links that are followed along one path (path_resolution(7), MAXSYMLINKS of the Linux kernel).
 pub const LINKS_MAX: u8 = 40;
-
-/// So many parts of links' texts lie in the plan itself. Most texts have no more.
-const INLINE_PARTS: usize = 4;
 
 /// What a walk along a path still has to do. Contracts see it as a `PlanState`.
 #[derive(Debug, Drop)]
 pub struct Plan {
-    // the parts of links' texts, the next one last
-    inner: SmallVec<Part, INLINE_PARTS>,
-    // the caller's own parts, the next one last
-    own: Vec<Part>,
+    // the parts of links' texts
+    inner: Parts,
+    // the caller's own parts
+    own: Parts,
     // from the root to where the walk is, the outermost first
     names: Names,
     links_left: u8,
@@ -42,7 +35,6 @@ pub struct Plan {
 }
 
 impl Model for Plan {
-    ghost use Rattle.std.specs.Prelude.{reverse};
     ghost use Rattle.walk_plan.specs.Plan.{PlanState};
 
     ghost Value = { PlanState };
@@ -64,12 +56,9 @@ impl Plan {
         if flags.beneath && path.absolute {
             return Err(Errno::CrossRoot);
         }
-        // the next part stands last, where it is taken off without moving the others
-        let mut own = path.parts.into_vec();
-        own.reverse();
         Ok(Plan {
-            inner: SmallVec::new(alloc),
-            own,
+            inner: Parts::new(alloc),
+            own: path.parts,
             names: Names::new(alloc),
             links_left: LINKS_MAX,
             goal,
@@ -78,14 +67,14 @@ impl Plan {
     }
 
     /// The next part, if one is left.
-    pub fn next(&self) -> Option<&Part>
-        ensures { option_copied result ≡ next_part self.now }
+    pub fn next<'a>(&'a self) -> Option<Part<'a>>
+        ensures { result ≡ next_part self.now }
     {
         next_of(&self.inner, &self.own)
     }
 
     /// Whether the next part is the last one to come.
-    #[tactic(auto, using(crate::proofs::PartsLemmas::is_single_reversed))]
+    #[tactic(auto, using(crate::proofs::PartsLemmas::is_single_of_both))]
     pub fn is_last(&self) -> bool
         ensures { result ≡ is_last self.now }
     {
@@ -155,7 +144,7 @@ impl Plan {
         requires { CanStay (next_part self.old) self.old.names }
         ensures { self.new ≡ stayed self.old }
     {
-        let _ = pop_next(&mut self.inner, &mut self.own);
+        take_next(&mut self.inner, &mut self.own);
     }
 
     /// Takes the next part off, which is `..`, and drops the last name. Takes no memory.
@@ -164,7 +153,7 @@ impl Plan {
         requires named { self.old.names ≢ [] }
         ensures { self.new ≡ went_up self.old }
     {
-        let _ = pop_next(&mut self.inner, &mut self.own);
+        take_next(&mut self.inner, &mut self.own);
         self.names.pop();
     }
 
@@ -176,7 +165,7 @@ impl Plan {
         ensures err { OnErr result (self.new ≡ self.old) }
     {
         self.names.push(name)?;
-        let _ = pop_next(&mut self.inner, &mut self.own);
+        take_next(&mut self.inner, &mut self.own);
         Ok(())
     }
 
@@ -192,7 +181,7 @@ impl Plan {
         if let Some(Part::Named(component)) = next_of(&self.inner, &self.own) {
             self.names.push_bytes(component.bytes())?;
         }
-        let _ = pop_next(&mut self.inner, &mut self.own);
+        take_next(&mut self.inner, &mut self.own);
         Ok(())
     }
 
@@ -203,7 +192,7 @@ impl Plan {
     /// Errors, in this order: Loop where no link may be followed any more, or none at all (`no_links`;
     /// ELOOP of openat2(2)); the text's faults, as of `Path::parse`; CrossRoot for an absolute text under
     /// `beneath` (EXDEV); NoMemory where room was refused. Each leaves the plan unchanged.
-    pub fn through(&mut self, alloc: Global, text: &[u8]) -> Result<bool, Errno>
+    pub fn through(&mut self, _alloc: Global, text: &[u8]) -> Result<bool, Errno>
         requires { IsTrue (is_name (next_part self.old)) }
         ensures followed { OnOk result (through_fault self.old text.now ≡ None) }
         ensures ok { OnOk result (self.new ≡ through self.old text.now) }
@@ -214,46 +203,45 @@ impl Plan {
             (λ error. error ≡ unwrap_or (through_fault self.old text.now) Errno.NoMemory) }
         ensures err { OnErr result (self.new ≡ self.old) }
     {
-        let path = self.path_of_link(alloc, text)?;
-        let absolute = path.absolute;
-        self.follow(path)?;
-        Ok(absolute)
+        self.check_link(text)?;
+        self.follow(text)?;
+        Ok(begins_with_slash(text))
     }
 
-    // What a link's text is read as, where the link is followed.
-    fn path_of_link(&self, alloc: Global, text: &[u8]) -> Result<Path, Errno>
-        ensures ok { IfOk result
-            (λ path. (through_fault self.now text.now ≡ None) × (path ≡ reading_of text.now)) }
-        ensures error { IfErr result
-            (λ error. error ≡ unwrap_or (through_fault self.now text.now) Errno.NoMemory) }
+    // Why a link with this text isn't followed, where it isn't.
+    fn check_link(&self, text: &[u8]) -> Result<(), Errno>
+        ensures ok { OnOk result (through_fault self.now text.now ≡ None) }
+        ensures error { IfErr result (λ error. Some error ≡ through_fault self.now text.now) }
     {
         if self.flags.no_links || self.links_left == 0 {
             return Err(Errno::Loop);
         }
-        if self.leads_out(text) {
-            return Err(Path::fault_of(text).unwrap_or(Errno::CrossRoot));
+        if let Some(fault) = Path::fault_of(text) {
+            return Err(fault);
         }
-        Path::parse(alloc, text)
+        if self.leads_out(text) {
+            return Err(Errno::CrossRoot);
+        }
+        Ok(())
     }
 
     // Whether the text begins at the root, and may not.
     fn leads_out(&self, text: &[u8]) -> bool
         ensures { result ≡ leads_out (begins_with_slash text.now) self.now.flags }
     {
-        self.flags.beneath && text.first() == Some(&SLASH)
+        self.flags.beneath && begins_with_slash(text)
     }
 
-    // Follows a link whose text is read as this path. NoMemory where room was refused, before anything
-    // changed.
-    fn follow(&mut self, path: Path) -> Result<(), NoMemory>
-        requires { 0 < self.old.links_left }
-        ensures ok { OnOk result (self.new ≡ spliced self.old path) }
+    // Follows a link with this text. NoMemory where room was refused, before anything changed.
+    fn follow(&mut self, text: &[u8]) -> Result<(), NoMemory>
+        requires left { 0 < self.old.links_left }
+        requires text { text_fault text.now ≡ None }
+        ensures ok { OnOk result (self.new ≡ spliced self.old (reading_of text.now)) }
         ensures err { OnErr result (self.new ≡ self.old) }
     {
-        let absolute = path.absolute;
-        splice(&mut self.inner, &mut self.own, path.parts.into_vec())?;
+        splice(&mut self.inner, &mut self.own, text)?;
         self.links_left -= 1;
-        if absolute {
+        if begins_with_slash(text) {
             self.names.clear();
         }
         Ok(())
@@ -266,61 +254,54 @@ impl Plan {
         ensures parts { result ≡ self.own }
         ensures few { length result ≤ PARTS_MAX }
     {
-        let mut parts = self.own;
-        parts.reverse();
-        Parts::from_vec(parts)
+        self.own
     }
 }
 
-// The next part: of those of links' texts, which come first, else of the own ones.
-fn next_of<'a>(inner: &'a SmallVec<Part, INLINE_PARTS>, own: &'a Vec<Part>) -> Option<&'a Part>
-    ensures { option_copied result ≡ first_part (reverse inner.now.items ++ reverse own.now.items) }
+// Whether a text begins at the root.
+fn begins_with_slash(text: &[u8]) -> bool
+    ensures { result ≡ begins_with_slash text.now }
 {
-    match inner.as_slice().last() {
-        Some(part) => Some(part),
-        None => own.as_slice().last(),
+    text.first() == Some(&SLASH)
+}
+
+// The next part: of those of links' texts, which come first, else of the own ones.
+#[tactic(auto, using(crate::proofs::PartsLemmas::first_is))]
+fn next_of<'a>(inner: &'a Parts, own: &'a Parts) -> Option<Part<'a>>
+    ensures { result ≡ first_part (inner.now ++ own.now) }
+{
+    if inner.is_empty() {
+        own.first()
+    } else {
+        inner.first()
     }
 }
 
 // Takes the next part off: from the parts of links' texts, which come first, else from the own ones.
-fn pop_next(inner: &mut SmallVec<Part, INLINE_PARTS>, own: &mut Vec<Part>) -> Option<Part>
-    ensures part { result ≡ first_part (reverse inner.old.items ++ reverse own.old.items) }
-    ensures inner { reverse inner.new.items ≡ after_first (reverse inner.old.items) }
-    ensures own { reverse own.new.items
-        ≡ own_after_next (reverse inner.old.items) (reverse own.old.items) }
-    ensures capacity { inner.new.capacity ≡ inner.old.capacity }
+#[tactic(auto, using(crate::proofs::PartsLemmas::after_first_is))]
+fn take_next(inner: &mut Parts, own: &mut Parts)
+    ensures inner { inner.new ≡ after_first inner.old }
+    ensures own { own.new ≡ own_after_next inner.old own.old }
 {
-    match inner.pop() {
-        Some(part) => Some(part),
-        None => own.pop(),
+    if inner.is_empty() {
+        own.drop_first();
+    } else {
+        inner.drop_first();
     }
 }
 
-// Puts the parts in the place of the next one. NoMemory where room was refused, before anything changed.
-fn splice(
-    inner: &mut SmallVec<Part, INLINE_PARTS>,
-    own: &mut Vec<Part>,
-    parts: Vec<Part>,
-) -> Result<(), NoMemory>
-    ensures inner { OnOk result
-        (reverse inner.new.items ≡ parts.items ++ after_first (reverse inner.old.items)) }
-    ensures own { OnOk result
-        (reverse own.new.items ≡ own_after_next (reverse inner.old.items) (reverse own.old.items)) }
-    ensures err { OnErr result
-        ((inner.new.items ≡ inner.old.items) × (own.new.items ≡ own.old.items)) }
+// Puts the parts of the text in the place of the next one. NoMemory where room was refused, before anything changed.
+#[tactic(auto, using(crate::proofs::PartsLemmas::after_first_is))]
+fn splice(inner: &mut Parts, own: &mut Parts, text: &[u8]) -> Result<(), NoMemory>
+    requires { list_any (λ b. b == NUL) text.now ≡ false }
+    ensures inner { OnOk result (inner.new ≡ parts_of text.now ++ after_first inner.old) }
+    ensures own { OnOk result (own.new ≡ own_after_next inner.old own.old) }
+    ensures err { OnErr result ((inner.new ≡ inner.old) × (own.new ≡ own.old)) }
 {
-    inner.reserve(parts.len())?;
-    let _ = pop_next(inner, own);
-    stack_up(inner, parts);
+    let from_own = inner.is_empty();
+    let _ = inner.put_for_first(text)?;
+    if from_own {
+        own.drop_first();
+    }
     Ok(())
-}
-
-// Puts the parts onto a stack whose next part is the last, so that the first of them is the next.
-fn stack_up(stack: &mut SmallVec<Part, INLINE_PARTS>, mut parts: Vec<Part>)
-    requires { HasRoomFor stack.old (vec_len parts) }
-    ensures { stack.new.items ≡ stack.old.items ++ reverse parts.items }
-{
-    while let Some(part) = parts.pop() {
-        stack.push_reserved(part);
-    }
 }

@@ -1,10 +1,12 @@
-//! Handles' states, plans, walks and the plain resolution, by tables of paths and answers.
+//! Handles' states, plans, walks, refusals and the plain resolution, by tables of paths and answers.
 #![tactic(auto)]
 
 #[cfg(test)]
 mod plain;
 #[cfg(test)]
 mod plans;
+#[cfg(test)]
+mod refusals;
 #[cfg(test)]
 mod states;
 #[cfg(test)]

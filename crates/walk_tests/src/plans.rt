@@ -362,7 +362,7 @@ fn plans_with_the_same_to_come(rt: HostRuntime) {
 
 // Whether the parts left are these, where the next one is of the caller's own text.
 fn is_rest(plan: Plan, words: &str) -> bool {
-    plan.is_own() && are_parts(plan.rest().as_slice(), words)
+    plan.is_own() && are_parts(&plan.rest(), words)
 }
 
 // Whether these are left of a path once a link at its first part is followed, and the link's part is passed.

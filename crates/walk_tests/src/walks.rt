@@ -206,7 +206,7 @@ fn is_end(alloc: Global, turn: &Turn, end: &str) -> bool {
         Turn::More(_) => end == "more",
         Turn::Found(held) => stands(alloc, held, end),
         Turn::Partial(held, rest) => match end.split_once(" left ") {
-            Some((words, parts)) => stands(alloc, held, words) && are_parts(rest.as_slice(), parts),
+            Some((words, parts)) => stands(alloc, held, words) && are_parts(&rest, parts),
             None => false,
         },
         Turn::Failed(error) => cut(end).0 == "fault" && cut(end).1 == error.name(),

@@ -1,7 +1,7 @@
 //! What words of a row say: goals, parts and answers.
 use fixtures::names_of;
 use handles::Reached;
-use path_text::{Bytes, Errno, Names, Part};
+use path_text::{Bytes, Errno, Names, Part, Parts};
 use std::alloc::Global;
 use tree_model::{Answer, HandleNo, Kind, Node, Step, StepOf};
 use walk_plan::Goal;
@@ -31,7 +31,7 @@ pub fn goal_of(words: &str) -> Goal {
 }
 
 /// A part as it is written.
-pub fn text_of(part: &Part) -> &[u8] {
+pub fn text_of<'a>(part: Part<'a>) -> &'a [u8] {
     match part {
         Part::Cur => b".",
         Part::Up => b"..",
@@ -40,11 +40,11 @@ pub fn text_of(part: &Part) -> &[u8] {
 }
 
 /// Whether the parts are these words.
-pub fn are_parts(parts: &[Part], words: &str) -> bool {
+pub fn are_parts(parts: &Parts, words: &str) -> bool {
     let mut left = words;
-    for part in parts {
+    for at in 0..parts.len() {
         let (word, others) = cut(left);
-        if text_of(part) != word.as_bytes() {
+        if text_of(parts.get(at)) != word.as_bytes() {
             return false;
         }
         left = others;

@@ -2,9 +2,11 @@
 use Rattle.std.specs.Prelude.{◌≡◌, ◌≢◌, ◌⊎◌, ◌||◌, ℕ, zero, suc, List, [], ◌∷◌, ◌++◌, Bool, true, false, length, Option, Some, None, slice_get, slice_set, refl}
 use Rattle.std.proofs.Common.{inl, inr, sym, ap, subst, ◌∙◌, append-nil, append_assoc}
 use Rattle.std.proofs.lemmas.Bool.{false≢true, cases_eq}
-use Rattle.std.proofs.lemmas.Option.{none-some, same_Some}
+use Rattle.std.proofs.lemmas.Option.{same_Some}
 use Rattle.path_text.specs.declared.errno.Errno.TheVariants.{BadHandle}
+use Rattle.path_text.proofs.TextLemmas.{or_false}
 use Rattle.tree_model.specs.declared.answer.Answer.{Answer}
+use Rattle.tree_model.proofs.StepLaws.{slice_get-set_other}
 use Rattle.root_ops.specs.declared.below.Below.{Below}
 use Rattle.root_ops.specs.declared.op.Request.{Request}
 use Rattle.root_ops.specs.Order.{Reply, CallTurn, more, ends, starts, take, due}
@@ -19,6 +21,7 @@ use Rattle.race_core.specs.Ledgers.{LedgerView}
 use Rattle.race_core.specs.OneReport.{full, HadMemory, AllHadMemory}
 use Rattle.race_core.specs.Turns.{Luck, stepped_by, outcome_of, comes, begins, begins_next, begun, goes_on, turned, request_of, left_by}
 use Rattle.race_core.specs.Worlds.{WorldView, turn_of, turn, Runs, again, AllGoToEnd, numbers_below, ledgers_in, replies_in}
+use Rattle.race_core.proofs.WorldSoFar.{placed_there}
 use Rattle.explore.specs.Want.{reply_wants, outcome_wants, any_wants, call_wants, seat_wants, seats_want, replies_want}
 use Rattle.world_laws.specs.WantCauses.{BringsNoWant, MemoryBringsNoWant, LackedMemory, WantHasATurn, ReportsWithMemoryTellNone}
 use Rattle.world_laws.proofs.CalmCalls.{TurnIsCalm, take_calm, starts_calm}
@@ -30,19 +33,11 @@ neither : (a b : Bool) → a ≡ false → b ≡ false → (a || b) ≡ false
 neither true b e f = absurd (false≢true (sym e))
 neither false b e f = f
 
-first_of : (a b : Bool) → (a || b) ≡ false → a ≡ false
-first_of true b e = absurd (false≢true (sym e))
-first_of false b e = refl
-
-second_of : (a b : Bool) → (a || b) ≡ false → b ≡ false
-second_of true b e = absurd (false≢true (sym e))
-second_of false b e = e
-
 any_both : (before after : List Outcome) → any_wants before ≡ false → any_wants after ≡ false → any_wants (before ++ after) ≡ false
 any_both [] after e f = f
 any_both (o ∷ before) after e f =
-    neither (outcome_wants o) (any_wants (before ++ after)) (first_of (outcome_wants o) (any_wants before) e)
-    (any_both before after (second_of (outcome_wants o) (any_wants before) e) f)
+    neither (outcome_wants o) (any_wants (before ++ after)) (or_false (outcome_wants o) (any_wants before) e).0
+    (any_both before after (or_false (outcome_wants o) (any_wants before) e).1 f)
 
 -- ---- a turn
 
@@ -110,10 +105,10 @@ memory_brings_no_want book seat calm =
 
 seat_calm : (book : BookedHistory) (seat : Seat) → seat_wants seat ≡ false → seat_wants (turned full book seat.ledger seat.doing).seat ≡ false
 seat_calm book seat calm =
-    let brought = memory_brings_no_want book seat (second_of (any_wants seat.ledger.outcomes) (call_wants seat.doing) calm) in
+    let brought = memory_brings_no_want book seat (or_false (any_wants seat.ledger.outcomes) (call_wants seat.doing) calm).1 in
     let new : Seat = (turned full book seat.ledger seat.doing).seat in
     neither (any_wants new.ledger.outcomes) (call_wants new.doing)
-    (ap any_wants brought.told ∙ any_both seat.ledger.outcomes brought.news (first_of (any_wants seat.ledger.outcomes) (call_wants seat.doing) calm) brought.none)
+    (ap any_wants brought.told ∙ any_both seat.ledger.outcomes brought.news (or_false (any_wants seat.ledger.outcomes) (call_wants seat.doing) calm).0 brought.none)
     brought.under_way
 
 -- ---- one actor
@@ -127,22 +122,10 @@ is_full luck = on luck.start luck.step luck.room refl refl refl
     on true false c e f g = inr (λ q. false≢true (sym f ∙ ap (λ (l : Luck). l.step) q))
     on false b c e f g = inr (λ q. false≢true (sym e ∙ ap (λ (l : Luck). l.start) q))
 
-set_there : {A : Type 0} (xs : List A) (i : ℕ) (x y : A) → slice_get xs i ≡ Some x → slice_get (slice_set xs i y) i ≡ Some y
-set_there [] i x y e = absurd (none-some x e)
-set_there (z ∷ xs) zero x y e = refl
-set_there (z ∷ xs) (suc i) x y e = set_there xs i x y e
-
-set_elsewhere : {A : Type 0} (xs : List A) (i k : ℕ) (y : A) → k ≢ i → slice_get (slice_set xs i y) k ≡ slice_get xs k
-set_elsewhere [] i k y ne = refl
-set_elsewhere (x ∷ xs) zero zero y ne = absurd (ne refl)
-set_elsewhere (x ∷ xs) zero (suc k) y ne = refl
-set_elsewhere (x ∷ xs) (suc i) zero y ne = refl
-set_elsewhere (x ∷ xs) (suc i) (suc k) y ne = set_elsewhere xs i k y (λ e. ne (ap suc e))
-
 -- another actor's turn leaves the seat
 turn_elsewhere : (luck : Luck) (w : WorldView) (j i : ℕ) (o : Option Seat) → i ≢ j → slice_get (turn_of luck w j o).seats i ≡ slice_get w.seats i
 turn_elsewhere luck w j i None ne = refl
-turn_elsewhere luck w j i (Some seat) ne = set_elsewhere w.seats j i (turned luck w.book seat.ledger seat.doing).seat ne
+turn_elsewhere luck w j i (Some seat) ne = slice_get-set_other w.seats j (turned luck w.book seat.ledger seat.doing).seat i ne
 
 module _ (j : ℕ) (is : List ℕ) (w v : WorldView) (ran : Runs w (j ∷ is) v) (i : ℕ) (old : Seat) (at : slice_get w.seats i ≡ Some old) (calm : seat_wants old ≡ false) where
   -- what follows from the seat after the first turn
@@ -155,7 +138,7 @@ module _ (j : ℕ) (is : List ℕ) (w v : WorldView) (ran : Runs w (j ∷ is) v)
       let next : Seat = (turned ran.0 w.book old.ledger old.doing).seat in
       let there : slice_get (turn ran.0 w j).seats i ≡ Some next =
       subst (λ (k : ℕ). slice_get (turn ran.0 w k).seats i ≡ Some next) (sym mine)
-      (ap (λ (o : Option Seat). slice_get (turn_of ran.0 w i o).seats i) at ∙ set_there w.seats i old next at) in
+      (ap (λ (o : Option Seat). slice_get (turn_of ran.0 w i o).seats i) at ∙ placed_there w.seats i old next at) in
       let still : seat_wants next ≡ false =
       subst (λ (luck : Luck). seat_wants (turned luck w.book old.ledger old.doing).seat ≡ false) (sym had) (seat_calm w.book old calm) in
       inr (onward next there still)
@@ -177,11 +160,11 @@ set_calm : (seats : List Seat) (i : ℕ) (old new : Seat) → slice_get seats i 
     → seats_want (slice_set seats i new) ≡ false
 set_calm [] i old new e keeps calm = refl
 set_calm (s ∷ seats) zero old new e keeps calm =
-    neither (seat_wants new) (seats_want seats) (keeps (sym (ap seat_wants (same_Some s old e)) ∙ first_of (seat_wants s) (seats_want seats) calm))
-    (second_of (seat_wants s) (seats_want seats) calm)
+    neither (seat_wants new) (seats_want seats) (keeps (sym (ap seat_wants (same_Some s old e)) ∙ (or_false (seat_wants s) (seats_want seats) calm).0))
+    (or_false (seat_wants s) (seats_want seats) calm).1
 set_calm (s ∷ seats) (suc i) old new e keeps calm =
-    neither (seat_wants s) (seats_want (slice_set seats i new)) (first_of (seat_wants s) (seats_want seats) calm)
-    (set_calm seats i old new e keeps (second_of (seat_wants s) (seats_want seats) calm))
+    neither (seat_wants s) (seats_want (slice_set seats i new)) (or_false (seat_wants s) (seats_want seats) calm).0
+    (set_calm seats i old new e keeps (or_false (seat_wants s) (seats_want seats) calm).1)
 
 turn_calm : (w : WorldView) (i : ℕ) → seats_want w.seats ≡ false → seats_want (turn full w i).seats ≡ false
 turn_calm w i calm = on (slice_get w.seats i) refl
@@ -203,8 +186,8 @@ told_calm : (seats : List Seat) → seats_want seats ≡ false → replies_want 
 told_calm [] calm = refl
 told_calm (s ∷ seats) calm =
     neither (any_wants s.ledger.outcomes) (replies_want (replies_in (ledgers_in seats)))
-    (first_of (any_wants s.ledger.outcomes) (call_wants s.doing) (first_of (seat_wants s) (seats_want seats) calm))
-    (told_calm seats (second_of (seat_wants s) (seats_want seats) calm))
+    (or_false (any_wants s.ledger.outcomes) (call_wants s.doing) (or_false (seat_wants s) (seats_want seats) calm).0).0
+    (told_calm seats (or_false (seat_wants s) (seats_want seats) calm).1)
 
 pub reports_with_memory_tell_none : ReportsWithMemoryTellNone
 reports_with_memory_tell_none w schedule tree events replies kept ran calm had =

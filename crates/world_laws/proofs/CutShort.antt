@@ -1,5 +1,5 @@
 -- A world that was cut short is given up as one in which the call's end was taken down.
-use Rattle.std.specs.Prelude.{◌≡◌, ℕ, zero, suc, List, [], ◌∷◌, false, Option, Some, None, Ok, is_some, slice_get, slice_set, refl}
+use Rattle.std.specs.Prelude.{◌≡◌, ℕ, zero, suc, List, [], ◌∷◌, false, Option, Some, None, Ok, slice_get, slice_set, refl}
 use Rattle.std.proofs.Common.{sym, ap, subst, ◌∙◌, inl, inr}
 use Rattle.std.proofs.lemmas.Bool.{false≢true}
 use Rattle.std.proofs.lemmas.Option.{same_Some}
@@ -10,11 +10,8 @@ use Rattle.race_core.specs.Book.{BookedHistory}
 use Rattle.race_core.specs.GivenUp.{GivesCallUp, AllGiveUp}
 use Rattle.race_core.specs.TurnView.{taken_down}
 use Rattle.race_core.specs.Worlds.{WorldView, taken_down_at, is_within_in, LacksRoom, Turns}
+use Rattle.race_core.proofs.OneEnd.{none_left}
 use Rattle.world_laws.specs.GivenUpWorlds.{CutShortLikewise}
-
-not_within : (doing : Option CallView) → is_some doing ≡ false → doing ≡ None
-not_within None e = refl
-not_within (Some view) e = absurd (false≢true (sym e))
 
 -- an actor without a call under way gives up none, whatever it was told
 set_given_up : (seats : List Seat) (i : ℕ) (seat : Seat) (reply : Reply) (book after : BookedHistory) → slice_get seats i ≡ Some seat → seat.doing ≡ None
@@ -34,7 +31,7 @@ told_given_up seats i reply book after idle gives = on (slice_get seats i) refl
   where
     on : (o : Option Seat) → slice_get seats i ≡ o → AllGiveUp book (taken_down_at seats i reply o) after
     on None e = gives
-    on (Some seat) e = set_given_up seats i seat reply book after e (not_within seat.doing (sym (ap is_within_in e) ∙ idle)) gives
+    on (Some seat) e = set_given_up seats i seat reply book after e (none_left seat.doing (sym (ap is_within_in e) ∙ idle)) gives
 
 pub cut_short_likewise : CutShortLikewise
 cut_short_likewise w v i after memory taken gives = on taken.1

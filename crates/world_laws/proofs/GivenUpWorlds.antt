@@ -24,21 +24,20 @@ use Rattle.race_core.specs.Book.{BookedHistory, tree_now}
 use Rattle.race_core.specs.EndHandles.{Word, words_of_done, words_of_call, all_words, last_word, HandlesAtEnd}
 use Rattle.race_core.specs.JoinedRuns.{TakesTurns, TurnsJoinRuns}
 use Rattle.race_core.specs.Opening.{IsOpened, seats_of}
-use Rattle.race_core.specs.Turns.{request_of, outcome_of, Luck}
+use Rattle.race_core.specs.Turns.{request_of, outcome_of}
 use Rattle.race_core.specs.WorldCalls.{kept_after, WholeRun, CallMade, kept_after_all, AreMade, planned_of, outcomes_of, events_of_calls, ReleasesOwn, ActorsCalls}
 use Rattle.race_core.specs.WorldLaws.{CallsInOrder}
-use Rattle.race_core.specs.Worlds.{WorldView, turn_of, AllGoToEnd, AllOver, ledgers_in, replies_in, kept_in, RunsTo}
+use Rattle.race_core.specs.Worlds.{WorldView, AllGoToEnd, AllOver, ledgers_in, replies_in, kept_in, RunsTo}
+use Rattle.race_core.proofs.ReportsThere.{IsLegalBook, legal_after}
+use Rattle.race_core.proofs.JoinedRuns.{spent_of}
+use Rattle.race_core.proofs.HandlesLeft.{words_on}
 use Rattle.world_laws.specs.GivenUpWorlds.{GivenUpWorld, WasGivenUp, opening_tree, granted_root, tells_opened, LastOutcome, IsCutPlan, report_on, IsReported, GivenUpIsReported, OneIfUnderWay, HoldsAfter, GivenUpClosesAll}
 use Rattle.world_laws.proofs.GivesUp.{numbers_from, numbers_are, AllGoOver, all_go_over, shut_left, shut_none, shut_gives, replies_told}
-use Rattle.world_laws.proofs.LegalTurns.{IsLegalBook, legal_turns, legal_ends}
+use Rattle.world_laws.proofs.LegalTurns.{legal_turns}
 use Rattle.world_laws.proofs.OpensNothing.{AllGoToNone, opened_so, turns_go_to_none}
 use Rattle.world_laws.proofs.Shorter.{AreCut, IsCutWorld, same_world, turns_cut, CutPlans, cut_plans, calls_left, shut, shut_is_cut, left_at}
 
 -- ---- the report
-
-spent_of : (luck : Luck) (w : WorldView) (i : ℕ) (o : Option Seat) → (turn_of luck w i o).spent ≡ w.spent
-spent_of luck w i None = refl
-spent_of luck w i (Some seat) = refl
 
 still_spent : (w : WorldView) (made : List ℕ) (v : WorldView) → TakesTurns w made v → v.spent ≡ w.spent
 still_spent w [] v taken = ap (λ (u : WorldView). u.spent) taken
@@ -108,7 +107,7 @@ module _ (join : TurnsJoinRuns) (g : GivenUpWorld) (was : WasGivenUp g) where
     reports = record {
       is_tree = ap tree_now (sym all_over.book);
       are_events = ap (λ (b : BookedHistory). b.events) (sym all_over.book);
-      legal = legal_ends closed (numbers_from 0 (length (shut last.seats))) all_over.end all_over.gone (legal_turns g.world g.made last was.turns legal_at_first);
+      legal = legal_after (numbers_from 0 (length (shut last.seats))) closed all_over.end all_over.gone (legal_turns g.world g.made last was.turns legal_at_first);
       are_replies = refl;
       is_kept = refl;
     };
@@ -230,10 +229,6 @@ given_up_call (Some view) told (c ∷ []) is e =
     record { under_way = (c, refl); closes = λ root standings. words_open_none (request_of root standings c.planned) c.reply none }
 given_up_call (Some view) told (c ∷ d ∷ calls) is e =
     let two : outcome_of c.reply ∷ outcome_of d.reply ∷ outcomes_of calls ≡ is.0 ∷ [] = e ∙ is.1.0 in cc (two)
-
-words_on : (o : Option ℕ) (h : ℕ) (words others : List Word) → last_word o h (words ++ others) ≡ last_word (last_word o h words) h others
-words_on o h [] others = refl
-words_on o h (word ∷ words) others = words_on (if word.handle == h then word.node else o) h words others
 
 words_of_both : (root : Root) (standings : List (Option StandingObject)) (calls others : List CallMade)
     → all_words root standings (calls ++ others) ≡ all_words root standings calls ++ all_words root (kept_after_all root.owner standings calls) others

@@ -17,30 +17,14 @@ use Rattle.race_core.specs.Ledgers.{LedgerView}
 use Rattle.race_core.specs.TurnView.{is_busy, are_some}
 use Rattle.race_core.specs.Turns.{Luck, Stepped, unless_refused, stepped_by, outcome_of, comes}
 use Rattle.race_core.specs.Worlds.{WorldView, turn_of, Runs, again, GoesToEnd, AllGoToEnd, numbers_below, is_busy_in, AllOver, ledgers_in, replies_in}
+use Rattle.race_core.proofs.WorldSoFar.{placed_there, got_after}
+use Rattle.race_core.proofs.CutShort.{placed_twice}
+use Rattle.race_core.proofs.OneEnd.{set_same}
 use Rattle.world_laws.specs.GivenUpWorlds.{tells_opened, LastOutcome}
 use Rattle.world_laws.proofs.OpensNothing.{OpensNone, ClosesToNone, EndsInNone, refused_opens_none, close_opens_none, CallGoesToNone, AllGoToNone}
 use Rattle.world_laws.proofs.Shorter.{shut}
 
 -- ---- places
-
-placed_there : {A : Type 0} (xs : List A) (i : ℕ) (x y : A) → slice_get xs i ≡ Some x → slice_get (slice_set xs i y) i ≡ Some y
-placed_there [] i x y e = absurd (none-some x e)
-placed_there (z ∷ xs) zero x y e = refl
-placed_there (z ∷ xs) (suc i) x y e = placed_there xs i x y e
-
-placed_twice : {A : Type 0} (xs : List A) (i : ℕ) (x y : A) → slice_set (slice_set xs i x) i y ≡ slice_set xs i y
-placed_twice [] i x y = refl
-placed_twice (z ∷ xs) zero x y = refl
-placed_twice (z ∷ xs) (suc i) x y = ap (λ zs. z ∷ zs) (placed_twice xs i x y)
-
-placed_again : {A : Type 0} (xs : List A) (i : ℕ) (x : A) → slice_get xs i ≡ Some x → slice_set xs i x ≡ xs
-placed_again [] i x e = refl
-placed_again (y ∷ xs) zero x e = ap (λ z. z ∷ xs) (sym (same_Some y x e))
-placed_again (y ∷ xs) (suc i) x e = ap (λ zs. y ∷ zs) (placed_again xs i x e)
-
-got_after : {A : Type 0} (xs : List A) (y : A) (ys : List A) → slice_get (xs ++ y ∷ ys) (length xs) ≡ Some y
-got_after [] y ys = refl
-got_after (x ∷ xs) y ys = got_after xs y ys
 
 set_after : {A : Type 0} (xs : List A) (y : A) (ys : List A) (z : A) → slice_set (xs ++ y ∷ ys) (length xs) z ≡ xs ++ z ∷ ys
 set_after [] y ys z = refl
@@ -110,7 +94,7 @@ comes_over [] w i ledger below (ends reply) after at none_left none goes =
       book = sym goes;
       spent = refl;
       new = new;
-      seats = sym (placed_again w.seats i new at);
+      seats = sym (set_same w.seats i new at);
       idle = idle;
       outcome = outcome_of reply;
       told = refl;
@@ -154,7 +138,7 @@ goes_over w i ledger None after at none_left none gives =
       book = sym gives;
       spent = refl;
       new = new;
-      seats = sym (placed_again w.seats i new at);
+      seats = sym (set_same w.seats i new at);
       idle = idle;
       last = [];
       told = sym (append-nil ledger.outcomes);

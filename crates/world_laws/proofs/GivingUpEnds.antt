@@ -10,9 +10,10 @@ use Rattle.root_ops.specs.declared.below.Below.{Below}
 use Rattle.root_ops.specs.Order.{CallTurn, more, ends, take, due, steps_left}
 use Rattle.root_ops.specs.View.{CallView}
 use Rattle.root_ops.proofs.Steps.{IsFewer, take_fewer}
-use Rattle.race_core.specs.Book.{BookedHistory, is_close, refusal, booked}
+use Rattle.race_core.specs.Book.{BookedHistory, is_close, refusal}
 use Rattle.race_core.specs.GivenUp.{GoesWithout, closed_all, GivesCallUp}
 use Rattle.race_core.specs.Turns.{Stepped, unless_refused, stepped_by}
+use Rattle.race_core.proofs.GivenUp.{closed_both}
 use Rattle.world_laws.specs.GivenUpWorlds.{GivingUpEnds}
 
 -- ---- a step without memory
@@ -35,10 +36,6 @@ not_closed book a step e = record {
 stepped_closed : (book : BookedHistory) (a : ℕ) (step : StepOf ℕ) → IsClosed a book (stepped_by false book a step).book
 stepped_closed book a (steps.Close h) = close_or_not book a h (refusal book a (steps.Close h))
 stepped_closed book a step = not_closed book a step refl
-
-closed_both : (a : ℕ) (book : BookedHistory) (first second : List ℕ) → closed_all a book (first ++ second) ≡ closed_all a (closed_all a book first) second
-closed_both a book [] second = refl
-closed_both a book (h ∷ first) second = closed_both a (booked book a (steps.Close h)) first second
 
 -- ---- a call
 

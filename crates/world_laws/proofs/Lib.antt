@@ -17,3 +17,4 @@ mod PartsCounted
 mod PartsJoined
 mod WholePart
 mod Beginnings
+mod SearchedPart

@@ -1,6 +1,7 @@
 -- Two answers to what all schedules of a world come to are one.
 use Rattle.std.specs.Prelude.{◌≡◌, ◌≤◌, ℕ, List}
-use Rattle.std.proofs.Common.{◌∙◌, sym, ap, subst, arith}
+use Rattle.std.proofs.Common.{◌∙◌, sym, ap, subst}
+use Rattle.std.proofs.Math.Nat.{le_antisymm}
 use Rattle.race_core.specs.Book.{tree_now}
 use Rattle.race_core.specs.Worlds.{WorldView, ledgers_in, replies_in, kept_in}
 use Rattle.schedule_graph.specs.Counted.{IsAmong, EachOnce}
@@ -72,13 +73,10 @@ module _ (w : WorldView) (scope : Scope) where
   as_long : (m n : ℕ) → IsLongest w scope m → IsLongest w scope n → m ≤ n
   as_long m n is are = subst (λ k. k ≤ n) is.reached.1.1 (are.bounded is.reached.0 is.reached.1.0)
 
-least_both : (m n : ℕ) → m ≤ n → n ≤ m → m ≡ n
-least_both m n le ge = omega arith
-
 pub answers_are_one : AnswersAreOne
 answers_are_one w scope classes others lists turns m n is are = record {
   counted = same_many (IsAsked w scope) (IsAsked w scope) lists m (λ js h. h) (λ js h. h) is.counted are.counted;
-  longest = least_both turns n (as_long w scope turns n is.longest are.longest) (as_long w scope n turns are.longest is.longest);
+  longest = le_antisymm (as_long w scope turns n is.longest are.longest) (as_long w scope n turns are.longest is.longest);
   told = permuted classes others (classes_once w scope classes lists turns is) (classes_once w scope others m n are)
       (class_there w scope classes others lists turns m n is are) (class_there w scope others classes m n lists turns are is);
 }

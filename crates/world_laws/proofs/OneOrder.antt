@@ -1,14 +1,11 @@
 -- Lists of turns are in one order: of two different ones just one is at most the other.
 use Rattle.std.specs.Prelude.{◌≡◌, ◌<◌, ℕ, List, [], ◌∷◌, Bool, true, refl}
 use Rattle.std.proofs.Common.{◌⊎◌, ◌∙◌, sym, ap, ⊎_elim, arith}
-use Rattle.std.proofs.lemmas.Bool.Decides.{nat_tests}
 use Rattle.std.proofs.lemmas.Bool.{false≢true}
 use Rattle.schedule_graph.specs.Words as words
-use Rattle.schedule_graph.proofs.Ranks.{ranks_chain as words_chain}
+use Rattle.schedule_graph.proofs.Ranks.{ranks_chain as words_chain, less_cases}
 use Rattle.explore.specs.Lists.{is_less_or, is_not_after, Rank, is_at_most}
-
-less_cases : (m n : ℕ) (b : Bool) → is_less_or m n b ≡ true → (m < n) ⊎ ((m ≡ n) × (b ≡ true))
-less_cases m n b e = grind (arith, nat_tests)
+use Rattle.explore.proofs.Lists.Ranks.{not_after_same}
 
 never_both : (m n : ℕ) → m < n → n < m → ⊥
 never_both m n lt gt = omega arith
@@ -40,11 +37,6 @@ ranks_both a b e f =
     not_after_both a.turns b.turns changes.1.0 changes.1.1
 
 -- ---- as the order of words, which is the same
-
-not_after_same : (is js : List ℕ) → words.is_not_after is js ≡ is_not_after is js
-not_after_same [] js = refl
-not_after_same (i ∷ is) [] = refl
-not_after_same (i ∷ is) (j ∷ js) = ap (λ (b : Bool). is_less_or i j b) (not_after_same is js)
 
 abbrev as_word : Rank → words.Rank
 as_word a = record { cuts = a.cuts; changes = a.changes; turns = a.turns }

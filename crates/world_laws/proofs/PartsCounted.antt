@@ -5,6 +5,7 @@ use Rattle.std.proofs.lemmas.Option.{same_Some}
 use Rattle.race_core.specs.Worlds.{WorldView}
 use Rattle.schedule_graph.specs.declared.count.TheConstants.{COUNT_CAP}
 use Rattle.schedule_graph.specs.Counted.{IsAmong, EachOnce, AreSoMany, IsLongest}
+use Rattle.schedule_graph.proofs.Summing.{so_many_as}
 use Rattle.explore.specs.declared.limits.Scope.{Scope}
 use Rattle.explore.specs.Explored.{IsAsked, AgreeIn, ClassView, IsEnding, HasClass}
 use Rattle.explore.specs.Lists.{rank, is_at_most}
@@ -12,7 +13,7 @@ use Rattle.explore.proofs.Lists.Told.{agree_same, agree_turned, agree_on}
 use Rattle.world_laws.specs.Parts.{Begins, IsAskedFrom, IsPartClass, PartView, BeginsWithOne, begins_of, AreParts, classes_of, greatest_by, AreAgreeing}
 use Rattle.world_laws.proofs.OnceEach.{among_at, place_of, once_by_places}
 use Rattle.world_laws.proofs.PickedOnce.{mapped, unmapped, once_unmapped, one_of_each, in_flat, of_flat, once_flat}
-use Rattle.world_laws.proofs.Sums.{so_many_as, longest_as, sum_many, sum_longest}
+use Rattle.world_laws.proofs.Sums.{longest_as, sum_many, sum_longest}
 
 module _ (w : WorldView) (scope : Scope) (parts : List PartView) (are : AreParts w scope parts) where
   -- ---- each list is in one part

@@ -1,8 +1,9 @@
 -- The answer for all lists is what the answers for their parts make.
 use Rattle.std.specs.Prelude.{◌≡◌, ◌≤◌, ◌⊎◌, ℕ, min, List, length, slice_get, Some, sum_by}
-use Rattle.std.proofs.Common.{◌∙◌, inl, inr, sym, ap, subst, ⊎_elim, arith}
+use Rattle.std.proofs.Common.{◌∙◌, inl, inr, sym, ap, subst, ⊎_elim}
 use Rattle.std.proofs.lemmas.Bool.{cases_eq}
 use Rattle.std.proofs.lemmas.Option.{same_Some}
+use Rattle.std.proofs.Math.Nat.{le_antisymm}
 use Rattle.race_core.specs.Worlds.{WorldView}
 use Rattle.schedule_graph.specs.declared.count.TheConstants.{COUNT_CAP}
 use Rattle.schedule_graph.specs.Counted.{IsAmong, AreSoMany}
@@ -22,14 +23,11 @@ use Rattle.world_laws.proofs.PartsCounted.{parts_counted, parts_longest, class_a
 
 -- ---- which is the longest
 
-longest_both : (m n : ℕ) → m ≤ n → n ≤ m → m ≡ n
-longest_both m n le ge = omega arith
-
 -- the one way to say it and the other
 longest_is : (P : List ℕ → Type 0) (m n : ℕ) → (is : List ℕ) × (P is × (length is ≡ m)) → ((is : List ℕ) → P is → length is ≤ m)
     → counted.IsLongest P n → m ≡ n
 longest_is P m n reached bounded is =
-    longest_both m n (subst (λ k. k ≤ n) reached.1.1 (is.bounded reached.0 reached.1.0))
+    le_antisymm (subst (λ k. k ≤ n) reached.1.1 (is.bounded reached.0 reached.1.0))
     (⊎_elim (λ none. absurd (none.1 reached.0 reached.1.0)) (λ one. subst (λ k. k ≤ m) one.1.1 (bounded one.0 one.1.0)) is.reached)
 
 module _ (w : WorldView) (scope : Scope) (parts : List PartView) (are : AreParts w scope parts) (classes : List ClassView) (lists turns : ℕ) where

@@ -5,20 +5,10 @@ use Rattle.std.proofs.lemmas.List.Sums.{sum_by-cons}
 use Rattle.schedule_graph.specs.declared.count.TheConstants.{COUNT_CAP}
 use Rattle.schedule_graph.specs.Counted.{IsAmong, EachOnce, AreSoMany, IsLongest}
 use Rattle.schedule_graph.proofs.Among.{among_left, among_right, among_split, once_joined}
+use Rattle.schedule_graph.proofs.Summing.{so_many_as, capped_sum, longer}
 use Rattle.world_laws.specs.Parts.{greatest_by}
 
 -- ---- the same lists
-
-pub so_many_as : {P Q : List ℕ → Type 0} (n : ℕ) → ((is : List ℕ) → P is → Q is) → ((is : List ℕ) → Q is → P is) → AreSoMany P n → AreSoMany Q n
-so_many_as n to from so = record {
-  words = so.words;
-  are_all = record {
-    each = λ is h. to is (so.are_all.each is h);
-    all = λ is q. so.are_all.all is (from is q);
-    once = so.are_all.once;
-  };
-  count = so.count;
-}
 
 pub longest_as : {P Q : List ℕ → Type 0} (n : ℕ) → ((is : List ℕ) → P is → Q is) → ((is : List ℕ) → Q is → P is) → IsLongest P n → IsLongest Q n
 longest_as n to from is = record {
@@ -60,9 +50,6 @@ counted_some P n so lt = by so.words so.are_all.each so.count
 
 -- ---- of either kind
 
-capped_sum : (cap a b m n : ℕ) → m ≡ min a cap → n ≡ min b cap → min (m + n) cap ≡ min (a + b) cap
-capped_sum cap a b m n e f = omega arith
-
 capped_more : (cap m n : ℕ) → min (m + min n cap) cap ≡ min (m + n) cap
 capped_more cap m n = omega arith
 
@@ -93,9 +80,6 @@ none_right k m n e f = omega arith
 
 none_at_all : (m n : ℕ) → m ≡ 0 → n ≡ 0 → max m n ≡ 0
 none_at_all m n e f = omega arith
-
-longer : (m n : ℕ) → (max m n ≡ m) ⊎ (max m n ≡ n)
-longer m n = grind arith
 
 module _ (P Q : List ℕ → Type 0) (m n : ℕ) (is : IsLongest P m) (are : IsLongest Q n) where
   both_longest : IsLongest (λ js. P js ⊎ Q js) (max m n)

@@ -2,11 +2,11 @@
 use Rattle.std.specs.Prelude.{ℕ, List, [], refl}
 use Rattle.std.proofs.Common.{inl, inr, sym, subst, ⊎_elim}
 use Rattle.race_core.specs.Worlds.{WorldView}
+use Rattle.schedule_graph.proofs.Summing.{so_many_as}
 use Rattle.explore.specs.declared.limits.Scope.{Scope}
 use Rattle.explore.specs.Explored.{ClassView}
 use Rattle.explore.specs.Promise.{IsMergedClass, IsMerged}
 use Rattle.world_laws.specs.Parts.{IsPartClass, PartView, part_with, IsPart, WholeIsAPart}
-use Rattle.world_laws.proofs.Sums.{so_many_as}
 
 part_class : (w : WorldView) (scope : Scope) (c : ClassView) → IsMergedClass w scope c → IsPartClass w scope [] c
 part_class w scope c is = record {

@@ -36,6 +36,12 @@ pub record PartView : Type 0 where
 abbrev pub part_with : List ℕ → List ClassView → ℕ → ℕ → PartView
 part_with begin classes lists turns = record { begin = begin; classes = classes; lists = lists; turns = turns }
 
+-- which lists are asked for where none is asked to begin with any turns
+pub record IsWholeOf (part whole : Scope) : Type 0 where
+  pub cuts : whole.cuts ≡ part.cuts
+  pub outside : whole.outside ≡ part.outside
+  pub begin : whole.begin.items ≡ []
+
 -- All lists of the part are counted, with 0 turns in the longest where there are none; each has its outcome among the
 -- classes, and no two classes have the same one.
 pub record IsPart (w : WorldView) (scope : Scope) (part : PartView) : Type 0 where
@@ -124,6 +130,12 @@ PartsMakeTheWhole = (w : WorldView) (scope : Scope) (parts : List PartView) (cla
 abbrev pub WholeIsAPart : Type 0
 WholeIsAPart = (w : WorldView) (scope : Scope) (classes : List ClassView) (lists turns : ℕ)
     → IsMerged w scope classes lists turns → AreParts w scope (part_with [] classes lists turns ∷ [])
+
+-- What a search of the lists that begin with some turns tells is the answer for that part.
+abbrev pub SearchesTellParts : Type 0
+SearchesTellParts = (w : WorldView) (part whole : Scope) (classes : List ClassView) (lists turns : ℕ)
+    → IsWholeOf part whole → IsMerged w part classes lists turns
+    → IsPart w whole (part_with part.begin.items classes lists turns)
 
 -- so many turns, or a full list of fewer: each turn is of an actor who has something left to do then, and there are
 -- few cuts

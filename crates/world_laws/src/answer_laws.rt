@@ -1,6 +1,6 @@
 //! What all schedules of a world come to: laws, each the contract of a function without a body.
 ghost use Rattle.world_laws.specs.OneAnswer.{AnswersAreOne};
-ghost use Rattle.world_laws.specs.Parts.{AllBeginningsCover, PartsMakeTheWhole, WholeIsAPart};
+ghost use Rattle.world_laws.specs.Parts.{AllBeginningsCover, PartsMakeTheWhole, SearchesTellParts, WholeIsAPart};
 
 /// There is one answer to what all schedules of a world come to, or those with few cuts. Two answers of which
 /// `IsMerged` of `explore` holds tell the same: as many lists, as many turns in the longest, and the same outcomes,
@@ -19,6 +19,12 @@ pub fn answers_are_one()
 pub fn merged_parts_are_whole()
     ensures parts { PartsMakeTheWhole }
     ensures whole { WholeIsAPart }
+{}
+
+/// What a search of the lists that begin with some turns tells is the answer for that part. So what searches of all
+/// beginnings of one length tell makes the answer for all lists.
+pub fn searches_tell_parts()
+    ensures { SearchesTellParts }
 {}
 
 /// All beginnings of one length part all schedules so: each list that is asked for begins with just one list of that

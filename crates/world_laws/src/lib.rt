@@ -18,6 +18,8 @@ mod answer_laws;
 mod laws;
 mod want_laws;
 
-pub use answer_laws::{all_beginnings_cover, answers_are_one, merged_parts_are_whole};
+pub use answer_laws::{
+    all_beginnings_cover, answers_are_one, merged_parts_are_whole, searches_tell_parts,
+};
 pub use laws::{given_up_closes_all, given_up_is_reported};
 pub use want_laws::want_has_a_cause;

@@ -1,8 +1,9 @@
 -- A tree with one directory more: it is found, it is empty, and what stood stands.
-use Rattle.std.proofs.Common.{◌≡◌, ⊎_elim, ℕ, suc, ◌<◌, ◌==◌, ◌&&◌, Bool, true, false, not, List, [], ◌∷◌, ◌++◌, length, Option, Some, None, is_some, nat_le, Result, Ok, Err, refl, sym, ap, ◌∙◌, subst, arith}
+use Rattle.std.proofs.Common.{◌≡◌, ⊎_elim, ℕ, suc, ◌==◌, ◌&&◌, Bool, true, false, not, List, [], ◌∷◌, ◌++◌, length, Option, Some, None, is_some, nat_le, Result, Ok, Err, refl, sym, ap, ◌∙◌, subst, arith}
 use Rattle.std.specs.Option.{option_map}
 use Rattle.std.proofs.lemmas.Bool.{false≢true}
 use Rattle.std.proofs.lemmas.Option.{same_Some}
+use Rattle.std.proofs.Math.Bool.{and-false}
 use Rattle.path_text.specs.declared.errno.Errno.{Errno}
 use Rattle.path_text.specs.declared.errno.Errno.TheVariants.{NotFound, BadHandle, Exists, NotDir, TooMany}
 use Rattle.tree_model.specs.declared.answer.Answer.TheVariants.{Done}
@@ -15,24 +16,13 @@ use Rattle.tree_model.specs.State.{State, TOP, Stands, object_at, place_at, chil
 use Rattle.tree_model.specs.Entries.{refuse_if, with_some, makes}
 use Rattle.tree_model.specs.Steps.{Outcome, outcome, refused, changes, held}
 use Rattle.tree_model.specs.Trees.{IsTree}
-use Rattle.tree_model.proofs.Places.{object_at-append, object_at-within, place_at-append, place_at-last, place_at-one_more, slice_get-last}
+use Rattle.tree_model.proofs.Places.{object_at-append, place_at-append, place_at-last, place_at-one_more, slice_get-last}
 use Rattle.tree_model.proofs.Children.{entry, place_at-child, child-entry}
-
-and_no : (b : Bool) → (b && false) ≡ false
-and_no true = refl
-and_no false = refl
+use Rattle.tree_model.proofs.StepsKept.{directory-within}
 
 pub length-one_more : {A : Type 0} (xs : List A) (y : A) → length (xs ++ y ∷ []) ≡ suc (length xs)
 length-one_more [] y = refl
 length-one_more (x ∷ xs) y = ap suc (length-one_more xs y)
-
--- a directory is one of the nodes, and stays one
-pub dir_within : (nodes : List Inode) (x : ℕ) → is_dir nodes x ≡ true → x < length nodes
-dir_within nodes x e = on (object_at nodes x) refl
-  where
-    on : (o : Option Object) → object_at nodes x ≡ o → x < length nodes
-    on None q = absurd (false≢true (sym (ap is_directory q) ∙ e))
-    on (Some what) q = object_at-within nodes x what q
 
 pub dir_stays : (nodes others : List Inode) (x : ℕ) → is_dir nodes x ≡ true → is_dir (nodes ++ others) x ≡ true
 dir_stays nodes others x e = on (object_at nodes x) refl
@@ -60,13 +50,13 @@ module _ (nodes : List Inode) (tree : IsTree nodes) (d : ℕ) (n : List ℕ) (di
   new_stands_there = place_at-last nodes new_inode
 
   pub new_not_gone : is_gone with_new (length nodes) ≡ false
-  new_not_gone = ap (λ o. not (length nodes == TOP) && not (is_some o)) new_stands_there ∙ and_no (not (length nodes == TOP))
+  new_not_gone = ap (λ o. not (length nodes == TOP) && not (is_some o)) new_stands_there ∙ and-false (not (length nodes == TOP))
 
   pub new_is_found : IsTree with_new → child with_new d n ≡ Some (length nodes)
   new_is_found t = child-entry with_new t d n (length nodes) new_stands_there
 
   no_dir_yet : is_dir nodes (length nodes) ≡ true → ⊥
-  no_dir_yet e = let less = dir_within nodes (length nodes) e in omega (arith, less)
+  no_dir_yet e = let less = directory-within nodes (length nodes) e in omega (arith, less)
 
   pub new_is_empty : (m : List ℕ) → child with_new (length nodes) m ≡ None
   new_is_empty m = on (child with_new (length nodes) m) refl

@@ -19,10 +19,11 @@ use Rattle.tree_model.specs.History.{IsLegal, after_events}
 use Rattle.tree_model.proofs.StepsKept.{steps_keep_trees}
 use Rattle.tree_model.proofs.StepLaws.{nodes_are_left}
 use Rattle.tree_model.proofs.Standing.{names_below-Stands}
+use Rattle.tree_model.proofs.PlaceLaws.{below_is}
 use Rattle.handles.proofs.SameNames.{same_where_equal}
 use Rattle.step_resolver.specs.Order.{Way, Handle, Line, answered, no_room, not_made, IsWant, events_of}
 use Rattle.step_resolver.specs.Footprint.{is_want}
-use Rattle.step_resolver.proofs.Underway.StepOutcomes.{IsMore, with_handle-is_more, IsLess, Close-is_less, Opening, too_many, no_object, is_opened, opening_of, OpenCase, no_dir, no_child, at_child, open_case, below_is}
+use Rattle.step_resolver.proofs.Underway.StepOutcomes.{IsMore, with_handle-is_more, IsLess, Close-is_less, Opening, too_many, no_object, is_opened, opening_of, OpenCase, no_dir, no_child, at_child, open_case}
 use Rattle.bulk_ops.specs.MakeAllOrder.{Making, walking, making, opening, leaving, ending, closing, MakeTurn, more, made, failed, gives_up, goes_down, take, due, is_closing, LeadsTo}
 use Rattle.bulk_ops.specs.MakeAllQuiet.{chain_of, last_of, MakeMeant, refuses, gives, rest_means, IsMeantEnd, IsPartOf, MakingComesTo, IsOver}
 use Rattle.bulk_ops.proofs.MakingAlone.NewDirectories.{length-one_more, dir_stays, stands_on, with_new, new_inode, new_is_dir, new_not_gone, new_is_found, new_is_empty, new_stands, NewCase, dir_gone, no_number, is_new, new_case}

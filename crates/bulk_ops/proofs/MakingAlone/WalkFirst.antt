@@ -1,7 +1,7 @@
 -- The call's walk, where nobody else acts: the lines are those of the walk and the rest, and the walk ends with what its path
 -- means; and so the whole call.
-use Rattle.std.proofs.Common.{◌≡◌, ◌≢◌, inl, inr, ℕ, zero, suc, Bool, true, false, cond, if◌then◌else◌, List, [], ◌∷◌, ◌++◌, Option, Some, None, slice_get, length, append-nil, refl, sym, ap, ◌∙◌, subst, eq-eqb}
-use Rattle.std.proofs.lemmas.Option.{none-some, same_Some}
+use Rattle.std.proofs.Common.{◌≡◌, ◌≢◌, inl, inr, ℕ, Bool, true, false, if◌then◌else◌, List, [], ◌∷◌, ◌++◌, Option, Some, None, length, append-nil, refl, sym, ap, ◌∙◌, subst}
+use Rattle.std.proofs.lemmas.Option.{none-some}
 use Rattle.path_text.specs.declared.errno.Errno.{Errno}
 use Rattle.path_text.specs.declared.errno.Errno.TheVariants.{Raced, CrossRoot, NotDir}
 use Rattle.path_text.specs.Reading.{Reading}
@@ -29,8 +29,9 @@ use Rattle.step_resolver.specs.Order as walk
 use Rattle.step_resolver.specs.Footprint.{is_want, IsMeantDeep, IsEnd, is_for_want, ground}
 use Rattle.step_resolver.specs.FootprintLaws.{IsQuietEnd}
 use Rattle.step_resolver.specs.Headline.{Tells, IsNewHandle}
-use Rattle.step_resolver.specs.WalkHistory.{WalkInHistory, IsWalkInHistory, begin_of, own_events}
-use Rattle.step_resolver.proofs.DrivenWalks.{joined_events, all_own}
+use Rattle.step_resolver.specs.WalkHistory.{WalkInHistory, IsWalkInHistory, begin_of}
+use Rattle.step_resolver.proofs.DrivenWalks.{joined_events, all_own, by_own}
+use Rattle.bulk_ops.proofs.OwnEvents.{all_own as own_all}
 use Rattle.step_resolver.proofs.Meaning.Deepest.{Missing, missing_parts, deepest_is_front_and_rest}
 use Rattle.step_resolver.proofs.Ends.EveryWalk.{walks_tell}
 use Rattle.step_resolver.proofs.Ends.WalksMean.{quiet_walks_mean}
@@ -83,15 +84,6 @@ split_lines way room (walk.partial handle names rest) lines end over leads =
     record { first = []; rest = lines; joined = refl; walked = walk.partial handle names rest; over = tt; led = refl; room = room; onward = leads }
 split_lines way room (walk.failed error) lines end over leads =
     record { first = []; rest = lines; joined = refl; walked = walk.failed error; over = tt; led = refl; room = room; onward = leads }
-
--- each event is the actor's
-pub by_own : (a : ℕ) (lines : List Line) (t : ℕ) (event : Event) → slice_get (events_of a lines) t ≡ Some event → event.actor ≡ a
-by_own a [] t event e = absurd (none-some event e)
-by_own a (answered step answer ∷ lines) zero event e = sym (ap (λ (v : Event). v.actor) (same_Some _ event e))
-by_own a (answered step answer ∷ lines) (suc t) event e = by_own a lines t event e
-by_own a (no_room step answer ∷ lines) zero event e = sym (ap (λ (v : Event). v.actor) (same_Some _ event e))
-by_own a (no_room step answer ∷ lines) (suc t) event e = by_own a lines t event e
-by_own a (not_made error ∷ lines) t event e = by_own a lines t event e
 
 -- ---- what the path means
 
@@ -341,12 +333,6 @@ module _ (s : State) (a r : ℕ) (way : Way) (path : Reading) (tree : IsState s)
       (walked_good split.first cut.0 split.room split.walked split.over split.led) split.onward cut.1 over)
 
 -- ---- in any window in which no other acts
-
-own_all : (a : ℕ) (events : List Event) → ((t : ℕ) (event : Event) → slice_get events t ≡ Some event → event.actor ≡ a) → own_events a events ≡ events
-own_all a [] own = refl
-own_all a (event ∷ events) own =
-    ap (λ b. cond b (event ∷ own_events a events) (own_events a events)) (eq-eqb event.actor a (own 0 event refl))
-    ∙ ap (λ (es : List Event). event ∷ es) (own_all a events (λ t e is. own (suc t) e is))
 
 pub quiet_makes_mean : QuietMakesMean
 quiet_makes_mean w end is goal leads over quiet =

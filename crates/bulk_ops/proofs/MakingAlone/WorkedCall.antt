@@ -3,10 +3,10 @@ use Rattle.std.proofs.Common.{⊎_elim, refl}
 use Rattle.tree_model.proofs.TreeTests.{IsState-from_test}
 use Rattle.step_resolver.specs.FootprintLaws.{IsQuiet}
 use Rattle.step_resolver.specs.WalkHistory.{IsWalkInHistory}
-use Rattle.step_resolver.proofs.DrivenWalks.{all_own}
+use Rattle.step_resolver.proofs.DrivenWalks.{all_own, by_own}
 use Rattle.bulk_ops.specs.MakeAllOrder.{begins, LeadsTo}
 use Rattle.bulk_ops.specs.MakeAllQuietWorked.{CALLER, make_lines, make_call, make_end, MakeIsWorked}
-use Rattle.bulk_ops.proofs.MakingAlone.WalkFirst.{by_own, quiet_makes_mean}
+use Rattle.bulk_ops.proofs.MakingAlone.WalkFirst.{quiet_makes_mean}
 
 called : IsWalkInHistory make_call
 called = record {

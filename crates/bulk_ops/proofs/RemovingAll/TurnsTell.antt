@@ -6,19 +6,18 @@ use Rattle.path_text.specs.Reading.{Reading}
 use Rattle.tree_model.specs.declared.answer.Answer.{Answer}
 use Rattle.tree_model.specs.declared.answer.Answer.TheVariants.{Refused}
 use Rattle.step_resolver.specs.Asked.{is_deepest}
-use Rattle.step_resolver.specs.Order.{Way, Line, answered, no_room, not_made, IsWant}
+use Rattle.step_resolver.specs.Order.{Way, Line, answered, no_room, not_made}
 use Rattle.step_resolver.specs.Order as walk
 use Rattle.step_resolver.specs.TurnsTell.{first_lines}
 use Rattle.step_resolver.proofs.Ends.EveryWalk.{walks_tell}
-use Rattle.step_resolver.proofs.FirstTurns.{first_lines_lead}
+use Rattle.step_resolver.proofs.FirstTurns.{first_lines_lead, IsFirst, begins_first}
+use Rattle.step_resolver.proofs.TurnsTell.{refusal_needs_no_room as walk_needs_no_room}
 use Rattle.bulk_ops.specs.declared.turn.BulkTurn.{BulkTurn}
 use Rattle.bulk_ops.specs.RemoveAllOrder.{removes_file, opens, lists, shuts, leaves, removes_dir, Removing, walking, clearing, closing, Turn, more, removed, failed, for_call, begins, starts, walked, take, LeadsTo}
 use Rattle.bulk_ops.specs.RemoveAllTurnView.{TakesTo, StartsTo}
 use Rattle.bulk_ops.specs.RemoveAllTells.{RemoveAllTells}
 use Rattle.bulk_ops.specs.RemoveAllTurnsTell.{IsLineOf, TellsTaken, TellsBegun}
 use Rattle.bulk_ops.proofs.RemovingAll.EachEnd.{every_call_tells}
-use Rattle.bulk_ops.proofs.RemovingAll.FirstTurns.{IsFirst, begins_first}
-use Rattle.bulk_ops.proofs.Refusals.{walk_needs_no_room}
 
 -- lines that lead on from where others led
 leads_on : (lines : List Line) (turn mid : Turn) (others : List Line) (end : Turn) → LeadsTo turn lines mid → LeadsTo mid others end → LeadsTo turn (lines ++ others) end

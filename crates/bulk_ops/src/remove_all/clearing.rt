@@ -4,12 +4,12 @@ ghost use Rattle.tree_model.specs.declared.answer.Answer.TheVariants.{Listed};
 ghost use Rattle.bulk_ops.specs.RemoveAllOrder.{closes, is_due, gives_up, finished, listed, opened, file_removed, dir_removed, removes_file, due_at};
 ghost use Rattle.bulk_ops.specs.declared.remove_all.clearing.TheConstants.{CLEARING_STEPS_MAX};
 
-use crate::answers::refusal_of;
 use crate::remove_all::frame::Frame;
 use crate::remove_all::phase::Phase;
 use handles::Reached;
 use path_text::{Errno, Names, NoMemory};
 use std::alloc::{AllocFailed, Global};
+use step_resolver::refusal_of;
 use tree_model::{Answer, Kind, Step, StepOf};
 
 /// The most steps of clearing that one call makes; the closings of a call that fails, and that of the directory of its

@@ -17,7 +17,7 @@ use Rattle.explore.specs.Renamed.{step_by}
 use Rattle.explore.specs.Alike.{Pairs, SameSteps, SameAnswers, AlikeTrees, AlikeBooks}
 use Rattle.explore.proofs.Alike.Steps.{same_held, zero_agrees, Paired, open', dup', parent', read', below', list', close', make_dir', make_file', make_link', remove_file', remove_dir', rename', paired_of, same_close, steps_alike}
 
-blind_lines : (f : ℕ → ℕ) (step : StepOf ℕ) → lines_needed (step_by f step) ≡ lines_needed step
+pub blind_lines : (f : ℕ → ℕ) (step : StepOf ℕ) → lines_needed (step_by f step) ≡ lines_needed step
 blind_lines f (steps.Open h n) = refl
 blind_lines f (steps.Dup h) = refl
 blind_lines f (steps.Parent h) = refl

@@ -73,7 +73,7 @@ module _ (pairs : Pairs) (s t : State) (alike : AlikeTrees pairs s t) (a : ℕ) 
 
 -- ---- alike books
 
-blind_done : (f : ℕ → ℕ) (answer : Answer) → is_done (answer_by f answer) ≡ is_done answer
+pub blind_done : (f : ℕ → ℕ) (answer : Answer) → is_done (answer_by f answer) ≡ is_done answer
 blind_done f (Opened h x kind) = refl
 blind_done f (Text text) = refl
 blind_done f (Names names) = refl
@@ -214,7 +214,7 @@ next_root : (room : Bool) (ledger : LedgerView) (to_come : List Planned) → (be
 next_root room ledger [] = refl
 next_root room ledger (next ∷ others) = begins_root room _ _
 
-begun_root : (room : Bool) (ledger : LedgerView) (doing : Option CallView) → (begun room ledger doing).ledger.root ≡ ledger.root
+pub begun_root : (room : Bool) (ledger : LedgerView) (doing : Option CallView) → (begun room ledger doing).ledger.root ≡ ledger.root
 begun_root room ledger None = next_root room ledger ledger.to_come
 begun_root room ledger (Some call) = refl
 
@@ -222,7 +222,7 @@ goes_root : (luck room : Bool) (book : BookedHistory) (ledger : LedgerView) (doi
 goes_root luck room book ledger None = refl
 goes_root luck room book ledger (Some call) = comes_root ledger call.below _
 
-turned_root : (luck : Luck) (book : BookedHistory) (seat : Seat) → (turned luck book seat.ledger seat.doing).seat.ledger.root ≡ seat.ledger.root
+pub turned_root : (luck : Luck) (book : BookedHistory) (seat : Seat) → (turned luck book seat.ledger seat.doing).seat.ledger.root ≡ seat.ledger.root
 turned_root luck book seat =
     let seat' = begun luck.start seat.ledger seat.doing in
     goes_root luck.step luck.room book seat'.ledger seat'.doing ∙ begun_root luck.start seat.ledger seat.doing

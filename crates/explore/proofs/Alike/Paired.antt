@@ -39,7 +39,7 @@ second_part (a ∷ xs) bs (c ∷ cs) ds same e =
     let n : length xs ≡ length cs = omega (arith, same) in
     second_part xs bs cs ds n t
 
-same_numbers : (s t : Seat) → LikeSeats s t → length (seat_handles s) ≡ length (seat_handles t)
+pub same_numbers : (s t : Seat) → LikeSeats s t → length (seat_handles s) ≡ length (seat_handles t)
 same_numbers s t like =
     sym (numbers_length (λ h. 0) (seat_handles s)) ∙ (ap length (sym (seat_numbers (λ h. 0) s)) ∙ (ap (λ (seat : Seat). length (seat_handles seat)) like
     ∙ (ap length (seat_numbers (λ h. 0) t) ∙ numbers_length (λ h. 0) (seat_handles t))))
@@ -98,7 +98,7 @@ pair_at (i ∷ hs) (j ∷ ks) zero h k are =
 pair_at (i ∷ hs) (j ∷ ks) (suc at) h k are =
     ap (λ c. ((i == h) && (j == k)) || c) (pair_at hs ks at h k (record { here = are.here; there = are.there })) ∙ or_right ((i == h) && (j == k))
 
-at_pair : (hs ks : List ℕ) (h k : ℕ) → pairs_of hs ks h k ≡ true → (at : ℕ) × AreAt hs ks at h k
+pub at_pair : (hs ks : List ℕ) (h k : ℕ) → pairs_of hs ks h k ≡ true → (at : ℕ) × AreAt hs ks at h k
 at_pair [] ks h k e = absurd (false≢true e)
 at_pair (i ∷ hs) [] h k e = absurd (false≢true e)
 at_pair (i ∷ hs) (j ∷ ks) h k e = ⊎_elim first (λ p. later (at_pair hs ks h k p)) (either ((i == h) && (j == k)) (pairs_of hs ks h k) e)
@@ -111,7 +111,7 @@ at_pair (i ∷ hs) (j ∷ ks) h k e = ⊎_elim first (λ p. later (at_pair hs ks
     later there = (suc there.0, record { here = there.1.here; there = there.1.there })
 
 -- handles that are paired place by place get the same numbers where pairs do
-agree_all : (f g : ℕ → ℕ) (hs ks : List ℕ) → length hs ≡ length ks → ((h k : ℕ) → pairs_of hs ks h k ≡ true → f h ≡ g k) → numbers_by f hs ≡ numbers_by g ks
+pub agree_all : (f g : ℕ → ℕ) (hs ks : List ℕ) → length hs ≡ length ks → ((h k : ℕ) → pairs_of hs ks h k ≡ true → f h ≡ g k) → numbers_by f hs ≡ numbers_by g ks
 agree_all f g [] [] same agree = refl
 agree_all f g [] (k ∷ ks) same agree = absurd (omega (arith, same))
 agree_all f g (h ∷ hs) [] same agree = absurd (omega (arith, same))
@@ -121,7 +121,7 @@ agree_all f g (h ∷ hs) (k ∷ ks) same agree =
     let rest = agree_all f g hs ks n (λ i j p. agree i j (ap (λ c. ((h == i) && (k == j)) || c) p ∙ or_right ((h == i) && (k == j)))) in
     λ i. one i ∷ rest i
 
-below_or : (m n : ℕ) → (m < n) ⊎ ((m ≡ n) ⊎ (n < m))
+pub below_or : (m n : ℕ) → (m < n) ⊎ ((m ≡ n) ⊎ (n < m))
 below_or zero zero = inr (inl refl)
 below_or zero (suc n) = inl (omega arith)
 below_or (suc m) zero = inr (inr (omega arith))
@@ -232,7 +232,7 @@ numbers_by_pairs : (pairs : Pairs) (f g : ℕ → ℕ) → Agree pairs f g → (
 numbers_by_pairs pairs f g agree ss ts alike =
     sym (all_numbers f ss) ∙ (ap all_handles (seats_by_pairs pairs f g agree ss ts alike) ∙ all_numbers g ts)
 
-same_at : (f g : ℕ → ℕ) (hs ks : List ℕ) (at h k : ℕ) → numbers_by f hs ≡ numbers_by g ks → AreAt hs ks at h k → f h ≡ g k
+pub same_at : (f g : ℕ → ℕ) (hs ks : List ℕ) (at h k : ℕ) → numbers_by f hs ≡ numbers_by g ks → AreAt hs ks at h k → f h ≡ g k
 same_at f g [] ks at h k e are = absurd (none-some _ are.here)
 same_at f g (i ∷ hs) [] at h k e are = absurd (none-some _ are.there)
 same_at f g (i ∷ hs) (j ∷ ks) zero h k e are =
@@ -243,10 +243,10 @@ same_at f g (i ∷ hs) (j ∷ ks) (suc at) h k e are =
     same_at f g hs ks at h k q (record { here = are.here; there = are.there })
 
 -- one number for what is paired with k, and for k
-abbrev mark : Bool → ℕ
+abbrev pub mark : Bool → ℕ
 mark b = if b then 1 else 0
 
-separates : (pairs : Pairs) (k : ℕ) → ((h i j l : ℕ) → pairs h i ≡ true → pairs j l ≡ true → AreApart h i j l)
+pub separates : (pairs : Pairs) (k : ℕ) → ((h i j l : ℕ) → pairs h i ≡ true → pairs j l ≡ true → AreApart h i j l)
     → Agree pairs (λ x. mark (pairs x k)) (λ y. mark (y == k))
 separates pairs k apart x y p = by (pairs x k) (y == k) refl refl
   where
@@ -256,7 +256,7 @@ separates pairs k apart x y p = by (pairs x k) (y == k) refl refl
     by true false e q = absurd (true≢false (sym (eq-eqb y k ((apart x y x k p e).0 refl)) ∙ q))
     by false true e q = absurd (false≢true (sym e ∙ subst (λ z. pairs x z ≡ true) (eqb-true y k q) p))
 
-marked : (b : Bool) → mark b ≡ 1 → b ≡ true
+pub marked : (b : Bool) → mark b ≡ 1 → b ≡ true
 marked true e = refl
 marked false e = absurd (omega (arith, e))
 

@@ -25,17 +25,17 @@ use Rattle.explore.specs.Alike.{Pairs, Agree, SameSteps, SameAnswers, IsPair, Al
 
 -- ---- lists
 
-before : {A : Type 0} (xs ys : List A) (i : ℕ) → i < length xs → slice_get (xs ++ ys) i ≡ slice_get xs i
+pub before : {A : Type 0} (xs ys : List A) (i : ℕ) → i < length xs → slice_get (xs ++ ys) i ≡ slice_get xs i
 before [] ys i lt = absurd (omega arith)
 before (x ∷ xs) ys zero lt = refl
 before (x ∷ xs) ys (suc i) lt = before xs ys i (omega arith)
 
-set_at : {A : Type 0} (xs : List A) (i : ℕ) (y : A) → i < length xs → slice_get (slice_set xs i y) i ≡ Some y
+pub set_at : {A : Type 0} (xs : List A) (i : ℕ) (y : A) → i < length xs → slice_get (slice_set xs i y) i ≡ Some y
 set_at [] i y lt = absurd (omega arith)
 set_at (x ∷ xs) zero y lt = refl
 set_at (x ∷ xs) (suc i) y lt = set_at xs i y (omega arith)
 
-set_other : {A : Type 0} (xs : List A) (i : ℕ) (y : A) (k : ℕ) → k ≢ i → slice_get (slice_set xs i y) k ≡ slice_get xs k
+pub set_other : {A : Type 0} (xs : List A) (i : ℕ) (y : A) (k : ℕ) → k ≢ i → slice_get (slice_set xs i y) k ≡ slice_get xs k
 set_other [] i y k ne = refl
 set_other (x ∷ xs) zero y zero ne = absurd (ne refl)
 set_other (x ∷ xs) zero y (suc k) ne = refl
@@ -52,7 +52,7 @@ abbrev pub code : Option ℕ → ℕ
 code None = 0
 code (Some x) = suc x
 
-decode : (o p : Option ℕ) → code o ≡ code p → o ≡ p
+pub decode : (o p : Option ℕ) → code o ≡ code p → o ≡ p
 decode None None e = refl
 decode None (Some x) e = absurd (omega arith)
 decode (Some x) None e = absurd (omega arith)
@@ -62,7 +62,7 @@ abbrev pub bit : Bool → ℕ
 bit true = 1
 bit false = 0
 
-unbit : (b c : Bool) → bit b ≡ bit c → b ≡ c
+pub unbit : (b c : Bool) → bit b ≡ bit c → b ≡ c
 unbit true true e = refl
 unbit false false e = refl
 unbit true false e = absurd (omega arith)
@@ -183,10 +183,10 @@ abbrev pub other : State → List (Option OpenHandle) → State
 other s handles = record { nodes = s.nodes; handles = handles }
 
 module _ (pairs : Pairs) (s : State) (handles : List (Option OpenHandle)) (a : ℕ) where
-  abbrev Ends : Outcome → Outcome → Type 0
+  abbrev pub Ends : Outcome → Outcome → Type 0
   Ends o u = AlikeEnds s (other s handles) a pairs o u
 
-  on_both : (o p : Option ℕ) → o ≡ p → (F G : ℕ → Outcome) → ((x : ℕ) → Ends (F x) (G x))
+  pub on_both : (o p : Option ℕ) → o ≡ p → (F G : ℕ → Outcome) → ((x : ℕ) → Ends (F x) (G x))
       → Ends (with_some o (refused s BadHandle) F) (with_some p (refused (other s handles) BadHandle) G)
   on_both o p e F G r = subst (λ p. Ends (with_some o (refused s BadHandle) F) (with_some p (refused (other s handles) BadHandle) G)) e (by o)
     where
@@ -194,33 +194,33 @@ module _ (pairs : Pairs) (s : State) (handles : List (Option OpenHandle)) (a : �
       by None = tells (Refused BadHandle) refl
       by (Some x) = r x
 
-  some_both : {A : Type 0} (o : Option A) (error : Errno) (F G : A → Outcome) → ((x : A) → Ends (F x) (G x))
+  pub some_both : {A : Type 0} (o : Option A) (error : Errno) (F G : A → Outcome) → ((x : A) → Ends (F x) (G x))
       → Ends (with_some o (refused s error) F) (with_some o (refused (other s handles) error) G)
   some_both None error F G r = tells (Refused error) refl
   some_both (Some x) error F G r = r x
 
-  if_both : (b c : Bool) → b ≡ c → (error : Errno) (o u : Outcome) → Ends o u → Ends (refuse_if b (refused s error) o) (refuse_if c (refused (other s handles) error) u)
+  pub if_both : (b c : Bool) → b ≡ c → (error : Errno) (o u : Outcome) → Ends o u → Ends (refuse_if b (refused s error) o) (refuse_if c (refused (other s handles) error) u)
   if_both true true e error o u r = tells (Refused error) refl
   if_both false false e error o u r = r
   if_both true false e error o u r = absurd (true≢false e)
   if_both false true e error o u r = absurd (false≢true e)
 
-  opens_both : is_full s a ≡ is_full (other s handles) a → (x : ℕ) → Ends (opens s a x) (opens (other s handles) a x)
+  pub opens_both : is_full s a ≡ is_full (other s handles) a → (x : ℕ) → Ends (opens s a x) (opens (other s handles) a x)
   opens_both same x =
       if_both (is_full s a) (is_full (other s handles) a) same TooMany _ _
       (some_both (object_at s.nodes x) NotFound _ _ (λ what. opens_on x what))
 
-  reads_both : (o : Option Object) → Ends (reads s o) (reads (other s handles) o)
+  pub reads_both : (o : Option Object) → Ends (reads s o) (reads (other s handles) o)
   reads_both None = tells (Refused Invalid) refl
   reads_both (Some object.Dir) = tells (Refused Invalid) refl
   reads_both (Some object.File) = tells (Refused Invalid) refl
   reads_both (Some (object.Link text)) = tells (Text text) refl
 
-  shows_both : (names : Option (List (List ℕ))) → Ends (shows s names) (shows (other s handles) names)
+  pub shows_both : (names : Option (List (List ℕ))) → Ends (shows s names) (shows (other s handles) names)
   shows_both None = tells NotBelow refl
   shows_both (Some names) = tells (Names (reverse names)) refl
 
-  changes_both : (changed : Result (List Inode) Errno) → Ends (changes s changed) (changes (other s handles) changed)
+  pub changes_both : (changed : Result (List Inode) Errno) → Ends (changes s changed) (changes (other s handles) changed)
   changes_both (Err error) = tells (Refused error) refl
   changes_both (Ok nodes) = changes_to nodes
 
@@ -274,10 +274,10 @@ ends_alike pairs s t a alike x y p = go t.nodes alike.nodes alike
 abbrev pub grown : Pairs → ℕ → ℕ → Pairs
 grown pairs h k j l = pairs j l || ((j == h) && (l == k))
 
-grown_old : (pairs : Pairs) (h k j l : ℕ) → pairs j l ≡ true → grown pairs h k j l ≡ true
+pub grown_old : (pairs : Pairs) (h k j l : ℕ) → pairs j l ≡ true → grown pairs h k j l ≡ true
 grown_old pairs h k j l p = ap (λ b. b || ((j == h) && (l == k))) p
 
-grown_cases : (pairs : Pairs) (h k j l : ℕ) → grown pairs h k j l ≡ true → (pairs j l ≡ true) ⊎ ((j ≡ h) × (l ≡ k))
+pub grown_cases : (pairs : Pairs) (h k j l : ℕ) → grown pairs h k j l ≡ true → (pairs j l ≡ true) ⊎ ((j ≡ h) × (l ≡ k))
 grown_cases pairs h k j l p = by (pairs j l) (j == h) (l == k) refl refl refl p
   where
     by : (b c d : Bool) → pairs j l ≡ b → (j == h) ≡ c → (l == k) ≡ d → (b || (c && d)) ≡ true → (pairs j l ≡ true) ⊎ ((j ≡ h) × (l ≡ k))
@@ -286,7 +286,7 @@ grown_cases pairs h k j l p = by (pairs j l) (j == h) (l == k) refl refl refl p
     by false true false e e' e'' q = absurd (false≢true q)
     by false false d e e' e'' q = absurd (false≢true q)
 
-grown_new : (pairs : Pairs) (h k : ℕ) → grown pairs h k h k ≡ true
+pub grown_new : (pairs : Pairs) (h k : ℕ) → grown pairs h k h k ≡ true
 grown_new pairs h k = by (pairs h k) (h == h) (k == k) (eq-eqb h h refl) (eq-eqb k k refl)
   where
     by : (b c d : Bool) → c ≡ true → d ≡ true → (b || (c && d)) ≡ true
@@ -300,7 +300,7 @@ pub record AfterStep (pairs : Pairs) (o u : Outcome) : Type 0 where
   pub trees : AlikeTrees more o.after u.after
   pub answers : SameAnswers more o.answer u.answer
 
-blind_answer : (answer : Answer) → only_tells answer ≡ true → (f : ℕ → ℕ) → answer_by f answer ≡ answer
+pub blind_answer : (answer : Answer) → only_tells answer ≡ true → (f : ℕ → ℕ) → answer_by f answer ≡ answer
 blind_answer (Opened h x kind) e f = absurd (false≢true e)
 blind_answer (Text text) e f = refl
 blind_answer (Names names) e f = refl
@@ -455,7 +455,7 @@ closed_is (Refused error) step = refl
 closed_same : (answer : Answer) (x y : StepOf ℕ) → is_close x ≡ is_close y → closed_count answer x ≡ closed_count answer y
 closed_same answer x y e = closed_is answer x ∙ ap (closed_by answer) e ∙ sym (closed_is answer y)
 
-counts_alike : {pairs : Pairs} {s t : State} {a : ℕ} {o u : Outcome} (x y : StepOf ℕ) → is_close x ≡ is_close y → AlikeEnds s t a pairs o u
+pub counts_alike : {pairs : Pairs} {s t : State} {a : ℕ} {o u : Outcome} (x y : StepOf ℕ) → is_close x ≡ is_close y → AlikeEnds s t a pairs o u
     → (opened_count o.answer ≡ opened_count u.answer) × (closed_count o.answer x ≡ closed_count u.answer y)
 counts_alike x y e (tells answer e') = (refl, closed_same answer x y e)
 counts_alike x y e (opens_on z what) = (refl, refl)

@@ -34,7 +34,7 @@ use Rattle.explore.proofs.Alike.Steps.{zero_agrees}
 use Rattle.explore.proofs.Alike.Books.{stepped_alike}
 
 -- the seat once a step's answer is taken
-abbrev answered_seat : Bool → LedgerView → CallView → Answer → Seat
+abbrev pub answered_seat : Bool → LedgerView → CallView → Answer → Seat
 answered_seat room ledger call answer = comes ledger call.below (take call.below room call.doing answer)
 
 module _ (f : ℕ → ℕ) where

@@ -1,5 +1,5 @@
 -- The counts of a graph that fits a world say what all lists that are asked for come to.
-use Rattle.std.specs.Prelude.{◌≡◌, ℕ, List, [], ◌∷◌, Bool, true, slice_get, Option, Some, None, refl}
+use Rattle.std.specs.Prelude.{◌≡◌, ℕ, List, true, slice_get, Option, Some, None, refl}
 use Rattle.std.specs.Global.{Vec}
 use Rattle.std.proofs.Common.{sym, ap, ◌∙◌, subst, ⊎_elim, arith}
 use Rattle.std.proofs.lemmas.Option.{same_Some, slice_get_within}
@@ -11,8 +11,9 @@ use Rattle.schedule_graph.specs.Words.{IsWordOf, IsSomeWord}
 use Rattle.schedule_graph.specs.Words as words
 use Rattle.schedule_graph.specs.Counted.{AreSoMany, IsLeastWord, IsLeast, IsCount, AreCounts}
 use Rattle.schedule_graph.specs.Counted as counted
+use Rattle.schedule_graph.proofs.Summing.{so_many_as}
 use Rattle.explore.specs.declared.limits.Scope.{Scope}
-use Rattle.explore.specs.Lists.{is_less_or, is_not_after, is_at_most, rank}
+use Rattle.explore.specs.Lists.{is_less_or, is_at_most, rank}
 use Rattle.explore.specs.Explored.{IsAsked, AgreeIn, ClassView, HasClass, IsLongest}
 use Rattle.explore.specs.Promise.{IsMergedClass, IsMerged}
 use Rattle.explore.specs.Merged.{Places, IsFit, IsListOf}
@@ -21,24 +22,9 @@ use Rattle.explore.proofs.Lists.Indices.{within_some}
 use Rattle.explore.proofs.Lists.Told.{agree_same, agree_turned, agree_on}
 use Rattle.explore.proofs.Counts.Merged.{list_word, word_list}
 use Rattle.explore.proofs.Layers.Reached.{some_word}
+use Rattle.explore.proofs.Lists.Ranks.{not_after_same}
 
 -- ---- the one order and the other
-
-not_after_same : (is js : List ℕ) → words.is_not_after is js ≡ is_not_after is js
-not_after_same [] js = refl
-not_after_same (i ∷ is) [] = refl
-not_after_same (i ∷ is) (j ∷ js) = ap (λ (b : Bool). is_less_or i j b) (not_after_same is js)
-
-so_many_as : {P Q : List ℕ → Type 0} (n : ℕ) → ((is : List ℕ) → P is → Q is) → ((is : List ℕ) → Q is → P is) → AreSoMany P n → AreSoMany Q n
-so_many_as n to from so = record {
-  words = so.words;
-  are_all = record {
-    each = λ is h. to is (so.are_all.each is h);
-    all = λ is q. so.are_all.all is (from is q);
-    once = so.are_all.once;
-  };
-  count = so.count;
-}
 
 module _ (w : WorldView) (scope : Scope) (layers : List (Vec Spot)) (found : List ClassView) (at : Places) (fit : IsFit w scope layers found at) (are_found : AreFound w scope found) where
   -- ---- a class's words and its lists

@@ -1,5 +1,5 @@
 -- The words of a graph that fits a world are the lists that are asked for.
-use Rattle.std.specs.Prelude.{◌≡◌, ◌≤◌, ◌+◌, ℕ, suc, List, [], ◌∷◌, Bool, true, false, ◌&&◌, length, slice_get, Option, Some, None, refl}
+use Rattle.std.specs.Prelude.{◌≡◌, ◌≤◌, ◌+◌, ℕ, suc, List, [], ◌∷◌, Bool, true, false, ◌&&◌, length, drop, slice_get, Option, Some, None, refl}
 use Rattle.std.specs.Global.{Vec}
 use Rattle.std.specs.Option.{option_map_or}
 use Rattle.std.proofs.Common.{sym, ap, ◌∙◌, subst, arith}
@@ -16,9 +16,10 @@ use Rattle.explore.specs.declared.limits.Scope.{Scope}
 use Rattle.explore.specs.Alike.{Pairs, AlikeSeats, full, after_turns, TellTheSame}
 use Rattle.explore.specs.Search.{IsFull, IsLike, same, onward}
 use Rattle.explore.specs.Lists.{is_another, is_cut, plus, cuts_after, changes_after}
-use Rattle.explore.specs.Explored.{IsWithin, IsAsked, TellAlike, ClassView}
+use Rattle.explore.specs.Explored.{IsWithin, IsAsked, BeginsWith, GoAlong, bounds_at, TellAlike, ClassView}
 use Rattle.explore.specs.Merged.{Place, bounded_cuts, cuts_with, MayFollow, IsWay, IsFit, IsListOf, WordsAreLists}
 use Rattle.explore.proofs.Alike.Worlds.{within_alike}
+use Rattle.explore.proofs.Counts.Begun.{along_none, along_more, begin_first, begins_full}
 use Rattle.explore.proofs.Lists.SearchLaws.{like_turns, like_trans, like_busy, like_tells, like_outside}
 
 -- ---- worlds like one another
@@ -94,6 +95,7 @@ way_goes (Some (Goes ways)) i way e = (ways, (refl, e))
 record IsRest (w : WorldView) (scope : Scope) (layers : List (Vec Spot)) (classes : List ClassView) (p : Place) (k s : ℕ) (v : WorldView) (is : List ℕ) (class : ℕ) : Type 0 where
   whole : IsFull v is
   few : IsWithin scope.cuts (p.cuts + cuts_after v p.last is)
+  along_it : GoAlong (drop k scope.begin.items) is
   outcome : ClassView
   there : slice_get classes class ≡ Some outcome
   tells : TellAlike scope.outside (after_turns v is) (after_turns w outcome.least.turns)
@@ -108,21 +110,23 @@ module _ (w : WorldView) (scope : Scope) (layers : List (Vec Spot)) (classes : L
       ap (λ (b : Bool). (at k s).cuts + plus b n) (like_cut {w = v} {v = (at k s).world} (at k s).last i like)
       ∙ plus_moves (is_cut (at k s).world.seats (at k s).last i) (at k s).cuts n
 
-  -- a full list from a world like the spot's, with few cuts, is a word from the spot
+  -- a full list from a world like the spot's, with few cuts, that begins as is asked for, is a word from the spot
   listed : (k s : ℕ) (spot : Spot) (v : WorldView) → spot_at layers k s ≡ Some spot → IsLike scope.outside v (at k s).world → (is : List ℕ)
-      → IsFull v is → IsWithin scope.cuts ((at k s).cuts + cuts_after v (at k s).last is) → (class : ℕ) × IsWord layers k s is class
-  listed k s (Ends class) v there like [] whole few = (class, there)
-  listed k s (Ends class) v there like (i ∷ is) whole few =
+      → IsFull v is → IsWithin scope.cuts ((at k s).cuts + cuts_after v (at k s).last is) → BeginsWith (drop k scope.begin.items) is
+      → (class : ℕ) × IsWord layers k s is class
+  listed k s (Ends class) v there like [] whole few begins = (class, there)
+  listed k s (Ends class) v there like (i ∷ is) whole few begins =
       absurd (true≢false (sym whole.0 ∙ like_busy {w = v} {v = (at k s).world} i like ∙ (fit.ends k s class there).over i))
-  listed k s (Goes ways) v there like [] whole few =
+  listed k s (Goes ways) v there like [] whole few begins =
       let somebody = (fit.goes k s ways there).busy in
       absurd (true≢false (sym somebody.1 ∙ sym (like_busy {w = v} {v = (at k s).world} somebody.0 like) ∙ whole somebody.0))
-  listed k s (Goes ways) v there like (i ∷ is) whole few =
+  listed k s (Goes ways) v there like (i ∷ is) whole few begins =
       let here = fit.goes k s ways there in
       let n = cuts_after (turn full v i) (Some i) is in
       let left : IsWithin scope.cuts (cuts_with (at k s) i + n) = subst (λ m. IsWithin scope.cuts m) (few_moved k s v i n like) few in
-      let may : MayFollow scope (at k s) i =
-      record { busy = sym (like_busy {w = v} {v = (at k s).world} i like) ∙ whole.0; few = within_first scope.cuts (cuts_with (at k s) i) n left } in
+      let begun = begin_first scope.begin.items k i is begins in
+      let may : MayFollow (bounds_at scope k) (at k s) i =
+      record { only = begun.0; busy = sym (like_busy {w = v} {v = (at k s).world} i like) ∙ whole.0; few = within_first scope.cuts (cuts_with (at k s) i) n left } in
       let way = here.all i may in
       let goes : IsWay scope layers at k s i way.0 = here.each i way.0 way.1 in
       let q = at (suc k) way.0.to in
@@ -131,7 +135,7 @@ module _ (w : WorldView) (scope : Scope) (layers : List (Vec Spot)) (classes : L
       let then : IsWithin scope.cuts (q.cuts + cuts_after (turn full v i) q.last is) =
       subst (λ (last : Option ℕ). IsWithin scope.cuts (q.cuts + cuts_after (turn full v i) last is)) (sym goes.next.last)
       (subst (λ m. IsWithin scope.cuts (m + n)) (sym goes.next.cuts) (within_bounded scope.cuts (cuts_with (at k s) i) n left)) in
-      let rest = listed (suc k) way.0.to goes.spot (turn full v i) goes.there moved is whole.1 then in
+      let rest = listed (suc k) way.0.to goes.spot (turn full v i) goes.there moved is whole.1 then begun.1 in
       (rest.0, (way.0, (ap (λ (spot : Option Spot). way_of (ways_from spot) i) there ∙ way.1, rest.1)))
 
   -- and a word from the spot is such a list
@@ -141,6 +145,7 @@ module _ (w : WorldView) (scope : Scope) (layers : List (Vec Spot)) (classes : L
       let end = fit.ends k s class word in record {
         whole = λ i. like_busy {w = v} {v = (at k s).world} i like ∙ end.over i;
         few = subst (λ n. IsWithin scope.cuts n) (omega arith) few;
+        along_it = along_none (drop k scope.begin.items);
         outcome = end.outcome;
         there = end.there;
         tells = like_tells_on {w = v} {v = (at k s).world} (after_turns w end.outcome.least.turns) like end.tells;
@@ -167,6 +172,7 @@ module _ (w : WorldView) (scope : Scope) (layers : List (Vec Spot)) (classes : L
       later.changes ∙ ap (λ (last : Option ℕ). changes_after last is) goes.next.last in record {
         whole = (like_busy {w = v} {v = p.world} i like ∙ goes.may.busy, later.whole);
         few = subst (λ m. IsWithin scope.cuts m) (sym (few_moved k s v i n like)) (within_unbounded scope.cuts (cuts_with p i) n left);
+        along_it = along_more scope.begin.items k i is goes.may.only later.along_it;
         outcome = later.outcome;
         there = later.there;
         tells = later.tells;
@@ -190,13 +196,17 @@ module _ (w : WorldView) (scope : Scope) (layers : List (Vec Spot)) (classes : L
   list_word is asked =
       listed 0 0 fit.spot w fit.there begin_like is asked.whole
       (subst (λ (p : Place). IsWithin scope.cuts (p.cuts + cuts_after w p.last is)) (sym fit.start)
-      (subst (λ n. IsWithin scope.cuts n) (omega arith) asked.few_cuts))
+      (subst (λ n. IsWithin scope.cuts n) (omega arith) asked.few_cuts)) asked.begins
 
   pub word_list : (is : List ℕ) (class : ℕ) → IsWordOf layers class is → IsListOf w scope layers classes class is
   word_list is class word =
       let rest = rest_of 0 0 w begin_like begin_within is class word in
       let few : IsWithin scope.cuts (0 + cuts_after w None is) = subst (λ (p : Place). IsWithin scope.cuts (p.cuts + cuts_after w p.last is)) fit.start rest.few in record {
-        asked = record { whole = rest.whole; few_cuts = subst (λ n. IsWithin scope.cuts n) (omega arith) few };
+        asked = record {
+          whole = rest.whole;
+          few_cuts = subst (λ n. IsWithin scope.cuts n) (omega arith) few;
+          begins = begins_full w scope.begin.items is fit.can_begin rest.along_it rest.whole;
+        };
         outcome = rest.outcome;
         there = rest.there;
         agrees = rest.tells;

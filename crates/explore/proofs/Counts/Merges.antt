@@ -12,19 +12,20 @@ use Rattle.schedule_graph.specs.declared.count.Counts.{Counts}
 use Rattle.schedule_graph.specs.Words.{AreApart, spot_at, spot_in, way_at, way_of, ways_from, IsWord, IsWordOf}
 use Rattle.schedule_graph.specs.Words as words
 use Rattle.schedule_graph.specs.Counted.{IsLeast, AreCounts}
+use Rattle.explore.specs.declared.limits.Bounds.{Bounds}
 use Rattle.explore.specs.declared.limits.Scope.{Scope}
 use Rattle.explore.specs.declared.layer.Stand.{Stand}
 use Rattle.explore.specs.declared.moves.Choice.{Choice}
 use Rattle.explore.specs.Alike.{full, after_turns}
 use Rattle.explore.specs.Concluded.{IsToldBy, AreToldBy, HasLeast, AreShort, AsksIn, AskIn, AreToldIn}
 use Rattle.explore.specs.Explored.{IsAsked, EndingView, ClassView, IsEnding}
-use Rattle.explore.specs.Layers.{LiveView, LayerView, IsLed, IsSure, AreOn, IsTop, AreTops, AreWaysBy, AreAllWays, IsReportOf, IsSpot, AreSpots, IsPassed, point_of, spot_by}
+use Rattle.explore.specs.Layers.{LiveView, LayerView, IsLed, IsSure, AreOn, IsTop, AreTops, AreWaysBy, AreAllWays, HasWay, IsReportOf, IsSpot, AreSpots, IsPassed, point_of, spot_by}
 use Rattle.explore.specs.Lists.{cuts, changes}
 use Rattle.explore.specs.Moves.{AreAllChoices, Going, AreGone}
 use Rattle.explore.specs.Outside.{outside_of}
 use Rattle.explore.specs.Points.{Point, start, no_marks, Goes}
 use Rattle.explore.specs.Search.{IsOver, IsFull}
-use Rattle.explore.specs.Spreading.{AreWaysOfAll, AreSpotsBy}
+use Rattle.explore.specs.Spreading.{GoesOn, AllGoOn, AreWaysTo, AreWaysOfAll, AreSpotsBy}
 use Rattle.explore.proofs.Counts.Concluded.{found_have_leasts}
 use Rattle.explore.proofs.Lists.Indices.{within_some}
 use Rattle.explore.proofs.Layers.Fitting.{Fits}
@@ -49,23 +50,24 @@ told_first live told e w is = is ∙ ap (λ (b : Bool). record { told = b; world
 
 -- ---- the spots of a layer
 
-module _ (scope : Scope) (layer next : LayerView) (n : ℕ) (on : AreOn n layer) where
+module _ (bounds : Bounds) (layer next : LayerView) (n : ℕ) (on : AreOn n layer) where
   live_of : (s : ℕ) (stand : Stand) → slice_get layer.stands s ≡ Some stand → (live : LiveView) × (slice_get layer.worlds stand.world ≡ Some live)
   live_of s stand there = within_some layer.worlds stand.world (on.stands s stand there).on
 
-  spot_of : (classes : List ClassView) (stand : Stand) (live : LiveView) (ways : Vec Way) → AreWaysBy scope layer next stand live ways.items
-      → (top : Option ℕ) → IsTop classes live top → IsSpot scope layer next classes stand live (spot_by top ways)
-  spot_of classes stand live ways are None busy = (busy, are)
-  spot_of classes stand live ways are (Some class) placed = placed
+  spot_of : (classes : List ClassView) (stand : Stand) (live : LiveView) (ways : Vec Way) → AreWaysBy bounds layer next stand live ways.items
+      → (top : Option ℕ) → (top ≡ None → HasWay bounds.only ways.items) → IsTop classes live top → IsSpot bounds layer next classes stand live (spot_by top ways)
+  spot_of classes stand live ways are None has busy = (busy, (has refl, are))
+  spot_of classes stand live ways are (Some class) has placed = placed
 
   pub spots_are : (classes : List ClassView) (all : List (Vec Way)) (tops : List (Option ℕ)) (spots : List Spot)
-      → AreAllWays scope layer next all → AreTops classes layer.worlds tops → length spots ≡ length layer.stands
+      → ((s : ℕ) (stand : Stand) (ways : Vec Way) → slice_get layer.stands s ≡ Some stand → slice_get all s ≡ Some ways → slice_get tops stand.world ≡ Some None → HasWay bounds.only ways.items)
+      → AreAllWays bounds layer next all → AreTops classes layer.worlds tops → length spots ≡ length layer.stands
       → ((s : ℕ) (stand : Stand) (ways : Vec Way) (top : Option ℕ) → slice_get layer.stands s ≡ Some stand → slice_get all s ≡ Some ways → slice_get tops stand.world ≡ Some top → slice_get spots s ≡ Some (spot_by top ways))
-      → AreSpots scope layer next classes spots
-  spots_are classes all tops spots are_ways are_tops many each = record { many = many; each = one }
+      → AreSpots bounds layer next classes spots
+  spots_are classes all tops spots have are_ways are_tops many each = record { many = many; each = one }
     where
       one : (s : ℕ) (stand : Stand) (live : LiveView) (spot : Spot) → slice_get layer.stands s ≡ Some stand → slice_get layer.worlds stand.world ≡ Some live
-          → slice_get spots s ≡ Some spot → IsSpot scope layer next classes stand live spot
+          → slice_get spots s ≡ Some spot → IsSpot bounds layer next classes stand live spot
       one s stand live spot there on_live is =
           let in_stands = slice_get_within layer.stands s stand there in
           let in_worlds = slice_get_within layer.worlds stand.world live on_live in
@@ -73,22 +75,45 @@ module _ (scope : Scope) (layer next : LayerView) (n : ℕ) (on : AreOn n layer)
           let as_many_tops = are_tops.many in
           let ways = within_some all s (omega arith) in
           let top = within_some tops stand.world (omega arith) in
-          subst (λ (x : Spot). IsSpot scope layer next classes stand live x)
+          subst (λ (x : Spot). IsSpot bounds layer next classes stand live x)
           (same_Some (spot_by top.0 ways.0) spot (sym (each s stand ways.0 top.0 there ways.1 top.1) ∙ is))
-          (spot_of classes stand live ways.0 (are_ways.each s stand live ways.0 there on_live ways.1) top.0 (are_tops.each stand.world live top.0 on_live top.1))
+          (spot_of classes stand live ways.0 (are_ways.each s stand live ways.0 there on_live ways.1) top.0
+          (λ none. have s stand ways.0 there ways.1 (top.1 ∙ ap (λ (o : Option ℕ). Some o) none)) (are_tops.each stand.world live top.0 on_live top.1))
 
 -- ---- a layer that was gone through
 
 module _ (g : Going) (worlds : List LiveView) (tops : List (Option ℕ)) (places : List (Vec ℕ)) (classes : List ClassView) (gone : AreGone g worlds tops places classes)
-    (whole : length g.layer.worlds ≤ length tops) (n : ℕ) (on : AreOn n g.layer) (choices : List (Vec Choice)) (are : AreAllChoices g.scope g.layer g.moves choices)
-    (next : List Stand) (all : List (Vec Way)) (of : AreWaysOfAll g.scope g.layer.stands choices places next all) (spots : List Spot)
-    (spotted : AreSpotsBy g.layer.stands tops all spots) where
-  pub passed_by : IsPassed g.scope n g.layer (record { worlds = worlds; stands = next }) spots g.found classes
+    (whole : length g.layer.worlds ≤ length tops) (n : ℕ) (on : AreOn n g.layer) (choices : List (Vec Choice)) (are : AreAllChoices g.bounds g.layer g.moves choices)
+    (next : List Stand) (all : List (Vec Way)) (of : AreWaysOfAll g.bounds g.layer.stands choices places next all) (spots : List Spot)
+    (spotted : AreSpotsBy g.layer.stands tops all spots) (goes : AllGoOn g.bounds.only g.layer.stands choices tops) where
+  -- as many ways lead from a stand as it has choices
+  ways_many : (s : ℕ) (stand : Stand) (ways : Vec Way) → slice_get g.layer.stands s ≡ Some stand → slice_get all s ≡ Some ways
+      → (those : Vec Choice) × ((slice_get choices s ≡ Some those) × (length ways.items ≡ length those.items))
+  ways_many s stand ways there is =
+      let lt = slice_get_within g.layer.stands s stand there in
+      let within = (on.stands s stand there).on in
+      let those = within_some choices s (let m = are.many in omega (arith, lt, m)) in
+      let row = within_some places stand.world (let m = gone.many in omega (arith, within, m, whole)) in
+      let to : AreWaysTo g.bounds stand those.0.items row.0.items next ways.items = of.ways s stand those.0 row.0 ways there those.1 row.1 is in
+      (those.0, (those.1, to.many))
+
+  have_ways : (s : ℕ) (stand : Stand) (ways : Vec Way) → slice_get g.layer.stands s ≡ Some stand → slice_get all s ≡ Some ways
+      → slice_get tops stand.world ≡ Some None → HasWay g.bounds.only ways.items
+  have_ways s stand ways there is none = by g.bounds.only goes
+    where
+      by : (only : Option ℕ) → AllGoOn only g.layer.stands choices tops → HasWay only ways.items
+      by None go = tt
+      by (Some i) go =
+          let those = ways_many s stand ways there is in
+          let some : 0 < length those.0.items = go s stand those.0 None there those.1.0 none in
+          let many : length ways.items ≡ length those.0.items = those.1.1 in omega (arith, some, many)
+
+  pub passed_by : IsPassed g.bounds n g.layer (record { worlds = worlds; stands = next }) spots g.found classes
   passed_by = record {
     joined = after_joined g worlds tops places classes gone whole n on choices are next all of;
     on = after_on g worlds tops places classes gone whole n on choices are next all of;
     well = λ m live there over. gone.well m live (let lt = slice_get_within g.layer.worlds m live there in omega (arith, lt, whole)) there over;
-    spots = spots_are g.scope g.layer (record { worlds = worlds; stands = next }) n on classes all tops spots
+    spots = spots_are g.bounds g.layer (record { worlds = worlds; stands = next }) n on classes all tops spots have_ways
         (after_ways g worlds tops places classes gone whole n on choices are next all of)
         (record { many = tops_many g worlds tops places classes gone whole n on choices are; each = gone.are_tops }) spotted.many spotted.each;
     keeps = gone.keeps;

@@ -8,7 +8,7 @@ use Rattle.tree_model.proofs.Places.{slice_get-last}
 use Rattle.race_core.specs.declared.seat.Seat.{Seat}
 use Rattle.race_core.specs.Worlds.{is_busy_in, is_busy_at}
 use Rattle.schedule_graph.proofs.Spreading.{get_set}
-use Rattle.explore.specs.declared.limits.Scope.{Scope}
+use Rattle.explore.specs.declared.limits.Bounds.{Bounds}
 use Rattle.explore.specs.declared.layer.Stand.{Stand}
 use Rattle.explore.specs.declared.marks.Marks.{Marks}
 use Rattle.explore.specs.declared.moves.Move.{Move}
@@ -36,39 +36,39 @@ push_new moves new one is j x there =
 -- ---- one actor after another is asked
 
 -- those below n who may have the next turn there
-pub record AreChoicesBelow (scope : Scope) (p : Point) (moves : List Move) (n : ℕ) (choices : List Choice) : Type 0 where
-  pub all : (i : ℕ) → i < n → MayGo scope p i → IsChosen choices i
-  pub each : (k : ℕ) (choice : Choice) → slice_get choices k ≡ Some choice → IsChoice scope p moves choice
+pub record AreChoicesBelow (bounds : Bounds) (p : Point) (moves : List Move) (n : ℕ) (choices : List Choice) : Type 0 where
+  pub all : (i : ℕ) → i < n → MayGo bounds p i → IsChosen choices i
+  pub each : (k : ℕ) (choice : Choice) → slice_get choices k ≡ Some choice → IsChoice bounds p moves choice
   pub below : (k : ℕ) (choice : Choice) → slice_get choices k ≡ Some choice → choice.actor < n
   pub apart : (k l : ℕ) (choice other : Choice) → slice_get choices k ≡ Some choice → slice_get choices l ≡ Some other → choice.actor ≡ other.actor → k ≡ l
 
-choice_on : (scope : Scope) (p : Point) (moves new : List Move) (choice : Choice) → Keeps moves new → IsChoice scope p moves choice → IsChoice scope p new choice
-choice_on scope p moves new choice keeps is = record { may = is.may; marks = is.marks; move = of_on moves new choice.actor choice.at keeps is.move }
+choice_on : (bounds : Bounds) (p : Point) (moves new : List Move) (choice : Choice) → Keeps moves new → IsChoice bounds p moves choice → IsChoice bounds p new choice
+choice_on bounds p moves new choice keeps is = record { may = is.may; marks = is.marks; move = of_on moves new choice.actor choice.at keeps is.move }
 
-module _ (scope : Scope) (p : Point) where
+module _ (bounds : Bounds) (p : Point) where
   -- whom a stand may have next, when its world's moves have grown
-  pub choices_on : (moves new : List Move) (choices : List Choice) → Keeps moves new → AreChoices scope p moves choices → AreChoices scope p new choices
+  pub choices_on : (moves new : List Move) (choices : List Choice) → Keeps moves new → AreChoices bounds p moves choices → AreChoices bounds p new choices
   choices_on moves new choices keeps are = record {
     all = are.all;
-    each = λ k choice there. choice_on scope p moves new choice keeps (are.each k choice there);
+    each = λ k choice there. choice_on bounds p moves new choice keeps (are.each k choice there);
     apart = are.apart;
   }
 
-  module _ (moves : List Move) (n : ℕ) (choices : List Choice) (are : AreChoicesBelow scope p moves n choices) where
+  module _ (moves : List Move) (n : ℕ) (choices : List Choice) (are : AreChoicesBelow bounds p moves n choices) where
     less : (k : ℕ) (choice : Choice) → slice_get choices k ≡ Some choice → choice.actor < n + 1
     less k choice there = let lt : choice.actor < n = are.below k choice there in omega arith
 
     -- that actor may not have the next turn
-    pub choices_other : (MayGo scope p n → ⊥) → AreChoicesBelow scope p moves (n + 1) choices
+    pub choices_other : (MayGo bounds p n → ⊥) → AreChoicesBelow bounds p moves (n + 1) choices
     choices_other not_so = record {
-      all = λ i lt may. ⊎_elim (λ l. are.all i l may) (λ e. absurd (not_so (subst (λ j. MayGo scope p j) e may))) (at_or_below i n lt);
+      all = λ i lt may. ⊎_elim (λ l. are.all i l may) (λ e. absurd (not_so (subst (λ j. MayGo bounds p j) e may))) (at_or_below i n lt);
       each = are.each;
       below = less;
       apart = are.apart;
     }
 
     -- it may, and this is its choice
-    module _ (new : List Move) (keeps : Keeps moves new) (choice : Choice) (is : IsChoice scope p new choice) (own : choice.actor ≡ n) where
+    module _ (new : List Move) (keeps : Keeps moves new) (choice : Choice) (is : IsChoice bounds p new choice) (own : choice.actor ≡ n) where
       later : (i : ℕ) → IsChosen choices i → IsChosen (choices ++ choice ∷ []) i
       later i found = (found.0, (found.1.0, (keeps_push choices choice found.0 found.1.0 found.1.1.0, found.1.1.1)))
 
@@ -78,12 +78,12 @@ module _ (scope : Scope) (p : Point) where
           let same : c.actor ≡ n = q ∙ (ap (λ (x : Choice). x.actor) e ∙ own) in
           absurd (omega (arith, lt, same))
 
-      pub choices_more : AreChoicesBelow scope p new (n + 1) (choices ++ choice ∷ [])
+      pub choices_more : AreChoicesBelow bounds p new (n + 1) (choices ++ choice ∷ [])
       choices_more = record {
         all = λ i lt may. ⊎_elim (λ l. later i (are.all i l may))
             (λ e. (length choices, (choice, (slice_get-last choices choice, own ∙ sym e)))) (at_or_below i n lt);
-        each = λ k c there. ⊎_elim (λ was. choice_on scope p moves new c keeps (are.each k c was))
-            (λ last. subst (λ (x : Choice). IsChoice scope p new x) (sym last.1) is) (get_push choices choice k c there);
+        each = λ k c there. ⊎_elim (λ was. choice_on bounds p moves new c keeps (are.each k c was))
+            (λ last. subst (λ (x : Choice). IsChoice bounds p new x) (sym last.1) is) (get_push choices choice k c there);
         below = λ k c there. ⊎_elim (less k c)
             (λ last. let e : c.actor ≡ n = ap (λ (x : Choice). x.actor) last.1 ∙ own in omega (arith, e)) (get_push choices choice k c there);
         apart = λ k l c d here there q.
@@ -101,7 +101,7 @@ module _ (scope : Scope) (p : Point) where
       by (Some seat) e b = slice_get_within seats i seat e
 
   -- all actors have been asked
-  pub choices_all : (moves : List Move) (n : ℕ) (choices : List Choice) → n ≡ length p.world.seats → AreChoicesBelow scope p moves n choices → AreChoices scope p moves choices
+  pub choices_all : (moves : List Move) (n : ℕ) (choices : List Choice) → n ≡ length p.world.seats → AreChoicesBelow bounds p moves n choices → AreChoices bounds p moves choices
   choices_all moves n choices e are = record {
     all = λ i may. are.all i (subst (λ m. i < m) (sym e) (busy_within p.world.seats i may.busy)) may;
     each = are.each;
@@ -109,17 +109,17 @@ module _ (scope : Scope) (p : Point) where
   }
 
 -- a move from a stand is one that was there, or its own
-pub one_of : (scope : Scope) (stand : ℕ) (p : Point) (i : ℕ) (one : Move) → MayGo scope p i → one ≡ record { stand = stand; actor = i } → IsOneOf scope stand p one
-one_of scope stand p i one may is = record {
+pub one_of : (bounds : Bounds) (stand : ℕ) (p : Point) (i : ℕ) (one : Move) → MayGo bounds p i → one ≡ record { stand = stand; actor = i } → IsOneOf bounds stand p one
+one_of bounds stand p i one may is = record {
   from = ap (λ (x : Move). x.stand) is;
-  may = subst (λ j. MayGo scope p j) (sym (ap (λ (x : Move). x.actor) is)) may;
+  may = subst (λ j. MayGo bounds p j) (sym (ap (λ (x : Move). x.actor) is)) may;
 }
 
 -- ---- no moves yet
 
 -- ---- one stand after another
 
-module _ (scope : Scope) (layer : LayerView) (moves new : List (Vec Move)) (m : ℕ) (row grown : Vec Move) (was : slice_get moves m ≡ Some row)
+module _ (bounds : Bounds) (layer : LayerView) (moves new : List (Vec Move)) (m : ℕ) (row grown : Vec Move) (was : slice_get moves m ≡ Some row)
     (set : new ≡ slice_set moves m grown) (keeps : Keeps row.items grown.items) where
   each_row : (k : ℕ) (those : Vec Move) → slice_get new k ≡ Some those → ((k ≡ m) × (those ≡ grown)) ⊎ (slice_get moves k ≡ Some those)
   each_row k those there =
@@ -127,8 +127,8 @@ module _ (scope : Scope) (layer : LayerView) (moves new : List (Vec Move)) (m : 
 
   module _ (s : ℕ) (stand : Stand) (live : LiveView) (here : slice_get layer.stands s ≡ Some stand) (at : stand.world ≡ m)
       (on : slice_get layer.worlds stand.world ≡ Some live)
-      (own : (j : ℕ) (one : Move) → slice_get grown.items j ≡ Some one → (slice_get row.items j ≡ Some one) ⊎ IsOneOf scope s (point_at live stand) one) where
-    from_here : (one : Move) → IsOneOf scope s (point_at live stand) one → IsMoveFrom scope layer m one
+      (own : (j : ℕ) (one : Move) → slice_get grown.items j ≡ Some one → (slice_get row.items j ≡ Some one) ⊎ IsOneOf bounds s (point_at live stand) one) where
+    from_here : (one : Move) → IsOneOf bounds s (point_at live stand) one → IsMoveFrom bounds layer m one
     from_here one is = record {
       stand = stand;
       live = live;
@@ -138,11 +138,11 @@ module _ (scope : Scope) (layer : LayerView) (moves new : List (Vec Move)) (m : 
       may = is.may;
     }
 
-    pub moves_more : AreMoves scope layer moves → AreMoves scope layer new
+    pub moves_more : AreMoves bounds layer moves → AreMoves bounds layer new
     moves_more are = record {
       many = ap length set ∙ (length_set moves m grown ∙ are.many);
       each = λ k those j one there there_in. ⊎_elim
-          (λ h. subst (λ n. IsMoveFrom scope layer n one) (sym h.0)
+          (λ h. subst (λ n. IsMoveFrom bounds layer n one) (sym h.0)
           (⊎_elim (are.each m row j one was) (from_here one)
           (own j one (ap (λ (v : Vec Move). slice_get v.items j) (sym h.1) ∙ there_in))))
           (λ h. are.each k those j one h there_in)
@@ -150,27 +150,27 @@ module _ (scope : Scope) (layer : LayerView) (moves new : List (Vec Move)) (m : 
     }
 
   -- the choices of the stands before
-  pub first_on : (all : List (Vec Choice)) → AreFirstChoices scope layer moves all → AreFirstChoices scope layer new all
+  pub first_on : (all : List (Vec Choice)) → AreFirstChoices bounds layer moves all → AreFirstChoices bounds layer new all
   first_on all are s stand live those choices here on there is = ⊎_elim
-      (λ h. choices_on scope (point_at live stand) row.items those.items choices.items
+      (λ h. choices_on bounds (point_at live stand) row.items those.items choices.items
       (subst (λ (v : Vec Move). Keeps row.items v.items) (sym h.1) keeps)
       (are s stand live row choices here on (ap (slice_get moves) h.0 ∙ was) is))
       (λ h. are s stand live those choices here on h is)
       (each_row stand.world those there)
 
-pub first_more : (scope : Scope) (layer : LayerView) (moves : List (Vec Move)) (all new : List (Vec Choice)) (choices : Vec Choice) (stand : Stand) (live : LiveView) (those : Vec Move)
+pub first_more : (bounds : Bounds) (layer : LayerView) (moves : List (Vec Move)) (all new : List (Vec Choice)) (choices : Vec Choice) (stand : Stand) (live : LiveView) (those : Vec Move)
     → new ≡ all ++ choices ∷ [] → slice_get layer.stands (length all) ≡ Some stand → slice_get layer.worlds stand.world ≡ Some live → slice_get moves stand.world ≡ Some those
-    → AreChoices scope (point_at live stand) those.items choices.items → AreFirstChoices scope layer moves all → AreFirstChoices scope layer moves new
-first_more scope layer moves all new choices stand live those is here on there own are s st l mvs cs st_here l_on mvs_there cs_there = ⊎_elim
+    → AreChoices bounds (point_at live stand) those.items choices.items → AreFirstChoices bounds layer moves all → AreFirstChoices bounds layer moves new
+first_more bounds layer moves all new choices stand live those is here on there own are s st l mvs cs st_here l_on mvs_there cs_there = ⊎_elim
     (are s st l mvs cs st_here l_on mvs_there)
     (λ last.
     let same : stand ≡ st = same_Some stand st (sym here ∙ (ap (slice_get layer.stands) (sym last.0) ∙ st_here)) in
     let alive : live ≡ l = same_Some live l (sym on ∙ (ap (λ (x : Stand). slice_get layer.worlds x.world) same ∙ l_on)) in
     let row : those ≡ mvs = same_Some those mvs (sym there ∙ (ap (λ (x : Stand). slice_get moves x.world) same ∙ mvs_there)) in
-    subst (λ (c : Vec Choice). AreChoices scope (point_at l st) mvs.items c.items) (sym last.1)
-    (subst (λ (x : Stand). AreChoices scope (point_at l x) mvs.items choices.items) same
-    (subst (λ (x : LiveView). AreChoices scope (point_at x stand) mvs.items choices.items) alive
-    (subst (λ (x : Vec Move). AreChoices scope (point_at live stand) x.items choices.items) row own))))
+    subst (λ (c : Vec Choice). AreChoices bounds (point_at l st) mvs.items c.items) (sym last.1)
+    (subst (λ (x : Stand). AreChoices bounds (point_at l x) mvs.items choices.items) same
+    (subst (λ (x : LiveView). AreChoices bounds (point_at x stand) mvs.items choices.items) alive
+    (subst (λ (x : Vec Move). AreChoices bounds (point_at live stand) x.items choices.items) row own))))
     (get_push all choices s cs (ap (λ (xs : List (Vec Choice)). slice_get xs s) (sym is) ∙ cs_there))
 
 -- ---- what the moves allow
@@ -182,9 +182,9 @@ few_up marks n lt within =
     record { cuts = omega (arith, a, lt); changes = omega (arith, b, lt) }
 
 -- the layer's worlds can be gone on from
-pub can_go_on : (scope : Scope) (layer : LayerView) (moves : List (Vec Move)) (n : ℕ) → n + 1 < 2 ^ 40 → AreOn n layer → AreMoves scope layer moves
+pub can_go_on : (bounds : Bounds) (layer : LayerView) (moves : List (Vec Move)) (n : ℕ) → n + 1 < 2 ^ 40 → AreOn n layer → AreMoves bounds layer moves
     → CanGoOn layer.stands layer.worlds moves
-can_go_on scope layer moves n lt on are = record {
+can_go_on bounds layer moves n lt on are = record {
   many = are.many;
   at = λ m those there j one here. let from = are.each m those j one there here in
       (from.stand, (from.there, few_up from.stand.marks n lt (on.stands one.stand from.stand from.there).few));
@@ -201,17 +201,17 @@ set_there [] i x y e = absurd (none-some y e)
 set_there (z ∷ zs) zero x y e = refl
 set_there (z ∷ zs) (suc i) x y e = set_there zs i x y e
 
-module _ (scope : Scope) (layer : LayerView) (moves : List (Vec Move)) (s : ℕ) (stand : Stand) (live : LiveView) (row grown : Vec Move)
+module _ (bounds : Bounds) (layer : LayerView) (moves : List (Vec Move)) (s : ℕ) (stand : Stand) (live : LiveView) (row grown : Vec Move)
     (here : slice_get layer.stands s ≡ Some stand) (on : slice_get layer.worlds stand.world ≡ Some live) (was : slice_get moves stand.world ≡ Some row)
     (keeps : Keeps row.items grown.items)
-    (own : (j : ℕ) (one : Move) → slice_get grown.items j ≡ Some one → (slice_get row.items j ≡ Some one) ⊎ IsOneOf scope s (point_at live stand) one) where
-  pub moves_grown : AreMoves scope layer moves → AreMoves scope layer (slice_set moves stand.world grown)
-  moves_grown are = moves_more scope layer moves (slice_set moves stand.world grown) stand.world row grown was refl keeps s stand live here refl on own are
+    (own : (j : ℕ) (one : Move) → slice_get grown.items j ≡ Some one → (slice_get row.items j ≡ Some one) ⊎ IsOneOf bounds s (point_at live stand) one) where
+  pub moves_grown : AreMoves bounds layer moves → AreMoves bounds layer (slice_set moves stand.world grown)
+  moves_grown are = moves_more bounds layer moves (slice_set moves stand.world grown) stand.world row grown was refl keeps s stand live here refl on own are
 
   pub choices_grown : (all new : List (Vec Choice)) (choices : Vec Choice) → length all ≡ s → new ≡ all ++ choices ∷ []
-      → AreChoices scope (point_at live stand) grown.items choices.items → AreFirstChoices scope layer moves all
-      → AreFirstChoices scope layer (slice_set moves stand.world grown) new
+      → AreChoices bounds (point_at live stand) grown.items choices.items → AreFirstChoices bounds layer moves all
+      → AreFirstChoices bounds layer (slice_set moves stand.world grown) new
   choices_grown all new choices long is are before =
-      first_more scope layer (slice_set moves stand.world grown) all new choices stand live grown is (ap (slice_get layer.stands) long ∙ here) on
+      first_more bounds layer (slice_set moves stand.world grown) all new choices stand live grown is (ap (slice_get layer.stands) long ∙ here) on
       (set_there moves stand.world grown row was) are
-      (first_on scope layer moves (slice_set moves stand.world grown) stand.world row grown was refl keeps all before)
+      (first_on bounds layer moves (slice_set moves stand.world grown) stand.world row grown was refl keeps all before)

@@ -9,18 +9,19 @@ use Rattle.schedule_graph.specs.declared.graph.Spot.{Spot}
 use Rattle.schedule_graph.specs.declared.graph.Spot.TheVariants.{Ends, Goes}
 use Rattle.schedule_graph.specs.Words.{spot_in, spot_at}
 use Rattle.schedule_graph.proofs.Leading.{way_in}
+use Rattle.explore.specs.declared.limits.Bounds.{Bounds}
 use Rattle.explore.specs.declared.limits.Scope.{Scope}
 use Rattle.explore.specs.declared.layer.Stand.{Stand}
 use Rattle.explore.specs.declared.marks.Marks.{Marks}
 use Rattle.explore.specs.Alike.{after_turns}
 use Rattle.explore.specs.Lists.{is_another, is_cut, plus}
-use Rattle.explore.specs.Explored.{IsWithin, TellAlike, AgreeIn, ClassView}
+use Rattle.explore.specs.Explored.{IsWithin, bounds_at, TellAlike, AgreeIn, ClassView}
 use Rattle.explore.specs.Points.{no_marks, MayGo}
 use Rattle.explore.specs.Merged.{Place, begins, bounded_cuts, MayFollow, IsNextPlace, Places, IsWay, AreWays, IsEndOf, IsFit}
 use Rattle.explore.specs.Concluded.{AreFound}
 use Rattle.explore.specs.Tally.{SameOutcome}
 use Rattle.explore.specs.Want.{EndsWell}
-use Rattle.explore.specs.Layers.{LiveView, point_at, LayerView, IsFirst, IsAfter, IsWayBy, AreWaysBy, IsPlaced, IsSpot, IsSearched, HasSearched}
+use Rattle.explore.specs.Layers.{LiveView, point_at, LayerView, IsFirst, IsAfter, IsWayBy, AreWaysBy, HasWay, IsPlaced, IsSpot, IsSearched, HasSearched}
 use Rattle.explore.proofs.Wants.WantWorlds.{ap_at, join}
 use Rattle.explore.proofs.Lists.Indices.{within_some}
 use Rattle.explore.proofs.Counts.Merged.{bounded_within}
@@ -79,14 +80,18 @@ few_there : (most : Option ℕ) (b : Bool) (n : ℕ) → IsWithin most (plus b n
 few_there None b n few = tt
 few_there (Some k) b n few = few
 
-may_go : (scope : Scope) (stand : Stand) (live : LiveView) (i : ℕ) → MayFollow scope (place_of scope stand live) i → MayGo scope (point_at live stand) i
-may_go scope stand live i may = record {
+may_go : (scope : Scope) (k : ℕ) (stand : Stand) (live : LiveView) (i : ℕ) → MayFollow (bounds_at scope k) (place_of scope stand live) i
+    → MayGo (bounds_at scope k) (point_at live stand) i
+may_go scope k stand live i may = record {
+  only = may.only;
   busy = may.busy;
   few = few_here scope.cuts (is_cut live.world.seats stand.marks.last i) stand.marks.cuts may.few;
 }
 
-may_follow : (scope : Scope) (stand : Stand) (live : LiveView) (i : ℕ) → MayGo scope (point_at live stand) i → MayFollow scope (place_of scope stand live) i
-may_follow scope stand live i may = record {
+may_follow : (scope : Scope) (k : ℕ) (stand : Stand) (live : LiveView) (i : ℕ) → MayGo (bounds_at scope k) (point_at live stand) i
+    → MayFollow (bounds_at scope k) (place_of scope stand live) i
+may_follow scope k stand live i may = record {
+  only = may.only;
   busy = may.busy;
   few = few_there scope.cuts (is_cut live.world.seats stand.marks.last i) stand.marks.cuts may.few;
 }
@@ -104,7 +109,7 @@ record IsOf (w : WorldView) (scope : Scope) (layers : List LayerView) (graph : L
   then : slice_get layers (suc k) ≡ Some next
   there : slice_get layer.stands s ≡ Some stand
   on : slice_get layer.worlds stand.world ≡ Some live
-  is : IsSpot scope layer next classes stand live spot
+  is : IsSpot (bounds_at scope k) layer next classes stand live spot
 
 before_or_not : (m n : ℕ) → (m < n) ⊎ (n ≤ m)
 before_or_not m n = grind arith
@@ -195,24 +200,31 @@ module _ (w : WorldView) (scope : Scope) (layers : List LayerView) (graph : List
 
     -- some way leads on
     some_way : (k s : ℕ) (layer next : LayerView) (stand : Stand) (live : LiveView) (ways : List Way) → slice_get layers k ≡ Some layer → slice_get layer.stands s ≡ Some stand
-        → (i : ℕ) × (is_busy_at live.world.seats i ≡ true) → AreWaysBy scope layer next stand live ways → (way : Way) × IsWayBy scope layer next stand live way.letter way
-    some_way k s layer next stand live ways here there busy are =
-        let early = is_early k s layer stand here there in
-        let few = stand_few w scope layers graph classes searched k s layer stand (omega (arith, early)) here there in
-        let turn = may_some scope (place_of scope stand live) (bounded_within scope.cuts stand.marks.cuts few) busy in
-        let way = are.all turn.0 (may_go scope stand live turn.0 turn.1) in
-        let at = way_in ways turn.0 way.0 way.1 in
-        (way.0, are.each at.0 way.0 at.1.0)
+        → (i : ℕ) × (is_busy_at live.world.seats i ≡ true) → HasWay (bounds_at scope k).only ways → AreWaysBy (bounds_at scope k) layer next stand live ways
+        → (way : Way) × IsWayBy (bounds_at scope k) layer next stand live way.letter way
+    some_way k s layer next stand live ways here there busy has are = by (bounds_at scope k).only refl
+      where
+        by : (only : Option ℕ) → (bounds_at scope k).only ≡ only → (way : Way) × IsWayBy (bounds_at scope k) layer next stand live way.letter way
+        by None free =
+            let early = is_early k s layer stand here there in
+            let few = stand_few w scope layers graph classes searched k s layer stand (omega (arith, early)) here there in
+            let turn = may_some (bounds_at scope k) (place_of scope stand live) free (bounded_within scope.cuts stand.marks.cuts few) busy in
+            let way = are.all turn.0 (may_go scope k stand live turn.0 turn.1) in
+            let at = way_in ways turn.0 way.0 way.1 in
+            (way.0, are.each at.0 way.0 at.1.0)
+        by (Some i) own =
+            let first = within_some ways 0 (subst (λ (only : Option ℕ). HasWay only ways) own has) in
+            (first.0, are.each 0 first.0 first.1)
 
     well_by : (k s : ℕ) (layer next : LayerView) (stand : Stand) (live : LiveView) → slice_get layers k ≡ Some layer → slice_get layers (suc k) ≡ Some next
         → slice_get layer.stands s ≡ Some stand → slice_get layer.worlds stand.world ≡ Some live
         → ((t : ℕ) (after : Stand) (born : LiveView) → slice_get next.stands t ≡ Some after → slice_get next.worlds after.world ≡ Some born → EndsWell born.world)
-        → (spot : Spot) → IsSpot scope layer next classes stand live spot → EndsWell live.world
+        → (spot : Spot) → IsSpot (bounds_at scope k) layer next classes stand live spot → EndsWell live.world
     well_by k s layer next stand live here then there on later (Ends class) placed =
         searched.well k layer (is_early k s layer stand here there) here stand.world live on placed.is.over
     well_by k s layer next stand live here then there on later (Goes ways) is =
         let early = is_early k s layer stand here there in
-        let way = some_way k s layer next stand live ways.items here there is.0 is.1 in
+        let way = some_way k s layer next stand live ways.items here there is.0 is.1.0 is.1.1 in
         let after = way.1.after in
         let born = live_at (suc k) way.0.to next after.after then after.there in
         well_moved w scope layers graph classes searched k stand.world way.0.letter after.after.world layer next live born.0 (omega (arith, early)) here on after.move born.1
@@ -238,7 +250,7 @@ module _ (w : WorldView) (scope : Scope) (layers : List LayerView) (graph : List
     -- ---- ways
 
     next_place : (k i t : ℕ) (layer next : LayerView) (stand : Stand) (live : LiveView) → slice_get layers k ≡ Some layer → slice_get layers (suc k) ≡ Some next
-        → slice_get layer.worlds stand.world ≡ Some live → IsAfter scope layer next stand live i t
+        → slice_get layer.worlds stand.world ≡ Some live → IsAfter (bounds_at scope k) layer next stand live i t
         → IsNextPlace scope (place_of scope stand live) i (place_at w scope layers (suc k) t)
     next_place k i t layer next stand live here then on is =
         let early = is_early (suc k) t next is.after then is.there in
@@ -255,10 +267,10 @@ module _ (w : WorldView) (scope : Scope) (layers : List LayerView) (graph : List
       own_place : place_of scope stand live ≡ place_at w scope layers k s
       own_place = sym (place_is w scope layers k s layer stand live here there on)
 
-      is_way : (i : ℕ) (way : Way) → IsWayBy scope layer next stand live i way → IsWay scope graph (place_at w scope layers) k s i way
+      is_way : (i : ℕ) (way : Way) → IsWayBy (bounds_at scope k) layer next stand live i way → IsWay scope graph (place_at w scope layers) k s i way
       is_way i way by =
           let spot = spot_of (suc k) way.to next by.after.after then by.after.there in record {
-            may = subst (λ (p : Place). MayFollow scope p i) own_place (may_follow scope stand live i by.may);
+            may = subst (λ (p : Place). MayFollow (bounds_at scope k) p i) own_place (may_follow scope k stand live i by.may);
             cut = subst (λ (p : Place). way.cut ≡ is_cut p.world.seats p.last i) own_place by.cut;
             change = subst (λ (p : Place). way.change ≡ is_another p.last i) own_place by.change;
             spot = spot.0;
@@ -267,20 +279,21 @@ module _ (w : WorldView) (scope : Scope) (layers : List LayerView) (graph : List
                 (next_place k i way.to layer next stand live here then on by.after);
           }
 
-      are_ways : (ways : List Way) → (i : ℕ) × (is_busy_at live.world.seats i ≡ true) → AreWaysBy scope layer next stand live ways
-          → AreWays scope graph (place_at w scope layers) k s ways
-      are_ways ways busy are = record {
+      are_ways : (ways : List Way) → (i : ℕ) × (is_busy_at live.world.seats i ≡ true) → HasWay (bounds_at scope k).only ways
+          → AreWaysBy (bounds_at scope k) layer next stand live ways → AreWays scope graph (place_at w scope layers) k s ways
+      are_ways ways busy has are = record {
+        some = let way = some_way k s layer next stand live ways here there busy has are in (way.0.letter, are.all way.0.letter way.1.may);
         busy = subst (λ (p : Place). (i : ℕ) × (is_busy_at p.world.seats i ≡ true)) own_place busy;
-        all = λ i may. are.all i (may_go scope stand live i (subst (λ (p : Place). MayFollow scope p i) (sym own_place) may));
+        all = λ i may. are.all i (may_go scope k stand live i (subst (λ (p : Place). MayFollow (bounds_at scope k) p i) (sym own_place) may));
         each = λ i way e.
             let at = way_in ways i way e in
-            is_way i way (subst (λ j. IsWayBy scope layer next stand live j way) at.1.1 (are.each at.0 way at.1.0));
+            is_way i way (subst (λ j. IsWayBy (bounds_at scope k) layer next stand live j way) at.1.1 (are.each at.0 way at.1.0));
       }
 
     goes : (k s : ℕ) (ways : Vec Way) → spot_at graph k s ≡ Some (Goes ways) → AreWays scope graph (place_at w scope layers) k s ways.items
     goes k s ways e =
         let of = stand_of k s (Goes ways) e in
-        are_ways k s of.layer of.next of.stand of.live of.here of.then of.there of.on ways.items of.is.0 of.is.1
+        are_ways k s of.layer of.next of.stand of.live of.here of.then of.there of.on ways.items of.is.0 of.is.1.0 of.is.1.1
 
     -- ---- the beginning
 
@@ -305,6 +318,7 @@ module _ (w : WorldView) (scope : Scope) (layers : List LayerView) (graph : List
     is_fit =
         let spot = spot_of 0 0 searched.first first.stand searched.begins first_there in record {
           start = begins_there;
+          can_begin = searched.can_begin;
           spot = spot.0;
           there = spot.1;
           ends = ends;

@@ -271,10 +271,10 @@ module _ (g : Going) (worlds next : List LiveView) (tops more_tops : List (Optio
     pub top_is : IsTop new live top
     pub well : IsOver live.world → EndsWell live.world
     pub leads : AreLeads live at.those.items next row.items
-    pub born : (k : ℕ) (one : LiveView) → slice_get next k ≡ Some one → (slice_get worlds k ≡ Some one) ⊎ IsBornWorld g.scope g.layer one
+    pub born : (k : ℕ) (one : LiveView) → slice_get next k ≡ Some one → (slice_get worlds k ≡ Some one) ⊎ IsBornWorld g.bounds g.layer one
     pub found : (k : ℕ) (c : ClassView) → slice_get new k ≡ Some c → (slice_get old k ≡ Some c) ⊎ IsReportOf live c.least
 
-  from_move : (j : ℕ) (one : Move) → slice_get at.those.items j ≡ Some one → IsMoveFrom g.scope g.layer n one
+  from_move : (j : ℕ) (one : Move) → slice_get at.those.items j ≡ Some one → IsMoveFrom g.bounds g.layer n one
   from_move j one there = g.listed.each n at.those j one at.listed there
 
   -- it is over
@@ -307,12 +307,12 @@ module _ (g : Going) (worlds next : List LiveView) (tops more_tops : List (Optio
       is = at.is.goes long ends
 
       born_at : (j : ℕ) (one : Move) (b : LiveView) → slice_get at.those.items j ≡ Some one → slice_get slot.born j ≡ Some b
-          → (from : IsMoveFrom g.scope g.layer n one) × ((from.live ≡ live) × IsBorn from.stand live one.actor b)
+          → (from : IsMoveFrom g.bounds g.layer n one) × ((from.live ≡ live) × IsBorn from.stand live one.actor b)
       born_at j one b there here =
           let from = from_move j one there in
           (from, (same_Some from.live live (sym from.on ∙ at.there), is.1.each j one from.stand b there from.there here))
 
-      world_of : (b : LiveView) (j : ℕ) → slice_get slot.born j ≡ Some b → IsBornWorld g.scope g.layer b
+      world_of : (b : LiveView) (j : ℕ) → slice_get slot.born j ≡ Some b → IsBornWorld g.bounds g.layer b
       world_of b j here =
           let lt : j < length at.those.items = let l = slice_get_within slot.born j b here in let e = is.1.many in omega (arith, l, e) in
           let one = within_some at.those.items j lt in
@@ -325,12 +325,12 @@ module _ (g : Going) (worlds next : List LiveView) (tops more_tops : List (Optio
               at = one.0.stand;
               there = by.0.there;
               on = ap (slice_get g.layer.worlds) by.0.same ∙ (by.0.on ∙ ap (λ (l : LiveView). Some l) by.1.0);
-              may = subst (λ (l : LiveView). MayGo g.scope (point_at l by.0.stand) one.0.actor) by.1.0 by.0.may;
+              may = subst (λ (l : LiveView). MayGo g.bounds (point_at l by.0.stand) one.0.actor) by.1.0 by.0.may;
             };
             is = by.1.1;
           }
 
-      born_world : (one b : LiveView) → one ≡ counted one.is_state b → IsBornWorld g.scope g.layer b → IsBornWorld g.scope g.layer one
+      born_world : (one b : LiveView) → one ≡ counted one.is_state b → IsBornWorld g.bounds g.layer b → IsBornWorld g.bounds g.layer one
       born_world one b e of = record {
         stand = of.stand;
         live = of.live;

@@ -7,10 +7,11 @@ use Rattle.race_core.specs.declared.opening.TheConstants.{ACTORS_MAX}
 use Rattle.race_core.specs.Worlds.{WorldView}
 use Rattle.schedule_graph.specs.declared.graph.Spot.{Spot}
 use Rattle.schedule_graph.specs.declared.graph.Spot.TheVariants.{Ends, Goes}
+use Rattle.explore.specs.declared.limits.Bounds.{Bounds}
 use Rattle.explore.specs.declared.limits.Scope.{Scope}
 use Rattle.explore.specs.declared.layer.Stand.{Stand}
 use Rattle.explore.specs.declared.marks.Marks.{Marks}
-use Rattle.explore.specs.Explored.{ClassView, IsTooLong}
+use Rattle.explore.specs.Explored.{AreBusy, ClassView, IsTooLong, bounds_at}
 use Rattle.explore.specs.Layers.{Keeps, LiveView, LayerView, IsSpot, AreSpots, AreJoined, AreWell, IsOn, AreOn, IsFirst, IsFoundIn, IsPassed, HasSearched}
 use Rattle.explore.specs.Points.{no_marks, AreWithin}
 use Rattle.explore.specs.Want.{EndsWell}
@@ -29,23 +30,23 @@ less_or_same (suc m) (suc n) lt = ⊎_elim (λ h. inl (omega arith)) (λ e. inr 
 
 -- ---- spots stay what they are as classes are added
 
-spot_kept : (scope : Scope) (layer next : LayerView) (old new : List ClassView) → Keeps old new
-    → (stand : Stand) (live : LiveView) (spot : Spot) → IsSpot scope layer next old stand live spot → IsSpot scope layer next new stand live spot
-spot_kept scope layer next old new keeps stand live (Ends class) h =
+spot_kept : (bounds : Bounds) (layer next : LayerView) (old new : List ClassView) → Keeps old new
+    → (stand : Stand) (live : LiveView) (spot : Spot) → IsSpot bounds layer next old stand live spot → IsSpot bounds layer next new stand live spot
+spot_kept bounds layer next old new keeps stand live (Ends class) h =
     record { ending = h.ending; is = h.is; class = h.class; there = keeps class h.class h.there; same = h.same }
-spot_kept scope layer next old new keeps stand live (Goes ways) h = h
+spot_kept bounds layer next old new keeps stand live (Goes ways) h = h
 
-spots_kept : (scope : Scope) (layer next : LayerView) (old new : List ClassView) → Keeps old new
-    → (spots : List Spot) → AreSpots scope layer next old spots → AreSpots scope layer next new spots
-spots_kept scope layer next old new keeps spots are = record {
+spots_kept : (bounds : Bounds) (layer next : LayerView) (old new : List ClassView) → Keeps old new
+    → (spots : List Spot) → AreSpots bounds layer next old spots → AreSpots bounds layer next new spots
+spots_kept bounds layer next old new keeps spots are = record {
   many = are.many;
-  each = λ s stand live spot on at there. spot_kept scope layer next old new keeps stand live spot (are.each s stand live spot on at there);
+  each = λ s stand live spot on at there. spot_kept bounds layer next old new keeps stand live spot (are.each s stand live spot on at there);
 }
 
 -- ---- one layer more
 
 module _ (w : WorldView) (scope : Scope) (layer next : LayerView) (graph : List (Vec Spot)) (spots : Vec Spot) (old new : List ClassView)
-    (so_far : HasSearched w scope layer graph old) (passed : IsPassed scope (length graph) layer next spots.items old new) where
+    (so_far : HasSearched w scope layer graph old) (passed : IsPassed (bounds_at scope (length graph)) (length graph) layer next spots.items old new) where
   abbrev layers : List LayerView
   layers = so_far.layers
 
@@ -77,15 +78,16 @@ module _ (w : WorldView) (scope : Scope) (layer next : LayerView) (graph : List 
       (λ h. subst (λ (b : LayerView). AreOn k b) (sym h.1) (subst (λ n. AreOn n next) (sym (h.0 ∙ many)) passed.on))
       (get_push layers next k a e)
 
-  joined : (k : ℕ) (a b : LayerView) → slice_get (layers ++ next ∷ []) k ≡ Some a → slice_get (layers ++ next ∷ []) (suc k) ≡ Some b → AreJoined scope a b
+  joined : (k : ℕ) (a b : LayerView) → slice_get (layers ++ next ∷ []) k ≡ Some a → slice_get (layers ++ next ∷ []) (suc k) ≡ Some b → AreJoined (bounds_at scope k) a b
   joined k a b here there =
       ⊎_elim
       (λ h. let lt = slice_get_within layers (suc k) b h in
       let m = many in so_far.searched.joined k a b (before k a (omega arith) here) h)
       (λ h. let m = many in
       let q : k ≡ length graph = last k h.0 m in
-      subst (λ (c : LayerView). AreJoined scope a c) (sym h.1)
-      (subst (λ (c : LayerView). AreJoined scope c next) (sym (last_before k a q here)) passed.joined))
+      subst (λ (c : LayerView). AreJoined (bounds_at scope k) a c) (sym h.1)
+      (subst (λ (c : LayerView). AreJoined (bounds_at scope k) c next) (sym (last_before k a q here))
+      (subst (λ n. AreJoined (bounds_at scope n) layer next) (sym q) passed.joined)))
       (get_push layers next (suc k) b there)
     where
       last : (k : ℕ) → suc k ≡ length layers → length layers ≡ suc (length graph) → k ≡ length graph
@@ -99,15 +101,16 @@ module _ (w : WorldView) (scope : Scope) (layer next : LayerView) (graph : List 
       by (inr q) = subst (λ (b : LayerView). AreWell b.worlds) (sym (last_before k a q e)) passed.well
 
   all_spots : (k : ℕ) (a b : LayerView) (s : Vec Spot) → slice_get (layers ++ next ∷ []) k ≡ Some a → slice_get (layers ++ next ∷ []) (suc k) ≡ Some b
-      → slice_get (graph ++ spots ∷ []) k ≡ Some s → AreSpots scope a b new s.items
+      → slice_get (graph ++ spots ∷ []) k ≡ Some s → AreSpots (bounds_at scope k) a b new s.items
   all_spots k a b s here there e =
       ⊎_elim
       (λ h. let lt = slice_get_within graph k s h in
-      spots_kept scope a b old new passed.keeps s.items
+      spots_kept (bounds_at scope k) a b old new passed.keeps s.items
       (so_far.searched.spots k a b s (before k a (omega arith) here) (before (suc k) b (omega arith) there) h))
-      (λ h. subst (λ (c : LayerView). AreSpots scope c b new s.items) (sym (last_before k a h.0 here))
-      (subst (λ (c : LayerView). AreSpots scope layer c new s.items) (sym (newest (suc k) b (ap suc h.0) there))
-      (subst (λ (v : Vec Spot). AreSpots scope layer next new v.items) (sym h.1) passed.spots)))
+      (λ h. subst (λ (c : LayerView). AreSpots (bounds_at scope k) c b new s.items) (sym (last_before k a h.0 here))
+      (subst (λ (c : LayerView). AreSpots (bounds_at scope k) layer c new s.items) (sym (newest (suc k) b (ap suc h.0) there))
+      (subst (λ (v : Vec Spot). AreSpots (bounds_at scope k) layer next new v.items) (sym h.1)
+      (subst (λ n. AreSpots (bounds_at scope n) layer next new spots.items) (sym h.0) passed.spots))))
       (get_push graph spots k s e)
 
   found : (c : ℕ) (class : ClassView) → slice_get new c ≡ Some class
@@ -127,6 +130,7 @@ module _ (w : WorldView) (scope : Scope) (layer next : LayerView) (graph : List 
     layers = layers ++ next ∷ [];
     searched = record {
       first = so_far.searched.first;
+      can_begin = so_far.searched.can_begin;
       begins = get_left layers next 0 so_far.searched.first so_far.searched.begins;
       is_first = so_far.searched.is_first;
       many = length_push layers next ∙ (ap suc many ∙ ap suc (sym (length_push graph spots)));
@@ -146,12 +150,13 @@ only_one : {A : Type 0} (x : A) (k : ℕ) (y : A) → slice_get (x ∷ []) k ≡
 only_one x zero y e = (refl, sym (same_Some x y e))
 only_one x (suc k) y e = absurd (none-some y e)
 
-module _ (w : WorldView) (scope : Scope) (layer : LayerView) (first : IsFirst w scope layer) (on : AreOn 0 layer) where
+module _ (w : WorldView) (scope : Scope) (layer : LayerView) (busy : AreBusy w scope.begin.items) (first : IsFirst w scope layer) (on : AreOn 0 layer) where
   pub begun : HasSearched w scope layer [] []
   begun = record {
     layers = layer ∷ [];
     searched = record {
       first = layer;
+      can_begin = busy;
       begins = refl;
       is_first = first;
       many = refl;

@@ -11,11 +11,11 @@ use Rattle.race_core.specs.Worlds.{WorldView, is_busy_in, is_busy_at, is_within_
 use Rattle.schedule_graph.specs.declared.graph.Spot.{Spot}
 use Rattle.schedule_graph.specs.declared.graph.Spot.TheVariants.{Ends, Goes}
 use Rattle.schedule_graph.specs.Words.{spot_in, spot_at, ways_from, way_of, IsWord, IsSomeWord}
+use Rattle.explore.specs.declared.limits.Bounds.{Bounds}
 use Rattle.explore.specs.declared.limits.Scope.{Scope}
 use Rattle.explore.specs.Lists.{is_another, is_cut, plus}
-use Rattle.explore.specs.Explored.{IsWithin, ClassView}
-use Rattle.explore.specs.Merged.{Place, Places, cuts_with, MayFollow, IsWay, IsFit}
-use Rattle.explore.proofs.Counts.Merged.{bounded_within, begin_within}
+use Rattle.explore.specs.Explored.{IsWithin, IsOnly, ClassView}
+use Rattle.explore.specs.Merged.{Place, Places, MayFollow, IsWay, IsFit}
 
 -- ---- some turn that cuts no call
 
@@ -26,21 +26,25 @@ idle_outside (Some seat) e = (or_parts _ (are_some seat.ledger.to_come) e).0
 own_turn : (j : ℕ) → is_another (Some j) j ≡ false
 own_turn j = grind (arith, nat_tests)
 
--- where somebody has something left to do, somebody may have the next turn
-pub may_some : (scope : Scope) (p : Place) → IsWithin scope.cuts p.cuts → (i : ℕ) × (is_busy_at p.world.seats i ≡ true) → (i : ℕ) × MayFollow scope p i
-may_some scope p few somebody = by p.last refl
+-- where somebody has something left to do, somebody may have the next turn, if it may be anybody's
+pub may_some : (bounds : Bounds) (p : Place) → bounds.only ≡ None → IsWithin bounds.cuts p.cuts → (i : ℕ) × (is_busy_at p.world.seats i ≡ true)
+    → (i : ℕ) × MayFollow bounds p i
+may_some bounds p free few somebody = by p.last refl
   where
-    uncut : (i : ℕ) → is_busy_at p.world.seats i ≡ true → is_cut p.world.seats p.last i ≡ false → (i : ℕ) × MayFollow scope p i
-    uncut i busy e = (i, record { busy = busy; few = subst (λ (b : Bool). IsWithin scope.cuts (plus b p.cuts)) (sym e) few })
+    anybody : (i : ℕ) → IsOnly bounds.only i
+    anybody i = subst (λ (only : Option ℕ). IsOnly only i) (sym free) tt
 
-    after : (j : ℕ) (b : Bool) → p.last ≡ Some j → is_busy_at p.world.seats j ≡ b → (i : ℕ) × MayFollow scope p i
+    uncut : (i : ℕ) → is_busy_at p.world.seats i ≡ true → is_cut p.world.seats p.last i ≡ false → (i : ℕ) × MayFollow bounds p i
+    uncut i busy e = (i, record { only = anybody i; busy = busy; few = subst (λ (b : Bool). IsWithin bounds.cuts (plus b p.cuts)) (sym e) few })
+
+    after : (j : ℕ) (b : Bool) → p.last ≡ Some j → is_busy_at p.world.seats j ≡ b → (i : ℕ) × MayFollow bounds p i
     after j true e busy =
         uncut j busy (ap (λ (last : Option ℕ). is_cut p.world.seats last j) e ∙ ap (λ (b : Bool). b && is_within_at p.world.seats j) (own_turn j))
     after j false e idle =
         uncut somebody.0 somebody.1 (ap (λ (last : Option ℕ). is_cut p.world.seats last somebody.0) e
         ∙ and_right (is_another (Some j) somebody.0) (is_within_at p.world.seats j) (idle_outside (slice_get p.world.seats j) idle))
 
-    by : (last : Option ℕ) → p.last ≡ last → (i : ℕ) × MayFollow scope p i
+    by : (last : Option ℕ) → p.last ≡ last → (i : ℕ) × MayFollow bounds p i
     by None e = uncut somebody.0 somebody.1 (ap (λ (last : Option ℕ). is_cut p.world.seats last somebody.0) e)
     by (Some j) e = after j (is_busy_at p.world.seats j) e refl
 
@@ -54,19 +58,17 @@ spot_within layers k s spot there = by (slice_get layers k) refl there
     by (Some layer) e there = slice_get_within layers k layer e
 
 module _ (w : WorldView) (scope : Scope) (layers : List (Vec Spot)) (classes : List ClassView) (at : Places) (fit : IsFit w scope layers classes at) where
-  some_rest : (n k s : ℕ) (spot : Spot) → length layers ≤ k + n → spot_at layers k s ≡ Some spot → IsWithin scope.cuts (at k s).cuts
+  some_rest : (n k s : ℕ) (spot : Spot) → length layers ≤ k + n → spot_at layers k s ≡ Some spot
       → (is : List ℕ) × ((class : ℕ) × IsWord layers k s is class)
-  some_rest zero k s spot le there few = let lt = spot_within layers k s spot there in absurd (omega arith)
-  some_rest (suc n) k s (Ends class) le there few = ([], (class, there))
-  some_rest (suc n) k s (Goes ways) le there few =
+  some_rest zero k s spot le there = let lt = spot_within layers k s spot there in absurd (omega arith)
+  some_rest (suc n) k s (Ends class) le there = ([], (class, there))
+  some_rest (suc n) k s (Goes ways) le there =
       let here = fit.goes k s ways there in
-      let next = may_some scope (at k s) few here.busy in
-      let way = here.all next.0 next.1 in
-      let goes : IsWay scope layers at k s next.0 way.0 = here.each next.0 way.0 way.1 in
-      let then : IsWithin scope.cuts (at (suc k) way.0.to).cuts =
-      subst (λ m. IsWithin scope.cuts m) (sym goes.next.cuts) (bounded_within scope.cuts (cuts_with (at k s) next.0) goes.may.few) in
-      let rest = some_rest n (suc k) way.0.to goes.spot (omega arith) goes.there then in
-      (next.0 ∷ rest.0, (rest.1.0, (way.0, (ap (λ (spot : Option Spot). way_of (ways_from spot) next.0) there ∙ way.1, rest.1.1))))
+      let i = here.some.0 in
+      let way = here.some.1 in
+      let goes : IsWay scope layers at k s i way.0 = here.each i way.0 way.1 in
+      let rest = some_rest n (suc k) way.0.to goes.spot (omega arith) goes.there in
+      (i ∷ rest.0, (rest.1.0, (way.0, (ap (λ (spot : Option Spot). way_of (ways_from spot) i) there ∙ way.1, rest.1.1))))
 
   pub some_word : (is : List ℕ) × IsSomeWord layers is
-  some_word = some_rest (length layers) 0 0 fit.spot (omega arith) fit.there (begin_within w scope layers classes at fit)
+  some_word = some_rest (length layers) 0 0 fit.spot (omega arith) fit.there

@@ -11,7 +11,7 @@ use Rattle.explore.specs.declared.marks.Marks.{Marks}
 use Rattle.explore.specs.Alike.{full, after_turns}
 use Rattle.explore.specs.Search.{IsOver, IsFull, IsLike, same}
 use Rattle.explore.specs.Lists.{plus, is_another, cuts}
-use Rattle.explore.specs.Explored.{IsWithin, IsAsked, AreBusy, TellAlike, ClassView, IsTooLong}
+use Rattle.explore.specs.Explored.{IsWithin, IsAsked, GoAlong, bounds_at, AreBusy, TellAlike, ClassView, IsTooLong}
 use Rattle.explore.specs.Points.{Point, no_marks, marks_after, start, along, MayGo}
 use Rattle.explore.specs.Points as points
 use Rattle.explore.specs.Want.{EndsWell}
@@ -21,6 +21,7 @@ use Rattle.explore.proofs.Wants.LikeEnds.{turned_full, well_from}
 use Rattle.explore.proofs.Counts.Merged.{like_cut, like_tells_on}
 use Rattle.explore.proofs.Lists.Told.{tell_same, tell_turned}
 use Rattle.explore.proofs.Lists.Along.{along_append, along_world}
+use Rattle.explore.proofs.Counts.Begun.{along_none, along_push, begins_full}
 use Rattle.explore.proofs.Wants.Followed.{cuts_there, within_none}
 use Rattle.explore.proofs.Lists.Indices.{within_some}
 use Rattle.explore.proofs.Wants.WantWorlds.{ap_at}
@@ -34,7 +35,7 @@ like_marks {told} {w} {v} marks i like =
 
 -- ---- lists so far
 
-busy_append : (w : WorldView) (is js : List ℕ) → AreBusy w is → AreBusy (after_turns w is) js → AreBusy w (is ++ js)
+pub busy_append : (w : WorldView) (is js : List ℕ) → AreBusy w is → AreBusy (after_turns w is) js → AreBusy w (is ++ js)
 busy_append w [] js busy more = more
 busy_append w (i ∷ is) js busy more = (busy.0, busy_append (turn full w i) is js busy.1 more)
 
@@ -42,22 +43,25 @@ busy_full : (w : WorldView) (is : List ℕ) → AreBusy w is → IsOver (after_t
 busy_full w [] busy over = over
 busy_full w (i ∷ is) busy over = (busy.0, busy_full (turn full w i) is busy.1 over)
 
--- the list has only turns of actors who have something left to do, with few cuts; and these are its marks
+-- the list has only turns of actors who have something left to do, with few cuts, and begins as is asked for; and
+-- these are its marks
 pub record IsSoFar (w : WorldView) (scope : Scope) (turns : List ℕ) (marks : Marks) : Type 0 where
   pub busy : AreBusy w turns
   pub marks_are : marks ≡ (along (start w) turns).marks
   pub few : IsWithin scope.cuts marks.cuts
+  pub along_it : GoAlong scope.begin.items turns
 
 none_so_far : (w : WorldView) (scope : Scope) → IsSoFar w scope [] no_marks
-none_so_far w scope = record { busy = tt; marks_are = refl; few = within_none scope.cuts }
+none_so_far w scope = record { busy = tt; marks_are = refl; few = within_none scope.cuts; along_it = along_none scope.begin.items }
 
 -- one turn more
 on_so_far : (w : WorldView) (scope : Scope) (turns : List ℕ) (marks : Marks) (v : WorldView) (i : ℕ) → IsSoFar w scope turns marks → IsLike scope.outside (after_turns w turns) v
-    → MayGo scope (record { world = v; marks = marks }) i → IsSoFar w scope (turns ++ i ∷ []) (marks_after v.seats marks i)
+    → MayGo (bounds_at scope (length turns)) (record { world = v; marks = marks }) i → IsSoFar w scope (turns ++ i ∷ []) (marks_after v.seats marks i)
 on_so_far w scope turns marks v i so like may = record {
   busy = busy_append w turns (i ∷ []) so.busy (like_busy {w = after_turns w turns} {v = v} i like ∙ may.busy, tt);
   marks_are = marks_on;
   few = may.few;
+  along_it = along_push scope.begin.items turns i so.along_it may.only;
 }
   where
     like_there : IsLike scope.outside (along (start w) turns).world v
@@ -80,10 +84,14 @@ module _ (w : WorldView) (scope : Scope) (live : LiveView) (has : HasList w scop
   pub list_few : IsWithin scope.cuts (cuts w live.turns)
   list_few = subst (λ n. IsWithin scope.cuts n) (ap (λ (m : Marks). m.cuts) has.so.marks_are ∙ cuts_there w live.turns) has.so.few
 
-  pub list_asked : IsOver live.world → IsAsked w scope live.turns
-  list_asked over = record {
-    whole = busy_full w live.turns has.so.busy (λ i. like_busy {w = after_turns w live.turns} {v = live.world} i has.like ∙ over i);
+  list_full : IsOver live.world → IsFull w live.turns
+  list_full over = busy_full w live.turns has.so.busy (λ i. like_busy {w = after_turns w live.turns} {v = live.world} i has.like ∙ over i)
+
+  pub list_asked : AreBusy w scope.begin.items → IsOver live.world → IsAsked w scope live.turns
+  list_asked busy over = record {
+    whole = list_full over;
     few_cuts = list_few;
+    begins = begins_full w scope.begin.items live.turns busy has.so.along_it (list_full over);
   }
 
   pub list_tells : TellAlike scope.outside live.world (after_turns w live.turns)
@@ -129,7 +137,7 @@ module _ (w : WorldView) (scope : Scope) (layers : List LayerView) (graph : List
       sym (ap (λ (x : LiveView). x.told) (only (fresh scope.outside w) live layer.worlds m first.worlds here))
   live_told (suc k) m next live le there here =
       let layer = layer_at k (omega arith) in
-      let born : IsBornWorld scope layer.0 live = (searched.joined k layer.0 next layer.1 there).worlds m live here in
+      let born : IsBornWorld (bounds_at scope k) layer.0 live = (searched.joined k layer.0 next layer.1 there).worlds m live here in
       born.is.told ∙ live_told k born.stand.world layer.0 born.live (omega arith) layer.1 born.onward.on
 
   -- ---- moves
@@ -170,7 +178,7 @@ module _ (w : WorldView) (scope : Scope) (layers : List LayerView) (graph : List
       subst (λ (is : List ℕ). IsLike scope.outside (after_turns w is) live.world) turns (subst (λ (x : LiveView). IsLike scope.outside w x.world) is_live (same w))
   stand_like (suc k) t next born live le there here on well =
       let layer = layer_at k (omega arith) in
-      let is : IsBornStand scope layer.0 next.worlds born = (searched.joined k layer.0 next layer.1 there).stands t born here in
+      let is : IsBornStand (bounds_at scope k) layer.0 next.worlds born = (searched.joined k layer.0 next layer.1 there).stands t born here in
       let turns = is.stand.turns.items ++ is.i ∷ [] in
       let before : EndsWell is.live.world = well_moved k is.stand.world is.i born.world layer.0 next is.live live (omega arith) layer.1 is.onward.on is.move on well in
       let old = stand_like k is.onward.at layer.0 is.stand is.live (omega arith) layer.1 is.onward.there is.onward.on before in
@@ -187,14 +195,15 @@ module _ (w : WorldView) (scope : Scope) (layers : List LayerView) (graph : List
       subst (λ (s : Stand). IsWithin scope.cuts s.marks.cuts) is (subst (λ (marks : Marks). IsWithin scope.cuts marks.cuts) (sym first.marks) (within_none scope.cuts))
   stand_few (suc k) t next born le there here =
       let layer = layer_at k (omega arith) in
-      let is : IsBornStand scope layer.0 next.worlds born = (searched.joined k layer.0 next layer.1 there).stands t born here in
+      let is : IsBornStand (bounds_at scope k) layer.0 next.worlds born = (searched.joined k layer.0 next layer.1 there).stands t born here in
       subst (λ (marks : Marks). IsWithin scope.cuts marks.cuts) (sym is.marks) is.onward.may.few
 
   -- the list of a stand, and one turn more
-  onward_so_far : (k i : ℕ) (layer : LayerView) (stand : Stand) (live : LiveView) → k ≤ length graph → slice_get layers k ≡ Some layer → IsOnward scope layer stand live i
+  onward_so_far : (k i : ℕ) (layer : LayerView) (stand : Stand) (live : LiveView) → k ≤ length graph → slice_get layers k ≡ Some layer → IsOnward (bounds_at scope k) layer stand live i
       → EndsWell live.world → IsSoFar w scope stand.turns.items stand.marks → IsSoFar w scope (stand.turns.items ++ i ∷ []) (marks_after live.world.seats stand.marks i)
   onward_so_far k i layer stand live le there on well so =
-      on_so_far w scope stand.turns.items stand.marks live.world i so (stand_like k on.at layer stand live le there on.there on.on well) on.may
+      on_so_far w scope stand.turns.items stand.marks live.world i so (stand_like k on.at layer stand live le there on.there on.on well)
+      (subst (λ n. MayGo (bounds_at scope n) (point_at live stand) i) (sym ((searched.on k layer there).stands on.at stand on.there).long) on.may)
 
   -- each stand's list
   stand_so_far : (k t : ℕ) (layer : LayerView) (stand : Stand) (live : LiveView) → k ≤ length graph → slice_get layers k ≡ Some layer
@@ -207,7 +216,7 @@ module _ (w : WorldView) (scope : Scope) (layers : List LayerView) (graph : List
       (subst (λ (marks : Marks). IsSoFar w scope [] marks) (sym first.marks) (none_so_far w scope)))
   stand_so_far (suc k) t next born live le there here on well =
       let layer = layer_at k (omega arith) in
-      let is : IsBornStand scope layer.0 next.worlds born = (searched.joined k layer.0 next layer.1 there).stands t born here in
+      let is : IsBornStand (bounds_at scope k) layer.0 next.worlds born = (searched.joined k layer.0 next layer.1 there).stands t born here in
       let before : EndsWell is.live.world = well_moved k is.stand.world is.i born.world layer.0 next is.live live (omega arith) layer.1 is.onward.on is.move on well in
       let old = stand_so_far k is.onward.at layer.0 is.stand is.live (omega arith) layer.1 is.onward.there is.onward.on before in
       subst (λ (turns : List ℕ). IsSoFar w scope turns born.marks) (sym is.turns)
@@ -225,7 +234,7 @@ module _ (w : WorldView) (scope : Scope) (layers : List LayerView) (graph : List
       (record { marks = no_marks; so = none_so_far w scope; like = same w })
   live_list (suc k) m next live le there here well =
       let layer = layer_at k (omega arith) in
-      let born : IsBornWorld scope layer.0 live = (searched.joined k layer.0 next layer.1 there).worlds m live here in
+      let born : IsBornWorld (bounds_at scope k) layer.0 live = (searched.joined k layer.0 next layer.1 there).worlds m live here in
       let luck = born.is.turned.0 in
       let turns = born.stand.turns.items ++ born.i ∷ [] in
       let world : live.world ≡ turn luck born.live.world born.i =
@@ -249,7 +258,7 @@ module _ (w : WorldView) (scope : Scope) (layers : List LayerView) (graph : List
       sym (ap (λ (x : LiveView). length x.turns) (only (fresh scope.outside w) live layer.worlds m first.worlds here))
   live_long (suc k) m next live le there here =
       let layer = layer_at k (omega arith) in
-      let born : IsBornWorld scope layer.0 live = (searched.joined k layer.0 next layer.1 there).worlds m live here in
+      let born : IsBornWorld (bounds_at scope k) layer.0 live = (searched.joined k layer.0 next layer.1 there).worlds m live here in
       let before : length born.stand.turns.items ≡ k = ((searched.on k layer.0 layer.1).stands born.onward.at born.stand born.onward.there).long in
       let more : length (born.stand.turns.items ++ born.i ∷ []) ≡ length born.stand.turns.items + 1 = length-append born.stand.turns.items (born.i ∷ []) in
       let all : length live.turns ≡ length (born.stand.turns.items ++ born.i ∷ []) = ap length born.is.turns in
@@ -262,6 +271,7 @@ module _ (w : WorldView) (scope : Scope) (layers : List LayerView) (graph : List
       let has = live_list k m layer live le there here well in record {
         busy = has.so.busy;
         few_cuts = list_few w scope live has;
+        begins = has.so.along_it;
         more = subst (λ n. turns < n) (sym (live_long k m layer live le there here)) more;
       }
 
@@ -280,6 +290,6 @@ module _ (w : WorldView) (scope : Scope) (layers : List LayerView) (graph : List
         live = is.live;
         is = is.is;
         told = live_told k is.at layer is.live (omega (arith, lt)) here is.there;
-        asked = subst (λ (js : List ℕ). IsAsked w scope js) (sym is.is.turns) (list_asked w scope is.live has is.is.over);
+        asked = subst (λ (js : List ℕ). IsAsked w scope js) (sym is.is.turns) (list_asked w scope is.live has searched.can_begin is.is.over);
         tells = subst (λ (js : List ℕ). TellAlike scope.outside is.live.world (after_turns w js)) (sym is.is.turns) (list_tells w scope is.live has);
       }

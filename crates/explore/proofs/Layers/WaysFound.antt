@@ -8,7 +8,7 @@ use Rattle.race_core.specs.declared.opening.TheConstants.{ACTORS_MAX}
 use Rattle.schedule_graph.specs.declared.graph.Way.{Way}
 use Rattle.schedule_graph.specs.Words.{way_of, AreApart}
 use Rattle.schedule_graph.proofs.Leading.{own_way}
-use Rattle.explore.specs.declared.limits.Scope.{Scope}
+use Rattle.explore.specs.declared.limits.Bounds.{Bounds}
 use Rattle.explore.specs.declared.layer.Stand.{Stand}
 use Rattle.explore.specs.declared.marks.Marks.{Marks}
 use Rattle.explore.specs.declared.moves.Move.{Move}
@@ -27,8 +27,8 @@ use Rattle.explore.proofs.Lists.Turning.{turn_actors, turn_within}
 
 -- ---- a stand that is put last
 
-pub pushed_there : (scope : Scope) (stand : Stand) (old new : List Stand) (t : ℕ) → new ≡ old ++ stand ∷ [] → t ≡ length old → IsThere scope stand new t
-pushed_there scope stand old new t e q = record {
+pub pushed_there : (bounds : Bounds) (stand : Stand) (old new : List Stand) (t : ℕ) → new ≡ old ++ stand ∷ [] → t ≡ length old → IsThere bounds stand new t
+pushed_there bounds stand old new t e q = record {
   other = stand;
   there = ap (λ stands. slice_get stands t) e ∙ (ap (slice_get (old ++ stand ∷ [])) q ∙ slice_get-last old stand);
   world = refl;
@@ -49,37 +49,37 @@ is_more true n = by (suc n == n) refl
     by true e = let q : suc n ≡ n = eqb-true (suc n) n e in absurd (omega (arith, q))
     by false e = refl
 
-pub way_is : (scope : Scope) (stand : Stand) (choice : Choice) (world : ℕ) (next : List Stand) (to : ℕ) (born : Stand) → IsStandBy stand choice world born → IsThere scope born next to
-    → IsWayTo scope stand choice world next (record { letter = choice.actor; cut = not (choice.marks.cuts == stand.marks.cuts); change = not (choice.marks.changes == stand.marks.changes); to = to })
-way_is scope stand choice world next to born after there = record { letter = refl; cut = refl; change = refl; to = born; after = after; there = there }
+pub way_is : (bounds : Bounds) (stand : Stand) (choice : Choice) (world : ℕ) (next : List Stand) (to : ℕ) (born : Stand) → IsStandBy stand choice world born → IsThere bounds born next to
+    → IsWayTo bounds stand choice world next (record { letter = choice.actor; cut = not (choice.marks.cuts == stand.marks.cuts); change = not (choice.marks.changes == stand.marks.changes); to = to })
+way_is bounds stand choice world next to born after there = record { letter = refl; cut = refl; change = refl; to = born; after = after; there = there }
 
 -- ---- the ways from a stand
 
-there_on : (scope : Scope) (stand : Stand) (old new : List Stand) (t : ℕ) → Keeps old new → IsThere scope stand old t → IsThere scope stand new t
-there_on scope stand old new t keeps is = record { other = is.other; there = keeps t is.other is.there; world = is.world; last = is.last; cuts = is.cuts }
+there_on : (bounds : Bounds) (stand : Stand) (old new : List Stand) (t : ℕ) → Keeps old new → IsThere bounds stand old t → IsThere bounds stand new t
+there_on bounds stand old new t keeps is = record { other = is.other; there = keeps t is.other is.there; world = is.world; last = is.last; cuts = is.cuts }
 
-way_on : (scope : Scope) (stand : Stand) (choice : Choice) (world : ℕ) (old new : List Stand) (way : Way) → Keeps old new → IsWayTo scope stand choice world old way
-    → IsWayTo scope stand choice world new way
-way_on scope stand choice world old new way keeps is =
-    record { letter = is.letter; cut = is.cut; change = is.change; to = is.to; after = is.after; there = there_on scope is.to old new way.to keeps is.there }
+way_on : (bounds : Bounds) (stand : Stand) (choice : Choice) (world : ℕ) (old new : List Stand) (way : Way) → Keeps old new → IsWayTo bounds stand choice world old way
+    → IsWayTo bounds stand choice world new way
+way_on bounds stand choice world old new way keeps is =
+    record { letter = is.letter; cut = is.cut; change = is.change; to = is.to; after = is.after; there = there_on bounds is.to old new way.to keeps is.there }
 
-module _ (scope : Scope) (stand : Stand) (choices : List Choice) (places : List ℕ) where
-  pub each_none : (next : List Stand) (ways : List Way) → ways ≡ [] → AreEachWay scope stand choices places next ways
+module _ (bounds : Bounds) (stand : Stand) (choices : List Choice) (places : List ℕ) where
+  pub each_none : (next : List Stand) (ways : List Way) → ways ≡ [] → AreEachWay bounds stand choices places next ways
   each_none next ways none k choice world way here at there = absurd (none-some way (ap (λ (xs : List Way). slice_get xs k) (sym none) ∙ there))
 
-  pub each_on : (old new : List Stand) (ways : List Way) → Keeps old new → AreEachWay scope stand choices places old ways → AreEachWay scope stand choices places new ways
-  each_on old new ways keeps are k choice world way here at there = way_on scope stand choice world old new way keeps (are k choice world way here at there)
+  pub each_on : (old new : List Stand) (ways : List Way) → Keeps old new → AreEachWay bounds stand choices places old ways → AreEachWay bounds stand choices places new ways
+  each_on old new ways keeps are k choice world way here at there = way_on bounds stand choice world old new way keeps (are k choice world way here at there)
 
   pub each_more : (next : List Stand) (ways more : List Way) (n : ℕ) (choice : Choice) (world : ℕ) (way : Way) → length ways ≡ n → slice_get choices n ≡ Some choice
-      → slice_get places choice.at ≡ Some world → IsWayTo scope stand choice world next way → more ≡ ways ++ way ∷ []
-      → AreEachWay scope stand choices places next ways → AreEachWay scope stand choices places next more
+      → slice_get places choice.at ≡ Some world → IsWayTo bounds stand choice world next way → more ≡ ways ++ way ∷ []
+      → AreEachWay bounds stand choices places next ways → AreEachWay bounds stand choices places next more
   each_more next ways more n choice world way long here at own is are k c m w c_here m_at w_there = ⊎_elim
       (are k c m w c_here m_at)
       (λ last.
       let same : choice ≡ c = same_Some choice c (sym here ∙ (ap (slice_get choices) (sym (last.0 ∙ long)) ∙ c_here)) in
       let place : world ≡ m = same_Some world m (sym at ∙ (ap (λ (x : Choice). slice_get places x.at) same ∙ m_at)) in
-      subst (λ (x : Way). IsWayTo scope stand c m next x) (sym last.1)
-      (subst (λ (x : Choice). IsWayTo scope stand x m next way) same (subst (λ j. IsWayTo scope stand choice j next way) place own)))
+      subst (λ (x : Way). IsWayTo bounds stand c m next x) (sym last.1)
+      (subst (λ (x : Choice). IsWayTo bounds stand x m next way) same (subst (λ j. IsWayTo bounds stand choice j next way) place own)))
       (get_push ways way k w (ap (λ (xs : List Way). slice_get xs k) (sym is) ∙ w_there))
 
   pub stands_more : (old mid new : List Stand) (n : ℕ) (choice : Choice) (world : ℕ) → slice_get choices n ≡ Some choice → slice_get places choice.at ≡ Some world
@@ -90,39 +90,39 @@ module _ (scope : Scope) (stand : Stand) (choices : List Choice) (places : List 
 
 -- ---- the ways from all stands
 
-module _ (scope : Scope) (stands : List Stand) (choices : List (Vec Choice)) (places : List (Vec ℕ)) where
+module _ (bounds : Bounds) (stands : List Stand) (choices : List (Vec Choice)) (places : List (Vec ℕ)) where
   module _ (old new : List Stand) (s : ℕ) (stand : Stand) (those : Vec Choice) (row : Vec ℕ) (here : slice_get stands s ≡ Some stand) (chosen : slice_get choices s ≡ Some those)
       (at : slice_get places stand.world ≡ Some row) where
     pub from_more : AreStandsBy stand those.items row.items old new → AreStandsFrom stands choices places old → AreStandsFrom stands choices places new
     from_more own are t born there = ⊎_elim (are t born)
         (λ is. record { s = s; stand = stand; there = here; those = those; chosen = chosen; row = row; places_there = at; is = is }) (own t born there)
 
-    pub first_more : (all more : List (Vec Way)) (ways : Vec Way) → Keeps old new → length all ≡ s → AreWaysTo scope stand those.items row.items new ways.items
-        → more ≡ all ++ ways ∷ [] → AreFirstWays scope stands choices places old all → AreFirstWays scope stands choices places new more
+    pub first_more : (all more : List (Vec Way)) (ways : Vec Way) → Keeps old new → length all ≡ s → AreWaysTo bounds stand those.items row.items new ways.items
+        → more ≡ all ++ ways ∷ [] → AreFirstWays bounds stands choices places old all → AreFirstWays bounds stands choices places new more
     first_more all more ways keeps long own is are r st cs ps ws st_here cs_chosen ps_at ws_there = ⊎_elim
         (λ was. let before = are r st cs ps ws st_here cs_chosen ps_at was in
-        record { many = before.many; each = each_on scope st cs.items ps.items old new ws.items keeps before.each })
+        record { many = before.many; each = each_on bounds st cs.items ps.items old new ws.items keeps before.each })
         (λ last.
         let e : r ≡ s = last.0 ∙ long in
         let same : stand ≡ st = same_Some stand st (sym here ∙ (ap (slice_get stands) (sym e) ∙ st_here)) in
         let same_those : those ≡ cs = same_Some those cs (sym chosen ∙ (ap (slice_get choices) (sym e) ∙ cs_chosen)) in
         let same_row : row ≡ ps = same_Some row ps (sym at ∙ (ap (λ (x : Stand). slice_get places x.world) same ∙ ps_at)) in
-        subst (λ (v : Vec Way). AreWaysTo scope st cs.items ps.items new v.items) (sym last.1)
-        (subst (λ (x : Stand). AreWaysTo scope x cs.items ps.items new ways.items) same
-        (subst (λ (v : Vec Choice). AreWaysTo scope stand v.items ps.items new ways.items) same_those
-        (subst (λ (v : Vec ℕ). AreWaysTo scope stand those.items v.items new ways.items) same_row own))))
+        subst (λ (v : Vec Way). AreWaysTo bounds st cs.items ps.items new v.items) (sym last.1)
+        (subst (λ (x : Stand). AreWaysTo bounds x cs.items ps.items new ways.items) same
+        (subst (λ (v : Vec Choice). AreWaysTo bounds stand v.items ps.items new ways.items) same_those
+        (subst (λ (v : Vec ℕ). AreWaysTo bounds stand those.items v.items new ways.items) same_row own))))
         (get_push all ways r ws (ap (λ (xs : List (Vec Way)). slice_get xs r) (sym is) ∙ ws_there))
 
 -- ---- what they come to
 
 module _ (g : Going) (worlds : List LiveView) (tops : List (Option ℕ)) (places : List (Vec ℕ)) (classes : List ClassView) (gone : AreGone g worlds tops places classes)
-    (whole : length g.layer.worlds ≤ length tops) (n : ℕ) (on : AreOn n g.layer) (choices : List (Vec Choice)) (are : AreAllChoices g.scope g.layer g.moves choices) where
+    (whole : length g.layer.worlds ≤ length tops) (n : ℕ) (on : AreOn n g.layer) (choices : List (Vec Choice)) (are : AreAllChoices g.bounds g.layer g.moves choices) where
   -- a stand with its world, its choices, and the places of its moves
   record IsSeen (s : ℕ) (stand : Stand) (those : Vec Choice) (row : Vec ℕ) : Type 0 where
     pub live : LiveView
     pub there : slice_get g.layer.worlds stand.world ≡ Some live
     pub moves : Vec Move
-    pub are_choices : AreChoices g.scope (point_at live stand) moves.items those.items
+    pub are_choices : AreChoices g.bounds (point_at live stand) moves.items those.items
     pub leads : AreLeads live moves.items worlds row.items
 
   row_of : (s : ℕ) (stand : Stand) → slice_get g.layer.stands s ≡ Some stand → (row : Vec ℕ) × (slice_get places stand.world ≡ Some row)
@@ -167,7 +167,7 @@ module _ (g : Going) (worlds : List LiveView) (tops : List (Option ℕ)) (places
   pub tops_many : length tops ≡ length g.layer.worlds
   tops_many = let le = gone.fits in omega (arith, le, whole)
 
-  module _ (next : List Stand) (all : List (Vec Way)) (of : AreWaysOfAll g.scope g.layer.stands choices places next all) where
+  module _ (next : List Stand) (all : List (Vec Way)) (of : AreWaysOfAll g.bounds g.layer.stands choices places next all) where
     abbrev after : LayerView
     after = record { worlds = worlds; stands = next }
 
@@ -179,10 +179,10 @@ module _ (g : Going) (worlds : List LiveView) (tops : List (Option ℕ)) (places
         record { from = is.live; here = is.there; leads = subst (λ j. Leads is.live choice.actor worlds j) same by.1.1 }
 
     onward_of : (s : ℕ) (stand : Stand) (those : Vec Choice) (row : Vec ℕ) (is : IsSeen s stand those row) (k : ℕ) (choice : Choice) → slice_get g.layer.stands s ≡ Some stand
-        → slice_get those.items k ≡ Some choice → IsOnward g.scope g.layer stand is.live choice.actor
+        → slice_get those.items k ≡ Some choice → IsOnward g.bounds g.layer stand is.live choice.actor
     onward_of s stand those row is k choice here there = record { at = s; there = here; on = is.there; may = (is.are_choices.each k choice there).may }
 
-    born_stand : (t : ℕ) (born : Stand) → slice_get next t ≡ Some born → IsBornStand g.scope g.layer worlds born
+    born_stand : (t : ℕ) (born : Stand) → slice_get next t ≡ Some born → IsBornStand g.bounds g.layer worlds born
     born_stand t born there =
         let from = of.born t born there in
         let is = seen from.s from.stand from.those from.row from.there from.chosen from.places_there in
@@ -214,7 +214,7 @@ module _ (g : Going) (worlds : List LiveView) (tops : List (Option ℕ)) (places
         let is = gone.born k born there in
         subst (λ m. m ≤ ACTORS_MAX) (sym (turn_actors (point_at is.live is.stand) (point_of born) is.i is.is.turned)) (on.actors is.stand.world is.live is.onward.on)
 
-    pub after_joined : AreJoined g.scope g.layer after
+    pub after_joined : AreJoined g.bounds g.layer after
     after_joined = record { worlds = gone.born; stands = born_stand }
 
     pub after_on : AreOn (suc n) after
@@ -225,19 +225,19 @@ module _ (g : Going) (worlds : List LiveView) (tops : List (Option ℕ)) (places
       abbrev is : IsSeen s stand those row
       is = seen s stand those row here chosen at
 
-      to : AreWaysTo g.scope stand those.items row.items next ways.items
+      to : AreWaysTo g.bounds stand those.items row.items next ways.items
       to = of.ways s stand those row ways here chosen at there
 
       -- the way of each choice
       way_at : (k : ℕ) (choice : Choice) → slice_get those.items k ≡ Some choice
-          → (way : Way) × ((slice_get ways.items k ≡ Some way) × ((world : ℕ) × ((slice_get row.items choice.at ≡ Some world) × IsWayTo g.scope stand choice world next way)))
+          → (way : Way) × ((slice_get ways.items k ≡ Some way) × ((world : ℕ) × ((slice_get row.items choice.at ≡ Some world) × IsWayTo g.bounds stand choice world next way)))
       way_at k choice c_there =
           let way = within_some ways.items k (let lt = slice_get_within those.items k choice c_there in let e = to.many in omega (arith, lt, e)) in
           let by = lead s stand those row is k choice c_there in
           (way.0, (way.1, (by.0, (by.1.0, to.each k choice by.0 way.0 c_there by.1.0 way.1))))
 
       choice_at : (k : ℕ) (way : Way) → slice_get ways.items k ≡ Some way → (choice : Choice) × ((slice_get those.items k ≡ Some choice)
-          × ((world : ℕ) × ((slice_get row.items choice.at ≡ Some world) × IsWayTo g.scope stand choice world next way)))
+          × ((world : ℕ) × ((slice_get row.items choice.at ≡ Some world) × IsWayTo g.bounds stand choice world next way)))
       choice_at k way w_there =
           let choice = within_some those.items k (let lt = slice_get_within ways.items k way w_there in let e = to.many in omega (arith, lt, e)) in
           let by = lead s stand those row is k choice.0 choice.1 in
@@ -249,13 +249,13 @@ module _ (g : Going) (worlds : List LiveView) (tops : List (Option ℕ)) (places
           let d = choice_at l w w_there in
           is.are_choices.apart k l c.0 d.0 c.1.0 d.1.0 (sym c.1.1.1.1.letter ∙ (same ∙ d.1.1.1.1.letter))
 
-      way_by : (k : ℕ) (way : Way) → slice_get ways.items k ≡ Some way → IsWayBy g.scope g.layer after stand is.live way.letter way
+      way_by : (k : ℕ) (way : Way) → slice_get ways.items k ≡ Some way → IsWayBy g.bounds g.layer after stand is.live way.letter way
       way_by k way w_there =
           let c = choice_at k way w_there in
           let choice = c.0 in
           let own = is.are_choices.each k choice c.1.0 in
           let by = c.1.1.1.1 in
-          subst (λ i. IsWayBy g.scope g.layer after stand is.live i way) (sym by.letter) (record {
+          subst (λ i. IsWayBy g.bounds g.layer after stand is.live i way) (sym by.letter) (record {
             may = own.may;
             letter = by.letter;
             cut = by.cut ∙ (ap (λ (m : Marks). not (m.cuts == stand.marks.cuts)) own.marks ∙ is_more (is_cut is.live.world.seats stand.marks.last choice.actor) stand.marks.cuts);
@@ -264,12 +264,12 @@ module _ (g : Going) (worlds : List LiveView) (tops : List (Option ℕ)) (places
               after = by.there.other;
               there = by.there.there;
               last = by.there.last ∙ ap (λ (m : Marks). m.last) (by.after.marks ∙ own.marks);
-              cuts = by.there.cuts ∙ ap (λ (m : Marks). bounded_cuts g.scope.cuts m.cuts) (by.after.marks ∙ own.marks);
+              cuts = by.there.cuts ∙ ap (λ (m : Marks). bounded_cuts g.bounds.cuts m.cuts) (by.after.marks ∙ own.marks);
               move = move s stand those row is k choice c.1.0 c.1.1.0 c.1.1.1.0 by.there.other.world (by.there.world ∙ by.after.on);
             };
           })
 
-      ways_by : AreWaysBy g.scope g.layer after stand is.live ways.items
+      ways_by : AreWaysBy g.bounds g.layer after stand is.live ways.items
       ways_by = record {
         all = λ i may.
             let chosen_one = is.are_choices.all i may in
@@ -280,23 +280,23 @@ module _ (g : Going) (worlds : List LiveView) (tops : List (Option ℕ)) (places
         apart = apart;
       }
 
-    pub after_ways : AreAllWays g.scope g.layer after all
+    pub after_ways : AreAllWays g.bounds g.layer after all
     after_ways = record {
       many = of.many;
       each = λ s stand live ways here on_live there.
           let those = within_some choices s (let lt = slice_get_within g.layer.stands s stand here in let e = are.many in omega (arith, lt, e)) in
           let row = row_of s stand here in
           let seen_here = seen s stand those.0 row.0 here those.1 row.1 in
-          subst (λ (l : LiveView). AreWaysBy g.scope g.layer after stand l ways.items) (same_Some seen_here.live live (sym seen_here.there ∙ on_live))
+          subst (λ (l : LiveView). AreWaysBy g.bounds g.layer after stand l ways.items) (same_Some seen_here.live live (sym seen_here.there ∙ on_live))
           (ways_by s stand those.0 row.0 ways here those.1 row.1 there);
     }
 
 -- ---- ways that are apart, for their spots
 
-pub ways_apart : (scope : Scope) (stands : List Stand) (choices : List (Vec Choice)) (places : List (Vec ℕ)) (next : List Stand) (all : List (Vec Way))
-    → length choices ≡ length stands → AreFit stands choices places → AreApartChoices choices → AreWaysOfAll scope stands choices places next all
+pub ways_apart : (bounds : Bounds) (stands : List Stand) (choices : List (Vec Choice)) (places : List (Vec ℕ)) (next : List Stand) (all : List (Vec Way))
+    → length choices ≡ length stands → AreFit stands choices places → AreApartChoices choices → AreWaysOfAll bounds stands choices places next all
     → (s : ℕ) (ways : Vec Way) → slice_get all s ≡ Some ways → AreApart ways.items
-ways_apart scope stands choices places next all many fit choices_are of s ways there k l v w v_there w_there same =
+ways_apart bounds stands choices places next all many fit choices_are of s ways there k l v w v_there w_there same =
     let lt = slice_get_within all s ways there in
     let e = of.many in
     let stand = within_some stands s (omega (arith, lt, e)) in
@@ -307,7 +307,7 @@ ways_apart scope stands choices places next all many fit choices_are of s ways t
     let d = choice_at stand.0 those.0 row.0 ways to row.1.1 l w w_there in
     choices_are s those.0 k l c.0 d.0 those.1 c.1.0 d.1.0 (sym c.1.1 ∙ (same ∙ d.1.1))
   where
-    choice_at : (stand : Stand) (those : Vec Choice) (row : Vec ℕ) (ways : Vec Way) → AreWaysTo scope stand those.items row.items next ways.items → IsFitting those.items row.items
+    choice_at : (stand : Stand) (those : Vec Choice) (row : Vec ℕ) (ways : Vec Way) → AreWaysTo bounds stand those.items row.items next ways.items → IsFitting those.items row.items
         → (k : ℕ) (way : Way) → slice_get ways.items k ≡ Some way → (choice : Choice) × ((slice_get those.items k ≡ Some choice) × (way.letter ≡ choice.actor))
     choice_at stand those row ways to fitting k way w_there =
         let choice = within_some those.items k (let lt = slice_get_within ways.items k way w_there in let e = to.many in omega (arith, lt, e)) in

@@ -1,11 +1,7 @@
 -- Places in lists.
-use Rattle.std.specs.Prelude.{◌≡◌, ◌<◌, ℕ, ◌+◌, zero, suc, List, [], ◌∷◌, Option, Some, None, length, slice_get, refl}
+use Rattle.std.specs.Prelude.{◌≡◌, ◌<◌, ℕ, ◌+◌, suc, Option, Some, None, slice_get}
 use Rattle.std.proofs.Common.{◌⊎◌, arith}
-
-pub within_some : {A : Type 0} (xs : List A) (i : ℕ) → i < length xs → (x : A) × (slice_get xs i ≡ Some x)
-within_some [] i lt = absurd (omega arith)
-within_some (x ∷ xs) zero lt = (x, refl)
-within_some (x ∷ xs) (suc i) lt = within_some xs i (omega arith)
+pub use Rattle.step_resolver.proofs.Meaning.PlainResolution.{slice_get-some as within_some}
 
 pub at_or_below : (i n : ℕ) → i < n + 1 → (i < n) ⊎ (i ≡ n)
 at_or_below i n lt = grind arith

@@ -1,20 +1,14 @@
 -- Turns of those who have nothing left to do change nothing; and closed sets of lists stand for all.
-use Rattle.std.specs.Prelude.{◌≡◌, ℕ, zero, suc, List, [], ◌∷◌, ◌++◌, Bool, true, false, ◌||◌, Option, Some, None, is_some, slice_get, slice_set, length, refl}
+use Rattle.std.specs.Prelude.{◌≡◌, ℕ, zero, suc, List, [], ◌∷◌, ◌++◌, Bool, true, false, length, refl}
 use Rattle.std.proofs.Common.{sym, ap, ◌∙◌, subst}
-use Rattle.std.proofs.lemmas.Bool.{true≢false}
-use Rattle.std.proofs.lemmas.Option.{same_Some}
 use Rattle.tree_model.specs.declared.answer.Event.{Event}
 use Rattle.tree_model.specs.State.{State}
-use Rattle.root_ops.specs.View.{CallView}
-use Rattle.race_core.specs.declared.plan.Planned.{Planned}
 use Rattle.race_core.specs.declared.report.Outcome.{Outcome}
 use Rattle.handles.specs.Objects.{StandingObject}
 use Rattle.race_core.specs.declared.seat.Seat.{Seat}
-use Rattle.race_core.specs.Book.{BookedHistory, tree_now}
-use Rattle.race_core.specs.Ledgers.{LedgerView}
-use Rattle.race_core.specs.Turns.{Turned, turned}
-use Rattle.race_core.specs.TurnView.{are_some}
-use Rattle.race_core.specs.Worlds.{WorldView, turn_of, turn, is_busy_in, is_busy_at, ledgers_in, replies_in, AllOver, Runs, RunsTo, again, AllGoToEnd, numbers_below}
+use Rattle.race_core.specs.Book.{tree_now}
+use Rattle.race_core.specs.Worlds.{WorldView, turn, is_busy_at, ledgers_in, replies_in, AllOver, Runs, RunsTo, again, AllGoToEnd, numbers_below}
+use Rattle.race_core.proofs.OneEnd.{idle_turn_by}
 use Rattle.explore.specs.Alike.{full, after_turns, TellTheSame}
 use Rattle.explore.specs.Want.{replies_want}
 use Rattle.explore.specs.Search.{IsOver, IsFull, IsLike, same, onward, IsClosed, ChosenListsStandForAll, ReportsAreOfFullLists, FullListsAreReported}
@@ -79,40 +73,10 @@ chosen_lists_stand told w chosen closed is whole = stands told w chosen closed w
 
 -- ---- idle turns
 
-set_same : (seats : List Seat) (i : ℕ) (seat : Seat) → slice_get seats i ≡ Some seat → slice_set seats i seat ≡ seats
-set_same [] i seat e = refl
-set_same (first ∷ seats) zero seat e = ap (λ s. s ∷ seats) (sym (same_Some first seat e))
-set_same (first ∷ seats) (suc i) seat e = ap (λ others. first ∷ others) (set_same seats i seat e)
-
-idle_turned : (book : BookedHistory) (ledger : LedgerView) (doing : Option CallView) → (is_some doing || are_some ledger.to_come) ≡ false
-    → turned full book ledger doing ≡ record { book = book; seat = record { ledger = ledger; doing = doing } }
-idle_turned book ledger (Some view) e = absurd (true≢false e)
-idle_turned book ledger None e = by ledger.to_come refl e
-  where
-    by : (to_come : List Planned) → ledger.to_come ≡ to_come → are_some to_come ≡ false
-        → turned full book ledger None ≡ record { book = book; seat = record { ledger = ledger; doing = None } }
-    by (next ∷ others) q e = absurd (true≢false e)
-    by [] q e =
-        let bare : LedgerView = record ledger { to_come = [] } in
-        let same : ledger ≡ bare = (λ i. record ledger { to_come = q i }) in
-        subst (λ l. turned full book l None ≡ record { book = book; seat = record { ledger = l; doing = None } }) (sym same) refl
-
-idle_turn : (w : WorldView) (i : ℕ) → is_busy_at w.seats i ≡ false → turn full w i ≡ w
-idle_turn w i idle = by (slice_get w.seats i) refl idle
-  where
-    by : (seat : Option Seat) → slice_get w.seats i ≡ seat → is_busy_in seat ≡ false → turn_of full w i seat ≡ w
-    by None e q = refl
-    by (Some seat) e q =
-        let rested : Turned = record { book = w.book; seat = seat } in
-        join (turn_of full w i (Some seat)) (record { book = w.book; seats = slice_set w.seats i seat; spent = w.spent }) w
-        (ap_at (λ (t : Turned). record { book = t.book; seats = slice_set w.seats i t.seat; spent = w.spent })
-        (turned full w.book seat.ledger seat.doing) rested (idle_turned w.book seat.ledger seat.doing q))
-        (ap_at (λ (seats : List Seat). record { book = w.book; seats = seats; spent = w.spent }) (slice_set w.seats i seat) w.seats (set_same w.seats i seat e))
-
 pub over_rests : (w : WorldView) (is : List ℕ) → IsOver w → after_turns w is ≡ w
 over_rests w [] over = refl
 over_rests w (i ∷ is) over =
-    join (after_turns (turn full w i) is) (after_turns w is) w (ap_at (λ (u : WorldView). after_turns u is) (turn full w i) w (idle_turn w i (over i))) (over_rests w is over)
+    join (after_turns (turn full w i) is) (after_turns w is) w (ap_at (λ (u : WorldView). after_turns u is) (turn full w i) w (idle_turn_by full w i (over i))) (over_rests w is over)
 
 full_rests : (w : WorldView) (is js : List ℕ) → IsFull w is → after_turns w (is ++ js) ≡ after_turns w is
 full_rests w [] js over = over_rests w js over
@@ -127,7 +91,7 @@ tight w (i ∷ is) over = by (λ u rest. tight u is rest) (is_busy_at w.seats i)
         → (b : Bool) → is_busy_at w.seats i ≡ b → (js : List ℕ) × (IsFull w js × (after_turns (turn full w i) is ≡ after_turns w js))
     by others true e = let rest = others (turn full w i) over in (i ∷ rest.0, ((e, rest.1.0), rest.1.1))
     by others false e =
-        let moved : after_turns (turn full w i) is ≡ after_turns w is = ap_at (λ (u : WorldView). after_turns u is) (turn full w i) w (idle_turn w i e) in
+        let moved : after_turns (turn full w i) is ≡ after_turns w is = ap_at (λ (u : WorldView). after_turns u is) (turn full w i) w (idle_turn_by full w i e) in
         let rest = others w (subst (λ (u : WorldView). IsOver u) moved over) in
         (rest.0, (rest.1.0, join (after_turns (turn full w i) is) (after_turns w is) (after_turns w rest.0) moved rest.1.1))
 

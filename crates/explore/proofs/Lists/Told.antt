@@ -1,11 +1,13 @@
 -- When two endings tell the same outcome; and what stands where in a list with one more at its end.
-use Rattle.std.specs.Prelude.{◌≡◌, ◌<◌, ℕ, zero, suc, List, [], ◌∷◌, ◌++◌, Bool, length, slice_get, slice_set, Option, Some, None, refl}
+use Rattle.std.specs.Prelude.{◌≡◌, ◌<◌, ℕ, zero, suc, List, [], ◌∷◌, ◌++◌, Bool, length, slice_get, Option, Some, None, refl}
 use Rattle.std.proofs.Common.{◌⊎◌, inl, inr, sym, ap, ◌∙◌, subst, ⊎_elim}
 use Rattle.std.proofs.lemmas.Option.{same_Some, none-some}
 use Rattle.tree_model.specs.Steps.{held_count}
 use Rattle.race_core.specs.declared.seat.Seat.{Seat}
 use Rattle.race_core.specs.Worlds.{WorldView, turn, turn_of, ledgers_in, replies_in}
 use Rattle.race_core.specs.Turns.{turned}
+pub use Rattle.tree_model.proofs.Places.{slice_get-last as get_last}
+pub use Rattle.schedule_graph.proofs.Spreading.{length_set}
 use Rattle.explore.specs.declared.limits.Scope.{Scope}
 use Rattle.explore.specs.Renamed.{replies_by}
 use Rattle.explore.specs.Alike.{full, after_turns}
@@ -16,11 +18,6 @@ use Rattle.explore.specs.Tally.{SameOutcome}
 use Rattle.explore.proofs.Lists.Mapped.{other_reply_lengths}
 
 -- ---- as many actors as ever
-
-pub length_set : {A : Type 0} (xs : List A) (i : ℕ) (x : A) → length (slice_set xs i x) ≡ length xs
-length_set [] i x = refl
-length_set (y ∷ ys) zero x = refl
-length_set (y ∷ ys) (suc i) x = ap suc (length_set ys i x)
 
 turn_keeps : (w : WorldView) (i : ℕ) → length (turn full w i).seats ≡ length w.seats
 turn_keeps w i = by (slice_get w.seats i)
@@ -119,7 +116,3 @@ pub get_left : {A : Type 0} (xs : List A) (y : A) (k : ℕ) (x : A) → slice_ge
 get_left [] y k x e = absurd (none-some x e)
 get_left (z ∷ zs) y zero x e = e
 get_left (z ∷ zs) y (suc k) x e = get_left zs y k x e
-
-pub get_last : {A : Type 0} (xs : List A) (y : A) → slice_get (xs ++ y ∷ []) (length xs) ≡ Some y
-get_last [] y = refl
-get_last (z ∷ zs) y = get_last zs y

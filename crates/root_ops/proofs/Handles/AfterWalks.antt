@@ -9,9 +9,11 @@ use Rattle.tree_model.specs.declared.step.StepOf.{StepOf}
 use Rattle.tree_model.specs.State.{State}
 use Rattle.tree_model.specs.Steps.{Outcome, outcome, held}
 use Rattle.tree_model.specs.History.{IsLegal, after_events}
+use Rattle.tree_model.proofs.StepLaws.{others_handles_stay}
 use Rattle.step_resolver.specs.Order.{Line, answered, no_room, not_made, events_of, is_dir_kind}
 use Rattle.step_resolver.specs.WalkHistory.{own_events}
 use Rattle.step_resolver.proofs.Underway.StepOutcomes.{Close-is_less}
+use Rattle.step_resolver.proofs.Underway.LegalHistory.{nothing_more}
 use Rattle.root_ops.specs.declared.aim.Renaming.{Renaming}
 use Rattle.root_ops.specs.declared.aim.Wanted.{Wanted}
 use Rattle.root_ops.specs.declared.aim.Wanted.TheVariants as wants
@@ -19,7 +21,7 @@ use Rattle.root_ops.specs.declared.below.Below.{Below}
 use Rattle.root_ops.specs.Order.{Reply, opened, link_text, done, count, stepped, kept, fault, After, gives, acts, Doing, walking, acting, checking, closing, making, removing, releasing, CallTurn, more, ends, closes, checked, reply_to, take, due, IsUnmade, LeadsTo}
 use Rattle.root_ops.proofs.Handles.HandlesHeld.{HandlesAre, LeavesHandles, rename_leaves, open_effect, OpenEffect, is_refused, is_more, one_more, one_less}
 use Rattle.root_ops.proofs.Handles.HandlesHeld as handles
-use Rattle.root_ops.proofs.Handles.OwnEvents.{nothing_more, NextOwn, next_own}
+use Rattle.root_ops.proofs.Handles.OwnEvents.{NextOwn, next_own}
 
 reply_of : Reply → CallTurn → Reply
 reply_of r (more doing) = r
@@ -152,7 +154,7 @@ module _ (below : Below) (a : ℕ) (old : State) where
   pub tail_ends : (lines : List Line) (window : List Event) (now : State) (turn : CallTurn) (reply : Reply) → IsTailTurn now turn → LeadsTo below turn lines (ends reply)
       → IsLegal now window → own_events a window ≡ events_of a lines → TailEnds (after_events now window) reply
   tail_ends [] window now (more doing) reply is leads legal own = cc (leads)
-  tail_ends [] window now (ends told) reply is leads legal own = tail_over now (after_events now window) told reply is leads (nothing_more a window now own)
+  tail_ends [] window now (ends told) reply is leads legal own = tail_over now (after_events now window) told reply is leads (nothing_more others_handles_stay a window now own)
   tail_ends (line ∷ lines) window now (ends told) reply is leads legal own = absurd leads
   tail_ends (answered step answer ∷ lines) window now (more doing) reply is leads legal own =
       let next = next_own a window now step answer (events_of a lines) legal own in

@@ -20,6 +20,7 @@ use Rattle.tree_model.specs.Steps.{Outcome, outcome, refused, held}
 use Rattle.tree_model.specs.Entries.{with_some}
 use Rattle.tree_model.specs.History.{IsLegal, after_events}
 use Rattle.tree_model.proofs.HistoryLaws.{histories_keep_trees}
+use Rattle.tree_model.proofs.StepLaws.{others_handles_stay}
 use Rattle.handles.specs.Objects.{StandingObject}
 use Rattle.walk_plan.specs.declared.goal.Goal.{Goal}
 use Rattle.walk_plan.specs.declared.goal.Goal.TheVariants.{Follow, NoFollow, Deepest}
@@ -31,6 +32,7 @@ use Rattle.step_resolver.specs.WalkHistory.{WalkInHistory, IsWalkInHistory, own_
 use Rattle.step_resolver.specs.Headline.{Tells}
 use Rattle.step_resolver.proofs.Underway.StepOutcomes.{IsMore, Close-is_less}
 use Rattle.step_resolver.proofs.Ends.EveryWalk.{walks_tell}
+use Rattle.step_resolver.proofs.Underway.LegalHistory.{nothing_more}
 use Rattle.bulk_ops.specs.MakeAllOrder as make
 use Rattle.bulk_ops.specs.MakeAllTells.{Reach, not_begun, begun, MadeEnd, MakeTells}
 use Rattle.bulk_ops.specs.RemoveAllOrder as remove
@@ -46,14 +48,14 @@ use Rattle.root_ops.specs.declared.below.Below.{Below}
 use Rattle.root_ops.specs.declared.op.Op.{Op}
 use Rattle.root_ops.specs.declared.op.Op.TheVariants.{Resolve, ResolveNoFollow, ReadLink, CreateFile, CreateDir, CreateLink, RemoveFile, RemoveDir, Rename, MkdirAll, RemoveAll, Single, Release}
 use Rattle.root_ops.specs.Copies.{is_release}
-use Rattle.root_ops.specs.Order.{Reply, opened, link_text, done, count, stepped, kept, fault, gives, CallTurn, more, ends, releasing, walked, walked_on, walks, renames, way_of, goal_of, held_by, unless_fault, make_way, makes, removing_turn, clear_in, in_directory, between, from_entry, renaming_of, single, is_single, releases, same_owner, starts, LeadsTo}
+use Rattle.root_ops.specs.Order.{Reply, opened, link_text, done, count, stepped, kept, fault, gives, CallTurn, more, ends, releasing, walked, walked_on, walks, renames, way_of, goal_of, held_by, unless_fault, make_way, makes, removing_turn, clear_in, in_directory, between, from_entry, renaming_of, single, is_single, same_owner, starts, LeadsTo}
 use Rattle.root_ops.specs.Order as call
 use Rattle.root_ops.specs.CallHistory.{CallInHistory, IsCallInHistory, actor_of, begin_of, end_of, HandlesStay, AfterDone, HandlesAfter, CallsTell}
 use Rattle.root_ops.proofs.Rooms.{FindsNone, first_turn}
 use Rattle.root_ops.proofs.Bulk.{makes_led, clears_led}
 use Rattle.root_ops.proofs.Handles.HandlesHeld.{HandlesAre, change_leaves, read_leaves, rename_leaves, single_leaves, one_more}
 use Rattle.root_ops.proofs.Handles.HandlesHeld as handles
-use Rattle.root_ops.proofs.Handles.OwnEvents.{event_of, nothing_more, NextOwn, next_own}
+use Rattle.root_ops.proofs.Handles.OwnEvents.{event_of, NextOwn, next_own}
 use Rattle.root_ops.proofs.Handles.AfterWalks.{same_reply, IsTailTurn, TailEnds, tail_ends, closes_tail}
 use Rattle.root_ops.proofs.Handles.WalkParts.{IsEnded, walk_ends, HasRoot, root_later, walk_in, ends_tell, part}
 
@@ -90,9 +92,9 @@ module _ (below : Below) (r : ℕ) (old : State) where
   opened_from now handle names is [] window reply legal own leads =
       subst (Told below.root.owner.actor old (after_events now window)) (same_reply (opened handle names) reply leads)
       (record {
-        is_open = nothing_more below.root.owner.actor window now own handle.number ∙ is.is_open;
+        is_open = nothing_more others_handles_stay below.root.owner.actor window now own handle.number ∙ is.is_open;
         fresh = is.fresh;
-        others = λ k ne. nothing_more below.root.owner.actor window now own k ∙ is.others k ne;
+        others = λ k ne. nothing_more others_handles_stay below.root.owner.actor window now own k ∙ is.others k ne;
       })
   opened_from now handle names is (line ∷ lines) window reply legal own leads = absurd leads
 
@@ -369,7 +371,7 @@ module _ (c : CallInHistory) (is : IsCallInHistory c) (standing : StandingObject
   closed_one : (next : NextOwn (actor_of c) (begin_of c) c.window (Close standing.handle) answers.Done []) → HandlesAfter c done
   closed_one next =
       let less = Close-is_less next.at (actor_of c) standing.handle in
-      let last = (λ (h : ℕ). ap (λ (s : State). held s (actor_of c) h) next.ends ∙ nothing_more (actor_of c) next.rest (outcome next.at (actor_of c) (Close standing.handle)).after next.own h) in
+      let last = (λ (h : ℕ). ap (λ (s : State). held s (actor_of c) h) next.ends ∙ nothing_more others_handles_stay (actor_of c) next.rest (outcome next.at (actor_of c) (Close standing.handle)).after next.own h) in
       subst (AfterDone c) (sym same)
       (record { closed = last standing.handle ∙ less.closed; others = λ h ne. last h ∙ less.others h ne ∙ next.kept h })
 
@@ -383,7 +385,7 @@ module _ (c : CallInHistory) (is : IsCallInHistory c) (standing : StandingObject
       by_effect next (not_open e) =
           let told : answer ≡ Refused BadHandle = next.told ∙ ap (λ (o : Outcome). o.answer) e in
           subst (λ (t : Answer). HandlesAfter c (call.reply_to wants.Done t)) (sym told)
-          (λ h. ap (λ (s : State). held s (actor_of c) h) next.ends ∙ nothing_more (actor_of c) next.rest (outcome next.at (actor_of c) (Close standing.handle)).after next.own h
+          (λ h. ap (λ (s : State). held s (actor_of c) h) next.ends ∙ nothing_more others_handles_stay (actor_of c) next.rest (outcome next.at (actor_of c) (Close standing.handle)).after next.own h
           ∙ ap (λ (o : Outcome). held o.after (actor_of c) h) e ∙ next.kept h)
       by_effect next (is_closed e) =
           let told : answer ≡ answers.Done = next.told ∙ e in
@@ -396,7 +398,7 @@ module _ (c : CallInHistory) (is : IsCallInHistory c) (standing : StandingObject
   unreleased : (error : Errno) (lines : List Line) (reply : Reply) → own_events (actor_of c) c.window ≡ events_of (actor_of c) lines
       → LeadsTo c.below (ends (fault error)) lines (ends reply) → HandlesAfter c reply
   unreleased error (line ∷ lines) reply own leads = absurd leads
-  unreleased error [] reply own leads = subst (HandlesAfter c) (same_reply (fault error) reply leads) (nothing_more (actor_of c) c.window (begin_of c) own)
+  unreleased error [] reply own leads = subst (HandlesAfter c) (same_reply (fault error) reply leads) (nothing_more others_handles_stay (actor_of c) c.window (begin_of c) own)
 
   at_release : (lines : List Line) (reply : Reply) → own_events (actor_of c) c.window ≡ events_of (actor_of c) lines
       → LeadsTo c.below (more (releasing standing.handle)) lines (ends reply) → HandlesAfter c reply
@@ -410,7 +412,7 @@ module _ (c : CallInHistory) (is : IsCallInHistory c) (standing : StandingObject
   at_keeping : (lines : List Line) (reply : Reply) → own_events (actor_of c) c.window ≡ events_of (actor_of c) lines
       → LeadsTo c.below (ends (kept standing)) lines (ends reply) → HandlesAfter c reply
   at_keeping (line ∷ lines) reply own leads = absurd leads
-  at_keeping [] reply own leads = subst (HandlesAfter c) (same_reply (kept standing) reply leads) (nothing_more (actor_of c) c.window (begin_of c) own)
+  at_keeping [] reply own leads = subst (HandlesAfter c) (same_reply (kept standing) reply leads) (nothing_more others_handles_stay (actor_of c) c.window (begin_of c) own)
 
   by_owner : (b : Bool) (lines : List Line) (reply : Reply) → own_events (actor_of c) c.window ≡ events_of (actor_of c) lines
       → LeadsTo c.below (if b then more (releasing standing.handle) else ends (kept standing)) lines (ends reply) → HandlesAfter c reply

@@ -1,7 +1,6 @@
 -- An actor's own events in a legal history, among those of others.
 use Rattle.std.specs.Prelude.{◌≡◌, ℕ, ◌==◌, List, [], ◌∷◌, Bool, true, false, refl}
 use Rattle.std.proofs.Common.{sym, subst, ◌∙◌}
-use Rattle.std.proofs.lemmas.Bool.{eqb-false}
 use Rattle.tree_model.specs.declared.answer.Answer.{Answer}
 use Rattle.tree_model.specs.declared.answer.Event.{Event}
 use Rattle.tree_model.specs.declared.step.StepOf.{StepOf}
@@ -10,25 +9,13 @@ use Rattle.tree_model.specs.Steps.{outcome, held}
 use Rattle.tree_model.specs.History.{IsLegal, after_event, after_events}
 use Rattle.tree_model.proofs.StepLaws.{others_handles_stay}
 use Rattle.step_resolver.specs.WalkHistory.{own_events}
-use Rattle.bulk_ops.proofs.OwnEvents.{own_first, own_later, cons_not_nil, same_head, same_tail}
+use Rattle.step_resolver.proofs.Underway.LegalHistory.{cons_not_nil, same_head, same_tail, other_keeps}
+use Rattle.bulk_ops.proofs.OwnEvents.{own_first, own_later}
 
 abbrev pub event_of : ℕ → StepOf ℕ → Answer → Event
 event_of a step answer = record { actor = a; step = step; answer = answer }
 
 module _ (a : ℕ) where
-  other_keeps : (s : State) (event : Event) → (event.actor == a) ≡ false → (h : ℕ) → held (after_event s event) a h ≡ held s a h
-  other_keeps s event e h = others_handles_stay s event.actor event.step a h (λ q. eqb-false event.actor a e (sym q))
-
-  -- while the actor does nothing its handles stay
-  pub nothing_more : (window : List Event) (s : State) → own_events a window ≡ [] → (h : ℕ) → held (after_events s window) a h ≡ held s a h
-  nothing_more [] s e h = refl
-  nothing_more (event ∷ rest) s e h = on (event.actor == a) refl (λ own. nothing_more rest (after_event s event) own h)
-    where
-      on : (b : Bool) → (event.actor == a) ≡ b → (own_events a rest ≡ [] → held (after_events (after_event s event) rest) a h ≡ held (after_event s event) a h)
-          → held (after_events (after_event s event) rest) a h ≡ held s a h
-      on true q later = absurd (cons_not_nil event (own_events a rest) (sym (own_first a event rest q) ∙ e))
-      on false q later = later (sym (own_later a event rest q) ∙ e) ∙ other_keeps s event q h
-
   -- the actor's next event, and what is left after it
   pub record NextOwn (s : State) (window : List Event) (step : StepOf ℕ) (answer : Answer) (others : List Event) : Type 0 where
     pub at : State
@@ -53,7 +40,7 @@ module _ (a : ℕ) where
   made_later s event rest step answer others q next = record {
     at = next.at;
     rest = next.rest;
-    kept = λ h. next.kept h ∙ other_keeps s event q h;
+    kept = λ h. next.kept h ∙ other_keeps others_handles_stay a s event q h;
     told = next.told;
     legal = next.legal;
     own = next.own;

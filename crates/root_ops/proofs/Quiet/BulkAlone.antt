@@ -16,16 +16,16 @@ use Rattle.tree_model.specs.History.{IsLegal, after_events}
 use Rattle.walk_plan.specs.declared.goal.Goal.{Goal}
 use Rattle.walk_plan.specs.declared.goal.Goal.TheVariants.{Follow, Deepest}
 use Rattle.step_resolver.specs.Asked.{AskedPart, Cur, Up, Named}
-use Rattle.step_resolver.specs.Meaning.{Meant, object, resolution, reading_means, reading_deepest, is_too_long}
+use Rattle.step_resolver.specs.Meaning.{resolution, reading_deepest, is_too_long}
 use Rattle.step_resolver.specs.Meaning as meant_path
-use Rattle.step_resolver.specs.Order.{Way, Handle, Line, answered, no_room, not_made, events_of, IsWant}
+use Rattle.step_resolver.specs.Order.{Way, Handle, Line, answered, no_room, not_made, events_of}
 use Rattle.step_resolver.specs.Order as walk
 use Rattle.step_resolver.specs.View.{way_from}
 use Rattle.step_resolver.specs.Footprint.{is_want}
 use Rattle.step_resolver.specs.Failures.{TellsError}
 use Rattle.step_resolver.specs.Headline.{IsNewHandle}
 use Rattle.step_resolver.specs.WalkHistory.{WalkInHistory, IsWalkInHistory}
-use Rattle.step_resolver.proofs.DrivenWalks.{all_own}
+use Rattle.step_resolver.proofs.DrivenWalks.{all_own, by_own}
 use Rattle.step_resolver.proofs.Ends.EveryWalk.{walks_tell}
 use Rattle.bulk_ops.specs.declared.remove_all.clearing.TheConstants.{CLEARING_STEPS_MAX}
 use Rattle.bulk_ops.specs.MakeAllOrder as make
@@ -38,7 +38,7 @@ use Rattle.bulk_ops.specs.RemoveAllTells as clear_tells
 use Rattle.bulk_ops.specs.RemoveAllTells.{TellsFault, Parts, TellsWalkFailed, TellsGivenUp}
 use Rattle.bulk_ops.specs.RemoveAllQuiet.{cleared, cleared_rows, is_short, IsFoundAt, QuietRemoved, QuietFailed, MeansFailure, MeansNoDirectory}
 use Rattle.bulk_ops.proofs.MakeAllEnds.{makes_tell}
-use Rattle.bulk_ops.proofs.MakingAlone.WalkFirst.{by_own, nothing_made, quiet_makes_mean}
+use Rattle.bulk_ops.proofs.MakingAlone.WalkFirst.{nothing_made, quiet_makes_mean}
 use Rattle.bulk_ops.proofs.RemovingAll.EachEnd.{every_call_tells}
 use Rattle.bulk_ops.proofs.RemovingAll.Quiet.Whole.{quiet_remove_all, found, partly, nothing_cleared, window_is}
 use Rattle.root_ops.specs.Meaning.{Caller, Whole, is_open, counts, fails, made, makes_along, clears as clears_in, unless_error, directory_of}

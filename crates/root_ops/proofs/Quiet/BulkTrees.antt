@@ -1,7 +1,6 @@
 -- What the bulk calls mean leads from a tree to a tree.
 use Rattle.std.proofs.Common.{◌≡◌, ℕ, suc, List, [], ◌∷◌, ◌++◌, ◌&&◌, Bool, true, false, not, if◌then◌else◌, length, Option, Some, None, is_some, refl, sym, ap, ◌∙◌, subst, arith, append_assoc}
-use Rattle.std.specs.Prelude.{is_none}
-use Rattle.std.proofs.lemmas.Bool.{false≢true}
+use Rattle.std.proofs.lemmas.Bool.{and_parts}
 use Rattle.std.proofs.lemmas.Option.{none-some}
 use Rattle.path_text.specs.declared.errno.Errno.{Errno}
 use Rattle.path_text.specs.declared.errno.Errno.TheVariants.{Raced, NotDir}
@@ -16,6 +15,7 @@ use Rattle.tree_model.proofs.Changed.{Grows-append}
 use Rattle.tree_model.proofs.Children.{place_at-no_child}
 use Rattle.tree_model.proofs.Hanging.{Rooted-not_gone, IsTree-made}
 use Rattle.tree_model.proofs.Standing.{Under-child, not_under, Stands-names_below}
+use Rattle.tree_model.proofs.TreeTests.{none_from}
 use Rattle.step_resolver.specs.Asked.{AskedPart}
 use Rattle.step_resolver.specs.Meaning.{Ground, Deep, whole, up_to, none, is_too_long, reading_deepest}
 use Rattle.bulk_ops.specs.MakeAllOrder.{rest_fault, rest_names}
@@ -52,18 +52,6 @@ abbrev pub nodes_of : List Inode → MakeMeant → List Inode
 nodes_of nodes (refuses error) = nodes
 nodes_of nodes (gives x after) = after
 
-left_true : (a b : Bool) → (a && b) ≡ true → a ≡ true
-left_true true b e = refl
-left_true false b e = absurd (false≢true e)
-
-right_true : (a b : Bool) → (a && b) ≡ true → b ≡ true
-right_true true b e = e
-right_true false b e = absurd (false≢true e)
-
-is_missing_name : (o : Option ℕ) → is_none o ≡ true → o ≡ None
-is_missing_name None e = refl
-is_missing_name (Some x) e = absurd (false≢true e)
-
 rest_grown : (g : Ground) (d : ℕ) (rest : List AskedPart) (why : Option Errno) → IsFirst g d rest → IsGrown g.nodes (nodes_of g.nodes (rest_means g.nodes d why (rest_names rest)))
 rest_grown g d rest (Some fault) first = grown_same g.nodes
 rest_grown g d rest None first = on (is_gone g.nodes d) refl
@@ -72,8 +60,9 @@ rest_grown g d rest None first = on (is_gone g.nodes d) refl
         → IsGrown g.nodes (nodes_of g.nodes (if b then refuses Raced else gives (last_of (length g.nodes) d (rest_names rest)) (g.nodes ++ chain_of (length g.nodes) d (rest_names rest))))
     on true e = grown_same g.nodes
     on false e =
-        let tests = is_missing_name (child g.nodes d first.name) (right_true (is_dir g.nodes d && not (is_too_long first.name)) _ first.missing) in
-        let dir = left_true (is_dir g.nodes d) _ (left_true (is_dir g.nodes d && not (is_too_long first.name)) _ first.missing) in
+        let both = and_parts (is_dir g.nodes d && not (is_too_long first.name)) _ first.missing in
+        let tests = none_from (child g.nodes d first.name) both.1 in
+        let dir = (and_parts (is_dir g.nodes d) _ both.0).0 in
         record {
           tree = λ t. subst (λ ps. IsTree (g.nodes ++ chain_of (length g.nodes) d (rest_names ps))) (sym first.begins_with)
               (chain_tree g.nodes d first.name (rest_names first.others) t dir e tests);

@@ -1,5 +1,5 @@
 -- Every operation, where nobody else acts: alone in a history, and then in any window in which no other's event stands.
-use Rattle.std.proofs.Common.{◌≡◌, ◌⊎◌, inl, inr, ℕ, suc, List, [], ◌∷◌, Bool, true, false, cond, if◌then◌else◌, Option, Some, None, Result, Ok, Err, slice_get, slice_set, refl, sym, ap, ◌∙◌, subst, eq-eqb}
+use Rattle.std.proofs.Common.{◌≡◌, ◌⊎◌, inl, inr, ℕ, List, [], ◌∷◌, Bool, true, false, if◌then◌else◌, Option, Some, None, Result, Ok, Err, slice_get, slice_set, refl, sym, ap, ◌∙◌, subst}
 use Rattle.path_text.specs.declared.errno.Errno.{Errno}
 use Rattle.path_text.specs.declared.errno.Errno.TheVariants.{NoMemory, BadHandle, Invalid}
 use Rattle.path_text.specs.declared.path.Split.{Split}
@@ -9,7 +9,6 @@ use Rattle.path_text.specs.Text.{text_fault, reading_of}
 use Rattle.path_text.specs.Split.{split_of}
 use Rattle.tree_model.specs.declared.answer.Answer.{Answer}
 use Rattle.tree_model.specs.declared.answer.Answer.TheVariants as answer
-use Rattle.tree_model.specs.declared.answer.Event.{Event}
 use Rattle.tree_model.specs.declared.step.StepOf.{StepOf}
 use Rattle.tree_model.specs.declared.step.StepOf.TheVariants.{Close}
 use Rattle.tree_model.specs.State.{State}
@@ -23,7 +22,6 @@ use Rattle.handles.specs.Objects.{StandingObject}
 use Rattle.walk_plan.specs.declared.goal.Goal.TheVariants.{Follow, NoFollow}
 use Rattle.step_resolver.specs.Meaning.{resolution, resolves}
 use Rattle.step_resolver.specs.Order.{Line, answered, no_room, not_made, events_of}
-use Rattle.step_resolver.specs.WalkHistory.{own_events}
 use Rattle.root_ops.specs.declared.aim.Change.{Change}
 use Rattle.root_ops.specs.declared.aim.Change.TheVariants as change
 use Rattle.root_ops.specs.declared.aim.Wanted.TheVariants as wants
@@ -38,6 +36,7 @@ use Rattle.root_ops.specs.Quiet.{IsReply, IsDone, ComesTo, MadePart, ClearedPart
 use Rattle.root_ops.proofs.Quiet.BulkAlone.{makes_alone, clears_alone, nothing_made_yet}
 use Rattle.bulk_ops.specs.MakeAllOrder as make
 use Rattle.bulk_ops.specs.MakeAllQuiet.{IsPart}
+use Rattle.bulk_ops.proofs.OwnEvents.{all_own}
 use Rattle.root_ops.specs.StepCount.{is_bulk}
 use Rattle.root_ops.proofs.Quiet.WalksAlone.{HasRoot}
 use Rattle.root_ops.proofs.Quiet.StepsAlone.{fails_alone, runs_short, Acts, acts_alone}
@@ -293,13 +292,6 @@ module _ (c : Caller) (has : HasRoot c.tree c.actor c.below.root.handle c.root) 
   alone false (Release standing) lines open_only leads legal = without_memory (Release standing) lines refl open_only leads legal
 
 -- ---- in any window
-
--- where no other acts, all events are the actor's
-all_own : (a : ℕ) (events : List Event) → ((t : ℕ) (event : Event) → slice_get events t ≡ Some event → event.actor ≡ a) → own_events a events ≡ events
-all_own a [] own = refl
-all_own a (event ∷ events) own =
-    ap (λ b. cond b (event ∷ own_events a events) (own_events a events)) (eq-eqb event.actor a (own 0 event refl))
-    ∙ ap (λ es. event ∷ es) (all_own a events (λ t e is. own (suc t) e is))
 
 pub quiet_calls_mean : QuietCallsMean
 quiet_calls_mean c reply is leads quiet open_only =

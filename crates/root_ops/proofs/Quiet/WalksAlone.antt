@@ -15,18 +15,18 @@ use Rattle.tree_model.specs.History.{IsLegal, after_events}
 use Rattle.tree_model.proofs.HistoryLaws.{legal_histories_join, histories_keep_trees}
 use Rattle.step_resolver.specs.Asked.{AskedPart, follows, is_deepest}
 use Rattle.step_resolver.specs.Meaning.{Meant, object, fails, resolution, reading_means}
-use Rattle.step_resolver.specs.Order.{Way, Handle, Walking, Turn, more, found, partial, failed, Line, answered, no_room, not_made, events_of}
+use Rattle.step_resolver.specs.Order.{Way, Handle, Turn, more, found, partial, failed, Line, answered, no_room, not_made, events_of}
 use Rattle.step_resolver.specs.Order as walk
 use Rattle.step_resolver.specs.Footprint.{is_want, is_for_want, IsMeant, IsEnd}
 use Rattle.step_resolver.specs.Failures.{TellsWant, MetRefusal, TellsError}
 use Rattle.step_resolver.specs.Headline.{IsNewHandle, Tells}
 use Rattle.step_resolver.specs.FootprintLaws.{IsQuietEnd}
 use Rattle.step_resolver.specs.WalkHistory.{WalkInHistory, IsWalkInHistory}
-use Rattle.step_resolver.proofs.DrivenWalks.{joined_events, all_own}
+use Rattle.step_resolver.proofs.DrivenWalks.{joined_events, all_own, by_own}
 use Rattle.step_resolver.proofs.Ends.EntriesLeftAlone.{lines_only_tell}
 use Rattle.step_resolver.proofs.Ends.EveryWalk.{walks_tell}
 use Rattle.step_resolver.proofs.Ends.WalksMean.{quiet_walks_mean}
-use Rattle.bulk_ops.proofs.MakingAlone.WalkFirst.{by_own, telling_leaves}
+use Rattle.bulk_ops.proofs.MakingAlone.WalkFirst.{telling_leaves}
 use Rattle.root_ops.specs.declared.aim.Aim.{Aim}
 use Rattle.root_ops.specs.declared.below.Below.{Below}
 use Rattle.root_ops.specs.Meaning as meaning

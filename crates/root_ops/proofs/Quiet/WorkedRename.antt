@@ -1,13 +1,12 @@
 -- The worked rename, computed, and what it comes to by the law.
 use Rattle.std.specs.Prelude.{refl}
 use Rattle.tree_model.proofs.TreeTests.{IsState-from_test}
-use Rattle.step_resolver.proofs.DrivenWalks.{all_own}
+use Rattle.step_resolver.proofs.DrivenWalks.{all_own, by_own}
 use Rattle.root_ops.specs.CallHistory.{IsCallInHistory, RepliesWith}
 use Rattle.root_ops.specs.MeaningWorked.{CALLER}
 use Rattle.root_ops.specs.Order.{done}
 use Rattle.root_ops.specs.Quiet.{IsQuiet, ClosesWhatIsOpen}
 use Rattle.root_ops.specs.QuietWorked.{rename_lines, rename_call, RenameIsWorked}
-use Rattle.bulk_ops.proofs.MakingAlone.WalkFirst.{by_own}
 use Rattle.root_ops.proofs.Quiet.CallsAlone.{quiet_calls_mean}
 
 called : IsCallInHistory rename_call

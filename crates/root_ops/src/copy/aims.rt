@@ -2,9 +2,8 @@
 ghost use Rattle.std.specs.Prelude.{◌≡◌, IfOk};
 
 use crate::aim::{Aim, Change, Renaming};
-use path_text::{NoMemory, Parts, Path};
+use path_text::{NoMemory, Path};
 use std::alloc::Global;
-use walk_plan::copy_parts;
 
 impl Aim {
     // An equal aim.
@@ -56,10 +55,9 @@ impl Renaming {
 fn copy_path(alloc: Global, path: &Path) -> Result<Path, NoMemory>
     ensures { IfOk result (λ copy. copy ≡ path.now) }
 {
-    let parts = copy_parts(alloc, path.parts.as_slice())?;
     Ok(Path {
         absolute: path.absolute,
-        parts: Parts::from_vec(parts),
+        parts: path.parts.copy(alloc)?,
         slash: path.slash,
     })
 }

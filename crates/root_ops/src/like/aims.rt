@@ -3,43 +3,14 @@ ghost use Rattle.std.specs.Prelude.{◌≡◌, ◌++◌, ◌↔◌, IsTrue, IfOk
 ghost use Rattle.root_ops.specs.Renamed.{aim_by, aim_handles};
 
 use crate::aim::{Aim, Change, Renaming};
-use path_text::{NoMemory, Part, Path};
+use path_text::{NoMemory, Path};
 use tree_model::HandleNo;
-
-// Whether the parts are equal.
-fn same_part(part: &Part, other: &Part) -> bool
-    ensures { IsTrue result ↔ (part.now ≡ other.now) }
-{
-    match (part, other) {
-        (Part::Cur, Part::Cur) => true,
-        (Part::Up, Part::Up) => true,
-        (Part::Named(name), Part::Named(n)) => name.bytes() == n.bytes(),
-        _ => false,
-    }
-}
-
-// Whether the parts are equal, one by one.
-fn same_parts(parts: &[Part], others: &[Part]) -> bool
-    ensures { IsTrue result ↔ (parts.now ≡ others.now) }
-{
-    if parts.len() != others.len() {
-        return false;
-    }
-    for (at, part) in parts.iter().enumerate() {
-        if !same_part(part, &others[at]) {
-            return false;
-        }
-    }
-    true
-}
 
 // Whether the paths are equal.
 fn same_path(path: &Path, other: &Path) -> bool
     ensures { IsTrue result ↔ (path.now ≡ other.now) }
 {
-    path.absolute == other.absolute
-        && path.slash == other.slash
-        && same_parts(path.parts.as_slice(), other.parts.as_slice())
+    path.absolute == other.absolute && path.slash == other.slash && path.parts.same(&other.parts)
 }
 
 // Whether the changes are equal.

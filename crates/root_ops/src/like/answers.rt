@@ -63,7 +63,7 @@ pub fn like_standings(standing: &Standing, other: &Standing) -> bool
 }
 
 // Whether the replies of these objects, opened, are the same but for the handle's number: they don't tell the owner.
-#[tactic(auto, using(crate::proofs::Reversed::same_reversed))]
+#[tactic(auto, using(step_resolver::proofs::Underway::AfterParent::reversed_same))]
 fn like_opened(standing: &Standing, other: &Standing) -> bool
     ensures { IsTrue result
         ↔ (reply_by (λ h. 0) (opened (standing_handle standing.now) (reverse standing.now.names))

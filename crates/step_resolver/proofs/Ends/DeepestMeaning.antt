@@ -1,5 +1,5 @@
 -- The same for the deepest directory: the caller's own parts one by one.
-use Rattle.std.specs.Prelude.{◌≡◌, ℕ, ◌≤◌, ◌&&◌, ◌⊎◌, List, [], ◌∷◌, ◌++◌, Bool, true, false, not, if◌then◌else◌, Option, Some, None, is_none, refl}
+use Rattle.std.specs.Prelude.{◌≡◌, ℕ, ◌≤◌, ◌&&◌, ◌⊎◌, List, [], ◌∷◌, ◌++◌, Bool, true, false, not, if◌then◌else◌, Some, None, is_none, refl}
 use Rattle.std.proofs.Common.{sym, ap, subst, ◌∙◌, le_refl, le_trans, append_assoc, append-nil, inl, inr}
 use Rattle.std.proofs.lemmas.Bool.{false≢true, and_from, and_parts}
 use Rattle.std.proofs.lemmas.Option.{none-some}
@@ -9,6 +9,7 @@ use Rattle.path_text.specs.Text.{begins_with_slash}
 use Rattle.tree_model.specs.declared.inode.Object.{Object}
 use Rattle.tree_model.specs.State.{child, is_dir, is_directory}
 use Rattle.tree_model.specs.declared.inode.Place.{Place}
+use Rattle.tree_model.proofs.TreeTests.{none_from}
 use Rattle.walk_plan.specs.declared.goal.Goal.{Goal}
 use Rattle.walk_plan.specs.declared.goal.Goal.TheVariants.{Follow, NoFollow, Deepest}
 use Rattle.walk_plan.specs.Plan.{leads_out}
@@ -37,10 +38,6 @@ alone_in : (w : Setting) (m : Meant) (onward : ℕ → ℕ → Deep) → AllAlon
 alone_in w (object d b reads) onward a = alone_first w reads (deep_reads (onward d b)) (all_after w reads (onward d b) a)
 alone_in w (fails error reads) onward a = a
 
-is_none-true : {A : Type 0} (o : Option A) → is_none o ≡ true → o ≡ None
-is_none-true None e = refl
-is_none-true (Some x) e = cc (e)
-
 -- the deepest directory follows the last link
 pub follows_deepest : (goal : Goal) → is_deepest goal ≡ true → follows goal ≡ true
 follows_deepest Follow e = refl
@@ -57,7 +54,7 @@ module _ {w : WalkInHistory} (fits : Fits (setting w)) where
   missing_is d f name e =
       let outer = and_parts (is_dir (begin_of w).nodes d && not (is_too_long name)) (is_none (child (begin_of w).nodes d name)) e in
       let inner = and_parts (is_dir (begin_of w).nodes d) (not (is_too_long name)) outer.0 in
-      (inner.0, (inner.1, is_none-true (child (begin_of w).nodes d name) outer.1))
+      (inner.0, (inner.1, none_from (child (begin_of w).nodes d name) outer.1))
 
   -- what was there at any moment isn't missing
   not_missing : (d : ℕ) (f : Bool) (name : List ℕ) (t c : ℕ) → child ((timeline w).nodes_at t) d name ≡ Some c → AllAlone (setting w) (record { parent = d; name = name } ∷ [])

@@ -1,11 +1,12 @@
 -- The deepest directory: it is exactly the caller's front and rest, and has the meaning of the whole where that means an object or fails elsewhere.
-use Rattle.std.proofs.Common.{◌≡◌, ℕ, ◌&&◌, Bool, true, false, not, cond, is_none, List, [], ◌∷◌, ◌++◌, Option, Some, None, refl, sym, ap, ◌∙◌, subst, append_assoc}
+use Rattle.std.proofs.Common.{◌≡◌, ℕ, ◌&&◌, Bool, true, false, not, cond, is_none, List, [], ◌∷◌, ◌++◌, None, refl, sym, ap, ◌∙◌, subst, append_assoc}
 use mathlib.Core.Path.{fun_ext}
 use Rattle.std.proofs.lemmas.Bool.{false≢true, and_parts, not-true, cond-true, cond-false}
 use Rattle.path_text.specs.declared.errno.Errno.{Errno}
 use Rattle.path_text.specs.declared.errno.Errno.TheVariants.{NotFound, NotDir, TooLong}
 use Rattle.tree_model.specs.State.{child, is_dir}
 use Rattle.tree_model.specs.declared.inode.Place.{Place}
+use Rattle.tree_model.proofs.TreeTests.{none_from}
 use Rattle.step_resolver.specs.Asked.{AskedPart, Cur, Up, Named}
 use Rattle.step_resolver.specs.Meaning.{Ground, Meant, object, fails, after_reads, and_then, is_too_long, Deeper, named, one_part, part_means, parts_mean, means, Deep, whole, up_to, none, is_missing, entries_of, deep_after, and_then_deep, deepest, reads_of, deep_reads}
 use Rattle.step_resolver.specs.MeaningLaws.{IsFrontAndRest, IsDeepest, DeepestIsFrontAndRest, meant_by, DeepestMeansTheSame}
@@ -52,10 +53,6 @@ reads_of-meant_by (none error reads) = refl
 
 -- ---- a part that is missing
 
-is_none-true : (o : Option ℕ) → is_none o ≡ true → o ≡ None
-is_none-true None e = refl
-is_none-true (Some x) e = absurd (false≢true e)
-
 pub record Missing (g : Ground) (d : ℕ) (n : List ℕ) : Type 0 where
   pub dir : is_dir g.nodes d ≡ true
   pub short : is_too_long n ≡ false
@@ -65,7 +62,7 @@ pub missing_parts : (g : Ground) (d : ℕ) (follow : Bool) (n : List ℕ) → is
 missing_parts g d follow n e =
     let last = and_parts (is_dir g.nodes d && not (is_too_long n)) (is_none (child g.nodes d n)) e in
     let first = and_parts (is_dir g.nodes d) (not (is_too_long n)) last.0 in
-    record { dir = first.0; short = not-true (is_too_long n) first.1; child = is_none-true (child g.nodes d n) last.1 }
+    record { dir = first.0; short = not-true (is_too_long n) first.1; child = none_from (child g.nodes d n) last.1 }
 
 part_means-missing : (deeper : Deeper) (g : Ground) (d : ℕ) (follow : Bool) (n : List ℕ) (b : ℕ) → Missing g d n
     → part_means deeper g d (Named follow n) b ≡ fails NotFound (record { parent = d; name = n } ∷ [])

@@ -140,7 +140,7 @@ link_followed g d text (suc b) h allowed within =
 
 -- ---- pieces
 
-slice_get-some : {A : Type 0} (xs : List A) (at : ℕ) → at < length xs → (x : A) × (slice_get xs at ≡ Some x)
+pub slice_get-some : {A : Type 0} (xs : List A) (at : ℕ) → at < length xs → (x : A) × (slice_get xs at ≡ Some x)
 slice_get-some [] at h = absurd (omega arith)
 slice_get-some (x ∷ xs) at h = (get_or (x ∷ xs) at x, slice_get-get_or (x ∷ xs) at x h)
 

@@ -24,7 +24,7 @@ use Rattle.step_resolver.proofs.Underway.NextPart.{gave_up, closes_good}
 use Rattle.step_resolver.proofs.Underway.HandlesHeld.{kept_on, more_on, position_kept, position_less}
 use Rattle.step_resolver.proofs.Underway.AfterParent.{judged_good}
 
-ends_later : {w : WalkInHistory} {m k : ℕ} {to : Spot} {rest : List AskedPart} → m ≤ k → EndsAt w m to rest → EndsAt w k to rest
+pub ends_later : {w : WalkInHistory} {m k : ℕ} {to : Spot} {rest : List AskedPart} → m ≤ k → EndsAt w m to rest → EndsAt w k to rest
 ends_later le (at_all e) = at_all e
 ends_later le (at_missing deep follow n others e short first missing past) = at_missing deep follow n others e short first missing (le_trans past le)
 

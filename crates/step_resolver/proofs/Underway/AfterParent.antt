@@ -16,6 +16,8 @@ use Rattle.tree_model.specs.declared.step.StepOf.TheVariants.{Parent, NameBelow}
 use Rattle.tree_model.specs.State.{TOP, object_at, place_at, parent, is_directory, Stands, names_below}
 use Rattle.tree_model.specs.Steps.{outcome, opens, shows, kind_of}
 use Rattle.tree_model.specs.Trees.{IsTree}
+use Rattle.tree_model.proofs.Standing.{Stands-names_below}
+use Rattle.tree_model.proofs.PlaceLaws.{below_is}
 use Rattle.handles.proofs.SameNames.{same_where_equal}
 use Rattle.step_resolver.specs.Asked.{AskedPart, Up}
 use Rattle.step_resolver.specs.Trail.{climb, IsOwnFrom}
@@ -23,15 +25,14 @@ use Rattle.step_resolver.specs.Order.{Handle, holds, todo, judges, rising, judgi
 use Rattle.step_resolver.specs.WalkHistory.{WalkInHistory, state_at, timeline}
 use Rattle.step_resolver.specs.Failures.{MetRefusal}
 use Rattle.step_resolver.proofs.Trail.Joined.{own_earlier}
-use Rattle.step_resolver.proofs.Meaning.NodesAtEntries.{names_below-stands}
-use Rattle.step_resolver.proofs.Underway.StepOutcomes.{Opening, too_many, no_object, is_opened, opening_of, ParentCase, not_dir, no_parent, at_parent, parent_case, below_is}
+use Rattle.step_resolver.proofs.Underway.StepOutcomes.{Opening, too_many, no_object, is_opened, opening_of, ParentCase, not_dir, no_parent, at_parent, parent_case}
 use Rattle.step_resolver.proofs.Underway.WalkInvariant.{Lived, StepAt, held_at, HandlesAre, handles_kept, handles_more, root_open, IsHeld, held_kept, old_is_other, dir_at, spot_at, Going, stop_at, passed_on, GoodRising, GoodJudging, Good}
 use Rattle.step_resolver.proofs.Underway.HandleCount.{few_held, refusal_told}
 use Rattle.step_resolver.proofs.Underway.NextPart.{gave_up, goes_on_good, closes_good}
 use Rattle.step_resolver.proofs.Underway.HandlesHeld.{handles_swapped, kept_on, more_on}
 
 -- what a parent is told to be is something
-parent_is_something : (nodes : List Inode) → IsTree nodes → (x e : ℕ) → parent nodes x ≡ Some e → object_at nodes e ≡ None → ⊥
+pub parent_is_something : (nodes : List Inode) → IsTree nodes → (x e : ℕ) → parent nodes x ≡ Some e → object_at nodes e ≡ None → ⊥
 parent_is_something nodes is x e p none = on (x == TOP) refl
   where
     parent_of : Bool → Option ℕ
@@ -76,7 +77,7 @@ judged_good {w} lived m u handle names turn answer is root_is handle_is taken on
         → (b : Bool) → same_names (reverse told) (reverse names) ≡ b → Good w (suc u) (judged handle names (reverse told) turn)
     on_test told q kept true e =
         subst (Good w (suc u)) (sym (ap (judged_as told) e))
-        (stood (names_below-stands (state_at w u).nodes w.root handle.node names
+        (stood (Stands-names_below (state_at w u).nodes w.root handle.node names
         (q ∙ ap Some (reversed_same told names (names_same (reverse told) (reverse names) e)))) kept)
     on_test told q kept false e =
         subst (Good w (suc u)) (sym (ap (judged_as told) e))

@@ -63,19 +63,19 @@ lived laws w is = record {
 -- ---- the walk's lines in the window
 
 -- these events are what is left of the window at moment m, in the state as it is then
-record IsRest (w : WalkInHistory) (m : ℕ) (s : State) (rest : List Event) : Type 0 where
+pub record IsRest (w : WalkInHistory) (m : ℕ) (s : State) (rest : List Event) : Type 0 where
   pub states : (j k : ℕ) → j ≡ m + k → state_at w j ≡ tree_at s rest k
   pub events : (j k : ℕ) → j ≡ m + k → slice_get w.window j ≡ slice_get rest k
   pub ends : end_of w ≡ after_events s rest
 
-one_less : {w : WalkInHistory} {m : ℕ} {s : State} {event : Event} {rest : List Event} → IsRest w m s (event ∷ rest) → IsRest w (suc m) (after_event s event) rest
+pub one_less : {w : WalkInHistory} {m : ℕ} {s : State} {event : Event} {rest : List Event} → IsRest w m s (event ∷ rest) → IsRest w (suc m) (after_event s event) rest
 one_less is = record {
   states = λ j k e. is.states j (suc k) (omega arith);
   events = λ j k e. is.events j (suc k) (omega arith);
   ends = is.ends;
 }
 
-cons_not_nil : {A : Type 0} (x : A) (xs : List A) → x ∷ xs ≡ [] → ⊥
+pub cons_not_nil : {A : Type 0} (x : A) (xs : List A) → x ∷ xs ≡ [] → ⊥
 cons_not_nil x xs e = cc (e)
 
 head_of : {A : Type 0} → A → List A → A
@@ -86,11 +86,11 @@ tail_of : {A : Type 0} → List A → List A
 tail_of [] = []
 tail_of (x ∷ xs) = xs
 
-same_head : {A : Type 0} (x y : A) (xs ys : List A) → x ∷ xs ≡ y ∷ ys → x ≡ y
+pub same_head : {A : Type 0} (x y : A) (xs ys : List A) → x ∷ xs ≡ y ∷ ys → x ≡ y
 unfolding head_of
 same_head x y xs ys e = ap (head_of x) e
 
-same_tail : {A : Type 0} (x y : A) (xs ys : List A) → x ∷ xs ≡ y ∷ ys → xs ≡ ys
+pub same_tail : {A : Type 0} (x y : A) (xs ys : List A) → x ∷ xs ≡ y ∷ ys → xs ≡ ys
 unfolding tail_of
 same_tail x y xs ys e = ap tail_of e
 
@@ -105,22 +105,34 @@ record IsNext (w : WalkInHistory) (n : ℕ) (step : StepOf ℕ) (answer : Answer
   pub own : own_events w.actor rest ≡ others
   pub kept : (h : ℕ) → held state w.actor h ≡ held_at w (suc t) h
 
+-- a step of another leaves the actor's handles
+pub other_keeps : OthersHandlesStay → (a : ℕ) (s : State) (event : Event) → (event.actor == a) ≡ false → (h : ℕ) → held (after_event s event) a h ≡ held s a h
+other_keeps others a s event e h = others s event.actor event.step a h (λ q. eqb-false event.actor a e (sym q))
+
+-- while the actor does nothing its handles stay
+pub nothing_more : OthersHandlesStay → (a : ℕ) (rest : List Event) (s : State) → own_events a rest ≡ [] → (h : ℕ) → held (after_events s rest) a h ≡ held s a h
+nothing_more others a [] s e h = refl
+nothing_more others a (event ∷ rest) s e h = on (event.actor == a) refl (λ q. nothing_more others a rest (after_event s event) q h)
+  where
+    on : (b : Bool) → (event.actor == a) ≡ b
+        → (own_events a rest ≡ [] → held (after_events (after_event s event) rest) a h ≡ held (after_event s event) a h)
+        → held (after_events (after_event s event) rest) a h ≡ held s a h
+    on true q more = absurd (cons_not_nil event (own_events a rest) (sym (ap (λ b. cond b (event ∷ own_events a rest) (own_events a rest)) q) ∙ e))
+    on false q more =
+        more (sym (ap (λ b. cond b (event ∷ own_events a rest) (own_events a rest)) q) ∙ e) ∙ other_keeps others a s event q h
+
+-- at the beginning all of the window is left
+pub whole_rest : (w : WalkInHistory) → IsRest w 0 (begin_of w) w.window
+whole_rest w = record {
+  states = λ j k e. ap (state_at w) (same_number j k e);
+  events = λ j k e. ap (slice_get w.window) (same_number j k e);
+  ends = refl;
+}
+  where
+    same_number : (j k : ℕ) → j ≡ 0 + k → j ≡ k
+    same_number j k e = omega arith
+
 module _ (laws : TreeLaws) (w : WalkInHistory) where
-  -- a step of another leaves the actor's handles
-  other_keeps : (s : State) (event : Event) → (event.actor == w.actor) ≡ false → (h : ℕ) → held (after_event s event) w.actor h ≡ held s w.actor h
-  other_keeps s event e h = laws.others s event.actor event.step w.actor h (λ q. eqb-false event.actor w.actor e (sym q))
-
-  nothing_more : (rest : List Event) (s : State) → own_events w.actor rest ≡ [] → (h : ℕ) → held (after_events s rest) w.actor h ≡ held s w.actor h
-  nothing_more [] s e h = refl
-  nothing_more (event ∷ rest) s e h = on (event.actor == w.actor) refl (λ q. nothing_more rest (after_event s event) q h)
-    where
-      on : (b : Bool) → (event.actor == w.actor) ≡ b
-          → (own_events w.actor rest ≡ [] → held (after_events (after_event s event) rest) w.actor h ≡ held (after_event s event) w.actor h)
-          → held (after_events (after_event s event) rest) w.actor h ≡ held s w.actor h
-      on true q more = absurd (cons_not_nil event (own_events w.actor rest) (sym (ap (λ b. cond b (event ∷ own_events w.actor rest) (own_events w.actor rest)) q) ∙ e))
-      on false q more =
-          more (sym (ap (λ b. cond b (event ∷ own_events w.actor rest) (own_events w.actor rest)) q) ∙ e) ∙ other_keeps s event q h
-
   next_event : (rest : List Event) (m n : ℕ) (s : State) (step : StepOf ℕ) (answer : Answer) (others : List Event) → n ≤ m → IsRest w m s rest → IsLegal s rest
       → ((h : ℕ) → held s w.actor h ≡ held_at w n h)
       → own_events w.actor rest ≡ record { actor = w.actor; step = step; answer = answer } ∷ others → IsNext w n step answer others
@@ -163,11 +175,11 @@ module _ (laws : TreeLaws) (w : WalkInHistory) where
           let f = sym (ap (λ b. cond b (event ∷ own_events w.actor rest) (own_events w.actor rest)) q) ∙ e in
           own_step q (same_head event _ (own_events w.actor rest) others f) (same_tail event _ (own_events w.actor rest) others f)
       on false q more =
-          more (λ h. other_keeps s event q h ∙ kept h) (sym (ap (λ b. cond b (event ∷ own_events w.actor rest) (own_events w.actor rest)) q) ∙ e)
+          more (λ h. other_keeps laws.others w.actor s event q h ∙ kept h) (sym (ap (λ b. cond b (event ∷ own_events w.actor rest) (own_events w.actor rest)) q) ∙ e)
 
   happen : (lines : List Line) (rest : List Event) (m n : ℕ) (s : State) → n ≤ m → IsRest w m s rest → IsLegal s rest
       → ((h : ℕ) → held s w.actor h ≡ held_at w n h) → own_events w.actor rest ≡ events_of w.actor lines → Happens w n lines
-  happen [] rest m n s le is legal kept own = λ h. ap (λ x. held x w.actor h) is.ends ∙ nothing_more rest s own h ∙ kept h
+  happen [] rest m n s le is legal kept own = λ h. ap (λ x. held x w.actor h) is.ends ∙ nothing_more laws.others w.actor rest s own h ∙ kept h
   happen (answered step answer ∷ lines) rest m n s le is legal kept own =
       let next = next_event rest m n s step answer (events_of w.actor lines) le is legal kept own in
       (next.t, (next.at, happen lines next.rest (suc next.t) (suc next.t) next.state (le_refl (suc next.t)) next.is_rest next.legal next.kept next.own))
@@ -178,13 +190,4 @@ module _ (laws : TreeLaws) (w : WalkInHistory) where
 
   -- the walk's lines happen in its window
   pub lines_happen : IsWalkInHistory w → Happens w 0 w.lines
-  lines_happen is = happen w.lines w.window 0 0 (begin_of w) (le_refl 0)
-      (record {
-        states = λ j k e. ap (state_at w) (same_number j k e);
-        events = λ j k e. ap (slice_get w.window) (same_number j k e);
-        ends = refl;
-      })
-      is.legal (λ h. refl) is.own
-    where
-      same_number : (j k : ℕ) → j ≡ 0 + k → j ≡ k
-      same_number j k e = omega arith
+  lines_happen is = happen w.lines w.window 0 0 (begin_of w) (le_refl 0) (whole_rest w) is.legal (λ h. refl) is.own

@@ -17,7 +17,7 @@ use Rattle.step_resolver.specs.WalkHistory.{WalkInHistory, timeline, start}
 use Rattle.step_resolver.specs.Failures.{TellsError}
 use Rattle.step_resolver.proofs.Underway.WalkInvariant.{Lived, HandlesAre, node_at, spot_at, IsPositionHeld, Going, GoesFor, stop_at, passed_on, AllApart, handles_after, at_all, GoodAfter, Good}
 
-names_not_empty : (n : List ℕ) (ns : List (List ℕ)) → n ∷ ns ≡ [] → ⊥
+pub names_not_empty : (n : List ℕ) (ns : List (List ℕ)) → n ∷ ns ≡ [] → ⊥
 names_not_empty n ns e = cc e
 
 text_start : (b : Bool) (s : Spot) (r : ℕ) → (s.names ≡ [] → s.node ≡ r) → (if b then [] else s.names) ≡ [] → (if b then r else s.node) ≡ r
@@ -42,12 +42,12 @@ pub all_apart : (ks : List ℕ) → AllApart ks []
 all_apart [] = tt
 all_apart (k ∷ ks) = (tt, all_apart ks)
 
-no_directory : (what : Object) → is_dir_kind (kind_of what) ≡ false → is_directory (Some what) ≡ false
+pub no_directory : (what : Object) → is_dir_kind (kind_of what) ≡ false → is_directory (Some what) ≡ false
 no_directory Dir e = e
 no_directory File e = refl
 no_directory (Link text) e = refl
 
-a_directory : (what : Object) → is_dir_kind (kind_of what) ≡ true → is_directory (Some what) ≡ true
+pub a_directory : (what : Object) → is_dir_kind (kind_of what) ≡ true → is_directory (Some what) ≡ true
 a_directory Dir e = refl
 a_directory File e = e
 a_directory (Link text) e = e

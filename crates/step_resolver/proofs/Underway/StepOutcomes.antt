@@ -6,15 +6,15 @@ use Rattle.path_text.specs.declared.errno.Errno.TheVariants.{NotFound, BadHandle
 use Rattle.tree_model.specs.declared.answer.Answer.TheVariants.{Opened, Done}
 use Rattle.tree_model.specs.declared.inode.Object.{Object}
 use Rattle.tree_model.specs.declared.inode.OpenHandle.{OpenHandle}
-use Rattle.tree_model.specs.declared.step.StepOf.TheVariants.{Open, Dup, Parent, ReadLink, NameBelow, Close}
-use Rattle.tree_model.specs.State.{State, object_at, child, parent, is_dir, names_below}
-use Rattle.tree_model.specs.Steps.{Outcome, refused, outcome, opens, reads, shows, with_handle, held, node_held, is_full, kind_of}
+use Rattle.tree_model.specs.declared.step.StepOf.TheVariants.{Open, Dup, Parent, ReadLink, Close}
+use Rattle.tree_model.specs.State.{State, object_at, child, parent, is_dir}
+use Rattle.tree_model.specs.Steps.{Outcome, refused, outcome, opens, reads, with_handle, held, node_held, is_full, kind_of}
 use Rattle.tree_model.specs.Entries.{refuse_if, with_some}
 use Rattle.tree_model.proofs.Places.{slice_get-last}
 
 -- ---- handles
 
-slice_get-other : {A : Type 0} (xs : List A) (y : A) (h : ℕ) → h ≢ length xs → slice_get (xs ++ y ∷ []) h ≡ slice_get xs h
+pub slice_get-other : {A : Type 0} (xs : List A) (y : A) (h : ℕ) → h ≢ length xs → slice_get (xs ++ y ∷ []) h ≡ slice_get xs h
 slice_get-other [] y zero ne = absurd (ne refl)
 slice_get-other [] y (suc h) ne = refl
 slice_get-other (x ∷ xs) y zero ne = refl
@@ -141,9 +141,3 @@ dup_is s a h x e = ap (λ o. through_handle s o (λ y. opens s a y)) e
 
 pub read_is : (s : State) (a h x : ℕ) → held s a h ≡ Some x → outcome s a (ReadLink h) ≡ reads s (object_at s.nodes x)
 read_is s a h x e = ap (λ o. through_handle s o (λ y. reads s (object_at s.nodes y))) e
-
-pub below_is : (s : State) (a r h top x : ℕ) → held s a r ≡ Some top → held s a h ≡ Some x
-    → outcome s a (NameBelow r h) ≡ shows s (names_below s.nodes top x)
-below_is s a r h top x e f =
-    ap (λ o. through_handle s o (λ y. through_handle s (held s a h) (λ z. shows s (names_below s.nodes y z)))) e
-    ∙ ap (λ o. through_handle s o (λ z. shows s (names_below s.nodes top z))) f

@@ -39,8 +39,8 @@ fn place_again(place: &Option<Reached>) -> Option<Reached>
 }
 
 impl Walk {
-    /// An equal walk by the same handles, which goes on by itself, as on a copy of the tree. NoMemory where its room was
-    /// refused.
+    /// An equal walk by the same handles, which goes on by itself, as on a copy of the tree. NoMemory where its room
+    /// was refused.
     pub fn copy(&self, alloc: Global) -> Result<Walk, NoMemory>
         ensures { IfOk result (λ copy. copy ≡ self.now) }
     {
@@ -53,8 +53,8 @@ impl Walk {
 }
 
 impl State {
-    // A walk's state on this course that holds nothing yet. Room comes first, so that no copy of what is held has to be let
-    // go.
+    // A walk's state on this course that holds nothing yet. Room comes first, so that no copy of what is held has to
+    // be let go.
     fn at_rest(alloc: Global, course: Course) -> Result<Box<State>, NoMemory>
         ensures course { IfOk result (λ state. state.value.course ≡ course) }
         ensures nothing { IfOk result (λ state. HoldsNothing state.value.place state.value.pending) }

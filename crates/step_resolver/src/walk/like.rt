@@ -121,7 +121,7 @@ impl State {
     }
 
     // Whether what is held is the same, at the same names.
-    #[tactic(auto, using(crate::proofs::LikeWalks::same_reversed))]
+    #[tactic(auto, using(crate::proofs::Underway::AfterParent::reversed_same))]
     fn stands_like(&self, other: &State) -> bool
         ensures { IsTrue result ↔ LikePlaces self.now.course.plan self.now.place
             other.now.course.plan other.now.place }

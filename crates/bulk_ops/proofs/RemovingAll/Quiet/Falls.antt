@@ -1,6 +1,6 @@
 -- What removals that are answered Done do to the nodes, and how many they are.
-use Rattle.std.specs.Prelude.{◌≡◌, ℕ, suc, ◌+◌, List, [], ◌∷◌, ◌++◌, true, not, cond, length, slice_get, Option, Some, None, Ok, Err, refl}
-use Rattle.std.proofs.Common.{ap, ◌∙◌, arith, eq-eqb}
+use Rattle.std.specs.Prelude.{◌≡◌, ℕ, suc, ◌+◌, List, [], ◌∷◌, ◌++◌, true, not, length, slice_get, Option, Some, None, Ok, Err, refl}
+use Rattle.std.proofs.Common.{ap, ◌∙◌, arith}
 use Rattle.std.proofs.lemmas.Bool.{false≢true}
 use Rattle.path_text.specs.declared.errno.Errno.{Errno}
 use Rattle.path_text.specs.declared.errno.Errno.TheVariants.{NotFound, BadHandle, NotDir, IsDir, NotEmpty}
@@ -13,7 +13,6 @@ use Rattle.tree_model.specs.State.{State, child, is_dir, has_entries, put_at}
 use Rattle.tree_model.specs.Steps.{Outcome, refused, changes, outcome, held}
 use Rattle.tree_model.specs.Entries.{refuse_if, with_some}
 use Rattle.step_resolver.specs.Order.{Line, answered, no_room, not_made, events_of}
-use Rattle.step_resolver.specs.WalkHistory.{own_events}
 use Rattle.bulk_ops.specs.RemoveAllTells.{removals, one_more_if, is_removal}
 use Rattle.bulk_ops.proofs.RemovingAll.StepAnswers.{FileCase, no_dir, no_entry, at_dir, gone, file_case, DirCase, not_in_dir, no_such_entry, at_no_dir, not_empty, dir_gone, dir_case}
 use Rattle.bulk_ops.proofs.RemovingAll.Quiet.Gone.{one_more_add}
@@ -127,10 +126,3 @@ falls f (event ∷ events) each =
     each 0 event refl
     ∙ one_more_add (is_removal event.step event.answer) (removal_events events) (f (suc (length events))) (f 1)
     (falls (λ t. f (suc t)) events (λ t v e. each (suc t) v e))
-
--- a window in which all events are one actor's is that of its own events
-pub all_own : (a : ℕ) (window : List Event) → ((t : ℕ) (event : Event) → slice_get window t ≡ Some event → event.actor ≡ a) → own_events a window ≡ window
-all_own a [] quiet = refl
-all_own a (event ∷ window) quiet =
-    ap (λ b. cond b (event ∷ own_events a window) (own_events a window)) (eq-eqb event.actor a (quiet 0 event refl))
-    ∙ ap (λ events. event ∷ events) (all_own a window (λ t v e. quiet (suc t) v e))

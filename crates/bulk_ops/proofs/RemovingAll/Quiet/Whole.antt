@@ -14,7 +14,7 @@ use Rattle.tree_model.proofs.Children.{entry}
 use Rattle.tree_model.proofs.HistoryLaws.{IsLegal-back, after_events-append, histories_keep_trees, trees_begin_and_end}
 use Rattle.step_resolver.specs.Asked.{is_deepest}
 use Rattle.step_resolver.specs.Meaning.{Meant, object, fails}
-use Rattle.step_resolver.specs.Order.{Handle, Line, events_of}
+use Rattle.step_resolver.specs.Order.{Handle, events_of}
 use Rattle.step_resolver.specs.Order as walk
 use Rattle.step_resolver.specs.Footprint.{IsMeant, is_want}
 use Rattle.step_resolver.specs.FootprintLaws.{IsQuiet}
@@ -29,9 +29,10 @@ use Rattle.bulk_ops.specs.RemoveAllQuiet.{is_at_or_below, cleared, cleared_rows,
 use Rattle.bulk_ops.proofs.RemovingAll.EachEnd.{every_call_tells}
 use Rattle.bulk_ops.proofs.RemovingAll.Parts.{walk_removes_none}
 use Rattle.bulk_ops.proofs.RemovingAll.Quiet.Gone.{placed, placed-without}
-use Rattle.bulk_ops.proofs.RemovingAll.Quiet.Falls.{removal_events, removals-events, removal_events-append, falls, all_own}
+use Rattle.bulk_ops.proofs.RemovingAll.Quiet.Falls.{removal_events, removals-events, removal_events-append, falls}
 use Rattle.bulk_ops.proofs.RemovingAll.Quiet.FirstStep.{after_walk, removes_none, same_rest}
 use Rattle.bulk_ops.proofs.RemovingAll.Quiet.Shrinks.{objects, partly_cleared, none_taken, cleared_at, goes_stood, one_fewer}
+use Rattle.bulk_ops.proofs.OwnEvents.{all_own}
 
 -- ---- what is in a part of a window is in the window
 

@@ -3,6 +3,6 @@ use Rattle.std.specs.Prelude.{None}
 use Rattle.bulk_ops.specs.MakeAllView.{fault_in, names_in}
 use Rattle.bulk_ops.proofs.make_all.add_names.Given as goal
 
-abbrev pub invariant-loop-part : goal.invariant-loop-part
-invariant-loop-part l =
-    record { fault : fault_in (drop l.part-index l.rest) ≡ None; names : l.names ++ names_in (drop l.part-index l.rest) ≡ l.initial.names ++ names_in l.fn.rest }
+abbrev pub invariant-loop-at : goal.invariant-loop-at
+invariant-loop-at l =
+    record { fault : fault_in (drop l.at l.rest) ≡ None; names : l.names ++ names_in (drop l.at l.rest) ≡ l.initial.names ++ names_in l.fn.rest }

@@ -10,25 +10,25 @@ use Rattle.explore.proofs.moves.choices_at.Goals.{then-may_go+in_ok-at+in_ok-pus
 
 pub loop-number-preserved : goal.loop-number-preserved
 loop-number-preserved g c =
-    let scope = c.args.scope in
+    let bounds = c.args.bounds in
     let p : Point = record { world = c.args.world.now; marks = c.args.marks } in
     let n : ℕ = c.loop-number.number in
     let was = c.loop-number.invariant in
     elim c.if-may_go.branch [
       | then-may_go+in_ok-at+in_ok-push w ↦
-          let may : MayGo scope p n = c.may_go.ensures.0 w.if-may_go.true in
+          let may : MayGo bounds p n = c.may_go.ensures.0 w.if-may_go.true in
           let choice : Choice = record { actor = n; marks = w.marks_after.result; at = w.in_ok-at.at } in
           let moves : c.if-may_go.moves.items ≡ w.move_at.new.moves.items = ap (λ v. v.items) w.moves-is in
           let choices : c.if-may_go.choices.items ≡ c.loop-number.choices.items ++ choice ∷ [] = ap (λ v. v.items) w.choices-is ∙ w.in_ok-push.ensures.items in
-          let more : AreChoicesBelow scope p w.move_at.new.moves.items (n + 1) (c.loop-number.choices.items ++ choice ∷ []) =
-          choices_more scope p c.loop-number.moves.items n c.loop-number.choices.items was.choices w.move_at.new.moves.items w.in_ok-at.ensures.keeps choice
+          let more : AreChoicesBelow bounds p w.move_at.new.moves.items (n + 1) (c.loop-number.choices.items ++ choice ∷ []) =
+          choices_more bounds p c.loop-number.moves.items n c.loop-number.choices.items was.choices w.move_at.new.moves.items w.in_ok-at.ensures.keeps choice
           (record { may = may; marks = w.marks_after.ensures; move = w.in_ok-at.ensures.there }) refl in
           record {
             keeps = λ k x there. ap (λ (xs : List Move). slice_get xs k) moves ∙ w.in_ok-at.ensures.keeps k x (was.keeps k x there);
-            new = λ j one there. ⊎_elim (was.new j one) (λ is. inr (one_of scope c.args.stand p n one may is))
+            new = λ j one there. ⊎_elim (was.new j one) (λ is. inr (one_of bounds c.args.stand p n one may is))
                 (w.in_ok-at.ensures.new j one (ap (λ (xs : List Move). slice_get xs j) (sym moves) ∙ there));
-            choices = subst (λ (xs : List Move). AreChoicesBelow scope p xs (n + 1) c.if-may_go.choices.items) (sym moves)
-                (subst (λ (xs : List Choice). AreChoicesBelow scope p w.move_at.new.moves.items (n + 1) xs) (sym choices) more);
+            choices = subst (λ (xs : List Move). AreChoicesBelow bounds p xs (n + 1) c.if-may_go.choices.items) (sym moves)
+                (subst (λ (xs : List Choice). AreChoicesBelow bounds p w.move_at.new.moves.items (n + 1) xs) (sym choices) more);
           }
       | else-may_go w ↦
           let moves : c.if-may_go.moves.items ≡ c.loop-number.moves.items = ap (λ v. v.items) w.moves-is in
@@ -36,9 +36,9 @@ loop-number-preserved g c =
           record {
             keeps = λ k x there. ap (λ (xs : List Move). slice_get xs k) moves ∙ was.keeps k x there;
             new = λ j one there. was.new j one (ap (λ (xs : List Move). slice_get xs j) (sym moves) ∙ there);
-            choices = subst (λ (xs : List Move). AreChoicesBelow scope p xs (n + 1) c.if-may_go.choices.items) (sym moves)
-                (subst (λ (xs : List Choice). AreChoicesBelow scope p c.loop-number.moves.items (n + 1) xs) (sym choices)
-                (choices_other scope p c.loop-number.moves.items n c.loop-number.choices.items was.choices
+            choices = subst (λ (xs : List Move). AreChoicesBelow bounds p xs (n + 1) c.if-may_go.choices.items) (sym moves)
+                (subst (λ (xs : List Choice). AreChoicesBelow bounds p c.loop-number.moves.items (n + 1) xs) (sym choices)
+                (choices_other bounds p c.loop-number.moves.items n c.loop-number.choices.items was.choices
                 (λ may. true≢false (sym (c.may_go.ensures.1 may) ∙ w.if-may_go.false))));
           }
     ]
@@ -46,5 +46,5 @@ loop-number-preserved g c =
 pub returns-clause-choices : goal.returns-clause-choices
 returns-clause-choices g c =
     let p : Point = record { world = c.args.world.now; marks = c.args.marks } in
-    choices_all c.args.scope p c.loop-number.moves.items c.loop-number.number c.loop-number.choices.items
+    choices_all c.args.bounds p c.loop-number.moves.items c.loop-number.number c.loop-number.choices.items
     (omega (arith, c.actors-number-end.ensures, c.loop-number.auto.number-end, c.loop-number-test.false)) c.loop-number.invariant.choices

@@ -11,6 +11,6 @@ abbrev pub invariant-loop-number : goal.invariant-loop-number
 invariant-loop-number g l =
     let p : Point = record { world = l.world; marks = l.marks } in record {
       keeps : Keeps l.fn.moves.items l.moves.items;
-      new : (j : ℕ) (one : Move) → slice_get l.moves.items j ≡ Some one → (slice_get l.fn.moves.items j ≡ Some one) ⊎ IsOneOf l.scope l.stand p one;
-      choices : AreChoicesBelow l.scope p l.moves.items l.number l.choices.items;
+      new : (j : ℕ) (one : Move) → slice_get l.moves.items j ≡ Some one → (slice_get l.fn.moves.items j ≡ Some one) ⊎ IsOneOf l.bounds l.stand p one;
+      choices : AreChoicesBelow l.bounds p l.moves.items l.number l.choices.items;
     }

@@ -38,7 +38,7 @@ choices_at-requires-clause-within g c =
 
 pub loop-at-preserved : goal.loop-at-preserved
 loop-at-preserved g c =
-    let scope = c.args.scope in
+    let bounds = c.args.bounds in
     let layer : LayerView = c.args.layer.now in
     let s : ℕ = c.loop-at.at in
     let was = c.loop-at.invariant in
@@ -60,15 +60,15 @@ loop-at-preserved g c =
     let inside : stand.world < length moves = let a = was.moves.many in let b = is.on in omega (arith, a, b) in
     let before : slice_get moves stand.world ≡ Some row = slice_get_read moves (length moves) stand.world row refl inside c.index_mut.ensures.value in
     let keeps : Keeps row.items grown.items = c.in_ok-choices.ensures.keeps in
-    let own : (j : ℕ) (one : Move) → slice_get grown.items j ≡ Some one → (slice_get row.items j ≡ Some one) ⊎ IsOneOf scope s (point_at live stand) one =
-    subst (λ (v : WorldView). (j : ℕ) (one : Move) → slice_get grown.items j ≡ Some one → (slice_get row.items j ≡ Some one) ⊎ IsOneOf scope s (record { world = v; marks = stand.marks }) one)
+    let own : (j : ℕ) (one : Move) → slice_get grown.items j ≡ Some one → (slice_get row.items j ≡ Some one) ⊎ IsOneOf bounds s (point_at live stand) one =
+    subst (λ (v : WorldView). (j : ℕ) (one : Move) → slice_get grown.items j ≡ Some one → (slice_get row.items j ≡ Some one) ⊎ IsOneOf bounds s (record { world = v; marks = stand.marks }) one)
     world c.in_ok-choices.ensures.new in
-    let are : AreChoices scope (point_at live stand) grown.items choices.items =
-    subst (λ (v : WorldView). AreChoices scope (record { world = v; marks = stand.marks }) grown.items choices.items) world c.in_ok-choices.ensures.choices in
+    let are : AreChoices bounds (point_at live stand) grown.items choices.items =
+    subst (λ (v : WorldView). AreChoices bounds (record { world = v; marks = stand.marks }) grown.items choices.items) world c.in_ok-choices.ensures.choices in
     let pushed : c.push.new.self.items ≡ all ++ choices ∷ [] = c.in_ok-push.ensures.items in
     let longer : length (all ++ choices ∷ []) ≡ length all + 1 = length-append all (choices ∷ []) in
     record {
       many = ap length pushed ∙ (longer ∙ ap (λ (n : ℕ). n + 1) was.many);
-      moves = moves_grown scope layer moves s stand live row grown here on before keeps own was.moves;
-      choices = choices_grown scope layer moves s stand live row grown here on before keeps own all c.push.new.self.items choices was.many pushed are was.choices;
+      moves = moves_grown bounds layer moves s stand live row grown here on before keeps own was.moves;
+      choices = choices_grown bounds layer moves s stand live row grown here on before keeps own all c.push.new.self.items choices was.many pushed are was.choices;
     }

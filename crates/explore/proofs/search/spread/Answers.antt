@@ -3,7 +3,7 @@ use Rattle.explore.proofs.search.spread.Goals as goal
 
 pub spots_of-requires-clause-apart : goal.spots_of-requires-clause-apart
 spots_of-requires-clause-apart c =
-    ways_apart c.args.scope c.args.stands.now c.args.choices.now c.args.places.now c.in_ok-ways.next.items c.in_ok-ways.ways.items c.requires.many c.requires.fit c.requires.apart c.in_ok-ways.ensures
+    ways_apart c.args.bounds c.args.stands.now c.args.choices.now c.args.places.now c.in_ok-ways.next.items c.in_ok-ways.ways.items c.requires.many c.requires.fit c.requires.apart c.in_ok-ways.ensures
 
 pub returns : goal.returns
 returns c = (

@@ -11,7 +11,7 @@ use Rattle.explore.proofs.search.told_class.Goals as goal
 pub returns : goal.returns
 returns g c = record {
   told = λ asks.
-      let scope = c.args.scope in
+      let scope = c.args.scope.now in
       let w : WorldView = g.B.Beginnings.opening c.args.beginnings.now in
       let turns : c.in-Ok.live.turns ≡ c.in-Some.least.turns =
       c.in-Ok.ensures.turns

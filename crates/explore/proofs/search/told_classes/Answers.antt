@@ -10,7 +10,7 @@ loop-count-preserved g c =
     ap length c.in_ok-push.ensures.items ∙ length_push c.loop-count.classes.items c.in_ok-told_class.field-0 in
     let before = c.loop-count.invariant.many in record {
       many = omega (arith, long, before);
-      told = told_push (g.B.Beginnings.opening c.args.beginnings.now) c.args.scope c.args.counts.now c.loop-count.classes.items c.push.new.self.items c.loop-count.count-index
+      told = told_push (g.B.Beginnings.opening c.args.beginnings.now) c.args.scope.now c.args.counts.now c.loop-count.classes.items c.push.new.self.items c.loop-count.count-index
           c.count-item.result c.in_ok-told_class.field-0 before
           (slice_get_read c.args.counts.now (length c.args.counts.now) c.loop-count.count-index c.count-item.result refl c.loop-count-test.true c.count-item.is)
           c.in_ok-push.ensures.items c.loop-count.invariant.told c.in_ok-told_class.ensures.told;

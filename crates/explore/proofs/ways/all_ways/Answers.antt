@@ -35,7 +35,7 @@ ways_from-requires c =
 pub loop-at-preserved : goal.loop-at-preserved
 loop-at-preserved c =
     let s : ℕ = c.loop-at.at in
-    let scope = c.args.scope in
+    let bounds = c.args.bounds in
     let stands : List Stand = c.args.stands.now in
     let choices : List (Vec Choice) = c.args.choices.now in
     let places : List (Vec ℕ) = c.args.places.now in
@@ -54,9 +54,9 @@ loop-at-preserved c =
     let fit = c.requires.fit s stand those here chosen in
     let at : slice_get places stand.world ≡ Some row =
     slice_get_read places (length places) stand.world row refl (slice_get_within places stand.world fit.0 fit.1.0) c.index-places-stand.is in
-    let own : AreWaysTo scope stand those.items row.items new ways.items =
-    subst (λ (cs : List Choice). AreWaysTo scope stand cs row.items new ways.items) c.as_slice-those.ensures.value
-    (subst (λ (ps : List ℕ). AreWaysTo scope stand c.as_slice-those.result.now ps new ways.items) c.as_slice-places.ensures.value c.in_ok-ways.ensures.ways) in
+    let own : AreWaysTo bounds stand those.items row.items new ways.items =
+    subst (λ (cs : List Choice). AreWaysTo bounds stand cs row.items new ways.items) c.as_slice-those.ensures.value
+    (subst (λ (ps : List ℕ). AreWaysTo bounds stand c.as_slice-those.result.now ps new ways.items) c.as_slice-places.ensures.value c.in_ok-ways.ensures.ways) in
     let born : AreStandsBy stand those.items row.items old new =
     subst (λ (cs : List Choice). AreStandsBy stand cs row.items old new) c.as_slice-those.ensures.value
     (subst (λ (ps : List ℕ). AreStandsBy stand c.as_slice-those.result.now ps old new) c.as_slice-places.ensures.value c.in_ok-ways.ensures.stands) in
@@ -64,6 +64,6 @@ loop-at-preserved c =
     let longer : length (all ++ ways ∷ []) ≡ length all + 1 = length-append all (ways ∷ []) in
     record {
       many = ap length pushed ∙ (longer ∙ ap (λ (k : ℕ). k + 1) was.many);
-      ways = first_more scope stands choices places old new s stand those row here chosen at all c.push.new.self.items ways c.in_ok-ways.ensures.keeps was.many own pushed was.ways;
-      born = from_more scope stands choices places old new s stand those row here chosen at born was.born;
+      ways = first_more bounds stands choices places old new s stand those row here chosen at all c.push.new.self.items ways c.in_ok-ways.ensures.keeps was.many own pushed was.ways;
+      born = from_more bounds stands choices places old new s stand those row here chosen at born was.born;
     }

@@ -19,11 +19,11 @@ loop-at-preserved c =
     record {
       many = ap length pushed ∙ (longer ∙ ap (λ (k : ℕ). k + 1) was.many);
       keeps = λ k x there. c.in_ok-way.ensures.keeps k x (was.keeps k x there);
-      stands = stands_more c.args.scope c.args.stand.now choices places c.args.next.now.items c.loop-at.next.items c.way_to.new.next.items n _ _
+      stands = stands_more c.args.bounds c.args.stand.now choices places c.args.next.now.items c.loop-at.next.items c.way_to.new.next.items n _ _
           (slice_get-get_or choices n _ lt) (slice_get-get_or places _ _ (c.requires.at n _ (slice_get-get_or choices n _ lt)))
           c.in_ok-way.ensures.stands was.stands;
-      each = each_more c.args.scope c.args.stand.now choices places c.way_to.new.next.items ways c.push.new.self.items n _ _ way was.many
+      each = each_more c.args.bounds c.args.stand.now choices places c.way_to.new.next.items ways c.push.new.self.items n _ _ way was.many
           (slice_get-get_or choices n _ lt) (slice_get-get_or places _ _ (c.requires.at n _ (slice_get-get_or choices n _ lt)))
           c.in_ok-way.ensures.way pushed
-          (each_on c.args.scope c.args.stand.now choices places c.loop-at.next.items c.way_to.new.next.items ways c.in_ok-way.ensures.keeps was.each);
+          (each_on c.args.bounds c.args.stand.now choices places c.loop-at.next.items c.way_to.new.next.items ways c.in_ok-way.ensures.keeps was.each);
     }

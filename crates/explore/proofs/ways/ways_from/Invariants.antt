@@ -8,5 +8,5 @@ invariant-loop-at l = record {
   many : length l.ways.items ≡ l.at;
   keeps : Keeps l.fn.next.items l.next.items;
   stands : AreStandsBy l.stand l.choices l.places l.fn.next.items l.next.items;
-  each : AreEachWay l.scope l.stand l.choices l.places l.next.items l.ways.items;
+  each : AreEachWay l.bounds l.stand l.choices l.places l.next.items l.ways.items;
 }

@@ -1,11 +1,11 @@
 use Rattle.std.proofs.Common.{List, get_or}
 use Rattle.std.specs.Prelude.{slice_set}
 use Rattle.std.proofs.lemmas.Option.{slice_get-get_or}
+use Rattle.tree_model.proofs.StepLaws.{slice_get-set_other}
 use Rattle.race_core.specs.declared.seat.Seat.{Seat}
 use Rattle.race_core.specs.TurnView.{IsCutShort}
 use Rattle.race_core.specs.Worlds.{IsCutTurnAt}
 use Rattle.race_core.proofs.CutShort.{on_err, cut_in_world}
-use Rattle.race_core.proofs.WorldSoFar.{placed_elsewhere}
 use Rattle.race_core.proofs.world.turn_seat.Goals as goal
 
 pub returns-clause-cut : goal.returns-clause-cut
@@ -19,4 +19,4 @@ returns-clause-cut g c =
     c.turn.ensures.cut
 
 pub returns-clause-others : goal.returns-clause-others
-returns-clause-others g c = λ i ne. placed_elsewhere c.args.seats.now c.args.at i c.turn.new.self ne
+returns-clause-others g c = λ i ne. slice_get-set_other c.args.seats.now c.args.at c.turn.new.self i ne

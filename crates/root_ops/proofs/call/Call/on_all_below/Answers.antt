@@ -1,4 +1,4 @@
-use Rattle.std.proofs.Common.{true, subst}
+use Rattle.std.proofs.Common.{refl}
 use Rattle.std.specs.Prelude.{Result}
 use Rattle.path_text.specs.declared.errno.Errno.{Errno}
 use Rattle.path_text.specs.declared.errno.Errno.TheVariants.{NoMemory}
@@ -8,15 +8,15 @@ use Rattle.path_text.specs.Reading.{Reading}
 use Rattle.path_text.specs.Split.{split_of}
 use Rattle.root_ops.specs.Order.{clear_in, ends, fault}
 use Rattle.root_ops.specs.TurnView.{turn_view, Either}
-use Rattle.root_ops.proofs.Texts.{first_read}
+use Rattle.root_ops.proofs.Texts.{first_read, split_by, unsplit_by}
 use Rattle.root_ops.proofs.call.Call.on_all_below.Goals as goal
 
 pub returns-in-Ok-split_last-clause-turn : goal.returns-in-Ok-split_last-clause-turn
 returns-in-Ok-split_last-clause-turn c =
     first_read (λ (path : Reading). clear_in c.args.below (split_of path Drop)) c.args.text.now c.as_slice.result.now c.in-Ok.path (turn_view c.clear.result) c.as_slice.ensures c.in-Ok.ensures
-    (subst (λ (s : Result Split Errno). Either (clear_in c.args.below s) (ends (fault NoMemory)) (turn_view c.clear.result)) c.in-Ok-split_last.ensures c.clear.ensures.turn)
+    (split_by (λ (s : Result Split Errno). clear_in c.args.below s) (split_of c.in-Ok.path Drop) c.in-Ok-split_last.split (turn_view c.clear.result) c.in-Ok-split_last.ensures c.clear.ensures.turn)
 
 pub returns-in-Err-split_last-clause-turn : goal.returns-in-Err-split_last-clause-turn
 returns-in-Err-split_last-clause-turn c =
     first_read (λ (path : Reading). clear_in c.args.below (split_of path Drop)) c.args.text.now c.as_slice.result.now c.in-Ok.path (turn_view c.failed.result) c.as_slice.ensures c.in-Ok.ensures
-    (subst (λ (s : Result Split Errno). Either (clear_in c.args.below s) (ends (fault NoMemory)) (turn_view c.failed.result)) c.in-Err-split_last.ensures (true, c.failed.ensures))
+    (unsplit_by (λ (s : Result Split Errno). clear_in c.args.below s) (split_of c.in-Ok.path Drop) c.in-Err-split_last.error (turn_view c.failed.result) (λ e. refl) c.in-Err-split_last.ensures c.failed.ensures)

@@ -1,0 +1,131 @@
+//! Where the pieces of a text lie in it.
+ghost use Rattle.std.specs.Prelude.{◌≡◌, ◌≢◌, ◌≤◌, ◌<◌, ◌+◌, ℕ, List, [], ◌∷◌, ◌++◌, length, drop, map, false, ◌==◌, MatchOption};
+ghost use Rattle.std.specs.List.{list_any};
+ghost use Rattle.std.specs.Vec.{vec_len, vec_capacity};
+ghost use Rattle.path_text.specs.Name.{NUL};
+ghost use Rattle.path_text.specs.Parts.{parts_at, ArePlaces, BeginsWith, IsSeparated};
+ghost use Rattle.path_text.specs.Text.{pieces, part_of, ends_with_slash, has_final_slash};
+
+use crate::name::SLASH;
+
+/// Where the bytes of a part lie in a buffer.
+#[derive(Clone, Copy, Debug)]
+pub(crate) struct Span {
+    pub(crate) start: usize,
+    pub(crate) end: usize,
+}
+
+#[tactic(auto, using(crate::proofs::TextLemmas::ends_with_slash_last))]
+pub(crate) fn ends_with_slash(text: &[u8]) -> bool
+    ensures { result ≡ ends_with_slash text.now }
+{
+    text.last().copied() == Some(SLASH)
+}
+
+// How many pieces a text has.
+pub(crate) fn count_pieces(text: &[u8]) -> usize
+    ensures { result ≡ length (pieces text.now) }
+{
+    text.split(|byte| *byte == SLASH)
+        .filter(|piece| !piece.is_empty())
+        .count()
+}
+
+// Whether a text with this many pieces has one, and a slash at its end.
+pub(crate) fn has_final_slash(text: &[u8], count: usize) -> bool
+    requires { count ≡ length (pieces text.now) }
+    ensures { result ≡ has_final_slash text.now }
+{
+    count > 0 && ends_with_slash(text)
+}
+
+// The text without the slash at its end, where it has one.
+#[tactic(auto, using(crate::proofs::PlacesLemmas::ends_with_last))]
+fn before_slash(text: &[u8]) -> Option<&[u8]>
+    ensures { MatchOption result (ends_with_slash text.now ≡ false)
+        (λ before. text.now ≡ before.now ++ SLASH ∷ []) }
+{
+    let (last, before) = text.split_last()?;
+    if *last == SLASH { Some(before) } else { None }
+}
+
+// The text without its last byte, where that is there and no slash.
+#[tactic(auto, using(crate::proofs::PlacesLemmas::separated_after))]
+fn before_other(text: &[u8]) -> Option<&[u8]>
+    ensures { MatchOption result (IsSeparated text.now) (λ before. (byte : ℕ)
+        × (text.now ≡ before.now ++ byte ∷ []) × ((byte == SLASH) ≡ false)) }
+{
+    let (last, before) = text.split_last()?;
+    if *last == SLASH { None } else { Some(before) }
+}
+
+// The text without the slashes at its end.
+fn before_slashes(text: &[u8]) -> &[u8]
+    ensures beginning { BeginsWith text.now result.now }
+    ensures pieces { pieces result.now ≡ pieces text.now }
+    ensures last { ends_with_slash result.now ≡ false }
+{
+    let mut rest = text;
+    while let Some(before) = before_slash(rest) {
+        rest = before;
+    }
+    rest
+}
+
+// A text that ends in a piece, without that piece.
+fn before_piece(text: &[u8]) -> &[u8]
+    requires some { text.now ≢ [] }
+    requires last { ends_with_slash text.now ≡ false }
+    ensures { (piece : List ℕ) × (text.now ≡ result.now ++ piece)
+        × (pieces text.now ≡ pieces result.now ++ piece ∷ []) }
+{
+    let mut rest = text;
+    while let Some(before) = before_other(rest) {
+        rest = before;
+    }
+    rest
+}
+
+// Puts the places of the pieces that stand in the buffer from `low` on onto the others, that of the first one last.
+pub(crate) fn push_pieces(spans: &mut Vec<Span>, buffer: &[u8], low: usize)
+    requires low { low ≤ length buffer.now }
+    requires clean { list_any (λ b. b == NUL) (drop low buffer.now) ≡ false }
+    requires room { vec_len spans.old + length (pieces (drop low buffer.now)) ≤ vec_capacity spans.old }
+    requires places { ArePlaces buffer.now spans.old.items }
+    ensures parts { parts_at buffer.now spans.new.items
+        ≡ map part_of (pieces (drop low buffer.now)) ++ parts_at buffer.now spans.old.items }
+    ensures places { ArePlaces buffer.now spans.new.items }
+{
+    let mut rest = &buffer[low..];
+    while !rest.is_empty() {
+        rest = push_last(spans, buffer, low, before_slashes(rest));
+    }
+}
+
+// Puts the place of the last piece of a text, with which the buffer goes on from `low`, onto the others. The answer
+// is the text before it.
+fn push_last<'a>(spans: &mut Vec<Span>, buffer: &[u8], low: usize, ended: &'a [u8]) -> &'a [u8]
+    requires low { low ≤ length buffer.now }
+    requires beginning { BeginsWith (drop low buffer.now) ended.now }
+    requires last { ends_with_slash ended.now ≡ false }
+    requires clean { list_any (λ b. b == NUL) (drop low buffer.now) ≡ false }
+    requires room { vec_len spans.old + length (pieces ended.now) ≤ vec_capacity spans.old }
+    requires places { ArePlaces buffer.now spans.old.items }
+    ensures beginning { BeginsWith (drop low buffer.now) result.now }
+    ensures shorter { 0 < length result.now → length result.now < length ended.now }
+    ensures parts { map part_of (pieces result.now) ++ parts_at buffer.now spans.new.items
+        ≡ map part_of (pieces ended.now) ++ parts_at buffer.now spans.old.items }
+    ensures room { vec_len spans.new + length (pieces result.now) ≤ vec_capacity spans.new }
+    ensures places { ArePlaces buffer.now spans.new.items }
+{
+    if ended.is_empty() {
+        return ended;
+    }
+    let before = before_piece(ended);
+    let span = Span {
+        start: low + before.len(),
+        end: low + ended.len(),
+    };
+    spans.push_reserved(span);
+    before
+}
