@@ -438,6 +438,20 @@ fn parts_are_put(alloc: Global) -> Result<bool, Errno> {
     Ok(slash && parts.same(&wanted) && parts.same(&wanted.copy(alloc)?))
 }
 
+/// Whether the parts are those of a longer list after its first, and the first ones the same there.
+fn parts_are_compared(alloc: Global) -> Result<bool, Errno> {
+    let (parts, mut longer) = (three_parts(alloc)?, Path::parse(alloc, b"c/a/../b")?.parts);
+    if longer.is_empty() {
+        return Ok(false);
+    }
+    let after = parts.same_after(0, &longer, 1) && !parts.same_after(0, &longer, 0);
+    longer.drop_first();
+    match (parts.first(), longer.first()) {
+        (Some(part), Some(other)) => Ok(after && part.same(&other)),
+        _ => Ok(false),
+    }
+}
+
 fn bytes_are_copied(alloc: Global) -> Result<bool, Errno> {
     let text = Bytes::from_slice(alloc, b"../a")?;
     let copy = Bytes::from_vec(text.copy(alloc)?.into_vec());
@@ -451,6 +465,7 @@ fn lists_are_right(alloc: Global) -> Result<bool, Errno> {
             && names_turn_round(alloc)?
             && parts_go_at_both_ends(alloc)?
             && parts_are_put(alloc)?
+            && parts_are_compared(alloc)?
             && bytes_are_copied(alloc)?,
     )
 }
