@@ -70,11 +70,21 @@ texts_given matches id = unwrap_or (option_map raw_values (matched_of (found_of 
 pub record IsExploration (matches : ArgMatches) (options : Options) : Type 0 where
   pub actors : texts_in options.actors.now ≡ texts_given matches (codes "actor")
   pub cuts : option_map (λ text. text.now) options.cuts ≡ first_value (found_of matches) (codes "cuts")
+  pub begin : option_map (λ text. text.now) options.begin ≡ first_value (found_of matches) (codes "begin")
   pub states : option_map (λ text. text.now) options.states ≡ first_value (found_of matches) (codes "states")
   pub jobs : option_map (λ text. text.now) options.jobs ≡ first_value (found_of matches) (codes "jobs")
   pub outside : IsOption matches (codes "outside") options.outside
   pub never : texts_in options.never.now ≡ texts_given matches (codes "never")
   pub always : texts_in options.always.now ≡ texts_given matches (codes "always")
+
+-- `--merge` asks for a merge, `--part` for a part, and else all is explored
+abbrev pub IsExploreRequest : ArgMatches → Request → Type 0
+IsExploreRequest matches request.Merge = IsOption matches (codes "merge") true
+IsExploreRequest matches (request.Part options) =
+    IsOption matches (codes "merge") false × IsOption matches (codes "part") true × IsExploration matches options
+IsExploreRequest matches (request.Explore options) =
+    IsOption matches (codes "merge") false × IsOption matches (codes "part") false × IsExploration matches options
+IsExploreRequest matches other = ⊥
 
 -- ---- the command that was named
 
@@ -99,7 +109,11 @@ IsRequest matches (Some (request.Draw drawing)) =
 IsRequest matches (Some (request.Run workers)) =
     (own : ArgMatches) × (AreOf matches (codes "run") own × IsWorkers own workers)
 IsRequest matches (Some (request.Explore options)) =
-    (own : ArgMatches) × (AreOf matches (codes "explore") own × IsExploration own options)
+    (own : ArgMatches) × (AreOf matches (codes "explore") own × IsExploreRequest own (request.Explore options))
+IsRequest matches (Some (request.Part options)) =
+    (own : ArgMatches) × (AreOf matches (codes "explore") own × IsExploreRequest own (request.Part options))
+IsRequest matches (Some request.Merge) =
+    (own : ArgMatches) × (AreOf matches (codes "explore") own × IsExploreRequest own request.Merge)
 IsRequest matches None =
     (subcommand_name_of matches ≢ Some (codes "replay")) × (subcommand_name_of matches ≢ Some (codes "draw"))
     × (subcommand_name_of matches ≢ Some (codes "explore"))

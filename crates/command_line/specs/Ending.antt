@@ -2,8 +2,10 @@
 use Rattle.std.specs.Borrow.{Bor}
 use Rattle.std.specs.Prelude.{⊤, ℕ, List, Option, Some, None, Result, Ok, Err}
 use Rattle.scripts.specs.declared.fault.RunFault.TheVariants.{Script, ReadFailed, WriteFailed, NoMemory, BookFull}
+use Rattle.explore_text.specs.declared.merging.MergeFault.{MergeFault}
+use Rattle.explore_text.specs.declared.merging.MergeFault.TheVariants as merge
 use Rattle.command_line.specs.declared.ending.Fault.{Fault}
-use Rattle.command_line.specs.declared.ending.Fault.TheVariants.{Usage, NotUtf8, Schedule, NoRequest, Run, Options, PropertyFails, ExploreActor, ExploreProperty, ExploreStates, ExploreTurns, DrawActors, DrawLines, Service}
+use Rattle.command_line.specs.declared.ending.Fault.TheVariants.{Usage, NotUtf8, Schedule, NoRequest, Run, Options, PropertyFails, ExploreActor, ExploreProperty, ExploreStates, ExploreTurns, ExploreBegin, ExploreCuts, Merge, DrawActors, DrawLines, Service}
 use Rattle.script_drawings.specs.declared.drawing.DrawFault.{DrawFault}
 use Rattle.script_jobs.specs.declared.jobs.JobsFault.{JobsFault}
 use Rattle.script_jobs.specs.declared.jobs.JobsFault.TheVariants as jobs
@@ -50,6 +52,9 @@ status_of (Err (ExploreActor actor)) = FAILED
 status_of (Err (ExploreProperty place)) = FAILED
 status_of (Err ExploreStates) = FAILED
 status_of (Err ExploreTurns) = FAILED
+status_of (Err (ExploreBegin at)) = FAILED
+status_of (Err (ExploreCuts at)) = FAILED
+status_of (Err (Merge fault)) = FAILED
 status_of (Err DrawActors) = FAILED
 status_of (Err DrawLines) = FAILED
 status_of (Err (Service fault)) = FAILED
@@ -77,6 +82,15 @@ explore_told_of (explore.NoSuchActor actor) = ExploreActor actor
 explore_told_of (explore.NoSuchLine place) = ExploreProperty place
 explore_told_of explore.TooManyStates = ExploreStates
 explore_told_of explore.TooManyTurns = ExploreTurns
+explore_told_of (explore.NotBusy at) = ExploreBegin at
+explore_told_of (explore.TooManyCuts at) = ExploreCuts at
+
+-- how it tells why parts make no whole
+abbrev pub merge_told_of : MergeFault → Fault
+merge_told_of merge.ReadFailed = Run ReadFailed
+merge_told_of merge.WriteFailed = Run WriteFailed
+merge_told_of merge.NoMemory = Run NoMemory
+merge_told_of other = Merge other
 
 -- the order of the turns that a text says, or of the script where there is none; or the text says none
 abbrev pub IsOrder : Option (Bor (List ℕ)) → Result TurnOrder Fault → Type 0

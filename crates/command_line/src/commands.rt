@@ -1,6 +1,6 @@
 //! The command line.
 ghost use Rattle.std.specs.Prelude.{◌≡◌, IfSome};
-ghost use Rattle.command_line.specs.Command.{IsAsked, IsDrawing, IsExploration, IsRequest, IsSchedule, IsStrict, IsWorkers, texts_given};
+ghost use Rattle.command_line.specs.Command.{IsAsked, IsDrawing, IsExploration, IsExploreRequest, IsRequest, IsSchedule, IsStrict, IsWorkers, texts_given};
 ghost use Rattle.explore_text.specs.Options.{texts_in};
 
 use clap::builder::ValueParser;
@@ -41,6 +41,12 @@ const EXPLORE: &str = "explore";
 const ACTOR: &str = "actor";
 
 const CUTS: &str = "cuts";
+
+const BEGIN: &str = "begin";
+
+const PART: &str = "part";
+
+const MERGE: &str = "merge";
 
 const STATES: &str = "states";
 
@@ -250,9 +256,32 @@ fn with_numbers<'a>(alloc: Global, command: Command<'a>) -> Result<Command<'a>, 
         JOBS,
         "N",
         ArgAction::Set,
-        "Search on N threads: 1 to 64, or 1",
+        "Search on at most N threads: 1 to 64, or 1",
     );
     command.arg(actor)?.arg(cuts)?.arg(states)?.arg(jobs)
+}
+
+// Adds the options of `explore` that are for parts of all schedules.
+fn with_parts<'a>(alloc: Global, command: Command<'a>) -> Result<Command<'a>, AllocError> {
+    let begin = valued(
+        alloc,
+        BEGIN,
+        "TURNS",
+        ArgAction::Set,
+        "Only schedules that begin so: I or I*N between commas, for actor I; - for none",
+    );
+    let part = option(
+        alloc,
+        PART,
+        "Print a line of JSON for --merge: this is a part of all schedules",
+    );
+    let merge = option(
+        alloc,
+        MERGE,
+        "Read such lines in place of a script, and print what all schedules come to",
+    )
+    .exclusive(true);
+    command.arg(begin)?.arg(part)?.arg(merge)
 }
 
 // Adds the options of `explore` that say what is told beside the replies.
@@ -285,7 +314,7 @@ fn explore<'a>(alloc: Global) -> Result<Command<'a>, AllocError> {
         .about("Run the actors' calls by every schedule, and print what came of them")
         .override_usage("inroot explore [OPTIONS] < SCRIPT")
         .after_help(EXPLORING);
-    let command = with_numbers(alloc, command)?;
+    let command = with_parts(alloc, with_numbers(alloc, command)?)?;
     with_properties(alloc, command)?.arg(strict(alloc))
 }
 
@@ -331,6 +360,10 @@ pub enum Request<'a> {
     Run(usize),
     /// With the texts of its options.
     Explore(Options<'a>),
+    /// The same, as a part of all schedules.
+    Part(Options<'a>),
+    /// Of parts, in place of a script.
+    Merge,
 }
 
 /// The walk that the arguments of `walk` ask for, if they have a path.
@@ -396,11 +429,27 @@ fn exploration_asked<'m>(matches: &'m ArgMatches<'_>) -> Options<'m>
     Options {
         actors: texts_of(matches, ACTOR),
         cuts: matches.get_str(CUTS),
+        begin: matches.get_str(BEGIN),
         states: matches.get_str(STATES),
         jobs: matches.get_str(JOBS),
         outside: matches.get_flag(OUTSIDE),
         never: texts_of(matches, NEVER),
         always: texts_of(matches, ALWAYS),
+    }
+}
+
+/// The request that the arguments of `explore` make.
+fn request_of_explore<'m>(matches: &'m ArgMatches<'_>) -> Request<'m>
+    ensures { IsExploreRequest matches.now result }
+{
+    if matches.get_flag(MERGE) {
+        return Request::Merge;
+    }
+    let options = exploration_asked(matches);
+    if matches.get_flag(PART) {
+        Request::Part(options)
+    } else {
+        Request::Explore(options)
     }
 }
 
@@ -428,7 +477,7 @@ pub fn asked<'m>(matches: &'m ArgMatches<'_>) -> Option<Request<'m>>
         return Some(Request::Run(workers_asked(matches)?));
     }
     if let Some(matches) = matches.subcommand_matches(EXPLORE) {
-        return Some(Request::Explore(exploration_asked(matches)));
+        return Some(request_of_explore(matches));
     }
     let walk = walk_asked(matches.subcommand_matches(WALK)?)?;
     Some(Request::Walk(walk))

@@ -1,10 +1,10 @@
 //! How the program ends.
 ghost use Rattle.std.specs.Prelude.{◌≡◌};
-ghost use Rattle.command_line.specs.Ending.{status_of, told_of, jobs_told_of, options_told_of, explore_told_of};
+ghost use Rattle.command_line.specs.Ending.{status_of, told_of, jobs_told_of, options_told_of, explore_told_of, merge_told_of};
 ghost use Rattle.command_line.specs.declared.ending.Fault.TheVariants.{Run};
 ghost use Rattle.scripts.specs.declared.fault.RunFault.TheVariants.{NoMemory as OutOfMemory};
 
-use explore_text::{ExploreFault, OptionFault};
+use explore_text::{ExploreFault, MergeFault, OptionFault};
 use path_text::NoMemory;
 use script_drawings::DrawFault;
 use script_jobs::{JobsFault, ServiceFault};
@@ -46,6 +46,15 @@ pub enum Fault {
     /// A schedule has more turns than are gone through.
     #[error("explore: turns")]
     ExploreTurns,
+    /// The turn at that place of the beginning is of an actor who has nothing left to do then.
+    #[error("explore: begin {0}")]
+    ExploreBegin(usize),
+    /// With the turn at that place of the beginning there are more cuts than are asked for.
+    #[error("explore: cuts {0}")]
+    ExploreCuts(usize),
+    /// Parts make no whole.
+    #[error("merge: {0}")]
+    Merge(MergeFault),
     /// There are more actors than a picture has columns.
     #[error("draw: actors")]
     DrawActors,
@@ -109,6 +118,21 @@ impl From<ExploreFault> for Fault {
             ExploreFault::NoSuchLine(place) => Fault::ExploreProperty(place),
             ExploreFault::TooManyStates => Fault::ExploreStates,
             ExploreFault::TooManyTurns => Fault::ExploreTurns,
+            ExploreFault::NotBusy(at) => Fault::ExploreBegin(at),
+            ExploreFault::TooManyCuts(at) => Fault::ExploreCuts(at),
+        }
+    }
+}
+
+impl From<MergeFault> for Fault {
+    ghost from_gives = { λ fault told. told ≡ merge_told_of fault };
+
+    fn from(fault: MergeFault) -> Fault {
+        match fault {
+            MergeFault::ReadFailed => Fault::Run(RunFault::ReadFailed),
+            MergeFault::WriteFailed => Fault::Run(RunFault::WriteFailed),
+            MergeFault::NoMemory => Fault::Run(RunFault::NoMemory),
+            other => Fault::Merge(other),
         }
     }
 }
@@ -147,6 +171,9 @@ pub fn status(ended: &Result<(), Fault>) -> u8
             | Fault::ExploreProperty(_)
             | Fault::ExploreStates
             | Fault::ExploreTurns
+            | Fault::ExploreBegin(_)
+            | Fault::ExploreCuts(_)
+            | Fault::Merge(_)
             | Fault::DrawActors
             | Fault::DrawLines
             | Fault::Service(_),

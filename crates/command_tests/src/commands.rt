@@ -13,12 +13,15 @@ fn ends_with_its_statuses(rt: HostRuntime) {
         (Ok(()), 0),
         (Err(Fault::PropertyFails), 1),
         (Err(Fault::Options(OptionFault::Cuts)), 2),
+        (Err(Fault::Options(OptionFault::Begin)), 2),
         (Err(Fault::Options(OptionFault::Jobs)), 2),
         (Err(Fault::Options(OptionFault::NoMemory)), 4),
         (Err(Fault::ExploreActor(0)), 4),
         (Err(Fault::ExploreProperty(0)), 4),
         (Err(Fault::ExploreStates), 4),
         (Err(Fault::ExploreTurns), 4),
+        (Err(Fault::ExploreBegin(0)), 4),
+        (Err(Fault::ExploreCuts(0)), 4),
         (Err(Fault::Usage), 2),
         (Err(Fault::NotUtf8), 2),
         (Err(Fault::Schedule), 2),
@@ -116,6 +119,7 @@ fn asks_explored(alloc: Global, words: &[&str], want: Options) -> bool {
     };
     options.actors == want.actors
         && options.cuts == want.cuts
+        && options.begin == want.begin
         && options.states == want.states
         && options.jobs == want.jobs
         && options.outside == want.outside
@@ -136,6 +140,8 @@ fn reads_what_is_to_be_explored(rt: HostRuntime) {
         "--actor=2",
         "--cuts",
         "1",
+        "--begin",
+        "0,1*2",
         "--states=7",
         "--jobs",
         "4",
@@ -146,6 +152,7 @@ fn reads_what_is_to_be_explored(rt: HostRuntime) {
     let want = Options {
         actors: &["0", "2"],
         cuts: Some("1"),
+        begin: Some("0,1*2"),
         states: Some("7"),
         jobs: Some("4"),
         outside: true,

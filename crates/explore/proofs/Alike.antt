@@ -1,13 +1,10 @@
--- Worlds that differ in the numbers of handles alone go on alike.
+-- Calls, steps and seats are the same but for the numbers of handles; and what a turn leaves as it was.
 pub mod Walks
 pub mod Bulk
 pub mod Calls
 pub mod Steps
-pub mod Books
 pub mod Turns
-pub mod Worlds
 pub mod OutsideAlike
 pub mod HandlesRenamed
 pub mod PairedLists
 pub mod Paired
-pub mod Prints

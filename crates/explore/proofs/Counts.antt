@@ -4,3 +4,4 @@ pub mod Merged
 pub mod Concluded
 pub mod Merges
 pub mod Begun
+pub mod PassedOn

@@ -7,7 +7,12 @@ pub mod Endings
 pub mod Grown
 pub mod Passing
 pub mod Choosing
-pub mod Gone
 pub mod WaysGrown
 pub mod WaysFound
 pub mod Marks
+pub mod Kept
+pub mod Went
+pub mod Going
+pub mod OnWay
+pub mod Among
+pub mod States

@@ -5,3 +5,5 @@ pub mod Books
 pub mod Turns
 pub mod Worlds
 pub mod Wholes
+pub mod OutsideSame
+pub mod Opened

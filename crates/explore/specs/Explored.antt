@@ -17,6 +17,7 @@ use Rattle.explore.specs.Renamed.{replies_by}
 use Rattle.explore.specs.Alike.{full, after_turns}
 use Rattle.explore.specs.Search.{IsFull}
 use Rattle.explore.specs.Lists.{cuts, rank}
+use Rattle.explore.specs.Local.{SameParts}
 use Rattle.explore.specs.Outside.{outside_of}
 
 -- ---- which lists are asked for, and what they tell
@@ -110,6 +111,42 @@ pub record IsLongest (w : WorldView) (scope : Scope) (turns : ℕ) : Type 0 wher
   pub reached : (is : List ℕ) × (IsAsked w scope is × (length is ≡ turns))
   pub bounded : (is : List ℕ) → IsAsked w scope is → length is ≤ turns
 
+-- ---- states
+
+-- Each turn of the list is of an actor who has something left to do then, and there are few cuts; it begins as is asked
+-- for, as far as it goes.
+pub record IsOnWay (w : WorldView) (scope : Scope) (is : List ℕ) : Type 0 where
+  pub busy : AreBusy w is
+  pub few_cuts : IsWithin scope.cuts (cuts w is)
+  pub begins : GoAlong scope.begin.items is
+
+-- Two lists have one state: they are as long, and lead to worlds in which each actor has the same part.
+abbrev pub HaveOneState : WorldView → List ℕ → List ℕ → Type 0
+HaveOneState w is js = (length is ≡ length js) × SameParts (after_turns w is) (after_turns w js)
+
+-- each of the lists is on the way, and no two have one state
+pub record AreApartStates (w : WorldView) (scope : Scope) (lists : List (List ℕ)) : Type 0 where
+  pub each : (k : ℕ) (is : List ℕ) → slice_get lists k ≡ Some is → IsOnWay w scope is
+  pub apart : (k l : ℕ) (is js : List ℕ) → slice_get lists k ≡ Some is → slice_get lists l ≡ Some js
+      → HaveOneState w is js → k ≡ l
+
+-- one of the lists has this list's state
+abbrev pub HasItsState : WorldView → List (List ℕ) → List ℕ → Type 0
+HasItsState w lists is = (k : ℕ) × ((js : List ℕ) × ((slice_get lists k ≡ Some js) × HaveOneState w is js))
+
+-- there are so many states of lists on the way
+pub record AreStates (w : WorldView) (scope : Scope) (n : ℕ) : Type 0 where
+  pub lists : List (List ℕ)
+  pub many : length lists ≡ n
+  pub apart : AreApartStates w scope lists
+  pub all : (is : List ℕ) → IsOnWay w scope is → HasItsState w lists is
+
+-- there are more
+pub record HasMoreStates (w : WorldView) (scope : Scope) (n : ℕ) : Type 0 where
+  pub lists : List (List ℕ)
+  pub more : n < length lists
+  pub apart : AreApartStates w scope lists
+
 -- ---- why nothing is told
 
 -- each turn of the list is of an actor who has something left to do then, there are few cuts, and more turns than so
@@ -129,7 +166,7 @@ pub record IsIdle (w : WorldView) (begin : List ℕ) (at : ℕ) : Type 0 where
 abbrev pub WhyNot : WorldView → Limits → SearchFault → Type 0
 WhyNot w limits fault.TooManyActors = ACTORS_MAX < length w.seats
 WhyNot w limits fault.TooManyTurns = (is : List ℕ) × IsTooLong w limits.scope limits.turns is
-WhyNot w limits fault.TooManyStates = Unit {0}
+WhyNot w limits fault.TooManyStates = HasMoreStates w limits.scope limits.states
 WhyNot w limits (fault.NotBusy at) = IsIdle w limits.scope.begin.items at
 WhyNot w limits (fault.TooManyCuts at) =
     IsWithin limits.scope.cuts (cuts w (take (suc at) limits.scope.begin.items)) → ⊥

@@ -1,4 +1,4 @@
--- Layers of worlds, one of alike worlds each, and where lists of turns stand among them.
+-- Layers of worlds, one of those that are the same each, and where lists of turns stand among them.
 use Rattle.std.specs.Prelude.{◌≡◌, ◌<◌, ◌≤◌, ◌⊎◌, ℕ, suc, List, [], ◌∷◌, ◌++◌, Bool, true, length, Option, Some, None, slice_get}
 use Rattle.std.specs.Global.{Vec}
 use Rattle.race_core.specs.declared.opening.TheConstants.{ACTORS_MAX}
@@ -16,7 +16,7 @@ use Rattle.explore.specs.Explored.{AreBusy, EndingView, ClassView, bounds_at}
 use Rattle.explore.specs.Lists.{is_another, is_cut}
 use Rattle.explore.specs.Merged.{bounded_cuts}
 use Rattle.explore.specs.Outside.{outside_of}
-use Rattle.explore.specs.Points.{Point, no_marks, marks_after, start, along, IsTurn, AreWithin, MayGo}
+use Rattle.explore.specs.Points.{Point, no_marks, marks_after, start, along, AreWithin, MayGo}
 use Rattle.explore.specs.Points as points
 use Rattle.explore.specs.Search.{IsOver, IsLike}
 use Rattle.explore.specs.Tally.{SameOutcome}
@@ -107,9 +107,10 @@ pub record IsMove (layer : LayerView) (m i : ℕ) (next : List LiveView) (k : �
 
 -- ---- from one layer to the next
 
--- the world after the actor's turn from that stand, as luck had it
+-- a world like that after the actor's turn from that stand, as luck had it
 pub record IsBorn (stand : Stand) (live : LiveView) (i : ℕ) (born : LiveView) : Type 0 where
-  pub turned : IsTurn (point_at live stand) i (point_of born)
+  pub luck : Luck
+  pub like : IsLike live.told (turn luck live.world i) born.world
   pub turns : born.turns ≡ stand.turns.items ++ i ∷ []
   pub told : born.told ≡ live.told
 
@@ -226,13 +227,13 @@ AreFoundIn lives old new =
 
 -- ---- stands that are the same
 
--- whoever stands there stands as that one does: on the same world, with what counts from then on
-pub record IsThere (bounds : Bounds) (stand : Stand) (stands : List Stand) (t : ℕ) : Type 0 where
+-- the stand at that place is on that world, with what counts from then on
+pub record IsThere (bounds : Bounds) (world : ℕ) (marks : Marks) (stands : List Stand) (t : ℕ) : Type 0 where
   pub other : Stand
   pub there : slice_get stands t ≡ Some other
-  pub world : other.world ≡ stand.world
-  pub last : other.marks.last ≡ stand.marks.last
-  pub cuts : bounded_cuts bounds.cuts other.marks.cuts ≡ bounded_cuts bounds.cuts stand.marks.cuts
+  pub on : other.world ≡ world
+  pub last : other.marks.last ≡ marks.last
+  pub cuts : bounded_cuts bounds.cuts other.marks.cuts ≡ bounded_cuts bounds.cuts marks.cuts
 
 -- ---- spots
 

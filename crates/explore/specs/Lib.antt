@@ -11,6 +11,11 @@ pub mod Counting
 pub mod Explored
 pub mod Points
 pub mod Paired
+pub mod Same
+pub mod Keys
+pub mod Deeds
+pub mod Kept
+pub mod Went
 pub mod Opened
 pub mod Tally
 pub mod Merged
@@ -22,3 +27,7 @@ pub mod Spreading
 pub mod Fingerprint
 pub mod Chained
 pub mod Marked
+pub mod Met
+pub mod Grips
+pub mod States
+pub mod Runs

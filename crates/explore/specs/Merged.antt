@@ -1,5 +1,5 @@
--- When a layered graph stands for all schedules of a world: each of its spots for lists of turns that lead to alike
--- worlds.
+-- When a layered graph stands for all schedules of a world: each of its spots for lists of turns that lead to worlds
+-- that are the same.
 use Rattle.std.specs.Prelude.{◌≡◌, ℕ, suc, List, true, slice_get, Option, Some, None}
 use Rattle.std.specs.Global.{Vec}
 use Rattle.race_core.specs.Worlds.{WorldView, turn, is_busy_at}

@@ -1,6 +1,6 @@
 -- What actors change outside of their roots, which a check cannot keep from them: a directory that stood below the
 -- root at a check may be moved out before the next step.
-use Rattle.std.specs.Prelude.{◌≡◌, ℕ, suc, ◌==◌, ◌&&◌, ◌||◌, List, [], ◌∷◌, Bool, true, false, not, Option, Some, None}
+use Rattle.std.specs.Prelude.{ℕ, suc, ◌==◌, ◌&&◌, ◌||◌, List, [], ◌∷◌, Bool, true, false, not, Option, Some, None}
 use Rattle.tree_model.specs.declared.answer.Event.{Event}
 use Rattle.tree_model.specs.declared.inode.Inode.{Inode}
 use Rattle.tree_model.specs.declared.step.StepOf.{StepOf}
@@ -10,9 +10,7 @@ use Rattle.tree_model.specs.State.{State, is_within}
 use Rattle.tree_model.specs.Steps.{held}
 use Rattle.race_core.specs.declared.seat.Seat.{Seat}
 use Rattle.race_core.specs.Book.{BookedHistory, is_done}
-use Rattle.race_core.specs.Turns.{Luck}
-use Rattle.race_core.specs.Worlds.{WorldView, turn}
-use Rattle.explore.specs.Alike.{Alike}
+use Rattle.race_core.specs.Worlds.{WorldView}
 use Rattle.explore.specs.Lists.{plus}
 
 -- ---- a step
@@ -76,16 +74,3 @@ roots_of true w = roots_from w.book.opening 0 w.seats
 -- how many changes each of them has made outside of its root
 abbrev pub outside_of : Bool → WorldView → List ℕ
 outside_of told w = outside_from w.book 0 (roots_of told w)
-
--- alike, and each of them has made as many changes outside of the same root
-pub record IsSame (told : Bool) (w v : WorldView) : Type 0 where
-  pub alike : Alike w v
-  pub roots : roots_of told w ≡ roots_of told v
-  pub outside : outside_of told w ≡ outside_of told v
-
--- ---- the law
-
--- alike worlds act outside alike: the turn of an actor leads from such worlds to such worlds, with the same luck
-abbrev pub AlikeWorldsActOutsideAlike : Type 0
-AlikeWorldsActOutsideAlike = (told : Bool) (w v : WorldView) (luck : Luck) (i : ℕ) → IsSame told w v
-    → IsSame told (turn luck w i) (turn luck v i)

@@ -21,6 +21,8 @@
 -- and what the run of that list comes to.
 --     its `ending` (`IsEnding`): its report, its cuts and changes of actor, and, where that is told, how many changes
 --     each actor made outside of its root.
+-- It tells how many states there are, of lists under way that are as long and lead to worlds with the same parts one;
+--     `Explored.AreStates`.
 --
 -- Where it tells nothing, `Explored.WhyNot` says what is known of the reason.
 use Rattle.std.specs.Prelude.{◌≡◌, ℕ, List, true, slice_get, Some}

@@ -6,8 +6,9 @@ use Rattle.handles.specs.Objects.{StandingObject}
 use Rattle.race_core.specs.declared.report.Outcome.{Outcome}
 use Rattle.race_core.specs.Book.{tree_now}
 use Rattle.race_core.specs.Worlds.{WorldView, turn, is_busy_at, ledgers_in, replies_in, RunsTo}
-use Rattle.explore.specs.Alike.{full, after_turns, TellTheSame}
-use Rattle.explore.specs.Outside.{IsSame}
+use Rattle.explore.specs.Alike.{full, after_turns}
+use Rattle.explore.specs.Local.{TellAlike}
+use Rattle.explore.specs.Same.{IsSame}
 use Rattle.explore.specs.Want.{replies_want}
 
 -- nobody has anything left to do
@@ -19,8 +20,7 @@ abbrev pub IsFull : WorldView → List ℕ → Type 0
 IsFull w [] = IsOver w
 IsFull w (i ∷ is) = (is_busy_at w.seats i ≡ true) × IsFull (turn full w i) is
 
--- from one world to another by alike ones, in which each actor whose changes are told has made as many outside of
--- its root
+-- from one world to another by worlds that are the same, one after another
 pub data IsLike (told : Bool) : WorldView → WorldView → Type 0 where
   same : (w : WorldView) → IsLike told w w
   onward : (w u v : WorldView) → IsSame told w u → IsLike told u v → IsLike told w v
@@ -40,7 +40,7 @@ abbrev pub ChosenListsStandForAll : Type 0
 ChosenListsStandForAll =
     (told : Bool) (w : WorldView) (chosen : List ℕ → Bool) → IsClosed told w chosen → (is : List ℕ) → IsFull w is
     → (js : List ℕ) × ((chosen js ≡ true)
-    × (IsOver (after_turns w js) × TellTheSame (after_turns w is) (after_turns w js)))
+    × (IsOver (after_turns w js) × TellAlike (after_turns w is) (after_turns w js)))
 
 -- The report on a run of any schedule, in which nobody lacked memory, is that of a full list.
 abbrev pub ReportsAreOfFullLists : Type 0

@@ -5,17 +5,18 @@ use Rattle.schedule_graph.specs.declared.graph.Spot.{Spot}
 use Rattle.schedule_graph.specs.declared.graph.Way.{Way}
 use Rattle.explore.specs.declared.limits.Bounds.{Bounds}
 use Rattle.explore.specs.declared.layer.Stand.{Stand}
+use Rattle.explore.specs.declared.marks.Marks.{Marks}
 use Rattle.explore.specs.declared.moves.Choice.{Choice}
 use Rattle.explore.specs.Merged.{bounded_cuts}
 use Rattle.explore.specs.Layers.{IsThere, spot_by}
 
 -- ---- stands
 
--- on the same world, with what counts from then on
-pub record StandsAs (bounds : Bounds) (stand other : Stand) : Type 0 where
-  pub world : other.world ≡ stand.world
-  pub last : other.marks.last ≡ stand.marks.last
-  pub cuts : bounded_cuts bounds.cuts other.marks.cuts ≡ bounded_cuts bounds.cuts stand.marks.cuts
+-- the stand is on that world, with what counts from then on
+pub record StandsAs (bounds : Bounds) (world : ℕ) (marks : Marks) (stand : Stand) : Type 0 where
+  pub on : stand.world ≡ world
+  pub last : stand.marks.last ≡ marks.last
+  pub cuts : bounded_cuts bounds.cuts stand.marks.cuts ≡ bounded_cuts bounds.cuts marks.cuts
 
 -- the stand after that choice, on that world of the next layer
 pub record IsStandBy (stand : Stand) (choice : Choice) (world : ℕ) (born : Stand) : Type 0 where
@@ -25,15 +26,13 @@ pub record IsStandBy (stand : Stand) (choice : Choice) (world : ℕ) (born : Sta
 
 -- ---- ways
 
--- the way is that of the choice from that stand, and leads to whoever stands as the one after it
+-- the way is that of the choice from that stand, and leads to whoever stands on that world as after the choice
 pub record IsWayTo (bounds : Bounds) (stand : Stand) (choice : Choice) (world : ℕ) (next : List Stand)
     (way : Way) : Type 0 where
   pub letter : way.letter ≡ choice.actor
   pub cut : way.cut ≡ not (choice.marks.cuts == stand.marks.cuts)
   pub change : way.change ≡ not (choice.marks.changes == stand.marks.changes)
-  pub to : Stand
-  pub after : IsStandBy stand choice world to
-  pub there : IsThere bounds to next way.to
+  pub there : IsThere bounds world choice.marks next way.to
 
 -- the ways of these choices, in order, to worlds at the places of their moves
 abbrev pub AreEachWay : Bounds → Stand → List Choice → List ℕ → List Stand → List Way → Type 0

@@ -1,11 +1,11 @@
 //! Whether the turns that all lists are to begin with can be taken.
-ghost use Rattle.std.specs.Prelude.{◌≡◌, IfOk, IfErr, OnOk};
+ghost use Rattle.std.specs.Prelude.{IfErr, OnOk};
 ghost use Rattle.explore.specs.Counting.{IsTally};
 ghost use Rattle.explore.specs.Explored.{AreBusy, WhyNot};
 ghost use Rattle.explore.specs.Want.{EndsWell};
 
 use crate::beginnings::Beginnings;
-use crate::growing::{take_turn, told};
+use crate::led::{take_turn, told};
 use crate::limits::{Limits, SearchFault};
 use crate::marks::{is_within, no_marks};
 use crate::outside::Tally;

@@ -1,38 +1,37 @@
 //! The classes of what worlds come to, and the spots of stands.
-ghost use Rattle.std.specs.Prelude.{◌≡◌, ◌⊎◌, ◌<◌, ◌≤◌, ℕ, length, Option, Some, None, true, slice_get, IfOk, IfSome};
+ghost use Rattle.std.specs.Prelude.{◌≡◌, ◌⊎◌, ◌<◌, ◌≤◌, ℕ, length, Option, Some, None, slice_get, IfOk};
 ghost use Rattle.std.specs.Global.{Vec};
-ghost use Rattle.race_core.specs.Worlds.{is_busy_at};
+ghost use Rattle.race_core.specs.Worlds.{WorldView};
 ghost use Rattle.race_core.specs.declared.opening.TheConstants.{ACTORS_MAX};
 ghost use Rattle.schedule_graph.specs.declared.graph.Way.{Way};
 ghost use Rattle.schedule_graph.specs.Words.{AreApart, IsLayer};
 ghost use Rattle.explore.specs.declared.layer.Stand.{Stand};
 ghost use Rattle.explore.specs.Explored.{ClassView};
-ghost use Rattle.explore.specs.Search.{IsOver};
+ghost use Rattle.explore.specs.Keys.{IsKey};
 ghost use Rattle.explore.specs.Tally.{SameOutcome};
+ghost use Rattle.explore.specs.Went.{IsEnd};
 ghost use Rattle.explore.specs.Layers.{Keeps, AreApartClasses, spot_by};
 
+use crate::components::Components;
 use crate::found::{Class, Ending};
+use crate::keys::Key;
 use crate::layer::Stand;
 use crate::tally::place_of;
 use path_text::NoMemory;
-use race_core::World;
 use schedule_graph::{Spot, Way};
 use std::alloc::Global;
 use tree_model::Tree;
 
-/// The first actor who has something left to do.
-pub(crate) fn first_busy<T: Tree>(world: &World<T>) -> Option<u32>
-    requires few { length world.now.seats ≤ ACTORS_MAX }
-    ensures some { IfSome result (λ i. is_busy_at world.now.seats i ≡ true) }
-    ensures none { result ≡ None → IsOver world.now }
+/// Whether nobody has anything left to do in the world of that key.
+pub(crate) fn is_over<T: Tree>(components: &Components<T>, key: &Key) -> bool
+    ensures { (w v : WorldView) → IsKey components.now w v key.now → IsEnd result v }
 {
-    for at in 0..world.actors() {
-        let actor = at as u32;
-        if world.has_turns(actor) {
-            return Some(actor);
+    for actor in 0..key.own.len() {
+        if components.is_busy(key, actor) {
+            return false;
         }
     }
-    None
+    true
 }
 
 /// The place of the class of that outcome; a new one is put after the others where none has it. NoMemory where room was

@@ -67,6 +67,6 @@ pub struct Findings<T: Tree> {
     pub lists: u64,
     /// The number of turns of the longest.
     pub turns: usize,
-    /// How many worlds were gone on from, of alike ones after as many turns one.
+    /// How many states there are: worlds after some turns, of those with the same parts after as many turns one.
     pub states: u64,
 }

@@ -5,11 +5,7 @@ ghost use Rattle.explore.specs.declared.jobs.TheConstants.{JOBS_MAX};
 /// The most threads that a search uses.
 pub const JOBS_MAX: usize = 64;
 
-// How many worlds one thread goes on from at a time, where there is no other. What it gives up is asked for again at
-// once then, and memory stays warm.
-const ALONE: usize = 8;
-
-// How many each of several threads goes on from at a time: enough to be worth a thread.
+// How many runs each thread makes at a time: enough to be worth a thread.
 const EACH: usize = 64;
 
 /// How many threads a search uses at most: 1 to 64.
@@ -47,14 +43,10 @@ impl Jobs {
         self.count
     }
 
-    /// How many worlds are gone on from at a time. The worlds after their moves are all there then, those too that turn
-    /// out to be known.
+    /// How many runs are made at a time. Their worlds are all there then.
     pub(crate) fn round(self) -> usize
         ensures { 0 < result }
     {
-        match self.count {
-            1 => ALONE,
-            count => EACH * count,
-        }
+        EACH * self.count
     }
 }

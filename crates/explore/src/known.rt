@@ -1,41 +1,96 @@
 //! The next layer's worlds as they are found, with the table in which they are looked up.
-ghost use Rattle.std.specs.Prelude.{◌≡◌, ◌⊎◌, [], ℕ, length, Some, slice_get, IfOk};
-ghost use Rattle.explore.specs.Layers.{LiveView, Keeps};
-ghost use Rattle.explore.specs.Marked.{counted};
-ghost use Rattle.explore.specs.Search.{IsLike};
+ghost use Rattle.std.specs.Prelude.{◌≡◌, ◌↔◌, ◌⊎◌, ◌++◌, ◌∷◌, [], ℕ, drop, length, Some, slice_get, IsTrue, IfOk, IfSome, IfNone};
+ghost use Rattle.std.specs.List.{count_by};
+ghost use Rattle.explore.specs.declared.layer.Live.{Live};
+ghost use Rattle.explore.specs.Keys.{print_of};
+ghost use Rattle.explore.specs.Layers.{Keeps};
+ghost use Rattle.explore.specs.Marked.{IsSameAt, IsBareAt, IsNew, AreMarked, prints_of, IsPut};
 
-use crate::growing::put;
+use crate::fingerprint::Fingerprint;
+use crate::keys::Key;
 use crate::layer::Live;
-use crate::slots::Born;
-use crate::spares::Spare;
+use crate::led::turns_and;
 use crate::table::Table;
 use path_text::NoMemory;
 use std::alloc::Global;
 use std::marker::Model;
-use tree_model::Tree;
 
-/// Worlds of which no two are the same, and where they are looked up by their fingerprints. Contracts see it as the
-/// list of the worlds.
-pub(crate) struct Known<T: Tree> {
-    worlds: Vec<Live<T>>,
+/// Worlds of which no two are the same, and where they are looked up by the numbers of their keys. Contracts see them
+/// as the list of the worlds.
+#[derive(Drop)]
+pub(crate) struct Known {
+    worlds: Vec<Live>,
     table: Table,
 }
 
-impl<T: Tree> Model for Known<T> {
+impl Model for Known {
     ghost use Rattle.std.specs.Prelude.{List};
-    ghost use Rattle.explore.specs.Layers.{LiveView};
+    ghost use Rattle.explore.specs.declared.layer.Live.{Live};
     ghost use Rattle.explore.specs.Marked.{AreLookedUp};
 
-    ghost Value = { List LiveView };
+    ghost Value = { List Live };
 
     ghost view = { λ k. k.worlds.items };
 
     ghost invariant = { λ k. AreLookedUp k.worlds.items k.table };
 }
 
-impl<T: Tree> Known<T> {
+// Whether the world at that place has that key.
+fn is_same_at(worlds: &[Live], at: usize, key: &Key) -> bool
+    ensures { IsTrue result ↔ IsSameAt key.now worlds.now at }
+{
+    match worlds.get(at) {
+        Some(other) => key.same(&other.key),
+        None => false,
+    }
+}
+
+// The place of a world of that key, whose number that is. Where there is none, no world has it.
+fn same_at(worlds: &[Live], table: &Table, print: Fingerprint, key: &Key) -> Option<usize>
+    requires prints { table.now ≡ prints_of worlds.now }
+    requires own { print.0 ≡ print_of key.now }
+    ensures same { IfSome result (λ at. IsSameAt key.now worlds.now at) }
+    ensures none { IfNone result ((at : ℕ) → IsSameAt key.now worlds.now at → ⊥) }
+{
+    let mut place = table.last(print);
+    while let Some(at) = place {
+        if is_same_at(worlds, at, key) {
+            return Some(at);
+        }
+        place = table.before(at);
+    }
+    None
+}
+
+// Whether the world at that place has that key but for changes outside of roots.
+fn is_bare_at(worlds: &[Live], at: usize, key: &Key) -> bool
+    ensures { IsTrue result ↔ IsBareAt key.now worlds.now at }
+{
+    match worlds.get(at) {
+        Some(other) => key.same_bare(&other.key),
+        None => false,
+    }
+}
+
+// Whether none of the worlds has that key but for changes outside of roots. Those of its number are compared.
+fn is_new(worlds: &[Live], table: &Table, print: Fingerprint, key: &Key) -> bool
+    requires prints { table.now ≡ prints_of worlds.now }
+    requires own { print.0 ≡ print_of key.now }
+    ensures { IsNew result worlds.now (length worlds.now) key.now }
+{
+    let mut place = table.last(print);
+    while let Some(at) = place {
+        if is_bare_at(worlds, at, key) {
+            return false;
+        }
+        place = table.before(at);
+    }
+    true
+}
+
+impl Known {
     /// None yet.
-    pub(crate) fn new(alloc: Global) -> Known<T>
+    pub(crate) fn new(alloc: Global) -> Known
         ensures { result ≡ [] }
     {
         Known {
@@ -45,38 +100,70 @@ impl<T: Tree> Known<T> {
     }
 
     /// The worlds so far.
-    pub(crate) fn worlds(&self) -> &[Live<T>]
-        ensures { result.now ≡ self.now }
+    pub(crate) fn worlds(&self) -> &[Live]
+        ensures same { result.now ≡ self.now }
+        ensures marked { AreMarked self.now }
     {
         self.worlds.as_slice()
     }
 
     /// The worlds, once all are there.
-    pub(crate) fn into_worlds(self) -> Vec<Live<T>>
+    pub(crate) fn into_worlds(self) -> Vec<Live>
         ensures { result.items ≡ self }
     {
         let Known { worlds, table: _ } = self;
         worlds
     }
-}
 
-impl<T: Tree + Drop> Known<T> {
-    /// The place of a world that is the same as that one, which is set aside then. It is put after the others where
-    /// none is. NoMemory where its room was refused.
+    /// The place of the world of that key. Where there is none, one is put after the others, to which these turns and
+    /// one of that actor lead; it counts as a state where none has its key but for changes outside of roots. NoMemory
+    /// where its room was refused: the worlds are as they were then.
     pub(crate) fn put(
         &mut self,
         alloc: Global,
-        born: Born<T>,
-        spares: &mut Vec<Spare<T>>,
+        key: Key,
+        before: &[u32],
+        actor: u32,
     ) -> Result<usize, NoMemory>
         ensures keeps { Keeps self.old self.new }
-        ensures there { IfOk result (λ at. (other : LiveView)
-            × ((slice_get self.new at ≡ Some other) × IsLike born.told born.world other.world)) }
-        ensures new { (k : ℕ) (one : LiveView) → slice_get self.new k ≡ Some one
-            → (slice_get self.old k ≡ Some one) ⊎ (one ≡ counted one.is_state born) }
+        ensures there { IfOk result (λ at. IsSameAt key self.new at) }
+        ensures new { (k : ℕ) (one : Live) → slice_get self.new k ≡ Some one
+            → (slice_get self.old k ≡ Some one) ⊎ IsPut key (before.now ++ actor ∷ []) one }
     {
-        let Born { live, print } = born;
-        let (worlds, table) = (&mut self.worlds, &mut self.table);
-        put(alloc, worlds, table, live, print, spares)
+        let print = key.print();
+        if let Some(at) = same_at(self.worlds.as_slice(), &self.table, print, &key) {
+            return Ok(at);
+        }
+        let is_state = is_new(self.worlds.as_slice(), &self.table, print, &key);
+        let turns = turns_and(alloc, before, actor)?;
+        let at = self.worlds.len();
+        self.worlds.reserve(1)?;
+        self.table.push(print)?;
+        self.worlds.push_reserved(Live {
+            key,
+            turns,
+            is_state,
+        });
+        Ok(at)
     }
+}
+
+// Whether the world counts as a state.
+fn is_state(live: &Live) -> bool
+    ensures { result ≡ live.now.is_state }
+{
+    live.is_state
+}
+
+/// How many of the worlds from that place on count as states: have none before them with the same parts.
+pub(crate) fn count_states(worlds: &[Live], from: usize) -> u64
+    ensures { result ≡ count_by (λ live. live.is_state) (drop from worlds.now) }
+{
+    let mut count: u64 = 0;
+    for at in from..worlds.len() {
+        if is_state(&worlds[at]) {
+            count += 1;
+        }
+    }
+    count
 }

@@ -1,11 +1,8 @@
-//! What holds of every call and of alike worlds: laws, the contracts of functions without a body.
-ghost use Rattle.explore.specs.Alike.{AlikeWorldsTakeAlikeTurns, AlikeWorldsAreBusyAlike, AlikeWorldsTellTheSame, AlikeWorldsEndAlike};
+//! What holds of every call and of all schedules: laws, the contracts of functions without a body.
 ghost use Rattle.explore.specs.Concluded.{FoundClassesHaveLeasts, CountsConclude};
-ghost use Rattle.explore.specs.Fingerprint.{AlikeWorldsHaveOneFingerprint};
 ghost use Rattle.explore.specs.Laws.{CallsBeginBlindly, StepsAreDueBlindly, AnswersAreTakenBlindly};
 ghost use Rattle.explore.specs.Search.{ChosenListsStandForAll, ReportsAreOfFullLists, FullListsAreReported};
 ghost use Rattle.explore.specs.Merged.{WordsAreLists};
-ghost use Rattle.explore.specs.Outside.{AlikeWorldsActOutsideAlike};
 ghost use Rattle.explore.specs.Want.{WantIsTold, WantStays, RunsWithoutWantAreFull};
 
 /// A call looks at no handle's number. With other numbers in place of its handles' it begins in the same way, the same
@@ -14,23 +11,6 @@ pub fn calls_are_blind()
     ensures begins { CallsBeginBlindly }
     ensures due { StepsAreDueBlindly }
     ensures takes { AnswersAreTakenBlindly }
-{}
-
-/// Worlds that differ in the numbers of handles alone take alike turns, with the same luck; the same actors have
-/// something left to do in them; and they tell the same. So after the same turns of any actors they still tell the
-/// same. Where each actor has made as many changes outside of the same root, it has after such a turn, too.
-pub fn alike_worlds_go_alike()
-    ensures turns { AlikeWorldsTakeAlikeTurns }
-    ensures busy { AlikeWorldsAreBusyAlike }
-    ensures tell { AlikeWorldsTellTheSame }
-    ensures ends { AlikeWorldsEndAlike }
-    ensures outside { AlikeWorldsActOutsideAlike }
-{}
-
-/// Alike worlds have the same fingerprint. So whoever looks a world up by its own among others misses none that is
-/// alike.
-pub fn alike_worlds_have_one_fingerprint()
-    ensures { AlikeWorldsHaveOneFingerprint }
 {}
 
 /// Want of memory is told: a turn that lacked some is the turn with memory, or else its actor's call closes what it

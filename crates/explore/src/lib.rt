@@ -5,12 +5,18 @@
 //! may be asked for those alone that begin with some turns.
 //! The layer above uses that contract alone.
 //!
-//! Two worlds are *alike* where they differ in the numbers of their actors' handles alone (`specs/Alike.antt`), and
-//! `Seen::is_alike` tells exactly whether two are. The search goes on with one of alike worlds, layer by layer
-//! (`specs/Layers.antt`): copies of it take the turns, and it takes the last one itself. So many worlds of a layer are
-//! gone on from at a time, in several threads (`rounds.rt`); what comes of them is looked up one after another, so what
-//! is found doesn't depend on the threads. The stands of lists on the worlds make a graph, and the laws say that its
-//! words are the lists.
+//! A world is told apart by its nodes and by each actor's *part*: what the actor has to do, to tell and to hold, but
+//! for the numbers of handles (`specs/Local.antt`). These are the world's *components*. The search meets each of them
+//! once and knows it by its place (`components.rt`), as model checkers do that compress states by components. A *key*
+//! is the places of a world's components, and how much the world has grown since the beginning (`specs/Keys.antt`).
+//!
+//! The search goes on with one of the worlds that have one key, layer by layer (`specs/Layers.antt`). It keeps the key
+//! and a list of turns that leads there (`layer.rt`). What a turn comes to depends on the nodes, the actor's part, and
+//! how full the book is; so the search remembers it by these (`memo.rt`, `specs/Deeds.antt`). It finds a turn that it
+//! doesn't know by a run from the beginning, and on to the end: whoever lacked memory tells so there
+//! (`known_turns.rt`). Where it has several threads, they make the runs for a layer before it is gone on from
+//! (`learning.rt`, `runs.rt`). The stands of lists on the worlds make a graph, and the laws say that its words are the
+//! lists.
 //!
 //! Where it is asked for, what an actor changes outside of its root (`specs/Outside.antt`) is a part of an outcome:
 //! worlds are taken for one then only where each actor has made as many such changes.
@@ -18,28 +24,34 @@
 
 mod begin;
 mod beginnings;
+mod components;
 mod ends;
 mod fingerprint;
 mod found;
-mod growing;
+mod grips;
 mod jobs;
+mod keys;
 mod known;
+mod known_turns;
 mod laws;
 mod layer;
+mod learning;
+mod led;
 mod limits;
 mod local_laws;
 mod marks;
+mod memo;
 mod moves;
+mod nodes;
 mod outside;
+mod parts;
+mod passing;
 mod progress;
 mod report_laws;
-mod rounds;
+mod runs;
 mod same;
 mod scene;
 mod search;
-mod seen;
-mod slots;
-mod spares;
 mod table;
 mod tally;
 mod want;
@@ -49,8 +61,7 @@ pub use beginnings::Beginnings;
 pub use found::{Class, Ending, Findings};
 pub use jobs::{JOBS_MAX, Jobs};
 pub use laws::{
-    alike_worlds_go_alike, alike_worlds_have_one_fingerprint, calls_are_blind,
-    chosen_lists_stand_for_all, counts_conclude, want_is_told, words_are_lists,
+    calls_are_blind, chosen_lists_stand_for_all, counts_conclude, want_is_told, words_are_lists,
 };
 pub use limits::{Limits, Scope, SearchFault};
 pub use local_laws::{same_parts_go_alike, turns_are_local};
@@ -58,4 +69,3 @@ pub use progress::{Progress, Silent};
 pub use report_laws::reports_without_want_are_one;
 pub use scene::Scene;
 pub use search::explore;
-pub use seen::Seen;

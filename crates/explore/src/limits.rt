@@ -41,7 +41,7 @@ impl Scope {
 /// What is gone through at most.
 #[derive(Debug, Drop)]
 pub struct Limits {
-    /// The most worlds, of alike ones one.
+    /// The most states.
     pub states: u64,
     /// The most turns of a list.
     pub turns: u32,
@@ -58,7 +58,7 @@ pub enum SearchFault {
     /// A list has more turns than the limit.
     #[error("too many turns")]
     TooManyTurns,
-    /// There are more worlds than the limit, of alike ones one.
+    /// There are more states than the limit: worlds, of those with the same parts after as many turns one.
     #[error("too many states")]
     TooManyStates,
     /// The turn at that place of the beginning, counted from 0, is of an actor who has nothing left to do then.

@@ -1,6 +1,7 @@
 //! A turn reads and changes the nodes and its own actor's part alone: laws, the contracts of functions without a body.
 ghost use Rattle.explore.specs.Local.{TurnsAreLocal, OthersPartsStay, PartsAreThemselves, SamePartsTurnRound, SamePartsJoin, SamePartsAreBusyAlike, GivenNumbersStay};
 ghost use Rattle.explore.specs.Local.{SameWorldsTakeSameTurns, SameWorldsAreBusyAlike, SameWorldsTellTheSame};
+ghost use Rattle.explore.specs.Same.{SameWorldsActOutsideAlike};
 
 /// A turn is local. Where an actor has the same part in two worlds with the same nodes, its turn comes to the same in
 /// both, with the same luck: the same nodes, the same part, and as many more events, handles, and changes outside of a
@@ -19,9 +20,11 @@ pub fn turns_are_local()
 {}
 
 /// Worlds in which every actor has the same part, on the same nodes and with as much room, take the same turns, with
-/// the same luck. The same actors have something left to do in them, and they tell the same.
+/// the same luck. The same actors have something left to do in them, and they tell the same. Where each actor has made
+/// as many changes outside of the same root, it has after such a turn, too.
 pub fn same_parts_go_alike()
     ensures turns { SameWorldsTakeSameTurns }
     ensures busy { SameWorldsAreBusyAlike }
     ensures tell { SameWorldsTellTheSame }
+    ensures outside { SameWorldsActOutsideAlike }
 {}

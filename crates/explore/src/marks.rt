@@ -1,8 +1,12 @@
 //! What counts in a list of turns, and who may have the next one.
 ghost use Rattle.std.specs.Prelude.{◌≡◌, ◌^◌, ◌↔◌, IsTrue};
 ghost use Rattle.explore.specs.Explored.{IsWithin, IsOnly};
+ghost use Rattle.explore.specs.Keys.{IsKey};
 ghost use Rattle.explore.specs.Points.{no_marks, marks_after, AreWithin, MayGo};
+ghost use Rattle.race_core.specs.Worlds.{WorldView};
 
+use crate::components::Components;
+use crate::keys::Key;
 use crate::limits::Bounds;
 use race_core::World;
 use tree_model::Tree;
@@ -65,13 +69,43 @@ fn is_only(only: Option<u32>, actor: u32) -> bool
     }
 }
 
-/// Whether the actor may have the next turn: it has something left to do, its turn leaves the cuts within the bound,
-/// and it is the one who alone may have it, where one is named.
-pub(crate) fn may_go<T: Tree>(world: &World<T>, marks: Marks, bounds: Bounds, actor: u32) -> bool
+/// The marks after a turn of that actor in the world of that key.
+pub(crate) fn marks_by<T: Tree>(
+    components: &Components<T>,
+    key: &Key,
+    marks: Marks,
+    actor: u32,
+) -> Marks
     requires { AreWithin marks (2 ^ 40) }
-    ensures { IsTrue result ↔ MayGo bounds (record { world = world.now; marks = marks }) actor }
+    ensures { (w v : WorldView) → IsKey components.now w v key.now → result ≡ marks_after v.seats marks actor }
+{
+    let mut after = marks;
+    after.last = Some(actor);
+    if let Some(last) = marks.last
+        && last != actor
+    {
+        after.changes += 1;
+        if components.is_within_call(key, last as usize) {
+            after.cuts += 1;
+        }
+    }
+    after
+}
+
+/// Whether the actor may have the next turn in the world of that key: it has something left to do, its turn leaves the
+/// cuts within the bound, and it is the one who alone may have it, where one is named.
+pub(crate) fn may_go<T: Tree>(
+    components: &Components<T>,
+    key: &Key,
+    marks: Marks,
+    bounds: Bounds,
+    actor: u32,
+) -> bool
+    requires { AreWithin marks (2 ^ 40) }
+    ensures { (w v : WorldView) → IsKey components.now w v key.now
+        → (IsTrue result ↔ MayGo bounds (record { world = v; marks = marks }) actor) }
 {
     is_only(bounds.only, actor)
-        && world.has_turns(actor)
-        && is_within(bounds.cuts, marks_after(world, marks, actor).cuts)
+        && components.is_busy(key, actor as usize)
+        && is_within(bounds.cuts, marks_by(components, key, marks, actor).cuts)
 }

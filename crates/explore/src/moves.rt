@@ -1,16 +1,22 @@
 //! The moves from a layer: of each world, the turns of all who may go from some stand on it.
-ghost use Rattle.std.specs.Prelude.{◌≡◌, ◌⊎◌, ◌<◌, ◌≤◌, ◌+◌, ◌^◌, [], ℕ, length, Some, slice_get, IfOk, IfSome};
+ghost use Rattle.std.specs.Prelude.{◌≡◌, ◌⊎◌, ◌<◌, ◌≤◌, ◌^◌, ℕ, Bool, length, Some, slice_get, IfOk, IfSome};
 ghost use Rattle.race_core.specs.declared.opening.TheConstants.{ACTORS_MAX};
+ghost use Rattle.race_core.specs.Worlds.{WorldView};
+ghost use Rattle.explore.specs.declared.layer.Live.{Live};
+ghost use Rattle.explore.specs.declared.layer.Stand.{Stand};
 ghost use Rattle.explore.specs.declared.moves.Move.{Move};
-ghost use Rattle.explore.specs.Layers.{Keeps, AreOn};
+ghost use Rattle.explore.specs.Kept.{AreKeys, layer_of};
+ghost use Rattle.explore.specs.Keys.{IsKey};
+ghost use Rattle.explore.specs.Layers.{Keeps};
 ghost use Rattle.explore.specs.Moves.{IsOf, IsOneOf, AreChoices, AreMoves, AreAllChoices, AreNoMoves};
-ghost use Rattle.explore.specs.Points.{AreWithin, MayGo};
+ghost use Rattle.explore.specs.Points.{AreWithin};
 
+use crate::components::Components;
+use crate::keys::Key;
 use crate::layer::Layer;
 use crate::limits::Bounds;
-use crate::marks::{Marks, marks_after, may_go};
+use crate::marks::{Marks, marks_by, may_go};
 use path_text::NoMemory;
-use race_core::World;
 use std::alloc::Global;
 use tree_model::Tree;
 
@@ -60,33 +66,35 @@ fn move_at(moves: &mut Vec<Move>, stand: usize, actor: u32) -> Result<usize, NoM
     Ok(at)
 }
 
-// All who may have the next turn from the stand at that place, on that world, with those marks. The world's moves grow
-// by theirs. NoMemory where room was refused.
+// All who may have the next turn from the stand at that place, on the world of that key, with those marks. The world's
+// moves grow by theirs. NoMemory where room was refused.
 fn choices_at<T: Tree>(
     alloc: Global,
     bounds: Bounds,
     stand: usize,
     marks: Marks,
-    world: &World<T>,
+    components: &Components<T>,
+    key: &Key,
     moves: &mut Vec<Move>,
 ) -> Result<Vec<Choice>, NoMemory>
-    requires few { length world.now.seats ≤ ACTORS_MAX }
+    requires few { length key.now.own.items ≤ ACTORS_MAX }
     requires within { AreWithin marks (2 ^ 40) }
     ensures keeps { IfOk result (λ choices. Keeps moves.old.items moves.new.items) }
-    ensures new { IfOk result (λ choices. (j : ℕ) (one : Move) → slice_get moves.new.items j ≡ Some one
+    ensures new { IfOk result (λ choices. (w v : WorldView) → IsKey components.now w v key.now
+        → (j : ℕ) (one : Move) → slice_get moves.new.items j ≡ Some one
         → (slice_get moves.old.items j ≡ Some one)
-        ⊎ IsOneOf bounds stand (record { world = world.now; marks = marks }) one) }
-    ensures choices { IfOk result (λ choices.
-        AreChoices bounds (record { world = world.now; marks = marks }) moves.new.items choices.items) }
+        ⊎ IsOneOf bounds stand (record { world = v; marks = marks }) one) }
+    ensures choices { IfOk result (λ choices. (w v : WorldView) → IsKey components.now w v key.now
+        → AreChoices bounds (record { world = v; marks = marks }) moves.new.items choices.items) }
 {
     let mut choices = Vec::new(alloc);
-    for number in 0..world.actors() {
+    for number in 0..key.own.len() {
         let actor = number as u32;
-        if may_go(world, marks, bounds, actor) {
+        if may_go(components, key, marks, bounds, actor) {
             let at = move_at(moves, stand, actor)?;
             choices.push(Choice {
                 actor,
-                marks: marks_after(world, marks, actor),
+                marks: marks_by(components, key, marks, actor),
                 at,
             })?;
         }
@@ -110,19 +118,26 @@ fn no_moves(alloc: Global, worlds: usize) -> Result<Vec<Vec<Move>>, NoMemory>
 pub(crate) fn listed<T: Tree>(
     alloc: Global,
     bounds: Bounds,
-    layer: &Layer<T>,
+    components: &Components<T>,
+    layer: &Layer,
 ) -> Result<(Vec<Vec<Move>>, Vec<Vec<Choice>>), NoMemory>
-    requires on { (n : ℕ) × ((n + 1 < 2 ^ 40) × AreOn n layer.now) }
-    ensures moves { IfOk result (λ listed. AreMoves bounds layer.now listed.0.items) }
-    ensures choices { IfOk result (λ listed. AreAllChoices bounds layer.now listed.0.items listed.1.items) }
+    requires few { (m : ℕ) (live : Live) → slice_get layer.now.worlds.items m ≡ Some live
+        → length live.key.own.items ≤ ACTORS_MAX }
+    requires within { (s : ℕ) (stand : Stand) → slice_get layer.now.stands.items s ≡ Some stand
+        → AreWithin stand.marks (2 ^ 40) }
+    requires on { (s : ℕ) (stand : Stand) → slice_get layer.now.stands.items s ≡ Some stand
+        → stand.world < length layer.now.worlds.items }
+    ensures moves { IfOk result (λ listed. (w : WorldView) (told : Bool) → AreKeys components.now w layer.now
+        → AreMoves bounds (layer_of w told layer.now) listed.0.items) }
+    ensures choices { IfOk result (λ listed. (w : WorldView) (told : Bool) → AreKeys components.now w layer.now
+        → AreAllChoices bounds (layer_of w told layer.now) listed.0.items listed.1.items) }
 {
     let mut moves = no_moves(alloc, layer.worlds.len())?;
     let mut all = Vec::new(alloc);
     for at in 0..layer.stands.len() {
         let stand = &layer.stands[at];
-        let live = &layer.worlds[stand.world];
-        let (world, those) = (live.seen.world(), &mut moves[stand.world]);
-        let choices = choices_at(alloc, bounds, at, stand.marks, world, those)?;
+        let (key, those) = (&layer.worlds[stand.world].key, &mut moves[stand.world]);
+        let choices = choices_at(alloc, bounds, at, stand.marks, components, key, those)?;
         all.push(choices)?;
     }
     Ok((moves, all))

@@ -1,5 +1,5 @@
 //! What actors change outside of their roots, counted while a world is gone through.
-ghost use Rattle.std.specs.Prelude.{◌≡◌, ◌↔◌, ◌<◌, ◌≤◌, ◌+◌, ◌^◌, ◌&&◌, [], ℕ, true, false, length, IfOk, OnOk, IsTrue, Some, None, slice_get, slice_index_or};
+ghost use Rattle.std.specs.Prelude.{◌≡◌, ◌<◌, ◌≤◌, ◌+◌, ◌^◌, ◌&&◌, [], ℕ, true, false, length, IfOk, OnOk, Some, None, slice_get, slice_index_or};
 ghost use Rattle.tree_model.specs.StepLaws.{is_on_entries};
 ghost use Rattle.tree_model.specs.Steps.{node_held, held};
 ghost use Rattle.race_core.specs.declared.opening.TheConstants.{ACTORS_MAX};
@@ -14,7 +14,7 @@ use path_text::NoMemory;
 use race_core::World;
 use std::alloc::Global;
 use std::marker::Model;
-use tree_list::{copy_nodes, is_within};
+use tree_list::is_within;
 use tree_model::{
     Actor, Answer, Event, HandleNo, Inode, Node, OpenHandle, Snapshot, Step, StepOf, Tree,
 };
@@ -112,21 +112,6 @@ fn reaches_outside(
         }
         _ => false,
     }
-}
-
-// Whether the roots are the same, one by one.
-fn same_roots(roots: &[Option<Node>], others: &[Option<Node>]) -> bool
-    ensures { IsTrue result ↔ (roots.now ≡ others.now) }
-{
-    if roots.len() != others.len() {
-        return false;
-    }
-    for (at, root) in roots.iter().enumerate() {
-        if *root != others[at] {
-            return false;
-        }
-    }
-    true
 }
 
 // Whether a change, in a tree of these nodes and handles, is outside of its actor's root.
@@ -230,20 +215,6 @@ impl Tally {
         }
     }
 
-    /// An equal tally. NoMemory where room was refused.
-    pub(crate) fn copy(&self, alloc: Global) -> Result<Tally, NoMemory>
-        ensures { IfOk result (λ copy. copy ≡ self.now) }
-    {
-        let nodes = copy_nodes(alloc, self.tree.nodes())?;
-        let handles = Vec::from_slice(alloc, self.tree.handles())?;
-        Ok(Tally {
-            told: self.told,
-            roots: Vec::from_slice(alloc, self.roots.as_slice())?,
-            counts: Vec::from_slice(alloc, self.counts.as_slice())?,
-            tree: Snapshot::new(nodes, handles),
-        })
-    }
-
     // Counts the last event of the book, which is at that place. NoMemory where room was refused.
     fn count<T: Tree>(&mut self, alloc: Global, world: &World<T>, at: usize) -> Result<(), NoMemory>
         requires few { at + 1 < 2 ^ 64 }
@@ -290,16 +261,14 @@ impl Tally {
         Ok(())
     }
 
-    /// Whether the same is told: each actor whose changes are has made as many outside of its root, and has the same
-    /// one.
-    pub(crate) fn same(&self, other: &Tally) -> bool
-        ensures { IsTrue result
-            ↔ ((self.now.told ≡ other.now.told)
-            × ((self.now.roots ≡ other.now.roots) × (self.now.counts ≡ other.now.counts))) }
+    /// How many changes the actor has made outside of its root; 0 where they aren't told.
+    pub(crate) fn changes_of(&self, actor: usize) -> u64
+        ensures { result ≡ slice_index_or self.now.counts actor 0 }
     {
-        self.told == other.told
-            && same_roots(&self.roots, &other.roots)
-            && self.counts == other.counts
+        match self.counts.get(actor) {
+            Some(count) => *count,
+            None => 0,
+        }
     }
 
     /// How many changes each actor has made outside of its root; nothing where they aren't told.

@@ -1,5 +1,5 @@
 //! Whether two runs tell the same.
-ghost use Rattle.std.specs.Prelude.{◌≡◌, ◌<◌, ◌≤◌, ℕ, IsTrue, ◌↔◌, length};
+ghost use Rattle.std.specs.Prelude.{◌≡◌, ◌<◌, ◌≤◌, ℕ, IsTrue, ◌↔◌};
 ghost use Rattle.tree_model.specs.Steps.{held_count};
 ghost use Rattle.explore.specs.Renamed.{replies_by};
 

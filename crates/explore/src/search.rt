@@ -2,99 +2,138 @@
 ghost use Rattle.std.specs.Prelude.{◌≡◌, ◌<◌, ◌≤◌, ◌+◌, ◌^◌, ◌++◌, ◌∷◌, [], ℕ, List, Option, Some, length, slice_get, IsTrue, IfOk, IfErr, OnOk};
 ghost use Rattle.std.specs.Global.{Vec};
 ghost use Rattle.race_core.specs.declared.opening.TheConstants.{ACTORS_MAX};
-ghost use Rattle.race_core.specs.Worlds.{WorldView};
 ghost use Rattle.schedule_graph.specs.declared.graph.Spot.{Spot};
 ghost use Rattle.schedule_graph.specs.declared.graph.Way.{Way};
 ghost use Rattle.explore.specs.declared.layer.Stand.{Stand};
+ghost use Rattle.explore.specs.declared.layer.Live.{Live};
 ghost use Rattle.explore.specs.declared.limits.Limits.{Limits};
-ghost use Rattle.explore.specs.Explored.{AreBusy, WhyNot};
+ghost use Rattle.explore.specs.declared.limits.Scope.{Scope};
+ghost use Rattle.explore.specs.Alike.{after_turns};
+ghost use Rattle.explore.specs.Deeds.{IsSound};
+ghost use Rattle.explore.specs.Keys.{IsKey, AreFew};
+ghost use Rattle.explore.specs.Kept.{AreKept, IsFirstOf, layer_of};
+ghost use Rattle.explore.specs.Local.{AreNumbered};
+ghost use Rattle.explore.specs.Explored.{AreBusy, AreStates, WhyNot, bounds_at};
 ghost use Rattle.explore.specs.Promise.{IsMerged};
 ghost use Rattle.explore.specs.Concluded.{IsToldBy, HasShort, AsksIn, AreShort, AskIn, AreToldIn};
-ghost use Rattle.explore.specs.Layers.{LiveView, LayerView, AreOn, IsFirst, IsPassed, HasSearched};
+ghost use Rattle.explore.specs.Layers.{LayerView, AreOn, IsPassed, HasSearched};
 ghost use Rattle.explore.specs.Spreading.{AreApartChoices, AreFit, AreWaysOfAll, AreSpotsBy};
+ghost use Rattle.explore.specs.States.{IsCounted};
 ghost use Rattle.explore.specs.Want.{EndsWell};
 
 use crate::begin::can_begin;
 use crate::beginnings::Beginnings;
 use crate::ends::spots_of;
 use crate::found::{Class, Findings};
-use crate::growing::{ended, give_up, led};
 use crate::jobs::Jobs;
-use crate::layer::{Layer, Stand};
+use crate::keys::Key;
+use crate::known_turns::KnownTurns;
+use crate::layer::{Layer, Live, Stand};
+use crate::learning::learn;
+use crate::led::{ended, lead};
 use crate::limits::{Bounds, Limits, Scope, SearchFault};
 use crate::marks::no_marks;
 use crate::moves::{Choice, listed};
+use crate::passing::{Passed, go_on};
 use crate::progress::Progress;
-use crate::rounds::{Course, go_on};
 use crate::ways::{all_go_on, all_ways};
 use path_text::NoMemory;
-use race_core::CopyTree;
+use race_core::{ACTORS_MAX, CopyTree, World};
 use schedule_graph::{Count, Graph};
 use std::alloc::Global;
 use std::marker::{Send, Sync};
 use std::thread::Threads;
 use tree_model::Tree;
 
-// Gives up the worlds of a layer that isn't gone on from.
-fn leave<T: Tree + Drop>(alloc: Global, layer: Layer<T>) {
-    let Layer { worlds, stands: _ } = layer;
-    give_up(alloc, worlds);
-}
-
-// The same, but one of them goes to its end. Whether there was one, and memory for it.
-fn leave_well<T: Tree + Drop>(alloc: Global, layer: Layer<T>) -> bool
-    ensures { IsTrue result → (m : ℕ) × ((live : LiveView)
-        × ((slice_get layer.worlds m ≡ Some live) × EndsWell live.world)) }
+// Whether the world of a layer that came first goes to its end with memory for it.
+fn ends_well<T: Tree + Drop, B: Beginnings<T>>(alloc: Global, beginnings: &B, layer: &Layer) -> bool
+    requires { (m : ℕ) (live : Live) → slice_get layer.now.worlds.items m ≡ Some live
+        → length live.turns.items < 2 ^ 40 }
+    ensures { IsTrue result → (m : ℕ) × ((live : Live) × ((slice_get layer.now.worlds.items m ≡ Some live)
+        × EndsWell (after_turns (B.opening beginnings.now) live.turns.items))) }
 {
-    let Layer {
-        mut worlds,
-        stands: _,
-    } = layer;
-    let Some(live) = worlds.pop() else {
-        worlds.destroy_empty();
+    let Some(live) = layer.worlds.get(0) else {
         return false;
     };
-    give_up(alloc, worlds);
-    ended(alloc, live).is_ok()
+    let Ok(turns) = Vec::from_slice(alloc, live.turns.as_slice()) else {
+        return false;
+    };
+    match lead(alloc, beginnings, false, turns) {
+        Ok(led) => ended(alloc, led).is_ok(),
+        Err(_) => false,
+    }
 }
 
-// The layer of no turns, of one world.
+// What is known of worlds after turns from that one: no turn yet, and its own key.
 //
-// Errors: TooManyActors over 64; TooManyStates where there may be no world; NoMemory where room was refused.
-fn first<T: Tree + Drop, B: Beginnings<T>>(
+// Errors: TooManyActors over 64; NoMemory where room was refused.
+fn known_of<T: CopyTree + Drop>(
+    alloc: Global,
+    told: bool,
+    world: &World<T>,
+) -> Result<(KnownTurns<T>, Key), SearchFault>
+    requires numbered { AreNumbered world.now.seats }
+    requires fresh { world.now.book.events ≡ [] }
+    ensures sound { IfOk result (λ known. IsSound world.now known.0) }
+    ensures told { IfOk result (λ known. known.0.components.told ≡ told) }
+    ensures key { IfOk result (λ known. IsKey known.0.components world.now world.now known.1) }
+    ensures few { IfOk result (λ known. AreFew 0 known.1) }
+    ensures actors { OnOk result (length world.now.seats ≤ ACTORS_MAX) }
+    ensures err { (limits : Limits) → IfErr result (WhyNot world.now limits) }
+{
+    if world.actors() > ACTORS_MAX {
+        return Err(SearchFault::TooManyActors);
+    }
+    let mut known = KnownTurns::new(alloc, told, world)?;
+    match known.first_key(alloc, world) {
+        Ok(key) => Ok((known, key)),
+        Err(_) => {
+            known.give_up(alloc);
+            Err(SearchFault::NoMemory)
+        }
+    }
+}
+
+// The same of a new world, which is given up.
+//
+// Errors: as of `known_of`.
+fn begun<T: CopyTree + Drop, B: Beginnings<T>>(
     alloc: Global,
     beginnings: &B,
-    limits: &Limits,
-) -> Result<Layer<T>, SearchFault>
-    ensures first { IfOk result (λ layer. IsFirst (B.opening beginnings.now) limits.now.scope layer) }
-    ensures on { IfOk result (λ layer. AreOn 0 layer) }
+    told: bool,
+) -> Result<(KnownTurns<T>, Key), SearchFault>
+    ensures sound { IfOk result (λ known. IsSound (B.opening beginnings.now) known.0) }
+    ensures told { IfOk result (λ known. known.0.components.told ≡ told) }
+    ensures key { IfOk result (λ known.
+        IsKey known.0.components (B.opening beginnings.now) (B.opening beginnings.now) known.1) }
+    ensures few { IfOk result (λ known. AreFew 0 known.1) }
     ensures actors { OnOk result (length (B.opening beginnings.now).seats ≤ ACTORS_MAX) }
-    ensures states { OnOk result (1 ≤ limits.now.states) }
-    ensures err { IfErr result (WhyNot (B.opening beginnings.now) limits.now) }
+    ensures err { (limits : Limits) → IfErr result (WhyNot (B.opening beginnings.now) limits) }
 {
-    if limits.states == 0 {
-        return Err(SearchFault::TooManyStates);
-    }
+    let world = beginnings.world(alloc)?;
+    let known = known_of(alloc, told, &world);
+    world.give_up(alloc);
+    known
+}
+
+// The layer of no turns, of one world of that key. NoMemory where room was refused.
+fn first(alloc: Global, key: Key) -> Result<Layer, NoMemory>
+    ensures { IfOk result (IsFirstOf key) }
+{
     let stand = Stand {
         world: 0,
         turns: Vec::new(alloc),
         marks: no_marks(),
     };
     let mut stands = Vec::new(alloc);
-    let Ok(()) = stands.push(stand) else {
-        return Err(SearchFault::NoMemory);
-    };
-    let live = match led(alloc, beginnings, limits.scope.outside, Vec::new(alloc)) {
-        Ok(live) => live,
-        Err(fault) => return Err(fault),
+    stands.push(stand)?;
+    let live = Live {
+        key,
+        turns: Vec::new(alloc),
+        is_state: true,
     };
     let mut worlds = Vec::new(alloc);
-    let Ok(()) = worlds.reserve(1) else {
-        worlds.destroy_empty();
-        live.give_up(alloc);
-        return Err(SearchFault::NoMemory);
-    };
-    worlds.push_reserved(live);
+    worlds.push(live)?;
     Ok(Layer { worlds, stands })
 }
 
@@ -123,60 +162,123 @@ fn spread(
     Ok(next)
 }
 
-// Goes from one layer on to the next, in at most so many threads at a time: it is told what its worlds come to, and the
-// spots of its stands are added to the graph. The next layer, and how many states it has.
+// Goes from one layer on to the next: it is told what its worlds come to, and the spots of its stands are added to the
+// graph. The next layer, and how many states it has.
 //
 // Errors: TooManyStates where it would have more than so many; NoMemory where room was refused, and where the actor
 // who alone may have the turn can't have it: memory ran short on the way then.
-fn pass<T: CopyTree + Drop + Send, R: Threads + Sync>(
+fn pass<T: CopyTree + Drop + Send, B: Beginnings<T>, R: Threads + Sync>(
     alloc: Global,
     threads: &R,
     jobs: Jobs,
+    beginnings: &B,
     bounds: Bounds,
     room: u64,
-    layer: Layer<T>,
+    layer: &Layer,
+    turns: &mut KnownTurns<T>,
     graph: &mut Graph,
     classes: &mut Vec<Class<T>>,
-) -> Result<(Layer<T>, u64), SearchFault>
+) -> Result<(Layer, u64), SearchFault>
     requires few { length graph.old + 1 < 2 ^ 40 }
-    requires on { AreOn (length graph.old) layer }
+    requires on { AreOn (length graph.old) (layer_of (B.opening beginnings.now) turns.old.components.told layer.now) }
+    requires kept { AreKept turns.old (B.opening beginnings.now) (length graph.old) layer.now }
+    ensures told { OnOk result (turns.new.components.told ≡ turns.old.components.told) }
+    ensures kept { IfOk result (λ next. AreKept turns.new (B.opening beginnings.now) (length graph.old + 1) next.0) }
     ensures passed { IfOk result (λ next. (spots : Vec Spot)
         × ((graph.new ≡ graph.old ++ spots ∷ [])
-        × IsPassed bounds (length graph.old) layer next.0 spots.items classes.old.items classes.new.items)) }
+        × IsPassed bounds (length graph.old)
+        (layer_of (B.opening beginnings.now) turns.old.components.told layer.now)
+        (layer_of (B.opening beginnings.now) turns.old.components.told next.0)
+        spots.items classes.old.items classes.new.items)) }
     ensures room { IfOk result (λ next. next.1 ≤ room) }
-    ensures err { (w : WorldView) (limits : Limits) → IfErr result (WhyNot w limits) }
+    ensures counted { IfOk result (λ next. (scope : Scope) (states : ℕ) → bounds ≡ bounds_at scope (length graph.old)
+        → IsCounted turns.old.components (B.opening beginnings.now) scope (length graph.old) states layer.now
+        → IsCounted turns.new.components (B.opening beginnings.now) scope (length graph.old + 1)
+        (states + next.1) next.0) }
+    ensures err { (limits : Limits) (states : ℕ) → bounds ≡ bounds_at limits.scope (length graph.old)
+        → IsCounted turns.old.components (B.opening beginnings.now) limits.scope (length graph.old) states layer.now
+        → states + room ≡ limits.states → IfErr result (WhyNot (B.opening beginnings.now) limits) }
 {
-    let listed = listed(alloc, bounds, &layer);
-    let Layer { worlds, stands } = layer;
-    let Ok((moves, choices)) = listed else {
-        give_up(alloc, worlds);
-        return Err(SearchFault::NoMemory);
-    };
-    let those = stands.as_slice();
-    let course = go_on(alloc, threads, jobs, room, those, worlds, moves, classes)?;
-    let Course {
+    let (moves, choices) = listed(alloc, bounds, turns.components(), layer)?;
+    let (worlds, moves) = (layer.worlds.as_slice(), moves.as_slice());
+    learn(alloc, threads, jobs, beginnings, worlds, moves, turns)?;
+    let passed = go_on(alloc, beginnings, room, layer, moves, turns, classes)?;
+    turns.are_met();
+    let Passed {
         known,
         tops,
         places,
         states,
-    } = course;
+    } = passed;
     let worlds = known.into_worlds();
     let (choices, places, tops) = (choices.as_slice(), places.as_slice(), tops.as_slice());
+    let those = layer.stands.as_slice();
     if !all_go_on(bounds.only, those, choices, tops) {
-        give_up(alloc, worlds);
         return Err(SearchFault::NoMemory);
     }
-    let Ok(stands) = spread(alloc, bounds, those, choices, places, tops, graph) else {
-        give_up(alloc, worlds);
-        return Err(SearchFault::NoMemory);
-    };
+    let stands = spread(alloc, bounds, those, choices, places, tops, graph)?;
     Ok((Layer { worlds, stands }, states))
 }
 
 // Goes from layer to layer until nobody may have a turn; how many states there were.
 //
+// Errors: TooManyTurns where a list has more turns than the limit; TooManyStates where there are more states than the
+// limit; NoMemory where room was refused.
+fn layers<T: CopyTree + Drop + Send, B: Beginnings<T>, P: Progress, R: Threads + Sync>(
+    alloc: Global,
+    threads: &R,
+    jobs: Jobs,
+    beginnings: &B,
+    limits: &Limits,
+    progress: &mut P,
+    key: Key,
+    turns: &mut KnownTurns<T>,
+    graph: &mut Graph,
+    classes: &mut Vec<Class<T>>,
+) -> Result<u64, SearchFault>
+    requires busy { AreBusy (B.opening beginnings.now) limits.now.scope.begin.items }
+    requires sound { IsSound (B.opening beginnings.now) turns.old }
+    requires told { turns.old.components.told ≡ limits.now.scope.outside }
+    requires key { IsKey turns.old.components (B.opening beginnings.now) (B.opening beginnings.now) key }
+    requires few { AreFew 0 key }
+    requires actors { length (B.opening beginnings.now).seats ≤ ACTORS_MAX }
+    requires graph { graph.old ≡ [] }
+    requires classes { classes.old.items ≡ [] }
+    requires states { 1 ≤ limits.now.states }
+    ensures searched { OnOk result ((last : LayerView)
+        × ((last.stands ≡ [])
+        × HasSearched (B.opening beginnings.now) limits.now.scope last graph.new classes.new.items)) }
+    ensures states { IfOk result (λ states. states ≤ limits.now.states) }
+    ensures counted { IfOk result (λ states. AreStates (B.opening beginnings.now) limits.now.scope states) }
+    ensures depth { OnOk result (length graph.new < 2 ^ 40) }
+    ensures err { IfErr result (WhyNot (B.opening beginnings.now) limits.now) }
+{
+    let mut states = 1;
+    let mut layer = first(alloc, key)?;
+    'layers: while !layer.stands.is_empty() && graph.depth() <= limits.turns as usize {
+        let room = limits.states - states;
+        let bounds = limits.scope.bounds(graph.depth());
+        let (next, more) = pass(
+            alloc, threads, jobs, beginnings, bounds, room, &layer, turns, graph, classes,
+        )?;
+        layer = next;
+        states += more;
+        progress.passed(states);
+    }
+    if layer.stands.is_empty() {
+        return Ok(states);
+    }
+    // The lists of the layer are too long, if there was memory on the way.
+    if ends_well(alloc, beginnings, &layer) {
+        return Err(SearchFault::TooManyTurns);
+    }
+    Err(SearchFault::NoMemory)
+}
+
+// Goes from layer to layer from the opening world; how many states there were.
+//
 // Errors: TooManyActors over 64; TooManyTurns where a list has more turns than the limit; TooManyStates where there
-// are more worlds than the limit; NoMemory where room was refused.
+// are more states than the limit; NoMemory where room was refused.
 fn search<T: CopyTree + Drop + Send, B: Beginnings<T>, P: Progress, R: Threads + Sync>(
     alloc: Global,
     threads: &R,
@@ -194,28 +296,19 @@ fn search<T: CopyTree + Drop + Send, B: Beginnings<T>, P: Progress, R: Threads +
         × ((last.stands ≡ [])
         × HasSearched (B.opening beginnings.now) limits.now.scope last graph.new classes.new.items)) }
     ensures states { IfOk result (λ states. states ≤ limits.now.states) }
+    ensures counted { IfOk result (λ states. AreStates (B.opening beginnings.now) limits.now.scope states) }
     ensures depth { OnOk result (length graph.new < 2 ^ 40) }
     ensures err { IfErr result (WhyNot (B.opening beginnings.now) limits.now) }
 {
-    let mut states = 1;
-    let mut layer = first(alloc, beginnings, limits)?;
-    'layers: while !layer.stands.is_empty() && graph.depth() <= limits.turns as usize {
-        let room = limits.states - states;
-        let bounds = limits.scope.bounds(graph.depth());
-        let (next, more) = pass(alloc, threads, jobs, bounds, room, layer, graph, classes)?;
-        layer = next;
-        states += more;
-        progress.passed(states);
+    if limits.states == 0 {
+        return Err(SearchFault::TooManyStates);
     }
-    if layer.stands.is_empty() {
-        leave(alloc, layer);
-        return Ok(states);
-    }
-    // The lists of the layer are too long, if there was memory on the way.
-    if leave_well(alloc, layer) {
-        return Err(SearchFault::TooManyTurns);
-    }
-    Err(SearchFault::NoMemory)
+    let (mut turns, key) = begun(alloc, beginnings, limits.scope.outside)?;
+    let states = layers(
+        alloc, threads, jobs, beginnings, limits, progress, key, &mut turns, graph, classes,
+    );
+    turns.give_up(alloc);
+    states
 }
 
 // The class of which so many lists were counted; the least of them is gone through once more. NoMemory where room was
@@ -235,10 +328,10 @@ fn told_class<T: Tree + Drop, B: Beginnings<T>>(
     };
     let mut turns = Vec::new(alloc);
     turns.extend_from_slice(least.word.as_slice())?;
-    let Ok(live) = led(alloc, beginnings, scope.outside, turns) else {
+    let Ok(led) = lead(alloc, beginnings, scope.outside, turns) else {
         return Err(NoMemory);
     };
-    let ending = ended(alloc, live)?;
+    let ending = ended(alloc, led)?;
     let nodes = ending.snapshot(alloc)?;
     Ok(Class {
         least: ending,
@@ -267,13 +360,13 @@ fn told_classes<T: Tree + Drop, B: Beginnings<T>>(
 }
 
 /// Goes through every full list of turns of that scope, and tells each outcome once, with the number of its lists
-/// and the least of them. Of worlds that differ in the numbers of handles alone, one is gone on from; where changes
-/// outside of roots are told, of those in which each actor has made as many. After each layer `progress` is told how
-/// many states there were. It uses at most so many threads; with one it starts none. What is found doesn't depend on
-/// their number. Where the lists are to begin with some turns, these are taken first in a world of their own.
+/// and the least of them. Of worlds in which each actor has the same part, on the same nodes, one is gone on from;
+/// where changes outside of roots are told, of those in which each actor has made as many. After each layer `progress`
+/// is told how many states there were. It uses at most so many threads; with one it starts none. What is found doesn't
+/// depend on their number. Where the lists are to begin with some turns, these are taken first in a world of their own.
 ///
 /// Errors: TooManyActors over 64; NotBusy and TooManyCuts of the first turn that the lists are to begin with and can't;
-/// TooManyTurns where a list has more turns than the limit; TooManyStates where there are more worlds than the limit;
+/// TooManyTurns where a list has more turns than the limit; TooManyStates where there are more states than the limit;
 /// NoMemory where room was refused, in a world's run too. There are no findings then.
 pub fn explore<T: CopyTree + Drop + Send, B: Beginnings<T>, P: Progress, R: Threads + Sync>(
     alloc: Global,
@@ -286,6 +379,7 @@ pub fn explore<T: CopyTree + Drop + Send, B: Beginnings<T>, P: Progress, R: Thre
     ensures merged { IfOk result (λ found.
         IsMerged (B.opening beginnings.now) limits.now.scope found.classes.items found.lists found.turns) }
     ensures states { IfOk result (λ found. found.states ≤ limits.now.states) }
+    ensures counted { IfOk result (λ found. AreStates (B.opening beginnings.now) limits.now.scope found.states) }
     ensures err { IfErr result (WhyNot (B.opening beginnings.now) limits.now) }
 {
     can_begin(alloc, beginnings, limits)?;

@@ -6,22 +6,16 @@ ghost use Rattle.explore.specs.Layers.{Keeps, IsThere};
 ghost use Rattle.explore.specs.Merged.{bounded_cuts};
 ghost use Rattle.explore.specs.Spreading.{GoesOn, HaveChoices, AllGoOn, StandsAs, IsStandBy, AreStandsBy, IsWayTo, AreWaysTo, AreFit, AreWaysOfAll};
 
-use crate::growing::turns_and;
+use crate::fingerprint::Fingerprint;
 use crate::layer::Stand;
+use crate::led::turns_and;
 use crate::limits::Bounds;
+use crate::marks::Marks;
 use crate::moves::Choice;
 use path_text::NoMemory;
 use schedule_graph::Way;
 use std::alloc::Global;
 use std::collections::HashMap;
-
-// A stand as it is looked up: its world, and what counts from then on.
-#[derive(Clone, Copy, Debug, PartialEq, Eq, Hash)]
-struct Spot {
-    world: usize,
-    last: Option<u32>,
-    cuts: u64,
-}
 
 // Whether the cuts are the same, where they are bounded.
 fn same_cuts(most: Option<u64>, cuts: u64, others: u64) -> bool
@@ -30,72 +24,84 @@ fn same_cuts(most: Option<u64>, cuts: u64, others: u64) -> bool
     most.is_none() || cuts == others
 }
 
-// Whether the other stand is on the same world, with what counts from then on.
-fn stands_as(stand: &Stand, other: &Stand, bounds: Bounds) -> bool
-    ensures { IsTrue result ↔ StandsAs bounds stand.now other.now }
+// Whether the stand is on that world, with what counts from then on.
+fn stands_as(bounds: Bounds, world: usize, marks: Marks, stand: &Stand) -> bool
+    ensures { IsTrue result ↔ StandsAs bounds world marks stand.now }
 {
-    other.world == stand.world
-        && other.marks.last == stand.marks.last
-        && same_cuts(bounds.cuts, other.marks.cuts, stand.marks.cuts)
+    stand.world == world
+        && stand.marks.last == marks.last
+        && same_cuts(bounds.cuts, stand.marks.cuts, marks.cuts)
 }
 
-// How the stand is looked up: by its cuts only where they are bounded.
-fn spot_of(bounds: Bounds, stand: &Stand) -> Spot {
-    let cuts = match bounds.cuts {
-        Some(_) => stand.marks.cuts,
-        None => 0,
-    };
-    Spot {
-        world: stand.world,
-        last: stand.marks.last,
-        cuts,
+// By which number a stand on that world is looked up: by its cuts only where they are bounded.
+fn print_of(bounds: Bounds, world: usize, marks: Marks) -> u64 {
+    let mut print = Fingerprint::new().with(world as u64);
+    if let Some(last) = marks.last {
+        print = print.with(u64::from(last));
     }
+    if bounds.cuts.is_some() {
+        print = print.with(marks.cuts);
+    }
+    print.0
 }
 
-// Whether a stand like that one is at that place.
-fn is_there(stands: &[Stand], at: usize, bounds: Bounds, stand: &Stand) -> bool
-    ensures { IsTrue result → IsThere bounds stand.now stands.now at }
+// Whether the stand at that place is on that world, with what counts from then on.
+fn is_there(stands: &[Stand], at: usize, bounds: Bounds, world: usize, marks: Marks) -> bool
+    ensures { IsTrue result → IsThere bounds world marks stands.now at }
 {
-    if at < stands.len() && stands_as(stand, &stands[at], bounds) {
+    if at < stands.len() && stands_as(bounds, world, marks, &stands[at]) {
         return true;
     }
     false
 }
 
-// The place of a stand like that one.
+// The place of such a stand, which is looked up by that number.
 fn place_of(
     stands: &[Stand],
-    table: &HashMap<Spot, usize>,
+    table: &HashMap<u64, usize>,
+    print: u64,
     bounds: Bounds,
-    stand: &Stand,
+    world: usize,
+    marks: Marks,
 ) -> Option<usize>
-    ensures { IfSome result (λ t. IsThere bounds stand.now stands.now t) }
+    ensures { IfSome result (λ t. IsThere bounds world marks stands.now t) }
 {
-    let at = table.get(&spot_of(bounds, stand)).copied()?;
-    if is_there(stands, at, bounds, stand) {
+    let at = table.get(&print).copied()?;
+    if is_there(stands, at, bounds, world, marks) {
         return Some(at);
     }
     None
 }
 
-// The place of a stand like that one; it is put after the others where none is. NoMemory where its room was refused.
+// The place of a stand on that world, with what counts after the choice from the other stand; it is put after the
+// others where none is. NoMemory where its room was refused.
 fn stand_at(
-    stands: &mut Vec<Stand>,
-    table: &mut HashMap<Spot, usize>,
+    alloc: Global,
     bounds: Bounds,
-    stand: Stand,
+    stand: &Stand,
+    choice: &Choice,
+    world: usize,
+    next: &mut Vec<Stand>,
+    table: &mut HashMap<u64, usize>,
 ) -> Result<usize, NoMemory>
-    ensures keeps { Keeps stands.old.items stands.new.items }
-    ensures there { IfOk result (λ t. IsThere bounds stand stands.new.items t) }
-    ensures new { (t : ℕ) (born : Stand) → slice_get stands.new.items t ≡ Some born
-        → (slice_get stands.old.items t ≡ Some born) ⊎ (born ≡ stand) }
+    ensures keeps { Keeps next.old.items next.new.items }
+    ensures there { IfOk result (λ t. IsThere bounds world choice.now.marks next.new.items t) }
+    ensures new { (t : ℕ) (born : Stand) → slice_get next.new.items t ≡ Some born
+        → (slice_get next.old.items t ≡ Some born) ⊎ IsStandBy stand.now choice.now world born }
 {
-    if let Some(at) = place_of(stands.as_slice(), table, bounds, &stand) {
+    let marks = choice.marks;
+    let print = print_of(bounds, world, marks);
+    if let Some(at) = place_of(next.as_slice(), table, print, bounds, world, marks) {
         return Ok(at);
     }
-    let at = stands.len();
-    table.insert(spot_of(bounds, &stand), at)?;
-    stands.push(stand)?;
+    let at = next.len();
+    let turns = turns_and(alloc, stand.turns.as_slice(), choice.actor)?;
+    table.insert(print, at)?;
+    next.push(Stand {
+        world,
+        turns,
+        marks,
+    })?;
     Ok(at)
 }
 
@@ -107,24 +113,18 @@ fn way_to(
     choice: &Choice,
     world: usize,
     next: &mut Vec<Stand>,
-    table: &mut HashMap<Spot, usize>,
+    table: &mut HashMap<u64, usize>,
 ) -> Result<Way, NoMemory>
     ensures keeps { Keeps next.old.items next.new.items }
     ensures stands { (t : ℕ) (born : Stand) → slice_get next.new.items t ≡ Some born
         → (slice_get next.old.items t ≡ Some born) ⊎ IsStandBy stand.now choice.now world born }
     ensures way { IfOk result (λ way. IsWayTo bounds stand.now choice.now world next.new.items way) }
 {
-    let marks = choice.marks;
-    let after = Stand {
-        world,
-        turns: turns_and(alloc, stand.turns.as_slice(), choice.actor)?,
-        marks,
-    };
-    let to = stand_at(next, table, bounds, after)?;
+    let to = stand_at(alloc, bounds, stand, choice, world, next, table)?;
     Ok(Way {
         letter: choice.actor,
-        cut: marks.cuts != stand.marks.cuts,
-        change: marks.changes != stand.marks.changes,
+        cut: choice.marks.cuts != stand.marks.cuts,
+        change: choice.marks.changes != stand.marks.changes,
         to,
     })
 }
@@ -138,7 +138,7 @@ fn ways_from(
     choices: &[Choice],
     places: &[usize],
     next: &mut Vec<Stand>,
-    table: &mut HashMap<Spot, usize>,
+    table: &mut HashMap<u64, usize>,
 ) -> Result<Vec<Way>, NoMemory>
     requires at { (k : ℕ) (choice : Choice) → slice_get choices.now k ≡ Some choice → choice.at < length places.now }
     ensures keeps { IfOk result (λ ways. Keeps next.old.items next.new.items) }

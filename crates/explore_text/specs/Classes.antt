@@ -7,8 +7,8 @@ use Rattle.explore_text.specs.Telling.{IsToldOf}
 
 abbrev pub IsTold : List ℕ → State → ℕ → ClassView → Told → Type 0
 IsTold named opening actors class told =
-    IsToldOf named opening actors class.lists class.least.cuts class.least.turns class.least.replies
-    class.least.tree class.least.outside told
+    IsToldOf named opening actors class.lists class.least.cuts class.least.changes class.least.turns
+    class.least.replies class.least.tree class.least.outside told
 
 -- one of each outcome, in the same order
 abbrev pub AreTold : List ℕ → State → ℕ → List ClassView → List Told → Type 0

@@ -7,7 +7,7 @@ use Rattle.scripts.specs.declared.turns.TurnOrder.TheVariants.{OfScript}
 use Rattle.scripts.specs.Writing.{tree_of, IsNoRun, IsWritingFaultOf, Wrote}
 use Rattle.scripts.specs.Scenario.{Said, said_for}
 use Rattle.explore_text.specs.declared.script.ExploreFault.{ExploreFault}
-use Rattle.explore_text.specs.declared.script.ExploreFault.TheVariants.{Run, NoSuchActor, NoSuchLine, TooManyStates, TooManyTurns}
+use Rattle.explore_text.specs.declared.script.ExploreFault.TheVariants.{Run, NoSuchActor, NoSuchLine, TooManyStates, TooManyTurns, NotBusy, TooManyCuts}
 use Rattle.explore_text.specs.declared.search.Asked.{Asked}
 use Rattle.explore_text.specs.declared.search.SurveyFault.{SurveyFault}
 use Rattle.explore_text.specs.declared.search.SurveyFault.TheVariants as survey
@@ -19,6 +19,8 @@ told_by (survey.NoSuchActor actor) = NoSuchActor actor
 told_by (survey.NoSuchLine place) = NoSuchLine place
 told_by survey.TooManyStates = TooManyStates
 told_by survey.TooManyTurns = TooManyTurns
+told_by (survey.NotBusy at) = NotBusy at
+told_by (survey.TooManyCuts at) = TooManyCuts at
 told_by survey.NoMemory = Run OutOfMemory
 
 -- the text of the survey of what a script says, and whether no property fails
@@ -34,6 +36,8 @@ IsNoSurvey asked said (NoSuchLine place) =
     WhyNoSurvey asked (tree_of said) said.plans said.lines (survey.NoSuchLine place)
 IsNoSurvey asked said TooManyStates = WhyNoSurvey asked (tree_of said) said.plans said.lines survey.TooManyStates
 IsNoSurvey asked said TooManyTurns = WhyNoSurvey asked (tree_of said) said.plans said.lines survey.TooManyTurns
+IsNoSurvey asked said (NotBusy at) = WhyNoSurvey asked (tree_of said) said.plans said.lines (survey.NotBusy at)
+IsNoSurvey asked said (TooManyCuts at) = WhyNoSurvey asked (tree_of said) said.plans said.lines (survey.TooManyCuts at)
 
 -- a fault of reading, making the world or writing; or there is no survey
 abbrev pub IsExploreFaultOf : Asked → Result Said ScriptFault → ExploreFault → Type 0
@@ -43,6 +47,8 @@ IsExploreFaultOf asked said (NoSuchActor actor) = IsOkAnd said (λ s. IsNoSurvey
 IsExploreFaultOf asked said (NoSuchLine place) = IsOkAnd said (λ s. IsNoSurvey asked s (NoSuchLine place))
 IsExploreFaultOf asked said TooManyStates = IsOkAnd said (λ s. IsNoSurvey asked s TooManyStates)
 IsExploreFaultOf asked said TooManyTurns = IsOkAnd said (λ s. IsNoSurvey asked s TooManyTurns)
+IsExploreFaultOf asked said (NotBusy at) = IsOkAnd said (λ s. IsNoSurvey asked s (NotBusy at))
+IsExploreFaultOf asked said (TooManyCuts at) = IsOkAnd said (λ s. IsNoSurvey asked s (TooManyCuts at))
 
 -- The text of all that is found was written, and nothing else, and the answer is whether no property fails; or it
 -- failed as it should, and but for a writer that failed nothing was written. `known` is what the reader had left.

@@ -2,10 +2,14 @@ pub mod Changes
 pub mod Classes
 pub mod Counts
 pub mod Explore
+pub mod Json
 pub mod Looks
+pub mod Merge
 pub mod Options
 pub mod Order
 pub mod Outcome
+pub mod Part
+pub mod PartText
 pub mod Property
 pub mod Schedule
 pub mod Survey

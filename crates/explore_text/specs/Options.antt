@@ -1,16 +1,19 @@
 -- What is asked, by the texts of a command line's options.
-use Rattle.std.specs.Prelude.{⊤, ◌≡◌, ◌<◌, ◌≤◌, ◌^◌, ℕ, List, [], ◌∷◌, ◌++◌, Bool, true, false, map, decimal, Option, Some, None}
+use Rattle.std.specs.Prelude.{⊤, ◌≡◌, ◌<◌, ◌≤◌, ◌^◌, ◌⊎◌, ℕ, List, [], ◌∷◌, ◌++◌, Bool, true, false, length, map, decimal, Option, Some, None}
 use Rattle.std.specs.Borrow.{Bor}
 use Rattle.std.specs.List.{list_all}
 use Rattle.explore.specs.declared.jobs.Jobs.{Jobs}
 use Rattle.explore_text.specs.declared.options.OptionFault.{OptionFault}
-use Rattle.explore_text.specs.declared.options.OptionFault.TheVariants.{Actor, Cuts, States, Jobs as JobsOption, Text, NoMemory}
+use Rattle.explore_text.specs.declared.options.OptionFault.TheVariants.{Actor, Cuts, Begin, States, Jobs as JobsOption, Text, NoMemory}
 use Rattle.explore_text.specs.declared.options.Options.{Options}
 use Rattle.explore_text.specs.declared.options.TheConstants.{CUTS_MAX, STATES_MAX, STATES}
 use Rattle.explore_text.specs.declared.property.Property.{Property}
 use Rattle.explore_text.specs.declared.property.Rule.{Rule}
 use Rattle.explore_text.specs.declared.property.Rule.TheVariants.{Never, Always}
 use Rattle.explore_text.specs.declared.search.Asked.{Asked}
+use Rattle.explore_text.specs.declared.search.TheConstants.{TURNS_MAX}
+use Rattle.scripts.specs.declared.turns.Turns.{Turns}
+use Rattle.scripts.specs.Turns.{SaysTurns, turns_of}
 use Rattle.explore_text.specs.Property.{is_property}
 
 -- ---- what texts say
@@ -32,6 +35,18 @@ SaysCuts None None = ⊤
 SaysCuts None (Some n) = ⊥
 SaysCuts (Some text) None = ⊥
 SaysCuts (Some text) (Some n) = (text.now ≡ decimal n) × (n ≤ CUTS_MAX)
+
+-- no turns where there is no text, or those that it says, at most 100,000
+abbrev pub SaysBegin : Option (Bor (List ℕ)) → List ℕ → Type 0
+SaysBegin None begin = begin ≡ []
+SaysBegin (Some text) begin =
+    (turns : List Turns) × (SaysTurns text.now turns × (begin ≡ turns_of turns) × (length begin ≤ TURNS_MAX))
+
+-- the text says no turns, or more than that
+abbrev pub IsNoBegin : Option (Bor (List ℕ)) → Type 0
+IsNoBegin None = ⊥
+IsNoBegin (Some text) = ((turns : List Turns) → SaysTurns text.now turns → ⊥)
+    ⊎ ((turns : List Turns) × (SaysTurns text.now turns × (TURNS_MAX < length (turns_of turns))))
 
 -- no number of threads, or the one that the text says
 abbrev pub SaysJobs : Option (Bor (List ℕ)) → Option Jobs → Type 0
@@ -66,10 +81,12 @@ property_texts options = texts_in options.never.now ++ texts_in options.always.n
 -- what is asked is what the options say, the properties by `never` before those by `always`
 pub record AreAsked (options : Options) (asked : Asked) : Type 0 where
   pub named : SaysActors options asked.named.items
-  pub cuts : SaysCuts options.cuts asked.cuts
-  pub most : SaysMost options.states asked.most
+  pub cuts : SaysCuts options.cuts asked.limits.scope.cuts
+  pub begin : SaysBegin options.begin asked.limits.scope.begin.items
+  pub states : SaysMost options.states asked.limits.states
+  pub turns : asked.limits.turns ≡ TURNS_MAX
   pub jobs : SaysJobs options.jobs asked.jobs
-  pub outside : asked.outside ≡ options.outside
+  pub outside : asked.limits.scope.outside ≡ options.outside
   pub properties : asked.properties.items
       ≡ properties_by Never (texts_in options.never.now) ++ properties_by Always (texts_in options.always.now)
   pub texts : are_properties options.outside (property_texts options) ≡ true
@@ -85,12 +102,16 @@ IsUnsaid {A} SaysIt = (x : A) → SaysIt x → ⊥
 abbrev pub IsOptionFault : Options → OptionFault → Type 0
 IsOptionFault options Actor = IsUnsaid (SaysActors options)
 IsOptionFault options Cuts = IsSaid (SaysActors options) × IsUnsaid (SaysCuts options.cuts)
+IsOptionFault options Begin =
+    IsSaid (SaysActors options) × IsSaid (SaysCuts options.cuts) × IsNoBegin options.begin
 IsOptionFault options States =
-    IsSaid (SaysActors options) × IsSaid (SaysCuts options.cuts) × IsUnsaid (SaysMost options.states)
+    IsSaid (SaysActors options) × IsSaid (SaysCuts options.cuts) × IsSaid (SaysBegin options.begin)
+    × IsUnsaid (SaysMost options.states)
 IsOptionFault options JobsOption =
-    IsSaid (SaysActors options) × IsSaid (SaysCuts options.cuts) × IsSaid (SaysMost options.states)
-    × IsUnsaid (SaysJobs options.jobs)
+    IsSaid (SaysActors options) × IsSaid (SaysCuts options.cuts) × IsSaid (SaysBegin options.begin)
+    × IsSaid (SaysMost options.states) × IsUnsaid (SaysJobs options.jobs)
 IsOptionFault options Text =
-    IsSaid (SaysActors options) × IsSaid (SaysCuts options.cuts) × IsSaid (SaysMost options.states)
-    × IsSaid (SaysJobs options.jobs) × (are_properties options.outside (property_texts options) ≡ false)
+    IsSaid (SaysActors options) × IsSaid (SaysCuts options.cuts) × IsSaid (SaysBegin options.begin)
+    × IsSaid (SaysMost options.states) × IsSaid (SaysJobs options.jobs)
+    × (are_properties options.outside (property_texts options) ≡ false)
 IsOptionFault options NoMemory = ⊤

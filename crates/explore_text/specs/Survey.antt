@@ -79,14 +79,19 @@ all_hold all properties = list_all (λ property. is_none (find (breaks property)
 
 -- ---- the whole
 
+-- by how many worlds they were found, if by a search
+abbrev pub states_words : Option ℕ → List ℕ
+states_words None = []
+states_words (Some states) = codes "\nstates " ++ decimal states
+
 -- how many lists there are, by how many worlds, how many turns the longest has, how many outcomes look different
-abbrev pub numbers_text : ℕ → ℕ → ℕ → ℕ → List ℕ
+abbrev pub numbers_text : ℕ → Option ℕ → ℕ → ℕ → List ℕ
 numbers_text lists states longest outcomes =
     (codes "schedules " ++ count_words lists)
-    ++ ((codes "\nstates " ++ decimal states) ++ ((codes "\nturns " ++ decimal longest)
+    ++ (states_words states ++ ((codes "\nturns " ++ decimal longest)
     ++ ((codes "\noutcomes " ++ decimal outcomes) ++ codes "\n")))
 
 -- these, then a block for each that looks new, then each property
-abbrev pub survey_text : ℕ → ℕ → ℕ → List Told → List Property → List ℕ
+abbrev pub survey_text : ℕ → Option ℕ → ℕ → List Told → List Property → List ℕ
 survey_text lists states longest all properties =
     numbers_text lists states longest (length (new_ones all)) ++ (blocks_text all ++ properties_text all properties)

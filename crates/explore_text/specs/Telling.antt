@@ -18,13 +18,15 @@ pub record IsLook (named : List ℕ) (opening : State) (actors : ℕ) (replies :
   pub is : look ≡ outcome_lines named opening renumbered
       (record { nodes = nodes; handles = tree.handles }) outside actors
 
--- So many lists lead to it, the least has so many cuts and these turns, and comes to these replies and this tree,
--- with so many steps of each actor outside.
-pub record IsToldOf (named : List ℕ) (opening : State) (actors lists cuts : ℕ) (turns : List ℕ)
+-- So many lists lead to it, the least has so many cuts and changes of actor and these turns, and comes to these replies
+-- and this tree, with so many steps of each actor outside.
+pub record IsToldOf (named : List ℕ) (opening : State) (actors lists cuts changes : ℕ) (turns : List ℕ)
     (replies : List (List Outcome)) (tree : State)
     (outside : List ℕ) (told : Told) : Type 0 where
   pub counted : told.lists ≡ lists
   pub cut : told.cuts ≡ cuts
+  pub changed : told.changes ≡ changes
+  pub least : told.turns.items ≡ turns
   pub scheduled : told.schedule ≡ schedule_words turns
   pub printed : told.block ≡ outcome_lines named opening replies tree outside actors
   pub looks : IsLook named opening actors replies tree outside told.look

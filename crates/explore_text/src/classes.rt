@@ -22,6 +22,7 @@ fn tell<T: Tree>(
     let found = Found {
         lists: class.lists,
         cuts: class.least.cuts,
+        changes: class.least.changes,
         turns: &class.least.turns,
         report: &class.least.report,
         outside: &class.least.outside,

@@ -1,13 +1,14 @@
 //! What is asked, by the texts of a command line's options.
-ghost use Rattle.std.specs.Prelude.{◌≡◌, ◌≢◌, ◌≤◌, ◌++◌, ℕ, true, IfOk, MatchOption, MatchResult, decimal};
+ghost use Rattle.std.specs.Prelude.{◌≡◌, ◌≢◌, ◌≤◌, ◌<◌, ◌++◌, ℕ, true, length, replicate, OnOk, IfOk, MatchOption, MatchResult, decimal};
+ghost use Rattle.scripts.specs.Turns.{turns_of};
 ghost use Rattle.explore_text.specs.declared.options.OptionFault.TheVariants as option_fault;
-ghost use Rattle.explore_text.specs.Options.{texts_in, AllSay, SaysCuts, SaysMost, SaysJobs, IsUnsaid, are_properties, properties_by, AreAsked, IsOptionFault};
+ghost use Rattle.explore_text.specs.Options.{texts_in, AllSay, SaysCuts, SaysBegin, IsNoBegin, SaysMost, SaysJobs, IsUnsaid, are_properties, properties_by, AreAsked, IsOptionFault};
 
 use crate::property::{Property, Rule, read_property};
-use crate::search::Asked;
-use explore::{JOBS_MAX, Jobs};
+use crate::search::{Asked, TURNS_MAX};
+use explore::{JOBS_MAX, Jobs, Limits, Scope};
 use path_text::NoMemory;
-use scripts::number_of;
+use scripts::{Turns, number_of, read_turns};
 use std::alloc::Global;
 use thiserror::Error;
 
@@ -25,6 +26,7 @@ pub const STATES: u32 = 100_000;
 pub struct Options<'a> {
     pub actors: &'a [&'a str],
     pub cuts: Option<&'a str>,
+    pub begin: Option<&'a str>,
     pub states: Option<&'a str>,
     pub jobs: Option<&'a str>,
     pub outside: bool,
@@ -39,6 +41,8 @@ pub enum OptionFault {
     Actor,
     #[error("--cuts is a number up to 1000000")]
     Cuts,
+    #[error("--begin is I or I*N between commas, I an actor and N 1 to 100000, or - for none; 100000 turns at most")]
+    Begin,
     #[error("--states is a number from 1 to 10000000")]
     States,
     #[error("--jobs is a number from 1 to 64")]
@@ -98,6 +102,48 @@ fn cuts_in(text: Option<&str>) -> Result<Option<u64>, OptionFault>
     match number_within(text, 0, CUTS_MAX) {
         Some(cuts) => Ok(Some(u64::from(cuts))),
         None => Err(OptionFault::Cuts),
+    }
+}
+
+// Adds the turns of one actor.
+fn add_turns(begin: &mut Vec<u32>, turns: Turns) -> Result<(), NoMemory>
+    ensures { OnOk result (begin.new.items ≡ begin.old.items ++ replicate turns.times turns.actor) }
+{
+    for taken in 0..turns.times {
+        begin.push(turns.actor)?;
+    }
+    Ok(())
+}
+
+// The turns one by one, if there are at most so many.
+fn one_by_one(alloc: Global, said: &[Turns]) -> Result<Option<Vec<u32>>, NoMemory>
+    ensures { IfOk result (λ begin. MatchOption begin (TURNS_MAX < length (turns_of said.now))
+        (λ turns. (turns.items ≡ turns_of said.now) × (length turns.items ≤ TURNS_MAX))) }
+{
+    let mut begin = Vec::new(alloc);
+    for turns in said {
+        if turns.times as usize > TURNS_MAX as usize - begin.len() {
+            return Ok(None);
+        }
+        add_turns(&mut begin, *turns)?;
+    }
+    Ok(Some(begin))
+}
+
+// The turns that a text says, if there is a text.
+fn begin_in(alloc: Global, text: Option<&str>) -> Result<Vec<u32>, OptionFault>
+    ensures { MatchResult result (λ begin. SaysBegin text.entry begin.items)
+        (λ fault. fault ≢ option_fault.NoMemory → (fault ≡ option_fault.Begin) × IsNoBegin text.entry) }
+{
+    let Some(text) = text else {
+        return Ok(Vec::new(alloc));
+    };
+    let Some(said) = read_turns(alloc, text)? else {
+        return Err(OptionFault::Begin);
+    };
+    match one_by_one(alloc, said.as_slice())? {
+        Some(begin) => Ok(begin),
+        None => Err(OptionFault::Begin),
     }
 }
 
@@ -166,7 +212,8 @@ pub fn read_asked(alloc: Global, options: Options) -> Result<Asked, OptionFault>
         return Err(OptionFault::Actor);
     };
     let cuts = cuts_in(options.cuts)?;
-    let most = states_in(options.states)?;
+    let begin = begin_in(alloc, options.begin)?;
+    let states = states_in(options.states)?;
     let jobs = jobs_in(options.jobs)?;
     let outside = options.outside;
     let mut properties = Vec::new(alloc);
@@ -182,12 +229,20 @@ pub fn read_asked(alloc: Global, options: Options) -> Result<Asked, OptionFault>
     )? {
         return Err(OptionFault::Text);
     }
+    let scope = Scope {
+        cuts,
+        outside,
+        begin,
+    };
+    let limits = Limits {
+        states,
+        turns: TURNS_MAX,
+        scope,
+    };
     Ok(Asked {
         named,
-        cuts,
-        most,
+        limits,
         jobs,
-        outside,
         properties,
     })
 }

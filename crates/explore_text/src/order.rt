@@ -1,26 +1,47 @@
 //! Outcomes in the order of their least lists.
 ghost use Rattle.std.specs.Prelude.{◌≡◌, ◌≤◌, length, insert, OnOk, IfOk};
-ghost use Rattle.explore_text.specs.Order.{comes_before, put, in_order};
+ghost use Rattle.explore.specs.Lists.{is_not_after};
+ghost use Rattle.explore_text.specs.Order.{comes_before, put, put_all};
 
-use explore::Class;
+use crate::survey::Told;
 use path_text::NoMemory;
-use std::alloc::Global;
-use tree_model::Tree;
+
+// Whether the first list isn't after the second, in the order of words.
+fn is_not_after(turns: &[u32], others: &[u32]) -> bool
+    ensures { result ≡ is_not_after turns.now others.now }
+{
+    for (at, turn) in turns.iter().enumerate() {
+        if at >= others.len() {
+            return false;
+        }
+        let other = others[at];
+        if *turn != other {
+            return *turn < other;
+        }
+    }
+    true
+}
 
 // Whether an outcome's least list isn't after the other's.
-fn comes_before<T: Tree>(class: &Class<T>, other: &Class<T>) -> bool
-    ensures { result ≡ comes_before class.now other.now }
+fn comes_before(told: &Told, other: &Told) -> bool
+    ensures { result ≡ comes_before told.now other.now }
 {
-    class.least.is_at_most(&other.least)
+    if told.cuts != other.cuts {
+        return told.cuts < other.cuts;
+    }
+    if told.changes != other.changes {
+        return told.changes < other.changes;
+    }
+    is_not_after(told.turns.as_slice(), other.turns.as_slice())
 }
 
 // The place of the first that an outcome comes before, or how many there are.
-fn place_of<T: Tree>(ordered: &[Class<T>], class: &Class<T>) -> usize
+fn place_of(ordered: &[Told], told: &Told) -> usize
     ensures within { result ≤ length ordered.now }
-    ensures placed { put class.now ordered.now ≡ insert ordered.now result class.now }
+    ensures placed { put told.now ordered.now ≡ insert ordered.now result told.now }
 {
     for (at, other) in ordered.iter().enumerate() {
-        if comes_before(class, other) {
+        if comes_before(told, other) {
             return at;
         }
     }
@@ -28,25 +49,21 @@ fn place_of<T: Tree>(ordered: &[Class<T>], class: &Class<T>) -> usize
 }
 
 // Puts an outcome in its place among others.
-fn put<T: Tree + Drop>(ordered: &mut Vec<Class<T>>, class: Class<T>) -> Result<(), NoMemory>
-    ensures { OnOk result (ordered.new.items ≡ put class ordered.old.items) }
+fn put(ordered: &mut Vec<Told>, told: Told) -> Result<(), NoMemory>
+    ensures { OnOk result (ordered.new.items ≡ put told ordered.old.items) }
 {
-    let at = place_of(ordered, &class);
-    ordered.insert(at, class)?;
+    let at = place_of(ordered, &told);
+    ordered.insert(at, told)?;
     Ok(())
 }
 
-/// Outcomes in the order of their least lists. NoMemory where room was refused.
-pub(crate) fn in_order<T: Tree + Drop>(
-    alloc: Global,
-    classes: Vec<Class<T>>,
-) -> Result<Vec<Class<T>>, NoMemory>
-    ensures { IfOk result (λ ordered. ordered.items ≡ in_order classes.items) }
+/// Puts outcomes in their places among others, the last one first. NoMemory where room was refused.
+pub(crate) fn put_all(ordered: &mut Vec<Told>, all: Vec<Told>) -> Result<(), NoMemory>
+    ensures { OnOk result (ordered.new.items ≡ put_all all.items ordered.old.items) }
 {
-    let mut classes = classes;
-    let mut ordered = Vec::new(alloc);
-    while let Some(class) = classes.pop() {
-        put(&mut ordered, class)?;
+    let mut left = all;
+    while let Some(told) = left.pop() {
+        put(ordered, told)?;
     }
-    Ok(ordered)
+    Ok(())
 }

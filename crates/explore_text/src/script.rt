@@ -27,9 +27,15 @@ pub enum ExploreFault {
     /// There are more worlds than are gone through.
     #[error("explore: states")]
     TooManyStates,
-    /// A schedule has more than 100,000 turns.
+    /// A schedule has more turns than the limit.
     #[error("explore: turns")]
     TooManyTurns,
+    /// The turn at that place of the beginning, counted from 0, is of an actor who has nothing left to do then.
+    #[error("explore: begin {0}")]
+    NotBusy(usize),
+    /// With the turn at that place of the beginning, counted from 0, there are more cuts than are asked for.
+    #[error("explore: cuts {0}")]
+    TooManyCuts(usize),
 }
 
 impl From<RunFault> for ExploreFault {
@@ -40,8 +46,8 @@ impl From<RunFault> for ExploreFault {
     }
 }
 
-// How it is told that there is no survey.
-fn told_by(fault: SurveyFault) -> ExploreFault
+/// How it is told that there is no survey.
+pub(crate) fn told_by(fault: SurveyFault) -> ExploreFault
     ensures { result ≡ told_by fault }
 {
     match fault {
@@ -49,6 +55,8 @@ fn told_by(fault: SurveyFault) -> ExploreFault
         SurveyFault::NoSuchLine(place) => ExploreFault::NoSuchLine(place),
         SurveyFault::TooManyStates => ExploreFault::TooManyStates,
         SurveyFault::TooManyTurns => ExploreFault::TooManyTurns,
+        SurveyFault::NotBusy(at) => ExploreFault::NotBusy(at),
+        SurveyFault::TooManyCuts(at) => ExploreFault::TooManyCuts(at),
         SurveyFault::NoMemory => ExploreFault::Run(RunFault::NoMemory),
     }
 }
@@ -81,15 +89,17 @@ fn surveyed<Rt: Threads + Sync, P: Progress>(
     }
 }
 
-/// Reads a script, goes through all schedules of its world, those with at most so many cuts, and writes what they
-/// come to. The script's own schedule is checked and not used. The result is whether no property fails. On the way
-/// `progress` gets the number of worlds so far. What is written is the same on any number of threads.
+/// Reads a script, goes through all schedules of its world, those with at most so many cuts that begin with the turns
+/// that are asked for, and writes what they come to. The script's own schedule is checked and not used. The result
+/// is whether no property fails. On the way `progress` gets the number of worlds so far. What is written is the same
+/// on any number of threads.
 ///
 /// Errors, in this order: those of `read_scenario`; `BookFull` where the script gives its book fewer lines than it
 /// has actors; `NoSuchActor` of the first that is named and isn't there; `NoSuchLine` of the first property that
 /// names an actor who isn't there, a call that its actor doesn't have, or a reply that begins with other words than
-/// one can; `TooManyStates` where there are more worlds than are gone through, and `TooManyTurns` where one has more
-/// than 100,000, whichever is met first; `NoMemory`; `WriteFailed`. Nothing is written before the text is whole.
+/// one can; `NotBusy` and `TooManyCuts` of the first turn of the beginning that can't be taken; `TooManyStates` where
+/// there are more worlds than are gone through, and `TooManyTurns` where a schedule has more turns than the limit,
+/// whichever is met first; `NoMemory`; `WriteFailed`. Nothing is written before the text is whole.
 pub fn explore_script<Rt: Threads + Sync, R: Read, W: Write, P: Progress>(
     alloc: Global,
     threads: &Rt,

@@ -2,14 +2,17 @@
 ghost use Rattle.std.specs.Prelude.{◌≡◌, ◌≤◌, length, find, nat_le, IfOk, IfSome, MatchResult};
 ghost use Rattle.race_core.specs.declared.opening.TheConstants.{ACTORS_MAX as MOST_ACTORS};
 ghost use Rattle.explore_text.specs.declared.search.SurveyFault.TheVariants as survey_fault;
-ghost use Rattle.explore_text.specs.Surveyed.{IsTelling, IsSurvey, WhyNoSurvey};
+ghost use Rattle.explore_text.specs.Surveyed.{unfound_by, IsOfThese, IsTelling, IsSurvey, WhyNoSurvey};
+ghost use Rattle.explore_text.specs.Classes.{AreTold};
+ghost use Rattle.explore_text.specs.Order.{in_order};
+ghost use Rattle.explore_text.specs.Survey.{survey_text, all_hold};
 
 use crate::classes::tell_all;
-use crate::order::in_order;
+use crate::order::put_all;
 use crate::property::Property;
-use crate::survey::{all_hold, survey_text};
+use crate::survey::{Told, all_hold, survey_text};
 use crate::tellable::first_untold;
-use explore::{Findings, Jobs, Limits, Progress, Scene, Scope, SearchFault, explore};
+use explore::{Class, Findings, Jobs, Limits, Progress, Scene, SearchFault, explore};
 use path_text::NoMemory;
 use std::alloc::Global;
 use std::thread::Threads;
@@ -26,15 +29,11 @@ pub const TURNS_MAX: u32 = 100_000;
 pub struct Asked {
     /// The actors whose replies alone make an outcome; with none the replies of all, the tree and the open handles do.
     pub named: Vec<u32>,
-    /// Only the lists with at most so many cuts, or all of them.
-    pub cuts: Option<u64>,
-    /// The most worlds that are gone through, of alike ones one.
-    pub most: u64,
+    /// Which lists are gone through, whether it is told how many steps of each actor acted outside of its root, and how
+    /// many worlds are gone through at most.
+    pub limits: Limits,
     /// On how many threads they are gone through; with none on one. It makes no difference to what is told.
     pub jobs: Option<Jobs>,
-    /// Whether it is told how many steps of each actor acted outside of its root: outcomes that differ in these
-    /// numbers are two then.
-    pub outside: bool,
     /// Properties of every report, whatever actors are named.
     pub properties: Vec<Property>,
 }
@@ -58,9 +57,15 @@ pub enum SurveyFault {
     /// There are more worlds than are gone through.
     #[error("states")]
     TooManyStates,
-    /// A schedule has more than 100,000 turns.
+    /// A list has more turns than the limit.
     #[error("turns")]
     TooManyTurns,
+    /// The turn at that place of the beginning, counted from 0, is of an actor who has nothing left to do then.
+    #[error("begin {0}")]
+    NotBusy(usize),
+    /// With the turn at that place of the beginning, counted from 0, there are more cuts than are asked for.
+    #[error("cuts {0}")]
+    TooManyCuts(usize),
     /// Room was refused.
     #[error("no memory")]
     NoMemory,
@@ -86,14 +91,52 @@ fn first_foreign(named: &[u32], actors: usize) -> Option<u32>
     None
 }
 
-// On how many threads worlds are gone through: on as many as are asked for, or on one.
-fn jobs_of(asked: Option<Jobs>) -> Jobs
+/// On how many threads worlds are gone through: on as many as are asked for, or on one.
+pub(crate) fn jobs_of(asked: Option<Jobs>) -> Jobs
     ensures { IfSome asked (λ jobs. result ≡ jobs) }
 {
     if let Some(jobs) = asked {
         return jobs;
     }
     Jobs::one()
+}
+
+/// What is told of each outcome that was found. NoMemory where room was refused.
+pub(crate) fn told_in(
+    alloc: Global,
+    scene: &Scene,
+    asked: &Asked,
+    classes: &[Class<ListTree>],
+) -> Result<Vec<Told>, NoMemory>
+    requires { length scene.now.plans.items ≤ MOST_ACTORS }
+    ensures { IfOk result (λ all. AreTold asked.now.named.items scene.now.tree (length scene.now.plans.items)
+        classes.now all.items) }
+{
+    let opening = scene.tree.snapshot(alloc)?;
+    let actors = scene.plans.len() as u32;
+    tell_all(alloc, &asked.named, &opening, actors, classes)
+}
+
+/// The text of outcomes in the order of their least lists, as `survey_text` tells them, and whether no property fails.
+/// NoMemory where room was refused.
+pub(crate) fn told_ordered(
+    alloc: Global,
+    lists: u64,
+    states: Option<u64>,
+    longest: u64,
+    ordered: &[Told],
+    properties: &[Property],
+) -> Result<Survey, NoMemory>
+    ensures text { IfOk result (λ survey.
+        survey.text ≡ survey_text lists states longest ordered.now properties.now) }
+    ensures holds { IfOk result (λ survey. survey.holds ≡ all_hold ordered.now properties.now) }
+{
+    let mut text = Output::new(alloc);
+    survey_text(
+        alloc, &mut text, lists, states, longest, ordered, properties,
+    )?;
+    let holds = all_hold(ordered, properties);
+    Ok(Survey { text, holds })
 }
 
 // What is told of what was found.
@@ -109,35 +152,60 @@ fn survey_of(
         found.turns survey.holds survey.text) }
 {
     let (lists, states, turns) = (found.lists, found.states, found.turns as u64);
-    let opening = scene.tree.snapshot(alloc)?;
-    let actors = scene.plans.len() as u32;
-    let classes = in_order(alloc, found.classes)?;
-    let all = tell_all(alloc, &asked.named, &opening, actors, &classes)?;
-    let mut text = Output::new(alloc);
-    survey_text(
+    let mut ordered = Vec::new(alloc);
+    put_all(&mut ordered, told_in(alloc, scene, asked, &found.classes)?)?;
+    told_ordered(
         alloc,
-        &mut text,
         lists,
-        states,
+        Some(states),
         turns,
-        &all,
+        &ordered,
         &asked.properties,
-    )?;
-    let holds = all_hold(&all, &asked.properties);
-    Ok(Survey { text, holds })
+    )
 }
 
-/// Goes through all full lists of turns of the world of a tree and of plans, those with at most so many cuts, and
-/// says what they come to: how many there are, by how many worlds, how many turns the longest has, each outcome once
-/// with how many lead to it and a schedule for the least of them, and whether each property holds of every one.
+/// Whether all who are named are there, and each property names a line that a report can have. Errors: `NoSuchActor`
+/// and `NoSuchLine` of the first that isn't; `NoMemory`.
+pub(crate) fn check(alloc: Global, scene: &Scene, asked: &Asked) -> Result<(), SurveyFault>
+    ensures { MatchResult result (λ _. IsOfThese asked.now scene.now.plans.items)
+        (WhyNoSurvey asked.now scene.now.tree scene.now.plans.items scene.now.lines) }
+{
+    if let Some(actor) = first_foreign(&asked.named, scene.plans.len()) {
+        return Err(SurveyFault::NoSuchActor(actor));
+    }
+    let outside = asked.limits.scope.outside;
+    if let Some(place) = first_untold(alloc, outside, &scene.plans, &asked.properties)? {
+        return Err(SurveyFault::NoSuchLine(place));
+    }
+    Ok(())
+}
+
+/// How it is told that a search finds nothing. A world never has more actors than it may have.
+pub(crate) fn told_by(fault: SearchFault) -> SurveyFault
+    ensures { result ≡ unfound_by fault }
+{
+    match fault {
+        SearchFault::TooManyTurns => SurveyFault::TooManyTurns,
+        SearchFault::TooManyStates => SurveyFault::TooManyStates,
+        SearchFault::NotBusy(at) => SurveyFault::NotBusy(at),
+        SearchFault::TooManyCuts(at) => SurveyFault::TooManyCuts(at),
+        SearchFault::TooManyActors | SearchFault::NoMemory => SurveyFault::NoMemory,
+    }
+}
+
+/// Goes through all full lists of turns of the world of a tree and of plans, those with at most so many cuts that begin
+/// with the turns that are asked for, and says what they come to: how many there are, by how many worlds, how many
+/// turns the longest has, each outcome once with how many lead to it and a schedule for the least of them, and whether
+/// each property holds of every one.
 /// Outcomes are compared with their new nodes numbered anew, so these numbers make no difference between them. The
 /// number of steps that acted outside does, where it is asked for. The number of threads makes none. On the way
 /// `progress` gets the number of worlds so far.
 ///
 /// Errors, in this order: `NoSuchActor` of the first that is named and isn't there; `NoSuchLine` of the first
 /// property that names an actor who isn't there, a call that its actor doesn't have, or a reply that begins with other
-/// words than one can; `TooManyStates` and `TooManyTurns` beyond the limits, whichever is met first; `NoMemory` where
-/// room was refused, and where the world can't be made.
+/// words than one can; `NotBusy` and `TooManyCuts` of the first turn of the beginning that can't be taken;
+/// `TooManyStates` and `TooManyTurns` beyond the limits, whichever is met first; `NoMemory` where room was refused, and
+/// where the world can't be made.
 pub fn survey_scene<R: Threads + Sync, P: Progress>(
     alloc: Global,
     threads: &R,
@@ -150,32 +218,10 @@ pub fn survey_scene<R: Threads + Sync, P: Progress>(
         (λ survey. IsSurvey asked.now scene.now.tree scene.now.plans.items scene.now.lines survey.holds survey.text)
         (WhyNoSurvey asked.now scene.now.tree scene.now.plans.items scene.now.lines) }
 {
-    if let Some(actor) = first_foreign(&asked.named, scene.plans.len()) {
-        return Err(SurveyFault::NoSuchActor(actor));
-    }
-    if let Some(place) = first_untold(alloc, asked.outside, &scene.plans, &asked.properties)? {
-        return Err(SurveyFault::NoSuchLine(place));
-    }
-    let limits = Limits {
-        states: asked.most,
-        turns: TURNS_MAX,
-        scope: Scope {
-            cuts: asked.cuts,
-            outside: asked.outside,
-            begin: Vec::new(alloc),
-        },
-    };
+    check(alloc, scene, asked)?;
     let jobs = jobs_of(asked.jobs);
-    match explore(alloc, threads, jobs, scene, &limits, progress) {
+    match explore(alloc, threads, jobs, scene, &asked.limits, progress) {
         Ok(found) => Ok(survey_of(alloc, scene, asked, found)?),
-        Err(SearchFault::TooManyTurns) => Err(SurveyFault::TooManyTurns),
-        Err(SearchFault::TooManyStates) => Err(SurveyFault::TooManyStates),
-        // A world never has more actors than it may have, and no turns are asked for.
-        Err(
-            SearchFault::TooManyActors
-            | SearchFault::NotBusy(_)
-            | SearchFault::TooManyCuts(_)
-            | SearchFault::NoMemory,
-        ) => Err(SurveyFault::NoMemory),
+        Err(fault) => Err(told_by(fault)),
     }
 }

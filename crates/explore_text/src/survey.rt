@@ -3,7 +3,7 @@ ghost use Rattle.std.specs.Prelude.{◌≡◌, find};
 ghost use Rattle.std.specs.Option.{option_copied};
 ghost use Rattle.step_text.specs.Output.{Gains};
 ghost use Rattle.explore_text.specs.Looks.{AreSums};
-ghost use Rattle.explore_text.specs.Survey.{lists_breaking, breaks, witness_words, numbers_text, block_words, blocks_text, property_text, properties_text, all_hold, survey_text};
+ghost use Rattle.explore_text.specs.Survey.{lists_breaking, breaks, witness_words, states_words, numbers_text, block_words, blocks_text, property_text, properties_text, all_hold, survey_text};
 
 use crate::counts::{counted, plus};
 use crate::looks::sums_of;
@@ -21,6 +21,10 @@ pub struct Told {
     pub lists: u64,
     /// How many cuts the least of them has.
     pub cuts: u64,
+    /// How many of its turns are another actor's than the turn before.
+    pub changes: u64,
+    /// Its turns: actors' numbers.
+    pub turns: Vec<u32>,
     /// The schedule that leads to the least of them.
     pub schedule: Output,
     /// What is printed of its report.
@@ -44,19 +48,29 @@ impl Told {
     }
 }
 
+// Adds by how many worlds the lists were found, if they were found by a search.
+fn states_line(out: &mut Output, states: Option<u64>) -> Result<(), NoMemory>
+    ensures { Gains out.old out.new (states_words states) result }
+{
+    match states {
+        Some(states) => numbered(out, "\nstates ", states),
+        None => Ok(()),
+    }
+}
+
 // Adds how many lists there are, by how many worlds, how many turns the longest has, and how many outcomes look
 // different.
 fn numbers(
     out: &mut Output,
     lists: u64,
-    states: u64,
+    states: Option<u64>,
     longest: u64,
     outcomes: u64,
 ) -> Result<(), NoMemory>
     ensures { Gains out.old out.new (numbers_text lists states longest outcomes) result }
 {
     counted(out, "schedules ", lists)?;
-    numbered(out, "\nstates ", states)?;
+    states_line(out, states)?;
     numbered(out, "\nturns ", longest)?;
     numbered(out, "\noutcomes ", outcomes)?;
     out.text("\n")
@@ -148,15 +162,15 @@ pub fn all_hold(all: &[Told], properties: &[Property]) -> bool
     true
 }
 
-/// Adds the text of outcomes, which come in the order of their least lists, where there are so many lists by so many
-/// worlds, and the longest has so many turns: these numbers, how many outcomes look different, a block for each of
-/// these, and the line of each property. NoMemory where room was refused, and a part of the text may have been added
-/// then.
+/// Adds the text of outcomes, which come in the order of their least lists, where there are so many lists, by so many
+/// worlds if they were found by a search, and the longest has so many turns: these numbers, how many outcomes look
+/// different, a block for each of these, and the line of each property. NoMemory where room was refused, and a part of
+/// the text may have been added then.
 pub fn survey_text(
     alloc: Global,
     out: &mut Output,
     lists: u64,
-    states: u64,
+    states: Option<u64>,
     longest: u64,
     all: &[Told],
     properties: &[Property],

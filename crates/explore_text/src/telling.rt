@@ -20,6 +20,8 @@ pub struct Found<'a, T> {
     pub lists: u64,
     /// How many turns of the least of them come right after a turn of another actor who is within a call.
     pub cuts: u64,
+    /// How many are another actor's than the turn before.
+    pub changes: u64,
     /// The turns of the least: actors' numbers.
     pub turns: &'a [u32],
     /// Its report.
@@ -82,10 +84,13 @@ pub fn told_of<T: Tree>(
     found: &Found<T>,
 ) -> Result<Told, NoMemory>
     ensures { IfOk result
-        (IsToldOf named.now opening.now actors found.now.lists found.now.cuts found.now.turns.now
+        (IsToldOf named.now opening.now actors found.now.lists found.now.cuts found.now.changes
+        found.now.turns.now
         found.now.report.now.replies.items (T.state found.now.report.now.tree) found.now.outside.now) }
 {
     let report = found.report;
+    let mut turns = Vec::new(alloc);
+    turns.extend_from_slice(found.turns)?;
     let mut leads = Output::new(alloc);
     schedule(&mut leads, found.turns)?;
     let nodes = report.tree.snapshot(alloc)?;
@@ -102,6 +107,8 @@ pub fn told_of<T: Tree>(
     Ok(Told {
         lists: found.lists,
         cuts: found.cuts,
+        changes: found.changes,
+        turns,
         schedule: leads,
         block,
         look,

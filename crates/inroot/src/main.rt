@@ -12,7 +12,7 @@ mod waiting;
 
 use clap::ArgMatches;
 use command_line::{Fault, Request, Walking, asked, command, is_strict, order_of, status};
-use explore_text::{Asked, explore_script, read_asked};
+use explore_text::{Asked, explore_part, explore_script, merge_parts, read_asked};
 use script_drawings::{Style, draw};
 use script_jobs::run_jobs;
 use script_runs::{replay, walk};
@@ -66,6 +66,8 @@ enum Task<'a> {
     Draw(TurnOrder, Style),
     Run(Workers),
     Explore(Asked),
+    Part(Asked),
+    Merge,
 }
 
 /// What the arguments ask for. Reads the texts of the options.
@@ -76,7 +78,18 @@ fn task_of<'m>(alloc: Global, matches: &'m ArgMatches<'_>) -> Result<Task<'m>, F
         Request::Draw(asked) => Task::Draw(order_of(alloc, asked.schedule)?, asked.style),
         Request::Run(count) => Task::Run(Workers { count }),
         Request::Explore(options) => Task::Explore(read_asked(alloc, options)?),
+        Request::Part(options) => Task::Part(read_asked(alloc, options)?),
+        Request::Merge => Task::Merge,
     })
+}
+
+/// How the program ends by whether no property fails.
+fn judged(holds: bool) -> Result<(), Fault> {
+    if holds {
+        Ok(())
+    } else {
+        Err(Fault::PropertyFails)
+    }
 }
 
 /// Does it, over a script. Only `run` and `explore` start threads.
@@ -99,10 +112,15 @@ fn perform<R: Threads + Wait + Sync, S: Read>(
             let mut waiting = Waiting::new(rt);
             let explored = explore_script(alloc, threads, script, &mut output, asked, &mut waiting);
             waiting.end();
-            if !explored? {
-                return Err(Fault::PropertyFails);
-            }
+            return judged(explored?);
         }
+        Task::Part(asked) => {
+            let mut waiting = Waiting::new(rt);
+            let told = explore_part(alloc, threads, script, &mut output, asked, &mut waiting);
+            waiting.end();
+            told?;
+        }
+        Task::Merge => return judged(merge_parts(alloc, script, &mut output)?),
     }
     Ok(())
 }

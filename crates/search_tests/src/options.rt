@@ -6,6 +6,7 @@ use std::test::Fail;
 const NONE: Options<'static> = Options {
     actors: &[],
     cuts: None,
+    begin: None,
     states: None,
     jobs: None,
     outside: false,
@@ -16,6 +17,7 @@ const NONE: Options<'static> = Options {
 const ALL: Options<'static> = Options {
     actors: &["1", "0"],
     cuts: Some("1000000"),
+    begin: Some("1,0*2"),
     states: Some("1"),
     jobs: Some("64"),
     outside: true,
@@ -31,10 +33,11 @@ fn reads_all(alloc: Global) -> Result<bool, OptionFault> {
     };
     Ok(
         asked.named.as_slice() == [1, 0].as_slice()
-            && asked.cuts == Some(1_000_000)
-            && asked.most == 1
+            && asked.limits.scope.cuts == Some(1_000_000)
+            && asked.limits.scope.begin.as_slice() == [1, 0, 0].as_slice()
+            && asked.limits.states == 1
             && asked.jobs == Jobs::new(64)
-            && asked.outside
+            && asked.limits.scope.outside
             && rules == [Rule::Never, Rule::Always, Rule::Always],
     )
 }
@@ -43,8 +46,9 @@ fn reads_none(alloc: Global) -> Result<bool, OptionFault> {
     let asked = read_asked(alloc, NONE)?;
     Ok(
         asked.named.is_empty()
-            && asked.cuts.is_none()
-            && asked.most == 100_000
+            && asked.limits.scope.cuts.is_none()
+            && asked.limits.scope.begin.is_empty()
+            && asked.limits.states == 100_000
             && asked.jobs.is_none(),
     )
 }

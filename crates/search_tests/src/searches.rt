@@ -1,43 +1,15 @@
-//! Limits of searches, who is told how far they come, and worlds compared. What searches find are outputs of `explore`.
+//! Limits of searches, who is told how far they come, and how many states there are. What searches find are outputs of
+//! `explore`.
+use crate::scenes::{CARRIED_OUT, MOVED_OUT, REMOVED, TWO_RESOLVE, scene_of};
 use explore::{
-    Beginnings, Class, Findings, JOBS_MAX, Jobs, Limits, Progress, Scene, Scope, SearchFault, Seen,
-    Silent, explore,
+    Class, Findings, JOBS_MAX, Jobs, Limits, Progress, Scene, Scope, SearchFault, Silent, explore,
 };
 use path_text::NoMemory;
-use race_core::World;
-use scripts::{RunFault, TurnOrder, read_scene};
+use scripts::RunFault;
 use std::alloc::Global;
 use std::test::Fail;
 use std::thread::Threads;
 use tree_list::ListTree;
-
-/// An actor resolves `e/..` below `/c`, and another removes `e`.
-const REMOVED: &str = r#"{"version":1,"tree":[["dir","/c"],["dir","/c/e"]],"actors":[
-{"root":"/c","calls":[{"op":"resolve","path":"e/.."}]},
-{"root":"/c","calls":[{"op":"step","step":"remove_dir","on":"root","name":"e"}]}]}"#;
-
-/// An actor resolves `a/b/..` below `/c`, and another moves `b` out of it.
-const MOVED_OUT: &str = r#"{"version":1,
-"tree":[["dir","/c"],["dir","/c/a"],["dir","/c/a/b"],["dir","/secret"]],"actors":[
-{"root":"/c","calls":[{"op":"resolve","path":"a/b/.."}]},
-{"root":"/","calls":[{"op":"resolve","path":"c/a","as":"A"},{"op":"resolve","path":"secret","as":"S"},
-{"op":"step","step":"rename","on":"A","name":"b","to":"S","new":"b"}]}]}"#;
-
-/// An actor makes a directory in `/c/a` below `/c`, and another moves `a` out of it, before that or after it.
-const CARRIED_OUT: &str =
-    r#"{"version":1,"tree":[["dir","/c"],["dir","/c/a"],["dir","/secret"]],"actors":[
-{"root":"/c","calls":[{"op":"resolve","path":"a","as":"A"},
-{"op":"step","step":"make_dir","on":"A","name":"n"}]},
-{"root":"/","calls":[{"op":"rename","from":"c/a","to":"secret/a","mode":"plain"}]}]}"#;
-
-fn scene_of(alloc: Global, script: &str) -> Result<Scene, RunFault> {
-    let (scenario, tree) = read_scene(alloc, &mut script.as_bytes(), &TurnOrder::OfScript)?;
-    Ok(Scene {
-        tree,
-        plans: scenario.plans,
-        lines: scenario.lines,
-    })
-}
 
 /// The last number of states that was told.
 #[derive(Drop)]
@@ -87,7 +59,7 @@ fn limits_of(
 
 type Found = (u64, u64, usize, usize);
 
-const SEARCHES: [Search; 10] = [
+const SEARCHES: [Search; 12] = [
     (REMOVED, 15, 6, ALL, Ok((6, 15, 6, 3))),
     (REMOVED, 14, 6, ALL, Err(SearchFault::TooManyStates)),
     (REMOVED, 15, 5, ALL, Err(SearchFault::TooManyTurns)),
@@ -98,6 +70,9 @@ const SEARCHES: [Search; 10] = [
     (MOVED_OUT, 36, 14, WHOLE, Err(SearchFault::TooManyStates)),
     (CARRIED_OUT, 47, 11, ALL, Ok((136, 47, 11, 3))),
     (CARRIED_OUT, 47, 11, OUTSIDE, Ok((136, 47, 11, 4))),
+    // neither disturbs the other, and each has two turns: three worlds by three, whoever's handle has which number
+    (TWO_RESOLVE, 9, 4, ALL, Ok((6, 9, 4, 1))),
+    (TWO_RESOLVE, 8, 4, ALL, Err(SearchFault::TooManyStates)),
 ];
 
 /// What is found, with 0 states where the last number that was told is another one.
@@ -250,79 +225,5 @@ fn threads_make_no_difference(rt: HostRuntime) -> Result<(), Fail> {
             assert_eq!(rt; finds_the_same(rt.alloc(), &rt, count, script)?, true);
         }
     }
-    Ok(())
-}
-
-/// Nothing more is asked of the world.
-fn end(alloc: Global, world: World<ListTree>) {
-    let _ = world.run(alloc, [].as_slice());
-}
-
-/// The world after the turns of these actors, a digit each, if there is room.
-fn seen(alloc: Global, scene: &Scene, turns: &str) -> Option<Seen<ListTree>> {
-    let mut world = scene.world(alloc).ok()?;
-    let mut taken = true;
-    for turn in turns.as_bytes() {
-        let actor = u32::from(turn.saturating_sub(b'0'));
-        taken = taken && world.turn(alloc, actor).is_ok();
-    }
-    if !taken {
-        end(alloc, world);
-        return None;
-    }
-    match Seen::new(alloc, world) {
-        Ok(seen) => Some(seen),
-        Err(world) => {
-            end(alloc, world);
-            None
-        }
-    }
-}
-
-fn end_seen(alloc: Global, seen: Option<Seen<ListTree>>) {
-    if let Some(seen) = seen {
-        end(alloc, seen.into_world());
-    }
-}
-
-/// Whether two lists of turns lead to alike worlds, if there is room.
-fn are_alike(alloc: Global, scene: &Scene, turns: &str, others: &str) -> Option<bool> {
-    let (one, other) = (seen(alloc, scene, turns), seen(alloc, scene, others));
-    let alike = match (&one, &other) {
-        (Some(one), Some(other)) => Some(one.is_alike(other)),
-        _ => None,
-    };
-    end_seen(alloc, one);
-    end_seen(alloc, other);
-    alike
-}
-
-/// Two lists of turns, and whether they lead to alike worlds: by 01 and by 10 each actor holds the same, by another
-/// number.
-const LIKENESSES: [(&str, &str, bool); 8] = [
-    ("", "", true),
-    ("01", "10", true),
-    ("0", "1", false),
-    ("01", "01", true),
-    ("0011", "1100", true),
-    ("0011", "0111", false),
-    ("000111111", "111111000", true),
-    ("0001111111", "1111111000", false),
-];
-
-/// The place of the first row, from 0, whose worlds are compared otherwise.
-fn first_unlike(alloc: Global) -> Result<Option<usize>, RunFault> {
-    let scene = scene_of(alloc, MOVED_OUT)?;
-    for (at, (turns, others, wanted)) in LIKENESSES.iter().enumerate() {
-        if are_alike(alloc, &scene, turns, others) != Some(*wanted) {
-            return Ok(Some(at));
-        }
-    }
-    Ok(None)
-}
-
-#[test]
-fn worlds_are_compared(rt: HostRuntime) -> Result<(), Fail> {
-    assert_eq!(rt; first_unlike(rt.alloc())?, None);
     Ok(())
 }

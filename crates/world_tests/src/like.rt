@@ -32,7 +32,23 @@ fn tell_handles(alloc: Global, world: &World<ListTree>, told: &mut Output) -> Re
     Ok(())
 }
 
-// Tells whether the worlds are alike, and the handles of actor 0 in both.
+// Tells of each actor whether it is alike in both worlds.
+fn tell_each(
+    world: &World<ListTree>,
+    other: &World<ListTree>,
+    told: &mut Output,
+) -> Result<(), NoMemory> {
+    told.text(" by actor:")?;
+    for actor in 0..world.actors() {
+        if actor < other.actors() {
+            let is_like = world.is_like_at(other, actor);
+            told.text(if is_like { " like" } else { " unlike" })?;
+        }
+    }
+    Ok(())
+}
+
+// Tells whether the worlds are alike, and each actor in them, and the handles of actor 0 in both.
 fn tell(
     alloc: Global,
     world: &World<ListTree>,
@@ -41,6 +57,8 @@ fn tell(
 ) -> Result<(), NoMemory> {
     let is_like = world.is_like(other);
     told.text(if is_like { "like" } else { "unlike" })?;
+    tell_each(world, other, told)?;
+    told.text(" with")?;
     tell_handles(alloc, world, told)?;
     told.text(" and")?;
     tell_handles(alloc, other, told)
@@ -80,43 +98,43 @@ const PAIRS: [Pair<'static>; 7] = [
         lines: BOTH_OPEN,
         turns: &[0, 1],
         others: &[1, 0],
-        wanted: "like 0 0 2 and 0 0 3",
+        wanted: "like by actor: like like with 0 0 2 and 0 0 3",
     },
     Pair {
         lines: BOTH_OPEN,
         turns: &[0],
         others: &[1],
-        wanted: "unlike 0 0 2 and 0",
+        wanted: "unlike by actor: unlike unlike with 0 0 2 and 0",
     },
     Pair {
         lines: BOTH_OPEN,
         turns: &[0, 0, 1, 1, 1],
         others: &[1, 1, 1, 0, 0],
-        wanted: "like 0 2 and 0 3",
+        wanted: "like by actor: like like with 0 2 and 0 3",
     },
     Pair {
         lines: BOTH_OPEN,
         turns: &[0, 0, 1, 1, 1],
         others: &[0, 0, 1, 1],
-        wanted: "unlike 0 2 and 0 2",
+        wanted: "unlike by actor: like unlike with 0 2 and 0 2",
     },
     Pair {
         lines: ONE_MOVES,
         turns: &[0, 0, 1],
         others: &[1, 0],
-        wanted: "unlike 0 2 and 0",
+        wanted: "unlike by actor: unlike like with 0 2 and 0",
     },
     Pair {
         lines: BOTH_MAKE,
         turns: &[0, 1],
         others: &[1, 0],
-        wanted: "like 0 and 0",
+        wanted: "like by actor: like like with 0 and 0",
     },
     Pair {
         lines: ONE_LISTS,
         turns: &[0, 1],
         others: &[1, 0],
-        wanted: "unlike 0 and 0",
+        wanted: "unlike by actor: unlike like with 0 and 0",
     },
 ];
 

@@ -1,37 +1,13 @@
 //! The release of what is another owner's, by a copy of a world.
 use crate::plans::tree;
-use fixtures::{PLAIN, names_of};
-use handles::{Owner, Reached, Standing};
+use fixtures::{PLAIN, names_of, standing_of};
+use handles::Standing;
 use path_text::Errno;
 use race_core::{ActorPlan, Planned, Plans, Report, World};
 use root_ops::{Op, Request};
 use std::alloc::Global;
 use std::test::*;
 use tree_list::ListTree;
-use tree_model::{Actor, Answer, HandleNo, Kind, Node};
-
-// A Standing from elsewhere, of the owner with that tag.
-fn standing_of(alloc: Global, tag: u64) -> Result<Option<Standing>, Errno> {
-    let (names, expected) = (names_of(alloc, "a")?, names_of(alloc, "a")?);
-    let opened = Answer::Opened {
-        handle: HandleNo::new(5),
-        node: Node::new(2),
-        kind: Kind::Dir,
-    };
-    let reached = Reached::of(&opened);
-    drop(opened);
-    let Some(reached) = reached else {
-        return Ok(None);
-    };
-    let actor = Actor::new(0);
-    match reached.judge(Owner { tag, actor }, Answer::Names(names), &expected) {
-        Ok(standing) => Ok(Some(standing)),
-        Err(reached) => {
-            drop(reached.into_close());
-            Ok(None)
-        }
-    }
-}
 
 // The plan of an actor at `/c` that is to release that.
 fn plan_of(alloc: Global, standing: Standing) -> Result<ActorPlan, Errno> {
@@ -68,7 +44,7 @@ fn report_of_copy(
 // Whether the report has as many events, outcomes and kept Standings, where an actor is to release what is the owner's
 // with that tag, and its world is copied after so many turns.
 fn releases(alloc: Global, tag: u64, turns: u32, wanted: [usize; 3]) -> Result<bool, Errno> {
-    let Some(standing) = standing_of(alloc, tag)? else {
+    let Some(standing) = standing_of(alloc, 5, tag)? else {
         return Ok(false);
     };
     let plan = plan_of(alloc, standing)?;

@@ -24,8 +24,7 @@ use Rattle.race_core.specs.declared.report.Outcome.{Outcome}
 use Rattle.race_core.specs.declared.report.Outcome.TheVariants as outcomes
 use Rattle.race_core.specs.declared.seat.Seat.{Seat}
 use Rattle.race_core.specs.Ledgers.{LedgerView}
-use Rattle.race_core.specs.Renamed.{numbers_by, position_by, walk_after_by, walking_by, walk_after_handles, walking_handles, making_by, making_handles, levels_by, stage_by, removing_by, stage_handles, levels_handles, removing_handles, step_by, answer_by, reply_by, after_by, aim_by, doing_by, call_by, op_by, step_handles, answer_handles, reply_handles, after_handles, aim_handles, doing_handles, op_handles, planned_by, plans_by, outcome_by, outcomes_by, standings_by, standing_by, kept_by, ledger_by, seat_by, seats_by, planned_handles, plans_handles, outcome_handles, outcomes_handles, option_handles, standings_handles, kept_handles, ledger_handles, doing_call_handles, seat_handles}
-use Rattle.explore.specs.Paired.{all_handles}
+use Rattle.race_core.specs.Renamed.{numbers_by, position_by, walk_after_by, walking_by, walk_after_handles, walking_handles, making_by, making_handles, levels_by, stage_by, removing_by, stage_handles, levels_handles, removing_handles, step_by, answer_by, reply_by, after_by, aim_by, doing_by, call_by, op_by, step_handles, answer_handles, reply_handles, after_handles, aim_handles, doing_handles, op_handles, planned_by, plans_by, outcome_by, outcomes_by, standings_by, standing_by, kept_by, ledger_by, seat_by, planned_handles, plans_handles, outcome_handles, outcomes_handles, option_handles, standings_handles, kept_handles, ledger_handles, doing_call_handles, seat_handles}
 
 module _ (f : ℕ → ℕ) where
   pub numbers_append : (hs ks : List ℕ) → numbers_by f (hs ++ ks) ≡ numbers_by f hs ++ numbers_by f ks
@@ -193,10 +192,6 @@ module _ (f : ℕ → ℕ) where
 
   pub seat_numbers : (s : Seat) → seat_handles (seat_by f s) ≡ numbers_by f (seat_handles s)
   seat_numbers s = join (ledger_handles s.ledger) (doing_call_handles s.doing) _ _ (ledger_numbers s.ledger) (call_numbers s.doing)
-
-  pub all_numbers : (ss : List Seat) → all_handles (seats_by f ss) ≡ numbers_by f (all_handles ss)
-  all_numbers [] = refl
-  all_numbers (s ∷ ss) = join (seat_handles s) (all_handles ss) _ _ (seat_numbers s) (all_numbers ss)
 
 pub numbers_length : (f : ℕ → ℕ) (hs : List ℕ) → length (numbers_by f hs) ≡ length hs
 numbers_length f [] = refl

@@ -1,8 +1,8 @@
 -- On alike trees, by paired handles, a step comes to the same.
-use Rattle.std.proofs.Common.{◌≡◌, ◌≢◌, ⊎_elim, ◌⊎◌, inl, inr, ℕ, zero, suc, ◌<◌, Bool, true, false, not, ◌==◌, ◌||◌, ◌&&◌, nat_le, List, [], ◌∷◌, ◌++◌, length, reverse, Option, Some, None, Result, Ok, Err, slice_get, slice_set, refl, sym, ap, ◌∙◌, subst, eqb-true, eq-eqb, length-append, length-set, arith}
-use Rattle.std.proofs.lemmas.Bool.{false≢true, true≢false, cases_eq}
+use Rattle.std.proofs.Common.{◌≡◌, ◌≢◌, ◌⊎◌, inl, inr, ℕ, zero, suc, ◌<◌, Bool, true, false, ◌==◌, ◌||◌, ◌&&◌, List, [], ◌∷◌, ◌++◌, length, reverse, Option, Some, None, Result, Ok, Err, slice_get, slice_set, refl, sym, ap, ◌∙◌, subst, eqb-true, eq-eqb, arith}
+use Rattle.std.proofs.lemmas.Bool.{false≢true, true≢false}
 use Rattle.path_text.specs.declared.errno.Errno.{Errno}
-use Rattle.path_text.specs.declared.errno.Errno.TheVariants.{NotFound, BadHandle, NotDir, Invalid, TooMany}
+use Rattle.path_text.specs.declared.errno.Errno.TheVariants.{NotFound, BadHandle, Invalid, TooMany}
 use Rattle.tree_model.specs.declared.answer.Answer.{Answer}
 use Rattle.tree_model.specs.declared.answer.Answer.TheVariants.{Opened, Text, Names, NotBelow, Listed, Done, Refused}
 use Rattle.tree_model.specs.declared.inode.Inode.{Inode}
@@ -12,16 +12,13 @@ use Rattle.tree_model.specs.declared.inode.OpenHandle.{OpenHandle}
 use Rattle.tree_model.specs.declared.step.Mode.{Mode}
 use Rattle.tree_model.specs.declared.step.StepOf.{StepOf}
 use Rattle.tree_model.specs.declared.step.StepOf.TheVariants as steps
-use Rattle.tree_model.specs.declared.tree.TheConstants.{HANDLES_MAX, NUMBERS_MAX}
-use Rattle.tree_model.specs.State.{State, object_at, child, parent, is_dir, names_below, names_in, sorted_names}
-use Rattle.tree_model.specs.Entries.{refuse_if, with_some, makes, makes_link, removes_file, removes_dir, renames}
-use Rattle.tree_model.specs.StepLaws.{only_tells, open_count, opened_count, closed_count}
-use Rattle.tree_model.specs.Steps.{Outcome, refused, answered, kind_of, node_held, held, held_count, is_full, with_handle, opens, reads, shows, changes, outcome}
-use Rattle.tree_model.proofs.Counts.{handles_are_counted, others_counts_stay}
-use Rattle.tree_model.proofs.Places.{slice_get-last}
+use Rattle.tree_model.specs.State.{State, object_at}
+use Rattle.tree_model.specs.Entries.{refuse_if, with_some}
+use Rattle.tree_model.specs.StepLaws.{only_tells, opened_count, closed_count}
+use Rattle.tree_model.specs.Steps.{Outcome, refused, answered, kind_of, is_full, with_handle, opens, reads, shows, changes}
 use Rattle.race_core.specs.Book.{is_close}
 use Rattle.explore.specs.Renamed.{step_by, answer_by}
-use Rattle.explore.specs.Alike.{Pairs, Agree, SameSteps, SameAnswers, IsPair, AlikeTrees}
+use Rattle.explore.specs.Alike.{Pairs, Agree, SameSteps}
 
 -- ---- lists
 
@@ -67,28 +64,6 @@ unbit true true e = refl
 unbit false false e = refl
 unbit true false e = absurd (omega arith)
 unbit false true e = absurd (omega arith)
-
-module _ (pairs : Pairs) (s t : State) (alike : AlikeTrees pairs s t) where
-  pub same_held : (a h k : ℕ) → SameNumbers pairs h k → held s a h ≡ held t a k
-  same_held a h k same =
-      decode (held s a h) (held t a k)
-      (same (λ j. code (held s a j)) (λ l. code (held t a l)) (λ j l p. ap (λ o. code (node_held a o)) (alike.paired j l p).same))
-
-  tests : (h k j l : ℕ) → (h ≡ j → k ≡ l) × (k ≡ l → h ≡ j) → (h == j) ≡ (k == l)
-  tests h k j l both = go (h == j) (k == l) refl refl
-    where
-      go : (b c : Bool) → (h == j) ≡ b → (k == l) ≡ c → (h == j) ≡ (k == l)
-      go true true e e' = e ∙ sym e'
-      go false false e e' = e ∙ sym e'
-      go true false e e' = absurd (false≢true (sym e' ∙ eq-eqb k l (both.0 (eqb-true h j e))))
-      go false true e e' = absurd (false≢true (sym e ∙ eq-eqb h j (both.1 (eqb-true k l e'))))
-
-  -- one of the pair is a number that is in a pair just where the other is
-  pub together : (h k : ℕ) → SameNumbers pairs h k → (j l : ℕ) → pairs j l ≡ true → (h ≡ j → k ≡ l) × (k ≡ l → h ≡ j)
-  together h k same j l p =
-      let equal : (h == j) ≡ (k == l) =
-      unbit (h == j) (k == l) (same (λ x. bit (x == j)) (λ y. bit (y == l)) (λ x y q. ap bit (tests x y j l (alike.apart x y j l q p)))) in
-      ((λ e. eqb-true k l (sym equal ∙ eq-eqb h j e)), (λ e. eqb-true h j (equal ∙ eq-eqb k l e)))
 
 -- ---- steps by paired handles
 
@@ -224,50 +199,6 @@ module _ (pairs : Pairs) (s : State) (handles : List (Option OpenHandle)) (a : �
   changes_both (Err error) = tells (Refused error) refl
   changes_both (Ok nodes) = changes_to nodes
 
-  ends_both : AlikeTrees pairs s (other s handles) → (x y : StepOf ℕ) → is_full s a ≡ is_full (other s handles) a → Paired pairs x y → Ends (outcome s a x) (outcome (other s handles) a y)
-  ends_both alike x y same (open' h k n p) =
-      on_both _ _ (same_held pairs s (other s handles) alike a h k p) _ _ (λ d.
-      if_both (not (is_dir s.nodes d)) _ refl NotDir _ _ (some_both (child s.nodes d n) NotFound _ _ (λ c. opens_both same c)))
-  ends_both alike x y same (dup' h k p) = on_both _ _ (same_held pairs s (other s handles) alike a h k p) _ _ (λ d. opens_both same d)
-  ends_both alike x y same (parent' h k p) =
-      on_both _ _ (same_held pairs s (other s handles) alike a h k p) _ _ (λ d.
-      if_both (not (is_dir s.nodes d)) _ refl NotDir _ _ (some_both (parent s.nodes d) NotFound _ _ (λ c. opens_both same c)))
-  ends_both alike x y same (read' h k p) = on_both _ _ (same_held pairs s (other s handles) alike a h k p) _ _ (λ d. reads_both (object_at s.nodes d))
-  ends_both alike x y same (below' r q h k p p') =
-      on_both _ _ (same_held pairs s (other s handles) alike a r q p) _ _ (λ top.
-      on_both _ _ (same_held pairs s (other s handles) alike a h k p') _ _ (λ d. shows_both (names_below s.nodes top d)))
-  ends_both alike x y same (list' h k p) =
-      on_both _ _ (same_held pairs s (other s handles) alike a h k p) _ _ (λ d.
-      if_both (not (is_dir s.nodes d)) _ refl NotDir _ _ (tells (Listed (sorted_names (names_in s.nodes d))) refl))
-  ends_both alike x y same (close' h k p) =
-      on_both _ _ (same_held pairs s (other s handles) alike a h k p) _ _ (λ d. closes h k (together pairs s (other s handles) alike h k p))
-  ends_both alike x y same (make_dir' h k n p) =
-      on_both _ _ (same_held pairs s (other s handles) alike a h k p) _ _ (λ d. changes_both (makes s.nodes d n object.Dir))
-  ends_both alike x y same (make_file' h k n p) =
-      on_both _ _ (same_held pairs s (other s handles) alike a h k p) _ _ (λ d. changes_both (makes s.nodes d n object.File))
-  ends_both alike x y same (make_link' h k n text p) =
-      on_both _ _ (same_held pairs s (other s handles) alike a h k p) _ _ (λ d. changes_both (makes_link s.nodes d n text))
-  ends_both alike x y same (remove_file' h k n p) =
-      on_both _ _ (same_held pairs s (other s handles) alike a h k p) _ _ (λ d. changes_both (removes_file s.nodes d n))
-  ends_both alike x y same (remove_dir' h k n p) =
-      on_both _ _ (same_held pairs s (other s handles) alike a h k p) _ _ (λ d. changes_both (removes_dir s.nodes d n))
-  ends_both alike x y same (rename' h k n j l m mode p p') =
-      on_both _ _ (same_held pairs s (other s handles) alike a h k p) _ _ (λ d.
-      on_both _ _ (same_held pairs s (other s handles) alike a j l p') _ _ (λ e. changes_both (renames s.nodes d n e m mode)))
-
-same_full : {pairs : Pairs} {s t : State} → AlikeTrees pairs s t → (a : ℕ) → is_full s a ≡ is_full t a
-same_full alike a = λ i. nat_le HANDLES_MAX (alike.held_handles a i) || nat_le NUMBERS_MAX (alike.numbers i)
-
-pub ends_alike : (pairs : Pairs) (s t : State) (a : ℕ) → AlikeTrees pairs s t → (x y : StepOf ℕ) → Paired pairs x y → AlikeEnds s t a pairs (outcome s a x) (outcome t a y)
-ends_alike pairs s t a alike x y p = go t.nodes alike.nodes alike
-  where
-    go : (nodes : List Inode) → s.nodes ≡ nodes → AlikeTrees pairs s (record { nodes = nodes; handles = t.handles })
-        → AlikeEnds s (record { nodes = nodes; handles = t.handles }) a pairs (outcome s a x) (outcome (record { nodes = nodes; handles = t.handles }) a y)
-    go nodes e =
-        subst (λ nodes. AlikeTrees pairs s (record { nodes = nodes; handles = t.handles })
-        → AlikeEnds s (record { nodes = nodes; handles = t.handles }) a pairs (outcome s a x) (outcome (record { nodes = nodes; handles = t.handles }) a y))
-        e (λ same. ends_both pairs s t.handles a same x y (same_full same a) p)
-
 -- ---- the trees after it
 
 -- one pair more
@@ -293,13 +224,6 @@ grown_new pairs h k = by (pairs h k) (h == h) (k == k) (eq-eqb h h refl) (eq-eqb
     by true c d e e' = refl
     by false c d e e' = λ i. e i && e' i
 
--- what was paired still is, and the answers are the same but for pairs
-pub record AfterStep (pairs : Pairs) (o u : Outcome) : Type 0 where
-  pub more : Pairs
-  pub grows : (h k : ℕ) → pairs h k ≡ true → more h k ≡ true
-  pub trees : AlikeTrees more o.after u.after
-  pub answers : SameAnswers more o.answer u.answer
-
 pub blind_answer : (answer : Answer) → only_tells answer ≡ true → (f : ℕ → ℕ) → answer_by f answer ≡ answer
 blind_answer (Opened h x kind) e f = absurd (false≢true e)
 blind_answer (Text text) e f = refl
@@ -308,103 +232,6 @@ blind_answer NotBelow e f = refl
 blind_answer (Listed names) e f = refl
 blind_answer Done e f = refl
 blind_answer (Refused error) e f = refl
-
--- a handle more, of the next number
-paired_more : (entry : Option OpenHandle) (s t u v : State) → u.handles ≡ s.handles ++ entry ∷ [] → v.handles ≡ t.handles ++ entry ∷ []
-    → (h k : ℕ) → (IsPair s t h k) ⊎ ((h ≡ length s.handles) × (k ≡ length t.handles)) → IsPair u v h k
-paired_more entry s t u v e e' h k (inl old) = record {
-  here = omega (arith, old.here, ap length e, length-append s.handles (entry ∷ []));
-  there = omega (arith, old.there, ap length e', length-append t.handles (entry ∷ []));
-  same = ap (λ hs. slice_get hs h) e ∙ before s.handles (entry ∷ []) h old.here ∙ old.same
-      ∙ sym (before t.handles (entry ∷ []) k old.there) ∙ sym (ap (λ ks. slice_get ks k) e');
-}
-paired_more entry s t u v e e' h k (inr new) = record {
-  here = omega (arith, new.0, ap length e, length-append s.handles (entry ∷ []));
-  there = omega (arith, new.1, ap length e', length-append t.handles (entry ∷ []));
-  same = ap (λ hs. slice_get hs h) e ∙ ap (slice_get (s.handles ++ entry ∷ [])) new.0 ∙ slice_get-last s.handles entry
-      ∙ sym (slice_get-last t.handles entry) ∙ sym (ap (slice_get (t.handles ++ entry ∷ [])) new.1) ∙ sym (ap (λ ks. slice_get ks k) e');
-}
-
-apart_more : {pairs : Pairs} {s t : State} → AlikeTrees pairs s t → (h k j l : ℕ)
-    → (pairs h k ≡ true) ⊎ ((h ≡ length s.handles) × (k ≡ length t.handles)) → (pairs j l ≡ true) ⊎ ((j ≡ length s.handles) × (l ≡ length t.handles))
-    → (h ≡ j → k ≡ l) × (k ≡ l → h ≡ j)
-apart_more alike h k j l (inl p) (inl q) = alike.apart h k j l p q
-apart_more alike h k j l (inl p) (inr new) =
-    let old = alike.paired h k p in
-    ((λ e. absurd (omega (arith, old.here, new.0))), (λ e. absurd (omega (arith, old.there, new.1))))
-apart_more alike h k j l (inr new) (inl q) =
-    let old = alike.paired j l q in
-    ((λ e. absurd (omega (arith, old.here, new.0))), (λ e. absurd (omega (arith, old.there, new.1))))
-apart_more alike h k j l (inr new) (inr newer) = ((λ e. new.1 ∙ sym newer.1), (λ e. new.0 ∙ sym newer.0))
-
--- a handle less in both
-paired_fewer : (s t u v : State) (h k j l : ℕ) → u.handles ≡ slice_set s.handles h None → v.handles ≡ slice_set t.handles k None
-    → (h ≡ j → k ≡ l) × (k ≡ l → h ≡ j) → IsPair s t j l → IsPair u v j l
-paired_fewer s t u v h k j l e e' both old = record {
-  here = omega (arith, old.here, ap length e, length-set s.handles h None);
-  there = omega (arith, old.there, ap length e', length-set t.handles k None);
-  same = ap (λ hs. slice_get hs j) e ∙ ⊎_elim closed another (cases_eq h j) ∙ sym (ap (λ ks. slice_get ks l) e');
-}
-  where
-    closed : h ≡ j → slice_get (slice_set s.handles h None) j ≡ slice_get (slice_set t.handles k None) l
-    closed q =
-        let q' : k ≡ l = both.0 q in
-        subst (λ j. slice_get (slice_set s.handles h None) j ≡ Some None) q (set_at s.handles h None (omega (arith, old.here)))
-        ∙ sym (subst (λ l. slice_get (slice_set t.handles k None) l ≡ Some None) q' (set_at t.handles k None (omega (arith, old.there))))
-
-    another : h ≢ j → slice_get (slice_set s.handles h None) j ≡ slice_get (slice_set t.handles k None) l
-    another ne = set_other s.handles h None j (λ q. ne (sym q)) ∙ old.same ∙ sym (set_other t.handles k None l (λ q. ne (both.1 (sym q))))
-
-after_ends : {pairs : Pairs} {s t : State} {a : ℕ} {o u : Outcome} → AlikeTrees pairs s t → AlikeEnds s t a pairs o u
-    → open_count o.after ≡ open_count u.after → ((b : ℕ) → held_count o.after b ≡ held_count u.after b) → AfterStep pairs o u
-after_ends {pairs} alike (tells answer e) open_handles held_handles = record {
-  more = pairs;
-  grows = λ h k p. p;
-  trees = alike;
-  answers = λ f g agree. blind_answer answer e f ∙ sym (blind_answer answer e g);
-}
-after_ends {pairs} {s} {t} {a} alike (opens_on x what) open_handles held_handles =
-    let entry : Option OpenHandle = Some (record { actor = a; node = x }) in record {
-      more = grown pairs (length s.handles) (length t.handles);
-      grows = λ h k p. grown_old pairs (length s.handles) (length t.handles) h k p;
-      trees = record {
-        nodes = alike.nodes;
-        numbers = omega (arith, alike.numbers, length-append s.handles (entry ∷ []), length-append t.handles (entry ∷ []));
-        open_handles = open_handles;
-        held_handles = held_handles;
-        paired = λ h k p. paired_more entry s t (with_handle s a x) (with_handle t a x) refl refl h k
-            (⊎_elim (λ old. inl (alike.paired h k old)) (λ new. inr new) (grown_cases pairs (length s.handles) (length t.handles) h k p));
-        apart = λ h k j l p q. apart_more alike h k j l
-            (grown_cases pairs (length s.handles) (length t.handles) h k p) (grown_cases pairs (length s.handles) (length t.handles) j l q);
-      };
-      answers = λ f g agree. ap (λ h. Opened h x (kind_of what)) (agree (length s.handles) (length t.handles) (grown_new pairs (length s.handles) (length t.handles)));
-    }
-after_ends {pairs} {s} {t} alike (closes h k both) open_handles held_handles = record {
-  more = pairs;
-  grows = λ h k p. p;
-  trees = record {
-    nodes = alike.nodes;
-    numbers = omega (arith, alike.numbers, length-set s.handles h None, length-set t.handles k None);
-    open_handles = open_handles;
-    held_handles = held_handles;
-    paired = λ j l p. paired_fewer s t _ _ h k j l refl refl (both j l p) (alike.paired j l p);
-    apart = alike.apart;
-  };
-  answers = λ f g agree. refl;
-}
-after_ends {pairs} {s} {t} alike (changes_to nodes) open_handles held_handles = record {
-  more = pairs;
-  grows = λ h k p. p;
-  trees = record {
-    nodes = refl;
-    numbers = alike.numbers;
-    open_handles = open_handles;
-    held_handles = held_handles;
-    paired = λ h k p. let old = alike.paired h k p in record { here = old.here; there = old.there; same = old.same };
-    apart = alike.apart;
-  };
-  answers = λ f g agree. refl;
-}
 
 -- ---- the counts after it
 
@@ -461,18 +288,3 @@ counts_alike x y e (tells answer e') = (refl, closed_same answer x y e)
 counts_alike x y e (opens_on z what) = (refl, refl)
 counts_alike x y e (closes h k both) = (refl, closed_same Done x y e)
 counts_alike x y e (changes_to nodes) = (refl, closed_same Done x y e)
-
--- By paired handles a step comes to the same on alike trees.
-pub steps_alike : (pairs : Pairs) (s t : State) (a : ℕ) → AlikeTrees pairs s t → (x y : StepOf ℕ) → SameSteps pairs x y → AfterStep pairs (outcome s a x) (outcome t a y)
-steps_alike pairs s t a alike x y same =
-    let ends = ends_alike pairs s t a alike x y (paired_of pairs x y same) in
-    let counts = counts_alike x y (same_close pairs x y same) ends in
-    let here = handles_are_counted s a x in
-    let there = handles_are_counted t a y in
-    after_ends alike ends
-    (omega (arith, here.1, there.1, counts.0, counts.1, alike.open_handles))
-    (λ b. ⊎_elim
-    (λ q. subst (λ b. held_count (outcome s a x).after b ≡ held_count (outcome t a y).after b) (sym q)
-    (omega (arith, here.0, there.0, counts.0, counts.1, alike.held_handles a)))
-    (λ ne. others_counts_stay s a x b ne ∙ alike.held_handles b ∙ sym (others_counts_stay t a y b ne))
-    (cases_eq b a))

@@ -1,8 +1,8 @@
 -- Nor does an actor's turn look at a handle's number; so on alike books alike seats take alike turns.
-use Rattle.std.specs.Prelude.{◌≡◌, ℕ, zero, suc, List, [], ◌∷◌, ◌++◌, Bool, true, Option, Some, None, slice_index_or, slice_set, refl}
+use Rattle.std.specs.Prelude.{◌≡◌, ℕ, zero, suc, List, [], ◌∷◌, ◌++◌, Bool, Option, Some, None, slice_index_or, slice_set, refl}
 use Rattle.std.specs.Option.{option_map}
-use Rattle.std.proofs.Common.{sym, ap, ◌∙◌, subst, ◌||◌, is_some}
-use Rattle.std.proofs.lemmas.Option.{none-some, same_Some}
+use Rattle.std.proofs.Common.{sym, ap, ◌∙◌, ◌||◌, is_some}
+use Rattle.std.proofs.lemmas.Option.{same_Some}
 use Rattle.path_text.specs.declared.errno.Errno.TheVariants.{BadHandle}
 use Rattle.tree_model.specs.declared.answer.Answer.{Answer}
 use Rattle.tree_model.specs.declared.step.StepOf.{StepOf}
@@ -22,16 +22,14 @@ use Rattle.race_core.specs.declared.plan.Ref.{Ref}
 use Rattle.race_core.specs.declared.plan.Ref.TheVariants as ref
 use Rattle.race_core.specs.declared.report.Outcome.{Outcome}
 use Rattle.race_core.specs.declared.seat.Seat.{Seat}
-use Rattle.race_core.specs.Book.{BookedHistory}
 use Rattle.race_core.specs.Ledgers.{LedgerView}
-use Rattle.race_core.specs.Turns.{Luck, standing_under, handle_at, with_handle, step_at, plain, request_of, left_by, outcome_of, opened_by, ended, comes, begins, begins_next, begun, Turned, goes_on, turned, stepped_by}
+use Rattle.race_core.specs.Turns.{handle_at, with_handle, step_at, plain, request_of, left_by, outcome_of, opened_by, ended, comes, begins, begins_next, begun}
 use Rattle.race_core.specs.Turns as turns
 use Rattle.race_core.specs.TurnView.{is_busy, is_within, are_some}
 use Rattle.explore.specs.Renamed.{step_by, answer_by, standing_by, reply_by, call_turn_by, root_by, below_by, request_by, call_by, planned_by, plans_by, outcome_by, outcomes_by, standings_by, kept_by, ledger_by, seat_by}
-use Rattle.explore.specs.Alike.{Pairs, Agree, SameSteps, SameSeats, AlikeBooks}
+use Rattle.explore.specs.Alike.{Pairs, SameSteps, SameSeats}
 use Rattle.explore.proofs.Alike.Calls.{calls_begin_blindly, steps_are_due_blindly, answers_are_taken_blindly}
 use Rattle.explore.proofs.Alike.Steps.{zero_agrees}
-use Rattle.explore.proofs.Alike.Books.{stepped_alike}
 
 -- the seat once a step's answer is taken
 abbrev pub answered_seat : Bool → LedgerView → CallView → Answer → Seat
@@ -185,13 +183,6 @@ module _ (f : ℕ → ℕ) where
 
 -- ---- two seats
 
--- what was paired still is, and the books and the seats are the same but for pairs
-pub record AfterTurn (pairs : Pairs) (o u : Turned) : Type 0 where
-  pub more : Pairs
-  pub grows : (h k : ℕ) → pairs h k ≡ true → more h k ≡ true
-  pub books : AlikeBooks more o.book u.book
-  pub seats : SameSeats more o.seat u.seat
-
 module _ (pairs : Pairs) where
   pub same_begun : (room : Bool) (s t : Seat) → SameSeats pairs s t → SameSeats pairs (begun room s.ledger s.doing) (begun room t.ledger t.doing)
   same_begun room s t same f g agree =
@@ -210,55 +201,6 @@ module _ (pairs : Pairs) where
       steps_are_due_blindly f call.below call.doing
       ∙ ap (λ (view : CallView). due view.below view.doing) (same_Some (call_by f call) (call_by g call') (ap (λ (seat : Seat). seat.doing) (same f g agree)))
       ∙ sym (steps_are_due_blindly g call'.below call'.doing)
-
-  -- the step that is due is made by that actor, and its answer taken
-  abbrev on_step : Bool → Bool → BookedHistory → LedgerView → CallView → ℕ → Turned
-  on_step luck room book ledger call a =
-      let step = stepped_by luck book a (due call.below call.doing) in
-      record { book = step.book; seat = comes ledger call.below (take call.below room call.doing step.answer) }
-
-  on_step_alike : (b c : BookedHistory) → AlikeBooks pairs b c → (luck room : Bool) (ledger ledger' : LedgerView) (call call' : CallView)
-      → SameSeats pairs (record { ledger = ledger; doing = Some call }) (record { ledger = ledger'; doing = Some call' })
-      → (a : ℕ) → AfterTurn pairs (on_step luck room b ledger call a) (on_step luck room c ledger' call' a)
-  on_step_alike b c alike luck room ledger ledger' call call' same a =
-      let calls : (f g : ℕ → ℕ) → Agree pairs f g → call_by f call ≡ call_by g call' =
-      (λ f g agree. same_Some (call_by f call) (call_by g call') (ap (λ (seat : Seat). seat.doing) (same f g agree))) in
-      let dues = due_alike ledger ledger' call call' same in
-      let after = stepped_alike pairs b c alike a (due call.below call.doing) (due call'.below call'.doing) dues luck in
-      record {
-        more = after.more;
-        grows = after.grows;
-        books = after.books;
-        seats = λ f g agree.
-            let fewer : Agree pairs f g = (λ h k p. agree h k (after.grows h k p)) in
-            let ledgers : ledger_by f ledger ≡ ledger_by g ledger' = ap (λ (seat : Seat). seat.ledger) (same f g fewer) in
-            answered_by f room ledger call (stepped_by luck b a (due call.below call.doing)).answer
-            ∙ (λ i. answered_seat room (ledgers i) (calls f g fewer i) (after.answers f g agree i))
-            ∙ sym (answered_by g room ledger' call' (stepped_by luck c a (due call'.below call'.doing)).answer);
-      }
-
-  -- with no call under way, or one in each
-  goes_on_alike : (b c : BookedHistory) → AlikeBooks pairs b c → (luck room : Bool) (ledger ledger' : LedgerView) (doing doing' : Option CallView)
-      → SameSeats pairs (record { ledger = ledger; doing = doing }) (record { ledger = ledger'; doing = doing' })
-      → AfterTurn pairs (goes_on luck room b ledger doing) (goes_on luck room c ledger' doing')
-  goes_on_alike b c alike luck room ledger ledger' None None same = record { more = pairs; grows = λ h k p. p; books = alike; seats = same }
-  goes_on_alike b c alike luck room ledger ledger' None (Some call) same =
-      absurd (none-some (call_by (λ h. 0) call) (ap (λ (seat : Seat). seat.doing) (same (λ h. 0) (λ h. 0) (zero_agrees pairs))))
-  goes_on_alike b c alike luck room ledger ledger' (Some call) None same =
-      absurd (none-some (call_by (λ h. 0) call) (sym (ap (λ (seat : Seat). seat.doing) (same (λ h. 0) (λ h. 0) (zero_agrees pairs)))))
-  goes_on_alike b c alike luck room ledger ledger' (Some call) (Some call') same =
-      let actor : ledger.root.owner.actor ≡ ledger'.root.owner.actor =
-      same_actor (record { ledger = ledger; doing = Some call }) (record { ledger = ledger'; doing = Some call' }) same in
-      subst (λ a. AfterTurn pairs (on_step luck room b ledger call ledger.root.owner.actor) (on_step luck room c ledger' call' a)) actor
-      (on_step_alike b c alike luck room ledger ledger' call call' same ledger.root.owner.actor)
-
-  -- a turn of alike seats on alike books
-  pub turned_alike : (b c : BookedHistory) → AlikeBooks pairs b c → (luck : Luck) (s t : Seat) → SameSeats pairs s t
-      → AfterTurn pairs (turned luck b s.ledger s.doing) (turned luck c t.ledger t.doing)
-  turned_alike b c alike luck s t same =
-      let here = begun luck.start s.ledger s.doing in
-      let there = begun luck.start t.ledger t.doing in
-      goes_on_alike b c alike luck.step luck.room here.ledger there.ledger here.doing there.doing (same_begun luck.start s t same)
 
   -- ---- who is busy
 

@@ -66,15 +66,15 @@ own a k e = grind (arith, nat_tests)
 plus_not : (b c : Bool) (n : ℕ) → b ≡ false → plus (b && c) n ≡ n
 plus_not b c n e = ap (λ d. plus (d && c) n) e
 
-bumped_none : (b : Bool) (i : ℕ) → bumped b i [] ≡ []
+pub bumped_none : (b : Bool) (i : ℕ) → bumped b i [] ≡ []
 bumped_none true i = refl
 bumped_none false i = refl
 
-bumped_first : (b : Bool) (n : ℕ) (rest : List ℕ) → bumped b 0 (n ∷ rest) ≡ plus b n ∷ rest
+pub bumped_first : (b : Bool) (n : ℕ) (rest : List ℕ) → bumped b 0 (n ∷ rest) ≡ plus b n ∷ rest
 bumped_first true n rest = refl
 bumped_first false n rest = refl
 
-bumped_next : (b : Bool) (i n : ℕ) (rest : List ℕ) → bumped b (suc i) (n ∷ rest) ≡ n ∷ bumped b i rest
+pub bumped_next : (b : Bool) (i n : ℕ) (rest : List ℕ) → bumped b (suc i) (n ∷ rest) ≡ n ∷ bumped b i rest
 bumped_next true i n rest = refl
 bumped_next false i n rest = refl
 
@@ -198,10 +198,6 @@ no_change root s event e = by (is_on_entries event.step) refl
 
 -- ---- an event is counted
 
-pub none_outside : (s : State) (a : ℕ) (hs : List ℕ) → any_outside s None a hs ≡ false
-none_outside s a [] = refl
-none_outside s a (h ∷ hs) = none_outside s a hs
-
 -- the event at the end of the book
 last_is : (before book : BookedHistory) (latest : IsLatest before book) (at : ℕ) (event : Event) → at ≡ length before.events → slice_get book.events at ≡ Some event
     → event ≡ record { actor = latest.actor; step = latest.step; answer = answer_now before latest.actor latest.step }
@@ -305,19 +301,6 @@ follow_tally before after luck i old new is turned told roots counted = record {
   roots_are = roots ∙ is.roots_are ∙ sym (roots_stay old.told luck before i) ∙ (λ i. roots_of (sym told i) (sym turned i));
   counted = counted;
 }
-
--- where changes aren't told there is nothing to be counted
-pub untold : (before after : WorldView) (luck : Luck) (i : ℕ) (tally : TallyView) → IsTally before tally → after ≡ turn luck before i → tally.told ≡ false → IsTally after tally
-untold before after luck i tally is turned none = record {
-  roots_are = is.roots_are ∙ sym (roots_stay tally.told luck before i) ∙ ap (roots_of tally.told) (sym turned);
-  counted = record {
-    counts_are = is.counted.counts_are ∙ (λ i. outside_from before.book 0 (no_roots i)) ∙ (λ i. outside_from after.book 0 (sym no_roots i));
-    nodes_are = λ told. absurd (true≢false (sym told ∙ none));
-  };
-}
-  where
-    no_roots : tally.roots ≡ []
-    no_roots = is.roots_are ∙ ap (λ (told : Bool). roots_of told before) none
 
 -- ---- a tally
 

@@ -5,7 +5,6 @@ use Rattle.std.specs.Option.{option_map_or}
 use Rattle.std.proofs.Common.{sym, ap, ◌∙◌, subst, arith}
 use Rattle.std.proofs.lemmas.Bool.{true≢false}
 use Rattle.std.proofs.lemmas.Option.{none-some}
-use Rattle.race_core.specs.declared.seat.Seat.{Seat}
 use Rattle.race_core.specs.Worlds.{WorldView, turn, is_within_at}
 use Rattle.schedule_graph.specs.declared.graph.Way.{Way}
 use Rattle.schedule_graph.specs.declared.graph.Spot.{Spot}
@@ -13,42 +12,33 @@ use Rattle.schedule_graph.specs.declared.graph.Spot.TheVariants.{Ends, Goes}
 use Rattle.schedule_graph.specs.Words.{spot_at, ways_from, way_of, IsWord, IsWordOf}
 use Rattle.schedule_graph.specs.Words as words
 use Rattle.explore.specs.declared.limits.Scope.{Scope}
-use Rattle.explore.specs.Alike.{Pairs, AlikeSeats, full, after_turns, TellTheSame}
+use Rattle.explore.specs.Alike.{full, after_turns}
+use Rattle.explore.specs.Local as local
 use Rattle.explore.specs.Search.{IsFull, IsLike, same, onward}
 use Rattle.explore.specs.Lists.{is_another, is_cut, plus, cuts_after, changes_after}
 use Rattle.explore.specs.Explored.{IsWithin, IsAsked, BeginsWith, GoAlong, bounds_at, TellAlike, ClassView}
 use Rattle.explore.specs.Merged.{Place, bounded_cuts, cuts_with, MayFollow, IsWay, IsFit, IsListOf, WordsAreLists}
-use Rattle.explore.proofs.Alike.Worlds.{within_alike}
 use Rattle.explore.proofs.Counts.Begun.{along_none, along_more, begin_first, begins_full}
-use Rattle.explore.proofs.Lists.SearchLaws.{like_turns, like_trans, like_busy, like_tells, like_outside}
+use Rattle.explore.proofs.Lists.SearchLaws.{like_turns, like_trans, like_busy, like_actors, like_tells, like_outside}
+use Rattle.explore.proofs.Local.Wholes.{busy_alike}
 
 -- ---- worlds like one another
 
 like_within : {told : Bool} {w v : WorldView} (i : ℕ) → IsLike told w v → is_within_at w.seats i ≡ is_within_at v.seats i
 like_within i (same u) = refl
-like_within i (onward w u v alike like) = within_alike w u i alike.alike ∙ like_within {w = u} {v = v} i like
+like_within i (onward w u v is like) = (busy_alike w u i is.parts).1 ∙ like_within {w = u} {v = v} i like
 
 pub like_cut : {told : Bool} {w v : WorldView} (last : Option ℕ) (i : ℕ) → IsLike told w v → is_cut w.seats last i ≡ is_cut v.seats last i
 like_cut None i like = refl
 like_cut {told} {w} {v} (Some j) i like = ap (λ (b : Bool). is_another (Some j) i && b) (like_within {w = w} {v = v} j like)
 
-seats_as_many : (pairs : Pairs) (ss ts : List Seat) → AlikeSeats pairs ss ts → length ss ≡ length ts
-seats_as_many pairs [] [] alike = refl
-seats_as_many pairs (s ∷ ss) (t ∷ ts) alike = ap suc (seats_as_many pairs ss ts alike.1)
-seats_as_many pairs [] (t ∷ ts) alike = absurd alike
-seats_as_many pairs (s ∷ ss) [] alike = absurd alike
-
-like_actors : {told : Bool} {w v : WorldView} → IsLike told w v → length w.seats ≡ length v.seats
-like_actors (same u) = refl
-like_actors (onward w u v alike like) = seats_as_many alike.alike.0 w.seats u.seats alike.alike.1.seats ∙ like_actors {w = u} {v = v} like
-
 pub like_tells_on : {told : Bool} {w v : WorldView} (u : WorldView) → IsLike told w v → TellAlike told v u → TellAlike told w u
 like_tells_on {told} {w} {v} u like tells =
-    let first : TellTheSame w v = like_tells {w = w} {v = v} like in
+    let first : local.TellAlike w v = like_tells {w = w} {v = v} like in
     let actors : length w.seats ≡ length v.seats = like_actors {w = w} {v = v} like in record {
       replies = first.replies ∙ tells.replies;
       nodes = first.nodes ∙ tells.nodes;
-      held = λ a lt. first.held a ∙ tells.held a (omega arith);
+      held = λ a lt. first.held a lt ∙ tells.held a (omega (arith, lt, actors));
       outside = like_outside {w = w} {v = v} like ∙ tells.outside;
     }
 

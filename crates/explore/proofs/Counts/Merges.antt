@@ -1,5 +1,5 @@
 -- What a layer that was gone through comes to, and the classes that are told in the end.
-use Rattle.std.specs.Prelude.{◌≡◌, ◌<◌, ◌≤◌, ◌+◌, ◌^◌, ◌++◌, ℕ, suc, List, [], ◌∷◌, Bool, Option, Some, None, length, slice_get, refl, true}
+use Rattle.std.specs.Prelude.{◌≡◌, ◌<◌, ◌≤◌, ◌+◌, ◌^◌, ◌++◌, ℕ, suc, List, [], ◌∷◌, Option, Some, None, length, slice_get, refl}
 use Rattle.std.specs.Global.{Vec}
 use Rattle.std.proofs.Common.{sym, ap, ◌∙◌, subst, ⊎_elim, arith}
 use Rattle.std.proofs.lemmas.Option.{same_Some, none-some, slice_get_within}
@@ -9,7 +9,7 @@ use Rattle.schedule_graph.specs.declared.graph.Spot.{Spot}
 use Rattle.schedule_graph.specs.declared.graph.Spot.TheVariants.{Ends}
 use Rattle.schedule_graph.specs.declared.count.Count.{Count}
 use Rattle.schedule_graph.specs.declared.count.Counts.{Counts}
-use Rattle.schedule_graph.specs.Words.{AreApart, spot_at, spot_in, way_at, way_of, ways_from, IsWord, IsWordOf}
+use Rattle.schedule_graph.specs.Words.{spot_in, IsWord, IsWordOf}
 use Rattle.schedule_graph.specs.Words as words
 use Rattle.schedule_graph.specs.Counted.{IsLeast, AreCounts}
 use Rattle.explore.specs.declared.limits.Bounds.{Bounds}
@@ -19,13 +19,13 @@ use Rattle.explore.specs.declared.moves.Choice.{Choice}
 use Rattle.explore.specs.Alike.{full, after_turns}
 use Rattle.explore.specs.Concluded.{IsToldBy, AreToldBy, HasLeast, AreShort, AsksIn, AskIn, AreToldIn}
 use Rattle.explore.specs.Explored.{IsAsked, EndingView, ClassView, IsEnding}
-use Rattle.explore.specs.Layers.{LiveView, LayerView, IsLed, IsSure, AreOn, IsTop, AreTops, AreWaysBy, AreAllWays, HasWay, IsReportOf, IsSpot, AreSpots, IsPassed, point_of, spot_by}
+use Rattle.explore.specs.Layers.{LiveView, LayerView, IsSure, AreOn, IsTop, AreTops, AreWaysBy, AreAllWays, HasWay, IsReportOf, IsSpot, AreSpots, IsPassed, spot_by}
 use Rattle.explore.specs.Lists.{cuts, changes}
 use Rattle.explore.specs.Moves.{AreAllChoices, Going, AreGone}
 use Rattle.explore.specs.Outside.{outside_of}
-use Rattle.explore.specs.Points.{Point, start, no_marks, Goes}
+use Rattle.explore.specs.Points.{Point, start}
 use Rattle.explore.specs.Search.{IsOver, IsFull}
-use Rattle.explore.specs.Spreading.{GoesOn, AllGoOn, AreWaysTo, AreWaysOfAll, AreSpotsBy}
+use Rattle.explore.specs.Spreading.{AllGoOn, AreWaysTo, AreWaysOfAll, AreSpotsBy}
 use Rattle.explore.proofs.Counts.Concluded.{found_have_leasts}
 use Rattle.explore.proofs.Lists.Indices.{within_some}
 use Rattle.explore.proofs.Layers.Fitting.{Fits}
@@ -34,26 +34,9 @@ use Rattle.explore.proofs.Wants.Followed.{cuts_there, changes_there}
 use Rattle.explore.proofs.Lists.Told.{get_push}
 use Rattle.explore.proofs.Lists.Along.{along_world}
 
--- ---- the first layer
-
-pub first_world : (w : WorldView) (live : LiveView) (turns : List ℕ) → IsLed w live → live.turns ≡ turns → turns ≡ [] → live.is_state ≡ true
-    → live ≡ record { told = live.told; world = w; marks = no_marks; turns = []; is_state = true }
-first_world w live turns led is none state =
-    let own : live.turns ≡ [] = is ∙ none in
-    let there : point_of live ≡ start w = subst (λ (ts : List ℕ). Goes (start w) ts (point_of live)) own led in
-    λ i. record { told = live.told; world = (there i).world; marks = (there i).marks; turns = own i; is_state = state i }
-
-pub told_first : (live : LiveView) (told : Bool) → live.told ≡ told → (w : WorldView)
-    → live ≡ record { told = live.told; world = w; marks = no_marks; turns = []; is_state = true }
-    → live ≡ record { told = told; world = w; marks = no_marks; turns = []; is_state = true }
-told_first live told e w is = is ∙ ap (λ (b : Bool). record { told = b; world = w; marks = no_marks; turns = []; is_state = true }) e
-
 -- ---- the spots of a layer
 
 module _ (bounds : Bounds) (layer next : LayerView) (n : ℕ) (on : AreOn n layer) where
-  live_of : (s : ℕ) (stand : Stand) → slice_get layer.stands s ≡ Some stand → (live : LiveView) × (slice_get layer.worlds stand.world ≡ Some live)
-  live_of s stand there = within_some layer.worlds stand.world (on.stands s stand there).on
-
   spot_of : (classes : List ClassView) (stand : Stand) (live : LiveView) (ways : Vec Way) → AreWaysBy bounds layer next stand live ways.items
       → (top : Option ℕ) → (top ≡ None → HasWay bounds.only ways.items) → IsTop classes live top → IsSpot bounds layer next classes stand live (spot_by top ways)
   spot_of classes stand live ways are None has busy = (busy, (has refl, are))

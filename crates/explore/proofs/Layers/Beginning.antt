@@ -1,5 +1,5 @@
 -- The turns of a beginning, taken one after another, as luck has it: what is known of them where the end tells of no want.
-use Rattle.std.specs.Prelude.{◌≡◌, ◌<◌, ◌≤◌, ◌+◌, ℕ, suc, List, [], ◌∷◌, true, false, Option, Result, Ok, Err, IfErr, OnOk, length, take, slice_get}
+use Rattle.std.specs.Prelude.{◌≡◌, ◌<◌, ◌≤◌, ◌+◌, ℕ, suc, List, [], ◌∷◌, true, false, Option, Result, Ok, Err, IfErr, OnOk, length, take}
 use Rattle.std.proofs.Common.{sym, ap, ◌∙◌, subst, get_or, arith}
 use Rattle.std.proofs.lemmas.List.{take_more, length-take-le}
 use Rattle.std.proofs.lemmas.Option.{slice_get-get_or}
@@ -8,7 +8,7 @@ use Rattle.explore.specs.declared.limits.Scope.{Scope}
 use Rattle.explore.specs.Alike.{after_turns}
 use Rattle.explore.specs.Lists.{cuts}
 use Rattle.explore.specs.Explored.{IsWithin, GoAlong, AreBusy, IsIdle, IsTooLong}
-use Rattle.explore.specs.Points.{Point, start, along, Goes, IsTurn}
+use Rattle.explore.specs.Points.{Point, start, Goes, IsTurn}
 use Rattle.explore.specs.Want.{EndsWell}
 use Rattle.explore.proofs.Wants.Lucky.{well_turned, goes_full}
 use Rattle.explore.proofs.Wants.Followed.{cuts_there}

@@ -1,20 +1,23 @@
 -- The moves from a layer, and who may have the next turn from its stands.
-use Rattle.std.specs.Prelude.{◌≡◌, ◌<◌, ◌≤◌, ◌+◌, ◌^◌, ◌⊎◌, ◌++◌, ℕ, zero, suc, List, [], ◌∷◌, length, true, Option, Some, None, slice_get, slice_set, refl}
+use Rattle.std.specs.Prelude.{◌≡◌, ◌<◌, ◌≤◌, ◌+◌, ◌^◌, ◌⊎◌, ◌++◌, ℕ, zero, suc, List, [], ◌∷◌, length, Bool, true, Option, Some, None, slice_get, slice_set, refl}
 use Rattle.std.specs.Global.{Vec}
-use Rattle.std.proofs.Common.{inl, inr, ⊎_elim, sym, ap, ◌∙◌, subst, arith, length-append, get_or}
+use Rattle.std.proofs.Common.{inl, inr, ⊎_elim, sym, ap, ◌∙◌, subst, arith}
 use Rattle.std.proofs.lemmas.Bool.{false≢true}
-use Rattle.std.proofs.lemmas.Option.{same_Some, none-some, slice_get_within, slice_get_read}
+use Rattle.std.proofs.lemmas.Option.{same_Some, none-some, slice_get_within, slice_get-map}
 use Rattle.tree_model.proofs.Places.{slice_get-last}
 use Rattle.race_core.specs.declared.seat.Seat.{Seat}
-use Rattle.race_core.specs.Worlds.{is_busy_in, is_busy_at}
+use Rattle.std.specs.Option.{option_map}
+use Rattle.race_core.specs.Worlds.{WorldView, is_busy_in, is_busy_at}
 use Rattle.schedule_graph.proofs.Spreading.{get_set}
 use Rattle.explore.specs.declared.limits.Bounds.{Bounds}
+use Rattle.explore.specs.declared.layer.Live.{Live}
 use Rattle.explore.specs.declared.layer.Stand.{Stand}
 use Rattle.explore.specs.declared.marks.Marks.{Marks}
 use Rattle.explore.specs.declared.moves.Move.{Move}
 use Rattle.explore.specs.declared.moves.Choice.{Choice}
-use Rattle.explore.specs.Layers.{LiveView, LayerView, Keeps, AreOn, point_at}
-use Rattle.explore.specs.Moves.{IsOf, IsOneOf, IsChoice, IsChosen, AreChoices, AreFirstChoices, IsMoveFrom, AreMoves, AreNoMoves, CanGoOn}
+use Rattle.explore.specs.Kept.{live_of, lives_of}
+use Rattle.explore.specs.Layers.{LiveView, LayerView, Keeps, point_at}
+use Rattle.explore.specs.Moves.{IsOf, IsOneOf, IsChoice, IsChosen, AreChoices, AreFirstChoices, IsMoveFrom, AreMoves}
 use Rattle.explore.specs.Points.{Point, AreWithin, MayGo}
 use Rattle.explore.proofs.Lists.Indices.{at_or_below}
 use Rattle.explore.proofs.Lists.Told.{get_push, length_set}
@@ -24,14 +27,6 @@ use Rattle.explore.proofs.Layers.WaysGrown.{keeps_push}
 
 pub of_on : (moves new : List Move) (i at : ℕ) → Keeps moves new → IsOf moves i at → IsOf new i at
 of_on moves new i at keeps is = (is.0, (keeps at is.0 is.1.0, is.1.1))
-
-pub push_keeps : (moves new : List Move) (one : Move) → new ≡ moves ++ one ∷ [] → Keeps moves new
-push_keeps moves new one is k x there = ap (λ (xs : List Move). slice_get xs k) is ∙ keeps_push moves one k x there
-
-pub push_new : (moves new : List Move) (one : Move) → new ≡ moves ++ one ∷ [] → (j : ℕ) (x : Move) → slice_get new j ≡ Some x
-    → (slice_get moves j ≡ Some x) ⊎ (x ≡ one)
-push_new moves new one is j x there =
-    ⊎_elim (λ was. inl was) (λ last. inr last.1) (get_push moves one j x (ap (λ (xs : List Move). slice_get xs j) (sym is) ∙ there))
 
 -- ---- one actor after another is asked
 
@@ -181,20 +176,12 @@ few_up marks n lt within =
     let b : marks.changes ≤ n = within.changes in
     record { cuts = omega (arith, a, lt); changes = omega (arith, b, lt) }
 
--- the layer's worlds can be gone on from
-pub can_go_on : (bounds : Bounds) (layer : LayerView) (moves : List (Vec Move)) (n : ℕ) → n + 1 < 2 ^ 40 → AreOn n layer → AreMoves bounds layer moves
-    → CanGoOn layer.stands layer.worlds moves
-can_go_on bounds layer moves n lt on are = record {
-  many = are.many;
-  at = λ m those there j one here. let from = are.each m those j one there here in
-      (from.stand, (from.there, few_up from.stand.marks n lt (on.stands one.stand from.stand from.there).few));
-  actors = on.actors;
-}
-
 -- ---- one stand of the layer, and its world
 
-pub read_at : {A : Type 0} (xs ys : List A) (i : ℕ) (x : A) → xs ≡ ys → x ≡ get_or xs i x → i < length ys → slice_get ys i ≡ Some x
-read_at xs ys i x e q lt = slice_get_read ys (length ys) i x refl lt (subst (λ zs. x ≡ get_or zs i x) e q)
+-- the world of a key in the layer
+pub view_at : (w : WorldView) (told : Bool) (lives : List Live) (m : ℕ) (live : Live) → slice_get lives m ≡ Some live
+    → slice_get (lives_of w told lives) m ≡ Some (live_of w told live)
+view_at w told lives m live there = slice_get-map (live_of w told) lives m ∙ ap (λ (o : Option Live). option_map (live_of w told) o) there
 
 pub set_there : {A : Type 0} (xs : List A) (i : ℕ) (x y : A) → slice_get xs i ≡ Some y → slice_get (slice_set xs i x) i ≡ Some x
 set_there [] i x y e = absurd (none-some y e)

@@ -1,10 +1,10 @@
 -- The worlds of a layer are ended: the classes of what they come to, and the spots of the stands.
-use Rattle.std.specs.Prelude.{◌≡◌, ◌<◌, ◌≤◌, ℕ, zero, suc, List, [], ◌∷◌, ◌++◌, Bool, true, false, length, Option, Some, None, is_some, IfSome, slice_get, refl}
+use Rattle.std.specs.Prelude.{◌≡◌, ◌<◌, ◌≤◌, ℕ, zero, suc, List, [], ◌∷◌, ◌++◌, false, length, Option, Some, None, slice_get, refl}
 use Rattle.std.specs.Global.{Vec}
 use Rattle.std.proofs.Common.{◌⊎◌, ◌∙◌, inl, inr, sym, ap, subst, ⊎_elim, arith, length-append, get_or, drop}
-use Rattle.std.proofs.lemmas.Bool.{true≢false}
 use Rattle.std.proofs.lemmas.Option.{same_Some, none-some, slice_get_within, slice_get-get_or}
-use Rattle.race_core.specs.Worlds.{WorldView, is_busy_at}
+use Rattle.race_core.specs.declared.seat.Seat.{Seat}
+use Rattle.race_core.specs.Worlds.{is_busy_in, is_busy_at}
 use Rattle.schedule_graph.specs.declared.graph.Way.{Way}
 use Rattle.schedule_graph.specs.declared.graph.Spot.{Spot}
 use Rattle.schedule_graph.specs.Words.{AreApart, IsLayer, ways_from}
@@ -49,13 +49,13 @@ none_left (suc n) (x ∷ xs) e = let le = none_left n xs e in omega arith
 
 -- ---- whether a world is over
 
-pub some_busy : (o : Option ℕ) (b : Bool) (w : WorldView) → IfSome o (λ i. is_busy_at w.seats i ≡ true) → b ≡ is_some o → b ≡ true → (i : ℕ) × (is_busy_at w.seats i ≡ true)
-some_busy None b w busy e t = absurd (true≢false (sym t ∙ e))
-some_busy (Some i) b w busy e t = (i, busy)
-
-pub is_none : (o : Option ℕ) (b : Bool) → b ≡ is_some o → b ≡ false → o ≡ None
-is_none None b e f = refl
-is_none (Some i) b e f = absurd (true≢false (sym e ∙ f))
+-- whoever isn't below the end has nothing left to do
+pub idle_from : (seats : List Seat) (n : ℕ) → length seats ≤ n → ((i : ℕ) → i < n → is_busy_at seats i ≡ false) → (i : ℕ) → is_busy_at seats i ≡ false
+idle_from seats n past idle i = by (slice_get seats i) refl
+  where
+    by : (seat : Option Seat) → slice_get seats i ≡ seat → is_busy_at seats i ≡ false
+    by None e = ap is_busy_in e
+    by (Some seat) e = let lt : i < length seats = slice_get_within seats i seat e in idle i (omega (arith, lt, past))
 
 -- ---- the class of an outcome
 

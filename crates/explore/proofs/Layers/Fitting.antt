@@ -9,7 +9,6 @@ use Rattle.schedule_graph.specs.declared.graph.Spot.{Spot}
 use Rattle.schedule_graph.specs.declared.graph.Spot.TheVariants.{Ends, Goes}
 use Rattle.schedule_graph.specs.Words.{spot_in, spot_at}
 use Rattle.schedule_graph.proofs.Leading.{way_in}
-use Rattle.explore.specs.declared.limits.Bounds.{Bounds}
 use Rattle.explore.specs.declared.limits.Scope.{Scope}
 use Rattle.explore.specs.declared.layer.Stand.{Stand}
 use Rattle.explore.specs.declared.marks.Marks.{Marks}

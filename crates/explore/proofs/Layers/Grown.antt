@@ -1,24 +1,22 @@
--- A world gone on from by turns: what is known once it has ended, and where it, or one like it, has its place.
-use Rattle.std.specs.Prelude.{◌≡◌, ◌<◌, ◌⊎◌, ℕ, ◌+◌, List, [], ◌∷◌, ◌++◌, Bool, true, false, Some, Result, Ok, Err, is_ok, is_err, IfOk, OnOk, length, slice_get}
-use Rattle.std.proofs.Common.{refl, inl, inr, sym, ap, ◌∙◌, subst, ⊎_elim, get_or, take}
+-- A world gone on from by turns: what is known once it has ended.
+use Rattle.std.specs.Prelude.{◌≡◌, ◌<◌, ℕ, ◌+◌, List, [], ◌++◌, true, false, Result, Ok, Err, is_ok, is_err, IfOk, OnOk, length}
+use Rattle.std.proofs.Common.{refl, sym, ap, ◌∙◌, subst, get_or, take}
 use Rattle.std.proofs.lemmas.Bool.{true≢false, false≢true}
 use Rattle.std.proofs.lemmas.List.{take_more}
 use Rattle.tree_model.specs.declared.answer.Event.{Event}
 use Rattle.tree_model.specs.State.{State}
 use Rattle.handles.specs.Objects.{StandingObject}
 use Rattle.race_core.specs.declared.report.Outcome.{Outcome}
-use Rattle.race_core.specs.Worlds.{WorldView, turn, RunsTo, Reports, ledgers_in}
+use Rattle.race_core.specs.Worlds.{WorldView, RunsTo, Reports, ledgers_in}
 use Rattle.explore.specs.Alike.{after_turns}
-use Rattle.explore.specs.Outside.{outside_of, IsSame}
-use Rattle.explore.specs.declared.layer.Stand.{Stand}
-use Rattle.explore.specs.Layers.{LiveView, point_of, point_at, Keeps, Leads, IsBorn, IsReportOf}
+use Rattle.explore.specs.Outside.{outside_of}
+use Rattle.explore.specs.Layers.{LiveView, IsReportOf}
 use Rattle.explore.specs.Points.{Point, IsTurn, Goes}
-use Rattle.explore.specs.Points as points
-use Rattle.explore.specs.Search.{IsOver, IsLike, same, onward}
+use Rattle.explore.specs.Search.{IsOver}
 use Rattle.explore.specs.Want.{replies_want}
 use Rattle.explore.proofs.Wants.Lucky.{goes_push}
 use Rattle.explore.proofs.Lists.SearchLaws.{over_rests, reported}
-use Rattle.explore.proofs.Lists.Told.{replies_of_seats, actors_stay, get_push, get_left, get_last}
+use Rattle.explore.proofs.Lists.Told.{replies_of_seats, actors_stay}
 use Rattle.explore.proofs.Wants.WantWorlds.{ap_at, join}
 
 -- the turn at that place of the list
@@ -35,10 +33,6 @@ at_ok (Err x) e h = absurd (true≢false e)
 pub where_ok : {T E P : Type 0} (r : Result T E) → is_ok r ≡ true → IfOk r (λ x. P) → P
 where_ok (Ok x) e h = h
 where_ok (Err x) e h = absurd (false≢true e)
-
-pub ok_on : {T E : Type 0} {P Q : T → Type 0} (r : Result T E) → ((x : T) → P x → Q x) → IfOk r P → IfOk r Q
-ok_on (Ok x) on p = on x p
-ok_on (Err e) on p = p
 
 -- ---- a world that has ended, and its report tells of no want
 
@@ -68,43 +62,3 @@ module _ (live : LiveView) (tree : State) (events : List Event) (replies : List 
       ap length ran.reports.are_replies
       ∙ (replies_of_seats ran.end.seats
       ∙ (ap_at (λ (v : WorldView). length v.seats) ran.end (after_turns live.world ([] ++ all.0)) all.1.0 ∙ actors_stay live.world ([] ++ all.0)))
-
--- ---- its place among others
-
--- that of one like it
-pub like_there : (live other : LiveView) (worlds : List LiveView) (at : ℕ) → slice_get worlds at ≡ Some other → IsSame live.told live.world other.world
-    → (v : LiveView) × ((slice_get worlds at ≡ Some v) × IsLike live.told live.world v.world)
-like_there live other worlds at there is = (other, (there, onward live.world other.world other.world is (same other.world)))
-
--- or after the others
-module _ (worlds new : List LiveView) (live : LiveView) (is : new ≡ worlds ++ live ∷ []) where
-  pub push_keeps : Keeps worlds new
-  push_keeps k x there = ap (λ (xs : List LiveView). slice_get xs k) is ∙ get_left worlds live k x there
-
-  pub push_new : (k : ℕ) (born : LiveView) → slice_get new k ≡ Some born → (slice_get worlds k ≡ Some born) ⊎ (born ≡ live)
-  push_new k born there =
-      ⊎_elim (λ was. inl was) (λ last. inr last.1) (get_push worlds live k born (ap (λ (xs : List LiveView). slice_get xs k) (sym is) ∙ there))
-
-  pub push_there : (at : ℕ) → at ≡ length worlds → (v : LiveView) × ((slice_get new at ≡ Some v) × IsLike live.told live.world v.world)
-  push_there at e = (
-    live,
-    (
-      ap (λ (k : ℕ). slice_get new k) e ∙ (ap (λ (xs : List LiveView). slice_get xs (length worlds)) is ∙ get_last worlds live),
-      same live.world,
-    ),
-  )
-
--- ---- a world after one turn more
-
-module _ (stand : Stand) (live : LiveView) (i : ℕ) (born : LiveView) (is : IsBorn stand live i born) where
-  pub leads_from : (next : List LiveView) (k : ℕ) → (v : LiveView) × ((slice_get next k ≡ Some v) × IsLike born.told born.world v.world) → Leads live i next k
-  leads_from next k found =
-      let luck = is.turned.0 in
-      let world : born.world ≡ turn luck live.world i =
-      ap_at (λ (p : Point). p.world) (point_of born) (points.onward luck (point_at live stand) i) is.turned.1 in record {
-        to = found.0;
-        there = found.1.0;
-        luck = luck;
-        like = subst (λ (told : Bool). IsLike told (turn luck live.world i) found.0.world) is.told
-            (subst (λ (u : WorldView). IsLike born.told u found.0.world) world found.1.1);
-      }

@@ -146,7 +146,7 @@ module _ (w : WorldView) (scope : Scope) (layer next : LayerView) (graph : List 
 
 -- ---- and the first one
 
-only_one : {A : Type 0} (x : A) (k : ℕ) (y : A) → slice_get (x ∷ []) k ≡ Some y → (k ≡ 0) × (y ≡ x)
+pub only_one : {A : Type 0} (x : A) (k : ℕ) (y : A) → slice_get (x ∷ []) k ≡ Some y → (k ≡ 0) × (y ≡ x)
 only_one x zero y e = (refl, sym (same_Some x y e))
 only_one x (suc k) y e = absurd (none-some y e)
 

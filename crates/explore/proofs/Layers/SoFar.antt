@@ -11,11 +11,11 @@ use Rattle.explore.specs.declared.marks.Marks.{Marks}
 use Rattle.explore.specs.Alike.{full, after_turns}
 use Rattle.explore.specs.Search.{IsOver, IsFull, IsLike, same}
 use Rattle.explore.specs.Lists.{plus, is_another, cuts}
-use Rattle.explore.specs.Explored.{IsWithin, IsAsked, GoAlong, bounds_at, AreBusy, TellAlike, ClassView, IsTooLong}
+use Rattle.explore.specs.Explored.{IsWithin, IsAsked, bounds_at, AreBusy, TellAlike, ClassView, IsTooLong}
 use Rattle.explore.specs.Points.{Point, no_marks, marks_after, start, along, MayGo}
-use Rattle.explore.specs.Points as points
+use Rattle.explore.specs.States.{IsSoFar}
 use Rattle.explore.specs.Want.{EndsWell}
-use Rattle.explore.specs.Layers.{LiveView, point_of, point_at, LayerView, IsFirst, IsOnward, IsMove, IsBornWorld, IsBornStand, IsReportOf, IsFoundIn, IsSearched}
+use Rattle.explore.specs.Layers.{LiveView, point_at, LayerView, IsFirst, IsOnward, IsMove, IsBornWorld, IsBornStand, IsReportOf, IsFoundIn, IsSearched}
 use Rattle.explore.proofs.Lists.SearchLaws.{after_append, like_turns, like_trans, like_busy}
 use Rattle.explore.proofs.Wants.LikeEnds.{turned_full, well_from}
 use Rattle.explore.proofs.Counts.Merged.{like_cut, like_tells_on}
@@ -43,29 +43,21 @@ busy_full : (w : WorldView) (is : List ℕ) → AreBusy w is → IsOver (after_t
 busy_full w [] busy over = over
 busy_full w (i ∷ is) busy over = (busy.0, busy_full (turn full w i) is busy.1 over)
 
--- the list has only turns of actors who have something left to do, with few cuts, and begins as is asked for; and
--- these are its marks
-pub record IsSoFar (w : WorldView) (scope : Scope) (turns : List ℕ) (marks : Marks) : Type 0 where
-  pub busy : AreBusy w turns
-  pub marks_are : marks ≡ (along (start w) turns).marks
-  pub few : IsWithin scope.cuts marks.cuts
-  pub along_it : GoAlong scope.begin.items turns
-
-none_so_far : (w : WorldView) (scope : Scope) → IsSoFar w scope [] no_marks
+pub none_so_far : (w : WorldView) (scope : Scope) → IsSoFar w scope [] no_marks
 none_so_far w scope = record { busy = tt; marks_are = refl; few = within_none scope.cuts; along_it = along_none scope.begin.items }
 
 -- one turn more
-on_so_far : (w : WorldView) (scope : Scope) (turns : List ℕ) (marks : Marks) (v : WorldView) (i : ℕ) → IsSoFar w scope turns marks → IsLike scope.outside (after_turns w turns) v
+pub on_so_far : {told : Bool} (w : WorldView) (scope : Scope) (turns : List ℕ) (marks : Marks) (v : WorldView) (i : ℕ) → IsSoFar w scope turns marks → IsLike told (after_turns w turns) v
     → MayGo (bounds_at scope (length turns)) (record { world = v; marks = marks }) i → IsSoFar w scope (turns ++ i ∷ []) (marks_after v.seats marks i)
-on_so_far w scope turns marks v i so like may = record {
+on_so_far {told} w scope turns marks v i so like may = record {
   busy = busy_append w turns (i ∷ []) so.busy (like_busy {w = after_turns w turns} {v = v} i like ∙ may.busy, tt);
   marks_are = marks_on;
   few = may.few;
   along_it = along_push scope.begin.items turns i so.along_it may.only;
 }
   where
-    like_there : IsLike scope.outside (along (start w) turns).world v
-    like_there = subst (λ (u : WorldView). IsLike scope.outside u v) (sym (along_world (start w) turns)) like
+    like_there : IsLike told (along (start w) turns).world v
+    like_there = subst (λ (u : WorldView). IsLike told u v) (sym (along_world (start w) turns)) like
 
     marks_on : marks_after v.seats marks i ≡ (along (start w) (turns ++ i ∷ [])).marks
     marks_on =
@@ -113,7 +105,7 @@ pub record IsFoundBy (w : WorldView) (scope : Scope) (class : ClassView) : Type 
 abbrev fresh : Bool → WorldView → LiveView
 fresh told w = record { told = told; world = w; marks = no_marks; turns = []; is_state = true }
 
-only : {A : Type 0} (x y : A) (xs : List A) (k : ℕ) → xs ≡ x ∷ [] → slice_get xs k ≡ Some y → x ≡ y
+pub only : {A : Type 0} (x y : A) (xs : List A) (k : ℕ) → xs ≡ x ∷ [] → slice_get xs k ≡ Some y → x ≡ y
 only x y xs k e there = by k (sym (ap (λ ys. slice_get ys k) e) ∙ there)
   where
     by : (k : ℕ) → slice_get (x ∷ []) k ≡ Some y → x ≡ y
@@ -202,7 +194,7 @@ module _ (w : WorldView) (scope : Scope) (layers : List LayerView) (graph : List
   onward_so_far : (k i : ℕ) (layer : LayerView) (stand : Stand) (live : LiveView) → k ≤ length graph → slice_get layers k ≡ Some layer → IsOnward (bounds_at scope k) layer stand live i
       → EndsWell live.world → IsSoFar w scope stand.turns.items stand.marks → IsSoFar w scope (stand.turns.items ++ i ∷ []) (marks_after live.world.seats stand.marks i)
   onward_so_far k i layer stand live le there on well so =
-      on_so_far w scope stand.turns.items stand.marks live.world i so (stand_like k on.at layer stand live le there on.there on.on well)
+      on_so_far {told = scope.outside} w scope stand.turns.items stand.marks live.world i so (stand_like k on.at layer stand live le there on.there on.on well)
       (subst (λ n. MayGo (bounds_at scope n) (point_at live stand) i) (sym ((searched.on k layer there).stands on.at stand on.there).long) on.may)
 
   -- each stand's list
@@ -235,11 +227,11 @@ module _ (w : WorldView) (scope : Scope) (layers : List LayerView) (graph : List
   live_list (suc k) m next live le there here well =
       let layer = layer_at k (omega arith) in
       let born : IsBornWorld (bounds_at scope k) layer.0 live = (searched.joined k layer.0 next layer.1 there).worlds m live here in
-      let luck = born.is.turned.0 in
+      let luck = born.is.luck in
       let turns = born.stand.turns.items ++ born.i ∷ [] in
-      let world : live.world ≡ turn luck born.live.world born.i =
-      ap_at (λ (p : Point). p.world) (point_of live) (points.onward luck (point_at born.live born.stand) born.i) born.is.turned.1 in
-      let like : IsLike scope.outside (turn luck born.live.world born.i) live.world = subst (λ (u : WorldView). IsLike scope.outside u live.world) world (same live.world) in
+      let told = live_told k born.stand.world layer.0 born.live (omega arith) layer.1 born.onward.on in
+      let like : IsLike scope.outside (turn luck born.live.world born.i) live.world =
+      subst (λ (b : Bool). IsLike b (turn luck born.live.world born.i) live.world) told born.is.like in
       let before : EndsWell born.live.world = well_from scope.outside luck born.live.world live.world born.i like well in
       let old = stand_so_far k born.onward.at layer.0 born.stand born.live (omega arith) layer.1 born.onward.there born.onward.on before in
       let onto = stand_like k born.onward.at layer.0 born.stand born.live (omega arith) layer.1 born.onward.there born.onward.on before in record {

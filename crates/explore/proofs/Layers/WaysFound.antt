@@ -2,9 +2,10 @@
 use Rattle.std.specs.Prelude.{◌≡◌, ◌<◌, ◌≤◌, ◌+◌, ◌⊎◌, ◌++◌, ℕ, suc, List, [], ◌∷◌, length, ◌==◌, Bool, true, false, not, Option, Some, slice_get, refl}
 use Rattle.std.specs.Global.{Vec}
 use Rattle.std.proofs.Common.{inl, inr, ⊎_elim, sym, ap, ◌∙◌, subst, arith, length-append, eq-eqb, eqb-true}
-use Rattle.std.proofs.lemmas.Option.{same_Some, none-some, slice_get_within}
+use Rattle.std.proofs.lemmas.Option.{same_Some, slice_get_within}
 use Rattle.tree_model.proofs.Places.{slice_get-last}
 use Rattle.race_core.specs.declared.opening.TheConstants.{ACTORS_MAX}
+use Rattle.race_core.specs.Worlds.{turn}
 use Rattle.schedule_graph.specs.declared.graph.Way.{Way}
 use Rattle.schedule_graph.specs.Words.{way_of, AreApart}
 use Rattle.schedule_graph.proofs.Leading.{own_way}
@@ -19,19 +20,20 @@ use Rattle.explore.specs.Lists.{is_another, is_cut, plus}
 use Rattle.explore.specs.Merged.{bounded_cuts}
 use Rattle.explore.specs.Moves.{AreChoices, AreAllChoices, AreLeads, Going, AreGone}
 use Rattle.explore.specs.Points.{marks_after, onward, AreWithin}
-use Rattle.explore.specs.Layers.{LiveView, LayerView, Keeps, Leads, IsOn, AreOn, point_of, point_at, IsOnward, IsMove, IsBornStand, AreJoined, AreWaysBy, AreAllWays, IsWayBy, IsThere}
+use Rattle.explore.specs.Layers.{LiveView, LayerView, Keeps, Leads, IsOn, AreOn, point_at, IsOnward, IsMove, IsBornStand, AreJoined, AreWaysBy, AreAllWays, IsWayBy, IsThere}
 use Rattle.explore.specs.Spreading.{IsStandBy, IsWayTo, AreEachWay, AreWaysTo, AreStandsBy, IsFitting, AreFit, AreStandsFrom, AreFirstWays, AreWaysOfAll, AreApartChoices}
 use Rattle.explore.proofs.Lists.Indices.{within_some}
 use Rattle.explore.proofs.Lists.Told.{get_push}
-use Rattle.explore.proofs.Lists.Turning.{turn_actors, turn_within}
+use Rattle.explore.proofs.Lists.SearchLaws.{like_actors}
+use Rattle.explore.proofs.Lists.Turning.{turn_stays, turn_within}
 
 -- ---- a stand that is put last
 
-pub pushed_there : (bounds : Bounds) (stand : Stand) (old new : List Stand) (t : ℕ) → new ≡ old ++ stand ∷ [] → t ≡ length old → IsThere bounds stand new t
+pub pushed_there : (bounds : Bounds) (stand : Stand) (old new : List Stand) (t : ℕ) → new ≡ old ++ stand ∷ [] → t ≡ length old → IsThere bounds stand.world stand.marks new t
 pushed_there bounds stand old new t e q = record {
   other = stand;
   there = ap (λ stands. slice_get stands t) e ∙ (ap (slice_get (old ++ stand ∷ [])) q ∙ slice_get-last old stand);
-  world = refl;
+  on = refl;
   last = refl;
   cuts = refl;
 }
@@ -49,24 +51,21 @@ is_more true n = by (suc n == n) refl
     by true e = let q : suc n ≡ n = eqb-true (suc n) n e in absurd (omega (arith, q))
     by false e = refl
 
-pub way_is : (bounds : Bounds) (stand : Stand) (choice : Choice) (world : ℕ) (next : List Stand) (to : ℕ) (born : Stand) → IsStandBy stand choice world born → IsThere bounds born next to
+pub way_is : (bounds : Bounds) (stand : Stand) (choice : Choice) (world : ℕ) (next : List Stand) (to : ℕ) → IsThere bounds world choice.marks next to
     → IsWayTo bounds stand choice world next (record { letter = choice.actor; cut = not (choice.marks.cuts == stand.marks.cuts); change = not (choice.marks.changes == stand.marks.changes); to = to })
-way_is bounds stand choice world next to born after there = record { letter = refl; cut = refl; change = refl; to = born; after = after; there = there }
+way_is bounds stand choice world next to there = record { letter = refl; cut = refl; change = refl; there = there }
 
 -- ---- the ways from a stand
 
-there_on : (bounds : Bounds) (stand : Stand) (old new : List Stand) (t : ℕ) → Keeps old new → IsThere bounds stand old t → IsThere bounds stand new t
-there_on bounds stand old new t keeps is = record { other = is.other; there = keeps t is.other is.there; world = is.world; last = is.last; cuts = is.cuts }
+there_on : (bounds : Bounds) (world : ℕ) (marks : Marks) (old new : List Stand) (t : ℕ) → Keeps old new → IsThere bounds world marks old t → IsThere bounds world marks new t
+there_on bounds world marks old new t keeps is = record { other = is.other; there = keeps t is.other is.there; on = is.on; last = is.last; cuts = is.cuts }
 
 way_on : (bounds : Bounds) (stand : Stand) (choice : Choice) (world : ℕ) (old new : List Stand) (way : Way) → Keeps old new → IsWayTo bounds stand choice world old way
     → IsWayTo bounds stand choice world new way
 way_on bounds stand choice world old new way keeps is =
-    record { letter = is.letter; cut = is.cut; change = is.change; to = is.to; after = is.after; there = there_on bounds is.to old new way.to keeps is.there }
+    record { letter = is.letter; cut = is.cut; change = is.change; there = there_on bounds world choice.marks old new way.to keeps is.there }
 
 module _ (bounds : Bounds) (stand : Stand) (choices : List Choice) (places : List ℕ) where
-  pub each_none : (next : List Stand) (ways : List Way) → ways ≡ [] → AreEachWay bounds stand choices places next ways
-  each_none next ways none k choice world way here at there = absurd (none-some way (ap (λ (xs : List Way). slice_get xs k) (sym none) ∙ there))
-
   pub each_on : (old new : List Stand) (ways : List Way) → Keeps old new → AreEachWay bounds stand choices places old ways → AreEachWay bounds stand choices places new ways
   each_on old new ways keeps are k choice world way here at there = way_on bounds stand choice world old new way keeps (are k choice world way here at there)
 
@@ -212,7 +211,8 @@ module _ (g : Going) (worlds : List LiveView) (tops : List (Option ℕ)) (places
     few : (k : ℕ) (born : LiveView) → slice_get worlds k ≡ Some born → length born.world.seats ≤ ACTORS_MAX
     few k born there =
         let is = gone.born k born there in
-        subst (λ m. m ≤ ACTORS_MAX) (sym (turn_actors (point_at is.live is.stand) (point_of born) is.i is.is.turned)) (on.actors is.stand.world is.live is.onward.on)
+        subst (λ m. m ≤ ACTORS_MAX) (sym (turn_stays is.is.luck is.live.world is.i) ∙ like_actors {w = turn is.is.luck is.live.world is.i} {v = born.world} is.is.like)
+        (on.actors is.stand.world is.live is.onward.on)
 
     pub after_joined : AreJoined g.bounds g.layer after
     after_joined = record { worlds = gone.born; stands = born_stand }
@@ -263,9 +263,9 @@ module _ (g : Going) (worlds : List LiveView) (tops : List (Option ℕ)) (places
             after = record {
               after = by.there.other;
               there = by.there.there;
-              last = by.there.last ∙ ap (λ (m : Marks). m.last) (by.after.marks ∙ own.marks);
-              cuts = by.there.cuts ∙ ap (λ (m : Marks). bounded_cuts g.bounds.cuts m.cuts) (by.after.marks ∙ own.marks);
-              move = move s stand those row is k choice c.1.0 c.1.1.0 c.1.1.1.0 by.there.other.world (by.there.world ∙ by.after.on);
+              last = by.there.last ∙ ap (λ (m : Marks). m.last) own.marks;
+              cuts = by.there.cuts ∙ ap (λ (m : Marks). bounded_cuts g.bounds.cuts m.cuts) own.marks;
+              move = move s stand those row is k choice c.1.0 c.1.1.0 c.1.1.1.0 by.there.other.world by.there.on;
             };
           })
 

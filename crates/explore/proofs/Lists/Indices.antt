@@ -1,5 +1,5 @@
 -- Places in lists.
-use Rattle.std.specs.Prelude.{◌≡◌, ◌<◌, ℕ, ◌+◌, suc, Option, Some, None, slice_get}
+use Rattle.std.specs.Prelude.{◌≡◌, ◌<◌, ℕ, ◌+◌, suc, Option, Some, None}
 use Rattle.std.proofs.Common.{◌⊎◌, arith}
 pub use Rattle.step_resolver.proofs.Meaning.PlainResolution.{slice_get-some as within_some}
 

@@ -1,5 +1,5 @@
 -- Turns of those who have nothing left to do change nothing; and closed sets of lists stand for all.
-use Rattle.std.specs.Prelude.{◌≡◌, ℕ, zero, suc, List, [], ◌∷◌, ◌++◌, Bool, true, false, length, refl}
+use Rattle.std.specs.Prelude.{◌≡◌, ◌<◌, ℕ, zero, suc, List, [], ◌∷◌, ◌++◌, Bool, true, false, length, refl}
 use Rattle.std.proofs.Common.{sym, ap, ◌∙◌, subst}
 use Rattle.tree_model.specs.declared.answer.Event.{Event}
 use Rattle.tree_model.specs.State.{State}
@@ -9,12 +9,13 @@ use Rattle.race_core.specs.declared.seat.Seat.{Seat}
 use Rattle.race_core.specs.Book.{tree_now}
 use Rattle.race_core.specs.Worlds.{WorldView, turn, is_busy_at, ledgers_in, replies_in, AllOver, Runs, RunsTo, again, AllGoToEnd, numbers_below}
 use Rattle.race_core.proofs.OneEnd.{idle_turn_by}
-use Rattle.explore.specs.Alike.{full, after_turns, TellTheSame}
+use Rattle.explore.specs.Alike.{full, after_turns}
+use Rattle.explore.specs.Local.{TellAlike}
 use Rattle.explore.specs.Want.{replies_want}
 use Rattle.explore.specs.Search.{IsOver, IsFull, IsLike, same, onward, IsClosed, ChosenListsStandForAll, ReportsAreOfFullLists, FullListsAreReported}
 use Rattle.explore.specs.Outside.{outside_of}
-use Rattle.explore.proofs.Alike.OutsideAlike.{same_turns}
-use Rattle.explore.proofs.Alike.Worlds.{busy_alike, tell_alike}
+use Rattle.explore.proofs.Local.OutsideSame.{same_worlds_act}
+use Rattle.explore.proofs.Local.Wholes.{busy_alike, tell_alike}
 use Rattle.explore.proofs.Wants.WantWorlds.{runs_are_full, ap_at, join}
 
 -- ---- turns one after another
@@ -31,32 +32,39 @@ runs_append w u v (i ∷ is) js run more = (run.0, runs_append (turn run.0 w i) 
 
 pub like_turns : {told : Bool} {w v : WorldView} (i : ℕ) → IsLike told w v → IsLike told (turn full w i) (turn full v i)
 like_turns i (same u) = same (turn full u i)
-like_turns {told} i (onward w u v alike like) =
-    onward (turn full w i) (turn full u i) (turn full v i) (same_turns told w u full i alike) (like_turns {w = u} {v = v} i like)
+like_turns {told} i (onward w u v is like) =
+    onward (turn full w i) (turn full u i) (turn full v i) (same_worlds_act told w u full i is) (like_turns {w = u} {v = v} i like)
 
 pub like_trans : {told : Bool} {w u v : WorldView} → IsLike told w u → IsLike told u v → IsLike told w v
 like_trans (same x) more = more
-like_trans {told} {w} {u} {v} (onward a b c alike like) more = onward a b v alike (like_trans {w = b} {u = c} {v = v} like more)
+like_trans {told} {w} {u} {v} (onward a b c is like) more = onward a b v is (like_trans {w = b} {u = c} {v = v} like more)
 
 pub like_busy : {told : Bool} {w v : WorldView} (i : ℕ) → IsLike told w v → is_busy_at w.seats i ≡ is_busy_at v.seats i
 like_busy i (same u) = refl
-like_busy i (onward w u v alike like) =
-    join (is_busy_at w.seats i) (is_busy_at u.seats i) (is_busy_at v.seats i) (busy_alike w u i alike.alike) (like_busy {w = u} {v = v} i like)
+like_busy i (onward w u v is like) =
+    join (is_busy_at w.seats i) (is_busy_at u.seats i) (is_busy_at v.seats i) (busy_alike w u i is.parts).0 (like_busy {w = u} {v = v} i like)
 
-pub like_tells : {told : Bool} {w v : WorldView} → IsLike told w v → TellTheSame w v
-like_tells (same u) = record { replies = refl; nodes = refl; held = λ a. refl }
-like_tells (onward w u v alike like) =
-    let first : TellTheSame w u = tell_alike w u alike.alike in
-    let rest : TellTheSame u v = like_tells {w = u} {v = v} like in
-    record { replies = first.replies ∙ rest.replies; nodes = first.nodes ∙ rest.nodes; held = λ a. first.held a ∙ rest.held a }
+pub like_actors : {told : Bool} {w v : WorldView} → IsLike told w v → length w.seats ≡ length v.seats
+like_actors (same u) = refl
+like_actors (onward w u v is like) = is.parts.seats ∙ like_actors {w = u} {v = v} like
+
+pub like_tells : {told : Bool} {w v : WorldView} → IsLike told w v → TellAlike w v
+like_tells (same u) = record { replies = refl; nodes = refl; held = λ a lt. refl }
+like_tells (onward w u v is like) =
+    let first : TellAlike w u = tell_alike w u is.parts in
+    let rest : TellAlike u v = like_tells {w = u} {v = v} like in record {
+      replies = first.replies ∙ rest.replies;
+      nodes = first.nodes ∙ rest.nodes;
+      held = λ a lt. first.held a lt ∙ rest.held a (subst (λ n. a < n) is.parts.seats lt);
+    }
 
 pub like_outside : {told : Bool} {w v : WorldView} → IsLike told w v → outside_of told w ≡ outside_of told v
 like_outside (same u) = refl
-like_outside {told} (onward w u v alike like) = join (outside_of told w) (outside_of told u) (outside_of told v) alike.outside (like_outside {w = u} {v = v} like)
+like_outside {told} (onward w u v is like) = join (outside_of told w) (outside_of told u) (outside_of told v) is.outside (like_outside {w = u} {v = v} like)
 
 module _ (told : Bool) (w : WorldView) (chosen : List ℕ → Bool) (closed : IsClosed told w chosen) where
   stands : (u : WorldView) (is js : List ℕ) → chosen js ≡ true → IsLike told u (after_turns w js) → IsFull u is
-      → (ks : List ℕ) × ((chosen ks ≡ true) × (IsOver (after_turns w ks) × TellTheSame (after_turns u is) (after_turns w ks)))
+      → (ks : List ℕ) × ((chosen ks ≡ true) × (IsOver (after_turns w ks) × TellAlike (after_turns u is) (after_turns w ks)))
   stands u [] js e like over =
       (js, (e, ((λ i. sym (like_busy {w = u} {v = after_turns w js} i like) ∙ over i), like_tells {w = u} {v = after_turns w js} like)))
   stands u (i ∷ is) js e like rest =
@@ -107,6 +115,10 @@ pub over_at : (seats : List Seat) (i : ℕ) → AllOver seats → is_busy_at sea
 over_at [] i over = refl
 over_at (seat ∷ seats) zero over = over.0
 over_at (seat ∷ seats) (suc i) over = over_at seats i over.1
+
+pub all_over : (seats : List Seat) → ((i : ℕ) → is_busy_at seats i ≡ false) → AllOver seats
+all_over [] none = tt
+all_over (seat ∷ seats) none = (none 0, all_over seats (λ i. none (suc i)))
 
 -- what a report is of: the turns of the schedule and more, with memory for all
 pub reported : (w : WorldView) (schedule : List ℕ) (tree : State) (events : List Event) (replies : List (List Outcome)) (kept : List StandingObject)

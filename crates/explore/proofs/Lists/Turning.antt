@@ -1,5 +1,5 @@
 -- A turn taken, and the marks after it.
-use Rattle.std.specs.Prelude.{◌≡◌, ◌≤◌, ℕ, ◌+◌, List, [], ◌∷◌, ◌++◌, Bool, true, false, Option, Some, None, length, slice_get, refl}
+use Rattle.std.specs.Prelude.{◌≡◌, ◌≤◌, ℕ, ◌+◌, Bool, true, false, Option, Some, None, length, slice_get, refl}
 use Rattle.std.proofs.Common.{sym, ap, ◌∙◌, subst, arith}
 use Rattle.race_core.specs.declared.seat.Seat.{Seat}
 use Rattle.race_core.specs.Turns.{Luck, turned}
@@ -28,7 +28,3 @@ turn_within p q i n turned within =
       cuts = plus_few (is_cut p.world.seats p.marks.last i) p.marks.cuts n within.cuts;
       changes = plus_few (is_another p.marks.last i) p.marks.changes n within.changes;
     })
-
-pub push_append : {A : Type 0} (xs : List A) (y : A) (zs : List A) → (xs ++ y ∷ []) ++ zs ≡ xs ++ y ∷ zs
-push_append [] y zs = refl
-push_append (x ∷ xs) y zs = ap (λ ys. x ∷ ys) (push_append xs y zs)

@@ -16,14 +16,29 @@ use Rattle.tree_model.specs.Steps.{outcome, held, is_full}
 use Rattle.tree_model.proofs.HistoryLaws.{after_events-append}
 use Rattle.race_core.specs.Book.{BookedHistory, tree_now, free_lines, lines_needed, is_close, closes_nothing, refusal, answer_now, booked, is_done}
 use Rattle.race_core.specs.Turns.{Stepped, unless_refused, stepped_by}
+use Rattle.explore.specs.Renamed.{step_by}
 use Rattle.explore.specs.Alike.{Pairs, SameSteps, SameAnswers}
 use Rattle.explore.specs.Lists.{plus}
 use Rattle.explore.specs.Local.{SameGround, GrownAlike, changes_outside}
 use Rattle.explore.specs.Outside.{changed_by, is_outside, any_outside, acts_outside}
-use Rattle.explore.proofs.Alike.Books.{blind_lines}
 use Rattle.explore.proofs.Alike.OutsideAlike.{after_push, blind_done}
 use Rattle.explore.proofs.Alike.Steps.{SameNumbers, zero_agrees, Paired, open', dup', parent', read', below', list', close', make_dir', make_file', make_link', remove_file', remove_dir', rename', paired_of, same_close}
 use Rattle.explore.proofs.Local.Steps.{PartBy, own_held, own_steps, either_way, one_each}
+
+blind_lines : (f : ℕ → ℕ) (step : StepOf ℕ) → lines_needed (step_by f step) ≡ lines_needed step
+blind_lines f (steps.Open h n) = refl
+blind_lines f (steps.Dup h) = refl
+blind_lines f (steps.Parent h) = refl
+blind_lines f (steps.ReadLink h) = refl
+blind_lines f (steps.NameBelow r h) = refl
+blind_lines f (steps.List h) = refl
+blind_lines f (steps.Close h) = refl
+blind_lines f (steps.MakeDir h n) = refl
+blind_lines f (steps.MakeFile h n) = refl
+blind_lines f (steps.MakeLink h n text) = refl
+blind_lines f (steps.RemoveFile h n) = refl
+blind_lines f (steps.RemoveDir h n) = refl
+blind_lines f (steps.Rename h n k m mode) = refl
 
 needs_two : (step : StepOf ℕ) → lines_needed step ≤ 2
 needs_two (steps.Open h n) = omega arith

@@ -80,7 +80,7 @@ given_join s t u h k l (inr p) (inl q) = inl (omega (arith, p.0, p.1, q.0), q.1)
 given_join s t u h k l (inr p) (inr q) = inr (p.0 ∙ q.0, p.1 ∙ q.1)
 
 -- the number of the second list at a place of the first
-number_there : (x y : Seat) → LikeSeats x y → (at h : ℕ) → slice_get (seat_handles x) at ≡ Some h → (k : ℕ) × AreAt (seat_handles x) (seat_handles y) at h k
+pub number_there : (x y : Seat) → LikeSeats x y → (at h : ℕ) → slice_get (seat_handles x) at ≡ Some h → (k : ℕ) × AreAt (seat_handles x) (seat_handles y) at h k
 number_there x y like at h e =
     let same = same_numbers x y like in
     let lt : at < length (seat_handles x) = there_was (seat_handles x) at h e in

@@ -25,13 +25,13 @@ nobody (x ∷ xs) zero over = absurd (omega arith)
 nobody (x ∷ xs) (suc i) over = nobody xs i (omega arith)
 
 -- a number is a seat's, or beyond all
-seated_or : (i n : ℕ) → (i < n) ⊎ (n ≤ i)
+pub seated_or : (i n : ℕ) → (i < n) ⊎ (n ≤ i)
 seated_or i n = ⊎_elim (λ lt. inl lt) (λ or. ⊎_elim (λ e. inr (omega (arith, e))) (λ lt. inr (omega (arith, lt))) or) (below_or i n)
 
-no_turn : (luck : Luck) (w : WorldView) (i : ℕ) → length w.seats ≤ i → turn luck w i ≡ w
+pub no_turn : (luck : Luck) (w : WorldView) (i : ℕ) → length w.seats ≤ i → turn luck w i ≡ w
 no_turn luck w i over = ap (λ seat. turn_of luck w i seat) (nobody w.seats i over)
 
-same_ground : (w v : WorldView) → SameParts w v → SameGround w.book v.book
+pub same_ground : (w v : WorldView) → SameParts w v → SameGround w.book v.book
 same_ground w v same = record {
   nodes = same.nodes;
   numbers = ap (λ n. nat_le NUMBERS_MAX n) same.numbers;
@@ -39,7 +39,7 @@ same_ground w v same = record {
 }
 
 -- what has grown by as much is the same again
-same_again : (m' n' m n : ℕ) → m ≡ n → m' + n ≡ n' + m → m' ≡ n'
+pub same_again : (m' n' m n : ℕ) → m ≡ n → m' + n ≡ n' + m → m' ≡ n'
 same_again m' n' m n e e' = omega arith
 
 -- ---- a turn of the one actor, and the seat of another

@@ -29,10 +29,6 @@ use Rattle.explore.specs.Want.{is_want, walk_wants, walk_turn_wants, making_want
 
 -- ---- what is on its way stays so
 
-walk_gives_up : (hs : List ℕ) → walk_turn_wants (walk.gives_up hs NoMemory) ≡ true
-walk_gives_up [] = refl
-walk_gives_up (h ∷ hs) = refl
-
 walk_closes : (way : Way) (hs : List ℕ) (error : Errno) → walk_turn_wants (walk.closes way hs (walk.gives error)) ≡ is_want error
 walk_closes way [] error = refl
 walk_closes way (h ∷ hs) error = refl

@@ -1,7 +1,7 @@
 //! Whether the actors of two worlds are the same but for the numbers of their handles.
 ghost use Rattle.std.specs.Prelude.{◌≡◌, ◌<◌, ◌++◌, ◌↔◌, length, slice_get, Some, IsTrue, IfOk};
 ghost use Rattle.race_core.specs.declared.seat.Seat.{Seat};
-ghost use Rattle.race_core.specs.Renamed.{LikeActors, seat_handles};
+ghost use Rattle.race_core.specs.Renamed.{LikeActors, LikeSeats, seat_handles};
 
 use super::{Like, like_all};
 use crate::book::Book;
@@ -18,6 +18,17 @@ impl<T: Tree> World<T> {
         ensures { IsTrue result ↔ LikeActors self.now.seats other.now.seats }
     {
         like_all(self.seats.as_slice(), other.seats.as_slice())
+    }
+
+    /// Whether the actor of that number has the same to do, to tell and to hold in both worlds but for the numbers of
+    /// handles. The other actors, the trees and the histories may differ. Takes no memory.
+    pub fn is_like_at(&self, other: &World<T>, actor: usize) -> bool
+        requires here { actor < length self.now.seats }
+        requires there { actor < length other.now.seats }
+        ensures { (here there : Seat) → slice_get self.now.seats actor ≡ Some here
+            → slice_get other.now.seats actor ≡ Some there → (IsTrue result ↔ LikeSeats here there) }
+    {
+        self.seats[actor].is_like(&other.seats[actor])
     }
 
     /// Appends the handles of the actor of that number, one by one: its root's, and those in its calls to come, in

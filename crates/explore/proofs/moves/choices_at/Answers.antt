@@ -11,23 +11,25 @@ use Rattle.explore.proofs.moves.choices_at.Goals.{then-may_go+in_ok-at+in_ok-pus
 pub loop-number-preserved : goal.loop-number-preserved
 loop-number-preserved g c =
     let bounds = c.args.bounds in
-    let p : Point = record { world = c.args.world.now; marks = c.args.marks } in
     let n : ℕ = c.loop-number.number in
     let was = c.loop-number.invariant in
     elim c.if-may_go.branch [
       | then-may_go+in_ok-at+in_ok-push w ↦
-          let may : MayGo bounds p n = c.may_go.ensures.0 w.if-may_go.true in
-          let choice : Choice = record { actor = n; marks = w.marks_after.result; at = w.in_ok-at.at } in
+          let choice : Choice = record { actor = n; marks = w.marks_by.result; at = w.in_ok-at.at } in
           let moves : c.if-may_go.moves.items ≡ w.move_at.new.moves.items = ap (λ v. v.items) w.moves-is in
           let choices : c.if-may_go.choices.items ≡ c.loop-number.choices.items ++ choice ∷ [] = ap (λ v. v.items) w.choices-is ∙ w.in_ok-push.ensures.items in
-          let more : AreChoicesBelow bounds p w.move_at.new.moves.items (n + 1) (c.loop-number.choices.items ++ choice ∷ []) =
-          choices_more bounds p c.loop-number.moves.items n c.loop-number.choices.items was.choices w.move_at.new.moves.items w.in_ok-at.ensures.keeps choice
-          (record { may = may; marks = w.marks_after.ensures; move = w.in_ok-at.ensures.there }) refl in
           record {
             keeps = λ k x there. ap (λ (xs : List Move). slice_get xs k) moves ∙ w.in_ok-at.ensures.keeps k x (was.keeps k x there);
-            new = λ j one there. ⊎_elim (was.new j one) (λ is. inr (one_of bounds c.args.stand p n one may is))
+            new = λ u v key j one there. ⊎_elim (was.new u v key j one)
+                (λ is. inr (one_of bounds c.args.stand (record { world = v; marks = c.args.marks }) n one ((c.may_go.ensures u v key).0 w.if-may_go.true) is))
                 (w.in_ok-at.ensures.new j one (ap (λ (xs : List Move). slice_get xs j) (sym moves) ∙ there));
-            choices = subst (λ (xs : List Move). AreChoicesBelow bounds p xs (n + 1) c.if-may_go.choices.items) (sym moves)
+            choices = λ u v key.
+                let p : Point = record { world = v; marks = c.args.marks } in
+                let may : MayGo bounds p n = (c.may_go.ensures u v key).0 w.if-may_go.true in
+                let more : AreChoicesBelow bounds p w.move_at.new.moves.items (n + 1) (c.loop-number.choices.items ++ choice ∷ []) =
+                choices_more bounds p c.loop-number.moves.items n c.loop-number.choices.items (was.choices u v key) w.move_at.new.moves.items w.in_ok-at.ensures.keeps choice
+                (record { may = may; marks = w.marks_by.ensures u v key; move = w.in_ok-at.ensures.there }) refl in
+                subst (λ (xs : List Move). AreChoicesBelow bounds p xs (n + 1) c.if-may_go.choices.items) (sym moves)
                 (subst (λ (xs : List Choice). AreChoicesBelow bounds p w.move_at.new.moves.items (n + 1) xs) (sym choices) more);
           }
       | else-may_go w ↦
@@ -35,16 +37,18 @@ loop-number-preserved g c =
           let choices : c.if-may_go.choices.items ≡ c.loop-number.choices.items = ap (λ v. v.items) w.choices-is in
           record {
             keeps = λ k x there. ap (λ (xs : List Move). slice_get xs k) moves ∙ was.keeps k x there;
-            new = λ j one there. was.new j one (ap (λ (xs : List Move). slice_get xs j) (sym moves) ∙ there);
-            choices = subst (λ (xs : List Move). AreChoicesBelow bounds p xs (n + 1) c.if-may_go.choices.items) (sym moves)
+            new = λ u v key j one there. was.new u v key j one (ap (λ (xs : List Move). slice_get xs j) (sym moves) ∙ there);
+            choices = λ u v key.
+                let p : Point = record { world = v; marks = c.args.marks } in
+                subst (λ (xs : List Move). AreChoicesBelow bounds p xs (n + 1) c.if-may_go.choices.items) (sym moves)
                 (subst (λ (xs : List Choice). AreChoicesBelow bounds p c.loop-number.moves.items (n + 1) xs) (sym choices)
-                (choices_other bounds p c.loop-number.moves.items n c.loop-number.choices.items was.choices
-                (λ may. true≢false (sym (c.may_go.ensures.1 may) ∙ w.if-may_go.false))));
+                (choices_other bounds p c.loop-number.moves.items n c.loop-number.choices.items (was.choices u v key)
+                (λ may. true≢false (sym ((c.may_go.ensures u v key).1 may) ∙ w.if-may_go.false))));
           }
     ]
 
 pub returns-clause-choices : goal.returns-clause-choices
-returns-clause-choices g c =
-    let p : Point = record { world = c.args.world.now; marks = c.args.marks } in
-    choices_all c.args.bounds p c.loop-number.moves.items c.loop-number.number c.loop-number.choices.items
-    (omega (arith, c.actors-number-end.ensures, c.loop-number.auto.number-end, c.loop-number-test.false)) c.loop-number.invariant.choices
+returns-clause-choices g c = λ w v key.
+    let many = key.many in
+    choices_all c.args.bounds (record { world = v; marks = c.args.marks }) c.loop-number.moves.items c.loop-number.number c.loop-number.choices.items
+    (omega (arith, c.len-number-end.ensures, c.loop-number.auto.number-end, c.loop-number-test.false, many, c.args.key.now.own.ok.0)) (c.loop-number.invariant.choices w v key)

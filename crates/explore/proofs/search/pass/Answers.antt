@@ -1,134 +1,174 @@
-use Rattle.std.proofs.Common.{◌≡◌, ◌<◌, ◌∙◌, ◌+◌, ◌^◌, ℕ, List, Option, length, sym, ap, subst, rules, refl}
-use Rattle.std.specs.Prelude.{slice_get}
+use Rattle.std.proofs.Common.{◌∙◌, ℕ, Bool, List, length, sym, ap, subst, rules}
 use Rattle.std.specs.Global.{Vec}
-use Rattle.schedule_graph.specs.declared.graph.Way.{Way}
-use Rattle.explore.specs.declared.layer.Stand.{Stand}
-use Rattle.explore.specs.declared.moves.Choice.{Choice}
+use Rattle.explore.specs.declared.layer.Layer.{Layer}
+use Rattle.explore.specs.declared.layer.Live.{Live}
+use Rattle.explore.specs.declared.moves.Move.{Move}
+use Rattle.explore.specs.Deeds.{KnownView}
 use Rattle.explore.specs.Explored.{WhyNot}
-use Rattle.explore.specs.Layers.{LiveView, LayerView, IsPassed}
-use Rattle.explore.specs.Moves.{Going, CanGoOn}
-use Rattle.explore.specs.Spreading.{AreFit, AreApartChoices, AllGoOn, AreWaysOfAll, AreSpotsBy}
-use Rattle.explore.proofs.Counts.Merges.{passed_by}
-use Rattle.explore.proofs.Layers.Choosing.{can_go_on}
-use Rattle.explore.proofs.Layers.WaysFound.{fits, choices_apart, tops_there}
+use Rattle.explore.specs.Kept.{layer_of, AreKeys}
+use Rattle.explore.specs.Keys.{ComponentsView, Grows}
+use Rattle.explore.specs.Layers.{AreOn, IsPassed}
+use Rattle.explore.specs.Runs.{AreLayers, AreTheirs}
+use Rattle.explore.proofs.Counts.PassedOn.{ToPass, are, course, is_course, are_fit, are_apart, tops_on, is_passed, next_kept, next_counted}
+use Rattle.explore.proofs.Keyed.Running.{kept_grows, counted_grows, layers_kept, are_theirs}
+use Rattle.explore.proofs.Layers.Kept.{keys_few, views_many}
+use Rattle.explore.proofs.search.pass.Given.{Over}
 use Rattle.explore.proofs.search.pass.Goals as goal
+use Rattle.explore.proofs.search.pass.Goals.{In_ok-learn}
 
-pub go_on-requires-clause-can : goal.go_on-requires-clause-can
-go_on-requires-clause-can g c =
-    let layer : LayerView = c.args.layer in
-    let stands : c.as_slice-those.result.now ≡ layer.stands = c.as_slice-those.ensures.value ∙ ap (λ (l : LayerView). l.stands) c.layer.view_is in
-    let worlds : c.layer.inside.worlds.items ≡ layer.worlds = ap (λ (l : LayerView). l.worlds) c.layer.view_is in
-    let few : length c.args.graph.now + 1 < 2 ^ 40 = c.requires.few in
-    let can : CanGoOn layer.stands layer.worlds c.in-Ok.moves.items =
-    can_go_on c.args.bounds layer c.in-Ok.moves.items (length c.args.graph.now) few c.requires.on c.in-Ok.ensures.moves in
-    λ κs under. subst (λ (xs : List Stand). CanGoOn xs c.layer.inside.worlds.items c.in-Ok.moves.items) (sym stands)
-    (subst (λ (xs : List LiveView). CanGoOn layer.stands xs c.in-Ok.moves.items) (sym worlds) can)
+-- the layer and its moves, by what is known once it was learnt from
+abbrev start : (g : Over) (c : In_ok-learn g) → ToPass
+start g c =
+    let w = g.B.Beginnings.opening c.args.beginnings.now in
+    let known : KnownView = c.learn.new.turns in
+    let layer : Layer = c.args.layer.now in
+    let n : ℕ = length c.args.graph.now in
+    let grows : Grows c.args.turns.now.components known.components = c.in_ok-learn.ensures.grows in
+    let told = known.components.told in record {
+      w = w;
+      n = n;
+      bounds = c.args.bounds;
+      known = known;
+      layer = layer;
+      found = c.args.classes.now.items;
+      short = c.requires.few;
+      kept = kept_grows w n c.args.turns.now known layer grows c.in_ok-learn.ensures.sound c.requires.kept;
+      on = subst (λ (told : Bool). AreOn n (layer_of w told layer)) (sym grows.told) c.requires.on;
+      components = c.components.result.now;
+      keys = subst (λ (c : ComponentsView). AreKeys c w layer) (sym c.components.ensures) c.requires.kept.keys;
+      moves = c.in_ok-moves.moves.items;
+      choices = c.in_ok-moves.choices.items;
+      listed = c.in_ok-moves.ensures.moves w told;
+      chosen = c.in_ok-moves.ensures.choices w told;
+    }
 
-pub returns-in_err-course-clause-err : goal.returns-in_err-course-clause-err
-returns-in_err-course-clause-err g c = λ w limits.
-    let why : WhyNot w limits c.in_err-course.field-0.0 = c.in_err-course.ensures.err w limits in
+pub listed-requires-clause-few : goal.listed-requires-clause-few
+listed-requires-clause-few g c =
+    keys_few (g.B.Beginnings.opening c.args.beginnings.now) (length c.args.graph.now) c.args.turns.now c.args.layer.now c.requires.kept
+
+pub go_on-requires : goal.go_on-requires
+go_on-requires g c =
+    let s : ToPass = start g (goal.at.go_on-requires g c).In_ok-learn in
+    record { course = (course s, is_course s c.as_slice-moves.result.now c.as_slice-moves.ensures.value) }
+
+pub returns-in_err-passed-clause-err : goal.returns-in_err-passed-clause-err
+returns-in_err-passed-clause-err g c = λ limits states bounds counted room.
+    let s : ToPass = start g (goal.at.returns-in_err-passed-clause-err g c).In_ok-learn in
+    let why : WhyNot (g.B.Beginnings.opening c.args.beginnings.now) limits c.in_err-passed.field-0.0 =
+    c.in_err-passed.ensures.err limits (course s) states (is_course s c.as_slice-moves.result.now c.as_slice-moves.ensures.value) bounds
+    (counted_grows s.w limits.scope s.n states c.args.turns.now.components s.known.components s.layer c.in_ok-learn.ensures.grows counted) room in
     search rules
+
+pub all_go_on-requires-clause-many : goal.all_go_on-requires-clause-many
+all_go_on-requires-clause-many g c =
+    let s : ToPass = start g (goal.at.all_go_on-requires-clause-many g c).In_ok-learn in
+    ap length c.as_slice-choices.ensures.value ∙ ((are s).many ∙ ap length (sym c.as_slice-those.ensures.value))
 
 pub all_go_on-requires-clause-on : goal.all_go_on-requires-clause-on
 all_go_on-requires-clause-on g c =
-    let layer : LayerView = c.args.layer in
-    let s : Going = record { bounds = c.args.bounds; layer = layer; moves = c.in-Ok.moves.items; listed = c.in-Ok.ensures.moves; found = c.args.classes.now.items } in
-    let stands : c.as_slice-those.result.now ≡ layer.stands = c.as_slice-those.ensures.value ∙ ap (λ (l : LayerView). l.stands) c.layer.view_is in
-    let same : layer ≡ record { worlds = c.layer.inside.worlds.items; stands = c.as_slice-those.result.now } =
-    sym c.layer.view_is ∙ (λ i. record { worlds = c.layer.inside.worlds.items; stands = sym c.as_slice-those.ensures.value i }) in
-    let came = c.in_ok-course.ensures.gone s same refl refl in
-    let worlds : List LiveView = c.in_ok-course.course.known in
-    let tops : List (Option ℕ) = c.in_ok-course.course.tops.items in
-    let places : List (Vec ℕ) = c.in_ok-course.course.places.items in
-    let choices : List (Vec Choice) = c.in-Ok.choices.items in
-    let n : ℕ = length c.args.graph.now in
-    λ k stand there. subst (λ (xs : List (Option ℕ)). stand.world < length xs) (sym c.as_slice-tops.ensures.value)
-    (tops_there s worlds tops places c.go_on.new.classes.items came.0 came.1 n c.requires.on choices c.in-Ok.ensures.choices k stand (ap (λ (xs : List Stand). slice_get xs k) (sym stands) ∙ there))
+    let s : ToPass = start g (goal.at.all_go_on-requires-clause-on g c).In_ok-learn in
+    let came = c.in_ok-passed.ensures.went (course s) (is_course s c.as_slice-moves.result.now c.as_slice-moves.ensures.value) in
+    tops_on s c.go_on.new.turns c.in_ok-passed.passed.known c.in_ok-passed.passed.tops.items c.in_ok-passed.passed.places.items c.go_on.new.classes.items came
+    c.as_slice-those.result.now c.as_slice-choices.result.now c.as_slice-places.result.now c.as_slice-tops.result.now c.as_slice-those.ensures.value c.as_slice-choices.ensures.value
+    c.as_slice-places.ensures.value c.as_slice-tops.ensures.value
+
+pub spread-requires-clause-many : goal.spread-requires-clause-many
+spread-requires-clause-many g c =
+    let s : ToPass = start g (goal.at.spread-requires-clause-many g c).In_ok-learn in
+    ap length c.as_slice-choices.ensures.value ∙ ((are s).many ∙ ap length (sym c.as_slice-those.ensures.value))
 
 pub spread-requires-clause-fit : goal.spread-requires-clause-fit
 spread-requires-clause-fit g c =
-    let layer : LayerView = c.args.layer in
-    let s : Going = record { bounds = c.args.bounds; layer = layer; moves = c.in-Ok.moves.items; listed = c.in-Ok.ensures.moves; found = c.args.classes.now.items } in
-    let stands : c.as_slice-those.result.now ≡ layer.stands = c.as_slice-those.ensures.value ∙ ap (λ (l : LayerView). l.stands) c.layer.view_is in
-    let same : layer ≡ record { worlds = c.layer.inside.worlds.items; stands = c.as_slice-those.result.now } =
-    sym c.layer.view_is ∙ (λ i. record { worlds = c.layer.inside.worlds.items; stands = sym c.as_slice-those.ensures.value i }) in
-    let came = c.in_ok-course.ensures.gone s same refl refl in
-    let worlds : List LiveView = c.in_ok-course.course.known in
-    let tops : List (Option ℕ) = c.in_ok-course.course.tops.items in
-    let places : List (Vec ℕ) = c.in_ok-course.course.places.items in
-    let choices : List (Vec Choice) = c.in-Ok.choices.items in
-    let n : ℕ = length c.args.graph.now in
-    let own : AreFit layer.stands choices places = fits s worlds tops places c.go_on.new.classes.items came.0 came.1 n c.requires.on choices c.in-Ok.ensures.choices in
-    subst (λ (xs : List Stand). AreFit xs c.as_slice-choices.result.now c.as_slice-places.result.now) (sym stands)
-    (subst (λ (xs : List (Vec Choice)). AreFit layer.stands xs c.as_slice-places.result.now) (sym c.as_slice-choices.ensures.value)
-    (subst (λ (xs : List (Vec ℕ)). AreFit layer.stands choices xs) (sym c.as_slice-places.ensures.value) own))
+    let s : ToPass = start g (goal.at.spread-requires-clause-fit g c).In_ok-learn in
+    let came = c.in_ok-passed.ensures.went (course s) (is_course s c.as_slice-moves.result.now c.as_slice-moves.ensures.value) in
+    are_fit s c.go_on.new.turns c.in_ok-passed.passed.known c.in_ok-passed.passed.tops.items c.in_ok-passed.passed.places.items c.go_on.new.classes.items came
+    c.as_slice-those.result.now c.as_slice-choices.result.now c.as_slice-places.result.now c.as_slice-tops.result.now c.as_slice-those.ensures.value c.as_slice-choices.ensures.value
+    c.as_slice-places.ensures.value c.as_slice-tops.ensures.value
 
 pub spread-requires-clause-apart : goal.spread-requires-clause-apart
 spread-requires-clause-apart g c =
-    let layer : LayerView = c.args.layer in
-    let s : Going = record { bounds = c.args.bounds; layer = layer; moves = c.in-Ok.moves.items; listed = c.in-Ok.ensures.moves; found = c.args.classes.now.items } in
-    let stands : c.as_slice-those.result.now ≡ layer.stands = c.as_slice-those.ensures.value ∙ ap (λ (l : LayerView). l.stands) c.layer.view_is in
-    let same : layer ≡ record { worlds = c.layer.inside.worlds.items; stands = c.as_slice-those.result.now } =
-    sym c.layer.view_is ∙ (λ i. record { worlds = c.layer.inside.worlds.items; stands = sym c.as_slice-those.ensures.value i }) in
-    let came = c.in_ok-course.ensures.gone s same refl refl in
-    let worlds : List LiveView = c.in_ok-course.course.known in
-    let tops : List (Option ℕ) = c.in_ok-course.course.tops.items in
-    let places : List (Vec ℕ) = c.in_ok-course.course.places.items in
-    let choices : List (Vec Choice) = c.in-Ok.choices.items in
-    let n : ℕ = length c.args.graph.now in
-    let own : AreApartChoices choices = choices_apart s worlds tops places c.go_on.new.classes.items came.0 came.1 n c.requires.on choices c.in-Ok.ensures.choices in
-    subst (λ (xs : List (Vec Choice)). AreApartChoices xs) (sym c.as_slice-choices.ensures.value) own
+    let s : ToPass = start g (goal.at.spread-requires-clause-apart g c).In_ok-learn in
+    let came = c.in_ok-passed.ensures.went (course s) (is_course s c.as_slice-moves.result.now c.as_slice-moves.ensures.value) in
+    are_apart s c.go_on.new.turns c.in_ok-passed.passed.known c.in_ok-passed.passed.tops.items c.in_ok-passed.passed.places.items c.go_on.new.classes.items came
+    c.as_slice-those.result.now c.as_slice-choices.result.now c.as_slice-places.result.now c.as_slice-tops.result.now c.as_slice-those.ensures.value c.as_slice-choices.ensures.value
+    c.as_slice-places.ensures.value c.as_slice-tops.ensures.value
 
 pub spread-requires-clause-on : goal.spread-requires-clause-on
 spread-requires-clause-on g c =
-    let layer : LayerView = c.args.layer in
-    let s : Going = record { bounds = c.args.bounds; layer = layer; moves = c.in-Ok.moves.items; listed = c.in-Ok.ensures.moves; found = c.args.classes.now.items } in
-    let stands : c.as_slice-those.result.now ≡ layer.stands = c.as_slice-those.ensures.value ∙ ap (λ (l : LayerView). l.stands) c.layer.view_is in
-    let same : layer ≡ record { worlds = c.layer.inside.worlds.items; stands = c.as_slice-those.result.now } =
-    sym c.layer.view_is ∙ (λ i. record { worlds = c.layer.inside.worlds.items; stands = sym c.as_slice-those.ensures.value i }) in
-    let came = c.in_ok-course.ensures.gone s same refl refl in
-    let worlds : List LiveView = c.in_ok-course.course.known in
-    let tops : List (Option ℕ) = c.in_ok-course.course.tops.items in
-    let places : List (Vec ℕ) = c.in_ok-course.course.places.items in
-    let choices : List (Vec Choice) = c.in-Ok.choices.items in
-    let n : ℕ = length c.args.graph.now in
-    λ k stand there. subst (λ (xs : List (Option ℕ)). stand.world < length xs) (sym c.as_slice-tops.ensures.value)
-    (tops_there s worlds tops places c.go_on.new.classes.items came.0 came.1 n c.requires.on choices c.in-Ok.ensures.choices k stand (ap (λ (xs : List Stand). slice_get xs k) (sym stands) ∙ there))
+    let s : ToPass = start g (goal.at.spread-requires-clause-on g c).In_ok-learn in
+    let came = c.in_ok-passed.ensures.went (course s) (is_course s c.as_slice-moves.result.now c.as_slice-moves.ensures.value) in
+    tops_on s c.go_on.new.turns c.in_ok-passed.passed.known c.in_ok-passed.passed.tops.items c.in_ok-passed.passed.places.items c.go_on.new.classes.items came
+    c.as_slice-those.result.now c.as_slice-choices.result.now c.as_slice-places.result.now c.as_slice-tops.result.now c.as_slice-those.ensures.value c.as_slice-choices.ensures.value
+    c.as_slice-places.ensures.value c.as_slice-tops.ensures.value
+
+pub returns-clause-told : goal.returns-clause-told
+returns-clause-told g c =
+    let s : ToPass = start g (goal.at.returns-clause-told g c).In_ok-learn in
+    let came = c.in_ok-passed.ensures.went (course s) (is_course s c.as_slice-moves.result.now c.as_slice-moves.ensures.value) in
+    came.0.grows.told ∙ c.in_ok-learn.ensures.grows.told
+
+pub returns-clause-kept : goal.returns-clause-kept
+returns-clause-kept g c =
+    let s : ToPass = start g (goal.at.returns-clause-kept g c).In_ok-learn in
+    let came = c.in_ok-passed.ensures.went (course s) (is_course s c.as_slice-moves.result.now c.as_slice-moves.ensures.value) in
+    let new : Layer = record { worlds = c.into_worlds-worlds.result; stands = c.in_ok-stands.stands } in
+    let spread = c.in_ok-stands.ensures in
+    next_kept s c.go_on.new.turns c.in_ok-passed.passed.known c.in_ok-passed.passed.tops.items c.in_ok-passed.passed.places.items c.go_on.new.classes.items came
+    c.as_slice-those.result.now c.as_slice-choices.result.now c.as_slice-places.result.now c.as_slice-tops.result.now c.as_slice-those.ensures.value c.as_slice-choices.ensures.value
+    c.as_slice-places.ensures.value c.as_slice-tops.ensures.value new c.into_worlds-worlds.ensures spread.0 spread.1.1.1.0
+
+pub learn-requires-clause-layer : goal.learn-requires-clause-layer
+learn-requires-clause-layer g c = λ κs within.
+    let w = g.B.Beginnings.opening c.args.beginnings.now in
+    subst (λ (xs : List Live). AreLayers c.args.turns.now.components w xs) (sym c.as_slice-worlds.ensures.value)
+    (layers_kept w (length c.args.graph.now) c.args.turns.now c.args.layer.now c.requires.few c.requires.kept)
+
+pub learn-requires-clause-many : goal.learn-requires-clause-many
+learn-requires-clause-many g c = λ κs within.
+    let w = g.B.Beginnings.opening c.args.beginnings.now in
+    let told = c.args.turns.now.components.told in
+    let layer : Layer = c.args.layer.now in
+    let keys = subst (λ (c : ComponentsView). AreKeys c w layer) (sym c.components.ensures) c.requires.kept.keys in
+    ap length c.as_slice-moves.ensures.value
+    ∙ ((c.in_ok-moves.ensures.moves w told keys).many ∙ (views_many w told layer.worlds.items ∙ ap length (sym c.as_slice-worlds.ensures.value)))
+
+pub learn-requires-clause-theirs : goal.learn-requires-clause-theirs
+learn-requires-clause-theirs g c = λ κs within.
+    let w = g.B.Beginnings.opening c.args.beginnings.now in
+    let told = c.args.turns.now.components.told in
+    let layer : Layer = c.args.layer.now in
+    let keys = subst (λ (c : ComponentsView). AreKeys c w layer) (sym c.components.ensures) c.requires.kept.keys in
+    let theirs = are_theirs w (length c.args.graph.now) c.args.turns.now layer c.requires.kept c.args.bounds told c.in_ok-moves.moves.items
+    (c.in_ok-moves.ensures.moves w told keys) in
+    subst (λ (xs : List Live). AreTheirs xs c.as_slice-moves.result.now) (sym c.as_slice-worlds.ensures.value)
+    (subst (λ (ms : List (Vec Move)). AreTheirs layer.worlds.items ms) (sym c.as_slice-moves.ensures.value) theirs)
 
 pub returns-clause-passed : goal.returns-clause-passed
 returns-clause-passed g c =
-    let layer : LayerView = c.args.layer in
-    let s : Going = record { bounds = c.args.bounds; layer = layer; moves = c.in-Ok.moves.items; listed = c.in-Ok.ensures.moves; found = c.args.classes.now.items } in
-    let stands : c.as_slice-those.result.now ≡ layer.stands = c.as_slice-those.ensures.value ∙ ap (λ (l : LayerView). l.stands) c.layer.view_is in
-    let same : layer ≡ record { worlds = c.layer.inside.worlds.items; stands = c.as_slice-those.result.now } =
-    sym c.layer.view_is ∙ (λ i. record { worlds = c.layer.inside.worlds.items; stands = sym c.as_slice-those.ensures.value i }) in
-    let came = c.in_ok-course.ensures.gone s same refl refl in
-    let worlds : List LiveView = c.in_ok-course.course.known in
-    let tops : List (Option ℕ) = c.in_ok-course.course.tops.items in
-    let places : List (Vec ℕ) = c.in_ok-course.course.places.items in
-    let choices : List (Vec Choice) = c.in-Ok.choices.items in
-    let n : ℕ = length c.args.graph.now in
-    let bounds = c.args.bounds in
-    let next : List Stand = c.in-Ok-spread.stands.items in
-    let spread = c.in-Ok-spread.ensures in
-    let all : List (Vec Way) = spread.0 in
-    let of : AreWaysOfAll bounds layer.stands choices places next all =
-    subst (λ (xs : List (Vec ℕ)). AreWaysOfAll bounds layer.stands choices xs next all) c.as_slice-places.ensures.value
-    (subst (λ (xs : List (Vec Choice)). AreWaysOfAll bounds layer.stands xs c.as_slice-places.result.now next all) c.as_slice-choices.ensures.value
-    (subst (λ (xs : List Stand). AreWaysOfAll bounds xs c.as_slice-choices.result.now c.as_slice-places.result.now next all) stands spread.1.1.1.0)) in
-    let spotted : AreSpotsBy layer.stands tops all spread.1.0.items =
-    subst (λ (xs : List (Option ℕ)). AreSpotsBy layer.stands xs all spread.1.0.items) c.as_slice-tops.ensures.value
-    (subst (λ (xs : List Stand). AreSpotsBy xs c.as_slice-tops.result.now all spread.1.0.items) stands spread.1.1.1.1) in
-    let goes : AllGoOn bounds.only layer.stands choices tops =
-    subst (λ (xs : List (Option ℕ)). AllGoOn bounds.only layer.stands choices xs) c.as_slice-tops.ensures.value
-    (subst (λ (xs : List (Vec Choice)). AllGoOn bounds.only layer.stands xs c.as_slice-tops.result.now) c.as_slice-choices.ensures.value
-    (subst (λ (xs : List Stand). AllGoOn bounds.only xs c.as_slice-choices.result.now c.as_slice-tops.result.now) stands
-    (c.all_go_on.ensures c.if-not-all_go_on.false))) in
-    let passed = passed_by s worlds tops places c.go_on.new.classes.items came.0 came.1 n c.requires.on choices c.in-Ok.ensures.choices next all of spread.1.0.items spotted goes in (
+    let s : ToPass = start g (goal.at.returns-clause-passed g c).In_ok-learn in
+    let came = c.in_ok-passed.ensures.went (course s) (is_course s c.as_slice-moves.result.now c.as_slice-moves.ensures.value) in
+    let new : Layer = record { worlds = c.into_worlds-worlds.result; stands = c.in_ok-stands.stands } in
+    let spread = c.in_ok-stands.ensures in
+    let passed = is_passed s c.go_on.new.turns c.in_ok-passed.passed.known c.in_ok-passed.passed.tops.items c.in_ok-passed.passed.places.items c.go_on.new.classes.items came
+    c.as_slice-those.result.now c.as_slice-choices.result.now c.as_slice-places.result.now c.as_slice-tops.result.now c.as_slice-those.ensures.value c.as_slice-choices.ensures.value
+    c.as_slice-places.ensures.value c.as_slice-tops.ensures.value new c.into_worlds-worlds.ensures spread.0 spread.1.1.1.0 spread.1.0.items spread.1.1.1.1
+    (c.all_go_on.ensures c.if-not-all_go_on.false) in (
       spread.1.0,
       (
         spread.1.1.0,
-        subst (λ (ws : List LiveView). IsPassed bounds n layer (record { worlds = ws; stands = next }) spread.1.0.items c.args.classes.now.items c.go_on.new.classes.items)
-            (sym c.into_worlds-worlds.ensures) passed,
+        subst (λ (told : Bool). IsPassed s.bounds s.n (layer_of s.w told s.layer) (layer_of s.w told new) spread.1.0.items s.found c.go_on.new.classes.items)
+            c.in_ok-learn.ensures.grows.told passed,
       ),
     )
+
+pub returns-clause-counted : goal.returns-clause-counted
+returns-clause-counted g c = λ scope states bounds counted.
+    let s : ToPass = start g (goal.at.returns-clause-counted g c).In_ok-learn in
+    let came = c.in_ok-passed.ensures.went (course s) (is_course s c.as_slice-moves.result.now c.as_slice-moves.ensures.value) in
+    let new : Layer = record { worlds = c.into_worlds-worlds.result; stands = c.in_ok-stands.stands } in
+    let spread = c.in_ok-stands.ensures in
+    next_counted s c.go_on.new.turns c.in_ok-passed.passed.known c.in_ok-passed.passed.tops.items c.in_ok-passed.passed.places.items c.go_on.new.classes.items came
+    c.as_slice-those.result.now c.as_slice-choices.result.now c.as_slice-places.result.now c.as_slice-tops.result.now c.as_slice-those.ensures.value c.as_slice-choices.ensures.value
+    c.as_slice-places.ensures.value c.as_slice-tops.ensures.value new c.into_worlds-worlds.ensures spread.0 spread.1.1.1.0 scope states c.in_ok-passed.passed.states bounds
+    (counted_grows s.w scope s.n states c.args.turns.now.components s.known.components s.layer c.in_ok-learn.ensures.grows counted)
+    c.are_met.ensures c.in_ok-passed.ensures.states

@@ -8,7 +8,7 @@ returns-then-stands_as c = λ _.
     record {
       other = c.index-stands-at.result;
       there = slice_get_read c.args.stands.now (length c.args.stands.now) c.args.at c.index-stands-at.result refl c.if-at-stands.true c.index-stands-at.is;
-      world = alike.world;
+      on = alike.on;
       last = alike.last;
       cuts = alike.cuts;
     }

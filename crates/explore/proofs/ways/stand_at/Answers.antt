@@ -1,11 +1,22 @@
-use Rattle.std.proofs.Common.{◌≡◌, length, arith}
+use Rattle.std.proofs.Common.{◌≡◌, ◌∙◌, ◌++◌, ◌∷◌, [], ℕ, List, length, ap, subst, sym, refl, inl, inr, ⊎_elim, arith}
+use Rattle.explore.specs.declared.layer.Stand.{Stand}
+use Rattle.explore.specs.Spreading.{IsStandBy}
 use Rattle.explore.proofs.Layers.WaysFound.{pushed_there, pushed_new}
 use Rattle.explore.proofs.ways.stand_at.Goals as goal
 
 pub returns-clause-there : goal.returns-clause-there
 returns-clause-there c =
-    let last : c.len-at.result ≡ length c.args.stands.now.items = omega (arith, c.len-at.ensures, c.args.stands.now.ok) in
-    pushed_there c.args.bounds c.args.stand c.args.stands.now.items c.push.new.self.items c.len-at.result c.in_ok-push.ensures.items last
+    let last : c.len-at.result ≡ length c.args.next.now.items = omega (arith, c.len-at.ensures, c.args.next.now.ok) in
+    let born : Stand = record { world = c.args.world; turns = c.in_ok-turns.turns; marks = c.args.choice.now.marks } in
+    pushed_there c.args.bounds born c.args.next.now.items c.push.new.self.items c.len-at.result c.in_ok-push.ensures.items last
 
 pub returns-clause-new : goal.returns-clause-new
-returns-clause-new c = pushed_new c.args.stand c.args.stands.now.items c.push.new.self.items c.in_ok-push.ensures.items
+returns-clause-new c = λ t one there.
+    let born : Stand = record { world = c.args.world; turns = c.in_ok-turns.turns; marks = c.args.choice.now.marks } in
+    let is : IsStandBy c.args.stand.now c.args.choice.now c.args.world born = record {
+      on = refl;
+      turns = c.in_ok-turns.ensures ∙ ap (λ (xs : List ℕ). xs ++ c.args.choice.now.actor ∷ []) c.as_slice-2.ensures.value;
+      marks = refl;
+    } in
+    ⊎_elim (λ was. inl was) (λ e. inr (subst (λ (x : Stand). IsStandBy c.args.stand.now c.args.choice.now c.args.world x) (sym e) is))
+    (pushed_new born c.args.next.now.items c.push.new.self.items c.in_ok-push.ensures.items t one there)

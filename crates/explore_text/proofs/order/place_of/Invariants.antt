@@ -4,4 +4,4 @@ use Rattle.explore_text.proofs.order.place_of.Given as goal
 
 -- it stands behind those so far
 abbrev pub invariant-loop-at : goal.invariant-loop-at
-invariant-loop-at g l = put l.class l.ordered ≡ take l.at l.ordered ++ put l.class (drop l.at l.ordered)
+invariant-loop-at l = put l.told l.ordered ≡ take l.at l.ordered ++ put l.told (drop l.at l.ordered)

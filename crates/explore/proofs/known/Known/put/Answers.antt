@@ -1,21 +1,45 @@
-use Rattle.std.proofs.Common.{◌≡◌, ◌⊎◌, List, ℕ, subst}
-use Rattle.std.specs.Prelude.{slice_get, Some, IfOk}
-use Rattle.explore.specs.Layers.{LiveView, Keeps}
-use Rattle.explore.specs.Marked.{counted}
-use Rattle.explore.specs.Search.{IsLike}
+use Rattle.std.proofs.Common.{◌≡◌, ◌++◌, ◌∷◌, [], List, ◌∙◌, ap, sym, subst, length, refl}
+use Rattle.explore.specs.declared.layer.Live.{Live}
+use Rattle.explore.specs.Marked.{IsSameAt, IsNew}
+use Rattle.explore.proofs.Layers.Marks.{looked_more, put_keeps, put_new, put_there}
 use Rattle.explore.proofs.known.Known.put.Goals as goal
 
+pub returns-in-Some-clause-there : goal.returns-in-Some-clause-there
+returns-in-Some-clause-there c =
+    subst (λ (xs : List Live). IsSameAt c.args.key xs c.in-Some.at) (c.as_slice.ensures.value ∙ c.self.view_is) c.in-Some.ensures.same
+
+pub invariant_of-self-2 : goal.invariant_of-self-2
+invariant_of-self-2 c =
+    let old : List Live = c.self.inside.worlds.items in
+    let own : Live = record { key = c.args.key; turns = c.in_ok-turns.turns; is_state = c.is_new-is_state.result } in
+    let is : c.push_reserved.new.self.items ≡ old ++ own ∷ [] =
+    c.push_reserved.ensures.items ∙ ap (λ (xs : List Live). xs ++ own ∷ []) c.reserve.ensures.items in
+    looked_more old c.push_reserved.new.self.items own is c.self.inside.table c.push.new.self c.print-print.result.0 c.self.invariant c.in_ok-push.ensures.pushed c.print-print.ensures
+    (λ at found. c.in_default.ensures.none at (subst (λ (xs : List Live). IsSameAt c.args.key xs at) (sym c.as_slice.ensures.value) found))
+    (subst (λ (xs : List Live). IsNew c.is_new-is_state.result xs (length xs) c.args.key) c.as_slice-2.ensures.value c.is_new-is_state.ensures)
+
 pub returns-clause-keeps : goal.returns-clause-keeps
-returns-clause-keeps g c = subst (λ (xs : List LiveView). Keeps xs c.put.new.worlds.items) c.self.view_is c.put.ensures.keeps
+returns-clause-keeps c =
+    let old : List Live = c.args.self.now in
+    let own : Live = record { key = c.args.key; turns = c.in_ok-turns.turns; is_state = c.is_new-is_state.result } in
+    let is : c.push_reserved.new.self.items ≡ old ++ own ∷ [] =
+    c.push_reserved.ensures.items ∙ ap (λ (xs : List Live). xs ++ own ∷ []) (c.reserve.ensures.items ∙ c.self.view_is) in
+    put_keeps old c.push_reserved.new.self.items own is
 
 pub returns-clause-there : goal.returns-clause-there
-returns-clause-there g c =
-    subst (λ (x : LiveView). IfOk c.put.result (λ at. (v : LiveView) × ((slice_get c.put.new.worlds.items at ≡ Some v) × IsLike x.told x.world v.world)))
-    c.born.view_is c.put.ensures.there
+returns-clause-there c =
+    let old : List Live = c.args.self.now in
+    let own : Live = record { key = c.args.key; turns = c.in_ok-turns.turns; is_state = c.is_new-is_state.result } in
+    let is : c.push_reserved.new.self.items ≡ old ++ own ∷ [] =
+    c.push_reserved.ensures.items ∙ ap (λ (xs : List Live). xs ++ own ∷ []) (c.reserve.ensures.items ∙ c.self.view_is) in
+    put_there old c.push_reserved.new.self.items own is c.args.key c.len-at.result
+    (c.len-at.ensures ∙ (c.self.inside.worlds.ok.0 ∙ ap length c.self.view_is)) refl
 
 pub returns-clause-new : goal.returns-clause-new
-returns-clause-new g c =
-    subst (λ (x : LiveView). (k : ℕ) (one : LiveView) → slice_get c.put.new.worlds.items k ≡ Some one → (slice_get c.args.self.now k ≡ Some one) ⊎ (one ≡ counted one.is_state x))
-    c.born.view_is
-    (subst (λ (xs : List LiveView). (k : ℕ) (one : LiveView) → slice_get c.put.new.worlds.items k ≡ Some one
-    → (slice_get xs k ≡ Some one) ⊎ (one ≡ counted one.is_state c.born.inside.live)) c.self.view_is c.put.ensures.new)
+returns-clause-new c =
+    let old : List Live = c.args.self.now in
+    let own : Live = record { key = c.args.key; turns = c.in_ok-turns.turns; is_state = c.is_new-is_state.result } in
+    let is : c.push_reserved.new.self.items ≡ old ++ own ∷ [] =
+    c.push_reserved.ensures.items ∙ ap (λ (xs : List Live). xs ++ own ∷ []) (c.reserve.ensures.items ∙ c.self.view_is) in
+    put_new old c.push_reserved.new.self.items own is c.args.key (c.args.before.now ++ c.args.actor ∷ [])
+    (record { key_is = refl; turns_are = c.in_ok-turns.ensures })

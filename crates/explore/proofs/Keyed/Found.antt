@@ -1,0 +1,245 @@
+-- Keys and deeds as they are found: the opening world's key, and what a turn comes to by the numbers before and after it.
+use Rattle.std.specs.Prelude.{◌≡◌, ◌≤◌, ◌<◌, ◌⊎◌, ℕ, suc, ◌+◌, List, [], ◌∷◌, Bool, true, false, length, map, nat_lt, Some, Result, Ok, Err, IfOk, OnOk, slice_get, slice_set, slice_index_or, refl}
+use Rattle.std.specs.Int.{from_bool}
+use Rattle.std.specs.List.{All}
+use Rattle.std.proofs.Common.{sym, ap, ◌∙◌, subst, ⊎_elim, arith}
+use Rattle.std.proofs.Math.ListN.{get_or-map}
+use Rattle.std.proofs.lemmas.Bool.{cases_eq}
+use Rattle.std.proofs.Math.Seq.{map-set_same}
+use Rattle.std.proofs.lemmas.List.{length-map}
+use Rattle.std.proofs.lemmas.List.Elements.{All-head, All-tail}
+use Rattle.std.proofs.lemmas.Option.{same_Some, get_or_from_slice_get}
+use Rattle.tree_model.specs.State.{State}
+use Rattle.tree_model.specs.Steps.{held}
+use Rattle.race_core.specs.declared.seat.Seat.{Seat}
+use Rattle.race_core.specs.Book.{BookedHistory, tree_now}
+use Rattle.race_core.specs.Turns.{Luck}
+use Rattle.race_core.specs.Worlds.{WorldView, turn}
+use Rattle.explore.specs.declared.keys.Deed.{Deed}
+use Rattle.explore.specs.declared.keys.Key.{Key}
+use Rattle.explore.specs.declared.keys.Own.{Own}
+use Rattle.explore.specs.declared.known_turns.Counts.{Counts}
+use Rattle.explore.specs.declared.memo.Ask.{Ask}
+use Rattle.explore.specs.declared.memo.Entry.{Entry}
+use Rattle.explore.specs.Alike.{full, after_turns}
+use Rattle.explore.specs.Deeds.{AreCountsIn, AreCompared, IsDeedFrom, IsAskOf, IsRemembered, KnownView, IsSound}
+use Rattle.explore.specs.Keys.{ComponentsView, Grows, IsPartAt, IsKey, IsKeyAfter, SameButParts, AreFew, outside_in, own_after}
+use Rattle.explore.specs.Layers.{LiveView, IsLed, point_of}
+use Rattle.explore.specs.Local.{AreNumbered}
+use Rattle.explore.specs.Outside.{outside_after, outside_from, outside_of, roots_from}
+use Rattle.explore.specs.Points.{Point, start, onward, AreWithin, Goes}
+use Rattle.explore.specs.Want.{EndsWell}
+use Rattle.explore.proofs.Alike.PairedLists.{there_is, there_was}
+use Rattle.explore.proofs.Alike.Steps.{set_at, set_other}
+use Rattle.explore.proofs.Keyed.Growing.{part_grows, deed_grows, sound_grows, grows_on}
+use Rattle.explore.proofs.Keyed.KnownTurn.{same_outside, found_turn, found_whole}
+use Rattle.explore.proofs.Keyed.OneTurn.{grown_by, numbered_stays}
+use Rattle.explore.proofs.Lists.Along.{along_world}
+use Rattle.explore.proofs.Lists.Turning.{turn_within}
+use Rattle.explore.proofs.Wants.Lucky.{full_turn, well_turned, goes_full}
+
+-- ---- the opening world
+
+-- nothing was changed in it
+none_outside : (book : BookedHistory) → book.events ≡ [] → (s : State) (a : ℕ) (seats : List Seat) (own : List Own) → length own ≡ length seats
+    → All (λ n. n ≡ 0) (map (λ (o : Own). o.outside) own) → outside_from book a (roots_from s a seats) ≡ map (λ (o : Own). o.outside) own
+none_outside book fresh s a [] [] many none = refl
+none_outside book fresh s a [] (one ∷ own) many none = absurd (omega (arith, many))
+none_outside book fresh s a (seat ∷ seats) [] many none = absurd (omega (arith, many))
+none_outside book fresh s a (seat ∷ seats) (one ∷ own) many none =
+    let rest : outside_from book (suc a) (roots_from s (suc a) seats) ≡ map (λ (o : Own). o.outside) own =
+    none_outside book fresh s (suc a) seats own (omega (arith, many)) (All-tail (λ n. n ≡ 0) one.outside (map (λ (o : Own). o.outside) own) none) in
+    let zero_is : one.outside ≡ 0 = All-head (λ n. n ≡ 0) one.outside (map (λ (o : Own). o.outside) own) none in
+    let first : outside_after a (held s a seat.ledger.root.handle) book.opening book.events ≡ one.outside =
+    ap (λ events. outside_after a (held s a seat.ledger.root.handle) book.opening events) fresh ∙ sym zero_is in
+    λ k. first k ∷ rest k
+
+none_in : (told : Bool) (w : WorldView) (own : List Own) → w.book.events ≡ [] → length own ≡ length w.seats
+    → All (λ n. n ≡ 0) (map (λ (o : Own). o.outside) own) → outside_of told w ≡ outside_in told own
+none_in true w own fresh many none = none_outside w.book fresh w.book.opening 0 w.seats own many none
+none_in false w own fresh many none = refl
+
+abbrev no_own : Own
+no_own = record { part = 0; outside = 0 }
+
+pub zero_at : (own : List Own) → All (λ n. n ≡ 0) (map (λ (o : Own). o.outside) own) → (i : ℕ) (one : Own) → slice_get own i ≡ Some one → one.outside ≡ 0
+zero_at own none i one there =
+    let within : i < length (map (λ (o : Own). o.outside) own) = subst (λ n. i < n) (sym (length-map own (λ (o : Own). o.outside))) (there_was own i one there) in
+    ap (λ (o : Own). o.outside) (sym (get_or_from_slice_get own i one no_own there))
+    ∙ (sym (get_or-map (λ (o : Own). o.outside) own i no_own) ∙ none i 0 within)
+
+pub first_is : (c : ComponentsView) (w : WorldView) (key : Key) → AreNumbered w.seats → w.book.events ≡ [] → slice_get c.lists key.nodes ≡ Some (tree_now w.book).nodes
+    → key.events ≡ 0 → key.opened ≡ 0 → key.closed ≡ 0 → length key.own.items ≡ length w.seats → All (λ n. n ≡ 0) (map (λ (o : Own). o.outside) key.own.items)
+    → ((i : ℕ) (own : Own) → slice_get key.own.items i ≡ Some own → IsPartAt c w i own.part) → IsKey c w w key
+first_is c w key numbered fresh nodes events opened closed many none parts = record {
+  nodes = nodes;
+  lines = refl;
+  events = omega (arith, events);
+  numbers = omega (arith, opened);
+  open_handles = omega (arith, opened, closed);
+  seats = refl;
+  numbered = numbered;
+  given = λ all. all;
+  many = many;
+  parts = parts;
+  roots = refl;
+  outside = none_in c.told w key.own.items fresh many none;
+  untold = λ untold i own there. zero_at key.own.items none i own there;
+}
+
+pub first_few : (key : Key) → key.events ≡ 0 → key.opened ≡ 0 → key.closed ≡ 0 → All (λ n. n ≡ 0) (map (λ (o : Own). o.outside) key.own.items) → AreFew 0 key
+first_few key events opened closed none = record {
+  events = omega arith;
+  opened = omega arith;
+  closed = omega arith;
+  outside = λ i own there. let zero_is = zero_at key.own.items none i own there in omega arith;
+}
+
+-- ---- a turn that was found
+
+-- one more, at most
+one_more : (n m k : ℕ) (so : Bool) → k ≡ m + from_bool so → m ≤ n → k ≤ n + 1
+one_more n m k true e le = omega arith
+one_more n m k false e le = omega arith
+
+pub few_after : (n : ℕ) (key next : Key) (i : ℕ) (deed : Deed) → i < length key.own.items → AreFew n key → IsKeyAfter key i deed next → AreFew (n + 1) next
+few_after n key next i deed lt few after = record {
+  events = one_more n key.events next.events deed.event after.events few.events;
+  opened = one_more n key.opened next.opened deed.opens after.opened few.opened;
+  closed = one_more n key.closed next.closed deed.closes after.closed few.closed;
+  outside = λ j own there. ⊎_elim (λ same. here j own same (at j own there)) (λ ne. elsewhere j own ne (at j own there)) (cases_eq j i);
+}
+  where
+    new : Own
+    new = own_after (slice_index_or key.own.items i no_own) deed
+
+    at : (j : ℕ) (own : Own) → slice_get next.own.items j ≡ Some own → slice_get (slice_set key.own.items i new) j ≡ Some own
+    at j own there = ap (λ items. slice_get items j) (sym after.own) ∙ there
+
+    here : (j : ℕ) (own : Own) → j ≡ i → slice_get (slice_set key.own.items i new) j ≡ Some own → own.outside ≤ n + 1
+    here j own same there =
+        let was = there_is key.own.items i lt in
+        let is : own ≡ new = same_Some own new (sym there ∙ (ap (λ k. slice_get (slice_set key.own.items i new) k) same ∙ set_at key.own.items i new lt)) in
+        let old : slice_index_or key.own.items i no_own ≡ was.0 = get_or_from_slice_get key.own.items i was.0 no_own was.1 in
+        one_more n was.0.outside own.outside deed.outside (ap (λ (o : Own). o.outside) is ∙ ap (λ (o : Own). o.outside + from_bool deed.outside) old) (few.outside i was.0 was.1)
+
+    elsewhere : (j : ℕ) (own : Own) → (j ≡ i → ⊥) → slice_get (slice_set key.own.items i new) j ≡ Some own → own.outside ≤ n + 1
+    elsewhere j own ne there =
+        let few_still : own.outside ≤ n = few.outside j own (sym (set_other key.own.items i new j ne) ∙ there) in
+        omega arith
+
+pub few_again : (n : ℕ) (mid next : Key) → SameButParts mid next → AreFew n mid → AreFew n next
+few_again n mid next same few = record {
+  events = subst (λ k. k ≤ n) same.events few.events;
+  opened = subst (λ k. k ≤ n) same.opened few.opened;
+  closed = subst (λ k. k ≤ n) same.closed few.closed;
+  outside = λ j own there.
+      let was = same_outside next.own.items mid.own.items (sym same.outside) j own there in
+      subst (λ k. k ≤ n) (sym was.1.1) (few.outside j was.0 was.1.0);
+}
+
+pub deed_found : (d : ComponentsView) (told : Bool) (luck : Luck) (i : ℕ) (v after : WorldView) (deed : Deed) (before now : Counts) → d.told ≡ told
+    → AreNumbered v.seats → i < length v.seats → after ≡ turn luck v i → EndsWell after → AreCountsIn told v i before → AreCountsIn told after i now → AreCompared before now deed
+    → slice_get d.lists deed.nodes ≡ Some (tree_now after.book).nodes → IsPartAt d after i deed.part → IsDeedFrom d v i deed
+deed_found d told luck i v after deed before now own numbered lt is well before_is now_is compared nodes part = record {
+  nodes = subst (λ (u : WorldView). slice_get d.lists deed.nodes ≡ Some (tree_now u.book).nodes) all nodes;
+  part = subst (λ u. IsPartAt d u i deed.part) all part;
+  grown = grown_by d.told full i v deed numbered lt (compared.event ∙ (λ k. nat_lt (were.events k) (are_now.events k)))
+      (compared.opens ∙ (λ k. nat_lt (were.numbers k) (are_now.numbers k)))
+      (compared.closes ∙ (λ k. nat_lt (are_now.open_handles k) (were.open_handles k)))
+      (compared.outside ∙ (λ k. nat_lt (were.outside k) (are_now.outside k)));
+}
+  where
+    all : after ≡ turn full v i
+    all = is ∙ full_turn luck v i (subst (λ u. EndsWell u) is well)
+
+    were : AreCountsIn d.told v i before
+    were = subst (λ b. AreCountsIn b v i before) (sym own) before_is
+
+    are_now : AreCountsIn d.told (turn full v i) i now
+    are_now = subst (λ u. AreCountsIn d.told u i now) all (subst (λ b. AreCountsIn b after i now) (sym own) now_is)
+
+-- an actor's part is put at its place among those of all
+module _ (c d : ComponentsView) (w : WorldView) (own : List Own) (n at : ℕ) (grows : Grows c d) (lt : n < length own) where
+  abbrev put : Own
+  put = record { part = at; outside = (slice_index_or own n no_own).outside }
+
+  pub outside_kept : map (λ (o : Own). o.outside) (slice_set own n put) ≡ map (λ (o : Own). o.outside) own
+  outside_kept = map-set_same (λ (o : Own). o.outside) own n put no_own refl
+
+  pub parts_more : IsPartAt d w n at → ((i : ℕ) (one : Own) → i < n → slice_get own i ≡ Some one → IsPartAt c w i one.part)
+      → (i : ℕ) (one : Own) → i < n + 1 → slice_get (slice_set own n put) i ≡ Some one → IsPartAt d w i one.part
+  parts_more part below i one less there = ⊎_elim here elsewhere (cases_eq i n)
+    where
+      here : i ≡ n → IsPartAt d w i one.part
+      here same =
+          let is : one ≡ put = same_Some one put (sym there ∙ (ap (λ k. slice_get (slice_set own n put) k) same ∙ set_at own n put lt)) in
+          subst (λ k. IsPartAt d w k one.part) (sym same) (subst (λ k. IsPartAt d w n k) (ap (λ (o : Own). o.part) (sym is)) part)
+
+      elsewhere : (i ≡ n → ⊥) → IsPartAt d w i one.part
+      elsewhere ne = part_grows grows (below i one (omega arith) (sym (set_other own n put i ne) ∙ there))
+
+-- one more is remembered
+pub remembered_more : (c : ComponentsView) (w v : WorldView) (ask : Ask) (deed : Deed) (old new : List Entry)
+    → ((at : ℕ) (entry : Entry) → slice_get new at ≡ Some entry → (slice_get old at ≡ Some entry) ⊎ (entry ≡ record { ask = ask; deed = deed }))
+    → IsAskOf c w v ask → IsDeedFrom c v ask.actor deed → ((at : ℕ) (entry : Entry) → slice_get old at ≡ Some entry → IsRemembered c w entry)
+    → (at : ℕ) (entry : Entry) → slice_get new at ≡ Some entry → IsRemembered c w entry
+remembered_more c w v ask deed old new put asked found was at entry there =
+    ⊎_elim (λ old_there. was at entry old_there)
+    (λ is. subst (λ e. IsRemembered c w e) (sym is) (record { from = v; ask = asked; deed = found })) (put at entry there)
+
+-- ---- a world gone through by turns, as luck has it
+
+pub goes_numbered : (p q : Point) (is : List ℕ) → Goes p is q → AreNumbered p.world.seats → AreNumbered q.world.seats
+goes_numbered p q [] goes numbered = subst (λ (x : Point). AreNumbered x.world.seats) (sym goes) numbered
+goes_numbered p q (i ∷ is) goes numbered = goes_numbered (onward goes.0 p i) q is goes.1 (numbered_stays goes.0 p.world i numbered)
+
+pub goes_within : (p q : Point) (is : List ℕ) (n : ℕ) → Goes p is q → AreWithin p.marks n → AreWithin q.marks (n + length is)
+goes_within p q [] n goes within = record {
+  cuts = let few = within.cuts in let same = ap (λ (x : Point). x.marks.cuts) goes in omega arith;
+  changes = let few = within.changes in let same = ap (λ (x : Point). x.marks.changes) goes in omega arith;
+}
+goes_within p q (i ∷ is) n goes within =
+    let rest = goes_within (onward goes.0 p i) q is (n + 1) goes.1 (turn_within p (onward goes.0 p i) i n (goes.0, refl) within) in
+    record {
+      cuts = let few = rest.cuts in omega arith;
+      changes = let few = rest.changes in omega arith;
+    }
+
+-- Where a turn is taken after these, and all comes to an end that tells of no want, the world before that turn is the one
+-- after them.
+pub before_there : (w : WorldView) (inside live : LiveView) (turns : List ℕ) → inside ≡ live → IsLed w live → live.turns ≡ turns → (i : ℕ) (after : WorldView)
+    → (luck : Luck) × (after ≡ turn luck inside.world i) → EndsWell after → inside.world ≡ after_turns w turns
+before_there w inside live turns is led same i after turned well =
+    let goes : IsLed w inside = subst (λ (l : LiveView). IsLed w l) (sym is) led in
+    ap (λ (x : Point). x.world) (goes_full (start w) (point_of inside) inside.turns goes (well_turned turned.0 inside.world i (subst (λ u. EndsWell u) turned.1 well)))
+    ∙ (along_world (start w) inside.turns ∙ ap (after_turns w) (ap (λ (l : LiveView). l.turns) is ∙ same))
+
+-- what is said of a success, given what is known where there was one
+pub ok_with : {T E P : Type 0} {Q R : T → Type 0} (r : Result T E) → (P → (x : T) → Q x → R x) → OnOk r P → IfOk r Q → IfOk r R
+ok_with (Ok x) on p q = on p x q
+ok_with (Err e) on p q = q
+
+-- ---- the key after a turn that was found
+
+module _ (old mid : KnownView) (w v : WorldView) (i : ℕ) (deed : Deed) (key next : Key) (sound : IsSound w old)
+    (is : IsKey old.components w v key) (grows : Grows old.components mid.components) (rest : mid ≡ record old { components = mid.components })
+    (lt : i < length v.seats) (found : IsDeedFrom mid.components v i deed) (key_after : IsKeyAfter key i deed next) where
+  pub sound_mid : IsSound w mid
+  sound_mid = subst (λ (k : KnownView). IsSound w k) (sym rest) (sound_grows grows sound)
+
+  -- it is remembered: the others' parts are as they were
+  pub key_known : (new : KnownView) → old.are_given ≡ true → new.components ≡ mid.components → IsKey new.components w (turn full v i) next
+  key_known new given same =
+      subst (λ (c : ComponentsView). IsKey c w (turn full v i) next) (sym same)
+      (found_turn old.components mid.components w v i deed key next is grows found key_after lt sound.rows (sound.given given))
+
+  -- or all actors' parts are put anew
+  pub sound_whole : (new : KnownView) → Grows mid.components new.components → new ≡ record mid { components = new.components } → IsSound w new
+  sound_whole new more same = subst (λ (k : KnownView). IsSound w k) (sym same) (sound_grows more sound_mid)
+
+  pub key_whole : (new : KnownView) (last : Key) → Grows mid.components new.components → SameButParts next last
+      → ((j : ℕ) (own : Own) → slice_get last.own.items j ≡ Some own → IsPartAt new.components (turn full v i) j own.part)
+      → IsKey new.components w (turn full v i) last
+  key_whole new last more same parts =
+      found_whole old.components new.components w v i deed key next is (grows_on grows more) (deed_grows more found) key_after lt last same parts

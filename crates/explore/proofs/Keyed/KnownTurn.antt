@@ -1,0 +1,289 @@
+-- The key after a turn, from what the turn comes to: found in that world, or remembered from one that asks the same.
+use Rattle.std.specs.Prelude.{◌≡◌, ◌≢◌, ◌≤◌, ◌<◌, ℕ, zero, suc, ◌+◌, ◌-◌, List, [], ◌∷◌, Bool, true, false, length, map, min, nat_le, nat_lt, Option, Some, slice_get, slice_set, slice_index_or, refl}
+use Rattle.std.specs.Int.{from_bool}
+use Rattle.std.proofs.Common.{sym, ap, ◌∙◌, subst, ⊎_elim, length-set, arith}
+use Rattle.std.proofs.lemmas.List.{length-map}
+use Rattle.std.proofs.lemmas.Bool.{cases_eq}
+use Rattle.std.proofs.lemmas.Bool.Decides.{nat_tests}
+use Rattle.std.proofs.lemmas.Option.{none-some, same_Some, get_or_from_slice_get}
+use Rattle.tree_model.specs.declared.tree.TheConstants.{NUMBERS_MAX}
+use Rattle.race_core.specs.declared.seat.Seat.{Seat}
+use Rattle.race_core.specs.Book.{BookedHistory, tree_now, free_lines}
+use Rattle.race_core.specs.Worlds.{WorldView, turn}
+use Rattle.explore.specs.declared.keys.Deed.{Deed}
+use Rattle.explore.specs.declared.keys.Key.{Key}
+use Rattle.explore.specs.declared.keys.Own.{Own}
+use Rattle.explore.specs.declared.known_turns.Start.{Start}
+use Rattle.explore.specs.declared.memo.Ask.{Ask}
+use Rattle.explore.specs.Alike.{full}
+use Rattle.explore.specs.Counting.{bumped}
+use Rattle.explore.specs.Deeds.{HasGrown, IsDeedFrom, IsAskOf, IsRemembered, IsStart}
+use Rattle.explore.specs.Keys.{ComponentsView, AreRows, Grows, IsPartAt, IsKey, IsKeyAfter, SameButParts, outside_in, own_after}
+use Rattle.explore.specs.Lists.{plus}
+use Rattle.explore.specs.Local.{actor_of, SamePartAt, AreAllGiven, GrownAlike, SameGround, changes_outside}
+use Rattle.explore.specs.Outside.{outside_from, roots_of}
+use Rattle.explore.proofs.Alike.OutsideAlike.{roots_stay}
+use Rattle.explore.proofs.Alike.PairedLists.{there_is}
+use Rattle.explore.proofs.Alike.Steps.{set_at, set_other}
+use Rattle.explore.proofs.Counts.Counting.{bumped_none, bumped_first, bumped_next}
+use Rattle.explore.proofs.Keyed.Growing.{grows_same, rows_grow, key_grows}
+use Rattle.explore.proofs.Keyed.OneTurn.{lines_stay, numbered_stays}
+use Rattle.explore.proofs.Keyed.SameKeys.{part_given, one_part, part_of_same}
+use Rattle.explore.proofs.Lists.Turning.{turn_stays}
+use Rattle.explore.proofs.Local.Parts.{parts_stay}
+use Rattle.explore.proofs.Local.Worlds.{turns_are_local, given_stay}
+
+-- ---- the turn of one who asks the same
+
+-- where both have grown by as many, the one has grown as the other has
+module _ (b c after others : BookedHistory) (grown : GrownAlike b c after others) where
+  as_many : (so : Bool) (m' n' m n : ℕ) → m' + n ≡ n' + m → n' ≡ plus so n → m' ≡ plus so m
+  as_many true m' n' m n e e' = omega arith
+  as_many false m' n' m n e e' = omega arith
+
+  bumped_alike : (so : Bool) (i k : ℕ) (roots : List (Option ℕ)) → outside_from others k roots ≡ bumped so i (outside_from c k roots)
+      → outside_from after k roots ≡ bumped so i (outside_from b k roots)
+  bumped_alike so i k [] e = sym (bumped_none so i)
+  bumped_alike so zero k (root ∷ roots) e =
+      let split : changes_outside k root others ∷ outside_from others (suc k) roots ≡ plus so (changes_outside k root c) ∷ outside_from c (suc k) roots =
+      e ∙ bumped_first so (changes_outside k root c) (outside_from c (suc k) roots) in
+      let head : changes_outside k root others ≡ plus so (changes_outside k root c) = cc (split) in
+      let tail : outside_from others (suc k) roots ≡ outside_from c (suc k) roots = cc (split) in
+      let first = as_many so _ _ (changes_outside k root b) (changes_outside k root c) (grown.outside k root) head in
+      let rest = bumped_alike false 0 (suc k) roots tail in
+      (λ j. first j ∷ rest j) ∙ sym (bumped_first so (changes_outside k root b) (outside_from b (suc k) roots))
+  bumped_alike so (suc i) k (root ∷ roots) e =
+      let split : changes_outside k root others ∷ outside_from others (suc k) roots ≡ changes_outside k root c ∷ bumped so i (outside_from c (suc k) roots) =
+      e ∙ bumped_next so i (changes_outside k root c) (outside_from c (suc k) roots) in
+      let head : changes_outside k root others ≡ plus false (changes_outside k root c) = cc (split) in
+      let tail : outside_from others (suc k) roots ≡ bumped so i (outside_from c (suc k) roots) = cc (split) in
+      let first = as_many false _ _ (changes_outside k root b) (changes_outside k root c) (grown.outside k root) head in
+      let rest = bumped_alike so i (suc k) roots tail in
+      (λ j. first j ∷ rest j) ∙ sym (bumped_next so i (changes_outside k root b) (outside_from b (suc k) roots))
+
+-- what has grown by as much has grown by that
+by_that : (m' n' m n more : ℕ) → m' + n ≡ n' + m → n' ≡ n + more → m' ≡ m + more
+by_that m' n' m n more e e' = omega arith
+
+by_those : (m' n' m n more less : ℕ) → m' + n ≡ n' + m → n' + less ≡ n + more → m' + less ≡ m + more
+by_those m' n' m n more less e e' = omega arith
+
+grown_alike : (told : Bool) (i : ℕ) (v o : WorldView) (deed : Deed) → GrownAlike v.book o.book (turn full v i).book (turn full o i).book
+    → roots_of told v ≡ roots_of told o → HasGrown told i o (turn full o i) deed → HasGrown told i v (turn full v i) deed
+grown_alike told i v o deed alike roots grown = record {
+  events = by_that _ _ _ _ _ alike.events grown.events;
+  numbers = by_that _ _ _ _ _ alike.numbers grown.numbers;
+  open_handles = by_those _ _ _ _ _ _ alike.open_handles grown.open_handles;
+  outside =
+      ap (λ roots. outside_from (turn full v i).book 0 roots) (roots_stay told full v i)
+      ∙ bumped_alike v.book o.book (turn full v i).book (turn full o i).book alike deed.outside i 0 (roots_of told v)
+      (subst (λ roots. outside_from (turn full o i).book 0 roots ≡ bumped deed.outside i (outside_from o.book 0 roots)) (sym roots)
+      (ap (λ roots. outside_from (turn full o i).book 0 roots) (sym (roots_stay told full o i)) ∙ grown.outside));
+  untold = grown.untold;
+}
+
+same_ask : (c : ComponentsView) (w v o : WorldView) (ask : Ask) → IsAskOf c w v ask → IsAskOf c w o ask → SameGround v.book o.book
+same_ask c w v o ask here there = record {
+  nodes = same_Some _ _ (sym here.nodes ∙ there.nodes);
+  numbers = here.numbers ∙ sym there.numbers;
+  lines = λ n few. here.room n few ∙ sym (there.room n few);
+}
+
+-- what the turn comes to in the one world it comes to in the other
+pub deed_alike : (c : ComponentsView) (w v o : WorldView) (ask : Ask) (deed : Deed) → AreRows c.parts (length w.seats)
+    → IsAskOf c w v ask → IsAskOf c w o ask → IsDeedFrom c o ask.actor deed → IsDeedFrom c v ask.actor deed
+deed_alike c w v o ask deed rows here there is =
+    let same : SamePartAt v o ask.actor = one_part c v o ask.actor ask.part (length w.seats) rows here.part there.part in
+    let gone = turns_are_local v o full ask.actor (same_ask c w v o ask here there) same in
+    record {
+      nodes = is.nodes ∙ ap Some (sym gone.nodes);
+      part = part_of_same c (turn full v ask.actor) (turn full o ask.actor) ask.actor deed.part (length w.seats) rows gone.part is.part;
+      grown = grown_alike c.told ask.actor v o deed gone.grown (here.roots ∙ sym there.roots) is.grown;
+    }
+
+-- ---- the others' parts
+
+others_part : (c : ComponentsView) (v : WorldView) (i j at actors : ℕ) → AreRows c.parts actors → i ≢ j → i < length v.seats
+    → ((k : ℕ) (x : Seat) → slice_get v.seats k ≡ Some x → actor_of x ≡ k) → AreAllGiven v → IsPartAt c v j at → IsPartAt c (turn full v i) j at
+others_part c v i j at actors rows ne lt numbered given part =
+    let own : part.row.actor ≡ j = rows.own j part.row part.there in
+    let x = there_is v.seats i lt in
+    let old = part.is.same in
+    let apart : i ≢ part.row.actor = (λ e. ne (e ∙ own)) in
+    let differ : actor_of x.0 ≢ actor_of old.here = (λ e. apart (sym (numbered i x.0 x.1) ∙ (e ∙ numbered part.row.actor old.here old.is_here))) in
+    let stays = parts_stay v full i part.row.actor x.0 old.here apart x.1 old.is_here differ in
+    record {
+      row = part.row;
+      there = part.there;
+      is = record {
+        other = part.is.other;
+        there = part.is.there;
+        same = record {
+          here = old.here;
+          there = old.there;
+          is_here = stays.0;
+          is_there = old.is_there;
+          part = stays.1 (tree_now part.is.other.book) old.there old.part
+              (part_given (tree_now v.book) (tree_now part.is.other.book) old.here old.there old.part (given part.row.actor old.here old.is_here));
+        };
+      };
+    }
+
+-- ---- changes outside of roots
+
+from_plus : (so : Bool) (n : ℕ) → n + from_bool so ≡ plus so n
+from_plus true n = omega arith
+from_plus false n = omega arith
+
+outside_set : (deed : Deed) (xs : List Own) (i : ℕ) (none : Own)
+    → map (λ (o : Own). o.outside) (slice_set xs i (own_after (slice_index_or xs i none) deed)) ≡ bumped deed.outside i (map (λ (o : Own). o.outside) xs)
+outside_set deed [] i none = sym (bumped_none deed.outside i)
+outside_set deed (x ∷ xs) zero none =
+    ap (λ n. n ∷ map (λ (o : Own). o.outside) xs) (from_plus deed.outside x.outside)
+    ∙ sym (bumped_first deed.outside x.outside (map (λ (o : Own). o.outside) xs))
+outside_set deed (x ∷ xs) (suc i) none =
+    ap (λ ns. x.outside ∷ ns) (outside_set deed xs i none) ∙ sym (bumped_next deed.outside i x.outside (map (λ (o : Own). o.outside) xs))
+
+outside_after_it : (told : Bool) (deed : Deed) (xs : List Own) (i : ℕ) (none : Own)
+    → outside_in told (slice_set xs i (own_after (slice_index_or xs i none) deed)) ≡ bumped deed.outside i (outside_in told xs)
+outside_after_it true deed xs i none = outside_set deed xs i none
+outside_after_it false deed xs i none = sym (bumped_none deed.outside i)
+
+outside_again : (told : Bool) (xs ys : List Own) → map (λ (o : Own). o.outside) xs ≡ map (λ (o : Own). o.outside) ys → outside_in told xs ≡ outside_in told ys
+outside_again true xs ys e = e
+outside_again false xs ys e = refl
+
+-- what is where all are the same but for parts
+pub same_outside : (xs ys : List Own) → map (λ (o : Own). o.outside) xs ≡ map (λ (o : Own). o.outside) ys → (j : ℕ) (x : Own) → slice_get xs j ≡ Some x
+    → (y : Own) × ((slice_get ys j ≡ Some y) × (x.outside ≡ y.outside))
+same_outside [] ys e j x is = absurd (none-some _ is)
+same_outside (a ∷ xs) [] e j x is = absurd (omega (arith, ap length e))
+same_outside (a ∷ xs) (b ∷ ys) e zero x is =
+    let head : a.outside ≡ b.outside = cc (e) in
+    (b, (refl, ap (λ (o : Own). o.outside) (sym (same_Some a x is)) ∙ head))
+same_outside (a ∷ xs) (b ∷ ys) e (suc j) x is =
+    let tail : map (λ (o : Own). o.outside) xs ≡ map (λ (o : Own). o.outside) ys = cc (e) in
+    same_outside xs ys tail j x is
+
+-- ---- the key after a turn
+
+module _ (c d : ComponentsView) (w v : WorldView) (i : ℕ) (deed : Deed) (key mid : Key) (is : IsKey c w v key) (grows : Grows c d)
+    (found : IsDeedFrom d v i deed) (after : IsKeyAfter key i deed mid) (lt : i < length v.seats) where
+  abbrev none : Own
+  none = record { part = 0; outside = 0 }
+
+  old : IsKey d w v key
+  old = key_grows grows is
+
+  within : i < length key.own.items
+  within = subst (λ n. i < n) (sym is.many) lt
+
+  -- what has another place in the key after it is as it was, and what has the actor's is the actor's after the deed
+  own_there : (own : Own) → slice_get mid.own.items i ≡ Some own → own_after (slice_index_or key.own.items i none) deed ≡ own
+  own_there own e =
+      same_Some _ _ (sym (set_at key.own.items i (own_after (slice_index_or key.own.items i none) deed) within)
+      ∙ (ap (λ items. slice_get items i) (sym after.own) ∙ e))
+
+  other_there : (j : ℕ) (own : Own) → i ≢ j → slice_get mid.own.items j ≡ Some own → slice_get key.own.items j ≡ Some own
+  other_there j own ne e =
+      sym (set_other key.own.items i (own_after (slice_index_or key.own.items i none) deed) j (λ q. ne (sym q)))
+      ∙ (ap (λ items. slice_get items j) (sym after.own) ∙ e)
+
+  mid_untold : d.told ≡ false → (j : ℕ) (own : Own) → slice_get mid.own.items j ≡ Some own → own.outside ≡ 0
+  mid_untold untold j own e = ⊎_elim here there (cases_eq i j)
+    where
+      here : i ≡ j → own.outside ≡ 0
+      here q =
+          let was = there_is key.own.items i within in
+          let zero_was : was.0.outside ≡ 0 = old.untold untold i was.0 was.1 in
+          let is_was : slice_index_or key.own.items i none ≡ was.0 = get_or_from_slice_get key.own.items i was.0 none was.1 in
+          let not_outside : deed.outside ≡ false = found.grown.untold untold in
+          let now = own_there own (subst (λ n. slice_get mid.own.items n ≡ Some own) (sym q) e) in
+          ap (λ (o : Own). o.outside) (sym now)
+          ∙ (λ k. (is_was k).outside + from_bool (not_outside k))
+          ∙ ap (λ n. n + 0) zero_was
+
+      there : i ≢ j → own.outside ≡ 0
+      there ne = old.untold untold j own (other_there j own ne e)
+
+  pub found_whole : (next : Key) → SameButParts mid next
+      → ((j : ℕ) (own : Own) → slice_get next.own.items j ≡ Some own → IsPartAt d (turn full v i) j own.part) → IsKey d w (turn full v i) next
+  found_whole next same parts = record {
+    nodes = ap (λ n. slice_get d.lists n) (sym same.nodes ∙ after.nodes) ∙ found.nodes;
+    lines = lines_stay full v i ∙ old.lines;
+    events =
+        let grown = found.grown.events in let was = old.events in let mid_is = after.events in let next_is = same.events in
+        omega arith;
+    numbers =
+        let grown = found.grown.numbers in let was = old.numbers in let mid_is = after.opened in let next_is = same.opened in
+        omega arith;
+    open_handles =
+        let grown = found.grown.open_handles in let was = old.open_handles in
+        let opened = after.opened in let closed = after.closed in let opened' = same.opened in let closed' = same.closed in
+        omega arith;
+    seats = turn_stays full v i ∙ old.seats;
+    numbered = numbered_stays full v i old.numbered;
+    given = λ all. given_stay v full i (old.given all);
+    many =
+        (sym (length-map next.own.items (λ (o : Own). o.outside)) ∙ ap length (sym same.outside) ∙ length-map mid.own.items (λ (o : Own). o.outside))
+        ∙ (ap length after.own ∙ length-set key.own.items i (own_after (slice_index_or key.own.items i none) deed))
+        ∙ (old.many ∙ sym (turn_stays full v i));
+    parts = parts;
+    roots = roots_stay d.told full v i ∙ old.roots;
+    outside =
+        found.grown.outside ∙ ap (bumped deed.outside i) old.outside ∙ sym (outside_after_it d.told deed key.own.items i none)
+        ∙ ap (outside_in d.told) (sym after.own) ∙ outside_again d.told mid.own.items next.own.items same.outside;
+    untold = λ untold j own e.
+        let there = same_outside next.own.items mid.own.items (sym same.outside) j own e in
+        there.1.1 ∙ mid_untold untold j there.0 there.1.0;
+  }
+
+  pub found_turn : AreRows c.parts (length w.seats) → AreAllGiven w → IsKey d w (turn full v i) mid
+  found_turn rows given = found_whole mid (record { nodes = refl; events = refl; opened = refl; closed = refl; outside = refl }) parts
+    where
+      parts : (j : ℕ) (own : Own) → slice_get mid.own.items j ≡ Some own → IsPartAt d (turn full v i) j own.part
+      parts j own e = ⊎_elim here there (cases_eq i j)
+        where
+          here : i ≡ j → IsPartAt d (turn full v i) j own.part
+          here q =
+              let now = own_there own (subst (λ n. slice_get mid.own.items n ≡ Some own) (sym q) e) in
+              subst (λ n. IsPartAt d (turn full v i) n own.part) q
+              (subst (λ n. IsPartAt d (turn full v i) i n) (ap (λ (o : Own). o.part) now) found.part)
+
+          there : i ≢ j → IsPartAt d (turn full v i) j own.part
+          there ne =
+              others_part d v i j own.part (length w.seats) (rows_grow grows rows) ne lt old.numbered (old.given given) (old.parts j own (other_there j own ne e))
+
+pub known_turn : (c : ComponentsView) (w v : WorldView) (ask : Ask) (deed : Deed) (key next : Key) → AreRows c.parts (length w.seats) → AreAllGiven w
+    → IsKey c w v key → IsAskOf c w v ask → IsRemembered c w (record { ask = ask; deed = deed }) → IsKeyAfter key ask.actor deed next
+    → ask.actor < length v.seats → IsKey c w (turn full v ask.actor) next
+known_turn c w v ask deed key next rows given is asked remembered after lt =
+    found_turn c c w v ask.actor deed key next is grows_same
+    (deed_alike c w v remembered.from ask deed rows asked remembered.ask remembered.deed) after lt rows given
+
+-- ---- what is asked
+
+-- as many are free as far as two
+few_free : (free room n : ℕ) → room ≡ min free 2 → n ≤ 2 → nat_lt free n ≡ nat_lt room n
+few_free free room n e le = grind (arith, nat_tests)
+
+pub ask_of_key : (c : ComponentsView) (w v : WorldView) (start : Start) (key : Key) (i : ℕ) (own : Own) (ask : Ask) → IsStart start w → IsKey c w v key
+    → slice_get key.own.items i ≡ Some own → ask.nodes ≡ key.nodes → ask.actor ≡ i → ask.part ≡ own.part
+    → ask.room ≡ min (start.lines - (((start.open_handles + key.opened) - key.closed) + key.events)) 2
+    → ask.is_full ≡ nat_le NUMBERS_MAX (start.numbers + key.opened) → IsAskOf c w v ask
+ask_of_key c w v start key i own ask begun is there nodes actor part room is_full = record {
+  nodes = ap (λ n. slice_get c.lists n) nodes ∙ is.nodes;
+  part = subst (λ n. IsPartAt c v n ask.part) (sym actor) (subst (λ n. IsPartAt c v i n) (sym part) (is.parts i own there));
+  room = λ n few. few_free (free_lines v.book) ask.room n (room ∙ ap (λ m. min m 2) (sym free)) few;
+  numbers = ap (nat_le NUMBERS_MAX) (is.numbers ∙ ap (λ n. n + key.opened) (sym begun.numbers)) ∙ sym is_full;
+  numbered = is.numbered;
+  roots = is.roots;
+}
+  where
+    fresh : length w.book.events ≡ 0
+    fresh = ap length begun.fresh
+
+    free : free_lines v.book ≡ start.lines - (((start.open_handles + key.opened) - key.closed) + key.events)
+    free =
+        let lines = begun.lines in let was = is.lines in let events = is.events in let none = fresh in
+        let open_handles = begun.open_handles in let open_now = is.open_handles in omega arith

@@ -1,0 +1,72 @@
+-- Rows of parts, one for each actor.
+use Rattle.std.specs.Prelude.{◌≡◌, ◌<◌, ℕ, ◌+◌, zero, suc, List, [], ◌∷◌, ◌++◌, length, Some, slice_get, slice_set, refl}
+use Rattle.std.proofs.Common.{sym, ap, ◌∙◌, subst, ⊎_elim, length-set, arith, get_or}
+use Rattle.std.proofs.lemmas.Option.{same_Some, none-some, slice_get_within, slice_get_read}
+use Rattle.std.proofs.lemmas.List.{length-append}
+use Rattle.tree_model.specs.declared.inode.Inode.{Inode}
+use Rattle.race_core.specs.Worlds.{WorldView}
+use Rattle.schedule_graph.proofs.Spreading.{get_set}
+use Rattle.explore.specs.Layers.{Keeps}
+use Rattle.explore.specs.Keys.{PartsView, AreApartParts, AreMet, ComponentsView, AreRows, AreMoreParts, IsPartIn, IsPartAt}
+use Rattle.explore.proofs.Lists.Indices.{within_some}
+use Rattle.explore.proofs.Lists.Told.{get_push}
+
+pub rows_push : (parts new : List PartsView) (row : PartsView) (n : ℕ) → new ≡ parts ++ row ∷ [] → AreRows parts n → row.actor ≡ n → AreRows new (n + 1)
+rows_push parts new row n e rows is = record {
+  many = let m = ap length e ∙ length-append parts (row ∷ []) in omega (arith, m, rows.many);
+  own = λ i one q. ⊎_elim (λ h. rows.own i one h) (λ h. ap (λ (r : PartsView). r.actor) h.1 ∙ (is ∙ (sym rows.many ∙ sym h.0)))
+      (get_push parts row i one (subst (λ (ps : List PartsView). slice_get ps i ≡ Some one) e q));
+}
+
+-- rows that have grown are still the actors'
+pub rows_more : (old new : List PartsView) (n : ℕ) → AreMoreParts old new → AreRows old n → AreRows new n
+rows_more old new n more rows = record {
+  many = more.many ∙ rows.many;
+  own = λ i row e.
+      let lt : i < length new = slice_get_within new i row e in
+      let was = within_some old i (omega (arith, lt, more.many)) in
+      let is = more.each i was.0 was.1 in
+      ap (λ (r : PartsView). r.actor) (same_Some row is.0 (sym e ∙ is.1.0)) ∙ (is.1.1.0 ∙ rows.own i was.0 was.1);
+}
+
+-- one row has more, and the others stay
+set_more : (rows : List PartsView) (i : ℕ) (old new : PartsView) → slice_get rows i ≡ Some old → new.actor ≡ old.actor → Keeps old.worlds new.worlds
+    → (k : ℕ) (row : PartsView) → slice_get rows k ≡ Some row
+    → (more : PartsView) × ((slice_get (slice_set rows i new) k ≡ Some more) × ((more.actor ≡ row.actor) × Keeps row.worlds more.worlds))
+set_more [] i old new e actor keeps k row q = absurd (none-some old e)
+set_more (r ∷ rs) zero old new e actor keeps zero row q =
+    let same : old ≡ row = same_Some old row (sym e ∙ q) in
+    (new, (refl, (subst (λ (o : PartsView). new.actor ≡ o.actor) same actor, subst (λ (o : PartsView). Keeps o.worlds new.worlds) same keeps)))
+set_more (r ∷ rs) zero old new e actor keeps (suc k) row q = (row, (q, (refl, (λ m x h. h))))
+set_more (r ∷ rs) (suc i) old new e actor keeps zero row q = (row, (q, (refl, (λ m x h. h))))
+set_more (r ∷ rs) (suc i) old new e actor keeps (suc k) row q = set_more rs i old new e actor keeps k row q
+
+pub row_put : (rows : List PartsView) (i : ℕ) (row new : PartsView) → i < length rows → row ≡ get_or rows i row → new.actor ≡ row.actor → Keeps row.worlds new.worlds
+    → AreMoreParts rows (slice_set rows i new)
+row_put rows i row new lt e actor keeps = record {
+  many = length-set rows i new;
+  each = set_more rows i row new (slice_get_read rows (length rows) i row refl lt e) actor keeps;
+}
+
+-- the part that the actor of that number has in the world of that key
+pub part_by : (c : ComponentsView) (v : WorldView) (i at : ℕ) (row : PartsView) → IsPartAt c v i at → slice_get c.parts i ≡ Some row → IsPartIn row v at
+part_by c v i at row is e = subst (λ (r : PartsView). IsPartIn r v at) (same_Some is.row row (sym is.there ∙ e)) is.is
+
+-- ---- no two parts of an actor are the same
+
+-- so it is with each row
+abbrev pub AreApartRows : List PartsView → Type 0
+AreApartRows rows = (i : ℕ) (row : PartsView) → slice_get rows i ≡ Some row → AreApartParts row
+
+pub apart_push : (parts new : List PartsView) (row : PartsView) → new ≡ parts ++ row ∷ [] → AreApartRows parts → row.worlds ≡ [] → AreApartRows new
+apart_push parts new row e apart none i one q = ⊎_elim (λ h. apart i one h)
+    (λ h k l v other there its same. absurd (none-some v (ap (λ (ws : List WorldView). slice_get ws k) (sym (ap (λ (r : PartsView). r.worlds) h.1 ∙ none)) ∙ there)))
+    (get_push parts row i one (subst (λ (ps : List PartsView). slice_get ps i ≡ Some one) e q))
+
+pub met_put : (lists : List (List Inode)) (rows : List PartsView) (i : ℕ) (new : PartsView) → AreMoreParts rows (slice_set rows i new) → AreApartParts new → AreMet lists rows
+    → AreMet lists (slice_set rows i new)
+met_put lists rows i new more apart met = record {
+  rows = rows_more rows (slice_set rows i new) _ more (subst (λ n. AreRows rows n) (sym more.many) met.rows);
+  lists_once = met.lists_once;
+  parts_once = λ k row e. ⊎_elim (λ own. subst (λ (r : PartsView). AreApartParts r) (sym own.1) apart) (λ old. met.parts_once k row old.1) (get_set rows i k new row e);
+}

@@ -1,0 +1,12 @@
+use Rattle.std.proofs.Common.{◌≤◌, ◌+◌, ◌-◌, vec_len, vec_capacity}
+use Rattle.explore.specs.Keys.{AreRows}
+use Rattle.explore.proofs.Parted.Rows.{AreApartRows}
+use Rattle.explore.proofs.components.no_parts.Given as goal
+
+-- there are rows for so many, and there is room for the others
+abbrev pub invariant-loop-actor : goal.invariant-loop-actor
+invariant-loop-actor g l = record {
+  rows : AreRows l.parts.items l.actor;
+  apart : AreApartRows l.parts.items;
+  room : vec_len l.parts + (l.actors - l.actor) ≤ vec_capacity l.parts;
+}

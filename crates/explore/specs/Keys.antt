@@ -1,0 +1,142 @@
+-- A world as a key: the places of its components among those that were met, and how much its book has grown.
+use Rattle.std.specs.Prelude.{◌≡◌, ◌≤◌, ℕ, ◌+◌, List, [], ◌∷◌, Bool, true, false, length, map, Some, slice_get, slice_set, slice_index_or}
+use Rattle.std.specs.Int.{from_bool}
+use Rattle.tree_model.specs.declared.inode.Inode.{Inode}
+use Rattle.tree_model.specs.StepLaws.{open_count}
+use Rattle.race_core.specs.Book.{tree_now}
+use Rattle.race_core.specs.Worlds.{WorldView}
+use Rattle.explore.specs.declared.keys.Deed.{Deed}
+use Rattle.explore.specs.declared.keys.Key.{Key}
+use Rattle.explore.specs.declared.keys.Own.{Own}
+use Rattle.explore.specs.Fingerprint.{mixed}
+use Rattle.explore.specs.Layers.{Keeps}
+use Rattle.explore.specs.Local.{SamePartAt, AreNumbered, AreAllGiven}
+use Rattle.explore.specs.Met.{AreEachOnce}
+use Rattle.explore.specs.Outside.{roots_of, outside_of}
+
+-- ---- components
+
+-- The parts that the actor of that number had in some worlds: of each part a world in which it has that part.
+pub record PartsView : Type 0 where
+  pub actor : ℕ
+  pub worlds : List WorldView
+
+-- in this world it has the part at that place
+pub record IsPartIn (row : PartsView) (v : WorldView) (at : ℕ) : Type 0 where
+  pub other : WorldView
+  pub there : slice_get row.worlds at ≡ Some other
+  pub same : SamePartAt v other row.actor
+
+-- no two of the parts are the same
+abbrev pub AreApartParts : PartsView → Type 0
+AreApartParts row = (k l : ℕ) (v other : WorldView) → slice_get row.worlds k ≡ Some v
+    → slice_get row.worlds l ≡ Some other → SamePartAt v other row.actor → k ≡ l
+
+-- the lists of nodes that were met, and the parts of each actor; and whether changes outside of roots are told
+pub record ComponentsView : Type 0 where
+  pub told : Bool
+  pub lists : List (List Inode)
+  pub parts : List PartsView
+
+-- there is a row for each of so many actors
+pub record AreRows (parts : List PartsView) (actors : ℕ) : Type 0 where
+  pub many : length parts ≡ actors
+  pub own : (i : ℕ) (row : PartsView) → slice_get parts i ≡ Some row → row.actor ≡ i
+
+-- each of the rows is that of its actor; no two lists of nodes are equal, and no two parts of an actor the same
+pub record AreMet (lists : List (List Inode)) (parts : List PartsView) : Type 0 where
+  pub rows : AreRows parts (length parts)
+  pub lists_once : AreEachOnce lists
+  pub parts_once : (i : ℕ) (row : PartsView) → slice_get parts i ≡ Some row → AreApartParts row
+
+-- each row has what it had, and maybe more
+pub record AreMoreParts (old new : List PartsView) : Type 0 where
+  pub many : length new ≡ length old
+  pub each : (i : ℕ) (row : PartsView) → slice_get old i ≡ Some row
+      → (more : PartsView) × ((slice_get new i ≡ Some more) × ((more.actor ≡ row.actor) × Keeps row.worlds more.worlds))
+
+-- what was met keeps its place
+pub record Grows (old new : ComponentsView) : Type 0 where
+  pub told : new.told ≡ old.told
+  pub lists : Keeps old.lists new.lists
+  pub parts : AreMoreParts old.parts new.parts
+
+-- ---- keys
+
+-- of each actor, how many changes it has made outside of its root, where that is told
+abbrev pub outside_in : Bool → List Own → List ℕ
+outside_in false own = []
+outside_in true own = map (λ (o : Own). o.outside) own
+
+-- the actor of that number has the part at that place
+pub record IsPartAt (c : ComponentsView) (v : WorldView) (i at : ℕ) : Type 0 where
+  pub row : PartsView
+  pub there : slice_get c.parts i ≡ Some row
+  pub is : IsPartIn row v at
+
+-- Of a world after some turns from w: its nodes and parts are those at the places of the key, and its book, its handles
+-- and the changes outside of roots are so many more.
+pub record IsKey (c : ComponentsView) (w v : WorldView) (key : Key) : Type 0 where
+  pub nodes : slice_get c.lists key.nodes ≡ Some (tree_now v.book).nodes
+  pub lines : v.book.lines ≡ w.book.lines
+  pub events : length v.book.events ≡ length w.book.events + key.events
+  pub numbers : length (tree_now v.book).handles ≡ length (tree_now w.book).handles + key.opened
+  pub open_handles : open_count (tree_now v.book) + key.closed ≡ open_count (tree_now w.book) + key.opened
+  pub seats : length v.seats ≡ length w.seats
+  pub numbered : AreNumbered v.seats
+  pub given : AreAllGiven w → AreAllGiven v
+  pub many : length key.own.items ≡ length v.seats
+  pub parts : (i : ℕ) (own : Own) → slice_get key.own.items i ≡ Some own → IsPartAt c v i own.part
+  pub roots : roots_of c.told v ≡ roots_of c.told w
+  pub outside : outside_of c.told v ≡ outside_in c.told key.own.items
+  pub untold : c.told ≡ false → (i : ℕ) (own : Own) → slice_get key.own.items i ≡ Some own → own.outside ≡ 0
+
+-- none of its counts is more than that
+pub record AreFew (n : ℕ) (key : Key) : Type 0 where
+  pub events : key.events ≤ n
+  pub opened : key.opened ≤ n
+  pub closed : key.closed ≤ n
+  pub outside : (i : ℕ) (own : Own) → slice_get key.own.items i ≡ Some own → own.outside ≤ n
+
+-- a number that keys have in common that are the same but for changes outside of roots
+unfoldable pub print_of : Key → ℕ
+print_of key = mixed 0 (key.nodes ∷ key.events ∷ key.opened ∷ key.closed ∷ map (λ (o : Own). o.part) key.own.items)
+
+-- the same numbers and the same of each actor
+pub record SameKey (key other : Key) : Type 0 where
+  pub nodes : key.nodes ≡ other.nodes
+  pub events : key.events ≡ other.events
+  pub opened : key.opened ≡ other.opened
+  pub closed : key.closed ≡ other.closed
+  pub own : key.own.items ≡ other.own.items
+
+-- the same but for changes outside of roots
+pub record SameBare (key other : Key) : Type 0 where
+  pub nodes : key.nodes ≡ other.nodes
+  pub events : key.events ≡ other.events
+  pub opened : key.opened ≡ other.opened
+  pub closed : key.closed ≡ other.closed
+  pub parts : map (λ (o : Own). o.part) key.own.items ≡ map (λ (o : Own). o.part) other.own.items
+
+-- the same but for parts
+pub record SameButParts (key other : Key) : Type 0 where
+  pub nodes : key.nodes ≡ other.nodes
+  pub events : key.events ≡ other.events
+  pub opened : key.opened ≡ other.opened
+  pub closed : key.closed ≡ other.closed
+  pub outside : map (λ (o : Own). o.outside) key.own.items ≡ map (λ (o : Own). o.outside) other.own.items
+
+-- ---- a turn
+
+-- the actor's own after a turn of it
+abbrev pub own_after : Own → Deed → Own
+own_after own deed = record { part = deed.part; outside = own.outside + from_bool deed.outside }
+
+-- it is the key after that turn of the actor
+pub record IsKeyAfter (key : Key) (i : ℕ) (deed : Deed) (new : Key) : Type 0 where
+  pub nodes : new.nodes ≡ deed.nodes
+  pub events : new.events ≡ key.events + from_bool deed.event
+  pub opened : new.opened ≡ key.opened + from_bool deed.opens
+  pub closed : new.closed ≡ key.closed + from_bool deed.closes
+  pub own : new.own.items ≡ slice_set key.own.items i
+      (own_after (slice_index_or key.own.items i (record { part = 0; outside = 0 })) deed)

@@ -1,0 +1,161 @@
+//! What an actor holds by the handles that it knows, place by place.
+ghost use Rattle.std.specs.Prelude.{◌≡◌, ◌↔◌, ◌<◌, ◌≤◌, length, map, slice_get, IsTrue, IfOk};
+ghost use Rattle.tree_model.specs.Steps.{node_held};
+ghost use Rattle.race_core.specs.Book.{tree_now};
+ghost use Rattle.explore.specs.Grips.{AreGivenAs, AreGivenPairs, HasGrip, LikeGrips};
+ghost use Rattle.explore.specs.Local.{AreNumbered};
+ghost use Rattle.explore.specs.Paired.{AreApart, IsApartBefore};
+
+use path_text::NoMemory;
+use race_core::World;
+use std::alloc::Global;
+use tree_model::{Actor, HandleNo, Node, OpenHandle, Tree};
+
+/// The handles that an actor knows, what it holds by each, how many numbers of handles were given in all, and how many
+/// handles it has open.
+#[derive(Drop)]
+pub(crate) struct Grip {
+    handles: Vec<HandleNo>,
+    nodes: Vec<Option<Node>>,
+    given: usize,
+    held: usize,
+}
+
+// What the actor holds by that handle.
+fn node_of(opened: &[Option<OpenHandle>], actor: Actor, handle: HandleNo) -> Option<Node>
+    ensures { result ≡ node_held actor (slice_get opened.now handle) }
+{
+    match opened.get(handle.number() as usize) {
+        Some(Some(open)) if open.actor == actor => Some(open.node),
+        _ => None,
+    }
+}
+
+// What it holds by each of these. NoMemory where its room was refused.
+fn nodes_of(
+    alloc: Global,
+    opened: &[Option<OpenHandle>],
+    actor: Actor,
+    handles: &[HandleNo],
+) -> Result<Vec<Option<Node>>, NoMemory>
+    ensures { IfOk result (λ nodes.
+        nodes.items ≡ map (λ handle. node_held actor (slice_get opened.now handle)) handles.now) }
+{
+    let mut nodes = Vec::with_capacity(alloc, handles.len())?;
+    for handle in handles {
+        nodes.push(node_of(opened, actor, *handle))?;
+    }
+    Ok(nodes)
+}
+
+// Whether the same nodes are held, one by one.
+fn same_nodes(nodes: &[Option<Node>], others: &[Option<Node>]) -> bool
+    ensures { IsTrue result ↔ (nodes.now ≡ others.now) }
+{
+    if nodes.len() != others.len() {
+        return false;
+    }
+    for (at, node) in nodes.iter().enumerate() {
+        if *node != others[at] {
+            return false;
+        }
+    }
+    true
+}
+
+// Whether both numbers are among so many that were given, or are one where as many were given.
+fn are_given_as(given: usize, others_given: usize, here: HandleNo, there: HandleNo) -> bool
+    ensures { IsTrue result ↔ AreGivenAs given others_given here there }
+{
+    let (here, there) = (here.number() as usize, there.number() as usize);
+    (here < given && there < others_given) || (here == there && given == others_given)
+}
+
+// Whether the two pairs are the same on both sides or on neither.
+fn are_apart(here: HandleNo, there: HandleNo, other: HandleNo, another: HandleNo) -> bool
+    ensures { IsTrue result ↔ AreApart here there other another }
+{
+    (here == other) == (there == another)
+}
+
+// Whether the pair is apart from each that comes before that place.
+fn is_apart_before(
+    handles: &[HandleNo],
+    others: &[HandleNo],
+    here: HandleNo,
+    there: HandleNo,
+    before: usize,
+) -> bool
+    requires { (before ≤ length handles.now) × (before ≤ length others.now) }
+    ensures { IsTrue result ↔ IsApartBefore handles.now others.now here there before }
+{
+    for at in 0..before {
+        if !are_apart(here, there, handles[at], others[at]) {
+            return false;
+        }
+    }
+    true
+}
+
+// Whether the pairs of the two lists are given alike, and none is paired with two.
+fn are_given_pairs(
+    given: usize,
+    others_given: usize,
+    handles: &[HandleNo],
+    others: &[HandleNo],
+) -> bool
+    requires { length handles.now ≡ length others.now }
+    ensures { IsTrue result ↔ AreGivenPairs given others_given handles.now others.now }
+{
+    for (at, here) in handles.iter().enumerate() {
+        let there = others[at];
+        if !are_given_as(given, others_given, *here, there) {
+            return false;
+        }
+        if !is_apart_before(handles, others, *here, there, at) {
+            return false;
+        }
+    }
+    true
+}
+
+impl Grip {
+    /// That of the actor of that number in that world, in whose tree these handles were given. NoMemory where its room
+    /// was refused.
+    pub(crate) fn of<T: Tree>(
+        alloc: Global,
+        world: &World<T>,
+        opened: &[Option<OpenHandle>],
+        actor: u32,
+    ) -> Result<Grip, NoMemory>
+        requires opened { opened.now ≡ (tree_now world.now.book).handles }
+        requires there { actor < length world.now.seats }
+        requires numbered { AreNumbered world.now.seats }
+        ensures { IfOk result (λ grip. HasGrip world.now actor grip) }
+    {
+        let mut handles = Vec::new(alloc);
+        world.push_handles(actor as usize, &mut handles)?;
+        let number = Actor::new(actor);
+        let nodes = nodes_of(alloc, opened, number, handles.as_slice())?;
+        Ok(Grip {
+            handles,
+            nodes,
+            given: opened.len(),
+            held: world.book().tree().held(number),
+        })
+    }
+
+    /// Whether the two are the same but for the numbers of handles.
+    pub(crate) fn is_like(&self, other: &Grip) -> bool
+        ensures { IsTrue result ↔ LikeGrips self.now other.now }
+    {
+        if self.held != other.held || self.handles.len() != other.handles.len() {
+            return false;
+        }
+        if !same_nodes(self.nodes.as_slice(), other.nodes.as_slice()) {
+            return false;
+        }
+        let (handles, others) = (self.handles.as_slice(), other.handles.as_slice());
+        are_given_pairs(self.given, other.given, handles, others)
+    }
+}

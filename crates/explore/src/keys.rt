@@ -1,0 +1,139 @@
+//! Worlds as keys: each by the places of its components, and by how much its book and its handles have grown.
+ghost use Rattle.std.specs.Prelude.{◌≡◌, ◌↔◌, ◌<◌, ◌^◌, ◌+◌, ℕ, length, map, IsTrue, IfOk};
+ghost use Rattle.explore.specs.Keys.{AreFew, SameKey, SameBare, IsKeyAfter, print_of};
+
+use crate::fingerprint::Fingerprint;
+use path_text::NoMemory;
+use std::alloc::Global;
+
+/// What a turn comes to, as far as it is its actor's own.
+#[derive(Clone, Copy, Debug, PartialEq, Eq)]
+pub(crate) struct Deed {
+    /// The place of the list of nodes after it.
+    pub(crate) nodes: usize,
+    /// The place of the actor's part after it.
+    pub(crate) part: usize,
+    /// Whether it is an event.
+    pub(crate) event: bool,
+    /// Whether it opens a handle.
+    pub(crate) opens: bool,
+    /// Whether it closes one.
+    pub(crate) closes: bool,
+    /// Whether it changes something outside of the actor's root, where that is told.
+    pub(crate) outside: bool,
+}
+
+/// What a key has of one actor.
+#[derive(Clone, Copy, Debug, PartialEq, Eq)]
+pub(crate) struct Own {
+    /// The place of its part.
+    pub(crate) part: usize,
+    /// How many changes it has made outside of its root; 0 where they aren't told.
+    pub(crate) outside: u64,
+}
+
+/// A world after some turns, as the places of its components and how much it has grown by the turns.
+#[derive(Debug, Drop)]
+pub(crate) struct Key {
+    /// The place of the list of nodes.
+    pub(crate) nodes: usize,
+    /// How many events there were.
+    pub(crate) events: u64,
+    /// How many handles were opened, and how many closed.
+    pub(crate) opened: u64,
+    pub(crate) closed: u64,
+    /// What is each actor's own.
+    pub(crate) own: Vec<Own>,
+}
+
+// Whether the same parts stand in both.
+fn same_parts(own: &[Own], others: &[Own]) -> bool
+    ensures { IsTrue result ↔ (map (λ o. o.part) own.now ≡ map (λ o. o.part) others.now) }
+{
+    if own.len() != others.len() {
+        return false;
+    }
+    for at in 0..own.len() {
+        if own[at].part != others[at].part {
+            return false;
+        }
+    }
+    true
+}
+
+impl Key {
+    // Whether their numbers are the same, beside what is each actor's own.
+    fn same_numbers(&self, other: &Key) -> bool
+        ensures { IsTrue result
+            ↔ ((self.now.nodes ≡ other.now.nodes) × ((self.now.events ≡ other.now.events)
+            × ((self.now.opened ≡ other.now.opened) × (self.now.closed ≡ other.now.closed)))) }
+    {
+        self.nodes == other.nodes
+            && self.events == other.events
+            && self.opened == other.opened
+            && self.closed == other.closed
+    }
+
+    /// Whether the keys are the same.
+    pub(crate) fn same(&self, other: &Key) -> bool
+        ensures { IsTrue result ↔ SameKey self.now other.now }
+    {
+        self.same_numbers(other) && self.own == other.own
+    }
+
+    /// Whether they are the same but for changes outside of roots.
+    pub(crate) fn same_bare(&self, other: &Key) -> bool
+        ensures { IsTrue result ↔ SameBare self.now other.now }
+    {
+        self.same_numbers(other) && same_parts(self.own.as_slice(), other.own.as_slice())
+    }
+
+    /// A number that keys have in common that are the same but for changes outside of roots.
+    #[tactic(auto, unfolding(crate::specs::Keys::print_of))]
+    pub(crate) fn print(&self) -> Fingerprint
+        ensures { result.0 ≡ print_of self.now }
+    {
+        let mut print = Fingerprint::new()
+            .with(self.nodes as u64)
+            .with(self.events)
+            .with(self.opened)
+            .with(self.closed);
+        for own in self.own.as_slice() {
+            print = print.with(own.part as u64);
+        }
+        print
+    }
+
+    /// An equal key. NoMemory where its room was refused.
+    pub(crate) fn copy(&self, alloc: Global) -> Result<Key, NoMemory>
+        ensures { IfOk result (λ key. SameKey key self.now) }
+    {
+        let own = Vec::from_slice(alloc, self.own.as_slice())?;
+        Ok(Key {
+            nodes: self.nodes,
+            events: self.events,
+            opened: self.opened,
+            closed: self.closed,
+            own,
+        })
+    }
+
+    /// The key after that turn of the actor. NoMemory where its room was refused.
+    pub(crate) fn after(&self, alloc: Global, actor: usize, deed: &Deed) -> Result<Key, NoMemory>
+        requires here { actor < length self.now.own.items }
+        requires few { (n : ℕ) × ((n < 2 ^ 40) × AreFew n self.now) }
+        ensures { IfOk result (λ key. IsKeyAfter self.now actor deed.now key) }
+    {
+        let mut key = self.copy(alloc)?;
+        let outside = key.own[actor].outside;
+        key.nodes = deed.nodes;
+        key.events += u64::from(deed.event);
+        key.opened += u64::from(deed.opens);
+        key.closed += u64::from(deed.closes);
+        key.own[actor] = Own {
+            part: deed.part,
+            outside: outside + u64::from(deed.outside),
+        };
+        Ok(key)
+    }
+}

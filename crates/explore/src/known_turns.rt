@@ -1,0 +1,457 @@
+//! What turns come to: looked up where it is known, and else found by a run from the beginning.
+ghost use Rattle.std.specs.Prelude.{◌≡◌, ◌<◌, ◌^◌, ◌+◌, ◌-◌, [], ◌≤◌, ℕ, true, is_some, count_by, length, map, min, Some, slice_get, IfOk, IfSome, OnOk, OnSome, IsTrue};
+ghost use Rattle.race_core.specs.Book.{tree_now};
+ghost use Rattle.race_core.specs.declared.opening.TheConstants.{ACTORS_MAX};
+ghost use Rattle.race_core.specs.Turns.{Luck};
+ghost use Rattle.race_core.specs.Worlds.{WorldView, turn};
+ghost use Rattle.explore.specs.declared.keys.Own.{Own};
+ghost use Rattle.explore.specs.declared.memo.Ask.{Ask};
+ghost use Rattle.explore.specs.Alike.{full, after_turns};
+ghost use Rattle.explore.specs.Counting.{IsTally};
+ghost use Rattle.explore.specs.Deeds.{AreCountsIn, AreCompared, IsDeedFrom, IsStart, IsAskOf, IsRemembered, IsSound};
+ghost use Rattle.explore.specs.Keys.{AreFew, AreMet, AreRows, Grows, IsKey, IsPartAt};
+ghost use Rattle.explore.specs.Local.{AreAllGiven, AreNumbered};
+ghost use Rattle.explore.specs.Points.{AreWithin};
+ghost use Rattle.explore.specs.Want.{EndsWell};
+
+use crate::beginnings::Beginnings;
+use crate::components::Components;
+use crate::keys::{Deed, Key, Own};
+use crate::layer::Live;
+use crate::led::{Led, lead, take_turn, told};
+use crate::marks::Marks;
+use crate::memo::{Ask, Memo};
+use crate::outside::Tally;
+use path_text::NoMemory;
+use race_core::{CopyTree, World};
+use std::alloc::Global;
+use std::marker::Model;
+use tree_model::{HandleNo, NUMBERS_MAX, OpenHandle, Snapshot, Tree};
+
+/// What the opening world has.
+#[derive(Clone, Copy, Debug, PartialEq, Eq)]
+pub(crate) struct Start {
+    /// How many lines its book has.
+    pub(crate) lines: u32,
+    /// How many numbers of handles were given in it.
+    pub(crate) numbers: usize,
+    /// How many handles are open.
+    pub(crate) open_handles: usize,
+}
+
+/// The components that were met and the turns that are known, of worlds after turns from one opening world. Contracts
+/// see them as a `KnownView`.
+pub(crate) struct KnownTurns<T: Tree> {
+    components: Components<T>,
+    memo: Memo,
+    start: Start,
+    // Whether all numbers of handles that actors know were given. Only then is a turn its actor's own affair: else
+    // another's turn may give such a number.
+    are_given: bool,
+}
+
+impl<T: Tree> Model for KnownTurns<T> {
+    ghost use Rattle.explore.specs.Deeds.{KnownView};
+
+    ghost Value = { KnownView };
+
+    ghost view = { λ k. record {
+      components = k.components;
+      entries = k.memo;
+      start = k.start;
+      are_given = k.are_given;
+    } };
+}
+
+// What may grow by a turn of the actor.
+#[derive(Clone, Copy, Debug, PartialEq, Eq)]
+struct Counts {
+    events: usize,
+    numbers: usize,
+    open_handles: usize,
+    outside: u64,
+}
+
+// The number with room for sums.
+fn wide(number: u64) -> u128
+    ensures same { result ≡ number }
+    ensures small { result < 2 ^ 64 }
+{
+    u128::from(number)
+}
+
+// How many of the handles are open.
+fn open_count(handles: &[Option<OpenHandle>]) -> usize
+    ensures { result ≡ count_by is_some handles.now }
+{
+    handles.iter().filter(|handle| handle.is_some()).count()
+}
+
+impl Counts {
+    // Those of that world.
+    fn of<T: Tree>(world: &World<T>, tree: &Snapshot, tally: &Tally, actor: usize) -> Counts
+        requires tree { tree.now ≡ tree_now world.now.book }
+        requires tally { IsTally world.now tally.now }
+        ensures { AreCountsIn tally.now.told world.now actor result }
+    {
+        Counts {
+            events: world.book().events().len(),
+            numbers: tree.handles().len(),
+            open_handles: open_count(tree.handles()),
+            outside: tally.changes_of(actor),
+        }
+    }
+}
+
+// Whether all of the handles are among the first so many.
+fn are_below(handles: &[HandleNo], given: usize) -> bool
+    ensures { IsTrue result → (at h : ℕ) → slice_get handles.now at ≡ Some h → h < given }
+{
+    for handle in handles {
+        if handle.number() as usize >= given {
+            return false;
+        }
+    }
+    true
+}
+
+// Whether all numbers of handles that the actors know were given. NoMemory where room was refused.
+fn are_given<T: Tree>(alloc: Global, world: &World<T>, given: usize) -> Result<bool, NoMemory>
+    requires { given ≡ length (tree_now world.now.book).handles }
+    ensures { IfOk result (λ are_given. IsTrue are_given → AreAllGiven world.now) }
+{
+    for actor in 0..world.actors() {
+        let mut handles = Vec::new(alloc);
+        world.push_handles(actor, &mut handles)?;
+        if !are_below(handles.as_slice(), given) {
+            return Ok(false);
+        }
+    }
+    Ok(true)
+}
+
+impl<T: Tree + Drop> KnownTurns<T> {
+    /// No turn is known yet of the worlds after turns from that one; changes outside of roots are told or not. NoMemory
+    /// where room was refused.
+    pub(crate) fn new(
+        alloc: Global,
+        told: bool,
+        world: &World<T>,
+    ) -> Result<KnownTurns<T>, NoMemory>
+        requires few { length world.now.seats ≤ ACTORS_MAX }
+        requires numbered { AreNumbered world.now.seats }
+        requires fresh { world.now.book.events ≡ [] }
+        ensures sound { IfOk result (λ known. IsSound world.now known) }
+        ensures told { IfOk result (λ known. known.components.told ≡ told) }
+    {
+        let tree = world.book().tree().snapshot(alloc)?;
+        let numbers = tree.handles().len();
+        let are_given = are_given(alloc, world, numbers)?;
+        Ok(KnownTurns {
+            components: Components::new(alloc, told, world.actors())?,
+            memo: Memo::new(alloc),
+            start: Start {
+                lines: world.book().lines(),
+                numbers,
+                open_handles: open_count(tree.handles()),
+            },
+            are_given,
+        })
+    }
+
+    /// The components.
+    pub(crate) fn components(&self) -> &Components<T>
+        ensures { result.now ≡ self.now.components }
+    {
+        &self.components
+    }
+
+    /// No two lists of nodes are equal, and no two parts of an actor the same.
+    pub(crate) fn are_met(&self)
+        ensures { AreMet self.now.components.lists self.now.components.parts }
+    {
+        self.components.are_met();
+    }
+
+    /// Gives up the worlds that stand for parts.
+    pub(crate) fn give_up(self, alloc: Global) {
+        let KnownTurns {
+            components,
+            memo: _,
+            start: _,
+            are_given: _,
+        } = self;
+        components.give_up(alloc);
+    }
+
+    // How many lines are free in the world of that key, or 2 where more are.
+    fn room(&self, key: &Key) -> usize
+        ensures { result ≡ min (self.now.start.lines
+            - (((self.now.start.open_handles + key.now.opened) - key.now.closed) + key.now.events)) 2 }
+    {
+        let open = wide(self.start.open_handles as u64) + wide(key.opened);
+        let taken = open.saturating_sub(wide(key.closed)) + wide(key.events);
+        u128::from(self.start.lines).saturating_sub(taken).min(2) as usize
+    }
+
+    // All that the actor's turn from the world of that key depends on.
+    fn ask(&self, key: &Key, actor: usize) -> Ask
+        requires { actor < length key.now.own.items }
+        ensures actor { result.actor ≡ actor }
+        ensures is { (w v : WorldView) → IsStart self.now.start w → IsKey self.now.components w v key.now
+            → IsAskOf self.now.components w v result }
+    {
+        let given = wide(self.start.numbers as u64) + wide(key.opened);
+        Ask {
+            nodes: key.nodes,
+            actor,
+            part: key.own[actor].part,
+            room: self.room(key),
+            is_full: given >= NUMBERS_MAX as u128,
+        }
+    }
+
+    // What the actor's turn comes to, if it is known.
+    fn known_deed(&self, key: &Key, actor: usize) -> Option<Deed>
+        requires { actor < length key.now.own.items }
+        ensures given { OnSome result (self.now.are_given ≡ true) }
+        ensures known { IfSome result (λ deed. (w v : WorldView) → IsSound w self.now
+            → IsKey self.now.components w v key.now
+            → (ask : Ask) × ((ask.actor ≡ actor) × (IsAskOf self.now.components w v ask
+            × IsRemembered self.now.components w (record { ask = ask; deed = deed })))) }
+    {
+        if !self.are_given {
+            return None;
+        }
+        self.memo.deed(&self.ask(key, actor))
+    }
+
+    /// Whether a turn is its actor's own affair, so that it is remembered.
+    pub(crate) fn are_given(&self) -> bool {
+        self.are_given
+    }
+
+    /// What the actor's turn depends on, if it isn't known what it comes to.
+    pub(crate) fn unknown(&self, key: &Key, actor: usize) -> Option<Ask>
+        requires { actor < length key.now.own.items }
+    {
+        let ask = self.ask(key, actor);
+        match self.memo.deed(&ask) {
+            Some(_) => None,
+            None => Some(ask),
+        }
+    }
+
+    // Remembers what the actor's turn from the world of that key comes to. NoMemory where its room was refused.
+    fn remember(&mut self, key: &Key, actor: usize, deed: Deed) -> Result<(), NoMemory>
+        requires { actor < length key.now.own.items }
+        ensures components { self.new.components ≡ self.old.components }
+        ensures given { self.new.are_given ≡ self.old.are_given }
+        ensures sound { (w v : WorldView) → IsSound w self.old → IsKey self.old.components w v key.now
+            → IsDeedFrom self.old.components v actor deed → IsSound w self.new }
+    {
+        let ask = self.ask(key, actor);
+        self.memo.put(ask, deed)
+    }
+}
+
+impl<T: CopyTree + Drop> KnownTurns<T> {
+    // What the actor's turn came to, to this world, by the numbers before and after it. NoMemory where room was
+    // refused.
+    fn deed_to(
+        &mut self,
+        alloc: Global,
+        mostly: usize,
+        before: Counts,
+        after: Counts,
+        world: &World<T>,
+        tree: &Snapshot,
+        actor: usize,
+    ) -> Result<Deed, NoMemory>
+        requires rows { AreRows self.old.components.parts (length world.now.seats) }
+        requires numbered { AreNumbered world.now.seats }
+        requires there { actor < length world.now.seats }
+        requires tree { tree.now ≡ tree_now world.now.book }
+        ensures grows { OnOk result (Grows self.old.components self.new.components) }
+        ensures rest { self.new ≡ record self.old { components = self.new.components } }
+        ensures nodes { IfOk result (λ deed.
+            slice_get self.new.components.lists deed.nodes ≡ Some (tree_now world.now.book).nodes) }
+        ensures part { IfOk result (λ deed. IsPartAt self.new.components world.now actor deed.part) }
+        ensures compared { IfOk result (λ deed. AreCompared before after deed) }
+    {
+        Ok(Deed {
+            nodes: self.components.put_nodes(alloc, tree.nodes(), mostly)?,
+            part: self
+                .components
+                .put_part(alloc, world, tree.handles(), actor)?,
+            event: after.events > before.events,
+            opens: after.numbers > before.numbers,
+            closes: after.open_handles < before.open_handles,
+            outside: after.outside > before.outside,
+        })
+    }
+
+    // Each actor's part in that world. NoMemory where room was refused.
+    fn put_parts(
+        &mut self,
+        alloc: Global,
+        world: &World<T>,
+        tree: &Snapshot,
+        own: &mut [Own],
+    ) -> Result<(), NoMemory>
+        requires rows { AreRows self.old.components.parts (length world.now.seats) }
+        requires numbered { AreNumbered world.now.seats }
+        requires many { length own.old ≡ length world.now.seats }
+        requires tree { tree.now ≡ tree_now world.now.book }
+        ensures grows { OnOk result (Grows self.old.components self.new.components) }
+        ensures rest { self.new ≡ record self.old { components = self.new.components } }
+        ensures outside { map (λ o. o.outside) own.new ≡ map (λ o. o.outside) own.old }
+        ensures parts { OnOk result ((i : ℕ) (one : Own) → slice_get own.new i ≡ Some one
+            → IsPartAt self.new.components world.now i one.part) }
+    {
+        for actor in 0..own.len() {
+            own[actor].part = self
+                .components
+                .put_part(alloc, world, tree.handles(), actor)?;
+        }
+        Ok(())
+    }
+
+    /// Has the actor take its turn in the world of that key: the key after it, if memory wasn't wanting. It is
+    /// remembered, where it is the actor's own affair. NoMemory where room was refused.
+    pub(crate) fn key_by(
+        &mut self,
+        alloc: Global,
+        key: &Key,
+        world: &mut World<T>,
+        marks: &mut Marks,
+        tally: &mut Tally,
+        actor: u32,
+    ) -> Result<Key, NoMemory>
+        requires rows { AreRows self.old.components.parts (length world.old.seats) }
+        requires numbered { AreNumbered world.old.seats }
+        requires there { actor < length world.old.seats }
+        requires many { length key.now.own.items ≡ length world.old.seats }
+        requires few { (n : ℕ) × ((n < 2 ^ 40) × AreFew n key.now) }
+        requires within { AreWithin marks.old (2 ^ 40) }
+        requires tally { IsTally world.old tally.old }
+        requires told { tally.old.told ≡ self.old.components.told }
+        ensures turned { OnOk result ((luck : Luck) × (world.new ≡ turn luck world.old actor)) }
+        ensures grows { OnOk result (Grows self.old.components self.new.components) }
+        ensures sound { OnOk result ((w : WorldView) → IsSound w self.old
+            → IsKey self.old.components w world.old key.now → EndsWell world.new → IsSound w self.new) }
+        ensures key { IfOk result (λ next. (w : WorldView) → IsSound w self.old
+            → IsKey self.old.components w world.old key.now → EndsWell world.new
+            → IsKey self.new.components w (turn full world.old actor) next) }
+        ensures few { IfOk result (λ next. (n : ℕ) → AreFew n key.now → AreFew (n + 1) next) }
+    {
+        let number = actor as usize;
+        let tree = world.book().tree().snapshot(alloc)?;
+        let before = Counts::of(world, &tree, tally, number);
+        take_turn(alloc, world, marks, tally, actor)?;
+        let tree = world.book().tree().snapshot(alloc)?;
+        let after = Counts::of(world, &tree, tally, number);
+        let deed = self.deed_to(alloc, key.nodes, before, after, world, &tree, number)?;
+        let mut next = key.after(alloc, number, &deed)?;
+        if self.are_given {
+            self.remember(key, number, deed)?;
+        } else {
+            self.put_parts(alloc, world, &tree, next.own.as_mut_slice())?;
+        }
+        Ok(next)
+    }
+
+    // The key after the actor's turn, found by a run of the world's list and on to the end. NoMemory where memory ran
+    // short.
+    fn find<B: Beginnings<T>>(
+        &mut self,
+        alloc: Global,
+        beginnings: &B,
+        live: &Live,
+        actor: u32,
+    ) -> Result<Key, NoMemory>
+        requires sound { IsSound (B.opening beginnings.now) self.old }
+        requires here { IsKey self.old.components (B.opening beginnings.now)
+            (after_turns (B.opening beginnings.now) live.now.turns.items) live.now.key }
+        requires there { actor < length (B.opening beginnings.now).seats }
+        requires few { (n : ℕ) × ((n < 2 ^ 40) × AreFew n live.now.key) }
+        requires short { length live.now.turns.items < 2 ^ 40 }
+        ensures grows { OnOk result (Grows self.old.components self.new.components) }
+        ensures sound { OnOk result (IsSound (B.opening beginnings.now) self.new) }
+        ensures key { IfOk result (λ key. IsKey self.new.components (B.opening beginnings.now)
+            (turn full (after_turns (B.opening beginnings.now) live.now.turns.items) actor) key) }
+        ensures few { IfOk result (λ key. (n : ℕ) → AreFew n live.now.key → AreFew (n + 1) key) }
+    {
+        let turns = Vec::from_slice(alloc, live.turns.as_slice())?;
+        let Ok(led) = lead(alloc, beginnings, self.components.told(), turns) else {
+            return Err(NoMemory);
+        };
+        let Led {
+            mut world,
+            turns: _,
+            mut marks,
+            mut tally,
+        } = led;
+        let key = self.key_by(alloc, &live.key, &mut world, &mut marks, &mut tally, actor);
+        let Ok(key) = key else {
+            world.give_up(alloc);
+            return Err(NoMemory);
+        };
+        // Whoever lacked memory tells of it in the end.
+        let _report = told(alloc, world)?;
+        Ok(key)
+    }
+
+    /// The key after the actor's turn from that world. NoMemory where memory ran short, in a run too.
+    pub(crate) fn key_after<B: Beginnings<T>>(
+        &mut self,
+        alloc: Global,
+        beginnings: &B,
+        live: &Live,
+        actor: u32,
+    ) -> Result<Key, NoMemory>
+        requires sound { IsSound (B.opening beginnings.now) self.old }
+        requires here { IsKey self.old.components (B.opening beginnings.now)
+            (after_turns (B.opening beginnings.now) live.now.turns.items) live.now.key }
+        requires there { actor < length (B.opening beginnings.now).seats }
+        requires few { (n : ℕ) × ((n < 2 ^ 40) × AreFew n live.now.key) }
+        requires short { length live.now.turns.items < 2 ^ 40 }
+        ensures grows { OnOk result (Grows self.old.components self.new.components) }
+        ensures sound { OnOk result (IsSound (B.opening beginnings.now) self.new) }
+        ensures key { IfOk result (λ key. (v : WorldView)
+            → IsKey self.old.components (B.opening beginnings.now) v live.now.key
+            → IsKey self.new.components (B.opening beginnings.now) (turn full v actor) key) }
+        ensures few { IfOk result (λ key. (n : ℕ) → AreFew n live.now.key → AreFew (n + 1) key) }
+    {
+        if let Some(deed) = self.known_deed(&live.key, actor as usize) {
+            return live.key.after(alloc, actor as usize, &deed);
+        }
+        self.find(alloc, beginnings, live, actor)
+    }
+
+    /// The key of the opening world. NoMemory where room was refused.
+    pub(crate) fn first_key(&mut self, alloc: Global, world: &World<T>) -> Result<Key, NoMemory>
+        requires sound { IsSound world.now self.old }
+        ensures grows { OnOk result (Grows self.old.components self.new.components) }
+        ensures sound { OnOk result (IsSound world.now self.new) }
+        ensures key { IfOk result (λ key. IsKey self.new.components world.now world.now key) }
+        ensures few { IfOk result (λ key. AreFew 0 key) }
+    {
+        let tree = world.book().tree().snapshot(alloc)?;
+        let mut own = Vec::with_capacity(alloc, world.actors())?;
+        for _actor in 0..world.actors() {
+            own.push(Own {
+                part: 0,
+                outside: 0,
+            })?;
+        }
+        self.put_parts(alloc, world, &tree, own.as_mut_slice())?;
+        Ok(Key {
+            nodes: self.components.put_nodes(alloc, tree.nodes(), 0)?,
+            events: 0,
+            opened: 0,
+            closed: 0,
+            own,
+        })
+    }
+}

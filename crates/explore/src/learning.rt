@@ -1,0 +1,279 @@
+//! Turns that aren't known are found by runs in several threads, before a layer is gone on from.
+ghost use Rattle.std.specs.Prelude.{◌≡◌, ◌<◌, ◌⊎◌, [], ℕ, List, length, Some, slice_get, IfOk, OnOk};
+ghost use Rattle.race_core.specs.Worlds.{WorldView};
+ghost use Rattle.explore.specs.declared.layer.Live.{Live};
+ghost use Rattle.explore.specs.declared.learning.Sought.{Sought};
+ghost use Rattle.explore.specs.declared.moves.Move.{Move};
+ghost use Rattle.explore.specs.Deeds.{IsSound};
+ghost use Rattle.explore.specs.Keys.{Grows};
+ghost use Rattle.explore.specs.Runs.{AreBegun, AreLayers, AreReady, AreSought, AreTheirs, AllEndTurned, EndsTurned, IsReady};
+
+use crate::beginnings::Beginnings;
+use crate::jobs::Jobs;
+use crate::known_turns::KnownTurns;
+use crate::layer::Live;
+use crate::led::{Led, lead};
+use crate::memo::Ask;
+use crate::moves::Move;
+use crate::runs::{Run, are_done, end_all, give_up_runs, go_all};
+use path_text::NoMemory;
+use race_core::CopyTree;
+use std::alloc::Global;
+use std::collections::HashMap;
+use std::marker::{Send, Sync};
+use std::thread::Threads;
+use tree_model::Tree;
+
+/// A turn that isn't known.
+#[derive(Clone, Copy, Debug, PartialEq, Eq)]
+pub(crate) struct Sought {
+    /// The place of the layer's world.
+    pub(crate) at: usize,
+    pub(crate) actor: u32,
+}
+
+// The actors' turns from that world that aren't known are put after the others, those that weren't asked for yet.
+// NoMemory where room was refused.
+fn seek_from<T: CopyTree + Drop>(
+    turns: &KnownTurns<T>,
+    at: usize,
+    live: &Live,
+    moves: &[Move],
+    asked: &mut HashMap<Ask, ()>,
+    sought: &mut Vec<Sought>,
+) -> Result<(), NoMemory>
+    requires there { (j : ℕ) (one : Move) → slice_get moves.now j ≡ Some one
+        → one.actor < length live.now.key.own.items }
+    ensures { OnOk result ((k : ℕ) (one : Sought) → slice_get sought.new.items k ≡ Some one
+        → (slice_get sought.old.items k ≡ Some one)
+        ⊎ ((one.at ≡ at) × (one.actor < length live.now.key.own.items))) }
+{
+    for one in moves {
+        let actor = one.actor;
+        let Some(ask) = turns.unknown(&live.key, actor as usize) else {
+            continue;
+        };
+        if asked.insert(ask, ())?.is_none() {
+            sought.push(Sought { at, actor })?;
+        }
+    }
+    Ok(())
+}
+
+// The turns that aren't known of these moves, each once. NoMemory where room was refused.
+fn sought_of<T: CopyTree + Drop>(
+    alloc: Global,
+    turns: &KnownTurns<T>,
+    worlds: &[Live],
+    moves: &[Vec<Move>],
+) -> Result<Vec<Sought>, NoMemory>
+    requires many { length moves.now ≡ length worlds.now }
+    requires theirs { AreTheirs worlds.now moves.now }
+    ensures { IfOk result (λ sought. AreSought worlds.now sought.items) }
+{
+    let mut asked = HashMap::new(alloc);
+    let mut sought = Vec::new(alloc);
+    for at in 0..worlds.len() {
+        seek_from(
+            turns,
+            at,
+            &worlds[at],
+            moves[at].as_slice(),
+            &mut asked,
+            &mut sought,
+        )?;
+    }
+    Ok(sought)
+}
+
+// A new world for each of the turns. NoMemory where there was none for it; some may be there then.
+fn begin<T: Tree + Drop, B: Beginnings<T>>(
+    alloc: Global,
+    beginnings: &B,
+    told: bool,
+    sought: &[Sought],
+    runs: &mut Vec<Run<T>>,
+) -> Result<(), NoMemory>
+    requires none { runs.old.items ≡ [] }
+    ensures { OnOk result ((worlds : List Live) → AreSought worlds sought.now
+        → AreBegun (B.opening beginnings.now) told worlds runs.new.items) }
+{
+    for one in sought {
+        runs.reserve(1)?;
+        let Ok(led) = lead(alloc, beginnings, told, Vec::new(alloc)) else {
+            return Err(NoMemory);
+        };
+        let Led {
+            world,
+            turns: _,
+            marks,
+            tally,
+        } = led;
+        runs.push_reserved(Run {
+            world: Some(world),
+            marks,
+            tally,
+            at: one.at,
+            actor: one.actor,
+            is_well: true,
+        });
+    }
+    Ok(())
+}
+
+// Has the actor take its turn in the run's world: what it comes to is remembered. NoMemory where memory ran short.
+fn take<T: CopyTree + Drop>(
+    alloc: Global,
+    turns: &mut KnownTurns<T>,
+    worlds: &[Live],
+    run: &mut Run<T>,
+) -> Result<(), NoMemory>
+    requires { (w : WorldView) × (AreLayers turns.old.components w worlds.now
+        × IsReady w turns.old.components.told worlds.now run.old) }
+    ensures grows { OnOk result (Grows turns.old.components turns.new.components) }
+    ensures sound { OnOk result ((w : WorldView) → AreLayers turns.old.components w worlds.now
+        → IsReady w turns.old.components.told worlds.now run.old → EndsTurned run.new
+        → IsSound w turns.old → IsSound w turns.new) }
+{
+    if !run.is_well {
+        return Err(NoMemory);
+    }
+    let Some(world) = &mut run.world else {
+        return Err(NoMemory);
+    };
+    let key = &worlds[run.at].key;
+    let (marks, tally) = (&mut run.marks, &mut run.tally);
+    let _next = turns.key_by(alloc, key, world, marks, tally, run.actor)?;
+    Ok(())
+}
+
+// The same in each run's world, in order.
+fn take_all<T: CopyTree + Drop>(
+    alloc: Global,
+    turns: &mut KnownTurns<T>,
+    worlds: &[Live],
+    runs: &mut [Run<T>],
+) -> Result<(), NoMemory>
+    requires { (w : WorldView) × (AreLayers turns.old.components w worlds.now
+        × AreReady w turns.old.components.told worlds.now runs.old) }
+    ensures grows { OnOk result (Grows turns.old.components turns.new.components) }
+    ensures sound { OnOk result ((w : WorldView) → AreLayers turns.old.components w worlds.now
+        → AreReady w turns.old.components.told worlds.now runs.old → AllEndTurned runs.new
+        → IsSound w turns.old → IsSound w turns.new) }
+{
+    for at in 0..runs.len() {
+        take(alloc, turns, worlds, &mut runs[at])?;
+    }
+    Ok(())
+}
+
+// Makes the runs: to the turn, the turn, and to the end. NoMemory where memory ran short in one of them.
+fn make<T: CopyTree + Drop + Send, R: Threads + Sync>(
+    alloc: Global,
+    threads: &R,
+    jobs: Jobs,
+    worlds: &[Live],
+    turns: &mut KnownTurns<T>,
+    runs: &mut [Run<T>],
+) -> Result<(), NoMemory>
+    requires { (w : WorldView) × (AreLayers turns.old.components w worlds.now
+        × AreBegun w turns.old.components.told worlds.now runs.old) }
+    ensures grows { OnOk result (Grows turns.old.components turns.new.components) }
+    ensures sound { OnOk result ((w : WorldView) → AreLayers turns.old.components w worlds.now
+        → AreBegun w turns.old.components.told worlds.now runs.old
+        → IsSound w turns.old → IsSound w turns.new) }
+{
+    go_all(alloc, threads, jobs, worlds, runs);
+    take_all(alloc, turns, worlds, runs)?;
+    end_all(alloc, threads, jobs, runs);
+    if are_done(runs) {
+        return Ok(());
+    }
+    Err(NoMemory)
+}
+
+// Begins the runs for these turns, and makes them. NoMemory where memory ran short; worlds may be left then.
+fn begin_and_make<T: CopyTree + Drop + Send, B: Beginnings<T>, R: Threads + Sync>(
+    alloc: Global,
+    threads: &R,
+    jobs: Jobs,
+    beginnings: &B,
+    worlds: &[Live],
+    turns: &mut KnownTurns<T>,
+    sought: &[Sought],
+    runs: &mut Vec<Run<T>>,
+) -> Result<(), NoMemory>
+    requires sound { IsSound (B.opening beginnings.now) turns.old }
+    requires layer { AreLayers turns.old.components (B.opening beginnings.now) worlds.now }
+    requires sought { AreSought worlds.now sought.now }
+    requires none { runs.old.items ≡ [] }
+    ensures grows { OnOk result (Grows turns.old.components turns.new.components) }
+    ensures sound { OnOk result (IsSound (B.opening beginnings.now) turns.new) }
+{
+    begin(alloc, beginnings, turns.components().told(), sought, runs)?;
+    make(alloc, threads, jobs, worlds, turns, runs.as_mut_slice())?;
+    Ok(())
+}
+
+// Finds what these turns come to. NoMemory where memory ran short.
+fn find_all<T: CopyTree + Drop + Send, B: Beginnings<T>, R: Threads + Sync>(
+    alloc: Global,
+    threads: &R,
+    jobs: Jobs,
+    beginnings: &B,
+    worlds: &[Live],
+    turns: &mut KnownTurns<T>,
+    sought: &[Sought],
+) -> Result<(), NoMemory>
+    requires sound { IsSound (B.opening beginnings.now) turns.old }
+    requires layer { AreLayers turns.old.components (B.opening beginnings.now) worlds.now }
+    requires sought { AreSought worlds.now sought.now }
+    ensures grows { OnOk result (Grows turns.old.components turns.new.components) }
+    ensures sound { OnOk result (IsSound (B.opening beginnings.now) turns.new) }
+{
+    let mut runs = Vec::new(alloc);
+    let found = begin_and_make(
+        alloc, threads, jobs, beginnings, worlds, turns, sought, &mut runs,
+    );
+    give_up_runs(alloc, runs);
+    found
+}
+
+/// Finds what these moves from the layer's worlds come to, where it isn't known and is the actor's own affair. Runs are
+/// made for them, in at most so many threads; with one thread none is made ahead. NoMemory where memory ran short.
+pub(crate) fn learn<T: CopyTree + Drop + Send, B: Beginnings<T>, R: Threads + Sync>(
+    alloc: Global,
+    threads: &R,
+    jobs: Jobs,
+    beginnings: &B,
+    worlds: &[Live],
+    moves: &[Vec<Move>],
+    turns: &mut KnownTurns<T>,
+) -> Result<(), NoMemory>
+    requires sound { IsSound (B.opening beginnings.now) turns.old }
+    requires layer { AreLayers turns.old.components (B.opening beginnings.now) worlds.now }
+    requires many { length moves.now ≡ length worlds.now }
+    requires theirs { AreTheirs worlds.now moves.now }
+    ensures grows { OnOk result (Grows turns.old.components turns.new.components) }
+    ensures sound { OnOk result (IsSound (B.opening beginnings.now) turns.new) }
+{
+    if jobs.count() == 1 || !turns.are_given() {
+        return Ok(());
+    }
+    let sought = sought_of(alloc, turns, worlds, moves)?;
+    let mut from = 0;
+    'rounds: while from < sought.len() {
+        let to = from.saturating_add(jobs.round()).min(sought.len());
+        find_all(
+            alloc,
+            threads,
+            jobs,
+            beginnings,
+            worlds,
+            turns,
+            &sought[from..to],
+        )?;
+        from = to;
+    }
+    Ok(())
+}
