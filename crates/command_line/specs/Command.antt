@@ -14,8 +14,8 @@ use Rattle.command_line.specs.declared.commands.Request.TheVariants as request
 use Rattle.command_line.specs.declared.commands.Walking.{Walking}
 use Rattle.script_drawings.specs.declared.drawing.Form.{Form}
 use Rattle.script_drawings.specs.declared.drawing.Form.TheVariants.{Text, Svg}
-use Rattle.explore_text.specs.declared.options.Options.{Options}
-use Rattle.explore_text.specs.Options.{texts_in}
+use Rattle.survey_text.specs.declared.asked.Options.{Options}
+use Rattle.survey_text.specs.Asked.{texts_in}
 
 -- the option's value is `true` or `false`; without one it isn't set
 pub record IsOption (matches : ArgMatches) (id : List ℕ) (set : Bool) : Type 0 where

@@ -2,8 +2,8 @@
 use Rattle.std.specs.Borrow.{Bor}
 use Rattle.std.specs.Prelude.{⊤, ℕ, List, Option, Some, None, Result, Ok, Err}
 use Rattle.scripts.specs.declared.fault.RunFault.TheVariants.{Script, ReadFailed, WriteFailed, NoMemory, BookFull}
-use Rattle.explore_text.specs.declared.merging.MergeFault.{MergeFault}
-use Rattle.explore_text.specs.declared.merging.MergeFault.TheVariants as merge
+use Rattle.survey_text.specs.declared.merging.MergeFault.{MergeFault}
+use Rattle.survey_text.specs.declared.merging.MergeFault.TheVariants as merge
 use Rattle.command_line.specs.declared.ending.Fault.{Fault}
 use Rattle.command_line.specs.declared.ending.Fault.TheVariants.{Usage, NotUtf8, Schedule, NoRequest, Run, Options, PropertyFails, ExploreActor, ExploreProperty, ExploreStates, ExploreTurns, ExploreBegin, ExploreCuts, Merge, DrawActors, DrawLines, Service}
 use Rattle.script_drawings.specs.declared.drawing.DrawFault.{DrawFault}
@@ -14,10 +14,10 @@ use Rattle.scripts.specs.declared.turns.TurnOrder.TheVariants.{OfScript, Asked}
 use Rattle.scripts.specs.declared.turns.Turns.{Turns}
 use Rattle.scripts.specs.Turns.{SaysTurns}
 use Rattle.script_drawings.specs.declared.drawing.DrawFault.TheVariants as drawing
-use Rattle.explore_text.specs.declared.options.OptionFault.{OptionFault}
-use Rattle.explore_text.specs.declared.options.OptionFault.TheVariants as option
-use Rattle.explore_text.specs.declared.script.ExploreFault.{ExploreFault}
-use Rattle.explore_text.specs.declared.script.ExploreFault.TheVariants as explore
+use Rattle.survey_text.specs.declared.asked.OptionFault.{OptionFault}
+use Rattle.survey_text.specs.declared.asked.OptionFault.TheVariants as option
+use Rattle.survey_text.specs.declared.fault.ExploreFault.{ExploreFault}
+use Rattle.survey_text.specs.declared.fault.ExploreFault.TheVariants as explore
 
 abbrev pub ANSWERED : ℕ
 ANSWERED = 0

@@ -1,11 +1,11 @@
 //! The statuses, and what a command line asks for.
 use command_line::{Fault, Request, asked, command, is_strict, order_of, status};
 use drawings::Closes;
-use explore_text::{OptionFault, Options};
 use script_drawings::Form;
 use script_jobs::ServiceFault;
 use scripts::{RunFault, ScriptFault, TurnOrder};
 use std::alloc::Global;
+use survey_text::{OptionFault, Options};
 
 #[test]
 fn ends_with_its_statuses(rt: HostRuntime) {

@@ -104,8 +104,10 @@ impl DentryCache {
         ensures found { result ≡ found self.old dir name.now }
         ensures renewed { self.new ≡ looked self.old dir name.now }
     {
-        // Tells that no two keys are equal.
-        let _ = self.inner.len();
+        // Where nothing is remembered no key is hashed. The length also tells that no two keys are equal.
+        if self.inner.len() == 0 {
+            return None;
+        }
         self.sought.set(dir, name);
         self.inner.get(&self.sought).copied()
     }
@@ -127,7 +129,9 @@ impl DentryCache {
     pub fn forget(&mut self, dir: Node, name: &Name)
         ensures { self.new ≡ forgotten self.old dir name.now }
     {
-        let _ = self.inner.len();
+        if self.inner.len() == 0 {
+            return;
+        }
         self.sought.set(dir, name);
         let _ = self.inner.pop(&self.sought);
     }

@@ -6,10 +6,10 @@ use Rattle.tree_model.specs.StepLaws.{open_count}
 use Rattle.race_core.specs.Book.{tree_now, free_lines}
 use Rattle.race_core.specs.Worlds.{WorldView, turn}
 use Rattle.explore.specs.declared.keys.Deed.{Deed}
-use Rattle.explore.specs.declared.known_turns.Counts.{Counts}
-use Rattle.explore.specs.declared.known_turns.Start.{Start}
 use Rattle.explore.specs.declared.memo.Ask.{Ask}
 use Rattle.explore.specs.declared.memo.Entry.{Entry}
+use Rattle.explore.specs.declared.world_counts.Counts.{Counts}
+use Rattle.explore.specs.declared.world_counts.Start.{Start}
 use Rattle.explore.specs.Alike.{full}
 use Rattle.explore.specs.Counting.{bumped}
 use Rattle.explore.specs.Keys.{ComponentsView, IsPartAt, AreRows}

@@ -102,24 +102,24 @@ pub record AreFew (n : ℕ) (key : Key) : Type 0 where
 unfoldable pub print_of : Key → ℕ
 print_of key = mixed 0 (key.nodes ∷ key.events ∷ key.opened ∷ key.closed ∷ map (λ (o : Own). o.part) key.own.items)
 
--- the same numbers and the same of each actor
-pub record SameKey (key other : Key) : Type 0 where
+-- the keys have the same numbers, and the same of each actor
+pub record AreSameKeys (key other : Key) : Type 0 where
   pub nodes : key.nodes ≡ other.nodes
   pub events : key.events ≡ other.events
   pub opened : key.opened ≡ other.opened
   pub closed : key.closed ≡ other.closed
   pub own : key.own.items ≡ other.own.items
 
--- the same but for changes outside of roots
-pub record SameBare (key other : Key) : Type 0 where
+-- they are the same but for changes outside of roots
+pub record AreSameKeysButOutside (key other : Key) : Type 0 where
   pub nodes : key.nodes ≡ other.nodes
   pub events : key.events ≡ other.events
   pub opened : key.opened ≡ other.opened
   pub closed : key.closed ≡ other.closed
   pub parts : map (λ (o : Own). o.part) key.own.items ≡ map (λ (o : Own). o.part) other.own.items
 
--- the same but for parts
-pub record SameButParts (key other : Key) : Type 0 where
+-- they are the same but for parts
+pub record AreSameKeysButParts (key other : Key) : Type 0 where
   pub nodes : key.nodes ≡ other.nodes
   pub events : key.events ≡ other.events
   pub opened : key.opened ≡ other.opened

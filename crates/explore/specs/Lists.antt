@@ -1,7 +1,9 @@
--- What counts in a list of turns: its cuts, its changes of actor, and which of two lists is less.
-use Rattle.std.specs.Prelude.{ℕ, suc, ◌==◌, ◌&&◌, ◌||◌, List, [], ◌∷◌, Bool, true, false, not, Option, Some, None, nat_lt}
+-- What counts in a list of turns: its cuts, its changes of actor, and which of two lists is less. That order is the one
+-- of words of a graph.
+use Rattle.std.specs.Prelude.{ℕ, ◌==◌, ◌&&◌, List, [], ◌∷◌, Bool, false, not, Option, Some, None}
 use Rattle.race_core.specs.declared.seat.Seat.{Seat}
 use Rattle.race_core.specs.Worlds.{WorldView, turn, is_within_at}
+pub use Rattle.schedule_graph.specs.Words.{plus, is_less_or, is_not_after, Rank, is_at_most}
 use Rattle.explore.specs.Alike.{full}
 
 abbrev pub is_another : Option ℕ → ℕ → Bool
@@ -15,11 +17,6 @@ is_within_last seats (Some i) = is_within_at seats i
 -- A turn right after one of the last actor cuts a call: it is another's, and the last one's call is under way.
 abbrev pub is_cut : List Seat → Option ℕ → ℕ → Bool
 is_cut seats last j = is_another last j && is_within_last seats last
-
--- one more, where it is so
-abbrev pub plus : Bool → ℕ → ℕ
-plus true n = suc n
-plus false n = n
 
 -- how many turns of the list cut a call, the last turn before being that actor's
 abbrev pub cuts_after : WorldView → Option ℕ → List ℕ → ℕ
@@ -39,25 +36,6 @@ changes is = changes_after None is
 
 -- ---- which is less
 
--- the first number is less, or they are the same and so it is
-abbrev pub is_less_or : ℕ → ℕ → Bool → Bool
-is_less_or m n so = nat_lt m n || ((m == n) && so)
-
--- the first list isn't after the second in the order of words
-abbrev pub is_not_after : List ℕ → List ℕ → Bool
-is_not_after [] js = true
-is_not_after (i ∷ is) [] = false
-is_not_after (i ∷ is) (j ∷ js) = is_less_or i j (is_not_after is js)
-
--- what a list of turns is ordered by
-pub record Rank : Type 0 where
-  pub cuts : ℕ
-  pub changes : ℕ
-  pub turns : List ℕ
-
--- by the cuts, then by the changes of actor, then as lists
-abbrev pub is_at_most : Rank → Rank → Bool
-is_at_most a b = is_less_or a.cuts b.cuts (is_less_or a.changes b.changes (is_not_after a.turns b.turns))
-
+-- by this a list is ordered: by the cuts, then by the changes of actor, then as lists
 abbrev pub rank : WorldView → List ℕ → Rank
 rank w is = record { cuts = cuts w is; changes = changes is; turns = is }

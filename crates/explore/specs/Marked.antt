@@ -2,28 +2,29 @@
 use Rattle.std.specs.Prelude.{◌≡◌, ◌<◌, ℕ, List, Bool, true, false, map, Some, slice_get}
 use Rattle.explore.specs.declared.keys.Key.{Key}
 use Rattle.explore.specs.declared.layer.Live.{Live}
-use Rattle.explore.specs.Keys.{SameKey, SameBare, print_of}
+use Rattle.explore.specs.Keys.{AreSameKeys, AreSameKeysButOutside, print_of}
 
 -- ---- worlds at places
 
 -- the world at that place has that key
 abbrev pub IsSameAt : Key → List Live → ℕ → Type 0
-IsSameAt key lives at = (other : Live) × ((slice_get lives at ≡ Some other) × SameKey key other.key)
+IsSameAt key lives at = (other : Live) × ((slice_get lives at ≡ Some other) × AreSameKeys key other.key)
 
 -- none before a world has its key
 abbrev pub AreMerged : List Live → Type 0
 AreMerged lives = (k at : ℕ) (live : Live) → slice_get lives k ≡ Some live → at < k → IsSameAt live.key lives at → ⊥
 
 -- it has that key but for changes outside of roots
-abbrev pub IsBareAt : Key → List Live → ℕ → Type 0
-IsBareAt key lives at = (other : Live) × ((slice_get lives at ≡ Some other) × SameBare key other.key)
+abbrev pub IsSameAtButOutside : Key → List Live → ℕ → Type 0
+IsSameAtButOutside key lives at =
+    (other : Live) × ((slice_get lives at ≡ Some other) × AreSameKeysButOutside key other.key)
 
 -- ---- states
 
 -- whether none of the first n worlds has that key but for changes outside of roots
 abbrev pub IsNew : Bool → List Live → ℕ → Key → Type 0
-IsNew true lives n key = (at : ℕ) → at < n → IsBareAt key lives at → ⊥
-IsNew false lives n key = (at : ℕ) × ((at < n) × IsBareAt key lives at)
+IsNew true lives n key = (at : ℕ) → at < n → IsSameAtButOutside key lives at → ⊥
+IsNew false lives n key = (at : ℕ) × ((at < n) × IsSameAtButOutside key lives at)
 
 -- each world counts as a state where none before it has its key but for changes outside of roots
 abbrev pub AreMarked : List Live → Type 0

@@ -8,7 +8,7 @@ use Rattle.explore.specs.declared.limits.Scope.{Scope}
 use Rattle.explore.specs.declared.marks.Marks.{Marks}
 use Rattle.explore.specs.Alike.{after_turns}
 use Rattle.explore.specs.Explored.{IsWithin, GoAlong, AreBusy, IsOnWay, AreApartStates, HasItsState}
-use Rattle.explore.specs.Keys.{ComponentsView, IsKey, SameBare}
+use Rattle.explore.specs.Keys.{ComponentsView, IsKey, AreSameKeysButOutside}
 use Rattle.explore.specs.Merged.{bounded_cuts}
 use Rattle.explore.specs.Points.{start, along}
 
@@ -23,9 +23,9 @@ pub record AreStatesAmong (lives : List Live) (n states : ℕ) : Type 0 where
   pub from : (j : ℕ) (one : Live) → slice_get chosen j ≡ Some one
       → (k : ℕ) × ((k < n) × (slice_get lives k ≡ Some one))
   pub apart : (i j : ℕ) (one other : Live) → slice_get chosen i ≡ Some one → slice_get chosen j ≡ Some other
-      → SameBare one.key other.key → i ≡ j
+      → AreSameKeysButOutside one.key other.key → i ≡ j
   pub all : (k : ℕ) (live : Live) → k < n → slice_get lives k ≡ Some live
-      → (j : ℕ) × ((one : Live) × ((slice_get chosen j ≡ Some one) × SameBare live.key one.key))
+      → (j : ℕ) × ((one : Live) × ((slice_get chosen j ≡ Some one) × AreSameKeysButOutside live.key one.key))
 
 -- ---- a layer's lists
 

@@ -11,13 +11,17 @@ use race_core::World;
 use std::alloc::Global;
 use tree_model::{Actor, HandleNo, Node, OpenHandle, Tree};
 
-/// The handles that an actor knows, what it holds by each, how many numbers of handles were given in all, and how many
-/// handles it has open.
+/// What an actor holds in a world, by each of the handles that it knows. Two parts of an actor are the same where its
+/// seats are, but for the numbers of handles, and its grips are alike.
 #[derive(Drop)]
 pub(crate) struct Grip {
+    // The handles that the actor knows.
     handles: Vec<HandleNo>,
+    // What it holds by each.
     nodes: Vec<Option<Node>>,
+    // How many numbers of handles were given in all.
     given: usize,
+    // How many handles it has open.
     held: usize,
 }
 
@@ -49,7 +53,7 @@ fn nodes_of(
 }
 
 // Whether the same nodes are held, one by one.
-fn same_nodes(nodes: &[Option<Node>], others: &[Option<Node>]) -> bool
+fn held_alike(nodes: &[Option<Node>], others: &[Option<Node>]) -> bool
     ensures { IsTrue result ↔ (nodes.now ≡ others.now) }
 {
     if nodes.len() != others.len() {
@@ -152,7 +156,7 @@ impl Grip {
         if self.held != other.held || self.handles.len() != other.handles.len() {
             return false;
         }
-        if !same_nodes(self.nodes.as_slice(), other.nodes.as_slice()) {
+        if !held_alike(self.nodes.as_slice(), other.nodes.as_slice()) {
             return false;
         }
         let (handles, others) = (self.handles.as_slice(), other.handles.as_slice());

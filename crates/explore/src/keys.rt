@@ -1,12 +1,13 @@
 //! Worlds as keys: each by the places of its components, and by how much its book and its handles have grown.
 ghost use Rattle.std.specs.Prelude.{◌≡◌, ◌↔◌, ◌<◌, ◌^◌, ◌+◌, ℕ, length, map, IsTrue, IfOk};
-ghost use Rattle.explore.specs.Keys.{AreFew, SameKey, SameBare, IsKeyAfter, print_of};
+ghost use Rattle.explore.specs.Keys.{AreFew, AreSameKeys, AreSameKeysButOutside, IsKeyAfter, print_of};
 
 use crate::fingerprint::Fingerprint;
 use path_text::NoMemory;
 use std::alloc::Global;
 
-/// What a turn comes to, as far as it is its actor's own.
+/// What a turn comes to, as far as it is its actor's own. This is what the search remembers of a turn: with it the key
+/// before the turn makes the key after it (`Key::after`), without a run.
 #[derive(Clone, Copy, Debug, PartialEq, Eq)]
 pub(crate) struct Deed {
     /// The place of the list of nodes after it.
@@ -23,7 +24,8 @@ pub(crate) struct Deed {
     pub(crate) outside: bool,
 }
 
-/// What a key has of one actor.
+/// What a key has of one actor: where its part stands among those that were met, and how many changes it has made. A
+/// turn that is known changes it of the turn's actor alone.
 #[derive(Clone, Copy, Debug, PartialEq, Eq)]
 pub(crate) struct Own {
     /// The place of its part.
@@ -76,14 +78,14 @@ impl Key {
 
     /// Whether the keys are the same.
     pub(crate) fn same(&self, other: &Key) -> bool
-        ensures { IsTrue result ↔ SameKey self.now other.now }
+        ensures { IsTrue result ↔ AreSameKeys self.now other.now }
     {
         self.same_numbers(other) && self.own == other.own
     }
 
     /// Whether they are the same but for changes outside of roots.
-    pub(crate) fn same_bare(&self, other: &Key) -> bool
-        ensures { IsTrue result ↔ SameBare self.now other.now }
+    pub(crate) fn same_but_outside(&self, other: &Key) -> bool
+        ensures { IsTrue result ↔ AreSameKeysButOutside self.now other.now }
     {
         self.same_numbers(other) && same_parts(self.own.as_slice(), other.own.as_slice())
     }
@@ -106,7 +108,7 @@ impl Key {
 
     /// An equal key. NoMemory where its room was refused.
     pub(crate) fn copy(&self, alloc: Global) -> Result<Key, NoMemory>
-        ensures { IfOk result (λ key. SameKey key self.now) }
+        ensures { IfOk result (λ key. AreSameKeys key self.now) }
     {
         let own = Vec::from_slice(alloc, self.own.as_slice())?;
         Ok(Key {

@@ -4,7 +4,7 @@ ghost use Rattle.std.specs.List.{count_by};
 ghost use Rattle.explore.specs.declared.layer.Live.{Live};
 ghost use Rattle.explore.specs.Keys.{print_of};
 ghost use Rattle.explore.specs.Layers.{Keeps};
-ghost use Rattle.explore.specs.Marked.{IsSameAt, IsBareAt, IsNew, AreMarked, prints_of, IsPut};
+ghost use Rattle.explore.specs.Marked.{IsSameAt, IsSameAtButOutside, IsNew, AreMarked, prints_of, IsPut};
 
 use crate::fingerprint::Fingerprint;
 use crate::keys::Key;
@@ -63,11 +63,11 @@ fn same_at(worlds: &[Live], table: &Table, print: Fingerprint, key: &Key) -> Opt
 }
 
 // Whether the world at that place has that key but for changes outside of roots.
-fn is_bare_at(worlds: &[Live], at: usize, key: &Key) -> bool
-    ensures { IsTrue result ↔ IsBareAt key.now worlds.now at }
+fn is_same_at_but_outside(worlds: &[Live], at: usize, key: &Key) -> bool
+    ensures { IsTrue result ↔ IsSameAtButOutside key.now worlds.now at }
 {
     match worlds.get(at) {
-        Some(other) => key.same_bare(&other.key),
+        Some(other) => key.same_but_outside(&other.key),
         None => false,
     }
 }
@@ -80,7 +80,7 @@ fn is_new(worlds: &[Live], table: &Table, print: Fingerprint, key: &Key) -> bool
 {
     let mut place = table.last(print);
     while let Some(at) = place {
-        if is_bare_at(worlds, at, key) {
+        if is_same_at_but_outside(worlds, at, key) {
             return false;
         }
         place = table.before(at);

@@ -1,5 +1,5 @@
 //! What turns come to: looked up where it is known, and else found by a run from the beginning.
-ghost use Rattle.std.specs.Prelude.{◌≡◌, ◌<◌, ◌^◌, ◌+◌, ◌-◌, [], ◌≤◌, ℕ, true, is_some, count_by, length, map, min, Some, slice_get, IfOk, IfSome, OnOk, OnSome, IsTrue};
+ghost use Rattle.std.specs.Prelude.{◌≡◌, ◌<◌, ◌^◌, ◌+◌, ◌-◌, [], ◌≤◌, ℕ, true, length, map, min, Some, slice_get, IfOk, IfSome, OnOk, OnSome};
 ghost use Rattle.race_core.specs.Book.{tree_now};
 ghost use Rattle.race_core.specs.declared.opening.TheConstants.{ACTORS_MAX};
 ghost use Rattle.race_core.specs.Turns.{Luck};
@@ -8,9 +8,9 @@ ghost use Rattle.explore.specs.declared.keys.Own.{Own};
 ghost use Rattle.explore.specs.declared.memo.Ask.{Ask};
 ghost use Rattle.explore.specs.Alike.{full, after_turns};
 ghost use Rattle.explore.specs.Counting.{IsTally};
-ghost use Rattle.explore.specs.Deeds.{AreCountsIn, AreCompared, IsDeedFrom, IsStart, IsAskOf, IsRemembered, IsSound};
+ghost use Rattle.explore.specs.Deeds.{AreCompared, IsDeedFrom, IsStart, IsAskOf, IsRemembered, IsSound};
 ghost use Rattle.explore.specs.Keys.{AreFew, AreMet, AreRows, Grows, IsKey, IsPartAt};
-ghost use Rattle.explore.specs.Local.{AreAllGiven, AreNumbered};
+ghost use Rattle.explore.specs.Local.{AreNumbered};
 ghost use Rattle.explore.specs.Points.{AreWithin};
 ghost use Rattle.explore.specs.Want.{EndsWell};
 
@@ -22,22 +22,12 @@ use crate::led::{Led, lead, take_turn, told};
 use crate::marks::Marks;
 use crate::memo::{Ask, Memo};
 use crate::outside::Tally;
+use crate::world_counts::{Counts, Start, are_given, open_count, wide};
 use path_text::NoMemory;
 use race_core::{CopyTree, World};
 use std::alloc::Global;
 use std::marker::Model;
-use tree_model::{HandleNo, NUMBERS_MAX, OpenHandle, Snapshot, Tree};
-
-/// What the opening world has.
-#[derive(Clone, Copy, Debug, PartialEq, Eq)]
-pub(crate) struct Start {
-    /// How many lines its book has.
-    pub(crate) lines: u32,
-    /// How many numbers of handles were given in it.
-    pub(crate) numbers: usize,
-    /// How many handles are open.
-    pub(crate) open_handles: usize,
-}
+use tree_model::{NUMBERS_MAX, Snapshot, Tree};
 
 /// The components that were met and the turns that are known, of worlds after turns from one opening world. Contracts
 /// see them as a `KnownView`.
@@ -61,73 +51,6 @@ impl<T: Tree> Model for KnownTurns<T> {
       start = k.start;
       are_given = k.are_given;
     } };
-}
-
-// What may grow by a turn of the actor.
-#[derive(Clone, Copy, Debug, PartialEq, Eq)]
-struct Counts {
-    events: usize,
-    numbers: usize,
-    open_handles: usize,
-    outside: u64,
-}
-
-// The number with room for sums.
-fn wide(number: u64) -> u128
-    ensures same { result ≡ number }
-    ensures small { result < 2 ^ 64 }
-{
-    u128::from(number)
-}
-
-// How many of the handles are open.
-fn open_count(handles: &[Option<OpenHandle>]) -> usize
-    ensures { result ≡ count_by is_some handles.now }
-{
-    handles.iter().filter(|handle| handle.is_some()).count()
-}
-
-impl Counts {
-    // Those of that world.
-    fn of<T: Tree>(world: &World<T>, tree: &Snapshot, tally: &Tally, actor: usize) -> Counts
-        requires tree { tree.now ≡ tree_now world.now.book }
-        requires tally { IsTally world.now tally.now }
-        ensures { AreCountsIn tally.now.told world.now actor result }
-    {
-        Counts {
-            events: world.book().events().len(),
-            numbers: tree.handles().len(),
-            open_handles: open_count(tree.handles()),
-            outside: tally.changes_of(actor),
-        }
-    }
-}
-
-// Whether all of the handles are among the first so many.
-fn are_below(handles: &[HandleNo], given: usize) -> bool
-    ensures { IsTrue result → (at h : ℕ) → slice_get handles.now at ≡ Some h → h < given }
-{
-    for handle in handles {
-        if handle.number() as usize >= given {
-            return false;
-        }
-    }
-    true
-}
-
-// Whether all numbers of handles that the actors know were given. NoMemory where room was refused.
-fn are_given<T: Tree>(alloc: Global, world: &World<T>, given: usize) -> Result<bool, NoMemory>
-    requires { given ≡ length (tree_now world.now.book).handles }
-    ensures { IfOk result (λ are_given. IsTrue are_given → AreAllGiven world.now) }
-{
-    for actor in 0..world.actors() {
-        let mut handles = Vec::new(alloc);
-        world.push_handles(actor, &mut handles)?;
-        if !are_below(handles.as_slice(), given) {
-            return Ok(false);
-        }
-    }
-    Ok(true)
 }
 
 impl<T: Tree + Drop> KnownTurns<T> {

@@ -21,11 +21,15 @@ use std::alloc::Global;
 use std::marker::Model;
 use tree_model::Tree;
 
-/// A world, and the list of turns that led to it. Contracts see it as a `LiveView`.
+/// A run from the beginning: a world, and the list of turns that led to it. The search keeps keys and lists. It makes a
+/// run where it needs the world itself: to find a turn that it doesn't know, or the report at the end of a list.
+/// Contracts see it as a `LiveView`.
 pub(crate) struct Led<T: Tree> {
     pub(crate) world: World<T>,
     pub(crate) turns: Vec<u32>,
+    /// What counted in the turns.
     pub(crate) marks: Marks,
+    /// The changes outside of roots.
     pub(crate) tally: Tally,
 }
 

@@ -12,11 +12,11 @@
 //!
 //! The search goes on with one of the worlds that have one key, layer by layer (`specs/Layers.antt`). It keeps the key
 //! and a list of turns that leads there (`layer.rt`). What a turn comes to depends on the nodes, the actor's part, and
-//! how full the book is; so the search remembers it by these (`memo.rt`, `specs/Deeds.antt`). It finds a turn that it
-//! doesn't know by a run from the beginning, and on to the end: whoever lacked memory tells so there
-//! (`known_turns.rt`). Where it has several threads, they make the runs for a layer before it is gone on from
-//! (`learning.rt`, `runs.rt`). The stands of lists on the worlds make a graph, and the laws say that its words are the
-//! lists.
+//! how full the book is (`world_counts.rt`); so the search remembers it by these (`memo.rt`, `specs/Deeds.antt`). It
+//! finds a turn that it doesn't know by a run from the beginning (`led.rt`), and on to the end: whoever lacked memory
+//! tells so there (`known_turns.rt`). Where it has several threads, they make the runs for a layer before it is gone on
+//! from (`learning.rt`, `runs.rt`). The stands of lists on the worlds make a graph, and the laws say that its words are
+//! the lists.
 //!
 //! Where it is asked for, what an actor changes outside of its root (`specs/Outside.antt`) is a part of an outcome:
 //! worlds are taken for one then only where each actor has made as many such changes.
@@ -56,6 +56,7 @@ mod table;
 mod tally;
 mod want;
 mod ways;
+mod world_counts;
 
 pub use beginnings::Beginnings;
 pub use found::{Class, Ending, Findings};

@@ -10,11 +10,13 @@ use std::alloc::Global;
 use std::collections::HashMap;
 use std::marker::Model;
 
-/// All that a turn depends on.
+/// All that a turn depends on: the nodes, its actor, the actor's part, and how full the book is. By it a turn is looked
+/// up: what one turn came to, another with an equal ask comes to as well.
 #[derive(Clone, Copy, Debug, PartialEq, Eq, Hash)]
 pub(crate) struct Ask {
     /// The place of the list of nodes.
     pub(crate) nodes: usize,
+    /// Whose turn it is.
     pub(crate) actor: usize,
     /// The place of the actor's part.
     pub(crate) part: usize,
@@ -40,7 +42,9 @@ impl Ask {
 /// A turn that is known.
 #[derive(Clone, Copy, Debug, PartialEq, Eq)]
 pub(crate) struct Entry {
+    /// What it depends on.
     pub(crate) ask: Ask,
+    /// What it comes to.
     pub(crate) deed: Deed,
 }
 

@@ -1,10 +1,3 @@
-mod Tails
-mod NewOnes
-mod Pieces
-mod Ordered
 mod Numbers
 mod ToldOnes
-mod Sums
-mod Heads
-mod Beginnings
 mod Unsurveyed

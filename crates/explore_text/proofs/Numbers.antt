@@ -2,7 +2,8 @@
 use Rattle.std.proofs.Common.{◌≡◌, ℕ, ◌+◌, ◌<◌, ◌≤◌, Bor, List, [], ◌∷◌, ◌++◌, length, drop, get_or, subst}
 use Rattle.std.specs.Prelude.{◌≢◌, ◌^◌, Option, Some, None, MatchOption, decimal}
 use Rattle.std.proofs.lemmas.List.{append-nil, drop_more, drop_all}
-use Rattle.explore_text.specs.Options.{texts_in, AllSay}
+use Rattle.explore_text.specs.Options.{AllSay}
+use Rattle.survey_text.specs.Asked.{texts_in}
 
 -- what was read so far and what the texts left say are what all say
 pub record IsSaidSoFar (texts left : List (List ℕ)) (all : List ℕ) : Type 0 where

@@ -2,7 +2,7 @@
 use Rattle.std.proofs.Common.{List, [], ◌∷◌, ◌++◌, ℕ}
 use Rattle.explore.specs.Explored.{ClassView}
 use Rattle.tree_model.specs.State.{State}
-use Rattle.explore_text.specs.declared.survey.Told.{Told}
+use Rattle.survey_text.specs.declared.survey.Told.{Told}
 use Rattle.explore_text.specs.Classes.{IsTold, AreTold}
 
 pub one_told : (named : List ℕ) (opening : State) (actors : ℕ) (classes : List ClassView) (all : List Told) (class : ClassView) (told : Told)

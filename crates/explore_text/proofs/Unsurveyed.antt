@@ -4,7 +4,7 @@ use Rattle.std.proofs.Common.{sym, subst}
 use Rattle.tree_model.specs.State.{State}
 use Rattle.scripts.specs.Scenario.{Said}
 use Rattle.scripts.specs.Writing.{tree_of}
-use Rattle.explore_text.specs.declared.script.ExploreFault.{ExploreFault}
+use Rattle.survey_text.specs.declared.fault.ExploreFault.{ExploreFault}
 use Rattle.explore_text.specs.declared.search.Asked.{Asked}
 use Rattle.explore_text.specs.declared.search.SurveyFault.{SurveyFault}
 use Rattle.explore_text.specs.declared.search.SurveyFault.TheVariants as survey

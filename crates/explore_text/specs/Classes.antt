@@ -1,9 +1,9 @@
--- What is told of the outcomes that a search finds.
+-- What the text says of the outcomes that a search finds.
 use Rattle.std.specs.Prelude.{⊤, ℕ, List, [], ◌∷◌}
 use Rattle.explore.specs.Explored.{ClassView}
 use Rattle.tree_model.specs.State.{State}
-use Rattle.explore_text.specs.declared.survey.Told.{Told}
-use Rattle.explore_text.specs.Telling.{IsToldOf}
+use Rattle.survey_text.specs.declared.survey.Told.{Told}
+use Rattle.survey_text.specs.Telling.{IsToldOf}
 
 abbrev pub IsTold : List ℕ → State → ℕ → ClassView → Told → Type 0
 IsTold named opening actors class told =

@@ -6,8 +6,8 @@ use Rattle.scripts.specs.declared.fault.ScriptFault.{ScriptFault}
 use Rattle.scripts.specs.declared.turns.TurnOrder.TheVariants.{OfScript}
 use Rattle.scripts.specs.Writing.{tree_of, IsNoRun, IsWritingFaultOf, Wrote}
 use Rattle.scripts.specs.Scenario.{Said, said_for}
-use Rattle.explore_text.specs.declared.script.ExploreFault.{ExploreFault}
-use Rattle.explore_text.specs.declared.script.ExploreFault.TheVariants.{Run, NoSuchActor, NoSuchLine, TooManyStates, TooManyTurns, NotBusy, TooManyCuts}
+use Rattle.survey_text.specs.declared.fault.ExploreFault.{ExploreFault}
+use Rattle.survey_text.specs.declared.fault.ExploreFault.TheVariants.{Run, NoSuchActor, NoSuchLine, TooManyStates, TooManyTurns, NotBusy, TooManyCuts}
 use Rattle.explore_text.specs.declared.search.Asked.{Asked}
 use Rattle.explore_text.specs.declared.search.SurveyFault.{SurveyFault}
 use Rattle.explore_text.specs.declared.search.SurveyFault.TheVariants as survey

@@ -3,18 +3,19 @@ use Rattle.std.specs.Prelude.{⊤, ◌≡◌, ◌<◌, ◌≤◌, ◌^◌, ◌�
 use Rattle.std.specs.Borrow.{Bor}
 use Rattle.std.specs.List.{list_all}
 use Rattle.explore.specs.declared.jobs.Jobs.{Jobs}
-use Rattle.explore_text.specs.declared.options.OptionFault.{OptionFault}
-use Rattle.explore_text.specs.declared.options.OptionFault.TheVariants.{Actor, Cuts, Begin, States, Jobs as JobsOption, Text, NoMemory}
-use Rattle.explore_text.specs.declared.options.Options.{Options}
+use Rattle.survey_text.specs.declared.asked.OptionFault.{OptionFault}
+use Rattle.survey_text.specs.declared.asked.OptionFault.TheVariants.{Actor, Cuts, Begin, States, Jobs as JobsOption, Text, NoMemory}
+use Rattle.survey_text.specs.declared.asked.Options.{Options}
 use Rattle.explore_text.specs.declared.options.TheConstants.{CUTS_MAX, STATES_MAX, STATES}
-use Rattle.explore_text.specs.declared.property.Property.{Property}
-use Rattle.explore_text.specs.declared.property.Rule.{Rule}
-use Rattle.explore_text.specs.declared.property.Rule.TheVariants.{Never, Always}
+use Rattle.survey_text.specs.declared.property.Property.{Property}
+use Rattle.survey_text.specs.declared.property.Rule.{Rule}
+use Rattle.survey_text.specs.declared.property.Rule.TheVariants.{Never, Always}
 use Rattle.explore_text.specs.declared.search.Asked.{Asked}
 use Rattle.explore_text.specs.declared.search.TheConstants.{TURNS_MAX}
 use Rattle.scripts.specs.declared.turns.Turns.{Turns}
 use Rattle.scripts.specs.Turns.{SaysTurns, turns_of}
-use Rattle.explore_text.specs.Property.{is_property}
+use Rattle.survey_text.specs.Asked.{texts_in}
+use Rattle.survey_text.specs.Property.{is_property}
 
 -- ---- what texts say
 
@@ -67,10 +68,6 @@ abbrev pub properties_by : Rule → List (List ℕ) → List Property
 properties_by rule texts = map (λ text. record { rule = rule; text = text }) texts
 
 -- ---- what the options say
-
--- the texts of an option that may come more than once
-abbrev pub texts_in : List (Bor (List ℕ)) → List (List ℕ)
-texts_in given = map (λ text. text.now) given
 
 abbrev pub SaysActors : Options → List ℕ → Type 0
 SaysActors options numbers = AllSay (texts_in options.actors.now) numbers

@@ -1,9 +1,9 @@
 -- A part as a line of JSON.
 use Rattle.std.specs.Prelude.{ℕ, List, ◌++◌, Bool, if◌then◌else◌, codes, decimal, Option, Some, None}
 use Rattle.report_text.specs.Report.{numbered}
-use Rattle.explore_text.specs.declared.property.Property.{Property}
+use Rattle.survey_text.specs.declared.property.Property.{Property}
 use Rattle.explore_text.specs.Json.{text_words, comma_words}
-use Rattle.explore_text.specs.Property.{rule_word}
+use Rattle.survey_text.specs.Property.{rule_word}
 
 abbrev pub cuts_words : Option ℕ → List ℕ
 cuts_words None = codes "null"

@@ -1,20 +1,20 @@
 -- The text of what a search of all schedules finds.
-use Rattle.std.specs.Prelude.{⊤, ◌≡◌, ◌≤◌, ℕ, Bool, List, [], length, find, nat_le, Option, Some, None}
+use Rattle.std.specs.Prelude.{⊤, ◌≡◌, ◌≤◌, ℕ, Bool, List, length, find, nat_le, Option, Some, None}
 use Rattle.explore.specs.declared.limits.SearchFault.{SearchFault}
 use Rattle.explore.specs.declared.limits.SearchFault.TheVariants as search
 use Rattle.explore.specs.Promise.{IsMerged}
-use Rattle.explore.specs.Explored.{ClassView, WhyNot}
+use Rattle.explore.specs.Explored.{ClassView, AreStates, WhyNot}
 use Rattle.explore.specs.Opened.{opened_world}
 use Rattle.race_core.specs.declared.plan.ActorPlan.{ActorPlan}
 use Rattle.tree_model.specs.State.{State}
 use Rattle.explore_text.specs.declared.search.Asked.{Asked}
 use Rattle.explore_text.specs.declared.search.SurveyFault.{SurveyFault}
 use Rattle.explore_text.specs.declared.search.SurveyFault.TheVariants.{NoSuchActor, NoSuchLine, TooManyStates, TooManyTurns, NotBusy, TooManyCuts, NoMemory}
-use Rattle.explore_text.specs.declared.survey.Told.{Told}
-use Rattle.explore_text.specs.Order.{in_order}
-use Rattle.explore_text.specs.Survey.{survey_text, all_hold}
+use Rattle.survey_text.specs.declared.survey.Told.{Told}
+use Rattle.survey_text.specs.Order.{in_order}
+use Rattle.survey_text.specs.Survey.{survey_text, all_hold}
 use Rattle.explore_text.specs.Classes.{AreTold}
-use Rattle.explore_text.specs.Tellable.{first_untold}
+use Rattle.survey_text.specs.Tellable.{first_untold}
 
 -- the first of those that are named who isn't there
 abbrev pub first_foreign : Asked → List ActorPlan → Option ℕ
@@ -25,7 +25,7 @@ pub record IsOfThese (asked : Asked) (plans : List ActorPlan) : Type 0 where
   pub actors : first_foreign asked plans ≡ None
   pub properties : first_untold asked.limits.scope.outside plans asked.properties.items ≡ None
 
--- What is told of each outcome makes the text, in the order of their least lists, and says whether no property fails.
+-- What is said of each outcome makes the text, in the order of their least lists, and shows whether no property fails.
 pub record IsTelling (asked : Asked) (tree : State) (plans : List ActorPlan) (classes : List ClassView)
     (lists states turns : ℕ) (holds : Bool) (text : List ℕ) : Type 0 where
   pub all : List Told
@@ -34,7 +34,8 @@ pub record IsTelling (asked : Asked) (tree : State) (plans : List ActorPlan) (cl
   pub judged : holds ≡ all_hold (in_order all) asked.properties.items
 
 -- The text of all that is found of the world of this tree and these plans: the outcomes of all full lists of turns
--- with at most so many cuts that begin with the turns that are asked for. And whether no property fails.
+-- with at most so many cuts that begin with the turns that are asked for, and how many states these lists go through.
+-- And whether no property fails.
 pub record IsSurvey (asked : Asked) (tree : State) (plans : List ActorPlan) (lines : ℕ) (holds : Bool)
     (text : List ℕ) : Type 0 where
   pub of_these : IsOfThese asked plans
@@ -44,6 +45,7 @@ pub record IsSurvey (asked : Asked) (tree : State) (plans : List ActorPlan) (lin
   pub turns : ℕ
   pub explored : IsMerged (opened_world tree plans lines) asked.limits.scope classes lists turns
   pub few : states ≤ asked.limits.states
+  pub counted : AreStates (opened_world tree plans lines) asked.limits.scope states
   pub telling : IsTelling asked tree plans classes lists states turns holds text
 
 -- how it is told that a search finds nothing
@@ -61,8 +63,8 @@ IsUnfound asked tree plans lines fault =
     IsOfThese asked plans × WhyNot (opened_world tree plans lines) asked.limits fault
 
 -- The first of those that are named who isn't there; or else the first property that no report can have a line for;
--- or else the first turn of the beginning that can't be taken; or a list has more turns than are gone through, or it
--- was told that there are more worlds, of which no more is said here; or a growth was refused.
+-- or else the first turn of the beginning that can't be taken; or a list has more turns than are gone through, or there
+-- are more states than that; or a growth was refused.
 abbrev pub WhyNoSurvey : Asked → State → List ActorPlan → ℕ → SurveyFault → Type 0
 WhyNoSurvey asked tree plans lines (NoSuchActor actor) = first_foreign asked plans ≡ Some actor
 WhyNoSurvey asked tree plans lines (NoSuchLine place) =

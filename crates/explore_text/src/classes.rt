@@ -1,15 +1,14 @@
-//! What is told of the outcomes that a search finds.
+//! What the text says of the outcomes that a search finds.
 ghost use Rattle.std.specs.Prelude.{IfOk};
 ghost use Rattle.explore_text.specs.Classes.{IsTold, AreTold};
 
-use crate::survey::Told;
-use crate::telling::{Found, told_of};
 use explore::Class;
 use path_text::NoMemory;
 use std::alloc::Global;
+use survey_text::{Found, Told, told_of};
 use tree_model::{Snapshot, Tree};
 
-// What is told of an outcome.
+// What the text says of an outcome.
 fn tell<T: Tree>(
     alloc: Global,
     named: &[u32],
@@ -30,7 +29,8 @@ fn tell<T: Tree>(
     told_of(alloc, named, opening, actors, &found)
 }
 
-/// What is told of each outcome, where so many actors are there and these are named. NoMemory where room was refused.
+/// What the text says of each outcome, where so many actors are there and these are named. NoMemory where room was
+/// refused.
 pub(crate) fn tell_all<T: Tree>(
     alloc: Global,
     named: &[u32],

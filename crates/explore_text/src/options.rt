@@ -1,16 +1,16 @@
 //! What is asked, by the texts of a command line's options.
 ghost use Rattle.std.specs.Prelude.{◌≡◌, ◌≢◌, ◌≤◌, ◌<◌, ◌++◌, ℕ, true, length, replicate, OnOk, IfOk, MatchOption, MatchResult, decimal};
 ghost use Rattle.scripts.specs.Turns.{turns_of};
-ghost use Rattle.explore_text.specs.declared.options.OptionFault.TheVariants as option_fault;
-ghost use Rattle.explore_text.specs.Options.{texts_in, AllSay, SaysCuts, SaysBegin, IsNoBegin, SaysMost, SaysJobs, IsUnsaid, are_properties, properties_by, AreAsked, IsOptionFault};
+ghost use Rattle.survey_text.specs.declared.asked.OptionFault.TheVariants as option_fault;
+ghost use Rattle.explore_text.specs.Options.{AllSay, SaysCuts, SaysBegin, IsNoBegin, SaysMost, SaysJobs, IsUnsaid, are_properties, properties_by, AreAsked, IsOptionFault};
+ghost use Rattle.survey_text.specs.Asked.{texts_in};
 
-use crate::property::{Property, Rule, read_property};
 use crate::search::{Asked, TURNS_MAX};
 use explore::{JOBS_MAX, Jobs, Limits, Scope};
 use path_text::NoMemory;
 use scripts::{Turns, number_of, read_turns};
 use std::alloc::Global;
-use thiserror::Error;
+use survey_text::{OptionFault, Options, Property, Rule, read_property};
 
 /// The most cuts that may be asked for.
 pub const CUTS_MAX: u32 = 1_000_000;
@@ -20,47 +20,6 @@ pub const STATES_MAX: u32 = 10_000_000;
 
 /// How many worlds are gone through at most where nothing is said.
 pub const STATES: u32 = 100_000;
-
-/// The texts of the options, of each as often as it was given.
-#[derive(Clone, Copy, Debug, Default)]
-pub struct Options<'a> {
-    pub actors: &'a [&'a str],
-    pub cuts: Option<&'a str>,
-    pub begin: Option<&'a str>,
-    pub states: Option<&'a str>,
-    pub jobs: Option<&'a str>,
-    pub outside: bool,
-    pub never: &'a [&'a str],
-    pub always: &'a [&'a str],
-}
-
-/// Which option has a text of another form.
-#[derive(Clone, Copy, Debug, PartialEq, Eq, Error)]
-pub enum OptionFault {
-    #[error("--actor is an actor's number, counted from 0")]
-    Actor,
-    #[error("--cuts is a number up to 1000000")]
-    Cuts,
-    #[error("--begin is I or I*N between commas, I an actor and N 1 to 100000, or - for none; 100000 turns at most")]
-    Begin,
-    #[error("--states is a number from 1 to 10000000")]
-    States,
-    #[error("--jobs is a number from 1 to 64")]
-    Jobs,
-    #[error("--never and --always take a line's beginning: reply, row or held, or outside with --outside, and words after it")]
-    Text,
-    /// Room was refused.
-    #[error("no memory")]
-    NoMemory,
-}
-
-impl From<NoMemory> for OptionFault {
-    ghost from_gives = { λ _ fault. fault ≡ option_fault.NoMemory };
-
-    fn from(_error: NoMemory) -> OptionFault {
-        OptionFault::NoMemory
-    }
-}
 
 // The numbers that texts say, if each says one.
 fn numbers_in(alloc: Global, texts: &[&str]) -> Result<Option<Vec<u32>>, NoMemory>

@@ -1,4 +1,4 @@
-//! What is told of the schedules that begin with some turns: a part of what is told of all.
+//! The outcomes of the schedules that begin with some turns: a part of those of all.
 ghost use Rattle.std.specs.Prelude.{◌≡◌, ◌≤◌, ◌++◌, ◌∷◌, [], false, length, take, OnOk, IfOk, MatchResult};
 ghost use Rattle.race_core.specs.declared.opening.TheConstants.{ACTORS_MAX as MOST_ACTORS};
 ghost use Rattle.explore_text.specs.Part.{IsBarred, HasNone, IsPart};
@@ -6,26 +6,11 @@ ghost use Rattle.explore_text.specs.Surveyed.{WhyNoSurvey};
 ghost use Rattle.explore.specs.Opened.{opened_world};
 
 use crate::search::{Asked, SurveyFault, check, jobs_of, told_by, told_in};
-use crate::survey::Told;
 use explore::{Jobs, Limits, Progress, Scene, Scope, SearchFault, Silent, explore};
 use path_text::NoMemory;
 use std::alloc::Global;
 use std::thread::Threads;
-
-/// What is told of the lists that begin with some turns.
-#[derive(Debug, Drop)]
-pub struct Part {
-    /// The actors of these turns.
-    pub begin: Vec<u32>,
-    /// Of each of them, who might have had it; up to the first that can't be taken.
-    pub might: Vec<Vec<u32>>,
-    /// How many lists there are: none where the turns can't be taken.
-    pub lists: u64,
-    /// How many turns the longest has.
-    pub turns: u64,
-    /// Each outcome.
-    pub all: Vec<Told>,
-}
+use survey_text::Part;
 
 /// Adds one more.
 pub(crate) fn add<T: Drop>(all: &mut Vec<T>, one: T) -> Result<(), NoMemory>
@@ -42,15 +27,6 @@ fn copy_of(alloc: Global, turns: &[u32]) -> Result<Vec<u32>, NoMemory>
     let mut copy = Vec::new(alloc);
     copy.extend_from_slice(turns)?;
     Ok(copy)
-}
-
-/// Equal turns, and one more of that actor.
-pub(crate) fn turns_and(alloc: Global, turns: &[u32], actor: u32) -> Result<Vec<u32>, NoMemory>
-    ensures { IfOk result (λ more. more.items ≡ turns.now ++ actor ∷ []) }
-{
-    let mut more = copy_of(alloc, turns)?;
-    more.push(actor)?;
-    Ok(more)
 }
 
 // Whether a list can begin with these turns: a search that may go through no world only sees to that.
@@ -93,7 +69,8 @@ fn who_might<R: Threads + Sync>(
 {
     let mut might = Vec::new(alloc);
     for actor in 0..scene.plans.len() as u32 {
-        let begin = turns_and(alloc, turns, actor)?;
+        let mut begin = copy_of(alloc, turns)?;
+        add(&mut begin, actor)?;
         if may_begin(alloc, threads, scene, limits, begin)? {
             add(&mut might, actor)?;
         }
@@ -144,8 +121,8 @@ fn no_lists<R: Threads + Sync>(
     })
 }
 
-/// Goes through the lists that begin with the turns that are asked for, and tells of each outcome and of how they
-/// begin. Errors as of `survey_scene`, but that turns which can't be taken make a part of no lists.
+/// Goes through the lists that begin with the turns that are asked for: gives each outcome, and how the lists begin.
+/// Errors as of `survey_scene`, but that turns which can't be taken make a part of no lists.
 pub fn part_of_scene<R: Threads + Sync, P: Progress>(
     alloc: Global,
     threads: &R,

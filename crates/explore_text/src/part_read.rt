@@ -2,14 +2,12 @@
 ghost use Rattle.std.specs.Prelude.{◌≡◌};
 ghost use Rattle.explore_text.specs.declared.part_read.PartFault.TheVariants.{NoMemory as OutOfMemory};
 
-use crate::part::{Part, add};
-use crate::property::{Property, Rule, read_property};
-use crate::schedule::schedule;
-use crate::survey::Told;
+use crate::part::add;
 use path_text::NoMemory;
 use serde_json::Value;
 use std::alloc::{AllocError, Global};
 use step_text::Output;
+use survey_text::{Part, Property, Rule, Told, read_property, schedule_words};
 use thiserror::Error;
 
 /// Why a value is read as no part.
@@ -94,7 +92,7 @@ fn lists(alloc: Global, value: &Value) -> Result<Vec<Vec<u32>>, PartFault> {
 fn told(alloc: Global, value: &Value) -> Result<Told, PartFault> {
     let turns = actors(alloc, under(value, "least")?)?;
     let mut leads = Output::new(alloc);
-    schedule(&mut leads, &turns)?;
+    schedule_words(&mut leads, &turns)?;
     Ok(Told {
         lists: number(value, "schedules")?,
         cuts: number(value, "cuts")?,

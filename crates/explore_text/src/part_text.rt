@@ -4,14 +4,12 @@ ghost use Rattle.step_text.specs.Output.{Gains};
 ghost use Rattle.explore_text.specs.PartText.{cuts_words, flag_words, property_words, properties_words};
 
 use crate::json::{comma, lists, numbers, text};
-use crate::part::Part;
-use crate::property::Property;
 use crate::search::Asked;
-use crate::survey::Told;
 use path_text::NoMemory;
 use report_text::numbered;
 use std::alloc::Global;
 use step_text::Output;
+use survey_text::{Part, Property, Told};
 
 // Adds a bound on cuts, or `null` for none.
 fn cuts(out: &mut Output, cuts: Option<u64>) -> Result<(), NoMemory>

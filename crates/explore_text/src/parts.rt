@@ -1,12 +1,10 @@
 //! Parts written and read: what `inroot explore --part` writes, and what `--merge` reads.
 ghost use Rattle.std.specs.Prelude.{◌≡◌};
 
-use crate::merging::{MergeFault, merge};
-use crate::part::{Part, part_of_scene};
+use crate::part::part_of_scene;
 use crate::part_read::{PartFault, part, properties, question};
 use crate::part_text::part_text;
-use crate::property::Property;
-use crate::script::{ExploreFault, told_by};
+use crate::script::told_by;
 use crate::search::Asked;
 use explore::{Progress, Scene};
 use path_text::NoMemory;
@@ -17,6 +15,7 @@ use std::alloc::Global;
 use std::io::{ErrorKind, Read, Write};
 use std::thread::Threads;
 use step_text::Output;
+use survey_text::{ExploreFault, MergeFault, Part, Property, merge};
 
 /// Reads a script, goes through the schedules that begin with the turns that are asked for, and writes what they come
 /// to as a line of JSON that `merge_parts` reads.

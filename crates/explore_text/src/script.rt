@@ -1,50 +1,17 @@
 //! A script explored: all schedules of its world are gone through, and what they come to is written.
 ghost use Rattle.std.specs.Prelude.{◌≡◌, ◌≢◌, [], IfOk, MatchResult};
 ghost use Rattle.scripts.specs.Scenario.{said_by, IsPlayable};
-ghost use Rattle.explore_text.specs.declared.script.ExploreFault.TheVariants as explore_fault;
+ghost use Rattle.survey_text.specs.declared.fault.ExploreFault.TheVariants as explore_fault;
 ghost use Rattle.explore_text.specs.Explore.{told_by, IsExplore, IsNoSurvey, IsSurveyOf};
 
-use crate::search::{Asked, Survey, SurveyFault, survey_scene};
+use crate::search::{Asked, SurveyFault, survey_scene};
 use explore::{Progress, Scene};
 use scripts::{RunFault, Scenario, TurnOrder, read_scene};
 use std::alloc::Global;
 use std::io::{Read, Write};
 use std::thread::Threads;
-use thiserror::Error;
+use survey_text::{ExploreFault, Survey};
 use tree_list::ListTree;
-
-/// Why there is no answer. Nothing was written before it, but by a writer that failed.
-#[derive(Clone, Copy, Debug, PartialEq, Eq, Error)]
-pub enum ExploreFault {
-    #[error("{0}")]
-    Run(RunFault),
-    /// The first actor that is named and isn't there.
-    #[error("explore: actor {0}")]
-    NoSuchActor(u32),
-    /// The first property that no report can have a line for, by its place, counted from 0.
-    #[error("explore: property {0}")]
-    NoSuchLine(usize),
-    /// There are more worlds than are gone through.
-    #[error("explore: states")]
-    TooManyStates,
-    /// A schedule has more turns than the limit.
-    #[error("explore: turns")]
-    TooManyTurns,
-    /// The turn at that place of the beginning, counted from 0, is of an actor who has nothing left to do then.
-    #[error("explore: begin {0}")]
-    NotBusy(usize),
-    /// With the turn at that place of the beginning, counted from 0, there are more cuts than are asked for.
-    #[error("explore: cuts {0}")]
-    TooManyCuts(usize),
-}
-
-impl From<RunFault> for ExploreFault {
-    ghost from_gives = { λ fault told. told ≡ explore_fault.Run fault };
-
-    fn from(fault: RunFault) -> ExploreFault {
-        ExploreFault::Run(fault)
-    }
-}
 
 /// How it is told that there is no survey.
 pub(crate) fn told_by(fault: SurveyFault) -> ExploreFault

@@ -1,22 +1,16 @@
-//! All schedules of a world gone through, and told.
+//! All schedules of a world gone through, and the text of their outcomes.
 ghost use Rattle.std.specs.Prelude.{◌≡◌, ◌≤◌, length, find, nat_le, IfOk, IfSome, MatchResult};
 ghost use Rattle.race_core.specs.declared.opening.TheConstants.{ACTORS_MAX as MOST_ACTORS};
 ghost use Rattle.explore_text.specs.declared.search.SurveyFault.TheVariants as survey_fault;
 ghost use Rattle.explore_text.specs.Surveyed.{unfound_by, IsOfThese, IsTelling, IsSurvey, WhyNoSurvey};
 ghost use Rattle.explore_text.specs.Classes.{AreTold};
-ghost use Rattle.explore_text.specs.Order.{in_order};
-ghost use Rattle.explore_text.specs.Survey.{survey_text, all_hold};
 
 use crate::classes::tell_all;
-use crate::order::put_all;
-use crate::property::Property;
-use crate::survey::{Told, all_hold, survey_text};
-use crate::tellable::first_untold;
 use explore::{Class, Findings, Jobs, Limits, Progress, Scene, SearchFault, explore};
 use path_text::NoMemory;
 use std::alloc::Global;
 use std::thread::Threads;
-use step_text::Output;
+use survey_text::{Property, Survey, Told, first_untold, told_in_order};
 use thiserror::Error;
 use tree_list::ListTree;
 use tree_model::Tree;
@@ -36,13 +30,6 @@ pub struct Asked {
     pub jobs: Option<Jobs>,
     /// Properties of every report, whatever actors are named.
     pub properties: Vec<Property>,
-}
-
-/// The text of a survey, and whether no property fails.
-#[derive(Debug, Drop)]
-pub struct Survey {
-    pub text: Output,
-    pub holds: bool,
 }
 
 /// Why there is no survey.
@@ -101,7 +88,7 @@ pub(crate) fn jobs_of(asked: Option<Jobs>) -> Jobs
     Jobs::one()
 }
 
-/// What is told of each outcome that was found. NoMemory where room was refused.
+/// What the text says of each outcome that was found. NoMemory where room was refused.
 pub(crate) fn told_in(
     alloc: Global,
     scene: &Scene,
@@ -117,29 +104,7 @@ pub(crate) fn told_in(
     tell_all(alloc, &asked.named, &opening, actors, classes)
 }
 
-/// The text of outcomes in the order of their least lists, as `survey_text` tells them, and whether no property fails.
-/// NoMemory where room was refused.
-pub(crate) fn told_ordered(
-    alloc: Global,
-    lists: u64,
-    states: Option<u64>,
-    longest: u64,
-    ordered: &[Told],
-    properties: &[Property],
-) -> Result<Survey, NoMemory>
-    ensures text { IfOk result (λ survey.
-        survey.text ≡ survey_text lists states longest ordered.now properties.now) }
-    ensures holds { IfOk result (λ survey. survey.holds ≡ all_hold ordered.now properties.now) }
-{
-    let mut text = Output::new(alloc);
-    survey_text(
-        alloc, &mut text, lists, states, longest, ordered, properties,
-    )?;
-    let holds = all_hold(ordered, properties);
-    Ok(Survey { text, holds })
-}
-
-// What is told of what was found.
+// The text of what was found, and whether no property fails.
 fn survey_of(
     alloc: Global,
     scene: &Scene,
@@ -152,16 +117,8 @@ fn survey_of(
         found.turns survey.holds survey.text) }
 {
     let (lists, states, turns) = (found.lists, found.states, found.turns as u64);
-    let mut ordered = Vec::new(alloc);
-    put_all(&mut ordered, told_in(alloc, scene, asked, &found.classes)?)?;
-    told_ordered(
-        alloc,
-        lists,
-        Some(states),
-        turns,
-        &ordered,
-        &asked.properties,
-    )
+    let all = told_in(alloc, scene, asked, &found.classes)?;
+    told_in_order(alloc, lists, Some(states), turns, all, &asked.properties)
 }
 
 /// Whether all who are named are there, and each property names a line that a report can have. Errors: `NoSuchActor`

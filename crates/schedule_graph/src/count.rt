@@ -51,8 +51,9 @@ pub struct Counts {
     pub all: Count,
 }
 
-// Whether the first list isn't after the second, in the order of words.
-fn is_not_after(letters: &[u32], others: &[u32]) -> bool
+/// Whether the first list isn't after the second, in the order of words: the two are equal, or the first ends where the
+/// second goes on, or its letter is less where they first differ.
+pub fn is_not_after(letters: &[u32], others: &[u32]) -> bool
     ensures { result ≡ is_not_after letters.now others.now }
 {
     for (at, letter) in letters.iter().enumerate() {

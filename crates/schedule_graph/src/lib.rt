@@ -10,5 +10,5 @@ mod count;
 mod counting;
 mod graph;
 
-pub use count::{COUNT_CAP, Count, Counts, Least};
+pub use count::{COUNT_CAP, Count, Counts, Least, is_not_after};
 pub use graph::{Graph, Spot, Way};

@@ -13,13 +13,13 @@ use crate::fields::list_in;
 use crate::input::{read_script, value_of};
 use crate::schedule::schedule_for;
 use crate::script::version_of;
-use crate::tree::{indexed, list_of};
+use crate::tree::tree_of;
 use crate::turns::TurnOrder;
 use race_core::ActorPlan;
 use serde_json::Value;
 use std::alloc::Global;
 use std::io::Read;
-use tree_list::ListTree;
+use tree_list::{ListTree, copy_nodes};
 use tree_slab::SlabTree;
 
 /// The most lines of a script's book, and as many as it has where the script doesn't say.
@@ -67,9 +67,9 @@ fn header_of(script: &Value) -> Result<Header, RunFault>
     Ok(Header { version, lines })
 }
 
-/// The plain tree of a script. Errors, in this order: `Tree` where there is no list of entries, `TooManyEntries` past
+/// The tree of a script. Errors, in this order: `Tree` where there is no list of entries, `TooManyEntries` past
 /// `ENTRIES_MAX` of them, `TreeEntry` of the first that is refused; `NoMemory`.
-pub fn plain_tree_of(alloc: Global, script: &Value) -> Result<ListTree, RunFault>
+fn tree_in(alloc: Global, script: &Value) -> Result<SlabTree, RunFault>
     ensures ok { IfOk result (λ tree. (nodes_in (view script.now) ≡ Ok tree.nodes) × (tree.handles ≡ [])) }
     ensures tree { IfOk result IsState }
     ensures err { IfErr result (IsFaultOf (nodes_in (view script.now))) }
@@ -77,7 +77,7 @@ pub fn plain_tree_of(alloc: Global, script: &Value) -> Result<ListTree, RunFault
     let Some(entries) = list_in(script, "tree") else {
         return Err(RunFault::Script(ScriptFault::Tree));
     };
-    list_of(alloc, entries)
+    tree_of(alloc, entries)
 }
 
 /// What a script says, read for this purpose, whose header and tree were read before. Errors: the first check that
@@ -89,12 +89,12 @@ fn scenario_on(
     script: &Value,
     order: &TurnOrder,
     header: Header,
-    list: ListTree,
+    tree: SlabTree,
 ) -> Result<Scenario, RunFault>
     requires head { header_of (view script.now) ≡ Ok header }
-    requires nodes { nodes_in (view script.now) ≡ Ok list.nodes }
-    requires none { list.handles ≡ [] }
-    requires tree { IsState list }
+    requires nodes { nodes_in (view script.now) ≡ Ok tree.nodes }
+    requires none { tree.handles ≡ [] }
+    requires tree { IsState tree }
     ensures said { IfOk result (λ scenario. scenario_of purpose order.now (view script.now) ≡ Ok (said_by scenario)) }
     ensures playable { IfOk result (λ scenario. IsPlayable (said_by scenario)) }
     ensures fit { IfOk result (λ scenario. IsFitFor purpose (said_by scenario)) }
@@ -103,9 +103,7 @@ fn scenario_on(
     ensures tree { IfOk result (λ scenario. IsState scenario.tree) }
     ensures err { IfErr result (IsFaultOf (scenario_of purpose order.now (view script.now))) }
 {
-    let tree = indexed(alloc, &list)?;
-    let (nodes, _no_handles) = list.into_parts();
-    let plans = actors_of(alloc, purpose, &nodes, header.version, script)?;
+    let plans = actors_of(alloc, purpose, tree.nodes(), header.version, script)?;
     let schedule = schedule_for(alloc, plans.len(), order, script)?;
     let lines = header.lines;
     Ok(Scenario {
@@ -133,8 +131,8 @@ pub fn scenario_of(
     ensures err { IfErr result (IsFaultOf (scenario_of purpose order.now (view script.now))) }
 {
     let header = header_of(script)?;
-    let list = plain_tree_of(alloc, script)?;
-    scenario_on(alloc, purpose, script, order, header, list)
+    let tree = tree_in(alloc, script)?;
+    scenario_on(alloc, purpose, script, order, header, tree)
 }
 
 /// The same for actors that take turns, and its tree as a list, too. Errors as of `scenario_of`.
@@ -150,10 +148,10 @@ fn scene_of(
     ensures err { IfErr result (IsFaultOf (scenario_of Turns order.now (view script.now))) }
 {
     let header = header_of(script)?;
-    let list = plain_tree_of(alloc, script)?;
-    let tree = list.copy(alloc)?;
-    let scenario = scenario_on(alloc, Purpose::Turns, script, order, header, list)?;
-    Ok((scenario, tree))
+    let tree = tree_in(alloc, script)?;
+    let list = ListTree::from_nodes(alloc, copy_nodes(alloc, tree.nodes())?);
+    let scenario = scenario_on(alloc, Purpose::Turns, script, order, header, tree)?;
+    Ok((scenario, list))
 }
 
 /// Reads a script to its end, and what it says, for this purpose and with this order of turns. Errors as of

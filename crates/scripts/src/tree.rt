@@ -1,7 +1,8 @@
 //! The tree of a script: its entries, and the indexed tree that they name.
 ghost use Rattle.std.specs.Prelude.{◌≡◌, [], Ok, IfOk, IfErr, option_map, map};
 ghost use Rattle.serde_json.specs.View.{view, items_view};
-ghost use Rattle.tree_model.specs.Trees.{IsTree, IsState};
+ghost use Rattle.tree_model.specs.Trees.{IsState};
+ghost use Rattle.tree_list.specs.Build.{top_alone, with_nodes};
 ghost use Rattle.scripts.specs.declared.fault.RunFault.TheVariants as run_fault;
 ghost use Rattle.scripts.specs.Fault.{IsFaultOf};
 ghost use Rattle.scripts.specs.Tree.{names_of, text_at, has_elements, new_of, entry_of, entries_of, tree_of, told_by};
@@ -10,7 +11,7 @@ use crate::fault::{Cause, RunFault, ScriptFault};
 use path_text::{Bytes, Errno, Names, NoMemory};
 use serde_json::Value;
 use std::alloc::Global;
-use tree_list::{BuildFault, Entry, ListTree, New};
+use tree_list::{BuildFault, Entry, New};
 use tree_slab::SlabTree;
 
 /// The most entries of a script's tree.
@@ -107,9 +108,21 @@ fn told_by(fault: BuildFault) -> RunFault
     }
 }
 
-/// The plain tree with the entries that values say. Errors: `TooManyEntries` past `ENTRIES_MAX` of them, `TreeEntry`
-/// of the first whose shape, place or link text is refused; `NoMemory`.
-pub fn list_of(alloc: Global, values: &[Value]) -> Result<ListTree, RunFault>
+/// The top alone. `NoMemory`.
+fn top_alone(alloc: Global) -> Result<SlabTree, RunFault>
+    ensures ok { IfOk result (λ tree. tree ≡ with_nodes top_alone) }
+    ensures err { IfErr result (λ fault. fault ≡ run_fault.NoMemory) }
+{
+    // the cap is one that is never refused
+    match SlabTree::new(alloc, CAP) {
+        Ok(tree) => Ok(tree),
+        Err(_) => Err(RunFault::NoMemory),
+    }
+}
+
+/// The tree with the entries that values say. Errors: `TooManyEntries` past `ENTRIES_MAX` of them, `TreeEntry` of the
+/// first whose shape, place or link text is refused; `NoMemory`.
+pub fn tree_of(alloc: Global, values: &[Value]) -> Result<SlabTree, RunFault>
     ensures ok { IfOk result (λ tree. (tree_of (items_view values.now) ≡ Ok tree.nodes) × (tree.handles ≡ [])) }
     ensures tree { IfOk result IsState }
     ensures err { IfErr result (IsFaultOf (tree_of (items_view values.now))) }
@@ -119,33 +132,10 @@ pub fn list_of(alloc: Global, values: &[Value]) -> Result<ListTree, RunFault>
     }
     let entries = entries_of(alloc, values)?;
     let shaped = entries.len();
-    match ListTree::from_entries(alloc, &entries) {
-        Ok(tree) if shaped == values.len() => Ok(tree),
-        Ok(_) => Err(RunFault::Script(ScriptFault::TreeEntry(shaped, Cause::Shape))),
+    let mut tree = top_alone(alloc)?;
+    match tree.add_all(alloc, &entries) {
+        Ok(()) if shaped == values.len() => Ok(tree),
+        Ok(()) => Err(RunFault::Script(ScriptFault::TreeEntry(shaped, Cause::Shape))),
         Err(fault) => Err(told_by(fault)),
     }
-}
-
-/// The same tree, with a map of entries for each directory. `NoMemory`.
-pub fn indexed(alloc: Global, list: &ListTree) -> Result<SlabTree, RunFault>
-    requires { IsTree list.now.nodes }
-    ensures ok { IfOk result (λ tree. tree ≡ list.now) }
-    ensures err { IfErr result (λ fault. fault ≡ run_fault.NoMemory) }
-{
-    // the cap is one that is never refused
-    match SlabTree::from_list(alloc, list, CAP) {
-        Ok(tree) => Ok(tree),
-        Err(_) => Err(RunFault::NoMemory),
-    }
-}
-
-/// The tree with the entries that values say, in which they are found by a map for each directory. Errors: those of
-/// `list_of`.
-pub fn tree_of(alloc: Global, values: &[Value]) -> Result<SlabTree, RunFault>
-    ensures ok { IfOk result (λ tree. (tree_of (items_view values.now) ≡ Ok tree.nodes) × (tree.handles ≡ [])) }
-    ensures tree { IfOk result IsState }
-    ensures err { IfErr result (IsFaultOf (tree_of (items_view values.now))) }
-{
-    let list = list_of(alloc, values)?;
-    indexed(alloc, &list)
 }

@@ -1,5 +1,5 @@
-//! Graphs of turns, limits of searches, what they find beside each list gone through by itself, and options read, by
-//! tables. What searches tell are outputs of the program.
+//! Graphs of turns, limits of searches, what they find beside each list gone through by itself, what parts of them make
+//! together, and options read, by tables. What searches tell are outputs of the program.
 #![tactic(auto)]
 
 #[cfg(test)]
@@ -7,8 +7,14 @@ mod graphs;
 #[cfg(test)]
 mod lists;
 #[cfg(test)]
+mod merges;
+#[cfg(test)]
 mod options;
+#[cfg(test)]
+mod parts;
 #[cfg(test)]
 mod scenes;
 #[cfg(test)]
 mod searches;
+#[cfg(test)]
+mod surveys;

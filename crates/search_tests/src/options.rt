@@ -1,7 +1,8 @@
 //! What is asked by the texts of options. Which texts are none are command lines of `explore`.
-use explore_text::{Jobs, OptionFault, Options, Rule, read_asked, replies_have_heads};
+use explore_text::{Jobs, read_asked};
 use std::alloc::Global;
 use std::test::Fail;
+use survey_text::{OptionFault, Options, Rule, replies_have_heads};
 
 const NONE: Options<'static> = Options {
     actors: &[],

@@ -34,6 +34,12 @@ pub const TWO_MAKE: &str = r#"{"version":1,"tree":[["dir","/c"]],"actors":[
 {"root":"/c","calls":[{"op":"step","step":"make_dir","on":"root","name":"n"},
 {"op":"resolve","path":"n","as":"N"},{"op":"release","on":"N"}]}]}"#;
 
+/// Three actors make a directory each, two of them one of the same name.
+pub const THREE_MAKE: &str = r#"{"version":1,"tree":[["dir","/c"]],"actors":[
+{"root":"/c","calls":[{"op":"step","step":"make_dir","on":"root","name":"n"}]},
+{"root":"/c","calls":[{"op":"step","step":"make_dir","on":"root","name":"n"}]},
+{"root":"/c","calls":[{"op":"step","step":"make_dir","on":"root","name":"m"}]}]}"#;
+
 pub fn scene_of(alloc: Global, script: &str) -> Result<Scene, RunFault> {
     let (scenario, tree) = read_scene(alloc, &mut script.as_bytes(), &TurnOrder::OfScript)?;
     Ok(Scene {

@@ -1,5 +1,6 @@
 -- A tree that is built of entries is a tree, and each entry stands in it at its names.
-use Rattle.std.proofs.Common.{◌≡◌, ℕ, zero, suc, List, [], ◌∷◌, not, Some, None, Result, Ok, Err, refl, sym, subst}
+use Rattle.std.proofs.Common.{◌≡◌, ℕ, zero, suc, List, [], ◌∷◌, not, Some, None, Result, Ok, Err, refl, sym, ap, ◌∙◌, subst, arith}
+use Rattle.std.specs.Prelude.{slice_get}
 use Rattle.path_text.specs.declared.errno.Errno.{Errno}
 use Rattle.tree_model.specs.declared.inode.Inode.{Inode}
 use Rattle.tree_model.specs.declared.inode.Object.{Object}
@@ -9,7 +10,7 @@ use Rattle.tree_model.specs.State.{State, TOP, object_at, place_at, child, is_di
 use Rattle.tree_model.specs.Entries.{refuse_by, makes}
 use Rattle.tree_model.specs.Trees.{IsTree, IsState}
 use Rattle.tree_model.proofs.Refusals.{refuse_if-both, with_some-both, refuse_by-both}
-use Rattle.tree_model.proofs.Changed.{Changed, IfDone, Changed-tree, MakeDir-changed, MakeFile-changed, MakeLink-changed}
+use Rattle.tree_model.proofs.Changed.{Changed, Grows, Grows-refl, Grows-trans, Changed-grows, IfDone, Changed-tree, MakeDir-changed, MakeFile-changed, MakeLink-changed}
 use Rattle.tree_list.specs.Build.{top_alone, object_of, new_fault, makes_at, adds, with_added, adds_all, built, with_nodes, IsBuilt}
 use Rattle.tree_list.specs.declared.build.New.{New}
 use Rattle.tree_list.specs.declared.build.New.TheVariants.{Dir, File, Link}
@@ -52,6 +53,22 @@ adds_all-tree k nodes new [] tree e = let same : nodes ≡ new = cc (e) in subst
 adds_all-tree k nodes new (entry ∷ entries) tree e =
     let a = added (adds nodes entry) k (λ mid. adds_all (suc k) mid entries) new e in
     adds_all-tree (suc k) a.0 new entries (adds-tree nodes a.0 entry tree a.1.0) a.1.1
+
+adds_all-grows : (k : ℕ) (nodes new : List Inode) (entries : List Entry) → adds_all k nodes entries ≡ Ok new → Grows nodes new
+adds_all-grows k nodes new [] e = let same : nodes ≡ new = cc (e) in subst (Grows nodes) same (Grows-refl nodes)
+adds_all-grows k nodes new (entry ∷ entries) e =
+    let a = added (adds nodes entry) k (λ mid. adds_all (suc k) mid entries) new e in
+    Grows-trans (Changed-grows (done (Changed nodes) (adds nodes entry) a.0 a.1.0 (adds-changed nodes entry))) (adds_all-grows (suc k) a.0 new entries a.1.1)
+
+-- a tree with more entries and the same handles is one
+pub adds_all_state : (k : ℕ) (old new : State) (entries : List Entry) → adds_all k old.nodes entries ≡ Ok new.nodes → new.handles ≡ old.handles → IsState old → IsState new
+adds_all_state k old new entries e same state = record {
+  tree = adds_all-tree k old.nodes new.nodes entries state.tree e;
+  handles = λ h open_handle is.
+      let old_one = state.handles h open_handle (ap (λ hs. slice_get hs h) (sym same) ∙ is) in
+      let more = (adds_all-grows k old.nodes new.nodes entries e).longer in
+      omega arith;
+}
 
 alone_is_free : (x : ℕ) → place_at top_alone x ≡ None
 alone_is_free zero = refl

@@ -64,10 +64,15 @@ with_nodes nodes = record { nodes = nodes; handles = [] }
 abbrev pub IsBuilt : List Entry → State → Type 0
 IsBuilt entries tree = (built entries ≡ Ok tree.nodes) × (tree.handles ≡ [])
 
--- a fault of building: that of the first entry that is refused, or a want of memory after the entries before it
+-- A fault of adding entries to these nodes: that of the first entry that is refused, or a want of memory after the
+-- entries before it.
+abbrev pub IsFaultFrom : List Inode → List Entry → BuildFault → Type 0
+IsFaultFrom nodes entries fault = (adds_all 0 nodes entries ≡ Err fault)
+    ⊎ ((fault.cause ≡ NoMemory) × (fault.at ≤ length entries) × IsOk (adds_all 0 nodes (take fault.at entries)))
+
+-- a fault of building a tree of these entries
 abbrev pub IsFaultOf : List Entry → BuildFault → Type 0
-IsFaultOf entries fault = (built entries ≡ Err fault)
-    ⊎ ((fault.cause ≡ NoMemory) × (fault.at ≤ length entries) × IsOk (built (take fault.at entries)))
+IsFaultOf = IsFaultFrom top_alone
 
 -- each entry is the node of the number after its place in the list, and stands at its names below the top; there is
 -- no node but these and the top

@@ -1,11 +1,13 @@
-//! Builds a tree of a list of entries.
-ghost use Rattle.std.specs.Prelude.{◌≡◌, ◌∷◌, ◌++◌, [], MatchResult, Ok, IfOk, OnErr};
+//! Adds the entries of a list to nodes, however these are kept, and builds a tree of such a list.
+ghost use Rattle.std.specs.Prelude.{◌≡◌, ◌+◌, length, MatchResult, Ok, IfErr, IfOk, OnOk};
 ghost use Rattle.tree_model.specs.State.{TOP};
-ghost use Rattle.tree_list.specs.Build.{new_fault, object_of, makes_at, adds, built, IsFaultOf};
+ghost use Rattle.tree_model.specs.Trees.{HasPathText};
+ghost use Rattle.tree_list.specs.Build.{new_fault, object_of, makes_at, adds, adds_all, built, IsFaultFrom, IsFaultOf};
 ghost use Rattle.tree_list.specs.Changes.{IsTry};
 
+use crate::growing::GrowingNodes;
 use crate::indexed::IndexedNodes;
-use path_text::{Bytes, Errno, Name, Names, NoMemory, Path};
+use path_text::{Bytes, Errno, Names, NoMemory, Path};
 use std::alloc::Global;
 use thiserror::Error;
 use tree_model::{Inode, Object, Place, top};
@@ -55,38 +57,44 @@ fn object_of(alloc: Global, what: &New) -> Result<Object, NoMemory>
     })
 }
 
-// Makes a node at a name of the directory at the names `way` from the top.
-#[tactic(auto, using(crate::proofs::Building::makes_at_no_directory, crate::proofs::Building::makes_at_missing, crate::proofs::Building::makes_at_enters))]
-fn make_at(
-    nodes: &mut IndexedNodes,
+// Makes a node at the last of these names, below the top.
+fn make_at<N: GrowingNodes>(
+    nodes: &mut N,
     alloc: Global,
-    way: &Names,
-    name: Name,
+    names: &Names,
+    last: usize,
     object: Object,
 ) -> Result<(), Errno>
-    ensures { IsTry nodes.old nodes.new (makes_at nodes.old TOP (way.now ++ name ∷ []) object) result }
+    requires last { length names.now ≡ last + 1 }
+    requires text { HasPathText object }
+    ensures { IsTry (N.inodes nodes.old) (N.inodes nodes.new)
+        (makes_at (N.inodes nodes.old) TOP names.now object) result }
 {
     let mut dir = top();
-    for step in 0..way.len() {
+    for step in 0..last {
         if !nodes.is_dir(dir) {
             return Err(Errno::NotDir);
         }
         let at = Place {
             parent: dir,
-            name: way.to_name(alloc, step)?,
+            name: names.to_name(alloc, step)?,
         };
-        let Some(next) = nodes.child(&at) else {
+        let Some(next) = nodes.node_at(&at) else {
             return Err(Errno::NotFound);
         };
         dir = next;
     }
-    let at = Place { parent: dir, name };
-    nodes.make(alloc, at, object)?
+    let at = Place {
+        parent: dir,
+        name: names.to_name(alloc, last)?,
+    };
+    nodes.grow(alloc, at, object)?
 }
 
 // Adds an entry.
-fn add(nodes: &mut IndexedNodes, alloc: Global, entry: &Entry) -> Result<(), Errno>
-    ensures { IsTry nodes.old nodes.new (adds nodes.old entry.now) result }
+#[tactic(auto, using(crate::proofs::Building::new_has_text))]
+fn add<N: GrowingNodes>(nodes: &mut N, alloc: Global, entry: &Entry) -> Result<(), Errno>
+    ensures { IsTry (N.inodes nodes.old) (N.inodes nodes.new) (adds (N.inodes nodes.old) entry.now) result }
 {
     if let Some(fault) = new_fault(&entry.what) {
         return Err(fault);
@@ -94,15 +102,34 @@ fn add(nodes: &mut IndexedNodes, alloc: Global, entry: &Entry) -> Result<(), Err
     let Some(last) = entry.at.len().checked_sub(1) else {
         return Err(Errno::Exists);
     };
-    let name = entry.at.to_name(alloc, last)?;
-    let mut way = entry.at.copy(alloc)?;
-    way.pop();
     let object = object_of(alloc, &entry.what)?;
-    make_at(nodes, alloc, &way, name, object)
+    make_at(nodes, alloc, &entry.at, last, object)
+}
+
+/// Adds these entries to the nodes, each at its names below the top, in the order of the list: entry k is the node of
+/// the k-th number that isn't given yet.
+///
+/// The fault has the place of the first entry that is refused, and its error, as of `ListTree::from_entries`. The
+/// entries before it were added.
+#[tactic(auto, using(crate::proofs::Building::adds_all_more, crate::proofs::Building::adds_all_refused, crate::proofs::Building::adds_all_take_more))]
+pub fn add_all<N: GrowingNodes>(
+    nodes: &mut N,
+    alloc: Global,
+    entries: &[Entry],
+) -> Result<(), BuildFault>
+    ensures ok { OnOk result (adds_all 0 (N.inodes nodes.old) entries.now ≡ Ok (N.inodes nodes.new)) }
+    ensures err { IfErr result (IsFaultFrom (N.inodes nodes.old) entries.now) }
+{
+    for (at, entry) in entries.iter().enumerate() {
+        match add(nodes, alloc, entry) {
+            Ok(()) => {}
+            Err(cause) => return Err(BuildFault { at, cause }),
+        }
+    }
+    Ok(())
 }
 
 /// The nodes of the tree with these entries, or the first that is refused, and why.
-#[tactic(auto, using(crate::proofs::Building::adds_all_more, crate::proofs::Building::adds_all_refused, crate::proofs::Building::adds_all_take_more))]
 pub(crate) fn build(alloc: Global, entries: &[Entry]) -> Result<Vec<Inode>, BuildFault>
     ensures { MatchResult result (λ nodes. built entries.now ≡ Ok nodes.items) (λ fault. IsFaultOf entries.now fault) }
 {
@@ -110,11 +137,6 @@ pub(crate) fn build(alloc: Global, entries: &[Entry]) -> Result<Vec<Inode>, Buil
         at: 0,
         cause: Errno::NoMemory,
     })?;
-    for (at, entry) in entries.iter().enumerate() {
-        match add(&mut nodes, alloc, entry) {
-            Ok(()) => {}
-            Err(cause) => return Err(BuildFault { at, cause }),
-        }
-    }
+    add_all(&mut nodes, alloc, entries)?;
     Ok(nodes.into_nodes())
 }

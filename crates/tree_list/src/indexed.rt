@@ -1,11 +1,9 @@
 //! The nodes of a tree that is being built, with an index of their entries, by which a name is found without a
 //! scan of the nodes.
 ghost use Rattle.std.specs.Prelude.{◌≡◌, IfOk};
-ghost use Rattle.tree_model.specs.State.{child, is_dir};
-ghost use Rattle.tree_model.specs.Entries.{makes};
 ghost use Rattle.tree_list.specs.Build.{top_alone};
-ghost use Rattle.tree_list.specs.Changes.{IsGrowth};
 
+use crate::growing::GrowingNodes;
 use path_text::{Errno, NoMemory};
 use std::alloc::Global;
 use std::collections::BTreeMap;
@@ -46,36 +44,38 @@ impl IndexedNodes {
         Ok(IndexedNodes { nodes, index })
     }
 
-    /// Whether a node is a directory.
-    pub(crate) fn is_dir(&self, x: Node) -> bool
-        ensures { result ≡ is_dir self.now x }
+    /// The nodes without the index.
+    pub(crate) fn into_nodes(self) -> Vec<Inode>
+        ensures { result.items ≡ self }
     {
+        self.nodes
+    }
+}
+
+impl GrowingNodes for IndexedNodes {
+    ghost inodes = { λ nodes. nodes };
+
+    fn is_dir(&self, x: Node) -> bool {
         is_dir(&self.nodes, x)
     }
 
-    /// The node at an entry.
-    pub(crate) fn child(&self, at: &Place) -> Option<Node>
-        ensures { result ≡ child self.now at.now.parent at.now.name }
-    {
+    fn node_at(&self, at: &Place) -> Option<Node> {
         self.index.get(at).copied()
     }
 
-    /// Makes a node at an entry that wasn't there. NoMemory where its room was refused, which changes nothing.
-    pub(crate) fn make(
+    fn grow(
         &mut self,
         alloc: Global,
         at: Place,
         object: Object,
-    ) -> Result<Result<(), Errno>, NoMemory>
-        ensures { IsGrowth self.old self.new (makes self.old at.parent at.name object) result }
-    {
+    ) -> Result<Result<(), Errno>, NoMemory> {
         if !is_dir(&self.nodes, at.parent) {
             return Ok(Err(Errno::NotDir));
         }
         if is_gone(&self.nodes, at.parent) {
             return Ok(Err(Errno::NotFound));
         }
-        if self.child(&at).is_some() {
+        if self.node_at(&at).is_some() {
             return Ok(Err(Errno::Exists));
         }
         if self.nodes.len() >= NUMBERS_MAX {
@@ -91,12 +91,5 @@ impl IndexedNodes {
             place: Some(at),
         });
         Ok(Ok(()))
-    }
-
-    /// The nodes without the index.
-    pub(crate) fn into_nodes(self) -> Vec<Inode>
-        ensures { result.items ≡ self }
-    {
-        self.nodes
     }
 }

@@ -37,10 +37,17 @@ impl ListTree {
         ensures tree { IfOk result IsState }
     {
         let nodes = IndexedNodes::new(alloc)?.into_nodes();
-        Ok(ListTree {
+        Ok(ListTree::from_nodes(alloc, nodes))
+    }
+
+    /// The tree of these nodes, no handle open.
+    pub fn from_nodes(alloc: Global, nodes: Vec<Inode>) -> ListTree
+        ensures { result ≡ with_nodes nodes.items }
+    {
+        ListTree {
             nodes,
             handles: Vec::new(alloc),
-        })
+        }
     }
 
     /// The tree with these entries, each made at its names below the top in the order of the list, so that
@@ -57,10 +64,7 @@ impl ListTree {
         ensures entries { IfOk result (λ tree. IsTreeOf entries.now tree.nodes) }
     {
         let nodes = build(alloc, entries)?;
-        Ok(ListTree {
-            nodes,
-            handles: Vec::new(alloc),
-        })
+        Ok(ListTree::from_nodes(alloc, nodes))
     }
 
     /// An equal tree. NoMemory where its room was refused.

@@ -52,6 +52,13 @@ impl CachedDirectories {
         }
     }
 
+    /// The same by the directory's map alone.
+    pub(crate) fn mapped(&self, dir: Node, name: &Name) -> Option<Node>
+        ensures { result ≡ entry_in self.now dir name.now }
+    {
+        self.maps.find(dir, name)
+    }
+
     /// The same, noted where it was read in a map. A note that finds no memory is passed over. The entries of a small
     /// directory aren't noted, since its map finds them as fast.
     pub(crate) fn find(&mut self, dir: Node, name: &Name) -> Option<Node>

@@ -3,7 +3,8 @@
 //! directories is remembered in front of them.
 //!
 //! It is a `Tree`, exactly as the plain one is. Entries are found, made, removed and renamed in a time that is
-//! logarithmic in the directory, and an actor's open handles are counted.
+//! logarithmic in the directory, and an actor's open handles are counted. `SlabTree::add_all` builds it of a list of
+//! entries.
 #![tactic(auto)]
 
 mod below;

@@ -14,7 +14,7 @@ use dentry_cache::DentryCache;
 use path_text::{Errno, Name, Names, NoMemory};
 use std::alloc::Global;
 use std::marker::Model;
-use tree_list::{is_within, put_at};
+use tree_list::{GrowingNodes, is_within, put_at};
 use tree_model::{Inode, Mode, NUMBERS_MAX, Node, Object, Place, is_dir, is_gone};
 
 /// The nodes of a tree, whose entries are found by maps. Contracts see them as the list of the nodes.
@@ -393,5 +393,27 @@ impl Nodes {
             (Mode::Plain, Some(there)) => Ok(self.replace(&from, to, moved, there)),
             (Mode::Exchange, Some(there)) => Ok(self.exchange(from, to, moved, there)),
         }
+    }
+}
+
+impl GrowingNodes for Nodes {
+    ghost inodes = { λ nodes. nodes };
+
+    fn is_dir(&self, x: Node) -> bool {
+        is_dir(self.as_slice(), x)
+    }
+
+    // While entries are added none is noted.
+    fn node_at(&self, at: &Place) -> Option<Node> {
+        self.directories.mapped(at.parent, &at.name)
+    }
+
+    fn grow(
+        &mut self,
+        alloc: Global,
+        at: Place,
+        object: Object,
+    ) -> Result<Result<(), Errno>, NoMemory> {
+        self.make(alloc, at.parent, &at.name, object)
     }
 }

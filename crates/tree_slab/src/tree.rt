@@ -1,7 +1,7 @@
 //! The tree itself: how it is made, and that it is a `Tree`.
-ghost use Rattle.std.specs.Prelude.{◌≡◌, ℕ, ◌≤◌, IfOk, MatchOption, MatchResult, None, Some, Err};
-ghost use Rattle.tree_model.specs.Trees.{IsTree};
-ghost use Rattle.tree_list.specs.Build.{with_nodes, top_alone};
+ghost use Rattle.std.specs.Prelude.{◌≡◌, ℕ, ◌≤◌, IfErr, IfOk, MatchOption, MatchResult, None, Ok, OnOk, Some, Err};
+ghost use Rattle.tree_model.specs.Trees.{IsState, IsTree};
+ghost use Rattle.tree_list.specs.Build.{adds_all, with_nodes, top_alone, IsFaultFrom};
 ghost use Rattle.dentry_cache.specs.Cache.{cap_fault};
 
 use crate::handles::Handles;
@@ -10,8 +10,8 @@ use dentry_cache::DentryCache;
 use path_text::{Errno, Names, NoMemory};
 use std::alloc::Global;
 use std::marker::Model;
-use tree_list::{ListTree, copy_nodes, directory_at};
-use tree_model::{Actor, Answer, HandleNo, Object, Snapshot, Step, StepOf, Tree};
+use tree_list::{BuildFault, Entry, ListTree, add_all, copy_nodes, directory_at};
+use tree_model::{Actor, Answer, HandleNo, Inode, Object, Snapshot, Step, StepOf, Tree};
 
 /// A tree whose entries are found by an ordered map for each directory that stands, and whose handles are
 /// counted by their actors. Contracts see it as its state.
@@ -62,6 +62,27 @@ impl SlabTree {
             nodes: Nodes::from_vec(alloc, nodes, cache)?,
             handles: Handles::from_vec(alloc, handles)?,
         })
+    }
+
+    /// Adds these entries, each at its names below the top, in the order of the list: entry k is the node of the k-th
+    /// number that isn't given yet. The handles stay as they are.
+    ///
+    /// The fault has the place of the first entry that is refused, and its error, as of `ListTree::from_entries`. The
+    /// entries before it were added.
+    pub fn add_all(&mut self, alloc: Global, entries: &[Entry]) -> Result<(), BuildFault>
+        ensures ok { OnOk result (adds_all 0 self.old.nodes entries.now ≡ Ok self.new.nodes) }
+        ensures state { IsState self.old → OnOk result (IsState self.new) }
+        ensures handles { self.new.handles ≡ self.old.handles }
+        ensures err { IfErr result (IsFaultFrom self.old.nodes entries.now) }
+    {
+        add_all(&mut self.nodes, alloc, entries)
+    }
+
+    /// The nodes by their numbers.
+    pub fn nodes(&self) -> &[Inode]
+        ensures { result.now ≡ self.now.nodes }
+    {
+        self.nodes.as_slice()
     }
 }
 

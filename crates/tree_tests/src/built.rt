@@ -1,9 +1,11 @@
-//! Lists of entries that are refused.
-use fixtures::{entries, names_of};
+//! Trees built of lists of entries, and lists that are refused.
+use fixtures::{base_tree, entries, names_of};
 use path_text::{Bytes, Errno};
 use std::alloc::Global;
 use std::test::Fail;
-use tree_list::{BuildFault, Entry, ListTree, New};
+use tree_list::{BuildFault, Entry, ListTree, New, copy_nodes};
+use tree_model::{Actor, Tree, same_nodes};
+use tree_slab::SlabTree;
 
 /// Two entries, the place of the first that is refused, and why.
 const REFUSED: [(&str, &str, &str, &str, usize, &str); 10] = [
@@ -26,16 +28,23 @@ fn is_refused(fault: Option<BuildFault>, at: usize, cause: &str) -> bool {
     }
 }
 
-fn fault_of(alloc: Global, rows: &[(&str, &str)]) -> Result<Option<BuildFault>, Errno> {
+/// Why the plain tree and the indexed one refuse a list of entries.
+fn faults_of(
+    alloc: Global,
+    rows: &[(&str, &str)],
+) -> Result<(Option<BuildFault>, Option<BuildFault>), Errno> {
     let entries = entries(alloc, rows)?;
-    Ok(ListTree::from_entries(alloc, &entries).err())
+    let plain = ListTree::from_entries(alloc, &entries).err();
+    let mut tree = SlabTree::new(alloc, 4)?;
+    let indexed = tree.add_all(alloc, &entries).err();
+    Ok((plain, indexed))
 }
 
 /// The first row of which something else is refused.
 fn first_other(alloc: Global) -> Result<Option<usize>, Errno> {
     for (row, (first, what, second, other, at, cause)) in REFUSED.iter().enumerate() {
-        let fault = fault_of(alloc, &[(first, what), (second, other)])?;
-        if !is_refused(fault, *at, cause) {
+        let (plain, indexed) = faults_of(alloc, &[(first, what), (second, other)])?;
+        if !is_refused(plain, *at, cause) || !is_refused(indexed, *at, cause) {
             return Ok(Some(row));
         }
     }
@@ -73,5 +82,65 @@ fn is_bounded(alloc: Global) -> Result<bool, Errno> {
 #[test]
 fn bounds_a_links_text(rt: HostRuntime) -> Result<(), Fail> {
     assert!(rt; is_bounded(rt.alloc())?);
+    Ok(())
+}
+
+/// Entries below those of the base tree, of each kind.
+const MORE: [(&str, &str); 4] = [
+    ("/c/a/more", "dir"),
+    ("/c/a/more/deep", "dir"),
+    ("/c/a/more/deep/f", "file"),
+    ("/l", "c/a/more"),
+];
+
+/// Whether the tree with more entries has the nodes of the plain tree that is built of all, and its handle still.
+fn are_added(alloc: Global, tree: &mut SlabTree, built: &ListTree) -> Result<bool, Errno> {
+    let actor = Actor::new(0);
+    tree.grant(alloc, actor, &names_of(alloc, "/c")?)?;
+    let more = entries(alloc, MORE.as_slice())?;
+    if tree.add_all(alloc, &more).is_err() {
+        return Ok(false);
+    }
+    let whole = built.snapshot(alloc)?;
+    Ok(same_nodes(tree.nodes(), whole.nodes()) && tree.held(actor) == 1)
+}
+
+/// The plain tree with the base tree's entries and more.
+fn all_built(alloc: Global) -> Result<Option<ListTree>, Errno> {
+    let mut all = entries(alloc, fixtures::BASE.as_slice())?;
+    for entry in entries(alloc, MORE.as_slice())? {
+        all.push(entry)?;
+    }
+    Ok(ListTree::from_entries(alloc, &all).ok())
+}
+
+fn are_more(alloc: Global) -> Result<bool, Errno> {
+    let Some(built) = all_built(alloc)? else {
+        return Ok(false);
+    };
+    let mut tree = SlabTree::new(alloc, 4)?;
+    let base = entries(alloc, fixtures::BASE.as_slice())?;
+    Ok(tree.add_all(alloc, &base).is_ok() && are_added(alloc, &mut tree, &built)?)
+}
+
+#[test]
+fn entries_are_added_to_a_tree(rt: HostRuntime) -> Result<(), Fail> {
+    assert!(rt; are_more(rt.alloc())?);
+    Ok(())
+}
+
+/// Whether the plain tree of another one's nodes has these, and no handle.
+fn are_its_nodes(alloc: Global) -> Result<bool, Errno> {
+    let mut base = base_tree(alloc)?;
+    base.grant(alloc, Actor::new(0), &names_of(alloc, "/c")?)?;
+    let whole = base.snapshot(alloc)?;
+    let tree = ListTree::from_nodes(alloc, copy_nodes(alloc, whole.nodes())?);
+    let (nodes, handles) = tree.into_parts();
+    Ok(same_nodes(&nodes, whole.nodes()) && handles.is_empty())
+}
+
+#[test]
+fn nodes_make_a_tree(rt: HostRuntime) -> Result<(), Fail> {
+    assert!(rt; are_its_nodes(rt.alloc())?);
     Ok(())
 }

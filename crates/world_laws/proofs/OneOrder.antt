@@ -1,11 +1,9 @@
 -- Lists of turns are in one order: of two different ones just one is at most the other.
 use Rattle.std.specs.Prelude.{◌≡◌, ◌<◌, ℕ, List, [], ◌∷◌, Bool, true, refl}
-use Rattle.std.proofs.Common.{◌⊎◌, ◌∙◌, sym, ap, ⊎_elim, arith}
+use Rattle.std.proofs.Common.{⊎_elim, arith}
 use Rattle.std.proofs.lemmas.Bool.{false≢true}
-use Rattle.schedule_graph.specs.Words as words
-use Rattle.schedule_graph.proofs.Ranks.{ranks_chain as words_chain, less_cases}
+use Rattle.schedule_graph.proofs.Ranks.{less_cases}
 use Rattle.explore.specs.Lists.{is_less_or, is_not_after, Rank, is_at_most}
-use Rattle.explore.proofs.Lists.Ranks.{not_after_same}
 
 never_both : (m n : ℕ) → m < n → n < m → ⊥
 never_both m n lt gt = omega arith
@@ -35,15 +33,3 @@ ranks_both a b e f =
     (is_less_or b.changes a.changes (is_not_after b.turns a.turns)) e f in
     let changes = less_both a.changes b.changes (is_not_after a.turns b.turns) (is_not_after b.turns a.turns) cuts.1.0 cuts.1.1 in
     not_after_both a.turns b.turns changes.1.0 changes.1.1
-
--- ---- as the order of words, which is the same
-
-abbrev as_word : Rank → words.Rank
-as_word a = record { cuts = a.cuts; changes = a.changes; turns = a.turns }
-
-at_most_same : (a b : Rank) → words.is_at_most (as_word a) (as_word b) ≡ is_at_most a b
-at_most_same a b = ap (λ (so : Bool). is_less_or a.cuts b.cuts (is_less_or a.changes b.changes so)) (not_after_same a.turns b.turns)
-
-pub ranks_chain : (a b c : Rank) → is_at_most a b ≡ true → is_at_most b c ≡ true → is_at_most a c ≡ true
-ranks_chain a b c e f =
-    sym (at_most_same a c) ∙ words_chain (as_word a) (as_word b) (as_word c) (at_most_same a b ∙ e) (at_most_same b c ∙ f)

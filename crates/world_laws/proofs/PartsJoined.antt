@@ -8,6 +8,7 @@ use Rattle.race_core.specs.Worlds.{WorldView}
 use Rattle.schedule_graph.specs.declared.count.TheConstants.{COUNT_CAP}
 use Rattle.schedule_graph.specs.Counted.{IsAmong, AreSoMany}
 use Rattle.schedule_graph.specs.Counted as counted
+use Rattle.schedule_graph.proofs.Ranks.{ranks_chain}
 use Rattle.explore.specs.declared.limits.Scope.{Scope}
 use Rattle.explore.specs.Lists.{rank}
 use Rattle.explore.specs.Explored.{IsAsked, AgreeIn, EndingView, ClassView, IsEnding, HasClass}
@@ -15,7 +16,7 @@ use Rattle.explore.specs.Promise.{IsMergedClass, IsMerged}
 use Rattle.explore.proofs.Lists.Told.{agree_same, agree_turned, agree_on}
 use Rattle.world_laws.specs.Parts.{PartView, AreParts, classes_of, greatest_by, AreAgreeing, IsJoinedClass, HasOneClass, IsJoined, PartsMakeTheWhole}
 use Rattle.world_laws.proofs.OnceEach.{same_many, among_at, place_of}
-use Rattle.world_laws.proofs.OneOrder.{ranks_both, ranks_chain}
+use Rattle.world_laws.proofs.OneOrder.{ranks_both}
 use Rattle.world_laws.proofs.OneAnswer.{same_ending}
 use Rattle.world_laws.proofs.PickedOnce.{Picked, pick}
 use Rattle.world_laws.proofs.Sums.{some_counted, counted_some}

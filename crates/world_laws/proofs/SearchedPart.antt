@@ -1,5 +1,5 @@
 -- What a search of the lists that begin with some turns tells is the answer for that part.
-use Rattle.std.specs.Prelude.{◌≡◌, ◌++◌, ℕ, List, [], ◌∷◌, Bool, Option, refl}
+use Rattle.std.specs.Prelude.{◌++◌, ℕ, List, [], ◌∷◌, Bool, Option, refl}
 use Rattle.std.proofs.Common.{◌∙◌, inr, sym, ap, subst}
 use Rattle.race_core.specs.Worlds.{WorldView}
 use Rattle.explore.specs.declared.limits.Scope.{Scope}

@@ -5,7 +5,7 @@ use Rattle.explore.specs.declared.limits.Scope.{Scope}
 use Rattle.explore.specs.Explored.{ClassView}
 use Rattle.explore.specs.Promise.{IsMerged}
 
--- The two answers tell of as many lists, of as many turns in the longest, and of the same classes in some order: each
+-- The two answers have as many lists, as many turns in the longest, and the same classes in some order: each
 -- with the same least list, its cuts, its changes and its report, and with as many lists.
 pub record AreOne (classes : List ClassView) (lists turns : ℕ) (others : List ClassView)
     (many long : ℕ) : Type 0 where

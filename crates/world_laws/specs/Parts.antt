@@ -26,7 +26,7 @@ pub record IsPartClass (w : WorldView) (scope : Scope) (begin : List ℕ) (class
       → is_at_most (rank w class.least.turns) (rank w is) ≡ true
   pub lists : AreSoMany (λ is. IsAskedFrom w scope begin is × AgreeIn w scope is class.least.turns) class.lists
 
--- what is told of a part: the turns that its lists begin with, and what a search tells of them
+-- a part as it was searched: the turns that its lists begin with, and what a search finds of them
 pub record PartView : Type 0 where
   pub begin : List ℕ
   pub classes : List ClassView

@@ -16,7 +16,7 @@ use Rattle.tree_model.specs.declared.step.StepOf.{StepOf}
 use Rattle.tree_model.specs.declared.step.StepOf.TheVariants as steps
 use Rattle.handles.specs.Objects.{StandingObject}
 use Rattle.walk_plan.specs.declared.goal.Goal.TheVariants.{Follow, NoFollow}
-use Rattle.step_resolver.specs.Order.{Handle, Turn, found, partial, failed, is_dir_kind, refusal_of}
+use Rattle.step_resolver.specs.Order.{Handle, Turn, found, partial, failed, is_dir_kind}
 use Rattle.step_resolver.specs.Order as walk
 use Rattle.step_resolver.specs.View.{way_from}
 use Rattle.bulk_ops.specs.MakeAllOrder as make

@@ -13,7 +13,7 @@ use Rattle.schedule_graph.specs.Counted.{AreSoMany, IsLeastWord, IsLeast, IsCoun
 use Rattle.schedule_graph.specs.Counted as counted
 use Rattle.schedule_graph.proofs.Summing.{so_many_as}
 use Rattle.explore.specs.declared.limits.Scope.{Scope}
-use Rattle.explore.specs.Lists.{is_less_or, is_at_most, rank}
+use Rattle.explore.specs.Lists.{is_less_or, is_not_after, is_at_most, rank}
 use Rattle.explore.specs.Explored.{IsAsked, AgreeIn, ClassView, HasClass, IsLongest}
 use Rattle.explore.specs.Promise.{IsMergedClass, IsMerged}
 use Rattle.explore.specs.Merged.{Places, IsFit, IsListOf}
@@ -22,9 +22,8 @@ use Rattle.explore.proofs.Lists.Indices.{within_some}
 use Rattle.explore.proofs.Lists.Told.{agree_same, agree_turned, agree_on}
 use Rattle.explore.proofs.Counts.Merged.{list_word, word_list}
 use Rattle.explore.proofs.Layers.Reached.{some_word}
-use Rattle.explore.proofs.Lists.Ranks.{not_after_same}
 
--- ---- the one order and the other
+-- ---- words, and the lists that they are
 
 module _ (w : WorldView) (scope : Scope) (layers : List (Vec Spot)) (found : List ClassView) (at : Places) (fit : IsFit w scope layers found at) (are_found : AreFound w scope found) where
   -- ---- a class's words and its lists
@@ -45,13 +44,13 @@ module _ (w : WorldView) (scope : Scope) (layers : List (Vec Spot)) (found : Lis
       (agree_on w scope list.outcome.least.turns is class.least.turns (agree_turned w scope is list.outcome.least.turns list.agrees) agrees) in
       subst (λ c. IsWordOf layers c is) same word.1
 
-  -- by both orders a word of a class is as far from another
+  -- two words are in the order of their lists
   at_most_same : (is js : List ℕ) (k l : ℕ) → IsWordOf layers k is → IsWordOf layers l js
       → words.is_at_most (words.rank layers is) (words.rank layers js) ≡ is_at_most (rank w is) (rank w js)
   at_most_same is js k l word other =
       let a = listed is k word in
       let b = listed js l other in
-      λ i. is_less_or (a.cuts i) (b.cuts i) (is_less_or (a.changes i) (b.changes i) (not_after_same is js i))
+      λ i. is_less_or (a.cuts i) (b.cuts i) (is_less_or (a.changes i) (b.changes i) (is_not_after is js))
 
   -- ---- counts
 

@@ -68,10 +68,6 @@ plus_moves : (b : Bool) (m n : ℕ) → m + plus b n ≡ plus b m + n
 plus_moves true m n = omega arith
 plus_moves false m n = refl
 
-plus_same : (b : Bool) (n : ℕ) → words.plus b n ≡ plus b n
-plus_same true n = refl
-plus_same false n = refl
-
 -- ---- ways
 
 -- a way by a letter leads from a spot where words go on
@@ -167,12 +163,10 @@ module _ (w : WorldView) (scope : Scope) (layers : List (Vec Spot)) (classes : L
         there = later.there;
         tells = later.tells;
         cuts =
-            ap (λ (way : Option Way). option_map_or (λ (way : Way). words.plus way.cut (words.cuts layers (suc k) way.to is)) way 0) word.1.0
-            ∙ plus_same way.cut (words.cuts layers (suc k) way.to is)
+            ap (λ (way : Option Way). option_map_or (λ (way : Way). plus way.cut (words.cuts layers (suc k) way.to is)) way 0) word.1.0
             ∙ (λ j. plus (cut j) (cuts_then j));
         changes =
-            ap (λ (way : Option Way). option_map_or (λ (way : Way). words.plus way.change (words.changes layers (suc k) way.to is)) way 0) word.1.0
-            ∙ plus_same way.change (words.changes layers (suc k) way.to is)
+            ap (λ (way : Option Way). option_map_or (λ (way : Way). plus way.change (words.changes layers (suc k) way.to is)) way 0) word.1.0
             ∙ (λ j. plus (goes.change j) (changes_then j));
       }
 

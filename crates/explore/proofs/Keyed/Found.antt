@@ -18,12 +18,12 @@ use Rattle.race_core.specs.Worlds.{WorldView, turn}
 use Rattle.explore.specs.declared.keys.Deed.{Deed}
 use Rattle.explore.specs.declared.keys.Key.{Key}
 use Rattle.explore.specs.declared.keys.Own.{Own}
-use Rattle.explore.specs.declared.known_turns.Counts.{Counts}
 use Rattle.explore.specs.declared.memo.Ask.{Ask}
 use Rattle.explore.specs.declared.memo.Entry.{Entry}
+use Rattle.explore.specs.declared.world_counts.Counts.{Counts}
 use Rattle.explore.specs.Alike.{full, after_turns}
 use Rattle.explore.specs.Deeds.{AreCountsIn, AreCompared, IsDeedFrom, IsAskOf, IsRemembered, KnownView, IsSound}
-use Rattle.explore.specs.Keys.{ComponentsView, Grows, IsPartAt, IsKey, IsKeyAfter, SameButParts, AreFew, outside_in, own_after}
+use Rattle.explore.specs.Keys.{ComponentsView, Grows, IsPartAt, IsKey, IsKeyAfter, AreSameKeysButParts, AreFew, outside_in, own_after}
 use Rattle.explore.specs.Layers.{LiveView, IsLed, point_of}
 use Rattle.explore.specs.Local.{AreNumbered}
 use Rattle.explore.specs.Outside.{outside_after, outside_from, outside_of, roots_from}
@@ -128,7 +128,7 @@ few_after n key next i deed lt few after = record {
         let few_still : own.outside ≤ n = few.outside j own (sym (set_other key.own.items i new j ne) ∙ there) in
         omega arith
 
-pub few_again : (n : ℕ) (mid next : Key) → SameButParts mid next → AreFew n mid → AreFew n next
+pub few_again : (n : ℕ) (mid next : Key) → AreSameKeysButParts mid next → AreFew n mid → AreFew n next
 few_again n mid next same few = record {
   events = subst (λ k. k ≤ n) same.events few.events;
   opened = subst (λ k. k ≤ n) same.opened few.opened;
@@ -238,7 +238,7 @@ module _ (old mid : KnownView) (w v : WorldView) (i : ℕ) (deed : Deed) (key ne
   pub sound_whole : (new : KnownView) → Grows mid.components new.components → new ≡ record mid { components = new.components } → IsSound w new
   sound_whole new more same = subst (λ (k : KnownView). IsSound w k) (sym same) (sound_grows more sound_mid)
 
-  pub key_whole : (new : KnownView) (last : Key) → Grows mid.components new.components → SameButParts next last
+  pub key_whole : (new : KnownView) (last : Key) → Grows mid.components new.components → AreSameKeysButParts next last
       → ((j : ℕ) (own : Own) → slice_get last.own.items j ≡ Some own → IsPartAt new.components (turn full v i) j own.part)
       → IsKey new.components w (turn full v i) last
   key_whole new last more same parts =

@@ -13,12 +13,12 @@ use Rattle.race_core.specs.Worlds.{WorldView, turn}
 use Rattle.explore.specs.declared.keys.Deed.{Deed}
 use Rattle.explore.specs.declared.keys.Key.{Key}
 use Rattle.explore.specs.declared.keys.Own.{Own}
-use Rattle.explore.specs.declared.known_turns.Start.{Start}
 use Rattle.explore.specs.declared.memo.Ask.{Ask}
+use Rattle.explore.specs.declared.world_counts.Start.{Start}
 use Rattle.explore.specs.Alike.{full}
 use Rattle.explore.specs.Counting.{bumped}
 use Rattle.explore.specs.Deeds.{HasGrown, IsDeedFrom, IsAskOf, IsRemembered, IsStart}
-use Rattle.explore.specs.Keys.{ComponentsView, AreRows, Grows, IsPartAt, IsKey, IsKeyAfter, SameButParts, outside_in, own_after}
+use Rattle.explore.specs.Keys.{ComponentsView, AreRows, Grows, IsPartAt, IsKey, IsKeyAfter, AreSameKeysButParts, outside_in, own_after}
 use Rattle.explore.specs.Lists.{plus}
 use Rattle.explore.specs.Local.{actor_of, SamePartAt, AreAllGiven, GrownAlike, SameGround, changes_outside}
 use Rattle.explore.specs.Outside.{outside_from, roots_of}
@@ -206,7 +206,7 @@ module _ (c d : ComponentsView) (w v : WorldView) (i : ℕ) (deed : Deed) (key m
       there : i ≢ j → own.outside ≡ 0
       there ne = old.untold untold j own (other_there j own ne e)
 
-  pub found_whole : (next : Key) → SameButParts mid next
+  pub found_whole : (next : Key) → AreSameKeysButParts mid next
       → ((j : ℕ) (own : Own) → slice_get next.own.items j ≡ Some own → IsPartAt d (turn full v i) j own.part) → IsKey d w (turn full v i) next
   found_whole next same parts = record {
     nodes = ap (λ n. slice_get d.lists n) (sym same.nodes ∙ after.nodes) ∙ found.nodes;

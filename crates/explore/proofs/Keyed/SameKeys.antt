@@ -10,7 +10,7 @@ use Rattle.race_core.specs.Worlds.{WorldView, turn}
 use Rattle.explore.specs.declared.keys.Key.{Key}
 use Rattle.explore.specs.declared.keys.Own.{Own}
 use Rattle.explore.specs.Alike.{full}
-use Rattle.explore.specs.Keys.{PartsView, IsPartIn, ComponentsView, AreRows, AreMet, IsPartAt, IsKey, SameKey, SameBare, outside_in}
+use Rattle.explore.specs.Keys.{PartsView, IsPartIn, ComponentsView, AreRows, AreMet, IsPartAt, IsKey, AreSameKeys, AreSameKeysButOutside, outside_in}
 use Rattle.explore.specs.Local.{actor_of, SamePart, SamePartAt, AreGiven, AreAllGiven, AreNumbered, SameParts}
 use Rattle.explore.specs.Same.{IsSame}
 use Rattle.explore.proofs.Alike.PairedLists.{there_is, there_was}
@@ -145,7 +145,7 @@ key_of_same c w u v key is same =
         }
 
 -- a key and one with the same numbers are keys of one world
-pub key_again : (c : ComponentsView) (w v : WorldView) (key other : Key) → SameKey key other → IsKey c w v key → IsKey c w v other
+pub key_again : (c : ComponentsView) (w v : WorldView) (key other : Key) → AreSameKeys key other → IsKey c w v key → IsKey c w v other
 key_again c w v key other same is = record {
   nodes = ap (λ n. slice_get c.lists n) (sym same.nodes) ∙ is.nodes;
   lines = is.lines;
@@ -188,26 +188,26 @@ same_owns (x ∷ xs) (y ∷ ys) long part =
 
 module _ (c : ComponentsView) (w u v : WorldView) (key other : Key) (rows : AreRows c.parts (length w.seats)) (here : IsKey c w u key) (there : IsKey c w v other) where
   -- they are keys of worlds in which each actor has the same part
-  pub bare_parts : SameBare key other → SameParts u v
-  bare_parts bare = record {
-    nodes = same_Some _ _ (sym here.nodes ∙ (ap (slice_get c.lists) bare.nodes ∙ there.nodes));
+  pub same_but_outside_parts : AreSameKeysButOutside key other → SameParts u v
+  same_but_outside_parts are = record {
+    nodes = same_Some _ _ (sym here.nodes ∙ (ap (slice_get c.lists) are.nodes ∙ there.nodes));
     lines = here.lines ∙ sym there.lines;
-    events = let one = here.events in let two = there.events in let e = bare.events in omega arith;
-    numbers = let one = here.numbers in let two = there.numbers in let e = bare.opened in omega arith;
-    open_handles = let one = here.open_handles in let two = there.open_handles in let e = bare.opened in let q = bare.closed in omega arith;
+    events = let one = here.events in let two = there.events in let e = are.events in omega arith;
+    numbers = let one = here.numbers in let two = there.numbers in let e = are.opened in omega arith;
+    open_handles = let one = here.open_handles in let two = there.open_handles in let e = are.opened in let q = are.closed in omega arith;
     seats = here.seats ∙ sym there.seats;
     numbered = here.numbered;
     parts = λ i lt.
         let own = there_is key.own.items i (subst (λ n. i < n) (sym here.many) lt) in
         let its = there_is other.own.items i (subst (λ n. i < n) (here.seats ∙ (sym there.seats ∙ sym there.many)) lt) in
-        let part = same_part key.own.items other.own.items bare.parts i own.0 its.0 own.1 its.1 in
+        let part = same_part key.own.items other.own.items are.parts i own.0 its.0 own.1 its.1 in
         one_part c u v i own.0.part (length w.seats) rows (here.parts i own.0 own.1)
         (subst (λ at. IsPartAt c v i at) (sym part) (there.parts i its.0 its.1));
   }
 
   -- and such worlds have such keys
-  pub parts_bare : AreMet c.lists c.parts → SameParts u v → SameBare key other
-  parts_bare met same = record {
+  pub parts_same_but_outside : AreMet c.lists c.parts → SameParts u v → AreSameKeysButOutside key other
+  parts_same_but_outside met same = record {
     nodes = met.lists_once key.nodes other.nodes _ here.nodes (there.nodes ∙ ap Some (sym same.nodes));
     events = let one = here.events in let two = there.events in let both = same.events in omega arith;
     opened = opened;

@@ -1,21 +1,18 @@
 -- The moves from a layer, and who may have the next turn from its stands.
-use Rattle.std.specs.Prelude.{◌≡◌, ◌<◌, ◌≤◌, ◌+◌, ◌^◌, ◌⊎◌, ◌++◌, ℕ, zero, suc, List, [], ◌∷◌, length, Bool, true, Option, Some, None, slice_get, slice_set, refl}
+use Rattle.std.specs.Prelude.{◌≡◌, ◌<◌, ◌≤◌, ◌+◌, ◌^◌, ◌⊎◌, ◌++◌, ℕ, zero, suc, List, [], ◌∷◌, length, true, Option, Some, None, slice_get, slice_set, refl}
 use Rattle.std.specs.Global.{Vec}
 use Rattle.std.proofs.Common.{inl, inr, ⊎_elim, sym, ap, ◌∙◌, subst, arith}
 use Rattle.std.proofs.lemmas.Bool.{false≢true}
-use Rattle.std.proofs.lemmas.Option.{same_Some, none-some, slice_get_within, slice_get-map}
+use Rattle.std.proofs.lemmas.Option.{same_Some, none-some, slice_get_within}
 use Rattle.tree_model.proofs.Places.{slice_get-last}
 use Rattle.race_core.specs.declared.seat.Seat.{Seat}
-use Rattle.std.specs.Option.{option_map}
-use Rattle.race_core.specs.Worlds.{WorldView, is_busy_in, is_busy_at}
+use Rattle.race_core.specs.Worlds.{is_busy_in, is_busy_at}
 use Rattle.schedule_graph.proofs.Spreading.{get_set}
 use Rattle.explore.specs.declared.limits.Bounds.{Bounds}
-use Rattle.explore.specs.declared.layer.Live.{Live}
 use Rattle.explore.specs.declared.layer.Stand.{Stand}
 use Rattle.explore.specs.declared.marks.Marks.{Marks}
 use Rattle.explore.specs.declared.moves.Move.{Move}
 use Rattle.explore.specs.declared.moves.Choice.{Choice}
-use Rattle.explore.specs.Kept.{live_of, lives_of}
 use Rattle.explore.specs.Layers.{LiveView, LayerView, Keeps, point_at}
 use Rattle.explore.specs.Moves.{IsOf, IsOneOf, IsChoice, IsChosen, AreChoices, AreFirstChoices, IsMoveFrom, AreMoves}
 use Rattle.explore.specs.Points.{Point, AreWithin, MayGo}
@@ -177,11 +174,6 @@ few_up marks n lt within =
     record { cuts = omega (arith, a, lt); changes = omega (arith, b, lt) }
 
 -- ---- one stand of the layer, and its world
-
--- the world of a key in the layer
-pub view_at : (w : WorldView) (told : Bool) (lives : List Live) (m : ℕ) (live : Live) → slice_get lives m ≡ Some live
-    → slice_get (lives_of w told lives) m ≡ Some (live_of w told live)
-view_at w told lives m live there = slice_get-map (live_of w told) lives m ∙ ap (λ (o : Option Live). option_map (live_of w told) o) there
 
 pub set_there : {A : Type 0} (xs : List A) (i : ℕ) (x y : A) → slice_get xs i ≡ Some y → slice_get (slice_set xs i x) i ≡ Some x
 set_there [] i x y e = absurd (none-some y e)

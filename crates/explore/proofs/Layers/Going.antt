@@ -32,7 +32,8 @@ use Rattle.explore.proofs.Lists.Along.{along_world}
 use Rattle.explore.proofs.Lists.Indices.{at_or_below}
 use Rattle.explore.proofs.Lists.SearchLaws.{after_append}
 use Rattle.explore.proofs.Lists.Told.{get_push, actors_stay}
-use Rattle.explore.proofs.Layers.Choosing.{busy_within, view_at}
+use Rattle.explore.proofs.Layers.Choosing.{busy_within}
+use Rattle.explore.proofs.Layers.Kept.{view_at}
 use Rattle.explore.proofs.Layers.WaysGrown.{keeps_on, keeps_push}
 use Rattle.explore.proofs.Wants.Lucky.{goes_full}
 
@@ -41,9 +42,11 @@ use Rattle.explore.proofs.Wants.Lucky.{goes_full}
 module _ (before old c d : ComponentsView) (w : WorldView) (first : Grows before old) (then : Grows c d) where
   pub follows_on : (key next : Key) (i : ℕ) → Follows old c w key i next → Follows before d w key i next
   follows_on key next i follows v is =
-      key_grows {c = c} {d = d} {w = w} {v = turn full v i} {key = next} then (follows v (key_grows {c = before} {d = old} {w = w} {v = v} {key = key} first is))
+      key_grows {c = c} {d = d} {w = w} {v = turn full v i} {key = next} then
+      (follows v (key_grows {c = before} {d = old} {w = w} {v = v} {key = key} first is))
 
-  pub after_on : (live : Live) (stand : Stand) (i : ℕ) (one : Live) → IsAfterTurn old c w live stand i one → IsAfterTurn before d w live stand i one
+  pub after_on : (live : Live) (stand : Stand) (i : ℕ) (one : Live) → IsAfterTurn old c w live stand i one
+      → IsAfterTurn before d w live stand i one
   after_on live stand i one is = record { turns = is.turns; follows = follows_on live.key one.key i is.follows; few = is.few }
 
 -- ---- one move
@@ -51,15 +54,18 @@ module _ (before old c d : ComponentsView) (w : WorldView) (first : Grows before
 -- the key after the turn was put among the next layer's worlds
 module _ (w : WorldView) (live : Live) (stand : Stand) (actor : ℕ) (known new : KnownView) (old next : List Live) (at : ℕ) (key : Key)
     (follows : Follows known.components new.components w live.key actor key) (few : (n : ℕ) → AreFew n live.key → AreFew (n + 1) key)
-    (put : (k : ℕ) (one : Live) → slice_get next k ≡ Some one → (slice_get old k ≡ Some one) ⊎ IsPut key (stand.turns.items ++ actor ∷ []) one) where
-  its_own : (one : Live) → IsPut key (stand.turns.items ++ actor ∷ []) one → IsAfterTurn known.components new.components w live stand actor one
+    (put : (k : ℕ) (one : Live) → slice_get next k ≡ Some one
+    → (slice_get old k ≡ Some one) ⊎ IsPut key (stand.turns.items ++ actor ∷ []) one) where
+  its_own : (one : Live) → IsPut key (stand.turns.items ++ actor ∷ []) one
+      → IsAfterTurn known.components new.components w live stand actor one
   its_own one is = record {
     turns = is.turns_are;
     follows = subst (λ (k : Key). Follows known.components new.components w live.key actor k) (sym is.key_is) follows;
     few = subst (λ (k : Key). (n : ℕ) → AreFew n live.key → AreFew (n + 1) k) (sym is.key_is) few;
   }
 
-  pub is_taken : IsSound w new → Grows known.components new.components → Keeps old next → IsSameAt key next at → IsTaken w live stand actor known new old next at
+  pub is_taken : IsSound w new → Grows known.components new.components → Keeps old next → IsSameAt key next at
+      → IsTaken w live stand actor known new old next at
   is_taken sound grows keeps found = record {
     sound = sound;
     grows = grows;
@@ -71,7 +77,8 @@ module _ (w : WorldView) (live : Live) (stand : Stand) (actor : ℕ) (known new 
   }
 
 -- and the world may be gone on from still
-pub can_still : (w : WorldView) (live : Live) (known new : KnownView) → IsSound w new → Grows known.components new.components → CanGoOn w known live → CanGoOn w new live
+pub can_still : (w : WorldView) (live : Live) (known new : KnownView) → IsSound w new
+    → Grows known.components new.components → CanGoOn w known live → CanGoOn w new live
 can_still w live known new sound grows can = record {
   sound = sound;
   here = key_grows {c = known.components} {d = new.components} {w = w} {v = after_turns w live.turns.items} {key = live.key} grows can.here;
@@ -81,10 +88,13 @@ can_still w live known new sound grows can = record {
 
 -- ---- one move after another
 
-module _ (w : WorldView) (stands : List Stand) (live : Live) (known mid new : KnownView) (old between next : List Live) (moves : List Move) (places : List ℕ)
-    (one : Move) (stand : Stand) (at : ℕ) (are : AreTaken w stands live moves known mid old between places) (is : IsTaken w live stand one.actor mid new between next at)
+module _ (w : WorldView) (stands : List Stand) (live : Live) (known mid new : KnownView)
+    (old between next : List Live) (moves : List Move) (places : List ℕ)
+    (one : Move) (stand : Stand) (at : ℕ) (are : AreTaken w stands live moves known mid old between places)
+    (is : IsTaken w live stand one.actor mid new between next at)
     (there : slice_get stands one.stand ≡ Some stand) where
-  leads_there : (j : ℕ) (m : Move) → slice_get (moves ++ one ∷ []) j ≡ Some m → (k : ℕ) × ((to : Live) × ((slice_get (places ++ at ∷ []) j ≡ Some k)
+  leads_there : (j : ℕ) (m : Move) → slice_get (moves ++ one ∷ []) j ≡ Some m
+      → (k : ℕ) × ((to : Live) × ((slice_get (places ++ at ∷ []) j ≡ Some k)
       × ((slice_get next k ≡ Some to) × Follows known.components new.components w live.key m.actor to.key)))
   leads_there j m here = ⊎_elim
       (λ was. let before = are.leads j m was in (
@@ -95,14 +105,16 @@ module _ (w : WorldView) (stands : List Stand) (live : Live) (known mid new : Kn
             keeps_push places at j before.0 before.1.1.0,
             (
               is.keeps before.0 before.1.0 before.1.1.1.0,
-              follows_on known.components known.components mid.components new.components w (grows_same {c = known.components}) is.grows live.key before.1.0.key m.actor before.1.1.1.1,
+              follows_on known.components known.components mid.components new.components w
+                  (grows_same {c = known.components}) is.grows live.key before.1.0.key m.actor before.1.1.1.1,
             ),
           ),
         ),
       ))
       (λ last.
       let own : Follows known.components new.components w live.key one.actor is.to.key =
-      follows_on known.components mid.components new.components new.components w are.grows (grows_same {c = new.components}) live.key is.to.key one.actor is.follows in (
+      follows_on known.components mid.components new.components new.components w are.grows
+      (grows_same {c = new.components}) live.key is.to.key one.actor is.follows in (
         at,
         (
           is.to,
@@ -117,7 +129,8 @@ module _ (w : WorldView) (stands : List Stand) (live : Live) (known mid new : Kn
       ))
       (get_push moves one j m here)
 
-  born_there : (k : ℕ) (x : Live) → slice_get next k ≡ Some x → (slice_get old k ≡ Some x) ⊎ IsAfterOneOf known.components new.components w stands live (moves ++ one ∷ []) x
+  born_there : (k : ℕ) (x : Live) → slice_get next k ≡ Some x
+      → (slice_get old k ≡ Some x) ⊎ IsAfterOneOf known.components new.components w stands live (moves ++ one ∷ []) x
   born_there k x here = ⊎_elim
       (λ was. ⊎_elim (λ older. inl older)
       (λ of. inr (record {
@@ -126,7 +139,8 @@ module _ (w : WorldView) (stands : List Stand) (live : Live) (known mid new : Kn
         is = keeps_push moves one of.j of.move of.is;
         stand = of.stand;
         there = of.there;
-        after = after_on known.components known.components mid.components new.components w (grows_same {c = known.components}) is.grows live of.stand of.move.actor x of.after;
+        after = after_on known.components known.components mid.components new.components w
+            (grows_same {c = known.components}) is.grows live of.stand of.move.actor x of.after;
       }))
       (are.born k x was))
       (λ own. inr (record {
@@ -135,7 +149,8 @@ module _ (w : WorldView) (stands : List Stand) (live : Live) (known mid new : Kn
         is = slice_get-last moves one;
         stand = stand;
         there = there;
-        after = after_on known.components mid.components new.components new.components w are.grows (grows_same {c = new.components}) live stand one.actor x own;
+        after = after_on known.components mid.components new.components new.components w are.grows
+            (grows_same {c = new.components}) live stand one.actor x own;
       }))
       (is.born k x here)
 
@@ -149,7 +164,8 @@ module _ (w : WorldView) (stands : List Stand) (live : Live) (known mid new : Kn
     born = born_there;
   }
 
-  pub taken_more : (all : List Move) (more : List ℕ) → all ≡ moves ++ one ∷ [] → more ≡ places ++ at ∷ [] → AreTaken w stands live all known new old next more
+  pub taken_more : (all : List Move) (more : List ℕ) → all ≡ moves ++ one ∷ [] → more ≡ places ++ at ∷ []
+      → AreTaken w stands live all known new old next more
   taken_more all more all_are more_are =
       subst (λ (ms : List Move). AreTaken w stands live ms known new old next more) (sym all_are)
       (subst (λ (ps : List ℕ). AreTaken w stands live (moves ++ one ∷ []) known new old next ps) (sym more_are) taken_one)
@@ -157,7 +173,8 @@ module _ (w : WorldView) (stands : List Stand) (live : Live) (known mid new : Kn
 -- ---- what a world comes to
 
 -- one that was gone through, and went on to its end with memory for all, is the one after its turns
-module _ (w : WorldView) (told : Bool) (live : Live) (gone : LiveView) (led : IsLed w gone) (turns : gone.turns ≡ live.turns.items) (told_is : gone.told ≡ told)
+module _ (w : WorldView) (told : Bool) (live : Live) (gone : LiveView) (led : IsLed w gone)
+    (turns : gone.turns ≡ live.turns.items) (told_is : gone.told ≡ told)
     (well : EndsWell gone.world) where
   abbrev here : LiveView
   here = live_of w told live
@@ -177,7 +194,8 @@ module _ (w : WorldView) (told : Bool) (live : Live) (gone : LiveView) (led : Is
     turns = is.turns ∙ turns;
     cuts = is.cuts ∙ ap (λ (m : Marks). m.cuts) marks_is;
     changes = is.changes ∙ ap (λ (m : Marks). m.changes) marks_is;
-    report = subst (λ (v : WorldView). Reports v.book (ledgers_in v.seats) ending.tree ending.events ending.replies ending.kept) world_is is.report;
+    report = subst (λ (v : WorldView). Reports v.book
+        (ledgers_in v.seats) ending.tree ending.events ending.replies ending.kept) world_is is.report;
     outside = is.outside ∙ (ap (λ (t : Bool). outside_of t gone.world) told_is ∙ ap (outside_of told) world_is);
   }
 
@@ -186,34 +204,40 @@ module _ (w : WorldView) (told : Bool) (live : Live) (gone : LiveView) (led : Is
       → ((k : ℕ) (c : ClassView) → slice_get new k ≡ Some c → (slice_get old k ≡ Some c) ⊎ (c.least ≡ ending))
       → (AreApartClasses old → AreApartClasses new) → IsOver here.world → IsToppedBy old new here (Some at)
   topped ending old new at reports keeps found put apart over =
-      let report : IsReportOf here ending = report_here ending over (reports (subst (λ (v : WorldView). IsOver v) (sym world_is) over)) in record {
+      let report : IsReportOf here ending =
+      report_here ending over (reports (subst (λ (v : WorldView). IsOver v) (sym world_is) over)) in record {
         is = record { ending = ending; is = report; class = found.0; there = found.1.0; same = found.1.1 };
         well = λ o. subst (λ (v : WorldView). EndsWell v) world_is well;
         keeps = keeps;
-        found = λ k c there. ⊎_elim (λ was. inl was) (λ own. inr (subst (λ (e : EndingView). IsReportOf here e) (sym own) report)) (put k c there);
+        found = λ k c there. ⊎_elim (λ was. inl was)
+            (λ own. inr (subst (λ (e : EndingView). IsReportOf here e) (sym own) report)) (put k c there);
         apart = apart;
       }
 
 -- ---- what may be gone on from
 
 module _ (g : Course) (m : ℕ) (live : Live) (here : slice_get g.layer.worlds.items m ≡ Some live) where
-  pub can_go_on : (known : KnownView) (next : List Live) (tops : List (Option ℕ)) (places : List (Vec ℕ)) (classes : List ClassView) → AreWent g known next tops places classes
+  pub can_go_on : (known : KnownView) (next : List Live) (tops : List (Option ℕ)) (places : List (Vec ℕ))
+      (classes : List ClassView) → AreWent g known next tops places classes
       → CanGoOn g.w known live
   can_go_on known next tops places classes went =
       let short : g.n + 1 < 2 ^ 40 = g.short in
       let long : length live.turns.items ≡ g.n = g.after.long m live here in record {
         sound = went.sound;
-        here = key_grows {c = g.before} {d = known.components} {w = g.w} {v = after_turns g.w live.turns.items} {key = live.key} went.grows (g.keys m live here);
+        here = key_grows {c = g.before} {d = known.components} {w = g.w} {v = after_turns g.w live.turns.items}
+            {key = live.key} went.grows (g.keys m live here);
         few = (g.n, (omega (arith, short), g.after.few m live here));
         short = omega (arith, short, long);
       }
 
-  module _ (those : Vec Move) (listed : slice_get g.moves m ≡ Some those) (j : ℕ) (one : Move) (is : slice_get those.items j ≡ Some one) where
+  module _ (those : Vec Move) (listed : slice_get g.moves m ≡ Some those) (j : ℕ) (one : Move)
+      (is : slice_get those.items j ≡ Some one) where
     abbrev its_move : IsMoveFrom g.bounds (layer_of g.w g.before.told g.layer) m one
     its_move = g.listed.each m those j one listed is
 
     same_live : its_move.live ≡ live_of g.w g.before.told live
-    same_live = same_Some its_move.live (live_of g.w g.before.told live) (sym its_move.on ∙ view_at g.w g.before.told g.layer.worlds.items m live here)
+    same_live = same_Some its_move.live (live_of g.w g.before.told live)
+        (sym its_move.on ∙ view_at g.w g.before.told g.layer.worlds.items m live here)
 
     pub are_there : (one.actor < length g.w.seats) × (one.stand < length g.layer.stands.items)
     are_there = (
@@ -237,10 +261,12 @@ module _ (g : Course) (m : ℕ) (live : Live) (here : slice_get g.layer.worlds.i
 
 top_on : (old new : List ClassView) (live : LiveView) (top : Option ℕ) → Keeps old new → IsTop old live top → IsTop new live top
 top_on old new live None keeps is = is
-top_on old new live (Some at) keeps is = record { ending = is.ending; is = is.is; class = is.class; there = keeps at is.class is.there; same = is.same }
+top_on old new live (Some at) keeps is =
+    record { ending = is.ending; is = is.is; class = is.class; there = keeps at is.class is.there; same = is.same }
 
 -- one more
-module _ (g : Course) (known new : KnownView) (old next : List Live) (tops more_tops : List (Option ℕ)) (places more_places : List (Vec ℕ)) (classes more : List ClassView)
+module _ (g : Course) (known new : KnownView) (old next : List Live) (tops more_tops : List (Option ℕ))
+    (places more_places : List (Vec ℕ)) (classes more : List ClassView)
     (live : Live) (those : Vec Move) (top : Option ℕ) (row : Vec ℕ) (went : AreWent g known old tops places classes)
     (here : slice_get g.layer.worlds.items (length tops) ≡ Some live) (listed : slice_get g.moves (length tops) ≡ Some those)
     (is_topped : IsToppedBy classes more (live_of g.w g.before.told live) top)
@@ -258,7 +284,8 @@ module _ (g : Course) (known new : KnownView) (old next : List Live) (tops more_
     its_stand = stands_there g n live here those listed of.j of.move of.is of.stand of.there
 
     own_follows : Follows g.before new.components g.w live.key of.move.actor one.key
-    own_follows = follows_on g.before known.components new.components new.components g.w went.grows (grows_same {c = new.components}) live.key one.key of.move.actor of.after.follows
+    own_follows = follows_on g.before known.components new.components new.components g.w went.grows
+        (grows_same {c = new.components}) live.key one.key of.move.actor of.after.follows
 
     own_key : IsKey new.components g.w (after_turns g.w one.turns.items) one.key
     own_key =
@@ -298,10 +325,12 @@ module _ (g : Course) (known new : KnownView) (old next : List Live) (tops more_
     stand = is.stand;
     there = is.there;
     turns = is.turns;
-    follows = follows_on g.before g.before known.components new.components g.w (grows_same {c = g.before}) taken.grows is.live.key one.key is.move.actor is.follows;
+    follows = follows_on g.before g.before known.components new.components g.w
+        (grows_same {c = g.before}) taken.grows is.live.key one.key is.move.actor is.follows;
   }
 
-  leads_more : (m : ℕ) (one : Live) (moves : Vec Move) (at : Vec ℕ) → slice_get g.layer.worlds.items m ≡ Some one → slice_get g.moves m ≡ Some moves → slice_get more_places m ≡ Some at
+  leads_more : (m : ℕ) (one : Live) (moves : Vec Move) (at : Vec ℕ) → slice_get g.layer.worlds.items m ≡ Some one
+      → slice_get g.moves m ≡ Some moves → slice_get more_places m ≡ Some at
       → LeadTo g.before new.components g.w next one moves.items at.items
   leads_more m one moves at there is at_there = ⊎_elim
       (λ was. λ j move it. let before = went.leads m one moves at there is was j move it in (
@@ -312,7 +341,8 @@ module _ (g : Course) (known new : KnownView) (old next : List Live) (tops more_
             before.1.1.0,
             (
               taken.keeps before.0 before.1.0 before.1.1.1.0,
-              follows_on g.before g.before known.components new.components g.w (grows_same {c = g.before}) taken.grows one.key before.1.0.key move.actor before.1.1.1.1,
+              follows_on g.before g.before known.components new.components g.w
+                  (grows_same {c = g.before}) taken.grows one.key before.1.0.key move.actor before.1.1.1.1,
             ),
           ),
         ),
@@ -333,7 +363,8 @@ module _ (g : Course) (known new : KnownView) (old next : List Live) (tops more_
             own.1.1.0,
             (
               own.1.1.1.0,
-              follows_on g.before known.components new.components new.components g.w went.grows (grows_same {c = new.components}) live.key own.1.0.key move.actor own.1.1.1.1,
+              follows_on g.before known.components new.components new.components g.w went.grows
+                  (grows_same {c = new.components}) live.key own.1.0.key move.actor own.1.1.1.1,
             ),
           ),
         ),
@@ -351,24 +382,34 @@ module _ (g : Course) (known new : KnownView) (old next : List Live) (tops more_
         many = omega (arith, long_tops, long_places, many);
         fits = omega (arith, long_tops, inside);
         well = λ m one lt there. ⊎_elim (λ was. went.well m one was there)
-            (λ e. subst (λ (x : Live). IsOver (after_turns g.w x.turns.items) → EndsWell (after_turns g.w x.turns.items)) (same_here m one e there) is_topped.well)
+            (λ e. subst (λ (x : Live). IsOver (after_turns g.w x.turns.items)
+            → EndsWell (after_turns g.w x.turns.items)) (same_here m one e there) is_topped.well)
             (at_or_below m n (omega (arith, lt, long_tops)));
-        are_tops = λ m one t there t_there. ⊎_elim (λ was. top_on classes more (live_of g.w g.before.told one) t is_topped.keeps (went.are_tops m one t there was))
+        are_tops = λ m one t there t_there. ⊎_elim
+            (λ was. top_on classes more (live_of g.w g.before.told one) t is_topped.keeps
+            (went.are_tops m one t there was))
             (λ last. subst (λ (x : Live). IsTop more (live_of g.w g.before.told x) t) (same_here m one last.0 there)
             (subst (λ (o : Option ℕ). IsTop more (live_of g.w g.before.told live) o) (sym last.1) is_topped.is))
             (get_push tops top m t (ap (λ (xs : List (Option ℕ)). slice_get xs m) (sym tops_are) ∙ t_there));
         leads = leads_more;
         keys = λ k one there. ⊎_elim
-            (λ was. key_grows {c = known.components} {d = new.components} {w = g.w} {v = after_turns g.w one.turns.items} {key = one.key} taken.grows (went.keys k one was))
+            (λ was. key_grows {c = known.components} {d = new.components} {w = g.w}
+            {v = after_turns g.w one.turns.items} {key = one.key} taken.grows (went.keys k one was))
             (λ of. own_key k one of) (taken.born k one there);
         after = record {
           long = λ k one there. ⊎_elim (λ was. went.after.long k one was) (λ of. own_long k one of) (taken.born k one there);
-          few = λ k one there. ⊎_elim (λ was. went.after.few k one was) (λ of. of.after.few g.n (g.after.few n live here)) (taken.born k one there);
+          few = λ k one there. ⊎_elim (λ was. went.after.few k one was)
+              (λ of. of.after.few g.n (g.after.few n live here)) (taken.born k one there);
         };
         born = λ k one there. ⊎_elim (λ was. born_on one (went.born k one was)) (λ of. own_born k one of) (taken.born k one there);
         keeps = keeps_on g.found classes more went.keeps is_topped.keeps;
         are_found = λ k c there. ⊎_elim (λ was. went.are_found k c was)
-            (λ is. inr (record { at = n; live = live_of g.w g.before.told live; there = view_at g.w g.before.told g.layer.worlds.items n live here; is = is }))
+            (λ is. inr (record {
+              at = n;
+              live = live_of g.w g.before.told live;
+              there = view_at g.w g.before.told g.layer.worlds.items n live here;
+              is = is;
+            }))
             (is_topped.found k c there);
         apart = λ were. is_topped.apart (went.apart were);
       }
@@ -376,22 +417,28 @@ module _ (g : Course) (known new : KnownView) (old next : List Live) (tops more_
 -- ---- the world that comes next
 
 -- the one with its moves at that place of the course's layer
-module _ (g : Course) (w : WorldView) (known : KnownView) (layer : Layer) (moves : List (Vec Move)) (found : List ClassView) (is : IsCourse g w known layer moves found) where
+module _ (g : Course) (w : WorldView) (known : KnownView) (layer : Layer) (moves : List (Vec Move))
+    (found : List ClassView) (is : IsCourse g w known layer moves found) where
   pub course_many : length moves ≡ length layer.worlds.items
   course_many =
       ap length (sym is.moves_are)
-      ∙ (g.listed.many ∙ (length-map g.layer.worlds.items (live_of g.w g.before.told) ∙ ap (λ (l : Layer). length l.worlds.items) is.layer_is))
+      ∙ (g.listed.many ∙ (length-map g.layer.worlds.items (live_of g.w g.before.told)
+      ∙ ap (λ (l : Layer). length l.worlds.items) is.layer_is))
 
-  module _ (m : ℕ) (live : Live) (those : Vec Move) (here : slice_get layer.worlds.items m ≡ Some live) (listed : slice_get moves m ≡ Some those) where
+  module _ (m : ℕ) (live : Live) (those : Vec Move) (here : slice_get layer.worlds.items m ≡ Some live)
+      (listed : slice_get moves m ≡ Some those) where
     here_too : slice_get g.layer.worlds.items m ≡ Some live
     here_too = ap (λ (l : Layer). slice_get l.worlds.items m) is.layer_is ∙ here
 
     listed_too : slice_get g.moves m ≡ Some those
     listed_too = ap (λ (ms : List (Vec Move)). slice_get ms m) is.moves_are ∙ listed
 
-    pub course_can : (now : KnownView) (next : List Live) (tops : List (Option ℕ)) (places : List (Vec ℕ)) (classes : List ClassView) → AreWent g now next tops places classes
+    pub course_can : (now : KnownView) (next : List Live) (tops : List (Option ℕ)) (places : List (Vec ℕ))
+        (classes : List ClassView) → AreWent g now next tops places classes
         → CanGoOn w now live
-    course_can now next tops places classes went = subst (λ (u : WorldView). CanGoOn u now live) is.w_is (can_go_on g m live here_too now next tops places classes went)
+    course_can now next tops places classes went =
+        subst (λ (u : WorldView). CanGoOn u now live) is.w_is
+        (can_go_on g m live here_too now next tops places classes went)
 
     pub course_there : AreThere w layer.stands.items those.items
     course_there =

@@ -27,6 +27,7 @@ live_at w told [] m view there = absurd (none-some view there)
 live_at w told (live ∷ lives) zero view there = (live, (refl, sym (same_Some (live_of w told live) view there)))
 live_at w told (live ∷ lives) (suc m) view there = live_at w told lives m view there
 
+-- and each key's world is at its place
 pub view_at : (w : WorldView) (told : Bool) (lives : List Live) (m : ℕ) (live : Live) → slice_get lives m ≡ Some live
     → slice_get (lives_of w told lives) m ≡ Some (live_of w told live)
 view_at w told [] m live there = absurd (none-some live there)

@@ -10,17 +10,17 @@ use Rattle.explore.specs.declared.keys.Key.{Key}
 use Rattle.explore.specs.declared.keys.Own.{Own}
 use Rattle.explore.specs.declared.layer.Live.{Live}
 use Rattle.explore.specs.Fingerprint.{mixed}
-use Rattle.explore.specs.Keys.{SameKey, SameBare, print_of}
+use Rattle.explore.specs.Keys.{AreSameKeys, AreSameKeysButOutside, print_of}
 use Rattle.explore.specs.Layers.{Keeps}
-use Rattle.explore.specs.Marked.{IsSameAt, IsBareAt, IsNew, AreMarked, AreMerged, AreLookedUp, IsPut, prints_of}
+use Rattle.explore.specs.Marked.{IsSameAt, IsSameAtButOutside, IsNew, AreMarked, AreMerged, AreLookedUp, IsPut, prints_of}
 use Rattle.explore.proofs.Layers.WaysGrown.{keeps_push}
 use Rattle.explore.proofs.Lists.Chains.{IsAlong, gone_along}
 use Rattle.explore.proofs.Lists.Told.{get_push, get_left, get_last}
 
 -- ---- whoever has the key has its number
 
-pub bare : (key other : Key) → SameKey key other → SameBare key other
-bare key other is = record {
+pub same_but_outside : (key other : Key) → AreSameKeys key other → AreSameKeysButOutside key other
+same_but_outside key other is = record {
   nodes = is.nodes;
   events = is.events;
   opened = is.opened;
@@ -28,9 +28,9 @@ bare key other is = record {
   parts = ap (λ (own : List Own). map (λ (o : Own). o.part) own) is.own;
 }
 
-pub bare_print : (key other : Key) → SameBare key other → print_of key ≡ print_of other
+pub same_but_outside_print : (key other : Key) → AreSameKeysButOutside key other → print_of key ≡ print_of other
 unfolding print_of
-bare_print key other is = λ i. mixed 0 (is.nodes i ∷ is.events i ∷ is.opened i ∷ is.closed i ∷ is.parts i)
+same_but_outside_print key other is = λ i. mixed 0 (is.nodes i ∷ is.events i ∷ is.opened i ∷ is.closed i ∷ is.parts i)
 
 print_there : (lives : List Live) (table : List ℕ) (at : ℕ) (live : Live) → table ≡ prints_of lives → slice_get lives at ≡ Some live
     → slice_get table at ≡ Some (print_of live.key)
@@ -39,19 +39,22 @@ print_there lives table at live is there =
     ∙ (slice_get-map (λ (l : Live). print_of l.key) lives at ∙ ap (λ (o : Option Live). option_map (λ (l : Live). print_of l.key) o) there)
 
 module _ (key : Key) (print : ℕ) (lives : List Live) (table : List ℕ) (is : table ≡ prints_of lives) (own : print ≡ print_of key) where
-  bare_at : (at : ℕ) → IsBareAt key lives at → slice_get table at ≡ Some print
-  bare_at at found = print_there lives table at found.0 is found.1.0 ∙ ap Some (sym (bare_print key found.0.key found.1.1) ∙ sym own)
+  same_but_outside_at : (at : ℕ) → IsSameAtButOutside key lives at → slice_get table at ≡ Some print
+  same_but_outside_at at found = print_there lives table at found.0 is found.1.0
+      ∙ ap Some (sym (same_but_outside_print key found.0.key found.1.1) ∙ sym own)
 
   -- none has the key once the chain of its number is gone along
   pub none_same : IsAlong table print (IsSameAt key lives) None → (at : ℕ) → IsSameAt key lives at → ⊥
   none_same along at found =
-      gone_along table print (IsSameAt key lives) along at (bare_at at (found.0, (found.1.0, bare key found.0.key found.1.1))) found
+      gone_along table print (IsSameAt key lives) along at
+      (same_but_outside_at at (found.0, (found.1.0, same_but_outside key found.0.key found.1.1))) found
 
-  pub none_bare : IsAlong table print (IsBareAt key lives) None → IsNew true lives (length lives) key
-  none_bare along at lt found = gone_along table print (IsBareAt key lives) along at (bare_at at found) found
+  pub none_same_but_outside : IsAlong table print (IsSameAtButOutside key lives) None → IsNew true lives (length lives) key
+  none_same_but_outside along at lt found =
+      gone_along table print (IsSameAtButOutside key lives) along at (same_but_outside_at at found) found
 
-pub one_bare : (key : Key) (lives : List Live) (at : ℕ) → IsBareAt key lives at → IsNew false lives (length lives) key
-one_bare key lives at found = (at, (slice_get_within lives at found.0 found.1.0, found))
+pub one_same_but_outside : (key : Key) (lives : List Live) (at : ℕ) → IsSameAtButOutside key lives at → IsNew false lives (length lives) key
+one_same_but_outside key lives at found = (at, (slice_get_within lives at found.0 found.1.0, found))
 
 -- ---- one world at a place
 
@@ -60,7 +63,8 @@ module _ (P : Key → Type 0) (lives : List Live) (at : ℕ) where
   abbrev pub IsKeyAt : Type 0
   IsKeyAt = (other : Live) × ((slice_get lives at ≡ Some other) × P other.key)
 
-  pub key_read : (live : Live) (b : Bool) → at < length lives → live ≡ get_or lives at live → (IsTrue b → P live.key) × (P live.key → IsTrue b)
+  pub key_read : (live : Live) (b : Bool) → at < length lives → live ≡ get_or lives at live
+      → (IsTrue b → P live.key) × (P live.key → IsTrue b)
       → (IsTrue b → IsKeyAt) × (IsKeyAt → IsTrue b)
   key_read live b lt is both =
       let there : slice_get lives at ≡ Some live = slice_get_read lives (length lives) at live refl lt is in (
@@ -84,7 +88,8 @@ states_are lives = is_count_by states (λ (live : Live). live.is_state) refl (λ
 -- from one place on, and from the next
 pub states_from : (lives : List Live) (at : ℕ) (live : Live) → at < length lives → live ≡ get_or lives at live
     → count_by (λ (l : Live). l.is_state) (drop at lives)
-    ≡ cond live.is_state (1 + count_by (λ (l : Live). l.is_state) (drop (at + 1) lives)) (count_by (λ (l : Live). l.is_state) (drop (at + 1) lives))
+    ≡ cond live.is_state (1 + count_by (λ (l : Live). l.is_state) (drop (at + 1) lives))
+    (count_by (λ (l : Live). l.is_state) (drop (at + 1) lives))
 states_from lives at live lt is =
     sym (states_are (drop at lives))
     ∙ (at_drop_more states lives at live lt
@@ -94,20 +99,23 @@ states_from lives at live lt is =
 -- ---- one world more
 
 module _ (lives : List Live) (live : Live) where
-  bare_left : (key : Key) (at : ℕ) → IsBareAt key lives at → IsBareAt key (lives ++ live ∷ []) at
-  bare_left key at found = (found.0, (get_left lives live at found.0 found.1.0, found.1.1))
+  same_but_outside_left : (key : Key) (at : ℕ) → IsSameAtButOutside key lives at → IsSameAtButOutside key (lives ++ live ∷ []) at
+  same_but_outside_left key at found = (found.0, (get_left lives live at found.0 found.1.0, found.1.1))
 
-  bare_was : (key : Key) (n at : ℕ) → at < n → n ≤ length lives → IsBareAt key (lives ++ live ∷ []) at → IsBareAt key lives at
-  bare_was key n at lt le found =
-      ⊎_elim (λ was. (found.0, (was, found.1.1))) (λ last. absurd (omega (arith, lt, le, last.0))) (get_push lives live at found.0 found.1.0)
+  same_but_outside_was : (key : Key) (n at : ℕ) → at < n → n ≤ length lives
+      → IsSameAtButOutside key (lives ++ live ∷ []) at → IsSameAtButOutside key lives at
+  same_but_outside_was key n at lt le found =
+      ⊎_elim (λ was. (found.0, (was, found.1.1))) (λ last. absurd (omega (arith, lt, le, last.0)))
+      (get_push lives live at found.0 found.1.0)
 
   new_stays : (b : Bool) (n : ℕ) (key : Key) → n ≤ length lives → IsNew b lives n key → IsNew b (lives ++ live ∷ []) n key
-  new_stays true n key le is = λ at lt found. is at lt (bare_was key n at lt le found)
-  new_stays false n key le is = (is.0, (is.1.0, bare_left key is.0 is.1.1))
+  new_stays true n key le is = λ at lt found. is at lt (same_but_outside_was key n at lt le found)
+  new_stays false n key le is = (is.0, (is.1.0, same_but_outside_left key is.0 is.1.1))
 
   marked_more : AreMarked lives → IsNew live.is_state lives (length lives) live.key → AreMarked (lives ++ live ∷ [])
   marked_more marks own k one there =
-      ⊎_elim (λ was. new_stays one.is_state k one.key (below k one was) (marks k one was)) (λ last. here last.0 last.1) (get_push lives live k one there)
+      ⊎_elim (λ was. new_stays one.is_state k one.key (below k one was) (marks k one was))
+      (λ last. here last.0 last.1) (get_push lives live k one there)
     where
       below : (k : ℕ) (one : Live) → slice_get lives k ≡ Some one → k ≤ length lives
       below k one was = let lt : k < length lives = slice_get_within lives k one was in omega (arith, lt)
@@ -120,7 +128,8 @@ module _ (lives : List Live) (live : Live) where
 
   same_was : (key : Key) (n at : ℕ) → at < n → n ≤ length lives → IsSameAt key (lives ++ live ∷ []) at → IsSameAt key lives at
   same_was key n at lt le found =
-      ⊎_elim (λ was. (found.0, (was, found.1.1))) (λ last. absurd (omega (arith, lt, le, last.0))) (get_push lives live at found.0 found.1.0)
+      ⊎_elim (λ was. (found.0, (was, found.1.1))) (λ last. absurd (omega (arith, lt, le, last.0)))
+      (get_push lives live at found.0 found.1.0)
 
   merged_more : AreMerged lives → ((at : ℕ) → IsSameAt live.key lives at → ⊥) → AreMerged (lives ++ live ∷ [])
   merged_more merged none k at one there lt found = ⊎_elim early late (get_push lives live k one there)
@@ -151,7 +160,8 @@ module _ (lives new : List Live) (live : Live) (is : new ≡ lives ++ live ∷ [
   pub put_keeps : Keeps lives new
   put_keeps k x there = ap (λ (xs : List Live). slice_get xs k) is ∙ keeps_push lives live k x there
 
-  pub put_new : (key : Key) (turns : List ℕ) → IsPut key turns live → (k : ℕ) (one : Live) → slice_get new k ≡ Some one → (slice_get lives k ≡ Some one) ⊎ IsPut key turns one
+  pub put_new : (key : Key) (turns : List ℕ) → IsPut key turns live → (k : ℕ) (one : Live)
+      → slice_get new k ≡ Some one → (slice_get lives k ≡ Some one) ⊎ IsPut key turns one
   put_new key turns own k one there =
       ⊎_elim (λ was. inl was) (λ last. inr (subst (λ (l : Live). IsPut key turns l) (sym last.1) own))
       (get_push lives live k one (ap (λ (xs : List Live). slice_get xs k) (sym is) ∙ there))
@@ -161,15 +171,20 @@ module _ (lives new : List Live) (live : Live) (is : new ≡ lives ++ live ∷ [
     live,
     (
       ap (λ (k : ℕ). slice_get new k) here ∙ (ap (λ (xs : List Live). slice_get xs (length lives)) is ∙ get_last lives live),
-      subst (λ (k : Key). SameKey key k) (sym e) (record { nodes = refl; events = refl; opened = refl; closed = refl; own = refl }),
+      subst (λ (k : Key). AreSameKeys key k) (sym e) (record { nodes = refl; events = refl; opened = refl; closed = refl; own = refl }),
     ),
   )
 
 -- the same worlds and the same table
-pub still_looked : (lives new : List Live) (table more : List ℕ) → new ≡ lives → more ≡ table → AreLookedUp lives table → AreLookedUp new more
+pub still_looked : (lives new : List Live) (table more : List ℕ) → new ≡ lives → more ≡ table
+    → AreLookedUp lives table → AreLookedUp new more
 still_looked lives new table more is same up =
     subst (λ (xs : List Live). AreLookedUp xs more) (sym is) (subst (λ (ts : List ℕ). AreLookedUp lives ts) (sym same) up)
 
 -- no world, and nothing in the table
 pub none_looked : AreLookedUp [] []
-none_looked = record { prints = refl; merged = λ k at live there. absurd (none-some live there); marks = λ k live there. absurd (none-some live there) }
+none_looked = record {
+  prints = refl;
+  merged = λ k at live there. absurd (none-some live there);
+  marks = λ k live there. absurd (none-some live there);
+}

@@ -31,7 +31,7 @@ use Rattle.explore.proofs.Alike.PairedLists.{there_was}
 use Rattle.explore.proofs.Layers.OnWay.{on_way_of, on_way_front, born_on_way, all_on_way}
 use Rattle.explore.proofs.Layers.SoFar.{none_so_far, only}
 use Rattle.explore.proofs.Lists.Indices.{at_or_below}
-use Rattle.explore.proofs.Keyed.SameKeys.{bare_parts, parts_bare, same_itself}
+use Rattle.explore.proofs.Keyed.SameKeys.{same_but_outside_parts, parts_same_but_outside, same_itself}
 use Rattle.explore.proofs.Layers.Among.{plus_suc}
 
 -- ---- two lists, one after the other
@@ -49,7 +49,8 @@ get_either : {A : Type 0} (xs ys : List A) (k : ℕ) (x : A) → slice_get (xs +
     → (slice_get xs k ≡ Some x) ⊎ ((j : ℕ) × ((k ≡ length xs + j) × (slice_get ys j ≡ Some x)))
 get_either [] ys k x e = inr (k, (omega arith, e))
 get_either (z ∷ zs) ys zero x e = inl e
-get_either (z ∷ zs) ys (suc k) x e = ⊎_elim (λ h. inl h) (λ h. let is = h.1.0 in inr (h.0, (omega (arith, is), h.1.1))) (get_either zs ys k x e)
+get_either (z ∷ zs) ys (suc k) x e = ⊎_elim (λ h. inl h)
+    (λ h. let is = h.1.0 in inr (h.0, (omega (arith, is), h.1.1))) (get_either zs ys k x e)
 
 -- ---- the states of one layer more
 
@@ -57,15 +58,18 @@ abbrev turns_of : List Live → List (List ℕ)
 turns_of lives = map (λ (live : Live). live.turns.items) lives
 
 turns_at : (lives : List Live) (k : ℕ) (live : Live) → slice_get lives k ≡ Some live → slice_get (turns_of lives) k ≡ Some live.turns.items
-turns_at lives k live e = slice_get-map (λ (l : Live). l.turns.items) lives k ∙ ap (λ (o : Option Live). option_map (λ (l : Live). l.turns.items) o) e
+turns_at lives k live e = slice_get-map (λ (l : Live). l.turns.items) lives k
+    ∙ ap (λ (o : Option Live). option_map (λ (l : Live). l.turns.items) o) e
 
-turned_at : (lives : List Live) (k : ℕ) (is : List ℕ) → slice_get (turns_of lives) k ≡ Some is → (live : Live) × ((slice_get lives k ≡ Some live) × (live.turns.items ≡ is))
+turned_at : (lives : List Live) (k : ℕ) (is : List ℕ) → slice_get (turns_of lives) k ≡ Some is
+    → (live : Live) × ((slice_get lives k ≡ Some live) × (live.turns.items ≡ is))
 turned_at [] k is e = absurd (none-some is e)
 turned_at (live ∷ lives) zero is e = (live, (refl, same_Some live.turns.items is e))
 turned_at (live ∷ lives) (suc k) is e = turned_at lives k is e
 
 -- worlds that lists of n + 1 turns lead to, by their keys
-module _ (c : ComponentsView) (w : WorldView) (scope : Scope) (n m states found : ℕ) (lives : List Live) (rows : AreRows c.parts (length w.seats)) (met : AreMet c.lists c.parts)
+module _ (c : ComponentsView) (w : WorldView) (scope : Scope) (n m states found : ℕ) (lives : List Live)
+    (rows : AreRows c.parts (length w.seats)) (met : AreMet c.lists c.parts)
     (keys : HaveKeys c w lives) (long : (k : ℕ) (live : Live) → slice_get lives k ≡ Some live → length live.turns.items ≡ n + 1)
     (on_way : (k : ℕ) (live : Live) → slice_get lives k ≡ Some live → IsOnWay w scope live.turns.items)
     (among : AreStatesAmong lives m states) (so_far : AreStatesUpTo w scope n found) where
@@ -87,7 +91,8 @@ module _ (c : ComponentsView) (w : WorldView) (scope : Scope) (n m states found 
       (λ h. let own = one_at h.0 is h.1.1 in subst (λ (xs : List ℕ). IsOnWay w scope xs) own.1.1.1.1 (on_way own.0 own.1.0 own.1.1.1.0))
       (get_either so_far.lists (turns_of among.chosen) k is e)
 
-  apart_new : (i j : ℕ) (is js : List ℕ) → slice_get (turns_of among.chosen) i ≡ Some is → slice_get (turns_of among.chosen) j ≡ Some js → HaveOneState w is js → i ≡ j
+  apart_new : (i j : ℕ) (is js : List ℕ) → slice_get (turns_of among.chosen) i ≡ Some is
+      → slice_get (turns_of among.chosen) j ≡ Some js → HaveOneState w is js → i ≡ j
   apart_new i j is js e q same =
       let one = one_at i is e in
       let two = one_at j js q in
@@ -95,11 +100,12 @@ module _ (c : ComponentsView) (w : WorldView) (scope : Scope) (n m states found 
       subst (λ (xs : List ℕ). SameParts (after_turns w xs) (after_turns w two.1.0.turns.items)) (sym one.1.1.1.1)
       (subst (λ (xs : List ℕ). SameParts (after_turns w is) (after_turns w xs)) (sym two.1.1.1.1) same.1) in
       among.apart i j one.1.0 two.1.0 one.1.1.0 two.1.1.0
-      (parts_bare c w (after_turns w one.1.0.turns.items) (after_turns w two.1.0.turns.items) one.1.0.key two.1.0.key rows
+      (parts_same_but_outside c w (after_turns w one.1.0.turns.items) (after_turns w two.1.0.turns.items) one.1.0.key two.1.0.key rows
       (keys one.0 one.1.0 one.1.1.1.0) (keys two.0 two.1.0 two.1.1.1.0) met parts)
 
   -- a list of up to n turns, and one of n + 1
-  unlike : (k j : ℕ) (is js : List ℕ) → slice_get so_far.lists k ≡ Some is → slice_get (turns_of among.chosen) j ≡ Some js → length is ≡ length js → ⊥
+  unlike : (k j : ℕ) (is js : List ℕ) → slice_get so_far.lists k ≡ Some is
+      → slice_get (turns_of among.chosen) j ≡ Some js → length is ≡ length js → ⊥
   unlike k j is js e q same =
       let few = so_far.short k is e in
       let many = long_at j js q in
@@ -129,16 +135,20 @@ module _ (c : ComponentsView) (w : WorldView) (scope : Scope) (n m states found 
   pub more_states : (limit : ℕ) → limit < found + states → HasMoreStates w scope limit
   more_states limit more = record { lists = lists; more = subst (λ n. limit < n) (sym lists_many) more; apart = are_apart }
 
-  module _ (whole : m ≡ length lives) (layer : Layer) (worlds_are : layer.worlds.items ≡ lives) (all : AreAllOnWay c w scope (n + 1) layer) where
+  module _ (whole : m ≡ length lives) (layer : Layer) (worlds_are : layer.worlds.items ≡ lives)
+      (all : AreAllOnWay c w scope (n + 1) layer) where
     its_state : (is : List ℕ) → IsOnWay w scope is → length is ≡ n + 1 → HasItsState w lists is
     its_state is on e =
         let stand : HasStand c w scope layer is = all.all is on e in
-        let there : slice_get lives stand.stand.world ≡ Some stand.live = ap (λ (xs : List Live). slice_get xs stand.stand.world) (sym worlds_are) ∙ stand.on in
-        let lt : stand.stand.world < m = subst (λ k. stand.stand.world < k) (sym whole) (there_was lives stand.stand.world stand.live there) in
+        let there : slice_get lives stand.stand.world ≡ Some stand.live =
+        ap (λ (xs : List Live). slice_get xs stand.stand.world) (sym worlds_are) ∙ stand.on in
+        let lt : stand.stand.world < m = subst (λ k. stand.stand.world < k) (sym whole)
+        (there_was lives stand.stand.world stand.live there) in
         let one = among.all stand.stand.world stand.live lt there in
         let from = among.from one.0 one.1.0 one.1.1.0 in
         let its : List ℕ = one.1.0.turns.items in
-        let same = bare_parts c w (after_turns w is) (after_turns w its) stand.live.key one.1.0.key rows stand.key (keys from.0 one.1.0 from.1.1) one.1.1.1 in (
+        let same = same_but_outside_parts c w (after_turns w is)
+        (after_turns w its) stand.live.key one.1.0.key rows stand.key (keys from.0 one.1.0 from.1.1) one.1.1.1 in (
           length so_far.lists + one.0,
           (
             its,
@@ -227,7 +237,8 @@ module _ (w : WorldView) (scope : Scope) where
     first_counted layer first = record { on_way = first_on_way layer first; found = first_states }
 
   -- where nobody stands in the last layer no list is longer
-  pub all_states : (c : ComponentsView) (n states : ℕ) (layer : Layer) → layer.stands.items ≡ [] → IsCounted c w scope n states layer → AreStates w scope states
+  pub all_states : (c : ComponentsView) (n states : ℕ) (layer : Layer) → layer.stands.items ≡ []
+      → IsCounted c w scope n states layer → AreStates w scope states
   all_states c n states layer nobody counted = record {
     lists = so_far.lists;
     many = so_far.many;
@@ -241,7 +252,8 @@ module _ (w : WorldView) (scope : Scope) where
       le_or_more : (k n : ℕ) → (k ≤ n) ⊎ ((d : ℕ) × (k ≡ n + d))
       le_or_more zero n = inl (omega arith)
       le_or_more (suc k) zero = inr (suc k, omega arith)
-      le_or_more (suc k) (suc n) = ⊎_elim (λ le. inl (omega (arith, le))) (λ more. let is = more.1 in inr (more.0, omega (arith, is))) (le_or_more k n)
+      le_or_more (suc k) (suc n) = ⊎_elim (λ le. inl (omega (arith, le)))
+          (λ more. let is = more.1 in inr (more.0, omega (arith, is))) (le_or_more k n)
 
       by : (is : List ℕ) → IsOnWay w scope is → (length is ≤ n) ⊎ ((d : ℕ) × (length is ≡ n + d)) → HasItsState w so_far.lists is
       by is on (inl le) = so_far.all is on le
@@ -252,7 +264,8 @@ module _ (w : WorldView) (scope : Scope) where
 
 -- ---- a layer that is gone on from
 
-module _ (g : Course) (scope : Scope) (known : KnownView) (next : List Live) (tops : List (Option ℕ)) (places : List (Vec ℕ)) (classes : List ClassView)
+module _ (g : Course) (scope : Scope) (known : KnownView) (next : List Live) (tops : List (Option ℕ))
+    (places : List (Vec ℕ)) (classes : List ClassView)
     (went : AreWent g known next tops places classes) (bounds_are : g.bounds ≡ bounds_at scope g.n) (states found : ℕ)
     (counted : IsCounted g.before g.w scope g.n found g.layer) (met : AreMet known.components.lists known.components.parts)
     (among : AreStatesAmong next (length next) states) where
@@ -263,8 +276,11 @@ module _ (g : Course) (scope : Scope) (known : KnownView) (next : List Live) (to
       (born_on_way g scope known next tops places classes went bounds_are counted.on_way) among counted.found limit more
 
   -- and once all were met the next layer's are counted
-  pub went_counted : (choices : List (Vec Choice)) → AreAllChoices g.bounds (layer_of g.w g.before.told g.layer) g.moves choices → (all : List (Vec Way)) (after : Layer)
-      → after.worlds.items ≡ next → length tops ≡ length g.layer.worlds.items → AreWaysOfAll g.bounds g.layer.stands.items choices places after.stands.items all
+  pub went_counted : (choices : List (Vec Choice))
+      → AreAllChoices g.bounds (layer_of g.w g.before.told g.layer) g.moves choices
+      → (all : List (Vec Way)) (after : Layer)
+      → after.worlds.items ≡ next → length tops ≡ length g.layer.worlds.items
+      → AreWaysOfAll g.bounds g.layer.stands.items choices places after.stands.items all
       → IsCounted known.components g.w scope (g.n + 1) (found + states) after
   went_counted choices are all after worlds_are whole ways = record { on_way = on_way; found = found_next }
     where
@@ -274,14 +290,19 @@ module _ (g : Course) (scope : Scope) (known : KnownView) (next : List Live) (to
       found_next : AreStatesUpTo g.w scope (g.n + 1) (found + states)
       found_next =
           next_states known.components g.w scope g.n (length next) states found next went.sound.rows met went.keys went.after.long
-          (born_on_way g scope known next tops places classes went bounds_are counted.on_way) among counted.found refl after worlds_are on_way
+          (born_on_way g scope known next tops places classes went bounds_are counted.on_way) among counted.found refl
+          after worlds_are on_way
 
 -- the course is that of what was known, found and listed before
-pub course_more_states : (g : Course) (w : WorldView) (known after : KnownView) (layer : Layer) (moves : List (Vec Move)) (found : List ClassView) (scope : Scope) (next : List Live)
-    (tops : List (Option ℕ)) (places : List (Vec ℕ)) (classes : List ClassView) → IsCourse g w known layer moves found → AreWent g after next tops places classes
-    → g.bounds ≡ bounds_at scope g.n → (states count : ℕ) → IsCounted known.components w scope g.n states layer → AreMet after.components.lists after.components.parts
+pub course_more_states : (g : Course) (w : WorldView) (known after : KnownView) (layer : Layer)
+    (moves : List (Vec Move)) (found : List ClassView) (scope : Scope) (next : List Live)
+    (tops : List (Option ℕ)) (places : List (Vec ℕ)) (classes : List ClassView) → IsCourse g w known layer moves found
+    → AreWent g after next tops places classes
+    → g.bounds ≡ bounds_at scope g.n → (states count : ℕ) → IsCounted known.components w scope g.n states layer
+    → AreMet after.components.lists after.components.parts
     → AreStatesAmong next (length next) count → (limit : ℕ) → limit < states + count → HasMoreStates w scope limit
-course_more_states g w known after layer moves found scope next tops places classes is went bounds_are states count counted met among limit more =
+course_more_states g w known after layer moves found scope next tops places classes is went bounds_are states count
+    counted met among limit more =
     subst (λ (u : WorldView). HasMoreStates u scope limit) is.w_is
     (went_more_states g scope after next tops places classes went bounds_are count states
     (subst (λ (u : WorldView). IsCounted g.before u scope g.n states g.layer) (sym is.w_is)

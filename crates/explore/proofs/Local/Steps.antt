@@ -46,13 +46,16 @@ module _ (a : ℕ) (pairs : Pairs) (s t : State) (part : PartBy a pairs s t) whe
   own_together : (h k : ℕ) → SameNumbers pairs h k → (j l : ℕ) → pairs j l ≡ true → AreApart h k j l
   own_together h k same j l p =
       let equal : (h == j) ≡ (k == l) =
-      unbit (h == j) (k == l) (same (λ x. bit (x == j)) (λ y. bit (y == l)) (λ x y q. ap bit (same_tests x y j l (part.apart x y j l q p)))) in
+      unbit (h == j) (k == l)
+      (same (λ x. bit (x == j)) (λ y. bit (y == l))
+      (λ x y q. ap bit (same_tests x y j l (part.apart x y j l q p)))) in
       ((λ e. eqb-true k l (sym equal ∙ eq-eqb h j e)), (λ e. eqb-true h j (equal ∙ eq-eqb k l e)))
 
 -- ---- what a step comes to in both trees
 
 module _ (a : ℕ) (pairs : Pairs) (s : State) (handles : List (Option OpenHandle)) (part : PartBy a pairs s (other s handles)) where
-  own_both : (x y : StepOf ℕ) → is_full s a ≡ is_full (other s handles) a → Paired pairs x y → AlikeEnds s (other s handles) a pairs (outcome s a x) (outcome (other s handles) a y)
+  own_both : (x y : StepOf ℕ) → is_full s a ≡ is_full (other s handles) a → Paired pairs x y
+      → AlikeEnds s (other s handles) a pairs (outcome s a x) (outcome (other s handles) a y)
   own_both x y same (open' h k n p) =
       on_both pairs s handles a _ _ (own_held a pairs s (other s handles) part h k p) _ _ (λ d.
       if_both pairs s handles a (not (is_dir s.nodes d)) _ refl NotDir _ _
@@ -64,38 +67,49 @@ module _ (a : ℕ) (pairs : Pairs) (s : State) (handles : List (Option OpenHandl
       if_both pairs s handles a (not (is_dir s.nodes d)) _ refl NotDir _ _
       (some_both pairs s handles a (parent s.nodes d) NotFound _ _ (λ c. opens_both pairs s handles a same c)))
   own_both x y same (read' h k p) =
-      on_both pairs s handles a _ _ (own_held a pairs s (other s handles) part h k p) _ _ (λ d. reads_both pairs s handles a (object_at s.nodes d))
+      on_both pairs s handles a _ _ (own_held a pairs s (other s handles) part h k p) _ _
+      (λ d. reads_both pairs s handles a (object_at s.nodes d))
   own_both x y same (below' r q h k p p') =
       on_both pairs s handles a _ _ (own_held a pairs s (other s handles) part r q p) _ _ (λ top.
-      on_both pairs s handles a _ _ (own_held a pairs s (other s handles) part h k p') _ _ (λ d. shows_both pairs s handles a (names_below s.nodes top d)))
+      on_both pairs s handles a _ _ (own_held a pairs s (other s handles) part h k p') _ _
+      (λ d. shows_both pairs s handles a (names_below s.nodes top d)))
   own_both x y same (list' h k p) =
       on_both pairs s handles a _ _ (own_held a pairs s (other s handles) part h k p) _ _ (λ d.
       if_both pairs s handles a (not (is_dir s.nodes d)) _ refl NotDir _ _ (tells (Listed (sorted_names (names_in s.nodes d))) refl))
   own_both x y same (close' h k p) =
-      on_both pairs s handles a _ _ (own_held a pairs s (other s handles) part h k p) _ _ (λ d. closes h k (own_together a pairs s (other s handles) part h k p))
+      on_both pairs s handles a _ _ (own_held a pairs s (other s handles) part h k p) _ _
+      (λ d. closes h k (own_together a pairs s (other s handles) part h k p))
   own_both x y same (make_dir' h k n p) =
-      on_both pairs s handles a _ _ (own_held a pairs s (other s handles) part h k p) _ _ (λ d. changes_both pairs s handles a (makes s.nodes d n object.Dir))
+      on_both pairs s handles a _ _ (own_held a pairs s (other s handles) part h k p) _ _
+      (λ d. changes_both pairs s handles a (makes s.nodes d n object.Dir))
   own_both x y same (make_file' h k n p) =
-      on_both pairs s handles a _ _ (own_held a pairs s (other s handles) part h k p) _ _ (λ d. changes_both pairs s handles a (makes s.nodes d n object.File))
+      on_both pairs s handles a _ _ (own_held a pairs s (other s handles) part h k p) _ _
+      (λ d. changes_both pairs s handles a (makes s.nodes d n object.File))
   own_both x y same (make_link' h k n text p) =
-      on_both pairs s handles a _ _ (own_held a pairs s (other s handles) part h k p) _ _ (λ d. changes_both pairs s handles a (makes_link s.nodes d n text))
+      on_both pairs s handles a _ _ (own_held a pairs s (other s handles) part h k p) _ _
+      (λ d. changes_both pairs s handles a (makes_link s.nodes d n text))
   own_both x y same (remove_file' h k n p) =
-      on_both pairs s handles a _ _ (own_held a pairs s (other s handles) part h k p) _ _ (λ d. changes_both pairs s handles a (removes_file s.nodes d n))
+      on_both pairs s handles a _ _ (own_held a pairs s (other s handles) part h k p) _ _
+      (λ d. changes_both pairs s handles a (removes_file s.nodes d n))
   own_both x y same (remove_dir' h k n p) =
-      on_both pairs s handles a _ _ (own_held a pairs s (other s handles) part h k p) _ _ (λ d. changes_both pairs s handles a (removes_dir s.nodes d n))
+      on_both pairs s handles a _ _ (own_held a pairs s (other s handles) part h k p) _ _
+      (λ d. changes_both pairs s handles a (removes_dir s.nodes d n))
   own_both x y same (rename' h k n j l m mode p p') =
       on_both pairs s handles a _ _ (own_held a pairs s (other s handles) part h k p) _ _ (λ d.
-      on_both pairs s handles a _ _ (own_held a pairs s (other s handles) part j l p') _ _ (λ e. changes_both pairs s handles a (renames s.nodes d n e m mode)))
+      on_both pairs s handles a _ _ (own_held a pairs s (other s handles) part j l p') _ _
+      (λ e. changes_both pairs s handles a (renames s.nodes d n e m mode)))
 
 own_ends : (a : ℕ) (pairs : Pairs) (s t : State) → PartBy a pairs s t → is_full s a ≡ is_full t a → (x y : StepOf ℕ) → Paired pairs x y
     → AlikeEnds s t a pairs (outcome s a x) (outcome t a y)
 own_ends a pairs s t part full x y p = go t.nodes part.nodes part
   where
     go : (nodes : List Inode) → s.nodes ≡ nodes → PartBy a pairs s (record { nodes = nodes; handles = t.handles })
-        → AlikeEnds s (record { nodes = nodes; handles = t.handles }) a pairs (outcome s a x) (outcome (record { nodes = nodes; handles = t.handles }) a y)
+        → AlikeEnds s (record { nodes = nodes; handles = t.handles }) a pairs (outcome s a x)
+        (outcome (record { nodes = nodes; handles = t.handles }) a y)
     go nodes e =
         subst (λ nodes. PartBy a pairs s (record { nodes = nodes; handles = t.handles })
-        → AlikeEnds s (record { nodes = nodes; handles = t.handles }) a pairs (outcome s a x) (outcome (record { nodes = nodes; handles = t.handles }) a y))
+        → AlikeEnds s (record { nodes = nodes; handles = t.handles }) a pairs (outcome s a x)
+        (outcome (record { nodes = nodes; handles = t.handles }) a y))
         e (λ same. own_both a pairs s t.handles same x y full p)
 
 -- ---- a handle more
@@ -157,7 +171,8 @@ apart_new s t h k j l (inl lt) e e' = ((λ q. absurd (omega (arith, lt.0, e, q))
 apart_new s t h k j l (inr one) e e' = ((λ q. sym one.0 ∙ (q ∙ (e ∙ (one.1 ∙ sym e')))), (λ q. one.0 ∙ (q ∙ (e' ∙ (sym one.1 ∙ sym e)))))
 
 own_apart_more : {a : ℕ} {pairs : Pairs} {s t : State} → PartBy a pairs s t → (h k j l : ℕ)
-    → (pairs h k ≡ true) ⊎ ((h ≡ length s.handles) × (k ≡ length t.handles)) → (pairs j l ≡ true) ⊎ ((j ≡ length s.handles) × (l ≡ length t.handles))
+    → (pairs h k ≡ true) ⊎ ((h ≡ length s.handles) × (k ≡ length t.handles))
+    → (pairs j l ≡ true) ⊎ ((j ≡ length s.handles) × (l ≡ length t.handles))
     → AreApart h k j l
 own_apart_more part h k j l (inl p) (inl q) = part.apart h k j l p q
 own_apart_more {s = s} {t = t} part h k j l (inl p) (inr new) = apart_new s t h k j l (part.paired h k p).given new.0 new.1
@@ -222,7 +237,8 @@ none_each : (m' n' m n : ℕ) → m' ≡ m → n' ≡ n → m' + n ≡ n' + m
 none_each m' n' m n e e' = omega arith
 
 after_own_ends : {a : ℕ} {pairs : Pairs} {s t : State} {o u : Outcome} → PartBy a pairs s t → AlikeEnds s t a pairs o u
-    → held_count o.after a ≡ held_count u.after a → open_count o.after + open_count t ≡ open_count u.after + open_count s → AfterOwnStep a pairs s t o u
+    → held_count o.after a ≡ held_count u.after a
+    → open_count o.after + open_count t ≡ open_count u.after + open_count s → AfterOwnStep a pairs s t o u
 after_own_ends {a} {pairs} {s} {t} part (tells answer e) held_handles open_handles = record {
   more = pairs;
   grows = λ h k p. p;
@@ -245,7 +261,8 @@ after_own_ends {a} {pairs} {s} {t} part (opens_on x what) held_handles open_hand
     apart = λ h k j l p q. own_apart_more part h k j l
         (grown_cases pairs (length s.handles) (length t.handles) h k p) (grown_cases pairs (length s.handles) (length t.handles) j l q);
   };
-  answers = λ f g agree. ap (λ h. Opened h x (kind_of what)) (agree (length s.handles) (length t.handles) (grown_new pairs (length s.handles) (length t.handles)));
+  answers = λ f g agree. ap (λ h. Opened h x (kind_of what))
+      (agree (length s.handles) (length t.handles) (grown_new pairs (length s.handles) (length t.handles)));
   numbers = one_each _ _ (length s.handles) (length t.handles) (more_here a x s t) (more_there a x s t);
   open_handles = open_handles;
 }
@@ -279,7 +296,8 @@ after_own_ends {a} {pairs} {s} {t} part (changes_to nodes) held_handles open_han
 }
 
 -- By paired handles a step of the actor comes to the same.
-pub own_steps : (a : ℕ) (pairs : Pairs) (s t : State) → PartBy a pairs s t → is_full s a ≡ is_full t a → (x y : StepOf ℕ) → SameSteps pairs x y
+pub own_steps : (a : ℕ) (pairs : Pairs) (s t : State) → PartBy a pairs s t → is_full s a ≡ is_full t a
+    → (x y : StepOf ℕ) → SameSteps pairs x y
     → AfterOwnStep a pairs s t (outcome s a x) (outcome t a y)
 own_steps a pairs s t part full x y same =
     let ends = own_ends a pairs s t part full x y (paired_of pairs x y same) in

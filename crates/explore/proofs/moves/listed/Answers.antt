@@ -10,7 +10,8 @@ use Rattle.explore.specs.Alike.{after_turns}
 use Rattle.explore.specs.Kept.{live_of, layer_of}
 use Rattle.explore.specs.Layers.{LiveView, Keeps}
 use Rattle.explore.proofs.Lists.Told.{length_set}
-use Rattle.explore.proofs.Layers.Choosing.{view_at, moves_grown, choices_grown}
+use Rattle.explore.proofs.Layers.Choosing.{moves_grown, choices_grown}
+use Rattle.explore.proofs.Layers.Kept.{view_at}
 use Rattle.explore.proofs.moves.listed.Goals as goal
 
 pub loop-at-preserved : goal.loop-at-preserved

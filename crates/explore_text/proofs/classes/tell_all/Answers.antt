@@ -1,7 +1,7 @@
 use Rattle.std.proofs.Common.{◌≡◌, ◌+◌, ◌++◌, ◌∷◌, [], List, sym, ap, ◌∙◌, subst, take}
 use Rattle.std.proofs.lemmas.List.{take_more}
 use Rattle.explore.specs.Explored.{ClassView}
-use Rattle.explore_text.specs.declared.survey.Told.{Told}
+use Rattle.survey_text.specs.declared.survey.Told.{Told}
 use Rattle.explore_text.specs.Classes.{AreTold}
 use Rattle.explore_text.proofs.ToldOnes.{one_told}
 use Rattle.explore_text.proofs.classes.tell_all.Goals as goal

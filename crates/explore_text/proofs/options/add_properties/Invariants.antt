@@ -1,5 +1,6 @@
 use Rattle.std.proofs.Common.{◌≡◌, ◌++◌, drop}
-use Rattle.explore_text.specs.Options.{texts_in, are_properties, properties_by}
+use Rattle.explore_text.specs.Options.{are_properties, properties_by}
+use Rattle.survey_text.specs.Asked.{texts_in}
 use Rattle.explore_text.proofs.options.add_properties.Given as goal
 
 -- those so far are properties, and they and those that are left make the whole

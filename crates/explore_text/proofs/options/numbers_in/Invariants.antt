@@ -1,5 +1,5 @@
 use Rattle.std.proofs.Common.{drop}
-use Rattle.explore_text.specs.Options.{texts_in}
+use Rattle.survey_text.specs.Asked.{texts_in}
 use Rattle.explore_text.proofs.Numbers.{IsSaidSoFar}
 use Rattle.explore_text.proofs.options.numbers_in.Given as goal
 

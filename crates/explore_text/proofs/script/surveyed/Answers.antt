@@ -1,11 +1,9 @@
 use Rattle.std.proofs.Common.{◌≡◌, ◌∙◌}
-use Rattle.tree_model.specs.State.{State}
 use Rattle.scripts.specs.Scenario.{said_by}
 use Rattle.scripts.specs.Writing.{tree_of}
 use Rattle.explore_text.proofs.Unsurveyed.{no_survey}
 use Rattle.explore_text.proofs.script.surveyed.Goals as goal
 
--- src/script.rt:58:1
 pub returns-clause-survey : goal.returns-clause-survey
 returns-clause-survey g c =
     let whole : c.args.scenario.tree ≡ tree_of (said_by c.args.scenario) =

@@ -1,0 +1,12 @@
+pub mod Asked
+pub mod Changes
+pub mod Counts
+pub mod Looks
+pub mod Merge
+pub mod Order
+pub mod Outcome
+pub mod Property
+pub mod Schedule
+pub mod Survey
+pub mod Tellable
+pub mod Telling

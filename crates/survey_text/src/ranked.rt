@@ -1,0 +1,58 @@
+//! Outcomes told in the order of their least lists.
+ghost use Rattle.std.specs.Prelude.{◌≡◌, IfOk};
+ghost use Rattle.survey_text.specs.Order.{in_order};
+ghost use Rattle.survey_text.specs.Survey.{survey_text, all_hold};
+
+use crate::order::put_all;
+use crate::property::Property;
+use crate::survey::{Told, all_hold, survey_text};
+use path_text::NoMemory;
+use std::alloc::Global;
+use step_text::Output;
+
+/// The text of a survey, and whether no property fails.
+#[derive(Debug, Drop)]
+pub struct Survey {
+    pub text: Output,
+    pub holds: bool,
+}
+
+/// The text of these outcomes, in the order of their least lists, as `survey_text` tells them, and whether no property
+/// fails. NoMemory where room was refused.
+pub fn told_in_order(
+    alloc: Global,
+    lists: u64,
+    states: Option<u64>,
+    longest: u64,
+    all: Vec<Told>,
+    properties: &[Property],
+) -> Result<Survey, NoMemory>
+    ensures text { IfOk result (λ survey.
+        survey.text ≡ survey_text lists states longest (in_order all.items) properties.now) }
+    ensures holds { IfOk result (λ survey. survey.holds ≡ all_hold (in_order all.items) properties.now) }
+{
+    let mut ordered = Vec::new(alloc);
+    put_all(&mut ordered, all)?;
+    told_ordered(alloc, lists, states, longest, &ordered, properties)
+}
+
+/// The same of outcomes that are in this order. NoMemory where room was refused.
+pub(crate) fn told_ordered(
+    alloc: Global,
+    lists: u64,
+    states: Option<u64>,
+    longest: u64,
+    ordered: &[Told],
+    properties: &[Property],
+) -> Result<Survey, NoMemory>
+    ensures text { IfOk result (λ survey.
+        survey.text ≡ survey_text lists states longest ordered.now properties.now) }
+    ensures holds { IfOk result (λ survey. survey.holds ≡ all_hold ordered.now properties.now) }
+{
+    let mut text = Output::new(alloc);
+    survey_text(
+        alloc, &mut text, lists, states, longest, ordered, properties,
+    )?;
+    let holds = all_hold(ordered, properties);
+    Ok(Survey { text, holds })
+}

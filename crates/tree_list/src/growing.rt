@@ -1,0 +1,36 @@
+//! Nodes to which entries are added one by one.
+ghost use Rattle.std.specs.Prelude.{◌≡◌, List};
+ghost use Rattle.tree_model.specs.declared.inode.Inode.{Inode};
+ghost use Rattle.tree_model.specs.State.{child, is_dir};
+ghost use Rattle.tree_model.specs.Entries.{makes};
+ghost use Rattle.tree_model.specs.Trees.{HasPathText};
+ghost use Rattle.tree_list.specs.Changes.{IsGrowth};
+
+use path_text::{Errno, NoMemory};
+use std::alloc::Global;
+use tree_model::{Node, Object, Place};
+
+/// Nodes to which entries are added one by one, however they are kept and found.
+pub trait GrowingNodes {
+    /// The nodes by their numbers.
+    ghost inodes: { Self → List Inode };
+
+    /// Whether a node is a directory.
+    fn is_dir(&self, x: Node) -> bool
+        ensures { result ≡ is_dir (inodes self.now) x };
+
+    /// The node at an entry.
+    fn node_at(&self, at: &Place) -> Option<Node>
+        ensures { result ≡ child (inodes self.now) at.now.parent at.now.name };
+
+    /// Makes a node at an entry that wasn't there. NoMemory where its room was refused, which changes nothing.
+    fn grow(
+        &mut self,
+        alloc: Global,
+        at: Place,
+        object: Object,
+    ) -> Result<Result<(), Errno>, NoMemory>
+        requires { HasPathText object }
+        ensures { IsGrowth (inodes self.old) (inodes self.new)
+            (makes (inodes self.old) at.parent at.name object) result };
+}
