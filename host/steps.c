@@ -349,7 +349,7 @@ struct inroot_answered inroot_make(struct inroot_driver *d, const struct inroot_
         note(d, step, room);
     /* Only a link's text can be too long for the room. */
     if (!step->whole)
-        return inroot_refused(d, step->second >= INROOT_TEXT_MAX ? ENAMETOOLONG : ENOMEM);
+        return inroot_refused(d, ENAMETOOLONG);
     if (step->what != INROOT_STEP_CLOSE && step->what != INROOT_STEP_NAME_BELOW)
         d->placed = 0;
     bool goes_on = d->run.fd >= 0 && inroot_run_goes_on(d, step);

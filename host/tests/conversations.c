@@ -16,7 +16,7 @@ enum { ROOT = 3, ROOM = 24 };
 _Static_assert(INROOT_ASK_RESOLVE == 1 && INROOT_ASK_REMOVE_ALL == 11, "what is asked");
 _Static_assert(INROOT_ANSWER_OPENED == 1 && INROOT_ANSWER_REFUSED == 6, "answers");
 _Static_assert(INROOT_KIND_DIR == 1 && INROOT_KIND_LINK == 3, "kinds");
-_Static_assert(INROOT_STEP_OPEN == 1 && INROOT_STEP_WITHOUT_MEMORY == 14, "steps");
+_Static_assert(INROOT_STEP_OPEN == 1 && INROOT_STEP_RENAME == 13, "steps");
 _Static_assert(INROOT_REPLY_OPENED == 32 && INROOT_REPLY_FAULT == 38, "replies");
 
 static unsigned rows, wrong;

@@ -75,11 +75,7 @@ static void close_handle(uint64_t handle)
 static void look_at(const struct inroot_told *told, const unsigned char *room, size_t size)
 {
     size_t names = told->what >= INROOT_STEP_MAKE_DIR || told->what == INROOT_STEP_OPEN;
-    MUST(told->what >= INROOT_STEP_OPEN && told->what <= INROOT_STEP_WITHOUT_MEMORY);
-    if (told->what == INROOT_STEP_WITHOUT_MEMORY) {
-        MUST(!told->whole);
-        return;
-    }
+    MUST(told->what >= INROOT_STEP_OPEN && told->what <= INROOT_STEP_RENAME);
     must_be_open(told->handle);
     if (told->what == INROOT_STEP_NAME_BELOW || told->what == INROOT_STEP_RENAME)
         must_be_open(told->other);

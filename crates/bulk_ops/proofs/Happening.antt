@@ -4,7 +4,7 @@ use Rattle.std.proofs.Common.{sym, ap, ◌∙◌, inl, inr, le_refl, le_trans, n
 use Rattle.std.proofs.Math.Nat.{le-suc}
 use Rattle.tree_model.specs.declared.answer.Answer.{Answer}
 use Rattle.tree_model.specs.declared.answer.Event.{Event}
-use Rattle.tree_model.specs.declared.step.StepOf.{StepOf}
+use Rattle.tree_model.specs.StepWith.{StepWith}
 use Rattle.tree_model.specs.State.{State}
 use Rattle.tree_model.specs.Steps.{outcome, held}
 use Rattle.tree_model.specs.History.{IsLegal, after_event}
@@ -20,7 +20,7 @@ use Rattle.bulk_ops.proofs.OwnEvents.{own_first, own_later}
 pub record IsAlone (w : WalkInHistory) (m t : ℕ) : Type 0 where
   pub none : (k : ℕ) → m ≤ k → suc k ≤ t → (timeline w).is_own k ≡ false
 
-pub record AloneAt (w : WalkInHistory) (m t : ℕ) (step : StepOf ℕ) (answer : Answer) : Type 0 where
+pub record AloneAt (w : WalkInHistory) (m t : ℕ) (step : StepWith ℕ) (answer : Answer) : Type 0 where
   pub made : StepAt w m t step answer
   pub alone : IsAlone w m t
 
@@ -61,7 +61,7 @@ not_below zero le = not-suc-le-zero le
 not_below (suc k) le = not_below k (le_of_suc-le-suc le)
 
 -- the next event, and what is left after it
-record IsNext (w : WalkInHistory) (n : ℕ) (step : StepOf ℕ) (answer : Answer) (others : List Event) : Type 0 where
+record IsNext (w : WalkInHistory) (n : ℕ) (step : StepWith ℕ) (answer : Answer) (others : List Event) : Type 0 where
   pub t : ℕ
   pub state : State
   pub rest : List Event
@@ -109,7 +109,7 @@ module _ (others_stay : OthersHandlesStay) (w : WalkInHistory) where
       on true q more = absurd (cons_not_nil event (own_events w.actor rest) (is_own event rest [] q e))
       on false q more = more (λ h. other_keeps others_stay w.actor s event q h ∙ kept h) (longer alone (at_first is ∙ q)) (not_own event rest [] q e)
 
-  next_event : (rest : List Event) (m n : ℕ) (s : State) (step : StepOf ℕ) (answer : Answer) (others : List Event) → n ≤ m → IsRest w m s rest → IsLegal s rest
+  next_event : (rest : List Event) (m n : ℕ) (s : State) (step : StepWith ℕ) (answer : Answer) (others : List Event) → n ≤ m → IsRest w m s rest → IsLegal s rest
       → ((h : ℕ) → held s w.actor h ≡ held_at w n h) → IsAlone w n m
       → own_events w.actor rest ≡ record { actor = w.actor; step = step; answer = answer } ∷ others → IsNext w n step answer others
   next_event [] m n s step answer others le is legal kept alone e = absurd (cons_not_nil _ others (sym e))

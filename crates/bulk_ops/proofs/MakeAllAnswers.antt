@@ -10,7 +10,7 @@ use Rattle.tree_model.specs.declared.answer.Answer.{Answer}
 use Rattle.tree_model.specs.declared.answer.Answer.TheVariants.{Opened, Names, NotBelow, Done, Refused}
 use Rattle.tree_model.specs.declared.inode.Object.{Object}
 use Rattle.tree_model.specs.declared.inode.Object.TheVariants.{Dir}
-use Rattle.tree_model.specs.declared.step.StepOf.{StepOf}
+use Rattle.tree_model.specs.StepWith.{StepWith}
 use Rattle.tree_model.specs.declared.step.StepOf.TheVariants.{Open, NameBelow, Close, MakeDir}
 use Rattle.tree_model.specs.declared.tree.TheConstants.{NUMBERS_MAX}
 use Rattle.tree_model.specs.State.{State, Stands, object_at, child, is_dir, is_directory, is_gone}
@@ -68,15 +68,15 @@ module _ {w : WalkInHistory} (lived : Lived w) (now t : ℕ) (held : Handle) (na
   abbrev c : Chained w now way.p held names (n ∷ left)
   c = way.chained
 
-  dir_then : (step : StepOf ℕ) → StepAt w now t step answer → IsDirAt w t held.number held.node
+  dir_then : (step : StepWith ℕ) → StepAt w now t step answer → IsDirAt w t held.number held.node
   dir_then step is =
       let open_then : held_at w t held.number ≡ Some held.node = is.kept held.number ∙ c.is_held.is_open in
       record { is_open = open_then; dir = dir_at lived t held.number held.node open_then ∙ ap (λ x. is_directory ((timeline w).object_of x)) (sym c.node) ∙ c.dir }
 
-  at_name : (step : StepOf ℕ) → StepAt w now t step answer → AtName w way.p c.to n t
+  at_name : (step : StepWith ℕ) → StepAt w now t step answer → AtName w way.p c.to n t
   at_name step is = record { passed = c.passed; left = left; names = c.split; down = c.down; at = own_earlier (timeline w) c.past is.at }
 
-  past_now : (step : StepOf ℕ) → StepAt w now t step answer → now ≤ suc t
+  past_now : (step : StepWith ℕ) → StepAt w now t step answer → now ≤ suc t
   past_now step is = le_trans is.at.later (le-suc t)
 
   -- the call fails here, where the step changed no handle

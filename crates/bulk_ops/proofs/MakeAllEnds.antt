@@ -6,7 +6,7 @@ use Rattle.path_text.specs.declared.errno.Errno.{Errno}
 use Rattle.path_text.specs.declared.errno.Errno.TheVariants.{NoMemory, BookFull, CrossRoot, NotDir, TooMany, Raced}
 use Rattle.tree_model.specs.declared.answer.Answer.{Answer}
 use Rattle.tree_model.specs.declared.answer.Answer.TheVariants.{Names, Refused}
-use Rattle.tree_model.specs.declared.step.StepOf.{StepOf}
+use Rattle.tree_model.specs.StepWith.{StepWith}
 use Rattle.tree_model.specs.declared.step.StepOf.TheVariants.{NameBelow}
 use Rattle.tree_model.specs.State.{State, Stands, is_directory}
 use Rattle.tree_model.specs.StepLaws.{is_on_entries}
@@ -334,7 +334,7 @@ module _ {w : WalkInHistory} (lived_ : Lived w) where
 
   lines_tell : (lines : List Line) (now : ℕ) (turn end : MakeTurn) → GoodTurn w now turn → HappensAlone w now lines → LeadsTo w.way turn lines end
       → ((error : Errno) → TellsWant error lines → TellsWant error w.lines)
-      → ((step : StepOf ℕ) → MetRefusal step lines → MetRefusal step w.lines) → MakeTells w end
+      → ((step : StepWith ℕ) → MetRefusal step lines → MetRefusal step w.lines) → MakeTells w end
   lines_tell [] now turn end good happens leads wants mets =
       let rests : Rests w now = happens in
       subst (MakeTells w) leads (end_tells now rests.kept rests.alone turn good)

@@ -21,7 +21,7 @@ use Rattle.step_resolver.specs.View.{handle_of, check_refusal}
 use Rattle.step_resolver.specs.TurnView.{standing_handle}
 use Rattle.bulk_ops.specs.MakeAllOrder.{Making, making, opening, leaving, ending, MakeTurn, more, made, rest_fault, rest_names, gives_up, goes_down, begins_to_make, raced_if_missing, refused_make, enters, due}
 use Rattle.bulk_ops.specs.MakeAllOrder.{take as takes}
-use Rattle.bulk_ops.specs.MakeAllView.{MakingView, IsTurn, at_next, gone_into, passed, to_come, fault_in, names_in, has_a_name, view_of, IsStage, making_of}
+use Rattle.bulk_ops.specs.MakeAllView.{MakingView, IsTurn, at_next, gone_into, passed, to_come, fault_in, names_in, view_of, IsStage, making_of}
 use Rattle.bulk_ops.specs.declared.make_all.Call.{Call}
 use Rattle.bulk_ops.specs.declared.make_all.Chain.{Chain}
 use Rattle.bulk_ops.specs.declared.make_all.Stage.{Stage}
@@ -251,28 +251,3 @@ module _ (deepest : StandingObject) (rest : List Part) where
       ap (λ (ns : List (List ℕ)). goes_down (standing_handle deepest) ns (to_come chain)) passed_is
       ∙ ap (λ (ns : List (List ℕ)). goes_down (standing_handle deepest) (reverse deepest.names) ns) (left_is ∙ sym (names_asked rest))
       ∙ sym (ap (λ (f : Option Errno). begins_to_make true (standing_handle deepest) (reverse deepest.names) (asked true rest) f) (fault_asked rest ∙ sym e))
-
--- ---- a step with a name
-
-making_named : (held : ReachedObject) (chain : Chain) → chain.done < length chain.names
-    → has_a_name (at_next (making (handle_of held) (passed chain)) (handle_of held) (passed chain) (to_come chain)) ≡ true
-making_named held chain less =
-    ap (λ (ns : List (List ℕ)). has_a_name (at_next (making (handle_of held) (passed chain)) (handle_of held) (passed chain) ns)) (next_of chain.done chain.names less).left
-
-opening_named : (held : ReachedObject) (chain : Chain) → chain.done < length chain.names
-    → has_a_name (at_next (opening (handle_of held) (passed chain)) (handle_of held) (passed chain) (to_come chain)) ≡ true
-opening_named held chain less =
-    ap (λ (ns : List (List ℕ)). has_a_name (at_next (opening (handle_of held) (passed chain)) (handle_of held) (passed chain) ns)) (next_of chain.done chain.names less).left
-
--- a call at this stage
-pub making_has_name : (call : Call) (stage : Stage) (held : ReachedObject) (chain : Box Chain Global) (self : MakingView) → view_of call stage ≡ self → IsStage call stage
-    → stage ≡ MakingIn held chain → has_a_name self.making ≡ true
-making_has_name call stage held chain self e is at =
-    ap (λ (m : MakingView). has_a_name m.making) (sym e) ∙ ap (λ (s : Stage). has_a_name (making_of s)) at
-    ∙ making_named held chain.value (subst (IsStage call) at is)
-
-pub opening_has_name : (call : Call) (stage : Stage) (held : ReachedObject) (chain : Box Chain Global) (self : MakingView) → view_of call stage ≡ self → IsStage call stage
-    → stage ≡ Opening held chain → has_a_name self.making ≡ true
-opening_has_name call stage held chain self e is at =
-    ap (λ (m : MakingView). has_a_name m.making) (sym e) ∙ ap (λ (s : Stage). has_a_name (making_of s)) at
-    ∙ opening_named held chain.value (subst (IsStage call) at is)

@@ -8,7 +8,7 @@ use Rattle.path_text.specs.Names.{same_names}
 use Rattle.path_text.specs.Reading.{Reading}
 use Rattle.tree_model.specs.declared.answer.Answer.{Answer}
 use Rattle.tree_model.specs.declared.answer.Answer.TheVariants.{Opened, Names, NotBelow, Done, Refused}
-use Rattle.tree_model.specs.declared.step.StepOf.{StepOf}
+use Rattle.tree_model.specs.StepWith.{StepWith}
 use Rattle.tree_model.specs.declared.step.StepOf.TheVariants.{Open, NameBelow, Close, MakeDir}
 use Rattle.step_resolver.specs.Asked.{AskedPart, Cur, Up, Named}
 use Rattle.step_resolver.specs.Meaning.{is_too_long}
@@ -120,7 +120,7 @@ take way room (ending held names) NotBelow = gives_up (held.number ∷ []) Raced
 take way room (ending held names) answer = gives_up (held.number ∷ []) (refusal_of answer)
 take way room (closing h hs error) answer = gives_up hs error
 
-abbrev pub due : Way → Making → StepOf ℕ
+abbrev pub due : Way → Making → StepWith ℕ
 due way (walking walker) = walk.due way walker
 due way (making held names n left) = MakeDir held.number n
 due way (opening held names n left) = Open held.number n

@@ -6,7 +6,7 @@ use Rattle.path_text.specs.declared.errno.Errno.TheVariants.{Raced, NotDir, TooM
 use Rattle.tree_model.specs.declared.answer.Answer.TheVariants.{Refused}
 use Rattle.tree_model.specs.declared.inode.Object.{Object}
 use Rattle.tree_model.specs.declared.inode.Object.TheVariants.{Dir}
-use Rattle.tree_model.specs.declared.step.StepOf.{StepOf}
+use Rattle.tree_model.specs.StepWith.{StepWith}
 use Rattle.tree_model.specs.State.{Stands, child, is_directory, is_gone}
 use Rattle.tree_model.specs.Entries.{makes}
 use Rattle.tree_model.specs.declared.tree.TheConstants.{NUMBERS_MAX}
@@ -130,7 +130,7 @@ IsAtLimit w t = ((is_full (state_at w t) w.actor ≡ true)
 -- elsewhere
 pub data MakingCause (w : WalkInHistory) (p : DeepestAt w) : Errno → Type 0 where
   for_want : {error : Errno} → IsWant error → TellsWant error w.lines → MakingCause w p error
-  full : (t : ℕ) (step : StepOf ℕ)
+  full : (t : ℕ) (step : StepWith ℕ)
       → slice_get w.window t ≡ Some (record { actor = w.actor; step = step; answer = Refused TooMany })
       → (outcome (state_at w t) w.actor step).answer ≡ Refused TooMany → IsAtLimit w t → MakingCause w p TooMany
   gone : (dir : Spot) (name : List ℕ) (t : ℕ) → AtName w p dir name t

@@ -12,7 +12,7 @@ use Rattle.handles.specs.Objects.{ReachedObject}
 use Rattle.walk_plan.specs.declared.goal.Goal.TheVariants.{Deepest}
 use Rattle.step_resolver.specs.Meaning.{is_too_long}
 use Rattle.step_resolver.specs.Order.{Way, Handle}
-use Rattle.step_resolver.specs.View.{handle_of, numbers_of, way_from, opens_a_name}
+use Rattle.step_resolver.specs.View.{handle_of, numbers_of, way_from}
 use Rattle.step_resolver.specs.TurnView.{STEPS_MAX, standing_handle}
 use Rattle.bulk_ops.specs.MakeAllOrder.{Making, walking, making, opening, leaving, ending, closing, MakeTurn, more, made, failed, starts, steps_left}
 use Rattle.bulk_ops.specs.MakeAllOrder.{take as takes}
@@ -97,15 +97,6 @@ StartsTo way path result = (room : Bool) × IsTurn result (starts way room path)
 -- the turn is what the answer makes of the call, with room for what it brings or without
 abbrev pub TakesTo : Way → Making → Answer → BulkTurn MakingView → Type 0
 TakesTo way call answer result = (room : Bool) × IsTurn result (takes way room call answer)
-
--- the step is one with a name, which is copied for it
-abbrev pub has_a_name : Making → Bool
-has_a_name (walking walker) = opens_a_name walker
-has_a_name (making held names n left) = true
-has_a_name (opening held names n left) = true
-has_a_name (leaving old new names left) = false
-has_a_name (ending held names) = false
-has_a_name (closing h hs error) = false
 
 -- how many steps are to come at most; none at an end
 abbrev pub steps_to_come : BulkTurn MakingView → ℕ

@@ -10,7 +10,7 @@ use Rattle.tree_model.specs.declared.answer.Answer.{Answer}
 use Rattle.tree_model.specs.declared.answer.Answer.TheVariants.{Opened, Listed, Done, Refused}
 use Rattle.tree_model.specs.declared.step.Kind.{Kind}
 use Rattle.tree_model.specs.declared.step.Kind.TheVariants as kind
-use Rattle.tree_model.specs.declared.step.StepOf.{StepOf}
+use Rattle.tree_model.specs.StepWith.{StepWith}
 use Rattle.tree_model.specs.declared.step.StepOf.TheVariants.{Open, List as ListNames, Close, RemoveFile, RemoveDir}
 use Rattle.step_resolver.specs.Order.{Way, Walking, refusal_of, Line, answered, no_room, not_made, IsWant}
 use Rattle.step_resolver.specs.Order as walk
@@ -183,7 +183,7 @@ take room (clearing (leaves h) level above count left) answer = is_due removes_d
 take room (clearing removes_dir level above count left) answer = dir_removed level above count left answer
 take room (closing h hs end) answer = closes hs end
 
-abbrev pub due_at : Stage → Level → StepOf ℕ
+abbrev pub due_at : Stage → Level → StepWith ℕ
 due_at removes_file level = RemoveFile level.dir level.name
 due_at opens level = Open level.dir level.name
 due_at (lists h) level = ListNames h
@@ -191,7 +191,7 @@ due_at (shuts h) level = Close h
 due_at (leaves h) level = Close h
 due_at removes_dir level = RemoveDir level.dir level.name
 
-abbrev pub due : Removing → StepOf ℕ
+abbrev pub due : Removing → StepWith ℕ
 due (walking way target w) = walk.due way w
 due (clearing stage level above count left) = due_at stage level
 due (closing h hs end) = Close h

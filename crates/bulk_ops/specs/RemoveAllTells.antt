@@ -6,7 +6,7 @@ use Rattle.path_text.specs.declared.errno.Errno.TheVariants.{NotFound, BadHandle
 use Rattle.tree_model.specs.declared.answer.Answer.{Answer}
 use Rattle.tree_model.specs.declared.answer.Answer.TheVariants.{Done, Refused}
 use Rattle.tree_model.specs.declared.answer.Event.{Event}
-use Rattle.tree_model.specs.declared.step.StepOf.{StepOf}
+use Rattle.tree_model.specs.StepWith.{StepWith}
 use Rattle.tree_model.specs.declared.step.StepOf.TheVariants.{Open, Close, RemoveFile, RemoveDir}
 use Rattle.tree_model.specs.State.{child, is_directory, put_at}
 use Rattle.tree_model.specs.Steps.{held, is_full}
@@ -39,7 +39,7 @@ outermost name (above ∷ names) = outermost above names
 -- ---- what is taken away
 
 -- the step takes an entry away, where it is answered Done
-abbrev pub is_removal : StepOf ℕ → Answer → Bool
+abbrev pub is_removal : StepWith ℕ → Answer → Bool
 is_removal (RemoveFile h n) Done = true
 is_removal (RemoveDir h n) Done = true
 is_removal _ _ = false
@@ -55,7 +55,7 @@ removals (answered step answer ∷ lines) = one_more_if (is_removal step answer)
 removals (no_room step answer ∷ lines) = one_more_if (is_removal step answer) (removals lines)
 removals (not_made error ∷ lines) = removals lines
 
-abbrev pub event_at : WalkInHistory → ℕ → StepOf ℕ → Answer → Type 0
+abbrev pub event_at : WalkInHistory → ℕ → StepWith ℕ → Answer → Type 0
 event_at w t step answer = slice_get w.window t ≡ Some (record { actor = w.actor; step = step; answer = answer })
 
 -- the own event t takes one entry away: the target in that directory, or one of a directory that was reached from
@@ -68,7 +68,7 @@ pub record TakesAway (w : WalkInHistory) (dir : ℕ) (target : List ℕ) (t : �
   pub at : IsOwnFrom (timeline w) since t
   pub name : List ℕ
   pub below : outermost name names ≡ target
-  pub step : StepOf ℕ
+  pub step : StepWith ℕ
   pub event : event_at w t step Done
   pub is_removal : is_removal step Done ≡ true
   pub entry : ℕ
@@ -89,7 +89,7 @@ OnlyTakesAway w dir target = (t : ℕ) → (timeline w).is_own t ≡ true → Le
 -- ---- the target
 
 -- a step on the name through a handle
-abbrev pub IsOn : ℕ → List ℕ → StepOf ℕ → Type 0
+abbrev pub IsOn : ℕ → List ℕ → StepWith ℕ → Type 0
 IsOn h n step = (step ≡ RemoveFile h n) ⊎ ((step ≡ Open h n) ⊎ (step ≡ RemoveDir h n))
 
 -- the own event t closes a handle
@@ -103,7 +103,7 @@ pub record IsLastOnTarget (w : WalkInHistory) (dir : ℕ) (target : List ℕ) : 
   pub own : (timeline w).is_own when ≡ true
   pub handle : ℕ
   pub is_open : held (state_at w when) w.actor handle ≡ Some dir
-  pub step : StepOf ℕ
+  pub step : StepWith ℕ
   pub answer : Answer
   pub event : event_at w when step answer
   pub on : IsOn handle target step
@@ -131,7 +131,7 @@ pub record TellsBusy (lines : List Line) : Type 0 where
 -- EMFILE: an own step was refused so, and the actor could open no more, or the numbers were used up
 pub record TellsFull (w : WalkInHistory) : Type 0 where
   pub when : ℕ
-  pub step : StepOf ℕ
+  pub step : StepWith ℕ
   pub event : event_at w when step (Refused TooMany)
   pub full : is_full (state_at w when) w.actor ≡ true
 

@@ -4,7 +4,7 @@ use Rattle.tree_model.specs.declared.answer.Answer.{Answer}
 use Rattle.handles.specs.Objects.{ReachedObject}
 use Rattle.bulk_ops.specs.declared.remove_all.clearing.Stage.TheVariants as stage
 use Rattle.bulk_ops.specs.declared.remove_all.clearing.End.TheVariants as end
-use Rattle.step_resolver.specs.View.{numbers_of, opens_a_name}
+use Rattle.step_resolver.specs.View.{numbers_of}
 use Rattle.bulk_ops.specs.declared.remove_all.phase.Phase.{Phase}
 use Rattle.bulk_ops.specs.declared.remove_all.phase.Phase.TheVariants as phase
 use Rattle.bulk_ops.specs.declared.remove_all.phase.WalkTo.{WalkTo}
@@ -54,15 +54,6 @@ opened_of (stage.Shut child) = Some child
 opened_of (stage.Leave child) = Some child
 opened_of stage.RemoveDir = None
 
--- a name is looked up
-abbrev pub looks_up : Stage → Bool
-looks_up removes_file = true
-looks_up opens = true
-looks_up (lists h) = false
-looks_up (shuts h) = false
-looks_up (leaves h) = false
-looks_up removes_dir = true
-
 abbrev pub end_of : CodeEnd → End
 end_of (end.Fails error) = fails error
 end_of (end.Removes count) = removes count
@@ -110,9 +101,3 @@ phase_turn (phase.Over end) = ends (end_of end)
 -- what comes next is what the answer makes of the call, with room for what the answer brings or without
 abbrev pub TakesOn : Removing → Answer → Phase → Type 0
 TakesOn removing answer phase = (room : Bool) × (phase_turn phase ≡ take room removing answer)
-
--- the step has a name, which is copied for it
-abbrev pub is_named : Removing → Bool
-is_named (walking way target w) = opens_a_name w
-is_named (clearing stage level above count left) = looks_up stage
-is_named (closing h hs end) = false

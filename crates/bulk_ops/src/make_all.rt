@@ -1,16 +1,16 @@
 //! All that is missing of a path is made.
-ghost use Rattle.std.specs.Prelude.{◌≡◌, ◌<◌, ◌≤◌, ◌++◌, ◌∷◌, drop, suc, reverse, length, Bool, None, IfOk, IsOk, OnOk, true, false};
+ghost use Rattle.std.specs.Prelude.{◌≡◌, ◌<◌, ◌≤◌, ◌++◌, ◌∷◌, drop, suc, reverse, length, Bool, None, IfOk, OnOk, true};
 ghost use Rattle.step_resolver.specs.Order.{is_dir_kind};
 ghost use Rattle.bulk_ops.specs.MakeAllOrder.{raced_if_missing};
 ghost use Rattle.bulk_ops.specs.MakeAllView.{fault_in, names_in};
 
 use crate::turn::BulkTurn;
 use handles::{Reached, Standing};
-use path_text::{Errno, Flags, Name, Names, NoMemory, PARTS_MAX, Part, Parts, Path};
+use path_text::{Errno, Flags, LentName, Name, Names, NoMemory, PARTS_MAX, Part, Parts, Path};
 use std::alloc::Global;
 use std::marker::Model;
 use step_resolver::{Goal, Root, Turn, Walk, check_refusal, refusal_of};
-use tree_model::{Answer, Kind, Step, StepOf};
+use tree_model::{Answer, Kind, LentStep, StepOf};
 
 mod copy;
 mod like;
@@ -81,7 +81,7 @@ impl MkdirAll {
     ghost use Rattle.walk_plan.specs.declared.goal.Goal.TheVariants.{Deepest};
     ghost use Rattle.bulk_ops.specs.MakeAllOrder.{due, steps_left};
     ghost use Rattle.bulk_ops.specs.MakeAllTurnsTell.{TellsBegun, TellsTaken};
-    ghost use Rattle.bulk_ops.specs.MakeAllView.{StartsTo, TakesTo, Keeps, has_a_name, steps_to_come, MAKE_STEPS_MAX};
+    ghost use Rattle.bulk_ops.specs.MakeAllView.{StartsTo, TakesTo, Keeps, steps_to_come, MAKE_STEPS_MAX};
 
     /// Begins to make all that is missing of the path below the root, each a directory (mkdir(2); the walk to what is
     /// there is that of openat2(2), RESOLVE_IN_ROOT, for `Goal::Deepest`).
@@ -100,30 +100,25 @@ impl MkdirAll {
         call.begins(alloc, path)
     }
 
-    /// The step that is due. NoMemory where the room of a name was refused; a step without a name takes no memory.
-    pub fn due(&self, alloc: Global) -> Result<Step, NoMemory>
-        ensures exact { IfOk result (λ step. step ≡ due self.now.way self.now.making) }
-        ensures no_memory { has_a_name self.now.making ≡ false → IsOk result }
+    /// The step that is due. It takes no memory: a name is lent from where it lies in the call.
+    pub fn due(&self) -> LentStep<'_>
+        ensures { result ≡ due self.now.way self.now.making }
     {
         match &self.stage {
-            Stage::Walking(walk) => walk.due(alloc),
-            Stage::Making(held, chain) => {
-                Ok(StepOf::MakeDir(held.handle(), chain.next_name(alloc)?))
-            }
-            Stage::Opening(held, chain) => {
-                Ok(StepOf::Open(held.handle(), chain.next_name(alloc)?))
-            }
+            Stage::Walking(walk) => walk.due(),
+            Stage::Making(held, chain) => StepOf::MakeDir(held.handle(), chain.next_name()),
+            Stage::Opening(held, chain) => StepOf::Open(held.handle(), chain.next_name()),
             Stage::Leaving {
                 old,
                 new: _,
                 chain: _,
-            } => Ok(StepOf::Close(old.handle())),
-            Stage::Ending(held, _) => Ok(StepOf::NameBelow(self.call.root.handle, held.handle())),
+            } => StepOf::Close(old.handle()),
+            Stage::Ending(held, _) => StepOf::NameBelow(self.call.root.handle, held.handle()),
             Stage::Closing {
                 first,
                 second: _,
                 error: _,
-            } => Ok(StepOf::Close(first.handle())),
+            } => StepOf::Close(first.handle()),
         }
     }
 
@@ -213,7 +208,7 @@ impl Call {
         ensures turn { TakesTo (way_of self.now) (walking walk.walking) answer result }
         ensures kept { Keeps self.now.root.owner (way_of self.now) result }
     {
-        let turn = walk.take(alloc, answer);
+        let turn = walk.take(answer);
         self.after_walk(alloc, turn)
     }
 
@@ -365,13 +360,13 @@ impl Chain {
 impl Chain {
     ghost use Rattle.bulk_ops.specs.MakeAllView.{to_come};
 
-    // The next name, as a copy.
+    // The next name, lent.
     #[tactic(auto, using(crate::proofs::MakeAllNames::comes_next))]
-    fn next_name(&self, alloc: Global) -> Result<Name, NoMemory>
+    fn next_name(&self) -> LentName<'_>
         requires { self.now.done < length self.now.names }
-        ensures { IfOk result (λ name. to_come self.now ≡ name ∷ drop (suc self.now.done) self.now.names) }
+        ensures { to_come self.now ≡ result ∷ drop (suc self.now.done) self.now.names }
     {
-        self.names.to_name(alloc, self.done)
+        self.names.lend(self.done)
     }
 }
 

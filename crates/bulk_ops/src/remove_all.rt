@@ -1,5 +1,5 @@
 //! An entry removed with all that is below it.
-ghost use Rattle.std.specs.Prelude.{◌≡◌, ◌<◌, ◌≤◌, false, IfOk, IsOk};
+ghost use Rattle.std.specs.Prelude.{◌≡◌, ◌<◌, ◌≤◌};
 ghost use Rattle.step_resolver.specs.TurnView.{IsFirstWalk};
 
 use crate::remove_all::clearing::End;
@@ -10,7 +10,7 @@ use std::alloc::{AllocFailed, Global};
 use std::marker::Model;
 use std::mem;
 use step_resolver::{Goal, Root, Turn, Walk};
-use tree_model::{Answer, Step};
+use tree_model::{Answer, LentStep};
 
 mod clearing;
 mod copy;
@@ -56,7 +56,6 @@ impl RemoveAll {
     ghost use Rattle.bulk_ops.specs.RemoveAllOrder.{due, steps_left};
     ghost use Rattle.bulk_ops.specs.RemoveAllTurnView.{BeginsTo, StartsTo, TakesTo, steps_to_come, REMOVE_STEPS_MAX};
     ghost use Rattle.bulk_ops.specs.RemoveAllTurnsTell.{TellsBegun, TellsTaken};
-    ghost use Rattle.bulk_ops.specs.RemoveAllView.{is_named};
 
     /// Begins to remove the entry of this name in the directory of that path below the root, with all that is below it
     /// (unlink(2), rmdir(2); openat2(2), RESOLVE_IN_ROOT). The flags are those of the walk to the directory. One that
@@ -108,23 +107,22 @@ impl RemoveAll {
     {
         let mut target = Names::new(alloc);
         match target.push(name) {
-            Err(_) => BulkTurn::Failed(give_up(alloc, walk)),
+            Err(_) => BulkTurn::Failed(give_up(walk)),
             Ok(()) => {
                 let phase = Phase::Walking(WalkTo { walk, target });
                 match Box::new(alloc, State { phase }) {
                     Ok(state) => BulkTurn::More(RemoveAll { state }),
-                    Err(AllocFailed { value }) => BulkTurn::Failed(value.give_up(alloc)),
+                    Err(AllocFailed { value }) => BulkTurn::Failed(value.give_up()),
                 }
             }
         }
     }
 
-    /// The step that is due. NoMemory where the room of a name was refused; a step without a name takes no memory.
-    pub fn due(&self, alloc: Global) -> Result<Step, NoMemory>
-        ensures exact { IfOk result (λ step. step ≡ due self.now) }
-        ensures no_memory { is_named self.now ≡ false → IsOk result }
+    /// The step that is due. It takes no memory: a name is lent from where it lies in the call.
+    pub fn due(&self) -> LentStep<'_>
+        ensures { result ≡ due self.now }
     {
-        self.state.phase.due(alloc)
+        self.state.phase.due()
     }
 
     /// Takes the answer to the due step, and gives the call's next turn. A driver that couldn't make the step, for
@@ -175,7 +173,7 @@ impl State {
     ghost use Rattle.bulk_ops.specs.RemoveAllTurnView.{IsFirstPhase};
 
     // The same of a call at the first step of its walk.
-    fn give_up(self, alloc: Global) -> Errno
+    fn give_up(self) -> Errno
         requires { IsFirstPhase self.phase }
         ensures { result ≡ Errno.NoMemory }
     {
@@ -183,7 +181,7 @@ impl State {
         match phase {
             Phase::Walking(to) => {
                 let WalkTo { walk, target: _ } = to;
-                give_up(alloc, walk)
+                give_up(walk)
             }
             _other => unreachable!(),
         }
@@ -191,11 +189,11 @@ impl State {
 }
 
 // A walk at its first step is told that there is no memory for it, and ends.
-fn give_up(alloc: Global, walk: Walk) -> Errno
+fn give_up(walk: Walk) -> Errno
     requires { IsFirstWalk walk.walking }
     ensures { result ≡ Errno.NoMemory }
 {
-    match walk.take(alloc, Answer::Refused(Errno::NoMemory)) {
+    match walk.take(Answer::Refused(Errno::NoMemory)) {
         Turn::Failed(error) => error,
         Turn::More(_walk) => unreachable!(),
         Turn::Found(_standing) => unreachable!(),

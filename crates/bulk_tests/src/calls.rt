@@ -12,7 +12,7 @@ use path_text::{Errno, Flags, NoMemory, Path, Rule};
 use std::alloc::Global;
 use step_text::Output;
 use tree_list::ListTree;
-use tree_model::{Actor, Answer, HandleNo, Step, StepOf, Tree};
+use tree_model::{Actor, Answer, HandleNo, LentStep, StepOf, Tree};
 
 /// A bulk call that is under way.
 pub trait Bulk {
@@ -22,8 +22,8 @@ pub trait Bulk {
     /// The first turn of a call on a path below the root. Errors: those of the path.
     fn begin(alloc: Global, path: &str, flags: Flags) -> Result<BulkTurn<Self>, Errno>;
 
-    /// The step that is due.
-    fn due(&self, alloc: Global) -> Result<Step, NoMemory>;
+    /// The step that is due. Takes no memory.
+    fn due(&self) -> LentStep<'_>;
 
     /// What the answer to that step makes of the call.
     fn take(self, alloc: Global, answer: Answer) -> BulkTurn<Self>
@@ -46,8 +46,8 @@ impl Bulk for MkdirAll {
         Ok(MkdirAll::start(alloc, root(7), path, flags))
     }
 
-    fn due(&self, alloc: Global) -> Result<Step, NoMemory> {
-        MkdirAll::due(self, alloc)
+    fn due(&self) -> LentStep<'_> {
+        MkdirAll::due(self)
     }
 
     fn take(self, alloc: Global, answer: Answer) -> BulkTurn<MkdirAll> {
@@ -73,8 +73,8 @@ impl Bulk for RemoveAll {
         Ok(RemoveAll::start(alloc, root(0), split.dir, split.name, flags))
     }
 
-    fn due(&self, alloc: Global) -> Result<Step, NoMemory> {
-        RemoveAll::due(self, alloc)
+    fn due(&self) -> LentStep<'_> {
+        RemoveAll::due(self)
     }
 
     fn take(self, alloc: Global, answer: Answer) -> BulkTurn<RemoveAll> {
@@ -92,7 +92,7 @@ impl Bulk for RemoveAll {
 
 /// What answers a call's steps.
 pub trait Answers {
-    fn answer(&mut self, alloc: Global, step: &Step) -> Result<Answer, NoMemory>;
+    fn answer(&mut self, alloc: Global, step: &LentStep<'_>) -> Result<Answer, NoMemory>;
 }
 
 /// A tree, on which actor 0 makes the steps of a call and another acts in between.
@@ -109,7 +109,7 @@ pub struct Scene {
 }
 
 impl Answers for Scene {
-    fn answer(&mut self, alloc: Global, step: &Step) -> Result<Answer, NoMemory> {
+    fn answer(&mut self, alloc: Global, step: &LentStep<'_>) -> Result<Answer, NoMemory> {
         let at = self.steps;
         self.steps = at.saturating_add(1);
         if at == self.after {
@@ -173,7 +173,7 @@ fn answer_due<C: Bulk, A: Answers>(
     answers: &mut A,
     call: &C,
 ) -> Result<Answer, NoMemory> {
-    let step = call.due(alloc)?;
+    let step = call.due();
     let answer = answers.answer(alloc, &step);
     drop(step);
     answer

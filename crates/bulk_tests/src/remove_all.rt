@@ -8,7 +8,7 @@ use fixtures::{BENEATH, NO_LINKS, PLAIN};
 use path_text::{Errno, Names, NoMemory};
 use std::alloc::Global;
 use std::test::*;
-use tree_model::{Answer, HandleNo, Kind, Node, Step, StepOf};
+use tree_model::{Answer, HandleNo, Kind, LentStep, Node, StepOf};
 
 // Where the other's handle 1 is.
 const OTHER_AT: &str = "/c";
@@ -156,7 +156,7 @@ struct Filling {
 }
 
 impl Answers for Filling {
-    fn answer(&mut self, alloc: Global, step: &Step) -> Result<Answer, NoMemory> {
+    fn answer(&mut self, alloc: Global, step: &LentStep<'_>) -> Result<Answer, NoMemory> {
         self.steps = self.steps.saturating_add(1);
         if matches!(step, StepOf::Close(_)) {
             self.closes = self.closes.saturating_add(1);
@@ -165,7 +165,7 @@ impl Answers for Filling {
     }
 }
 
-fn answer_by_hand(alloc: Global, step: &Step, handle: u64) -> Answer {
+fn answer_by_hand(alloc: Global, step: &LentStep<'_>, handle: u64) -> Answer {
     match step {
         StepOf::Dup(_) | StepOf::Open(_, _) => Answer::Opened {
             handle: HandleNo::new(handle),

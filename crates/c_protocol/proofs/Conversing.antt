@@ -6,7 +6,7 @@ use Rattle.path_text.specs.declared.errno.Errno.TheVariants as errors
 use Rattle.tree_model.specs.declared.answer.Answer.{Answer}
 use Rattle.tree_model.specs.declared.answer.Answer.TheVariants.{Refused}
 use Rattle.tree_model.specs.declared.answer.Answer.TheVariants as answers
-use Rattle.tree_model.specs.declared.step.StepOf.{StepOf}
+use Rattle.tree_model.specs.StepWith.{StepWith}
 use Rattle.tree_model.specs.declared.step.StepOf.TheVariants as steps
 use Rattle.step_resolver.specs.Order.{Line, answered, no_room, not_made}
 use Rattle.root_ops.specs.declared.below.Below.{Below}
@@ -19,11 +19,11 @@ use Rattle.root_ops.specs.CallHistory.{CallInHistory, RepliesWith, CallsTell}
 use Rattle.root_ops.specs.Order.{Doing, due, take, starts, ends, LeadsTo}
 use Rattle.root_ops.specs.Order as call
 use Rattle.root_ops.specs.TurnView.{turn_view, Keeps, TakesTo}
-use Rattle.root_ops.specs.View.{CallView, reply_view, is_nameless}
+use Rattle.root_ops.specs.View.{CallView, reply_view}
 use Rattle.root_ops.proofs.Refusals.{refusal_needs_no_room, unmade}
-use Rattle.c_protocol.specs.Numbers.{op_of, below_asked, answer_of, NOT_SPELLED}
-use Rattle.c_protocol.specs.Turns.{call_of, SpelledAs, IsDueTold, BeginsTo, BeginsWith, IsNext}
-use Rattle.c_protocol.specs.History.{Heard, Exchange, Hears, SaysWant, Conversation, last_heard, is_close, Spells, IsMade, LineOf, LinesOf, RepliesLast, IsCall, IsWantAtOnce, ConversationsAreCalls}
+use Rattle.c_protocol.specs.Numbers.{op_of, below_asked, answer_of}
+use Rattle.c_protocol.specs.Turns.{call_of, IsDueTold, BeginsTo, BeginsWith, IsNext}
+use Rattle.c_protocol.specs.History.{Heard, Exchange, Hears, Conversation, last_heard, is_close, Spells, IsMade, LineOf, LinesOf, RepliesLast, IsCall, IsWantAtOnce, ConversationsAreCalls}
 use Rattle.c_protocol.specs.declared.numbers.Answered.{Answered}
 use Rattle.c_protocol.specs.declared.numbers.Asked.{Asked}
 
@@ -38,27 +38,8 @@ wanting (answers.Refused errors.NoMemory) = want refl
 wanting (answers.Refused error) = none (λ e. cc (e))
 wanting answer = none (λ e. cc (e))
 
-closes_nothing : (step : StepOf ℕ) → is_close step ≡ false → (h : ℕ) → step ≡ steps.Close h → ⊥
+closes_nothing : (step : StepWith ℕ) → is_close step ≡ false → (h : ℕ) → step ≡ steps.Close h → ⊥
 closes_nothing step stays h e = absurd (true≢false (sym (ap is_close e) ∙ stays))
-
-nameless_close : (step : StepOf ℕ) → is_nameless step ≡ false → is_close step ≡ false
-nameless_close (steps.Close h) named = named
-nameless_close (steps.Open h n) named = refl
-nameless_close (steps.Dup h) named = refl
-nameless_close (steps.Parent h) named = refl
-nameless_close (steps.ReadLink h) named = refl
-nameless_close (steps.NameBelow r h) named = refl
-nameless_close (steps.List h) named = refl
-nameless_close (steps.MakeDir h n) named = refl
-nameless_close (steps.MakeFile h n) named = refl
-nameless_close (steps.MakeLink h n text) named = refl
-nameless_close (steps.RemoveFile h n) named = refl
-nameless_close (steps.RemoveDir h n) named = refl
-nameless_close (steps.Rename h n k m mode) named = refl
-
--- what says so is an answer of want, with memory for its bytes or without
-said_want : (room : Bool) (answer : Answered) (bytes : List ℕ) → SaysWant answer → answer_of room answer bytes ≡ Refused NoMemory
-said_want room answer bytes says = rw (says.0, says.1) refl
 
 -- ---- one exchange
 
@@ -95,9 +76,9 @@ module _ (below : Below) (doing : Doing) (heard : Heard) (x : Exchange) (next : 
     leads = λ lines end led. (refl, subst (λ t. LeadsTo below t lines end) taken led);
   }
 
-  -- a step that was spelled is made, unless its answer is a want of memory and it is no Close
+  -- the step is made, unless its answer is a want of memory and it is no Close
   spelled : (room : Bool) (answer : Answer) → next ≡ take below room doing answer → Spells x answer
-      → SpelledAs true (due below doing) heard.told heard.before heard.after → (closing : Bool) → is_close (due below doing) ≡ closing → Step below doing heard x next
+      → IsDueTold (due below doing) heard.told heard.before heard.after → (closing : Bool) → is_close (due below doing) ≡ closing → Step below doing heard x next
   spelled room answer taken spells told true closes = made room answer taken (told, (spells, λ _. closes))
   spelled room answer taken spells told false stays = on (wanting answer)
     where
@@ -105,11 +86,9 @@ module _ (below : Below) (doing : Doing) (heard : Heard) (x : Exchange) (next : 
       on (want is) = left_out room answer taken is spells stays
       on (none isnt) = made room answer taken (told, (spells, λ is. absurd (isnt is)))
 
-  stepped : (room : Bool) (answer : Answer) → next ≡ take below room doing answer → Spells x answer → (heard.told ≡ NOT_SPELLED → SaysWant x.answer)
+  stepped : (room : Bool) (answer : Answer) → next ≡ take below room doing answer → Spells x answer
       → IsDueTold (due below doing) heard.told heard.before heard.after → Step below doing heard x next
-  stepped room answer taken spells fair (true, told) = spelled room answer taken spells told (is_close (due below doing)) refl
-  stepped room answer taken spells fair (false, told) =
-      left_out room answer taken (spells.1 ∙ said_want spells.0 x.answer x.bytes (fair told.1.0)) spells (nameless_close (due below doing) told.0)
+  stepped room answer taken spells told = spelled room answer taken spells told (is_close (due below doing)) refl
 
 -- ---- to the reply
 
@@ -130,13 +109,13 @@ Follows x at = (turn : CallTurn) × (IsNext at x.answer x.bytes turn × Hears tu
 
 joined : (below : Below) (now : CallView) (heard : Heard) (x : Exchange) (xs : List Exchange) (turn : CallTurn) → now.below ≡ below
     → IsDueTold (due now.below now.doing) heard.told heard.before heard.after → IsNext now x.answer x.bytes turn
-    → (heard.told ≡ NOT_SPELLED → SaysWant x.answer) → Led below (turn_view turn) x.heard xs → Led below (call.more now.doing) heard (x ∷ xs)
-joined below now heard x xs turn same told next fair rest =
+    → Led below (turn_view turn) x.heard xs → Led below (call.more now.doing) heard (x ∷ xs)
+joined below now heard x xs turn same told next rest =
     let answer = answer_of next.0 x.answer x.bytes in
     let taken : TakesTo below now.doing answer (turn_view turn) = subst (λ (b : Below). TakesTo b now.doing answer (turn_view turn)) same next.1.0 in
     let due_told : IsDueTold (due below now.doing) heard.told heard.before heard.after =
     subst (λ (b : Below). IsDueTold (due b now.doing) heard.told heard.before heard.after) same told in
-    let step = stepped below now.doing heard x (turn_view turn) taken.0 answer taken.1 (next.0, refl) fair due_told in
+    let step = stepped below now.doing heard x (turn_view turn) taken.0 answer taken.1 (next.0, refl) due_told in
     record {
       reply = rest.reply;
       told = rest.told;
@@ -154,7 +133,7 @@ led below (More now) heard (x ∷ xs) keeps hears onward =
     let same : onward.0.0 ≡ now = some_same onward.0.0 now (sym onward.0.1.0 ∙ hears.0) in
     let goes : Follows x now = subst (Follows x) same onward.0.1.1 in
     let kept : Keeps below goes.0 = subst (λ (b : Below). Keeps b goes.0) keeps goes.1.0.1.1 in
-    joined below now heard x xs goes.0 keeps hears.1 goes.1.0 onward.1.0 (led below goes.0 x.heard xs kept goes.1.1 onward.1.1)
+    joined below now heard x xs goes.0 keeps hears.1 goes.1.0 (led below goes.0 x.heard xs kept goes.1.1 onward.1)
 
 -- ---- from the beginning
 

@@ -1,7 +1,7 @@
 -- What is told and begun, from the parts that the code has.
-use Rattle.std.specs.Prelude.{◌≡◌, ℕ, List, true, Option, Some}
+use Rattle.std.specs.Prelude.{◌≡◌, ℕ, List, Option, Some}
 use mathlib.Core.Path.{subst, sym}
-use Rattle.tree_model.specs.declared.step.StepOf.{StepOf}
+use Rattle.tree_model.specs.StepWith.{StepWith}
 use Rattle.root_ops.specs.declared.below.Below.{Below}
 use Rattle.root_ops.specs.declared.call.CallTurn.{CallTurn}
 use Rattle.root_ops.specs.declared.op.Op.{Op}
@@ -12,8 +12,8 @@ use Rattle.c_protocol.specs.declared.numbers.Asked.{Asked}
 use Rattle.c_protocol.specs.declared.numbers.Told.{Told}
 
 -- a step that is told is told as the due one, where it is that
-pub due_is_told : (due step : StepOf ℕ) (told : Told) (old new : List ℕ) → step ≡ due → LaidOut (step_told step) (step_bytes step) told old new → IsDueTold due told old new
-due_is_told due step told old new same laid = (true, subst (λ s. LaidOut (step_told s) (step_bytes s) told old new) same laid)
+pub due_is_told : (due step : StepWith ℕ) (told : Told) (old new : List ℕ) → step ≡ due → LaidOut (step_told step) (step_bytes step) told old new → IsDueTold due told old new
+due_is_told due step told old new same laid = subst (λ s. LaidOut (step_told s) (step_bytes s) told old new) same laid
 
 -- a call that is started begins as what is asked, where that names its operation
 pub begins_some : (asked : Asked) (below : Below) (named : Option Op) (op : Op) (turn : CallTurn) → below ≡ below_asked asked → named ≡ Some op

@@ -4,7 +4,7 @@ use Rattle.std.specs.Prelude.{◌≡◌, ◌⊎◌, ℕ, List, [], ◌∷◌, Bo
 use Rattle.path_text.specs.declared.errno.Errno.TheVariants.{NoMemory}
 use Rattle.tree_model.specs.declared.answer.Answer.{Answer}
 use Rattle.tree_model.specs.declared.answer.Answer.TheVariants.{Refused}
-use Rattle.tree_model.specs.declared.step.StepOf.{StepOf}
+use Rattle.tree_model.specs.StepWith.{StepWith}
 use Rattle.tree_model.specs.declared.step.StepOf.TheVariants as steps
 use Rattle.step_resolver.specs.Order.{Line, answered, no_room, not_made}
 use Rattle.root_ops.specs.declared.call.CallTurn.{CallTurn}
@@ -14,8 +14,8 @@ use Rattle.root_ops.specs.declared.reply.Reply.TheVariants.{Fault}
 use Rattle.root_ops.specs.CallHistory.{CallInHistory, IsCallInHistory, HandlesAfter}
 use Rattle.root_ops.specs.Order.{starts, ends, LeadsTo}
 use Rattle.root_ops.specs.View.{CallView, reply_view}
-use Rattle.c_protocol.specs.Numbers.{op_of, below_asked, answer_of, reply_told, reply_bytes, NOT_SPELLED}
-use Rattle.c_protocol.specs.Turns.{call_of, LaidOut, SpelledAs, IsTold, IsBegun, IsNext}
+use Rattle.c_protocol.specs.Numbers.{op_of, below_asked, answer_of, reply_told, reply_bytes}
+use Rattle.c_protocol.specs.Turns.{call_of, LaidOut, IsDueTold, IsTold, IsBegun, IsNext}
 use Rattle.c_protocol.specs.declared.kept.Held.{Held}
 use Rattle.c_protocol.specs.declared.numbers.Answered.{Answered}
 use Rattle.c_protocol.specs.declared.numbers.Asked.{Asked}
@@ -48,16 +48,10 @@ GoesOn heard x =
     × ((call_of heard.kept ≡ Some call)
     × ((turn : CallTurn) × (IsNext call x.answer x.bytes turn × Hears turn x.heard)))
 
--- the program says that there was no memory for the step (ENOMEM)
-abbrev pub SaysWant : Answered → Type 0
-SaysWant answer = (answer.what ≡ 6) × (answer.error ≡ 12)
-
--- The turns to a call's end. The program owes that much: of a step that wasn't spelled it says that there was no
--- memory for it.
+-- the turns to a call's end
 abbrev pub Conversation : Heard → List Exchange → Type 0
 Conversation heard [] = heard.kept ≡ None
-Conversation heard (x ∷ xs) =
-    GoesOn heard x × ((heard.told ≡ NOT_SPELLED → SaysWant x.answer) × Conversation x.heard xs)
+Conversation heard (x ∷ xs) = GoesOn heard x × Conversation x.heard xs
 
 abbrev pub last_heard : Heard → List Exchange → Heard
 last_heard heard [] = heard
@@ -65,7 +59,7 @@ last_heard heard (x ∷ xs) = last_heard x.heard xs
 
 -- ---- the lines of it
 
-abbrev pub is_close : StepOf ℕ → Bool
+abbrev pub is_close : StepWith ℕ → Bool
 is_close (steps.Open h n) = false
 is_close (steps.Dup h) = false
 is_close (steps.Parent h) = false
@@ -86,9 +80,9 @@ Spells x answer = (room : Bool) × (answer ≡ answer_of room x.answer x.bytes)
 
 -- This is the step that had been told, and what the program says is its answer. Only a Close is answered by want of
 -- memory.
-abbrev pub IsMade : Heard → Exchange → StepOf ℕ → Answer → Type 0
+abbrev pub IsMade : Heard → Exchange → StepWith ℕ → Answer → Type 0
 IsMade heard x step answer =
-    SpelledAs true step heard.told heard.before heard.after
+    IsDueTold step heard.told heard.before heard.after
     × (Spells x answer × (answer ≡ Refused NoMemory → is_close step ≡ true))
 
 -- The line of an exchange: the step was made; or it counts as not made, for want of memory, which the program says,

@@ -10,7 +10,7 @@ use Rattle.tree_model.specs.declared.step.Kind.{Kind}
 use Rattle.tree_model.specs.declared.step.Kind.TheVariants.{Dir, File, Link}
 use Rattle.tree_model.specs.declared.step.Mode.{Mode}
 use Rattle.tree_model.specs.declared.step.Mode.TheVariants.{Plain, NoReplace, Exchange}
-use Rattle.tree_model.specs.declared.step.StepOf.{StepOf}
+use Rattle.tree_model.specs.StepWith.{StepWith}
 use Rattle.tree_model.specs.declared.step.StepOf.TheVariants as steps
 use Rattle.handles.specs.declared.owner.Owner.{Owner}
 use Rattle.root_ops.specs.declared.below.Below.{Below}
@@ -118,7 +118,7 @@ due_told what handle other first second detail =
       second = second;
     }
 
-abbrev pub step_told : StepOf ℕ → Told
+abbrev pub step_told : StepWith ℕ → Told
 step_told (steps.Open h n) = due_told 1 h 0 (length n) 0 0
 step_told (steps.Dup h) = due_told 2 h 0 0 0 0
 step_told (steps.Parent h) = due_told 3 h 0 0 0 0
@@ -134,7 +134,7 @@ step_told (steps.RemoveDir h n) = due_told 12 h 0 (length n) 0 0
 step_told (steps.Rename h n k m mode) = due_told 13 h k (length n) (length m) (mode_number mode)
 
 -- its names and texts
-abbrev pub step_bytes : StepOf ℕ → List ℕ
+abbrev pub step_bytes : StepWith ℕ → List ℕ
 step_bytes (steps.Open h n) = ended n
 step_bytes (steps.Dup h) = []
 step_bytes (steps.Parent h) = []
@@ -167,7 +167,3 @@ reply_bytes (replies.Count n) = []
 reply_bytes (replies.Stepped answer) = []
 reply_bytes (replies.Kept standing) = []
 reply_bytes (replies.Fault error) = []
-
--- a step that there was no memory to spell
-abbrev pub NOT_SPELLED : Told
-NOT_SPELLED = record { what = 14; detail = 0; whole = false; handle = 0; other = 0; first = 0; second = 0 }

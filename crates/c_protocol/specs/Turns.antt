@@ -1,7 +1,7 @@
 -- What a C program is told at each turn of a call, and what it holds then.
 use Rattle.std.specs.Prelude.{◌≡◌, ℕ, List, ◌++◌, drop, length, nat_le, Bool, true, false, if◌then◌else◌, Option, Some, None}
 use Rattle.path_text.specs.declared.errno.Errno.TheVariants.{Invalid, NoMemory}
-use Rattle.tree_model.specs.declared.step.StepOf.{StepOf}
+use Rattle.tree_model.specs.StepWith.{StepWith}
 use Rattle.root_ops.specs.declared.below.Below.{Below}
 use Rattle.root_ops.specs.declared.call.CallTurn.{CallTurn}
 use Rattle.root_ops.specs.declared.call.CallTurn.TheVariants.{More, Done}
@@ -9,8 +9,8 @@ use Rattle.root_ops.specs.declared.op.Op.{Op}
 use Rattle.root_ops.specs.declared.reply.Reply.TheVariants.{Fault}
 use Rattle.root_ops.specs.Order.{due}
 use Rattle.root_ops.specs.TurnView.{turn_view, Keeps, StartsTo, TakesTo}
-use Rattle.root_ops.specs.View.{CallView, is_nameless}
-use Rattle.c_protocol.specs.Numbers.{op_of, below_asked, answer_of, step_told, step_bytes, reply_told, reply_bytes, NOT_SPELLED}
+use Rattle.root_ops.specs.View.{CallView}
+use Rattle.c_protocol.specs.Numbers.{op_of, below_asked, answer_of, step_told, step_bytes, reply_told, reply_bytes}
 use Rattle.c_protocol.specs.declared.kept.Held.{Held}
 use Rattle.c_protocol.specs.declared.numbers.Answered.{Answered}
 use Rattle.c_protocol.specs.declared.numbers.Asked.{Asked}
@@ -34,13 +34,9 @@ laid bytes room = if fits bytes room then bytes ++ drop (length bytes) room else
 abbrev pub LaidOut : Told → List ℕ → Told → List ℕ → List ℕ → Type 0
 LaidOut numbers bytes told old new = (told ≡ record numbers { whole = fits bytes old }) × (new ≡ laid bytes old)
 
--- The step is told, or that there was no memory to spell it; one without a name, as a Close, is always told.
-abbrev pub SpelledAs : Bool → StepOf ℕ → Told → List ℕ → List ℕ → Type 0
-SpelledAs true step told old new = LaidOut (step_told step) (step_bytes step) told old new
-SpelledAs false step told old new = (is_nameless step ≡ false) × ((told ≡ NOT_SPELLED) × (new ≡ old))
-
-abbrev pub IsDueTold : StepOf ℕ → Told → List ℕ → List ℕ → Type 0
-IsDueTold step told old new = (spelled : Bool) × SpelledAs spelled step told old new
+-- the step is told
+abbrev pub IsDueTold : StepWith ℕ → Told → List ℕ → List ℕ → Type 0
+IsDueTold step told old new = LaidOut (step_told step) (step_bytes step) told old new
 
 -- What is told of a turn, and held after it: the step that is due, and the call; or the reply, and nothing.
 abbrev pub IsTold : CallTurn → Option Held → Told → List ℕ → List ℕ → Type 0

@@ -48,8 +48,8 @@ pub struct Told {
     /// How many bytes the second one has.
     pub second: usize,
     /// 1 to 13 a step that is due: Open, Dup, Parent, ReadLink, NameBelow, List, Close, MakeDir, MakeFile, MakeLink,
-    /// RemoveFile, RemoveDir, Rename. 14 one that there was no memory to spell. 32 to 38 a reply: opened, a text,
-    /// done, a count, a step's answer, a handle handed back, an error.
+    /// RemoveFile, RemoveDir, Rename. 32 to 38 a reply: opened, a text, done, a count, a step's answer, a handle
+    /// handed back, an error.
     pub what: u8,
     /// Of a rename its mode, of what was opened its kind, of an error its number.
     pub detail: u8,

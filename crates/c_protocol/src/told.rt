@@ -1,13 +1,13 @@
 //! What is told of a turn: the step that is due, or the reply.
 ghost use Rattle.std.specs.Prelude.{◌≡◌, ◌≤◌, ◌+◌, ◌++◌, length, take, drop, nat_le};
 ghost use Rattle.path_text.specs.Print.{after_slashes, printed};
-ghost use Rattle.c_protocol.specs.Numbers.{due_told, ended, kind_number, mode_number, reply_bytes, reply_told, step_bytes, step_told, NOT_SPELLED};
+ghost use Rattle.c_protocol.specs.Numbers.{due_told, ended, kind_number, mode_number, reply_bytes, reply_told, step_bytes, step_told};
 ghost use Rattle.c_protocol.specs.Turns.{fits, laid, LaidOut};
 
 use crate::numbers::Told;
 use path_text::Names;
 use root_ops::Reply;
-use tree_model::{Kind, Mode, Step, StepOf};
+use tree_model::{Kind, LentStep, Mode, StepOf};
 
 fn kind_number(kind: Kind) -> u8
     ensures { result ≡ kind_number kind }
@@ -44,7 +44,7 @@ fn due_told(what: u8, handle: u64, other: u64, first: usize, second: usize, deta
 }
 
 // The numbers of a step.
-fn step_told(step: &Step) -> Told
+fn step_told(step: &LentStep<'_>) -> Told
     ensures { result ≡ step_told step.now }
 {
     match step {
@@ -137,7 +137,7 @@ fn lay_out_both(first: &[u8], second: &[u8], room: &mut [u8]) -> bool
 }
 
 // Lays the names and texts of a step there, where they fit.
-fn lay_out_step(step: &Step, room: &mut [u8]) -> bool
+fn lay_out_step(step: &LentStep<'_>, room: &mut [u8]) -> bool
     ensures whole { result ≡ fits (step_bytes step.now) room.old }
     ensures bytes { room.new ≡ laid (step_bytes step.now) room.old }
 {
@@ -222,23 +222,12 @@ fn lay_out_reply(reply: &Reply, room: &mut [u8]) -> bool
 }
 
 /// Tells the step that is due. Takes no memory.
-pub(crate) fn tell_step(step: &Step, told: &mut Told, room: &mut [u8])
+pub(crate) fn tell_step(step: &LentStep<'_>, told: &mut Told, room: &mut [u8])
     ensures { LaidOut (step_told step.now) (step_bytes step.now) told.new room.old room.new }
 {
     let whole = lay_out_step(step, room);
     let numbers = step_told(step);
     *told = Told { whole, ..numbers };
-}
-
-/// Tells that there was no memory for the step that is due.
-pub(crate) fn tell_no_memory(told: &mut Told)
-    ensures { told.new ≡ NOT_SPELLED }
-{
-    let numbers = due_told(14, 0, 0, 0, 0, 0);
-    *told = Told {
-        whole: false,
-        ..numbers
-    };
 }
 
 /// Tells the reply. Takes no memory.

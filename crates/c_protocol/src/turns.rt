@@ -6,7 +6,7 @@ ghost use Rattle.c_protocol.specs.Turns.{call_of, IsBegun, IsDueTold, IsNext, Is
 
 use crate::kept::{Held, Kept};
 use crate::numbers::{Answered, Asked, Told};
-use crate::told::{tell_no_memory, tell_reply, tell_step};
+use crate::told::{tell_reply, tell_step};
 use path_text::Errno;
 use root_ops::{Below, Call, CallTurn, Reply, Request};
 use std::alloc::Global;
@@ -26,15 +26,12 @@ fn begun(alloc: Global, asked: &Asked, first: &[u8], second: &[u8]) -> CallTurn
     }
 }
 
-// Tells the step that is due, or that there was no memory for it.
+// Tells the step that is due.
 #[tactic(auto, using(crate::proofs::Spelling::due_is_told))]
-fn tell_due(alloc: Global, call: &Call, told: &mut Told, room: &mut [u8])
+fn tell_due(call: &Call, told: &mut Told, room: &mut [u8])
     ensures { IsDueTold (due call.now.below call.now.doing) told.new room.old room.new }
 {
-    match call.due(alloc) {
-        Ok(step) => tell_step(&step, told, room),
-        Err(_) => tell_no_memory(told),
-    }
+    tell_step(&call.due(), told, room);
 }
 
 // Tells the turn, and keeps the call where it goes on, in the box that is there for it.
@@ -50,7 +47,7 @@ fn keep(
 {
     match turn {
         CallTurn::More(call) => {
-            tell_due(alloc, &call, told, room);
+            tell_due(&call, told, room);
             match held.call.replace(call) {
                 None => {}
                 // The box was empty.

@@ -243,7 +243,7 @@ pub fn open<T: Tree>(alloc: Global, tree: &mut T) -> bool {
 
 // The answer to the step that is due.
 fn made<T: Tree>(alloc: Global, tree: &mut T, call: &Call) -> Result<Answer, NoMemory> {
-    let step = call.due(alloc)?;
+    let step = call.due();
     let answer = tree.step(alloc, Actor::new(0), &step);
     drop(step);
     answer

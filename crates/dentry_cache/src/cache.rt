@@ -5,7 +5,7 @@ ghost use Rattle.dentry_cache.specs.Cache.{Cache, IsCache, cap_fault, empty, fou
 
 use crate::key::Key;
 use lru::LruCache;
-use path_text::{Errno, Name, NoMemory};
+use path_text::{Errno, LentName, NoMemory};
 use std::alloc::Global;
 use std::marker::Model;
 use std::num::NonZeroUsize;
@@ -100,7 +100,7 @@ impl DentryCache {
 
     /// What was noted of an entry: None where nothing is remembered, `Some(None)` where there is no such entry. It is
     /// the most recently used then. Takes no memory.
-    pub fn look(&mut self, dir: Node, name: &Name) -> Option<Option<Node>>
+    pub fn look(&mut self, dir: Node, name: &LentName<'_>) -> Option<Option<Node>>
         ensures found { result ≡ found self.old dir name.now }
         ensures renewed { self.new ≡ looked self.old dir name.now }
     {
@@ -114,7 +114,12 @@ impl DentryCache {
 
     /// Notes to which node an entry leads, or with None that there is no such entry. At a full cache the least
     /// recently used entry goes. NoMemory where its room was refused, which only an entry that isn't remembered needs.
-    pub fn note(&mut self, dir: Node, name: &Name, there: Option<Node>) -> Result<(), NoMemory>
+    pub fn note(
+        &mut self,
+        dir: Node,
+        name: &LentName<'_>,
+        there: Option<Node>,
+    ) -> Result<(), NoMemory>
         ensures ok { OnOk result (self.new ≡ noted self.old dir name.now there) }
         ensures err { OnErr result (self.new ≡ self.old) }
         ensures succeeds { IsSome (found self.old dir name.now) → IsOk result }
@@ -126,7 +131,7 @@ impl DentryCache {
     }
 
     /// Forgets an entry. Takes no memory.
-    pub fn forget(&mut self, dir: Node, name: &Name)
+    pub fn forget(&mut self, dir: Node, name: &LentName<'_>)
         ensures { self.new ≡ forgotten self.old dir name.now }
     {
         if self.inner.len() == 0 {

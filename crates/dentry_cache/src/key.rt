@@ -1,12 +1,12 @@
 //! A key that holds its name in place.
-ghost use Rattle.std.specs.Prelude.{◌≡◌, ◌≤◌, ◌++◌, List, ℕ, [], true, nat_eq, length, take};
+ghost use Rattle.std.specs.Prelude.{◌≡◌, ◌≤◌, ◌++◌, List, ℕ, [], length, take};
 ghost use Rattle.path_text.specs.declared.name.TheConstants.{NAME_MAX};
 ghost use Rattle.std.specs.Hash as fed;
 ghost use Rattle.std.specs.Cmp.Rules.{comparing, hashing};
 ghost use Rattle.std.proofs.Common.{rules};
 ghost use Rattle.dentry_cache.specs.Cache.{same_entry};
 
-use path_text::{NAME_MAX, Name};
+use path_text::{LentName, NAME_MAX};
 use std::hash::{Hash, Hasher};
 use std::marker::Model;
 use tree_model::Node;
@@ -48,7 +48,7 @@ impl Key {
     }
 
     /// Makes it the key of that entry. It writes the name alone, where a new key would be filled and moved whole.
-    pub(crate) fn set(&mut self, dir: Node, name: &Name)
+    pub(crate) fn set(&mut self, dir: Node, name: &LentName<'_>)
         ensures { self.new ≡ (dir, name.now) }
     {
         let bytes = name.bytes();

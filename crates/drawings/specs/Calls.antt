@@ -7,7 +7,7 @@ use Rattle.race_core.specs.declared.plan.Ref.{Ref}
 use Rattle.race_core.specs.declared.plan.Ref.TheVariants.{Root, Call}
 use Rattle.root_ops.specs.declared.op.Op.{Op}
 use Rattle.root_ops.specs.declared.op.Op.TheVariants as op
-use Rattle.tree_model.specs.declared.step.StepOf.{StepOf}
+use Rattle.tree_model.specs.StepWith.{StepWith}
 use Rattle.tree_model.specs.declared.step.StepOf.TheVariants.{Open, Dup, Parent, ReadLink, NameBelow, List as ListNames, Close, MakeDir, MakeFile, MakeLink, RemoveFile, RemoveDir, Rename}
 use Rattle.step_text.specs.Output.{escaped}
 use Rattle.drawings.specs.Events.{mode_words}
@@ -26,7 +26,7 @@ abbrev pub with_name : List ℕ → List ℕ → Ref → List ℕ
 with_name word name dir = word ++ (escaped name ++ with_ref (codes " in ") dir)
 
 -- a planned step
-abbrev pub single_words : StepOf Ref → List ℕ
+abbrev pub single_words : StepWith Ref → List ℕ
 single_words (Open dir name) = with_name (codes "open ") name dir
 single_words (Dup object) = with_ref (codes "open ") object ++ codes " again"
 single_words (Parent object) = with_ref (codes "open .. of ") object

@@ -8,7 +8,7 @@ use Rattle.tree_model.specs.declared.answer.Answer.TheVariants.{Opened, Text, Na
 use Rattle.tree_model.specs.declared.answer.Event.{Event}
 use Rattle.tree_model.specs.declared.step.Mode.{Mode}
 use Rattle.tree_model.specs.declared.step.Mode.TheVariants.{Plain, NoReplace, Exchange}
-use Rattle.tree_model.specs.declared.step.StepOf.{StepOf}
+use Rattle.tree_model.specs.StepWith.{StepWith}
 use Rattle.tree_model.specs.declared.step.StepOf.TheVariants.{Open, Dup, Parent, ReadLink, NameBelow, List as ListNames, Close, MakeDir, MakeFile, MakeLink, RemoveFile, RemoveDir, Rename}
 use Rattle.tree_model.specs.State.{State}
 use Rattle.step_text.specs.Output.{kind_word, escaped}
@@ -29,7 +29,7 @@ mode_words NoReplace = codes " noreplace"
 mode_words Exchange = codes " exchange"
 
 -- a step of an actor
-abbrev pub step_text : State → ℕ → StepOf ℕ → List ℕ
+abbrev pub step_text : State → ℕ → StepWith ℕ → List ℕ
 step_text s i (Open dir name) = codes "open " ++ (escaped name ++ with_place s i (codes " in ") dir)
 step_text s i (Dup handle) = with_place s i (codes "open ") handle ++ codes " again"
 step_text s i (Parent handle) = with_place s i (codes "open .. of ") handle

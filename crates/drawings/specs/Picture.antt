@@ -6,7 +6,7 @@ use Rattle.race_core.specs.declared.report.Outcome.TheVariants as ended
 use Rattle.tree_model.specs.declared.answer.Answer.{Answer}
 use Rattle.tree_model.specs.declared.answer.Answer.TheVariants as answer
 use Rattle.tree_model.specs.declared.answer.Event.{Event}
-use Rattle.tree_model.specs.declared.step.StepOf.{StepOf}
+use Rattle.tree_model.specs.StepWith.{StepWith}
 use Rattle.tree_model.specs.declared.step.StepOf.TheVariants.{Close}
 use Rattle.tree_model.specs.History.{after_event}
 use Rattle.tree_model.specs.State.{State}
@@ -44,7 +44,7 @@ moment_line s k event =
     record { moment = Some k; actor = event.actor; tone = answer_tone event.answer; text = event_text s event }
 
 -- a handle was closed, which changes nothing that is drawn
-abbrev pub is_plain_close : StepOf ℕ → Answer → Bool
+abbrev pub is_plain_close : StepWith ℕ → Answer → Bool
 is_plain_close (Close handle) answer.Done = true
 is_plain_close step given = false
 

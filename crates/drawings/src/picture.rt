@@ -1,5 +1,5 @@
 //! A picture as its heading and its lines.
-ghost use Rattle.std.specs.Prelude.{◌≡◌, ◌<◌, ◌≤◌, [], ◌∷◌, ◌++◌, length, IfOk, IfErr, OnOk};
+ghost use Rattle.std.specs.Prelude.{◌≡◌, ◌<◌, ◌≤◌, ◌++◌, IfOk, IfErr, OnOk};
 ghost use Rattle.tree_model.specs.History.{after_event};
 ghost use Rattle.drawings.specs.Picture.{answer_tone, moment_line, is_shown, line_if, moment_lines, lines_from, drawn_of, CanBeDrawn, IsPictureFault};
 ghost use Rattle.drawings.specs.declared.picture.PictureFault.TheVariants as picture_fault;
@@ -192,7 +192,7 @@ fn lines_of(
     let mut before = tree.snapshot(alloc)?;
     for at in 0..events.len() {
         let event = events.event(alloc, at)?;
-        let _answer = tree.step(alloc, event.actor, &event.step)?;
+        let _answer = tree.step(alloc, event.actor, &event.step.lend())?;
         let after = tree.snapshot(alloc)?;
         let moment = at as u64;
         add_moment(

@@ -6,7 +6,7 @@ use Rattle.std.proofs.lemmas.List.Elements.{All-push}
 use Rattle.tree_model.specs.declared.answer.Answer.{Answer}
 use Rattle.tree_model.specs.declared.answer.Answer.TheVariants.{Opened, Text, Names, NotBelow, Listed, Done, Refused}
 use Rattle.tree_model.specs.declared.answer.Event.{Event}
-use Rattle.tree_model.specs.declared.step.StepOf.{StepOf}
+use Rattle.tree_model.specs.StepWith.{StepWith}
 use Rattle.tree_model.specs.declared.step.StepOf.TheVariants.{Open, Dup, Parent, ReadLink, NameBelow, List as ListNames, Close, MakeDir, MakeFile, MakeLink, RemoveFile, RemoveDir, Rename}
 use Rattle.event_log.specs.declared.log.TheConstants.{TEXTS_MAX}
 use Rattle.event_log.specs.declared.shape.Record.{Record}
@@ -33,7 +33,7 @@ second_of_two n m rest = ap (take (length m)) (after_first n m rest) ∙ front_a
 after_both : (n m rest : List ℕ) → drop (length m) (drop (length n) ((n ++ m) ++ rest)) ≡ rest
 after_both n m rest = ap (drop (length m)) (after_first n m rest) ∙ rest_again m rest
 
-pub step_again : (s : StepOf ℕ) (rest : List ℕ) → step_read (step_shape s) (step_texts s ++ rest) ≡ s
+pub step_again : (s : StepWith ℕ) (rest : List ℕ) → step_read (step_shape s) (step_texts s ++ rest) ≡ s
 step_again (Open h n) rest = ap (Open h) (front_again n rest)
 step_again (Dup h) rest = refl
 step_again (Parent h) rest = refl
@@ -52,7 +52,7 @@ step_again (Rename h n k m mode) rest =
     ap (λ o. Rename h o k (take (length m) (drop (length n) ((n ++ m) ++ rest))) mode) (first_of_two n m rest)
     ∙ ap (λ o. Rename h n k o mode) (second_of_two n m rest)
 
-pub step_rest_again : (s : StepOf ℕ) (rest : List ℕ) → step_rest (step_shape s) (step_texts s ++ rest) ≡ rest
+pub step_rest_again : (s : StepWith ℕ) (rest : List ℕ) → step_rest (step_shape s) (step_texts s ++ rest) ≡ rest
 step_rest_again (Open h n) rest = rest_again n rest
 step_rest_again (Dup h) rest = refl
 step_rest_again (Parent h) rest = refl
@@ -100,7 +100,7 @@ step_again_in own event rest e =
     let apart : own ≡ step_texts event.step ++ (answer_texts event.answer ++ rest) = e ∙ append_assoc (step_texts event.step) (answer_texts event.answer) rest in
     ap (step_read (step_shape event.step)) apart ∙ step_again event.step (answer_texts event.answer ++ rest)
 
-pub event_made : (a : ℕ) (s t : StepOf ℕ) (v w : Answer) → s ≡ t → v ≡ w → (let r : Event = record { actor = a; step = s; answer = v } in r) ≡ (record { actor = a; step = t; answer = w })
+pub event_made : (a : ℕ) (s t : StepWith ℕ) (v w : Answer) → s ≡ t → v ≡ w → (let r : Event = record { actor = a; step = s; answer = v } in r) ≡ (record { actor = a; step = t; answer = w })
 event_made a s t v w e f =
     ap (λ x. let r : Event = record { actor = a; step = x; answer = v } in r) e
     ∙ ap (λ x. let r : Event = record { actor = a; step = t; answer = x } in r) f

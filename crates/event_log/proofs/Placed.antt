@@ -5,7 +5,7 @@ use Rattle.std.proofs.Math.Seq.{take-append_seam, drop-append_seam}
 use Rattle.std.proofs.lemmas.List.{append_assoc, append-nil, length-append, take_all}
 use Rattle.tree_model.specs.declared.answer.Event.{Event}
 use Rattle.tree_model.specs.declared.answer.Answer.{Answer}
-use Rattle.tree_model.specs.declared.step.StepOf.{StepOf}
+use Rattle.tree_model.specs.StepWith.{StepWith}
 use Rattle.event_log.specs.declared.shape.Record.{Record}
 use Rattle.event_log.specs.declared.log.TheConstants.{TEXTS_MAX}
 use Rattle.event_log.specs.declared.shape.AnswerShape.{AnswerShape}
@@ -111,7 +111,7 @@ lies_own bytes records k start end h within is_start is_end =
 
 -- ---- one more event
 
-pub push_log : (bytes new_bytes : List ℕ) (records kept new_records : List Record) (start a : ℕ) (s : StepOf ℕ) (v : Answer) (shape : StepShape) (answer : AnswerShape)
+pub push_log : (bytes new_bytes : List ℕ) (records kept new_records : List Record) (start a : ℕ) (s : StepWith ℕ) (v : Answer) (shape : StepShape) (answer : AnswerShape)
     → IsLog bytes records → HasStepNames s → HasAnswerNames v → kept ≡ records → start ≡ length bytes → shape ≡ step_shape s → answer ≡ answer_shape v
     → new_bytes ≡ bytes ++ (step_texts s ++ answer_texts v) → length new_bytes ≤ TEXTS_MAX
     → new_records ≡ kept ++ record { start = start; actor = a; step = shape; answer = answer } ∷ []

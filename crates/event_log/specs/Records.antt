@@ -2,12 +2,12 @@
 use Rattle.std.specs.Prelude.{◌≡◌, ℕ, ◌+◌, ◌≤◌, List, [], ◌∷◌, ◌++◌, length, drop, map, All}
 use Rattle.tree_model.specs.declared.answer.Answer.{Answer}
 use Rattle.tree_model.specs.declared.answer.Event.{Event}
-use Rattle.tree_model.specs.declared.step.StepOf.{StepOf}
+use Rattle.tree_model.specs.StepWith.{StepWith}
 use Rattle.event_log.specs.declared.log.TheConstants.{TEXTS_MAX}
 use Rattle.event_log.specs.declared.shape.Record.{Record}
 use Rattle.event_log.specs.Shapes.{step_shape, step_texts, step_read, step_rest, answer_shape, answer_texts, answer_read, HasStepNames, HasAnswerNames}
 
-abbrev pub event_with : ℕ → StepOf ℕ → Answer → Event
+abbrev pub event_with : ℕ → StepWith ℕ → Answer → Event
 event_with actor step answer = record { actor = actor; step = step; answer = answer }
 
 -- an event's names and texts, its step's first

@@ -4,7 +4,7 @@ use Rattle.path_text.specs.Name.{name_fault}
 use Rattle.path_text.specs.Names.{AreNames}
 use Rattle.tree_model.specs.declared.answer.Answer.{Answer}
 use Rattle.tree_model.specs.declared.answer.Answer.TheVariants.{Opened, Text, Names, NotBelow, Listed, Done, Refused}
-use Rattle.tree_model.specs.declared.step.StepOf.{StepOf}
+use Rattle.tree_model.specs.StepWith.{StepWith}
 use Rattle.tree_model.specs.declared.step.StepOf.TheVariants.{Open, Dup, Parent, ReadLink, NameBelow, List as ListNames, Close, MakeDir, MakeFile, MakeLink, RemoveFile, RemoveDir, Rename}
 use Rattle.event_log.specs.declared.shape.AnswerShape.{AnswerShape}
 use Rattle.event_log.specs.declared.shape.AnswerShape.TheVariants as answer
@@ -13,7 +13,7 @@ use Rattle.event_log.specs.declared.shape.StepShape.TheVariants as step
 
 -- ---- what is kept of a step
 
-abbrev pub step_shape : StepOf ℕ → StepShape
+abbrev pub step_shape : StepWith ℕ → StepShape
 step_shape (Open h n) = step.Open (length n) h
 step_shape (Dup h) = step.Dup h
 step_shape (Parent h) = step.Parent h
@@ -29,7 +29,7 @@ step_shape (RemoveDir h n) = step.RemoveDir (length n) h
 step_shape (Rename h n k m mode) = step.Rename (length n) (length m) mode h k
 
 -- its names and its text
-abbrev pub step_texts : StepOf ℕ → List ℕ
+abbrev pub step_texts : StepWith ℕ → List ℕ
 step_texts (Open h n) = n
 step_texts (Dup h) = []
 step_texts (Parent h) = []
@@ -45,7 +45,7 @@ step_texts (RemoveDir h n) = n
 step_texts (Rename h n k m mode) = n ++ m
 
 -- the step of a shape, whose names and text the bytes begin with
-abbrev pub step_read : StepShape → List ℕ → StepOf ℕ
+abbrev pub step_read : StepShape → List ℕ → StepWith ℕ
 step_read (step.Open size h) bytes = Open h (take size bytes)
 step_read (step.Dup h) bytes = Dup h
 step_read (step.Parent h) bytes = Parent h
@@ -128,7 +128,7 @@ answer_read (answer.Refused error) bytes = Refused error
 
 -- ---- names are valid
 
-abbrev pub HasStepNames : StepOf ℕ → Type 0
+abbrev pub HasStepNames : StepWith ℕ → Type 0
 HasStepNames (Open h n) = name_fault n ≡ None
 HasStepNames (Dup h) = Unit {0}
 HasStepNames (Parent h) = Unit {0}

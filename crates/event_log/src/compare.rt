@@ -5,10 +5,10 @@ ghost use Rattle.event_log.specs.Shapes.{step_read, answer_read, pieces_read};
 use crate::read::{after_piece, back, first_piece, front};
 use crate::shape::{AnswerShape, StepShape};
 use path_text::Names;
-use tree_model::{Answer, Step, StepOf};
+use tree_model::{Answer, LentStep, StepOf};
 
 /// Whether the step of that shape, whose names and text the bytes begin with, is that one.
-pub(crate) fn is_step(shape: &StepShape, bytes: &[u8], step: &Step) -> bool
+pub(crate) fn is_step(shape: &StepShape, bytes: &[u8], step: &LentStep<'_>) -> bool
     ensures { IsTrue result ↔ (step_read shape.now bytes.now ≡ step.now) }
 {
     match (shape, step) {

@@ -1,5 +1,5 @@
 //! The log itself.
-ghost use Rattle.std.specs.Prelude.{◌≡◌, ◌≤◌, ◌<◌, suc, ◌+◌, ◌++◌, [], ◌∷◌, true, length, take, slice_get, Some, IsTrue, ◌↔◌, IfOk, IfSome, OnOk, OnErr, IsOk};
+ghost use Rattle.std.specs.Prelude.{◌≡◌, ◌≤◌, ◌<◌, suc, ◌+◌, ◌++◌, [], ◌∷◌, length, take, slice_get, Some, IsTrue, ◌↔◌, IfOk, IfSome, OnOk, OnErr, IsOk};
 ghost use Rattle.tree_model.specs.declared.answer.Answer.TheVariants.{Done as DoneAnswer};
 ghost use Rattle.tree_model.specs.declared.step.StepOf.TheVariants.{Close as CloseStep};
 ghost use Rattle.step_text.specs.Output.{Gains};
@@ -9,14 +9,14 @@ ghost use Rattle.event_log.specs.Shapes.{step_texts, answer_texts};
 
 use crate::compare::{is_answer, is_step};
 use crate::print::{write_answer, write_step};
-use crate::read::{after_step, back, read_answer, read_step};
+use crate::read::{after_step, back, lent_step, read_answer};
 use crate::shape::{AnswerShape, Record, StepShape};
 use crate::write::{add_event, answer_len, step_len};
 use path_text::NoMemory;
 use std::alloc::Global;
 use std::marker::Model;
 use step_text::Output;
-use tree_model::{Actor, Answer, Event, HandleNo, Step};
+use tree_model::{Actor, Answer, Event, HandleNo, LentStep};
 
 mod copy;
 
@@ -95,7 +95,7 @@ impl EventLog {
 
     /// Gets room for the names and the text of a step. NoMemory where it was refused, or where the log would have
     /// more than 33,554,432 bytes of them; no room is lost then.
-    pub fn reserve_texts(&mut self, step: &Step) -> Result<(), NoMemory>
+    pub fn reserve_texts(&mut self, step: &LentStep<'_>) -> Result<(), NoMemory>
         ensures events { self.new.events ≡ self.old.events }
         ensures ok { OnOk result (length (step_texts step.now) ≤ self.new.text_room) }
         ensures room { self.old.room ≤ self.new.room }
@@ -111,7 +111,7 @@ impl EventLog {
 
     /// Gets room for an event, and for its names and texts. NoMemory where it was refused, or where the log would have
     /// more than 33,554,432 bytes of them; no room is lost then. It takes no memory where there is that room.
-    pub fn reserve_event(&mut self, step: &Step, answer: &Answer) -> Result<(), NoMemory>
+    pub fn reserve_event(&mut self, step: &LentStep<'_>, answer: &Answer) -> Result<(), NoMemory>
         ensures events { self.new.events ≡ self.old.events }
         ensures ok { OnOk result ((0 < self.new.room)
             × (length (step_texts step.now ++ answer_texts answer.now) ≤ self.new.text_room)) }
@@ -134,7 +134,7 @@ impl EventLog {
     }
 
     /// Adds an event at the end, for which there is room. Takes no memory.
-    pub fn push_reserved(&mut self, actor: Actor, step: &Step, answer: &Answer)
+    pub fn push_reserved(&mut self, actor: Actor, step: &LentStep<'_>, answer: &Answer)
         requires room { 0 < self.old.room }
         requires text_room { length (step_texts step.now ++ answer_texts answer.now) ≤ self.old.text_room }
         ensures events { self.new.events ≡ self.old.events ++ event_with actor step.now answer.now ∷ [] }
@@ -152,7 +152,12 @@ impl EventLog {
 
     /// Adds an event at the end. NoMemory where room was refused, or where the log would have more than
     /// 33,554,432 bytes of names and texts; the events are then unchanged.
-    pub fn push(&mut self, actor: Actor, step: &Step, answer: &Answer) -> Result<(), NoMemory>
+    pub fn push(
+        &mut self,
+        actor: Actor,
+        step: &LentStep<'_>,
+        answer: &Answer,
+    ) -> Result<(), NoMemory>
         ensures ok { OnOk result (self.new.events ≡ self.old.events ++ event_with actor step.now answer.now ∷ []) }
         ensures err { OnErr result (self.new.events ≡ self.old.events) }
     {
@@ -196,7 +201,7 @@ impl EventLog {
     {
         let record = &self.records[at];
         let own = back(self.bytes.as_slice(), record.start as usize);
-        let step = read_step(alloc, &record.step, own)?;
+        let step = lent_step(&record.step, own).copy(alloc)?;
         let answer = read_answer(alloc, &record.answer, after_step(&record.step, own))?;
         Ok(Event {
             actor: record.actor,
@@ -227,7 +232,7 @@ impl EventLog {
     }
 
     /// Whether the event at a place, counted from 0, is that one. Takes no memory.
-    pub fn is(&self, at: usize, actor: Actor, step: &Step, answer: &Answer) -> bool
+    pub fn is(&self, at: usize, actor: Actor, step: &LentStep<'_>, answer: &Answer) -> bool
         requires { at < length self.now.events }
         ensures { IsTrue result ↔ (slice_get self.now.events at ≡ Some (event_with actor step.now answer.now)) }
     {

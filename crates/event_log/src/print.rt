@@ -1,51 +1,21 @@
 //! What lies in the buffer, written as the words of a line in place.
-ghost use Rattle.std.specs.Prelude.{◌≡◌};
 ghost use Rattle.path_text.specs.Print.{printed};
-ghost use Rattle.step_text.specs.Lent.{lent_step};
 ghost use Rattle.step_text.specs.Output.{Gains, escaped};
 ghost use Rattle.step_text.specs.Words.{line_of, step_words, answer_words};
-ghost use Rattle.event_log.specs.Shapes.{step_read, answer_read, pieces_read};
+ghost use Rattle.event_log.specs.Shapes.{step_read, answer_read, pieces_read, HasStepNames};
 ghost use Rattle.event_log.specs.Printed.{names_after};
 
-use crate::read::{after_piece, back, first_piece, front};
+use crate::read::{after_piece, first_piece, front, lent_step};
 use crate::shape::{AnswerShape, StepShape};
 use path_text::NoMemory;
-use step_text::{AnswerHead, LentStep, Output};
-
-// The step of that shape, whose names and text the bytes begin with and lend.
-fn lent_step<'a>(shape: &StepShape, bytes: &'a [u8]) -> LentStep<'a>
-    ensures { lent_step result ≡ step_read shape.now bytes.now }
-{
-    match shape {
-        StepShape::Open(size, dir) => LentStep::Open(*dir, front(bytes, *size as usize)),
-        StepShape::Dup(handle) => LentStep::Dup(*handle),
-        StepShape::Parent(handle) => LentStep::Parent(*handle),
-        StepShape::ReadLink(handle) => LentStep::ReadLink(*handle),
-        StepShape::NameBelow(root, handle) => LentStep::NameBelow(*root, *handle),
-        StepShape::List(handle) => LentStep::List(*handle),
-        StepShape::Close(handle) => LentStep::Close(*handle),
-        StepShape::MakeDir(size, dir) => LentStep::MakeDir(*dir, front(bytes, *size as usize)),
-        StepShape::MakeFile(size, dir) => LentStep::MakeFile(*dir, front(bytes, *size as usize)),
-        StepShape::MakeLink(size, dir, length) => {
-            let text = front(back(bytes, *size as usize), *length);
-            LentStep::MakeLink(*dir, front(bytes, *size as usize), text)
-        }
-        StepShape::RemoveFile(size, dir) => {
-            LentStep::RemoveFile(*dir, front(bytes, *size as usize))
-        }
-        StepShape::RemoveDir(size, dir) => LentStep::RemoveDir(*dir, front(bytes, *size as usize)),
-        StepShape::Rename(old, new, mode, from, to) => {
-            let other = front(back(bytes, *old as usize), *new as usize);
-            LentStep::Rename(*from, front(bytes, *old as usize), *to, other, *mode)
-        }
-    }
-}
+use step_text::{AnswerHead, Output};
 
 /// Adds the step of that shape, whose names and text the bytes begin with. NoMemory where its room was refused.
 pub(crate) fn write_step(out: &mut Output, shape: &StepShape, bytes: &[u8]) -> Result<(), NoMemory>
+    requires { HasStepNames (step_read shape.now bytes.now) }
     ensures { Gains out.old out.new (line_of (step_words (step_read shape.now bytes.now))) result }
 {
-    out.lent_step(&lent_step(shape, bytes))
+    out.step(&lent_step(shape, bytes))
 }
 
 // Adds a mark and a name for each of that many names, each of which lies after its length.

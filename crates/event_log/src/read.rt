@@ -1,13 +1,13 @@
 //! Names, steps and answers read back from the buffer.
-ghost use Rattle.std.specs.Prelude.{◌≡◌, ℕ, length, take, drop, None, IfOk};
+ghost use Rattle.std.specs.Prelude.{◌≡◌, length, take, drop, None, IfOk};
 ghost use Rattle.path_text.specs.Name.{name_fault};
 ghost use Rattle.path_text.specs.Names.{AreNames};
 ghost use Rattle.event_log.specs.Shapes.{step_read, step_rest, answer_read, first_piece, after_piece, pieces_read, HasStepNames, HasAnswerNames};
 
 use crate::shape::{AnswerShape, StepShape};
-use path_text::{Bytes, Name, Names, NoMemory};
+use path_text::{Bytes, LentBytes, LentName, Names, NoMemory};
 use std::alloc::Global;
-use tree_model::{Answer, Step, StepOf};
+use tree_model::{Answer, LentStep, StepOf};
 
 /// The first bytes, as many as that, or all.
 pub(crate) fn front(bytes: &[u8], size: usize) -> &[u8]
@@ -63,15 +63,12 @@ pub(crate) fn after_piece(bytes: &[u8]) -> &[u8]
     }
 }
 
-// A name of these bytes, which are one.
-fn name_of(alloc: Global, bytes: &[u8]) -> Result<Name, NoMemory>
-    requires { name_fault bytes.now ≡ None }
-    ensures { IfOk result (λ name. name ≡ bytes.now) }
+// The name that the first bytes are, as many as that.
+fn name_at(bytes: &[u8], size: u8) -> LentName<'_>
+    requires { name_fault (take size bytes.now) ≡ None }
+    ensures { result ≡ take size bytes.now }
 {
-    match Name::new(alloc, bytes) {
-        Ok(name) => Ok(name),
-        Err(_error) => Err(NoMemory),
-    }
+    LentName::of(front(bytes, size as usize))
 }
 
 // That many names, each after its length.
@@ -88,44 +85,32 @@ fn names_of(alloc: Global, count: usize, bytes: &[u8]) -> Result<Names, NoMemory
     Ok(names)
 }
 
-/// The step of that shape, whose names and text the bytes begin with. NoMemory where its room was refused.
-pub(crate) fn read_step(alloc: Global, shape: &StepShape, bytes: &[u8]) -> Result<Step, NoMemory>
+/// The step of that shape, whose names and text are lent: the bytes begin with them.
+pub(crate) fn lent_step<'a>(shape: &StepShape, bytes: &'a [u8]) -> LentStep<'a>
     requires { HasStepNames (step_read shape.now bytes.now) }
-    ensures { IfOk result (λ step. step ≡ step_read shape.now bytes.now) }
+    ensures { result ≡ step_read shape.now bytes.now }
 {
-    Ok(match shape {
-        StepShape::Open(size, dir) => {
-            StepOf::Open(*dir, name_of(alloc, front(bytes, *size as usize))?)
-        }
+    match shape {
+        StepShape::Open(size, dir) => StepOf::Open(*dir, name_at(bytes, *size)),
         StepShape::Dup(handle) => StepOf::Dup(*handle),
         StepShape::Parent(handle) => StepOf::Parent(*handle),
         StepShape::ReadLink(handle) => StepOf::ReadLink(*handle),
         StepShape::NameBelow(root, handle) => StepOf::NameBelow(*root, *handle),
         StepShape::List(handle) => StepOf::List(*handle),
         StepShape::Close(handle) => StepOf::Close(*handle),
-        StepShape::MakeDir(size, dir) => {
-            StepOf::MakeDir(*dir, name_of(alloc, front(bytes, *size as usize))?)
-        }
-        StepShape::MakeFile(size, dir) => {
-            StepOf::MakeFile(*dir, name_of(alloc, front(bytes, *size as usize))?)
-        }
+        StepShape::MakeDir(size, dir) => StepOf::MakeDir(*dir, name_at(bytes, *size)),
+        StepShape::MakeFile(size, dir) => StepOf::MakeFile(*dir, name_at(bytes, *size)),
         StepShape::MakeLink(size, dir, length) => {
             let text = front(back(bytes, *size as usize), *length);
-            let name = name_of(alloc, front(bytes, *size as usize))?;
-            StepOf::MakeLink(*dir, name, Bytes::from_slice(alloc, text)?)
+            StepOf::MakeLink(*dir, name_at(bytes, *size), LentBytes::of(text))
         }
-        StepShape::RemoveFile(size, dir) => {
-            StepOf::RemoveFile(*dir, name_of(alloc, front(bytes, *size as usize))?)
-        }
-        StepShape::RemoveDir(size, dir) => {
-            StepOf::RemoveDir(*dir, name_of(alloc, front(bytes, *size as usize))?)
-        }
+        StepShape::RemoveFile(size, dir) => StepOf::RemoveFile(*dir, name_at(bytes, *size)),
+        StepShape::RemoveDir(size, dir) => StepOf::RemoveDir(*dir, name_at(bytes, *size)),
         StepShape::Rename(old, new, mode, from, to) => {
-            let other = front(back(bytes, *old as usize), *new as usize);
-            let name = name_of(alloc, front(bytes, *old as usize))?;
-            StepOf::Rename(*from, name, *to, name_of(alloc, other)?, *mode)
+            let other = name_at(back(bytes, *old as usize), *new);
+            StepOf::Rename(*from, name_at(bytes, *old), *to, other, *mode)
         }
-    })
+    }
 }
 
 /// The answer of that shape, whose names or text the bytes begin with. NoMemory where its room was refused.

@@ -1,10 +1,10 @@
 //! Steps and answers without their names and texts, and the records that are made of them.
-ghost use Rattle.std.specs.Prelude.{◌≡◌, ℕ, IsTrue, ◌↔◌};
+ghost use Rattle.std.specs.Prelude.{◌≡◌, IsTrue, ◌↔◌};
 ghost use Rattle.event_log.specs.Shapes.{step_shape, answer_shape, HasStepNames, HasAnswerNames};
 ghost use Rattle.event_log.specs.Records.{IsLike};
 
 use path_text::Errno;
-use tree_model::{Actor, Answer, HandleNo, Kind, Mode, Node, Step, StepOf};
+use tree_model::{Actor, Answer, HandleNo, Kind, LentStep, Mode, Node, StepOf};
 
 /// A step with the length of each of its names and texts in its place.
 #[derive(Clone, Copy, Debug)]
@@ -50,7 +50,7 @@ const _: () = prove!(size_of::<Record>() == 56);
 
 impl StepShape {
     /// The shape of a step, whose names are valid.
-    pub(crate) fn of(step: &Step) -> StepShape
+    pub(crate) fn of(step: &LentStep<'_>) -> StepShape
         ensures shape { result ≡ step_shape step.now }
         ensures valid { HasStepNames step.now }
     {

@@ -3,10 +3,10 @@ ghost use Rattle.std.specs.Prelude.{◌≡◌, ◌≤◌, ◌<◌, ◌+◌, ◌+
 ghost use Rattle.event_log.specs.Shapes.{step_texts, answer_texts, pieces_of};
 
 use path_text::Names;
-use tree_model::{Answer, Step, StepOf};
+use tree_model::{Answer, LentStep, StepOf};
 
 /// How many bytes the names and the text of a step have.
-pub(crate) fn step_len(step: &Step) -> usize
+pub(crate) fn step_len(step: &LentStep<'_>) -> usize
     ensures { result ≡ length (step_texts step.now) }
 {
     match step {
@@ -74,7 +74,7 @@ fn add_two(bytes: &mut Vec<u8>, first: &[u8], second: &[u8])
 }
 
 // Adds the names and the text of a step, for which there is room.
-fn add_step(bytes: &mut Vec<u8>, step: &Step)
+fn add_step(bytes: &mut Vec<u8>, step: &LentStep<'_>)
     requires { vec_len bytes.old + length (step_texts step.now) ≤ vec_capacity bytes.old }
     ensures items { bytes.new.items ≡ bytes.old.items ++ step_texts step.now }
     ensures room { vec_capacity bytes.old ≤ vec_capacity bytes.new }
@@ -116,7 +116,7 @@ fn add_answer(bytes: &mut Vec<u8>, answer: &Answer)
 }
 
 /// Adds the names and texts of an event, for which there is room.
-pub(crate) fn add_event(bytes: &mut Vec<u8>, step: &Step, answer: &Answer)
+pub(crate) fn add_event(bytes: &mut Vec<u8>, step: &LentStep<'_>, answer: &Answer)
     requires { vec_len bytes.old + length (step_texts step.now ++ answer_texts answer.now) ≤ vec_capacity bytes.old }
     ensures { bytes.new.items ≡ bytes.old.items ++ (step_texts step.now ++ answer_texts answer.now) }
 {

@@ -2,7 +2,7 @@
 -- some turns.
 use Rattle.std.specs.Prelude.{◌≡◌, ℕ, List, [], ◌∷◌, Bool, true}
 use Rattle.tree_model.specs.declared.answer.Answer.{Answer}
-use Rattle.tree_model.specs.declared.step.StepOf.{StepOf}
+use Rattle.tree_model.specs.StepWith.{StepWith}
 pub use Rattle.race_core.specs.OneReport.{full}
 use Rattle.race_core.specs.declared.seat.Seat.{Seat}
 use Rattle.race_core.specs.Worlds.{WorldView, turn}
@@ -20,7 +20,7 @@ Agree pairs f g = (h k : ℕ) → pairs h k ≡ true → f h ≡ g k
 
 -- Two things are the same but for handles that are paired: whatever replacements give pairs one number make them
 -- equal.
-abbrev pub SameSteps : Pairs → StepOf ℕ → StepOf ℕ → Type 0
+abbrev pub SameSteps : Pairs → StepWith ℕ → StepWith ℕ → Type 0
 SameSteps pairs s t = (f g : ℕ → ℕ) → Agree pairs f g → step_by f s ≡ step_by g t
 
 abbrev pub SameAnswers : Pairs → Answer → Answer → Type 0

@@ -1,7 +1,7 @@
 -- How what actors change outside of their roots is counted, a turn at a time.
 use Rattle.std.specs.Prelude.{◌≡◌, ℕ, suc, List, Bool, true, false, Option, slice_set, slice_index_or}
 use Rattle.tree_model.specs.declared.inode.Inode.{Inode}
-use Rattle.tree_model.specs.declared.step.StepOf.{StepOf}
+use Rattle.tree_model.specs.StepWith.{StepWith}
 use Rattle.race_core.specs.Book.{BookedHistory, tree_now, booked}
 use Rattle.race_core.specs.Worlds.{WorldView}
 use Rattle.explore.specs.Outside.{outside_from, roots_of}
@@ -32,5 +32,5 @@ bumped true at counts = slice_set counts at (suc (slice_index_or counts at 0))
 -- the book has one event more
 pub record IsLatest (before after : BookedHistory) : Type 0 where
   pub actor : ℕ
-  pub step : StepOf ℕ
+  pub step : StepWith ℕ
   pub is : after ≡ booked before actor step

@@ -3,7 +3,7 @@
 use Rattle.std.specs.Prelude.{ℕ, suc, ◌==◌, ◌&&◌, ◌||◌, List, [], ◌∷◌, Bool, true, false, not, Option, Some, None}
 use Rattle.tree_model.specs.declared.answer.Event.{Event}
 use Rattle.tree_model.specs.declared.inode.Inode.{Inode}
-use Rattle.tree_model.specs.declared.step.StepOf.{StepOf}
+use Rattle.tree_model.specs.StepWith.{StepWith}
 use Rattle.tree_model.specs.declared.step.StepOf.TheVariants as steps
 use Rattle.tree_model.specs.History.{after_event}
 use Rattle.tree_model.specs.State.{State, is_within}
@@ -16,7 +16,7 @@ use Rattle.explore.specs.Lists.{plus}
 -- ---- a step
 
 -- the handles of the directories whose entries a step changes
-abbrev pub changed_by : StepOf ℕ → List ℕ
+abbrev pub changed_by : StepWith ℕ → List ℕ
 changed_by (steps.MakeDir h n) = h ∷ []
 changed_by (steps.MakeFile h n) = h ∷ []
 changed_by (steps.MakeLink h n text) = h ∷ []

@@ -17,7 +17,7 @@ ghost use Rattle.headline_only.specs.Alone.{IsAnswer, Leads, TellsAlone};
 use path_text::{Errno, Flags, NoMemory, Path};
 use std::alloc::Global;
 use step_resolver::{Goal, Root, Turn, Walk, headline};
-use tree_model::{Actor, Answer, Step};
+use tree_model::{Actor, Answer, LentStep};
 
 /// What makes an actor's steps, and books them as events. Others may act in between.
 pub trait Book {
@@ -25,7 +25,7 @@ pub trait Book {
     ghost booked: { Self → List Event };
 
     /// Makes a step and books it. NoMemory where it wasn't made; a Close always is.
-    fn make(&mut self, alloc: Global, actor: Actor, step: &Step) -> Result<Answer, NoMemory>
+    fn make(&mut self, alloc: Global, actor: Actor, step: &LentStep<'_>) -> Result<Answer, NoMemory>
         ensures ok { IfOk result (λ answer. booked self.new
             ≡ booked self.old ++ record { actor = actor; step = step.now; answer = answer } ∷ []) }
         ensures err { OnErr result (booked self.new ≡ booked self.old) }
@@ -36,10 +36,7 @@ pub trait Book {
 fn answer_due<B: Book>(alloc: Global, book: &mut B, actor: Actor, walk: &Walk) -> Answer
     ensures { IsAnswer walk.now.way walk.now.walking actor (B.booked book.old) (B.booked book.new) result }
 {
-    let Ok(step) = walk.due(alloc) else {
-        return Answer::Refused(Errno::NoMemory);
-    };
-    match book.make(alloc, actor, &step) {
+    match book.make(alloc, actor, &walk.due()) {
         Ok(answer) => answer,
         Err(_) => Answer::Refused(Errno::NoMemory),
     }
@@ -53,7 +50,7 @@ fn advance<B: Book>(alloc: Global, book: &mut B, actor: Actor, walk: Walk) -> Tu
     ensures fewer { steps_to_come result < steps_left walk.walking }
 {
     let answer = answer_due(alloc, book, actor, &walk);
-    walk.take(alloc, answer)
+    walk.take(answer)
 }
 
 /// Makes the steps that are due, one after another, up to the end of the walk.

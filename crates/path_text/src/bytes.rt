@@ -1,7 +1,8 @@
 //! A list of bytes, as the text of a link.
-ghost use Rattle.std.specs.Prelude.{◌≡◌, ℕ, List, length, IsTrue, ◌↔◌, IfOk};
+ghost use Rattle.std.specs.Prelude.{◌≡◌, ℕ, List, IsTrue, ◌↔◌, IfOk};
 
 use crate::errno::NoMemory;
+use crate::lent::LentBytes;
 use std::alloc::Global;
 use std::marker::Model;
 
@@ -46,6 +47,13 @@ impl Bytes {
         ensures { result.now ≡ self.now }
     {
         self.bytes.as_slice()
+    }
+
+    /// The bytes, lent.
+    pub fn lend(&self) -> LentBytes<'_>
+        ensures { result ≡ self.now }
+    {
+        LentBytes::of(self.as_slice())
     }
 
     /// A list of the same bytes. NoMemory where its room was refused.

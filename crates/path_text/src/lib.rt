@@ -10,6 +10,7 @@ mod bytes;
 mod errno;
 mod flags;
 mod laws;
+mod lent;
 mod name;
 mod names;
 mod parse;
@@ -25,6 +26,7 @@ pub use flags::Flags;
 pub use laws::{
     printed_names_are_read, spellings_are_read, spellings_are_unique, texts_are_spelled,
 };
+pub use lent::{LentBytes, LentName};
 pub use name::{NAME_MAX, Name, SLASH};
 pub use names::Names;
 pub use part::{Component, Part};

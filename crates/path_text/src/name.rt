@@ -6,6 +6,7 @@ ghost use Rattle.std.specs.Cmp.{partial_equiv_from_equiv};
 ghost use Rattle.path_text.specs.Name.{is_component, name_fault};
 
 use crate::errno::{Errno, NoMemory};
+use crate::lent::LentName;
 use std::alloc::Global;
 use std::cmp::Ordering;
 use std::marker::Model;
@@ -97,6 +98,13 @@ impl Name {
         ensures valid { name_fault self.now ≡ None }
     {
         self.bytes.as_slice()
+    }
+
+    /// The name, lent.
+    pub fn lend(&self) -> LentName<'_>
+        ensures { result ≡ self.now }
+    {
+        LentName::of(self.bytes())
     }
 
     /// An equal name. NoMemory where its room was refused.

@@ -5,7 +5,9 @@ ghost use Rattle.path_text.specs.Names.{start_at, AreNames};
 ghost use Rattle.path_text.specs.Print.{printed, names_between, names_read};
 
 use crate::errno::NoMemory;
+use crate::lent::LentName;
 use crate::name::{Name, SLASH};
+use crate::parts::Parts;
 use std::alloc::Global;
 use std::marker::Model;
 
@@ -75,6 +77,23 @@ impl Names {
         Ok(copies)
     }
 
+    /// Gets room for so many more names, of so many bytes together. NoMemory where it was refused.
+    pub fn reserve(&mut self, names: usize, bytes: usize) -> Result<(), NoMemory>
+        ensures { self.new ≡ self.old }
+    {
+        self.ends.reserve(names)?;
+        self.bytes.reserve(bytes)?;
+        Ok(())
+    }
+
+    /// Gets room for the names that are parts of the one list and of the other. NoMemory where it was refused.
+    pub fn reserve_for(&mut self, parts: &Parts, others: &Parts) -> Result<(), NoMemory>
+        ensures { self.new ≡ self.old }
+    {
+        let names = parts.len().saturating_add(others.len());
+        self.reserve(names, parts.size().saturating_add(others.size()))
+    }
+
     /// How many names there are.
     pub fn len(&self) -> usize
         ensures count { result ≡ length self.now }
@@ -99,6 +118,14 @@ impl Names {
         let start = start_of(self.ends.as_slice(), at);
         let end = self.ends[at];
         &self.bytes[start..end]
+    }
+
+    /// The name at a place, counted from 0, lent.
+    pub fn lend(&self, at: usize) -> LentName<'_>
+        requires { at < length self.now }
+        ensures { slice_get self.now at ≡ Some result }
+    {
+        LentName::of(self.get(at))
     }
 
     /// The name at a place, counted from 0, as a copy. NoMemory where its room was refused.

@@ -1,7 +1,8 @@
 //! Reading a path from a text.
-ghost use Rattle.std.specs.Prelude.{◌≡◌, ℕ, List, length, MatchResult, MatchOption, Err, IfOk};
+ghost use Rattle.std.specs.Prelude.{◌≡◌, MatchResult, MatchOption, Err};
 ghost use Rattle.path_text.specs.Text.{text_fault, reading_of, begins_with_slash};
 
+use crate::bytes::Bytes;
 use crate::errno::Errno;
 use crate::name::SLASH;
 use crate::parts::Parts;
@@ -45,7 +46,7 @@ impl Path {
             return Err(fault);
         }
         let mut parts = Parts::new(alloc);
-        let slash = parts.put_for_first(text)?;
+        let slash = parts.put_for_first(Bytes::from_slice(alloc, text)?)?;
         Ok(Path {
             absolute: begins_with_slash(text),
             parts,

@@ -3,6 +3,7 @@ ghost use Rattle.std.specs.Prelude.{◌≡◌, ◌<◌, ◌≤◌, ℕ, List, le
 ghost use Rattle.path_text.specs.Name.{is_component, component_fault};
 
 use crate::errno::NoMemory;
+use crate::lent::LentName;
 use crate::name::{NAME_MAX, Name};
 use std::alloc::Global;
 use std::marker::Model;
@@ -36,6 +37,14 @@ impl<'a> Component<'a> {
         ensures { IsTrue result ↔ (NAME_MAX < length self.now) }
     {
         self.bytes.len() > NAME_MAX
+    }
+
+    /// The name of the same bytes, lent.
+    pub fn name(&self) -> LentName<'a>
+        requires { length self.now ≤ NAME_MAX }
+        ensures { result ≡ self.now }
+    {
+        LentName::of(self.bytes)
     }
 
     /// A name of the same bytes. NoMemory where its room was refused.

@@ -1,11 +1,12 @@
 //! A list of parts, as a path text is read.
-ghost use Rattle.std.specs.Prelude.{◌≡◌, ◌<◌, ◌≤◌, ◌+◌, ◌-◌, ℕ, List, [], ◌∷◌, ◌++◌, length, take, drop, slice_get, Some, IsTrue, ◌↔◌, IfOk, OnOk, OnErr, false, ◌==◌, if◌then◌else◌};
+ghost use Rattle.std.specs.Prelude.{◌≡◌, ◌<◌, ◌≤◌, ◌+◌, ◌-◌, List, [], ◌∷◌, ◌++◌, length, take, drop, slice_get, Some, IsTrue, ◌↔◌, IfOk, OnOk, OnErr, false, ◌==◌, if◌then◌else◌};
 ghost use Rattle.std.specs.List.{list_any};
 ghost use Rattle.std.specs.Vec.{vec_len, vec_capacity};
 ghost use Rattle.path_text.specs.Name.{NUL};
 ghost use Rattle.path_text.specs.Parts.{parts_at, ArePlaces};
 ghost use Rattle.path_text.specs.Text.{pieces, parts_of, has_final_slash};
 
+use crate::bytes::Bytes;
 use crate::errno::NoMemory;
 use crate::part::Part;
 use crate::places::{Span, count_pieces, has_final_slash, push_pieces};
@@ -79,6 +80,19 @@ fn put_parts(bytes: &mut Vec<u8>, spans: &mut Vec<Span>, text: &[u8], slash: boo
     push_pieces(spans, bytes.as_slice(), low);
 }
 
+// Puts the parts of the text that the buffer is, where there are no others.
+fn put_only(bytes: &[u8], spans: &mut Vec<Span>, slash: bool)
+    requires room { length (pieces bytes.now) + 1 ≤ vec_capacity spans.old }
+    requires none { spans.old.items ≡ [] }
+    requires clean { list_any (λ b. b == NUL) bytes.now ≡ false }
+    requires slash { slash ≡ has_final_slash bytes.now }
+    ensures parts { parts_at bytes.now spans.new.items ≡ parts_of bytes.now }
+    ensures places { ArePlaces bytes.now spans.new.items }
+{
+    push_slash(spans, slash, bytes.len());
+    push_pieces(spans, bytes, 0);
+}
+
 impl Parts {
     /// No parts. Takes no memory.
     pub fn new(alloc: Global) -> Parts
@@ -102,6 +116,11 @@ impl Parts {
         ensures { IsTrue result ↔ (self.now ≡ []) }
     {
         self.spans.is_empty()
+    }
+
+    // How many bytes the texts have that the parts are of: no fewer than the parts together.
+    pub(crate) fn size(&self) -> usize {
+        self.bytes.len()
     }
 
     /// The part at a place, counted from 0.
@@ -150,10 +169,24 @@ impl Parts {
     }
 
     /// Puts the parts of a text without NUL in the place of the first part, or where there is none, before all.
-    /// The answer is whether a slash at the text's end gave one of them. NoMemory where room was refused, before
-    /// anything changed.
+    /// The answer is whether a slash at the text's end gave one of them. Where no other part is left, the text is kept
+    /// as it came. NoMemory where room was refused, before anything changed.
+    pub fn put_for_first(&mut self, text: Bytes) -> Result<bool, NoMemory>
+        requires { list_any (λ b. b == NUL) text ≡ false }
+        ensures ok { OnOk result (self.new ≡ parts_of text ++ drop 1 self.old) }
+        ensures slash { IfOk result (λ slash. slash ≡ has_final_slash text) }
+        ensures err { OnErr result (self.new ≡ self.old) }
+    {
+        if self.spans.len() > 1 {
+            self.put_with_others(text.as_slice())
+        } else {
+            self.put_alone(text.into_vec())
+        }
+    }
+
+    // The same where other parts are left: the text is added to theirs.
     #[tactic(auto, using(crate::proofs::TextLemmas::pieces_half))]
-    pub fn put_for_first(&mut self, text: &[u8]) -> Result<bool, NoMemory>
+    fn put_with_others(&mut self, text: &[u8]) -> Result<bool, NoMemory>
         requires { list_any (λ b. b == NUL) text.now ≡ false }
         ensures ok { OnOk result (self.new ≡ parts_of text.now ++ drop 1 self.old) }
         ensures slash { IfOk result (λ slash. slash ≡ has_final_slash text.now) }
@@ -165,6 +198,24 @@ impl Parts {
         self.spans.reserve(count + 1)?;
         take_first(&mut self.bytes, &mut self.spans);
         put_parts(&mut self.bytes, &mut self.spans, text, slash);
+        Ok(slash)
+    }
+
+    // The same where no other part is left: the text takes the place of the one before.
+    #[tactic(auto, using(crate::proofs::TextLemmas::pieces_half))]
+    fn put_alone(&mut self, text: Vec<u8>) -> Result<bool, NoMemory>
+        requires clean { list_any (λ b. b == NUL) text.items ≡ false }
+        requires alone { length self.old ≤ 1 }
+        ensures ok { OnOk result (self.new ≡ parts_of text.items) }
+        ensures slash { IfOk result (λ slash. slash ≡ has_final_slash text.items) }
+        ensures err { OnErr result (self.new ≡ self.old) }
+    {
+        let count = count_pieces(&text);
+        let slash = has_final_slash(&text, count);
+        self.spans.reserve(count + 1)?;
+        self.spans.clear();
+        put_only(&text, &mut self.spans, slash);
+        self.bytes = text;
         Ok(slash)
     }
 

@@ -9,7 +9,7 @@ use Rattle.path_text.specs.declared.errno.Errno.TheVariants.{NoMemory, BookFull,
 use Rattle.path_text.proofs.TextLemmas.{or_false}
 use Rattle.tree_model.specs.declared.answer.Answer.TheVariants.{Refused}
 use Rattle.tree_model.specs.declared.answer.Event.{Event}
-use Rattle.tree_model.specs.declared.step.StepOf.{StepOf}
+use Rattle.tree_model.specs.StepWith.{StepWith}
 use Rattle.tree_model.specs.declared.step.StepOf.TheVariants as steps
 use Rattle.tree_model.specs.State.{State}
 use Rattle.tree_model.specs.Steps.{outcome, held, node_held}
@@ -33,12 +33,12 @@ use Rattle.race_core.proofs.KeptOpen.{IsOpen}
 -- ---- a step through the book
 
 -- made and booked; or not made for want of memory or lines, as no Close is; or the Close of nothing
-pub data StepEffect (book : BookedHistory) (a : ℕ) (step : StepOf ℕ) (s : Stepped) : Type 0 where
+pub data StepEffect (book : BookedHistory) (a : ℕ) (step : StepWith ℕ) (s : Stepped) : Type 0 where
   was_made : s ≡ record { answer = answer_now book a step; book = booked book a step } → StepEffect book a step s
   was_not : (error : Errno) → IsWant error → is_close step ≡ false → s ≡ record { answer = Refused error; book = book } → StepEffect book a step s
   was_shut : closes_nothing (tree_now book) a step ≡ true → s ≡ record { answer = Refused BadHandle; book = book } → StepEffect book a step s
 
-close_needs_none : (free : ℕ) (step : StepOf ℕ) → nat_lt free (lines_needed step) ≡ true → is_close step ≡ false
+close_needs_none : (free : ℕ) (step : StepWith ℕ) → nat_lt free (lines_needed step) ≡ true → is_close step ≡ false
 close_needs_none free (steps.Open h n) e = refl
 close_needs_none free (steps.Dup h) e = refl
 close_needs_none free (steps.Parent h) e = refl
@@ -53,7 +53,7 @@ close_needs_none free (steps.RemoveFile h n) e = refl
 close_needs_none free (steps.RemoveDir h n) e = refl
 close_needs_none free (steps.Rename h n k m mode) e = refl
 
-module _ (book : BookedHistory) (a : ℕ) (step : StepOf ℕ) where
+module _ (book : BookedHistory) (a : ℕ) (step : StepWith ℕ) where
   by_refusal : (full shut : Bool) → nat_lt (free_lines book) (lines_needed step) ≡ full → closes_nothing (tree_now book) a step ≡ shut
       → StepEffect book a step (unless_refused book a step (if full then Some BookFull else (if shut then Some BadHandle else None)))
   by_refusal true shut f s = was_not BookFull (inr refl) (close_needs_none (free_lines book) step f) refl
@@ -74,10 +74,10 @@ open_on : (o : Option ℕ) → is_some o ≡ true → (x : ℕ) × (o ≡ Some x
 open_on None e = absurd (false≢true e)
 open_on (Some x) e = (x, refl)
 
-pub open_among_others : (s : State) (b a : ℕ) (step : StepOf ℕ) → a ≢ b → (h : ℕ) → IsOpen s a h → IsOpen (outcome s b step).after a h
+pub open_among_others : (s : State) (b a : ℕ) (step : StepWith ℕ) → a ≢ b → (h : ℕ) → IsOpen s a h → IsOpen (outcome s b step).after a h
 open_among_others s b a step ne h is = ap is_some (others_handles_stay s b step a h ne) ∙ is
 
-step_moves : (s : State) (a : ℕ) (step : StepOf ℕ) → Moves (IsOpen s a) step (outcome s a step).answer (IsOpen (outcome s a step).after a)
+step_moves : (s : State) (a : ℕ) (step : StepWith ℕ) → Moves (IsOpen s a) step (outcome s a step).answer (IsOpen (outcome s a step).after a)
 step_moves s a step = record {
   stays = λ k is e. ap is_some (own_handles_stay s a step k (open_on (held s a k) is).0 (open_on (held s a k) is).1 e);
   is_new = λ h x kind e.
@@ -85,10 +85,10 @@ step_moves s a step = record {
       (ap is_some opened.1, λ was. false≢true (sym (ap is_some (ap (held s a) opened.0 ∙ ap (node_held a) (slice_get_past s.handles (length s.handles) (le_refl (length s.handles))))) ∙ was));
 }
 
-pub tree_booked : (book : BookedHistory) (a : ℕ) (step : StepOf ℕ) → tree_now (booked book a step) ≡ (outcome (tree_now book) a step).after
+pub tree_booked : (book : BookedHistory) (a : ℕ) (step : StepWith ℕ) → tree_now (booked book a step) ≡ (outcome (tree_now book) a step).after
 tree_booked book a step = after_events-append book.opening book.events (record { actor = a; step = step; answer = answer_now book a step } ∷ [])
 
-pub booked_moves : (book : BookedHistory) (a : ℕ) (step : StepOf ℕ) → Moves (IsOpen (tree_now book) a) step (answer_now book a step) (IsOpen (tree_now (booked book a step)) a)
+pub booked_moves : (book : BookedHistory) (a : ℕ) (step : StepWith ℕ) → Moves (IsOpen (tree_now book) a) step (answer_now book a step) (IsOpen (tree_now (booked book a step)) a)
 booked_moves book a step = subst (λ (t : State). Moves (IsOpen (tree_now book) a) step (answer_now book a step) (IsOpen t a)) (sym (tree_booked book a step)) (step_moves (tree_now book) a step)
 
 -- ---- own events
@@ -110,9 +110,9 @@ own_stays a events event ne = filter-append (λ (v : Event). v.actor == a) event
 -- the book is as it was, or has one event more, which is this actor's
 pub data BookMoves (book : BookedHistory) (a : ℕ) (new : BookedHistory) : Type 0 where
   same : new ≡ book → BookMoves book a new
-  one_more : (step : StepOf ℕ) → new ≡ booked book a step → BookMoves book a new
+  one_more : (step : StepWith ℕ) → new ≡ booked book a step → BookMoves book a new
 
-effect_moves : (book : BookedHistory) (a : ℕ) (step : StepOf ℕ) (s : Stepped) → StepEffect book a step s → BookMoves book a s.book
+effect_moves : (book : BookedHistory) (a : ℕ) (step : StepWith ℕ) (s : Stepped) → StepEffect book a step s → BookMoves book a s.book
 effect_moves book a due_step s (was_made is) = one_more due_step (ap (λ (t : Stepped). t.book) is)
 effect_moves book a due_step s (was_not error want none is) = same (ap (λ (t : Stepped). t.book) is)
 effect_moves book a due_step s (was_shut nothing is) = same (ap (λ (t : Stepped). t.book) is)

@@ -5,7 +5,7 @@ use Rattle.std.proofs.lemmas.List.{length_push, append-nil}
 use Rattle.tree_model.specs.declared.answer.Answer.{Answer}
 use Rattle.tree_model.specs.declared.answer.Answer.TheVariants.{Opened, Text, Names, NotBelow, Listed, Done, Refused}
 use Rattle.tree_model.specs.declared.answer.Event.{Event}
-use Rattle.tree_model.specs.declared.step.StepOf.{StepOf}
+use Rattle.tree_model.specs.StepWith.{StepWith}
 use Rattle.tree_model.specs.declared.step.StepOf.TheVariants.{Open, Dup, Parent, ReadLink, NameBelow, List as ListNames, Close, MakeDir, MakeFile, MakeLink, RemoveFile, RemoveDir, Rename}
 use Rattle.tree_model.specs.Entries.{with_some}
 use Rattle.tree_model.specs.History.{after_events}
@@ -24,7 +24,7 @@ use Rattle.tree_model.proofs.HistoryLaws.{after_events-append, legal_goes_on}
 use Rattle.race_core.specs.Book.{tree_now, free_lines, booked, is_close, is_done, lines_needed, IsBook}
 use Rattle.race_core.specs.BookLaws.{FreeLinesNeverRise}
 
-closed_few : (answer : Answer) (step : StepOf ℕ) → closed_count answer step ≤ 1
+closed_few : (answer : Answer) (step : StepWith ℕ) → closed_count answer step ≤ 1
 closed_few Done (Close h) = omega arith
 closed_few Done (Open h n) = omega arith
 closed_few Done (Dup h) = omega arith
@@ -55,7 +55,7 @@ free_lines_never_rise book a step =
     omega (arith, counted, few, ap open_count after, length_push book.events event)
 
 -- a step's event makes a book of a book, where its lines and its memory are had
-pub book_more : (opening s after : State) (events more : List Event) (lines count counted room left : ℕ) (a : ℕ) (step : StepOf ℕ) (answer : Answer)
+pub book_more : (opening s after : State) (events more : List Event) (lines count counted room left : ℕ) (a : ℕ) (step : StepWith ℕ) (answer : Answer)
     → IsBook opening s events lines count room
     → answer ≡ (outcome s a step).answer → after ≡ (outcome s a step).after
     → more ≡ events ++ record { actor = a; step = step; answer = answer } ∷ []
@@ -90,7 +90,7 @@ opened_few (Listed names) = omega arith
 opened_few Done = omega arith
 opened_few (Refused error) = omega arith
 
-entries_open_none : {s : State} {a : ℕ} {step : StepOf ℕ} {o : Outcome} → is_on_entries step ≡ true → Does s a step o → opened_count o.answer ≡ 0
+entries_open_none : {s : State} {a : ℕ} {step : StepWith ℕ} {o : Outcome} → is_on_entries step ≡ true → Does s a step o → opened_count o.answer ≡ 0
 entries_open_none e (refuses error) = refl
 entries_open_none e (tells answer t) = tells-opened answer t
 entries_open_none e (opens_on x what e1 e2 e3) = absurd (false≢true (sym e1 ∙ e))
@@ -110,10 +110,10 @@ shows_none : (s : State) (o : Option (List (List ℕ))) → OpensNone (shows s o
 shows_none s None = refl
 shows_none s (Some names) = refl
 
-on_entries : (s : State) (a : ℕ) (step : StepOf ℕ) → is_on_entries step ≡ true → 1 + opened_count (outcome s a step).answer ≤ 1
+on_entries : (s : State) (a : ℕ) (step : StepWith ℕ) → is_on_entries step ≡ true → 1 + opened_count (outcome s a step).answer ≤ 1
 on_entries s a step e = omega (arith, entries_open_none e (does s a step))
 
-pub lines_are_enough : (s : State) (a : ℕ) (step : StepOf ℕ) → is_close step ≡ false → 1 + opened_count (outcome s a step).answer ≤ lines_needed step
+pub lines_are_enough : (s : State) (a : ℕ) (step : StepWith ℕ) → is_close step ≡ false → 1 + opened_count (outcome s a step).answer ≤ lines_needed step
 lines_are_enough s a (Open h n) e = omega (arith, opened_few (outcome s a (Open h n)).answer)
 lines_are_enough s a (Dup h) e = omega (arith, opened_few (outcome s a (Dup h)).answer)
 lines_are_enough s a (Parent h) e = omega (arith, opened_few (outcome s a (Parent h)).answer)
@@ -137,7 +137,7 @@ lines_are_enough s a (RemoveFile h n) e = on_entries s a (RemoveFile h n) refl
 lines_are_enough s a (RemoveDir h n) e = on_entries s a (RemoveDir h n) refl
 lines_are_enough s a (Rename h n k m mode) e = on_entries s a (Rename h n k m mode) refl
 
-pub not_closed : (answer : Answer) (step : StepOf ℕ) → is_close step ≡ false → closed_count answer step ≡ 0
+pub not_closed : (answer : Answer) (step : StepWith ℕ) → is_close step ≡ false → closed_count answer step ≡ 0
 not_closed Done (Close h) e = absurd (false≢true (sym e))
 not_closed Done (Open h n) e = refl
 not_closed Done (Dup h) e = refl
@@ -207,7 +207,7 @@ book_unclosed opening s after events lines count room a h b not_held is_after =
     rw same b
 
 -- another step was made
-pub book_made : (opening s after : State) (events more : List Event) (lines count count_opened room left a : ℕ) (step : StepOf ℕ) (answer : Answer) → IsBook opening s events lines count room
+pub book_made : (opening s after : State) (events more : List Event) (lines count count_opened room left a : ℕ) (step : StepWith ℕ) (answer : Answer) → IsBook opening s events lines count room
     → is_close step ≡ false → lines_needed step ≤ free_lines (record { opening = opening; events = events; lines = lines })
     → answer ≡ (outcome s a step).answer → after ≡ (outcome s a step).after
     → more ≡ events ++ record { actor = a; step = step; answer = answer } ∷ []
@@ -232,14 +232,14 @@ bare_or_telling Done e = absurd (e refl)
 bare_or_telling (Refused error) e = absurd (e refl)
 
 -- a log with room for a step's names and text had none for the event's: its answer has some
-pub not_bare : (step : StepOf ℕ) (answer : Answer) (room text_room : ℕ) (is_ok : Type 0) → 0 < room → length (step_texts step) ≤ text_room → (is_ok → ⊥)
+pub not_bare : (step : StepWith ℕ) (answer : Answer) (room text_room : ℕ) (is_ok : Type 0) → 0 < room → length (step_texts step) ≤ text_room → (is_ok → ⊥)
     → (0 < room → length (step_texts step ++ answer_texts answer) ≤ text_room → is_ok) → answer_texts answer ≡ [] → ⊥
 not_bare step answer room text_room is_ok some fits refused would e =
     let same : length (step_texts step ++ answer_texts answer) ≡ length (step_texts step) = ap (λ bs. length (step_texts step ++ bs)) e ∙ ap length (append-nil (step_texts step)) in
     refused (would some (omega (arith, same, fits)))
 
 -- the step was made, and its answer found no memory: it changed nothing
-pub book_stays : (opening s after : State) (events more : List Event) (lines count room left a : ℕ) (step : StepOf ℕ) (answer : Answer) → IsBook opening s events lines count room
+pub book_stays : (opening s after : State) (events more : List Event) (lines count room left a : ℕ) (step : StepWith ℕ) (answer : Answer) → IsBook opening s events lines count room
     → answer ≡ (outcome s a step).answer → after ≡ (outcome s a step).after → (answer_texts answer ≡ [] → ⊥) → more ≡ events → count ≤ left
     → IsBook opening after more lines count left
 book_stays opening s after events more lines count room left a step answer b is_answer is_after not_bare is_more is_left =

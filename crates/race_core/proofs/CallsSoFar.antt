@@ -9,7 +9,7 @@ use Rattle.path_text.specs.declared.errno.Errno.TheVariants.{BadHandle}
 use Rattle.tree_model.specs.declared.answer.Answer.{Answer}
 use Rattle.tree_model.specs.declared.answer.Answer.TheVariants.{Refused}
 use Rattle.tree_model.specs.declared.answer.Event.{Event}
-use Rattle.tree_model.specs.declared.step.StepOf.{StepOf}
+use Rattle.tree_model.specs.StepWith.{StepWith}
 use Rattle.tree_model.specs.declared.step.StepOf.TheVariants as steps
 use Rattle.tree_model.specs.State.{State}
 use Rattle.handles.specs.declared.owner.Owner.{Owner}
@@ -268,7 +268,7 @@ module _ (plan : List Planned) (book : BookedHistory) (ledger : LedgerView) (cal
   abbrev a : ℕ
   a = ledger.root.owner.actor
 
-  abbrev step : StepOf ℕ
+  abbrev step : StepWith ℕ
   step = due below doing
 
   abbrev next_book : BookedHistory
@@ -360,10 +360,10 @@ module _ (plan : List Planned) (book : BookedHistory) (ledger : LedgerView) (cal
     releases = λ own call standing is there. absurd (never own standing.handle (is_releasing standing.handle (c.releases own call standing is there)));
   }
 
-  is_no_close : (s : StepOf ℕ) → is_close s ≡ false → (h : ℕ) → s ≡ steps.Close h → ⊥
+  is_no_close : (s : StepWith ℕ) → is_close s ≡ false → (h : ℕ) → s ≡ steps.Close h → ⊥
   is_no_close s e h same = false≢true (sym e ∙ ap is_close same)
 
-  closes_some : (s : StepOf ℕ) → closes_nothing (tree_now book) a s ≡ true → is_close s ≡ true
+  closes_some : (s : StepWith ℕ) → closes_nothing (tree_now book) a s ≡ true → is_close s ≡ true
   closes_some (steps.Open h n) e = absurd (false≢true e)
   closes_some (steps.Dup h) e = absurd (false≢true e)
   closes_some (steps.Parent h) e = absurd (false≢true e)
@@ -415,7 +415,7 @@ turns_so_far plan luck book ledger doing far =
 
 -- ---- another's turn
 
-module _ (plan : List Planned) (book : BookedHistory) (b : ℕ) (step : StepOf ℕ) (ledger : LedgerView) (calls : List CallMade) (other : b ≢ ledger.root.owner.actor) where
+module _ (plan : List Planned) (book : BookedHistory) (b : ℕ) (step : StepWith ℕ) (ledger : LedgerView) (calls : List CallMade) (other : b ≢ ledger.root.owner.actor) where
   still_own : own_events ledger.root.owner.actor (booked book b step).events ≡ own_events ledger.root.owner.actor book.events
   still_own = own_stays ledger.root.owner.actor book.events _ other
 

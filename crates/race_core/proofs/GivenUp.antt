@@ -2,7 +2,7 @@
 use Rattle.std.proofs.Common.{◌≡◌, ℕ, List, [], ◌∷◌, ◌++◌, Bool, false, Option, Some, None, refl, sym, ap, subst, ◌∙◌}
 use Rattle.path_text.specs.declared.errno.Errno.{Errno}
 use Rattle.tree_model.specs.declared.answer.Answer.{Answer}
-use Rattle.tree_model.specs.declared.step.StepOf.{StepOf}
+use Rattle.tree_model.specs.StepWith.{StepWith}
 use Rattle.tree_model.specs.declared.step.StepOf.TheVariants as steps
 use Rattle.root_ops.specs.declared.below.Below.{Below}
 use Rattle.root_ops.specs.declared.call.CallTurn.{CallTurn as Outcome}
@@ -27,7 +27,7 @@ closed_unless book a h None = record { closed = h ∷ []; is = refl }
 closed_unless book a h (Some error) = record { closed = []; is = refl }
 
 -- without memory a step is a Close, or isn't made
-one_step : (book : BookedHistory) (a : ℕ) (step : StepOf ℕ) → OneClosed a book (stepped_by false book a step).book
+one_step : (book : BookedHistory) (a : ℕ) (step : StepWith ℕ) → OneClosed a book (stepped_by false book a step).book
 one_step book a (steps.Close h) = closed_unless book a h (refusal book a (steps.Close h))
 one_step book a (steps.Open h n) = record { closed = []; is = refl }
 one_step book a (steps.Dup h) = record { closed = []; is = refl }

@@ -13,7 +13,7 @@ use Rattle.tree_model.specs.declared.answer.Answer.{Answer}
 use Rattle.tree_model.specs.declared.answer.Answer.TheVariants.{Opened, Text, Names, NotBelow, Listed, Done, Refused}
 use Rattle.tree_model.specs.declared.step.Kind.{Kind}
 use Rattle.tree_model.specs.declared.step.Mode.{Mode}
-use Rattle.tree_model.specs.declared.step.StepOf.{StepOf}
+use Rattle.tree_model.specs.StepWith.{StepWith}
 use Rattle.tree_model.specs.declared.step.StepOf.TheVariants as steps
 use Rattle.tree_model.specs.StepLaws.{is_close_of}
 use Rattle.handles.specs.Objects.{StandingObject}
@@ -96,7 +96,7 @@ change_closes_none (changes.MakeLink text) d n = refl
 change_closes_none changes.RemoveFile d n = refl
 change_closes_none changes.RemoveDir d n = refl
 
-single_closes_none : (step : StepOf ℕ) → is_single step ≡ true → is_close step ≡ false
+single_closes_none : (step : StepWith ℕ) → is_single step ≡ true → is_close step ≡ false
 single_closes_none (steps.Open h n) e = refl
 single_closes_none (steps.Dup h) e = refl
 single_closes_none (steps.Parent h) e = refl
@@ -207,7 +207,7 @@ module _ (Open Freed : ℕ → Type 0) (below : Below) where
       let way = way_from below.root Follow below.flags in
       then_clears (remove.begins way split.name split.dir) (removal_begun Open way split.name split.dir)
 
-  begun_single : (step : StepOf ℕ) → TurnHolds Open Freed (single step)
+  begun_single : (step : StepWith ℕ) → TurnHolds Open Freed (single step)
   begun_single step = on (is_single step) refl
     where
       on : (b : Bool) → is_single step ≡ b → TurnHolds Open Freed (if b then more (acting wants.Any step []) else ends (fault Invalid))
@@ -261,11 +261,11 @@ module _ (Open Freed : ℕ → Type 0) (below : Below) where
 -- ---- steps
 
 -- What a step leaves open: all but what it closes, and what it opened, which wasn't.
-pub record Moves (Open : ℕ → Type 0) (step : StepOf ℕ) (answer : Answer) (New : ℕ → Type 0) : Type 0 where
+pub record Moves (Open : ℕ → Type 0) (step : StepWith ℕ) (answer : Answer) (New : ℕ → Type 0) : Type 0 where
   pub stays : (k : ℕ) → Open k → is_close_of k step ≡ false → New k
   pub is_new : (h x : ℕ) (kind : Kind) → answer ≡ Opened h x kind → New h × (Open h → ⊥)
 
-module _ (Open New : ℕ → Type 0) (step : StepOf ℕ) (answer : Answer) (moves : Moves Open step answer New) where
+module _ (Open New : ℕ → Type 0) (step : StepWith ℕ) (answer : Answer) (moves : Moves Open step answer New) where
   pub stay : (hs : List ℕ) → ((k : ℕ) → is_close_of k step ≡ false) → AllOpen Open hs → AllOpen New hs
   stay [] none all = tt
   stay (h ∷ hs) none all = (moves.stays h all.0 (none h), (all.1.0, stay hs none all.1.1))
@@ -305,7 +305,7 @@ opened_before (Listed names) hs fs = refl
 opened_before Done hs fs = refl
 opened_before (Refused error) hs fs = refl
 
-pub closes_none : (step : StepOf ℕ) → is_close step ≡ false → (k : ℕ) → is_close_of k step ≡ false
+pub closes_none : (step : StepWith ℕ) → is_close step ≡ false → (k : ℕ) → is_close_of k step ≡ false
 closes_none (steps.Open h n) e k = refl
 closes_none (steps.Dup h) e k = refl
 closes_none (steps.Parent h) e k = refl
@@ -321,7 +321,7 @@ closes_none (steps.RemoveDir h n) e k = refl
 closes_none (steps.Rename h n k m mode) e l = refl
 
 module _ (Open New : ℕ → Type 0) (answer : Answer) where
-  with_others : (step : StepOf ℕ) → Moves Open step answer New → (hs fs : List ℕ) → is_close step ≡ false → AllOpen Open (hs ++ fs) → AllOpen New (with_opened answer hs ++ fs)
+  with_others : (step : StepWith ℕ) → Moves Open step answer New → (hs fs : List ℕ) → is_close step ≡ false → AllOpen Open (hs ++ fs) → AllOpen New (with_opened answer hs ++ fs)
   with_others step moves hs fs e all = subst (AllOpen New) (sym (opened_before answer hs fs)) (made Open New step answer moves (hs ++ fs) (closes_none step e) all)
 
   walk_moves : (way : Way) (w : Walking) (fs : List ℕ) → Moves Open (walk.due way w) answer New → AllOpen Open (held_walking w ++ fs) → AllOpen New (then_walking w answer ++ fs)
@@ -367,7 +367,7 @@ module _ (Open New : ℕ → Type 0) (answer : Answer) where
   holds_on Freed NewFreed below room doing moves all = taken New NewFreed below room doing answer (moved Freed below doing moves all)
 
 -- a step that isn't made leaves all open
-pub unmoved : (Open : ℕ → Type 0) (step : StepOf ℕ) (error : Errno) → Moves Open step (Refused error) Open
+pub unmoved : (Open : ℕ → Type 0) (step : StepWith ℕ) (error : Errno) → Moves Open step (Refused error) Open
 unmoved Open step error = record { stays = λ k is e. is; is_new = λ h x kind e. cc (e) }
 
 -- ---- what is due to be closed is open

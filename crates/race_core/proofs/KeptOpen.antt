@@ -5,7 +5,7 @@ use Rattle.std.specs.Option.{option_map}
 use Rattle.std.proofs.lemmas.Bool.{ne_eqb, and_parts}
 use Rattle.std.proofs.lemmas.Option.{none-some, same_Some}
 use Rattle.tree_model.specs.declared.answer.Answer.{Answer}
-use Rattle.tree_model.specs.declared.step.StepOf.{StepOf}
+use Rattle.tree_model.specs.StepWith.{StepWith}
 use Rattle.tree_model.specs.declared.step.StepOf.TheVariants as steps
 use Rattle.tree_model.specs.State.{State}
 use Rattle.tree_model.specs.StepLaws.{is_close_of}
@@ -167,15 +167,15 @@ module _ (Own : Type 0) (s : State) (a : ℕ) (hs : List ℕ) where
   AreKept = Own → AllOpen (IsOpen s a) hs
 
 -- what a step closes is none of these
-pub data Spares (hs : List ℕ) (step : StepOf ℕ) : Type 0 where
+pub data Spares (hs : List ℕ) (step : StepWith ℕ) : Type 0 where
   no_close : is_close step ≡ false → Spares hs step
   another_close : (k : ℕ) → step ≡ steps.Close k → IsNotIn k hs → Spares hs step
 
-pub spares_first : (h : ℕ) (hs : List ℕ) (step : StepOf ℕ) → Spares (h ∷ hs) step → is_close_of h step ≡ false
+pub spares_first : (h : ℕ) (hs : List ℕ) (step : StepWith ℕ) → Spares (h ∷ hs) step → is_close_of h step ≡ false
 spares_first h hs step (no_close e) = closes_none step e h
 spares_first h hs step (another_close k is out) = ap (is_close_of h) is ∙ ne_eqb k h out.0
 
-module _ (Own : Type 0) (s t : State) (a : ℕ) (hs : List ℕ) (step : StepOf ℕ) (answer : Answer) (moves : Moves (IsOpen s a) step answer (IsOpen t a)) where
+module _ (Own : Type 0) (s t : State) (a : ℕ) (hs : List ℕ) (step : StepWith ℕ) (answer : Answer) (moves : Moves (IsOpen s a) step answer (IsOpen t a)) where
   pub held_moves : AreKept Own s a hs → Moves (IsHeld Own s a hs) step answer (IsHeld Own t a hs)
   held_moves all = record {
     stays = λ k is e. (moves.stays k is.0 e, is.1);
@@ -238,7 +238,7 @@ own_from owner (plan.Call request ∷ calls) rest own = own_from owner calls res
 own_from owner (plan.Single step ∷ calls) rest own = own_from owner calls rest own
 own_from owner (plan.Release call ∷ calls) rest own = own_from owner calls rest own
 
-abbrev single_of : StepOf ℕ → Request
+abbrev single_of : StepWith ℕ → Request
 single_of step = record { op = Single step; flags = plain }
 
 abbrev pub release_of : StandingObject → Request
@@ -258,7 +258,7 @@ asks_for_kept root standings calls (plan.Call asked) rest request standing own e
     absurd ((own_from root.owner calls (plan.Call asked ∷ rest) own).0 standing (ap (λ (r : Request). r.op) same ∙ is_op) mine)
 asks_for_kept root standings calls (plan.Single step) rest request standing own e is_op mine = on (step_at (handle_at root standings) step) e
   where
-    on : (o : Option (StepOf ℕ)) → option_map single_of o ≡ Some request → IsKeptUnder standings (plan.Single step) standing
+    on : (o : Option (StepWith ℕ)) → option_map single_of o ≡ Some request → IsKeptUnder standings (plan.Single step) standing
     on None f = absurd (none-some request f)
     on (Some s) f = let same : Single s ≡ Release standing = ap (λ (r : Request). r.op) (same_Some (single_of s) request f) ∙ is_op in cc (same)
 asks_for_kept root standings calls (plan.Release call) rest request standing own e is_op mine = on (standing_under standings call) refl e

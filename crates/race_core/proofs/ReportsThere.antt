@@ -1,7 +1,7 @@
 -- With memory for all each actor goes to its end, so that there is a report.
 use Rattle.std.proofs.Common.{◌≡◌, ◌≢◌, ℕ, zero, suc, ◌+◌, ◌<◌, ◌≤◌, ◌==◌, List, [], ◌∷◌, ◌++◌, Bool, true, false, ◌||◌, length, Option, Some, None, is_some, slice_get, eqb-true, eq-eqb, refl, sym, ap, subst, ◌∙◌, arith}
 use Rattle.std.proofs.lemmas.Bool.{false≢true}
-use Rattle.tree_model.specs.declared.step.StepOf.{StepOf}
+use Rattle.tree_model.specs.StepWith.{StepWith}
 use Rattle.tree_model.specs.History.{IsLegal}
 use Rattle.tree_model.proofs.HistoryLaws.{IsLegal-append}
 use Rattle.tree_model.proofs.StepLaws.{slice_get-set_other}
@@ -180,7 +180,7 @@ all_idle (suc n) w v j gone less = idle_by n w v j gone (λ u before lower. all_
 abbrev pub IsLegalBook : BookedHistory → Type 0
 IsLegalBook book = IsLegal book.opening book.events
 
-legal_step : (luck : Bool) (book : BookedHistory) (a : ℕ) (step : StepOf ℕ) (s : Stepped) → StepEffect book a step s → IsLegalBook book → IsLegalBook s.book
+legal_step : (luck : Bool) (book : BookedHistory) (a : ℕ) (step : StepWith ℕ) (s : Stepped) → StepEffect book a step s → IsLegalBook book → IsLegalBook s.book
 legal_step luck book a step s (was_made is) legal =
     subst IsLegalBook (sym (ap (λ (x : Stepped). x.book) is))
     (IsLegal-append book.opening book.events (record { actor = a; step = step; answer = answer_now book a step } ∷ []) legal (refl, tt))

@@ -4,7 +4,7 @@ use Rattle.path_text.specs.declared.errno.Errno.{Errno}
 use Rattle.path_text.specs.declared.errno.Errno.TheVariants.{NoMemory}
 use Rattle.tree_model.specs.declared.answer.Answer.{Answer}
 use Rattle.tree_model.specs.declared.answer.Answer.TheVariants.{Refused}
-use Rattle.tree_model.specs.declared.step.StepOf.{StepOf}
+use Rattle.tree_model.specs.StepWith.{StepWith}
 use Rattle.root_ops.specs.Order.{CallTurn, take, due}
 use Rattle.root_ops.specs.TurnView.{TakesTo}
 use Rattle.root_ops.specs.View.{CallView}
@@ -18,7 +18,7 @@ ok answer = Ok answer
 abbrev err : Errno → Result Answer Errno
 err error = Err error
 
-module _ (book : BookedHistory) (a : ℕ) (step : StepOf ℕ) where
+module _ (book : BookedHistory) (a : ℕ) (step : StepWith ℕ) where
   made_unless : (r : Option Errno) (answer : Answer) (new : BookedHistory)
       → MatchOption r (answer ≡ answer_now book a step) (λ fault. ok answer ≡ Err fault) → new ≡ booked book a step
       → (answer ≡ (unless_refused book a step r).answer) × (new ≡ (unless_refused book a step r).book)

@@ -1,14 +1,14 @@
 -- What the code of a turn comes to, in the words of `Turns`.
 use Rattle.std.specs.Prelude.{◌≡◌, ℕ, Bool}
 use Rattle.tree_model.specs.declared.answer.Answer.{Answer}
-use Rattle.tree_model.specs.declared.step.StepOf.{StepOf}
+use Rattle.tree_model.specs.StepWith.{StepWith}
 use Rattle.root_ops.specs.Order.{CallTurn, take, due}
 use Rattle.root_ops.specs.View.{CallView}
 use Rattle.race_core.specs.Book.{BookedHistory}
 use Rattle.race_core.specs.Turns.{stepped_by}
 
 -- the step was made through the book, or there was no memory for it
-pub record IsStepped (old : BookedHistory) (a : ℕ) (step : StepOf ℕ) (answer : Answer)
+pub record IsStepped (old : BookedHistory) (a : ℕ) (step : StepWith ℕ) (answer : Answer)
     (new : BookedHistory) : Type 0 where
   pub luck : Bool
   pub is_answer : answer ≡ (stepped_by luck old a step).answer

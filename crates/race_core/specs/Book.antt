@@ -5,7 +5,7 @@ use Rattle.path_text.specs.declared.errno.Errno.TheVariants.{BadHandle, NoMemory
 use Rattle.tree_model.specs.declared.answer.Answer.{Answer}
 use Rattle.tree_model.specs.declared.answer.Answer.TheVariants.{Opened, Text, Names, NotBelow, Listed, Done, Refused}
 use Rattle.tree_model.specs.declared.answer.Event.{Event}
-use Rattle.tree_model.specs.declared.step.StepOf.{StepOf}
+use Rattle.tree_model.specs.StepWith.{StepWith}
 use Rattle.tree_model.specs.declared.step.StepOf.TheVariants.{Open, Dup, Parent, ReadLink, NameBelow, List as ListNames, Close, MakeDir, MakeFile, MakeLink, RemoveFile, RemoveDir, Rename}
 use Rattle.tree_model.specs.History.{after_events, IsLegal}
 use Rattle.tree_model.specs.State.{State}
@@ -27,7 +27,7 @@ abbrev pub free_lines : BookedHistory → ℕ
 free_lines book = book.lines - (length book.events + open_count (tree_now book))
 
 -- a step that may open a handle needs a line for itself and one for the Close; a Close has its own
-abbrev pub lines_needed : StepOf ℕ → ℕ
+abbrev pub lines_needed : StepWith ℕ → ℕ
 lines_needed (Open h n) = 2
 lines_needed (Dup h) = 2
 lines_needed (Parent h) = 2
@@ -42,7 +42,7 @@ lines_needed (RemoveFile h n) = 1
 lines_needed (RemoveDir h n) = 1
 lines_needed (Rename h n k m mode) = 1
 
-abbrev pub is_close : StepOf ℕ → Bool
+abbrev pub is_close : StepWith ℕ → Bool
 is_close (Close h) = true
 is_close (Open h n) = false
 is_close (Dup h) = false
@@ -58,7 +58,7 @@ is_close (RemoveDir h n) = false
 is_close (Rename h n k m mode) = false
 
 -- the step is the Close of a handle that isn't open, or not the actor's (close(2), EBADF)
-abbrev pub closes_nothing : State → ℕ → StepOf ℕ → Bool
+abbrev pub closes_nothing : State → ℕ → StepWith ℕ → Bool
 closes_nothing s a (Close h) = not (is_some (held s a h))
 closes_nothing s a (Open h n) = false
 closes_nothing s a (Dup h) = false
@@ -74,17 +74,17 @@ closes_nothing s a (RemoveDir h n) = false
 closes_nothing s a (Rename h n k m mode) = false
 
 -- why a step isn't made, where it isn't: the book is full for it, or it is a Close of nothing
-abbrev pub refusal : BookedHistory → ℕ → StepOf ℕ → Option Errno
+abbrev pub refusal : BookedHistory → ℕ → StepWith ℕ → Option Errno
 refusal book a step =
     if nat_lt (free_lines book) (lines_needed step) then Some BookFull
     else (if closes_nothing (tree_now book) a step then Some BadHandle else None)
 
 -- what the step is answered
-abbrev pub answer_now : BookedHistory → ℕ → StepOf ℕ → Answer
+abbrev pub answer_now : BookedHistory → ℕ → StepWith ℕ → Answer
 answer_now book a step = (outcome (tree_now book) a step).answer
 
 -- the step, with its answer, is one event more
-abbrev pub booked : BookedHistory → ℕ → StepOf ℕ → BookedHistory
+abbrev pub booked : BookedHistory → ℕ → StepWith ℕ → BookedHistory
 booked book a step = record {
   opening = book.opening;
   events = book.events ++ record { actor = a; step = step; answer = answer_now book a step } ∷ [];

@@ -6,7 +6,7 @@ use Rattle.path_text.specs.declared.errno.Errno.TheVariants.{BadHandle, NoMemory
 use Rattle.path_text.specs.declared.flags.Flags.{Flags}
 use Rattle.tree_model.specs.declared.answer.Answer.{Answer}
 use Rattle.tree_model.specs.declared.answer.Answer.TheVariants.{Refused}
-use Rattle.tree_model.specs.declared.step.StepOf.{StepOf}
+use Rattle.tree_model.specs.StepWith.{StepWith}
 use Rattle.tree_model.specs.declared.step.StepOf.TheVariants as steps
 use Rattle.handles.specs.declared.owner.Owner.{Owner}
 use Rattle.handles.specs.Objects.{StandingObject}
@@ -41,12 +41,12 @@ pub record Stepped : Type 0 where
   pub book : BookedHistory
 
 -- the book refuses the step, and stays as it was; or makes and books it
-abbrev pub unless_refused : BookedHistory → ℕ → StepOf ℕ → Option Errno → Stepped
+abbrev pub unless_refused : BookedHistory → ℕ → StepWith ℕ → Option Errno → Stepped
 unless_refused book a step (Some error) = record { answer = Refused error; book = book }
 unless_refused book a step None = record { answer = answer_now book a step; book = booked book a step }
 
 -- where there was no memory for it the step isn't made; a Close needs none
-abbrev pub stepped_by : Bool → BookedHistory → ℕ → StepOf ℕ → Stepped
+abbrev pub stepped_by : Bool → BookedHistory → ℕ → StepWith ℕ → Stepped
 stepped_by luck book a step =
     if luck || is_close step then unless_refused book a step (refusal book a step)
     else record { answer = Refused NoMemory; book = book }
@@ -67,12 +67,12 @@ handle_at root standings (ref.Call call) =
     option_map (λ (s : StandingObject). s.handle) (standing_under standings call)
 
 -- onward with the handle, where there is one
-abbrev pub with_handle : Option ℕ → (ℕ → Option (StepOf ℕ)) → Option (StepOf ℕ)
+abbrev pub with_handle : Option ℕ → (ℕ → Option (StepWith ℕ)) → Option (StepWith ℕ)
 with_handle None onward = None
 with_handle (Some h) onward = onward h
 
 -- the step by handles, where each that it names is held
-abbrev pub step_at : (Ref → Option ℕ) → StepOf Ref → Option (StepOf ℕ)
+abbrev pub step_at : (Ref → Option ℕ) → StepWith Ref → Option (StepWith ℕ)
 step_at at (steps.Open d n) = with_handle (at d) (λ x. Some (steps.Open x n))
 step_at at (steps.Dup h) = with_handle (at h) (λ x. Some (steps.Dup x))
 step_at at (steps.Parent h) = with_handle (at h) (λ x. Some (steps.Parent x))

@@ -12,21 +12,18 @@ use root_ops::{Call, CallTurn};
 use std::alloc::Global;
 use tree_model::{Actor, Answer, StepOf, Tree};
 
-// The answer to the step that is due: the book's, its refusal, or that there was no memory for the step.
+// The answer to the step that is due: the book's, or its refusal.
 fn answer_due<T: Tree>(alloc: Global, book: &mut Book<T>, actor: Actor, call: &Call) -> Answer
     ensures { IsStepped book.old actor (due call.now.below call.now.doing) result book.new }
 {
-    let Ok(step) = call.due(alloc) else {
-        return Answer::Refused(Errno::NoMemory);
-    };
-    match book.step(alloc, actor, &step) {
+    match book.step(alloc, actor, &call.due()) {
         Ok(answer) => answer,
         Err(error) => Answer::Refused(error),
     }
 }
 
-/// Makes the step that is due through the book, as this actor, and takes its answer. A step that the book refuses,
-/// or for which there is no memory, isn't made, and is taken as refused so.
+/// Makes the step that is due through the book, as this actor, and takes its answer. A step that the book refuses
+/// isn't made, and is taken as refused so.
 pub(crate) fn advance<T: Tree>(
     alloc: Global,
     book: &mut Book<T>,
@@ -46,8 +43,8 @@ fn answer_without<T: Tree>(alloc: Global, book: &mut Book<T>, actor: Actor, call
     ensures answer { result ≡ (stepped_by false book.old actor (due call.now.below call.now.doing)).answer }
     ensures left { book.new ≡ (stepped_by false book.old actor (due call.now.below call.now.doing)).book }
 {
-    match call.due(alloc) {
-        Ok(StepOf::Close(handle)) => match book.step(alloc, actor, &StepOf::Close(handle)) {
+    match call.due() {
+        StepOf::Close(handle) => match book.step(alloc, actor, &StepOf::Close(handle)) {
             Ok(answer) => answer,
             Err(error) => Answer::Refused(error),
         },

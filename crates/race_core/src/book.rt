@@ -11,7 +11,7 @@ use event_log::EventLog;
 use path_text::{Errno, NoMemory};
 use std::alloc::Global;
 use std::marker::Model;
-use tree_model::{Actor, Answer, HandleNo, OpenHandle, Snapshot, Step, StepOf, Tree};
+use tree_model::{Actor, Answer, HandleNo, LentStep, OpenHandle, Snapshot, StepOf, Tree};
 
 mod copy;
 
@@ -88,7 +88,7 @@ fn close_handle<T: Tree>(tree: &mut T, alloc: Global, actor: Actor, handle: Hand
 
 /// How many free lines a step needs: two where it may open a handle, for itself and for the handle's Close, none for a
 /// Close, whose line is kept, and one else.
-fn lines_needed(step: &Step) -> u32
+fn lines_needed(step: &LentStep<'_>) -> u32
     ensures { result ≡ lines_needed step.now }
 {
     match step {
@@ -180,7 +180,12 @@ impl<T: Tree> Book<T> {
     /// needs, two for Open, Dup and Parent, none for Close and one for the others; BadHandle (EBADF) for the Close
     /// of a handle that isn't open or not the actor's; NoMemory where room was refused, never for a Close. A step
     /// that the tree refuses otherwise is an event too.
-    pub fn step(&mut self, alloc: Global, actor: Actor, step: &Step) -> Result<Answer, Errno>
+    pub fn step(
+        &mut self,
+        alloc: Global,
+        actor: Actor,
+        step: &LentStep<'_>,
+    ) -> Result<Answer, Errno>
         ensures answer { MatchOption (refusal self.old actor step.now)
             (MatchResult result (λ answer. answer ≡ answer_now self.old actor step.now)
             (λ error. (error ≡ Errno.NoMemory) × (is_close step.now ≡ false))) (λ fault. result ≡ Err fault) }
@@ -221,7 +226,7 @@ impl<T: Tree> Book<T> {
         &mut self,
         alloc: Global,
         actor: Actor,
-        step: &Step,
+        step: &LentStep<'_>,
         own: &mut EventLog,
         own_lines: usize,
     ) -> Result<Answer, Errno>
@@ -269,7 +274,7 @@ impl<T: Tree> Book<T> {
 
     // Makes a step that is no Close, and books it. NoMemory where room was refused, for the names or the text of an
     // answer too: a step that is so answered changed nothing.
-    fn make(&mut self, alloc: Global, actor: Actor, step: &Step) -> Result<Answer, NoMemory>
+    fn make(&mut self, alloc: Global, actor: Actor, step: &LentStep<'_>) -> Result<Answer, NoMemory>
         requires lines { lines_needed step.now ≤ free_lines self.old }
         requires no_close { is_close step.now ≡ false }
         ensures answer { IfOk result (λ answer. answer ≡ answer_now self.old actor step.now) }
@@ -291,7 +296,7 @@ impl<T: Tree> Book<T> {
         &mut self,
         alloc: Global,
         actor: Actor,
-        step: &Step,
+        step: &LentStep<'_>,
         own: &mut EventLog,
         own_lines: usize,
     ) -> Result<Answer, NoMemory>

@@ -83,7 +83,7 @@ fn opening(alloc: Global) -> Result<Event, Errno> {
 
 fn told(alloc: Global, event: &Event) -> Result<Output, NoMemory> {
     let mut log = EventLog::new(alloc);
-    log.push(event.actor, &event.step, &event.answer)?;
+    log.push(event.actor, &event.step.lend(), &event.answer)?;
     let mut out = Output::new(alloc);
     events(&mut out, &log)?;
     event_words(alloc, &mut out, event)?;

@@ -15,7 +15,7 @@ use tree_model::Event;
 pub fn event_words(alloc: Global, out: &mut Output, event: &Event) -> Result<(), NoMemory>
     ensures { Gains out.old out.new (event_words event.now) result }
 {
-    out.step(&event.step)?;
+    out.step(&event.step.lend())?;
     out.text(" = ")?;
     out.answer(alloc, &event.answer)
 }

@@ -11,39 +11,13 @@ use Rattle.step_resolver.specs.View.{way_from}
 use Rattle.bulk_ops.specs.declared.turn.BulkTurn.{BulkTurn}
 use Rattle.bulk_ops.specs.MakeAllOrder as make
 use Rattle.bulk_ops.specs.MakeAllView as making_view
-use Rattle.bulk_ops.specs.MakeAllView.{MakingView, has_a_name}
+use Rattle.bulk_ops.specs.MakeAllView.{MakingView}
 use Rattle.bulk_ops.specs.RemoveAllOrder as remove
 use Rattle.bulk_ops.specs.RemoveAllTurnView as removing_view
-use Rattle.bulk_ops.specs.RemoveAllView.{looks_up, is_named}
 use Rattle.root_ops.specs.declared.below.Below.{Below}
 use Rattle.root_ops.specs.Order.{Reply, CallTurn, ends, fault, making, removing, make_way, makes, removing_turn, LeadsTo}
 use Rattle.root_ops.specs.TurnView.{Either, TakesTo}
-use Rattle.root_ops.specs.View.{is_nameless}
-use Rattle.root_ops.proofs.Rooms.{FindsNone, first_turn, nameless_opens_none}
-
--- ---- a step without a name
-
--- what is due of a MkdirAll then is no name's
-pub nameless_makes_none : (way : Way) (call : make.Making) → is_nameless (make.due way call) ≡ true → has_a_name call ≡ false
-nameless_makes_none way (make.walking w) e = nameless_opens_none way w e
-nameless_makes_none way (make.making held names n left) e = cc (e)
-nameless_makes_none way (make.opening held names n left) e = cc (e)
-nameless_makes_none way (make.leaving old new names left) e = refl
-nameless_makes_none way (make.ending held names) e = refl
-nameless_makes_none way (make.closing h hs error) e = refl
-
-nameless_clears_none : (stage : remove.Stage) (level : remove.Level) → is_nameless (remove.due_at stage level) ≡ true → looks_up stage ≡ false
-nameless_clears_none remove.removes_file level e = cc (e)
-nameless_clears_none remove.opens level e = cc (e)
-nameless_clears_none (remove.lists h) level e = refl
-nameless_clears_none (remove.shuts h) level e = refl
-nameless_clears_none (remove.leaves h) level e = refl
-nameless_clears_none remove.removes_dir level e = cc (e)
-
-pub nameless_removes_none : (call : remove.Removing) → is_nameless (remove.due call) ≡ true → is_named call ≡ false
-nameless_removes_none (remove.walking way target w) e = nameless_opens_none way w e
-nameless_removes_none (remove.clearing stage level above count left) e = nameless_clears_none stage level e
-nameless_removes_none (remove.closing h hs end) e = refl
+use Rattle.root_ops.proofs.Rooms.{FindsNone, first_turn}
 
 -- ---- the first turn
 

@@ -1,7 +1,7 @@
 -- Requests and calls that are the same but for their handles, each of which gets one number in both.
 use Rattle.std.specs.Prelude.{◌≡◌, ℕ, List, [], ◌∷◌, ◌++◌, refl}
 use Rattle.std.proofs.Common.{◌∙◌, sym, ap}
-use Rattle.tree_model.specs.declared.step.StepOf.{StepOf}
+use Rattle.tree_model.specs.StepWith.{StepWith}
 use Rattle.tree_model.specs.declared.step.StepOf.TheVariants as steps
 use Rattle.tree_model.specs.declared.answer.Answer.{Answer}
 use Rattle.tree_model.specs.declared.answer.Answer.TheVariants as answers
@@ -26,7 +26,7 @@ both_lists : (hs ks : List ℕ) → numbers_by (λ h. 0) (hs ++ ks) ≡ numbers_
 both_lists [] ks = refl
 both_lists (h ∷ hs) ks = ap (λ ns. 0 ∷ ns) (both_lists hs ks)
 
-step_zeros : (s : StepOf ℕ) → numbers_by (λ h. 0) (step_handles s) ≡ step_handles (step_by (λ h. 0) s)
+step_zeros : (s : StepWith ℕ) → numbers_by (λ h. 0) (step_handles s) ≡ step_handles (step_by (λ h. 0) s)
 step_zeros (steps.Open h n) = refl
 step_zeros (steps.Dup h) = refl
 step_zeros (steps.Parent h) = refl
@@ -41,7 +41,7 @@ step_zeros (steps.RemoveFile h n) = refl
 step_zeros (steps.RemoveDir h n) = refl
 step_zeros (steps.Rename h n k m mode) = refl
 
-step_counts : (s t : StepOf ℕ) → step_by (λ h. 0) s ≡ step_by (λ h. 0) t → numbers_by (λ h. 0) (step_handles s) ≡ numbers_by (λ h. 0) (step_handles t)
+step_counts : (s t : StepWith ℕ) → step_by (λ h. 0) s ≡ step_by (λ h. 0) t → numbers_by (λ h. 0) (step_handles s) ≡ numbers_by (λ h. 0) (step_handles t)
 step_counts s t e = step_zeros s ∙ (ap step_handles e ∙ sym (step_zeros t))
 
 place_zeros : (p : Position) → numbers_by (λ h. 0) (handles_of p) ≡ handles_of (position_by (λ h. 0) p)
@@ -94,7 +94,7 @@ module _ (f g : ℕ → ℕ) where
   handles_agree : (h k : Handle) → handle_by (λ h. 0) h ≡ handle_by (λ h. 0) k → f h.number ≡ g k.number → handle_by f h ≡ handle_by g k
   handles_agree h k e p = ap (λ (x : Handle). record x { number = f h.number }) e ∙ ap (λ (n : ℕ). record k { number = n }) p
 
-  pub steps_agree : (s t : StepOf ℕ) → step_by (λ h. 0) s ≡ step_by (λ h. 0) t → numbers_by f (step_handles s) ≡ numbers_by g (step_handles t) → step_by f s ≡ step_by g t
+  pub steps_agree : (s t : StepWith ℕ) → step_by (λ h. 0) s ≡ step_by (λ h. 0) t → numbers_by f (step_handles s) ≡ numbers_by g (step_handles t) → step_by f s ≡ step_by g t
   steps_agree (steps.Open h n) (steps.Open k m) e p = cc
   steps_agree (steps.Dup h) (steps.Dup k) e p = cc
   steps_agree (steps.Parent h) (steps.Parent k) e p = cc
@@ -164,7 +164,7 @@ module _ (f g : ℕ → ℕ) where
   replies_agree (fault error) (fault other) e p = cc
   replies_agree r s e p = cc
 
-  acts_agree : (s t : StepOf ℕ) (hs ks : List ℕ) → step_by (λ h. 0) s ≡ step_by (λ h. 0) t → numbers_by (λ h. 0) hs ≡ numbers_by (λ h. 0) ks
+  acts_agree : (s t : StepWith ℕ) (hs ks : List ℕ) → step_by (λ h. 0) s ≡ step_by (λ h. 0) t → numbers_by (λ h. 0) hs ≡ numbers_by (λ h. 0) ks
       → numbers_by f (step_handles s ++ hs) ≡ numbers_by g (step_handles t ++ ks) → (step_by f s ≡ step_by g t) × (numbers_by f hs ≡ numbers_by g ks)
   acts_agree s t hs ks e d p =
       (steps_agree s t e (first_agrees (step_handles s) (step_handles t) hs ks (step_counts s t e) p), second_agrees (step_handles s) (step_handles t) hs ks (step_counts s t e) p)

@@ -13,14 +13,13 @@ use Rattle.step_resolver.specs.Meaning.{LINKS_MAX, is_too_long}
 use Rattle.walk_plan.specs.Plan.{leads_out}
 use Rattle.step_resolver.specs.Order.{Way, Handle, Position, root_itself, holds, Todo, todo, After, gives, onward, judges, Walking, opening, reading, rising, judging, duping, ending, closing, Turn, more, found, partial, failed, names_of, handles_of, is_dir_position, is_followed, gives_up, at_end, in_directory, on_part, on_own, on_parts, goes_on, begins, for_walk, comes, closes, with_room, follows_link, enters, refused_open, from_link, read_text, refused_rise, take, due}
 use Rattle.walk_plan.specs.declared.goal.Goal.{Goal}
-use Rattle.step_resolver.specs.View.{WalkView, way_from, opens_a_name}
+use Rattle.step_resolver.specs.View.{WalkView, way_from}
 use Rattle.step_resolver.specs.declared.walk.Turn.{Turn as Outcome}
 use Rattle.step_resolver.specs.TurnView as walk
 use Rattle.root_ops.specs.declared.aim.Aim.{Aim}
 use Rattle.root_ops.specs.declared.below.Below.{Below}
 use Rattle.root_ops.specs.Order.{walked, way_of, CallTurn}
 use Rattle.root_ops.specs.Order as call
-use Rattle.root_ops.specs.View.{is_nameless}
 use Rattle.root_ops.specs.TurnView.{TakesTo, Either}
 
 -- the turn is no end at which something is held
@@ -176,13 +175,3 @@ pub taken_by : (below : Below) (aim : Aim) (w : WalkView) (answer : Answer) (out
 taken_by below aim w answer outcome next same taken by =
     walked_by below aim w.walking answer (walk.turn_view (call.goal_of aim) outcome) next
     (subst (λ (way : Way). walk.TakesTo way w.walking answer (walk.turn_view way.goal outcome)) same taken) by
-
--- what a step without a name is due of opens no name
-pub nameless_opens_none : (way : Way) (walking : Walking) → is_nameless (due way walking) ≡ true → opens_a_name walking ≡ false
-nameless_opens_none way (opening position own follow n rest) e = cc (e)
-nameless_opens_none way (reading position link rest) e = refl
-nameless_opens_none way (rising handle names rest) e = refl
-nameless_opens_none way (judging handle names rest) e = refl
-nameless_opens_none way (duping rest) e = refl
-nameless_opens_none way (ending handle names rest) e = refl
-nameless_opens_none way (closing h hs after) e = refl

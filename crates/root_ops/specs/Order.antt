@@ -16,7 +16,7 @@ use Rattle.tree_model.specs.declared.answer.Answer.{Answer}
 use Rattle.tree_model.specs.declared.answer.Answer.TheVariants.{Opened, Refused}
 use Rattle.tree_model.specs.declared.answer.Answer.TheVariants as answers
 use Rattle.tree_model.specs.declared.step.Mode.{Mode}
-use Rattle.tree_model.specs.declared.step.StepOf.{StepOf}
+use Rattle.tree_model.specs.StepWith.{StepWith}
 use Rattle.tree_model.specs.declared.step.StepOf.TheVariants as steps
 use Rattle.handles.specs.declared.owner.Owner.{Owner}
 use Rattle.handles.specs.Objects.{StandingObject}
@@ -51,14 +51,14 @@ pub data Reply : Type 0 where
 -- what comes after closings: the reply; or the call's own step, with the handles to be closed after it
 pub data After : Type 0 where
   gives : Reply → After
-  acts : Wanted → StepOf ℕ → List ℕ → After
+  acts : Wanted → StepWith ℕ → List ℕ → After
 
 -- A call, by the step that is due.
 pub data Doing : Type 0 where
   -- that of a walk, and what is done with the object that it finds
   walking : Walking → Aim → Doing
   -- the call's own step, whose answer gives the reply; then these handles are closed
-  acting : Wanted → StepOf ℕ → List ℕ → Doing
+  acting : Wanted → StepWith ℕ → List ℕ → Doing
   -- Open of the entry to be renamed, which is to be a directory: the old directory and the new one are held
   checking : ℕ → ℕ → Renaming → Doing
   -- Close of this handle and then of these
@@ -76,14 +76,14 @@ pub data CallTurn : Type 0 where
 
 -- ---- the call's own steps
 
-abbrev pub change_step : Change → ℕ → List ℕ → StepOf ℕ
+abbrev pub change_step : Change → ℕ → List ℕ → StepWith ℕ
 change_step changes.MakeFile d n = steps.MakeFile d n
 change_step changes.MakeDir d n = steps.MakeDir d n
 change_step (changes.MakeLink text) d n = steps.MakeLink d n text
 change_step changes.RemoveFile d n = steps.RemoveFile d n
 change_step changes.RemoveDir d n = steps.RemoveDir d n
 
-abbrev pub rename_step : Renaming → ℕ → ℕ → StepOf ℕ
+abbrev pub rename_step : Renaming → ℕ → ℕ → StepWith ℕ
 rename_step renaming old new = steps.Rename old renaming.old new renaming.new renaming.mode
 
 -- the reply that an answer gives; one that doesn't fit counts as BadHandle
@@ -224,7 +224,7 @@ from_entry below mode new (Ok old) =
     unless_fault (text_fault new) (between below mode old (split_of (reading_of new) Drop))
 
 -- a step that opens or closes a handle is none for a call
-abbrev pub is_single : StepOf ℕ → Bool
+abbrev pub is_single : StepWith ℕ → Bool
 is_single (steps.Open h n) = false
 is_single (steps.Dup h) = false
 is_single (steps.Parent h) = false
@@ -239,7 +239,7 @@ is_single (steps.RemoveFile h n) = true
 is_single (steps.RemoveDir h n) = true
 is_single (steps.Rename h n k m mode) = true
 
-abbrev pub single : StepOf ℕ → CallTurn
+abbrev pub single : StepWith ℕ → CallTurn
 single step = if is_single step then more (acting wants.Any step []) else ends (fault Invalid)
 
 abbrev pub same_owner : Owner → Owner → Bool
@@ -310,7 +310,7 @@ take below room (making call) answer = makes (make.take (make_way below) room ca
 take below room (removing call) answer = removing_turn (remove.take room call answer)
 take below room (releasing h) answer = ends (reply_to wants.Done answer)
 
-abbrev pub due : Below → Doing → StepOf ℕ
+abbrev pub due : Below → Doing → StepWith ℕ
 due below (walking walking' aim) = walk.due (way_of below aim) walking'
 due below (acting wanted step hs) = step
 due below (checking old new renaming) = steps.Open old renaming.old

@@ -2,7 +2,7 @@
 use Rattle.std.specs.Prelude.{◌≡◌, ℕ, List, [], ◌∷◌, ◌++◌}
 use Rattle.tree_model.specs.declared.answer.Answer.{Answer}
 use Rattle.tree_model.specs.declared.answer.Answer.TheVariants as answers
-use Rattle.tree_model.specs.declared.step.StepOf.{StepOf}
+use Rattle.tree_model.specs.StepWith.{StepWith}
 use Rattle.tree_model.specs.declared.step.StepOf.TheVariants as steps
 use Rattle.handles.specs.Objects.{StandingObject}
 pub use Rattle.bulk_ops.specs.Renamed.{numbers_by, root_by, way_by, handle_by, position_by, walk_after_by, walking_by, walk_turn_by, walk_after_handles, walking_handles, making_by, make_turn_by, level_by, levels_by, stage_by, removing_by, remove_turn_by, making_handles, stage_handles, levels_handles, removing_handles}
@@ -18,7 +18,7 @@ use Rattle.root_ops.specs.View.{CallView}
 
 -- ---- steps and answers
 
-abbrev pub step_by : (ℕ → ℕ) → StepOf ℕ → StepOf ℕ
+abbrev pub step_by : (ℕ → ℕ) → StepWith ℕ → StepWith ℕ
 step_by f (steps.Open h n) = steps.Open (f h) n
 step_by f (steps.Dup h) = steps.Dup (f h)
 step_by f (steps.Parent h) = steps.Parent (f h)
@@ -106,7 +106,7 @@ call_by f call' = record { below = below_by f call'.below; doing = doing_by f ca
 
 -- ---- the handles themselves, one by one
 
-abbrev pub step_handles : StepOf ℕ → List ℕ
+abbrev pub step_handles : StepWith ℕ → List ℕ
 step_handles (steps.Open h n) = h ∷ []
 step_handles (steps.Dup h) = h ∷ []
 step_handles (steps.Parent h) = h ∷ []

@@ -1,6 +1,6 @@
 -- What a contract sees of a call: the order's call, read off what it holds.
 use Rattle.std.specs.Prelude.{◌≡◌, ℕ, List, [], ◌∷◌, Bool, true, false, reverse}
-use Rattle.tree_model.specs.declared.step.StepOf.{StepOf}
+use Rattle.tree_model.specs.StepWith.{StepWith}
 use Rattle.tree_model.specs.declared.step.StepOf.TheVariants as steps
 use Rattle.handles.specs.declared.owner.Owner.{Owner}
 use Rattle.step_resolver.specs.TurnView.{standing_handle}
@@ -140,19 +140,3 @@ abbrev pub IsStage : Below → Stage → Type 0
 IsStage below (Walking walk box) = (is_aimed box.value ≡ true) × IsOurWalk below walk (aim_of box.value)
 IsStage below (Boxed doing) = IsOurs below doing.value
 IsStage below (Releasing handle) = Unit {0}
-
--- the step has no name, and so takes no memory to be made
-abbrev pub is_nameless : StepOf ℕ → Bool
-is_nameless (steps.Open h n) = false
-is_nameless (steps.Dup h) = true
-is_nameless (steps.Parent h) = true
-is_nameless (steps.ReadLink h) = true
-is_nameless (steps.NameBelow r h) = true
-is_nameless (steps.List h) = true
-is_nameless (steps.Close h) = true
-is_nameless (steps.MakeDir h n) = false
-is_nameless (steps.MakeFile h n) = false
-is_nameless (steps.MakeLink h n text) = false
-is_nameless (steps.RemoveFile h n) = false
-is_nameless (steps.RemoveDir h n) = false
-is_nameless (steps.Rename h n k m mode) = false

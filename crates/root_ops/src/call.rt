@@ -1,5 +1,5 @@
 //! A call that is under way.
-ghost use Rattle.std.specs.Prelude.{◌≡◌, ◌<◌, ◌≤◌, Bool, true, IfOk, IsOk};
+ghost use Rattle.std.specs.Prelude.{◌≡◌, ◌<◌, ◌≤◌, Bool, true};
 ghost use Rattle.step_resolver.specs.TurnView as walk;
 
 use crate::aim::{Aim, Change, Wanted};
@@ -13,7 +13,7 @@ use std::alloc::Global;
 use std::marker::Model;
 use std::mem;
 use step_resolver::{Root, Turn};
-use tree_model::{Answer, Step, StepOf};
+use tree_model::{Answer, LentStep, Step, StepOf};
 use walk_plan::Goal;
 
 /// A call that is under way. You can't drop it: make each step that is `due`, and `take` its answer, until the call
@@ -49,7 +49,7 @@ pub enum CallTurn {
 
 impl Call {
     ghost use Rattle.root_ops.specs.Order.{due, steps_left, walked, way_of, goal_of};
-    ghost use Rattle.root_ops.specs.View.{is_nameless, is_aimed, aim_of, next_view, HoldsNoCall, IsNext};
+    ghost use Rattle.root_ops.specs.View.{is_aimed, aim_of, next_view, HoldsNoCall, IsNext};
     ghost use Rattle.root_ops.specs.TurnView.{below_of, turn_view, Keeps, StartsTo, TakesTo, steps_to_come, STEPS_MAX};
 
     /// Begins a call below the root. The path texts are read and split first, the old one of a Rename before the new
@@ -103,15 +103,14 @@ impl Call {
         }
     }
 
-    /// The step that is due. NoMemory where the room of a name was refused; a step without a name takes no memory.
-    pub fn due(&self, alloc: Global) -> Result<Step, NoMemory>
-        ensures exact { IfOk result (λ step. step ≡ due self.now.below self.now.doing) }
-        ensures no_memory { is_nameless (due self.now.below self.now.doing) ≡ true → IsOk result }
+    /// The step that is due. It takes no memory: a name is lent from where it lies in the call.
+    pub fn due(&self) -> LentStep<'_>
+        ensures { result ≡ due self.now.below self.now.doing }
     {
         match &self.stage {
-            Stage::Releasing(handle) => Ok(StepOf::Close(*handle)),
-            Stage::Walking(walk, _) => walk.due(alloc),
-            Stage::Boxed(doing) => doing.due(alloc),
+            Stage::Releasing(handle) => StepOf::Close(*handle),
+            Stage::Walking(walk, _) => walk.due(),
+            Stage::Boxed(doing) => doing.due(),
         }
     }
 
@@ -141,7 +140,7 @@ impl Call {
         match stage {
             Stage::Releasing(_) => CallTurn::Done(reply_to(Wanted::Done, answer)),
             Stage::Walking(walk, state) => {
-                let turn = walk.take(alloc, answer);
+                let turn = walk.take(answer);
                 Call::walked(alloc, below, state, turn)
             }
             Stage::Boxed(mut state) => {

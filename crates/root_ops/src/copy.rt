@@ -102,7 +102,7 @@ impl Doing {
             Doing::Aimed(aim) => Doing::Aimed(aim.copy(alloc)?),
             Doing::Acting { wanted, step, held } => Doing::Acting {
                 wanted: *wanted,
-                step: step.copy(alloc)?,
+                step: step.lend().copy(alloc)?,
                 held: *held,
             },
             Doing::Checking { old, new, renaming } => Doing::Checking {
@@ -134,7 +134,7 @@ impl After {
             After::Gives(reply) => After::Gives(reply.copy(alloc)?),
             After::Acts { wanted, step, held } => After::Acts {
                 wanted: *wanted,
-                step: step.copy(alloc)?,
+                step: step.lend().copy(alloc)?,
                 held: *held,
             },
         })

@@ -1,7 +1,7 @@
 //! What a call holds while the step that is due is made, and what its answer comes to.
-ghost use Rattle.std.specs.Prelude.{◌≡◌, true, IfOk, IsOk};
+ghost use Rattle.std.specs.Prelude.{◌≡◌, true};
 ghost use Rattle.root_ops.specs.declared.below.Below.{Below};
-ghost use Rattle.root_ops.specs.View.{HoldsNoCall, IsOurs, is_nameless, is_aimed, aim_of};
+ghost use Rattle.root_ops.specs.View.{HoldsNoCall, IsOurs, is_aimed, aim_of};
 
 use crate::aim::{Aim, Renaming, Wanted};
 use crate::reply::Reply;
@@ -10,7 +10,7 @@ use path_text::NoMemory;
 use std::alloc::Global;
 use std::mem;
 use step_resolver::Walk;
-use tree_model::{HandleNo, Step, StepOf};
+use tree_model::{HandleNo, LentStep, Step, StepOf};
 
 /// Handles that are closed in their order: just opened first.
 #[derive(Clone, Copy, Debug, PartialEq, Eq)]
@@ -80,22 +80,6 @@ pub(crate) enum Stage {
     Releasing(HandleNo),
 }
 
-// An equal step. One without a name takes no memory.
-fn copy_of(alloc: Global, step: &Step) -> Result<Step, NoMemory>
-    ensures copy { IfOk result (λ copy. copy ≡ step.now) }
-    ensures no_memory { is_nameless step.now ≡ true → IsOk result }
-{
-    match step {
-        StepOf::Dup(handle) => Ok(StepOf::Dup(*handle)),
-        StepOf::Parent(handle) => Ok(StepOf::Parent(*handle)),
-        StepOf::ReadLink(handle) => Ok(StepOf::ReadLink(*handle)),
-        StepOf::NameBelow(root, handle) => Ok(StepOf::NameBelow(*root, *handle)),
-        StepOf::List(handle) => Ok(StepOf::List(*handle)),
-        StepOf::Close(handle) => Ok(StepOf::Close(*handle)),
-        named => named.copy(alloc),
-    }
-}
-
 impl Doing {
     ghost use Rattle.root_ops.specs.Order.{due};
     ghost use Rattle.root_ops.specs.View.{doing_view};
@@ -111,14 +95,10 @@ impl Doing {
         }
     }
 
-    /// The step that is due. NoMemory where the room of a name was refused; a step without a name takes no memory.
-    #[tactic(auto, using(crate::proofs::Rooms::nameless_opens_none, crate::proofs::Bulk::nameless_makes_none, crate::proofs::Bulk::nameless_removes_none))]
-    pub(crate) fn due(&self, alloc: Global) -> Result<Step, NoMemory>
+    /// The step that is due.
+    pub(crate) fn due(&self) -> LentStep<'_>
         requires { (below : Below) × IsOurs below self.now }
-        ensures exact { (below : Below) → IsOurs below self.now
-            → IfOk result (λ step. step ≡ due below (doing_view self.now)) }
-        ensures no_memory { (below : Below) → IsOurs below self.now
-            → is_nameless (due below (doing_view self.now)) ≡ true → IsOk result }
+        ensures { (below : Below) → IsOurs below self.now → result ≡ due below (doing_view self.now) }
     {
         match self {
             // A walk's step is the walk's.
@@ -127,19 +107,19 @@ impl Doing {
                 wanted: _,
                 step,
                 held: _,
-            } => copy_of(alloc, step),
+            } => step.lend(),
             Doing::Checking {
                 old,
                 new: _,
                 renaming,
-            } => Ok(StepOf::Open(*old, renaming.old.copy(alloc)?)),
+            } => StepOf::Open(*old, renaming.old.lend()),
             Doing::Closing {
                 first,
                 others: _,
                 after: _,
-            } => Ok(StepOf::Close(*first)),
-            Doing::Making(call) => call.due(alloc),
-            Doing::Removing(call) => call.due(alloc),
+            } => StepOf::Close(*first),
+            Doing::Making(call) => call.due(),
+            Doing::Removing(call) => call.due(),
         }
     }
 

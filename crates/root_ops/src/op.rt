@@ -70,7 +70,7 @@ impl Op {
             Op::Rename(old, new, mode) => Op::Rename(old.copy(alloc)?, new.copy(alloc)?, *mode),
             Op::MkdirAll(path) => Op::MkdirAll(path.copy(alloc)?),
             Op::RemoveAll(path) => Op::RemoveAll(path.copy(alloc)?),
-            Op::Single(step) => Op::Single(step.copy(alloc)?),
+            Op::Single(step) => Op::Single(step.lend().copy(alloc)?),
             Op::Release(_) => return Err(Errno::Invalid),
         })
     }

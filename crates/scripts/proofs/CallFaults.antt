@@ -13,7 +13,7 @@ use Rattle.race_core.specs.declared.plan.Planned.TheVariants as planned
 use Rattle.race_core.specs.declared.plan.Ref.{Ref}
 use Rattle.tree_model.specs.Entries.{with_some, refuse_if}
 use Rattle.tree_model.specs.declared.step.Mode.{Mode}
-use Rattle.tree_model.specs.declared.step.StepOf.{StepOf}
+use Rattle.tree_model.specs.StepWith.{StepWith}
 use Rattle.tree_model.specs.declared.step.StepOf.TheVariants as steps
 use Rattle.scripts.specs.declared.call_fault.CallFault.{CallFault}
 use Rattle.scripts.specs.declared.call_fault.CallFault.TheVariants.{Missing, Shape, Unknown, NotGiven, Taken, ReleasesRoot}
@@ -167,7 +167,7 @@ module _ (labels : List Label) (k : ℕ) (d : Data) where
   release_told : Tells (released_in labels k d) (release_fault labels k d)
   release_told = then_told (ref_in labels k (codes "on") d) released_by (ref_fault labels k field.On d) ReleasesRoot (ref_told field.On)
 
-  abbrev renamed : Ref → List ℕ → Ref → List ℕ → Option (StepOf Ref)
+  abbrev renamed : Ref → List ℕ → Ref → List ℕ → Option (StepWith Ref)
   renamed on name to new = with_some (mode_in d) None (λ mode. Some (steps.Rename on name to new mode))
 
   on_told : (name : StepName) (on : Ref) → Tells (step_on name labels k on d) (step_fields_fault name labels k d)

@@ -2,7 +2,7 @@
 use Rattle.std.specs.Prelude.{ℕ, List, Option, Some, None, option_and_then, option_map, codes}
 use Rattle.serde_json.specs.Data.{Data}
 use Rattle.tree_model.specs.Entries.{with_some}
-use Rattle.tree_model.specs.declared.step.StepOf.{StepOf}
+use Rattle.tree_model.specs.StepWith.{StepWith}
 use Rattle.tree_model.specs.declared.step.StepOf.TheVariants as steps
 use Rattle.scripts.specs.declared.labels.Label.{Label}
 use Rattle.race_core.specs.declared.plan.Ref.{Ref}
@@ -21,7 +21,7 @@ abbrev pub ref_in : List Label → ℕ → List ℕ → Data → Option Ref
 ref_in labels k key d = option_and_then (ref_of labels k) (text_in key d)
 
 -- the step of that name on what `on` names, in call k, with its fields
-abbrev pub step_on : StepName → List Label → ℕ → Ref → Data → Option (StepOf Ref)
+abbrev pub step_on : StepName → List Label → ℕ → Ref → Data → Option (StepWith Ref)
 step_on ReadLink labels k on d = Some (steps.ReadLink on)
 step_on ListNames labels k on d = Some (steps.List on)
 step_on Below labels k on d = Some (steps.NameBelow Root on)
@@ -41,7 +41,7 @@ step_on Rename labels k on d =
     Some (steps.Rename on name to new mode)))))
 
 -- the step that call k says
-abbrev pub step_of : List Label → ℕ → Data → Option (StepOf Ref)
+abbrev pub step_of : List Label → ℕ → Data → Option (StepWith Ref)
 step_of labels k d =
     with_some (step_name_in d) None (λ name.
     with_some (ref_in labels k (codes "on") d) None (λ on.

@@ -3,7 +3,7 @@ ghost use Rattle.std.specs.Prelude.{Some, IfOk};
 ghost use Rattle.schedule_graph.specs.Words.{AreApart, IsLayer, ways_from};
 
 use path_text::NoMemory;
-use schedule_graph::{COUNT_CAP, Count, Counts, Graph, Spot, Way};
+use schedule_graph::{COUNT_CAP, Count, Counts, Graph, Spot, Way, is_not_after};
 use std::alloc::Global;
 use std::test::Fail;
 
@@ -217,4 +217,32 @@ fn wrong_layers(alloc: Global) -> Result<Option<usize>, NoMemory> {
 fn many_words_are_counted_up_to_the_cap(rt: HostRuntime) -> Result<(), Fail> {
     assert_eq!(rt; wrong_layers(rt.alloc())?, None);
     Ok(())
+}
+
+/// Two words, the first of which isn't after the other.
+const IN_ORDER: [(&[u32], &[u32]); 8] = [
+    (&[], &[]),
+    (&[], &[0]),
+    (&[0, 1], &[0, 1]),
+    (&[0, 1], &[0, 1, 0]),
+    (&[0, 1], &[0, 2]),
+    (&[0, 9], &[1, 0]),
+    (&[9], &[10]),
+    (&[0, 1, 7], &[0, 2]),
+];
+
+/// The place of the first two that are told otherwise. Of two that differ, the other is after the first.
+fn first_out_of_order() -> Option<usize> {
+    for (at, (letters, others)) in IN_ORDER.iter().enumerate() {
+        let are_equal = *letters == *others;
+        if !is_not_after(letters, others) || is_not_after(others, letters) != are_equal {
+            return Some(at);
+        }
+    }
+    None
+}
+
+#[test]
+fn words_are_in_order(rt: HostRuntime) {
+    assert_eq!(rt; first_out_of_order(), None);
 }

@@ -285,7 +285,7 @@ fn is_answered_alike<T: Tree>(alloc: Global, tree: &mut T, events: &EventLog, at
     let Ok(event) = event_at(alloc, events, at) else {
         return false;
     };
-    let answer = tree.step(alloc, event.actor, &event.step);
+    let answer = tree.step(alloc, event.actor, &event.step.lend());
     let alike = match &answer {
         Ok(answer) => answer.same(&event.answer),
         Err(NoMemory) => false,

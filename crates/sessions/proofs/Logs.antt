@@ -3,7 +3,7 @@ use Rattle.std.proofs.Common.{◌≡◌, ℕ, suc, ◌+◌, ◌-◌, ◌≤◌, 
 use Rattle.tree_model.specs.declared.answer.Answer.{Answer}
 use Rattle.tree_model.specs.declared.answer.Answer.TheVariants.{Done}
 use Rattle.tree_model.specs.declared.answer.Event.{Event}
-use Rattle.tree_model.specs.declared.step.StepOf.{StepOf}
+use Rattle.tree_model.specs.StepWith.{StepWith}
 use Rattle.tree_model.specs.declared.step.StepOf.TheVariants.{Close}
 use Rattle.tree_model.specs.StepLaws.{opened_count, closed_count}
 use Rattle.race_core.specs.Book.{is_close}
@@ -15,7 +15,7 @@ left_open-append n [] fs = refl
 left_open-append n (event ∷ es) fs = left_open-append ((n + opened_count event.answer) - closed_count event.answer event.step) es fs
 
 -- a step that is no Close was logged, with room for two lines more than for the Closes before it
-pub made : (log more : List Event) (count room reserved left opened a : ℕ) (step : StepOf ℕ) (answer : Answer) → IsSession log count room
+pub made : (log more : List Event) (count room reserved left opened a : ℕ) (step : StepWith ℕ) (answer : Answer) → IsSession log count room
     → is_close step ≡ false → more ≡ log ++ record { actor = a; step = step; answer = answer } ∷ []
     → opened ≡ opened_count answer → count + 2 ≤ reserved → reserved ≤ suc left → IsSession more (count + opened) left
 made log more count room reserved left opened a step answer is no_close is_more is_opened two used =

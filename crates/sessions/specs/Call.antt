@@ -5,7 +5,7 @@ use Rattle.path_text.specs.declared.errno.Errno.TheVariants.{BookFull, Invalid}
 use Rattle.tree_model.specs.declared.answer.Answer.{Answer}
 use Rattle.tree_model.specs.declared.answer.Answer.TheVariants.{Refused}
 use Rattle.tree_model.specs.declared.answer.Event.{Event}
-use Rattle.tree_model.specs.declared.step.StepOf.{StepOf}
+use Rattle.tree_model.specs.StepWith.{StepWith}
 use Rattle.step_resolver.specs.declared.walk.Root.{Root}
 use Rattle.step_resolver.specs.Order.{Line, events_of}
 use Rattle.root_ops.specs.declared.below.Below.{Below}
@@ -29,7 +29,7 @@ abbrev pub actor_of : SessionView → ℕ
 actor_of session = session.owner.actor
 
 -- the session with one step of its own more in its log
-abbrev pub logs_step : SessionView → StepOf ℕ → Answer → SessionView
+abbrev pub logs_step : SessionView → StepWith ℕ → Answer → SessionView
 logs_step session step answer = logs session (record { actor = actor_of session; step = step; answer = answer } ∷ [])
 
 abbrev pub root_of : SessionView → Root

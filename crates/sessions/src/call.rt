@@ -19,7 +19,7 @@ use path_text::Errno;
 use root_ops::{Call, CallTurn, Op, Reply, Request};
 use std::alloc::Global;
 use std::sync::Wait;
-use tree_model::{Answer, HandleNo, Step, StepOf, Tree};
+use tree_model::{Answer, HandleNo, LentStep, StepOf, Tree};
 
 // How many handles an answer has opened.
 fn opened_count(answer: &Answer) -> usize
@@ -87,7 +87,7 @@ impl Session {
         rt: &R,
         alloc: Global,
         service: &Service<T>,
-        step: &Step,
+        step: &LentStep<'_>,
     ) -> Result<Answer, Errno>
         requires { is_close step.now ≡ false }
         ensures ok { IfOk result (λ answer. self.new ≡ logs_step self.old step.now answer) }
@@ -163,9 +163,7 @@ impl Session {
     ) -> Answer
         ensures { IsAnswer call.now.below call.now.doing self.old self.new result }
     {
-        let Ok(step) = call.due(alloc) else {
-            return Answer::Refused(Errno::NoMemory);
-        };
+        let step = call.due();
         if let StepOf::Close(handle) = step {
             self.close(rt, alloc, service, handle);
             return Answer::Done;

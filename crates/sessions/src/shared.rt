@@ -11,7 +11,7 @@ use path_text::{Errno, NoMemory};
 use race_core::Book;
 use std::alloc::Global;
 use std::marker::Model;
-use tree_model::{Actor, Answer, HandleNo, Step, Tree};
+use tree_model::{Actor, Answer, HandleNo, LentStep, Tree};
 
 /// One session's own log. Events get into it by steps on the shared book alone.
 #[derive(Debug, Drop)]
@@ -90,7 +90,7 @@ impl<T: Tree> SharedBook<T> {
         &mut self,
         alloc: Global,
         actor: Actor,
-        step: &Step,
+        step: &LentStep<'_>,
         own: &mut OwnLog,
         lines: usize,
     ) -> Result<Answer, Errno>

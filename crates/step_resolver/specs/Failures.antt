@@ -6,7 +6,7 @@ use Rattle.path_text.specs.Text.{parts_of, begins_with_slash}
 use Rattle.tree_model.specs.declared.answer.Answer.TheVariants.{Refused}
 use Rattle.tree_model.specs.declared.inode.Object.{Object}
 use Rattle.tree_model.specs.declared.inode.Object.TheVariants.{Link}
-use Rattle.tree_model.specs.declared.step.StepOf.{StepOf}
+use Rattle.tree_model.specs.StepWith.{StepWith}
 use Rattle.tree_model.specs.State.{Stands, child, parent, is_directory}
 use Rattle.tree_model.specs.Steps.{held, held_count, is_full, outcome}
 use Rattle.step_resolver.specs.Asked.{AskedPart, Up, Named, followed, is_deepest}
@@ -164,19 +164,19 @@ pub record TellsRacedDeepest (w : WalkInHistory) : Type 0 where
   pub astray : DidNotStandAt w to (suc first) when
 
 -- a step that was made and refused for want of handles
-abbrev pub IsRefusal : StepOf ℕ → Line → Type 0
+abbrev pub IsRefusal : StepWith ℕ → Line → Type 0
 IsRefusal step (answered made answer) = (made ≡ step) × (answer ≡ Refused TooMany)
 IsRefusal step (no_room made answer) = (made ≡ step) × (answer ≡ Refused TooMany)
 IsRefusal step (not_made cause) = ⊥
 
-abbrev pub MetRefusal : StepOf ℕ → List Line → Type 0
+abbrev pub MetRefusal : StepWith ℕ → List Line → Type 0
 MetRefusal step [] = ⊥
 MetRefusal step (line ∷ lines) = IsRefusal step line ⊎ MetRefusal step lines
 
 -- EMFILE: a step of the walk was refused so, by the step table too. The actor, which then held one handle more than
 -- before at most, could open no more, or the numbers were used up.
 pub record TellsTooMany (w : WalkInHistory) : Type 0 where
-  pub step : StepOf ℕ
+  pub step : StepWith ℕ
   pub line : MetRefusal step w.lines
   pub when : ℕ
   pub event : slice_get w.window when ≡ Some (record { actor = w.actor; step = step; answer = Refused TooMany })

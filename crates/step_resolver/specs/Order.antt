@@ -14,7 +14,7 @@ use Rattle.tree_model.specs.declared.answer.Answer.TheVariants.{Opened, Text, Na
 use Rattle.tree_model.specs.declared.answer.Event.{Event}
 use Rattle.tree_model.specs.declared.step.Kind.{Kind}
 use Rattle.tree_model.specs.declared.step.Kind.TheVariants as kind
-use Rattle.tree_model.specs.declared.step.StepOf.{StepOf}
+use Rattle.tree_model.specs.StepWith.{StepWith}
 use Rattle.tree_model.specs.declared.step.StepOf.TheVariants.{Open, Dup, Parent, ReadLink, NameBelow, Close}
 use Rattle.walk_plan.specs.declared.goal.Goal.{Goal}
 use Rattle.walk_plan.specs.Plan.{leads_out}
@@ -260,7 +260,7 @@ take way room (ending handle names rest) NotBelow = gives_up (handle.number ∷ 
 take way room (ending handle names rest) answer = gives_up (handle.number ∷ []) (refusal_of answer)
 take way room (closing h hs after) answer = closes way hs after
 
-abbrev pub due : Way → Walking → StepOf ℕ
+abbrev pub due : Way → Walking → StepWith ℕ
 due way (opening position own follow n rest) = Open (handle_at way position) n
 due way (reading position link rest) = ReadLink link.number
 due way (rising handle names rest) = Parent handle.number
@@ -283,8 +283,8 @@ is_closing (closing h hs after) = true
 -- What a walk was told: a step with its answer; a step with its answer, whose use found no memory; or a step that
 -- wasn't made, for want of memory or of room in the book.
 pub data Line : Type 0 where
-  answered : StepOf ℕ → Answer → Line
-  no_room : StepOf ℕ → Answer → Line
+  answered : StepWith ℕ → Answer → Line
+  no_room : StepWith ℕ → Answer → Line
   not_made : Errno → Line
 
 -- the events that an actor's lines are

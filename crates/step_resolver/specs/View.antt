@@ -189,16 +189,6 @@ position_at course place = place_of place course.plan.names
 
 -- ---- what is due, and what answers come to
 
--- the step is one with a name, which is copied for it
-abbrev pub opens_a_name : Walking → Bool
-opens_a_name (opening position own follow n rest) = true
-opens_a_name (reading position link rest) = false
-opens_a_name (rising handle names rest) = false
-opens_a_name (judging handle names rest) = false
-opens_a_name (duping rest) = false
-opens_a_name (ending handle names rest) = false
-opens_a_name (closing h hs after) = false
-
 -- why a check of a place failed: other names, or none
 abbrev pub check_refusal : Answer → Errno
 check_refusal (Names told) = Raced

@@ -10,7 +10,6 @@ use crate::pending::{AfterClose, End, Next, Pending};
 use crate::walk::Root;
 use handles::Reached;
 use path_text::{Errno, Part};
-use std::alloc::Global;
 use std::mem;
 use tree_model::{Answer, HandleNo, Kind};
 use walk_plan::{Goal, Plan};
@@ -106,7 +105,7 @@ fn all_given_up(place: Option<Reached>) -> Option<HandleNo>
 }
 
 impl Course {
-    ghost use Rattle.step_resolver.specs.View.{course_way, position_at, IsPlace, IsAfter, IsPending};
+    ghost use Rattle.step_resolver.specs.View.{course_way, position_at, IsPlace, IsAfter};
     ghost use Rattle.step_resolver.specs.TurnView.{next_turn, KeepsCourse, TakesOn, TakesTo, end_turn, IsEnd};
 
     /// The handle through which the place is reached.
@@ -326,7 +325,6 @@ impl Course {
     #[tactic(auto, using(crate::proofs::WalkAnswers::texts_read))]
     pub(crate) fn read(
         &mut self,
-        alloc: Global,
         place: &mut Option<Reached>,
         link: Reached,
         answer: Answer,
@@ -337,7 +335,7 @@ impl Course {
         ensures kept { KeepsCourse self.old self.new place.new result }
     {
         match answer {
-            Answer::Text(text) => match self.plan.through(alloc, text.as_slice()) {
+            Answer::Text(text) => match self.plan.through(text) {
                 Ok(true) => {
                     let held = mem::replace(place, None);
                     self.close(place, link, held, AfterClose::Onward)

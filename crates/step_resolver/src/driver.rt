@@ -24,14 +24,11 @@ pub enum Resolved {
     Partial(Standing, Parts),
 }
 
-/// The answer to the step that is due: the tree's, or that there was no memory to make it.
+/// The answer to the step that is due: the tree's, or that it had no memory to make it.
 fn answer_due<T: Tree>(alloc: Global, tree: &mut T, actor: Actor, walk: &Walk) -> Answer
     ensures { IsAnswer walk.now.way walk.now.walking actor (T.state tree.old) (T.state tree.new) result }
 {
-    let Ok(step) = walk.due(alloc) else {
-        return Answer::Refused(Errno::NoMemory);
-    };
-    match tree.step(alloc, actor, &step) {
+    match tree.step(alloc, actor, &walk.due()) {
         Ok(answer) => answer,
         Err(_) => Answer::Refused(Errno::NoMemory),
     }
@@ -48,7 +45,7 @@ pub fn advance<T: Tree>(alloc: Global, tree: &mut T, actor: Actor, walk: Walk) -
     // that the step left the nodes
     steps_leave_the_rest();
     let answer = answer_due(alloc, tree, actor, &walk);
-    walk.take(alloc, answer)
+    walk.take(answer)
 }
 
 /// Resolves a path below a root on which nobody else acts (openat2(2), RESOLVE_IN_ROOT). Gives the object, open, with

@@ -1,5 +1,5 @@
 //! A walk along a path below a root.
-ghost use Rattle.std.specs.Prelude.{◌≡◌, ◌<◌, ◌≤◌, [], Bool, true, false, IfOk, IsOk, IsTrue, length};
+ghost use Rattle.std.specs.Prelude.{◌≡◌, ◌<◌, ◌≤◌, [], Bool, true, false, IsTrue, length};
 ghost use Rattle.path_text.specs.declared.path.TheConstants.{PARTS_MAX};
 
 use crate::course::{self, Course};
@@ -11,7 +11,7 @@ use path_text::{Errno, Flags, NoMemory, PARTS_MAX, Parts, Path};
 use std::alloc::{AllocFailed, Global};
 use std::marker::Model;
 use std::mem;
-use tree_model::{Answer, HandleNo, Step, StepOf};
+use tree_model::{Answer, HandleNo, LentStep, StepOf};
 use walk_plan::{Goal, Plan};
 
 mod copy;
@@ -72,7 +72,7 @@ pub enum Turn {
 
 impl Walk {
     ghost use Rattle.step_resolver.specs.Order.{due, for_walk, goes_on, root_itself, steps_left};
-    ghost use Rattle.step_resolver.specs.View.{way_from, course_way, opens_a_name, todo_of, walking_of, IsPending, is_ending};
+    ghost use Rattle.step_resolver.specs.View.{way_from, course_way, todo_of, walking_of, IsPending, is_ending};
     ghost use Rattle.step_resolver.specs.TurnView.{turn_view, Keeps, StartsTo, TakesTo, steps_to_come, STEPS_MAX};
     ghost use Rattle.step_resolver.specs.TurnsTell.{TellsBegun, TellsTaken};
 
@@ -139,10 +139,9 @@ impl Walk {
         }
     }
 
-    /// The step that is due. NoMemory where the room of a name was refused; a step without a name takes no memory.
-    pub fn due(&self, alloc: Global) -> Result<Step, NoMemory>
-        ensures exact { IfOk result (λ step. step ≡ due self.now.way self.now.walking) }
-        ensures no_memory { opens_a_name self.now.walking ≡ false → IsOk result }
+    /// The step that is due. It takes no memory: a name is lent from where it lies in the walk.
+    pub fn due(&self) -> LentStep<'_>
+        ensures { result ≡ due self.now.way self.now.walking }
     {
         let State {
             course,
@@ -150,10 +149,8 @@ impl Walk {
             pending,
         } = &*self.state;
         let root = course.root.handle;
-        Ok(match pending {
-            Pending::Opening => {
-                StepOf::Open(course.handle_at(place), course.plan.next_name(alloc)?)
-            }
+        match pending {
+            Pending::Opening => StepOf::Open(course.handle_at(place), course.plan.next_name()),
             Pending::Reading(link) => StepOf::ReadLink(link.handle()),
             Pending::Rising => StepOf::Parent(course.handle_at(place)),
             Pending::Judging | Pending::Ending => {
@@ -165,7 +162,7 @@ impl Walk {
                 second: _,
                 after: _,
             } => StepOf::Close(*first),
-        })
+        }
     }
 
     /// Takes the answer to the due step, and gives the walk's next turn. A driver that couldn't make the step, for
@@ -184,8 +181,9 @@ impl Walk {
     /// the names passed. A failure was true at moments of the walk. If no other actor changed an entry that the path
     /// reads, the end is what the path means (path_resolution(7)), unless memory, room in the book or handles ran
     /// short.
+    #[inline(always)]
     #[tactic(auto, using(crate::proofs::TurnsTell::taken_tells))]
-    pub fn take(self, alloc: Global, answer: Answer) -> Turn
+    pub fn take(self, answer: Answer) -> Turn
         ensures turn { TakesTo self.way self.walking answer (turn_view self.way.goal result) }
         ensures kept { Keeps self.owner self.way result }
         ensures fewer { steps_to_come result < steps_left self.walking }
@@ -194,11 +192,12 @@ impl Walk {
         // What every walk's end tells, which `headline` says of this turn.
         walks_tell();
         walks_mean();
-        self.taken(alloc, answer)
+        self.taken(answer)
     }
 
-    // The same, as the order of steps has it.
-    fn taken(self, alloc: Global, answer: Answer) -> Turn
+    // The same, as the order of steps has it. Part of its caller, since a turn is larger than what most turns move.
+    #[inline(always)]
+    fn taken(self, answer: Answer) -> Turn
         ensures turn { TakesTo self.way self.walking answer (turn_view self.way.goal result) }
         ensures kept { Keeps self.owner self.way result }
     {
@@ -206,7 +205,7 @@ impl Walk {
         if state.pending.is_ending() {
             return Walk::ended(state, answer);
         }
-        match state.answered(alloc, answer) {
+        match state.answered(answer) {
             Next::Due(pending) => {
                 // The one that comes back holds nothing. An assignment would have to drop it, and no step can be.
                 mem::replace(&mut state.pending, pending).let_go();
@@ -219,7 +218,8 @@ impl Walk {
         }
     }
 
-    // The same of the last check.
+    // The same of the last check. Apart from `taken`, so that a turn which goes on moves no object that was found.
+    #[inline(never)]
     fn ended(mut state: Box<State>, answer: Answer) -> Turn
         requires pending { IsPending state.value.course.plan state.value.place state.value.pending }
         requires ending { is_ending state.value.pending ≡ true }
@@ -249,7 +249,7 @@ impl State {
     ghost use Rattle.walk_plan.specs.Plan.{is_own};
 
     // What the answer to the pending step comes to, where that isn't the last check.
-    fn answered(&mut self, alloc: Global, answer: Answer) -> Next
+    fn answered(&mut self, answer: Answer) -> Next
         requires pending { IsPending self.old.course.plan self.old.place self.old.pending }
         requires goes_on { is_ending self.old.pending ≡ false }
         ensures turn { TakesOn self.old.course self.old.place self.old.pending answer
@@ -259,7 +259,7 @@ impl State {
     {
         match &self.pending {
             Pending::Opening => self.course.opened(&mut self.place, answer),
-            Pending::Reading(_) => self.read(alloc, answer),
+            Pending::Reading(_) => self.read(answer),
             Pending::Rising => self.course.risen(&mut self.place, answer),
             Pending::Judging => self.course.judged(&mut self.place, answer),
             Pending::Duping => self.course.duped(&mut self.place, answer),
@@ -277,7 +277,7 @@ impl State {
     }
 
     // The same of a link's text.
-    fn read(&mut self, alloc: Global, answer: Answer) -> Next
+    fn read(&mut self, answer: Answer) -> Next
         requires pending { IsPending self.old.course.plan self.old.place self.old.pending }
         requires reads { HoldsNoLink self.old.pending → ⊥ }
         ensures turn { TakesOn self.old.course self.old.place self.old.pending answer
@@ -287,7 +287,7 @@ impl State {
     {
         // Nothing can be moved out of a box: a step that holds nothing stands in until the next one is known.
         match mem::replace(&mut self.pending, Pending::Duping) {
-            Pending::Reading(link) => self.course.read(alloc, &mut self.place, link, answer),
+            Pending::Reading(link) => self.course.read(&mut self.place, link, answer),
             _ => unreachable!(),
         }
     }

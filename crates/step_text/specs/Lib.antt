@@ -3,5 +3,5 @@ pub use Rattle.path_text.specs.Name
 pub use Rattle.path_text.specs.Print
 pub mod Output
 pub mod Words
-pub mod Lent
+pub mod Head
 pub mod EscapeLaws

@@ -8,7 +8,7 @@ use Rattle.tree_model.specs.declared.answer.Answer.TheVariants.{Opened, Text, Na
 use Rattle.tree_model.specs.declared.answer.Event.{Event}
 use Rattle.tree_model.specs.declared.step.Mode.{Mode}
 use Rattle.tree_model.specs.declared.step.Mode.TheVariants.{Plain, NoReplace, Exchange}
-use Rattle.tree_model.specs.declared.step.StepOf.{StepOf}
+use Rattle.tree_model.specs.StepWith.{StepWith}
 use Rattle.tree_model.specs.declared.step.StepOf.TheVariants.{Open, Dup, Parent, ReadLink, NameBelow, List as ListNames, Close, MakeDir, MakeFile, MakeLink, RemoveFile, RemoveDir, Rename}
 use Rattle.step_text.specs.Output.{kind_word, escaped}
 
@@ -30,7 +30,7 @@ mode_word NoReplace = codes "noreplace"
 mode_word Exchange = codes "exchange"
 
 -- what is done, and then the step's handles, names and text in their order
-abbrev pub step_words : StepOf ℕ → List (List ℕ)
+abbrev pub step_words : StepWith ℕ → List (List ℕ)
 step_words (Open dir name) = codes "open" ∷ decimal dir ∷ escaped name ∷ []
 step_words (Dup handle) = codes "dup" ∷ decimal handle ∷ []
 step_words (Parent handle) = codes "parent" ∷ decimal handle ∷ []

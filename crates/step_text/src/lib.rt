@@ -5,13 +5,13 @@
 //! a step only in the line that it is written as.
 #![tactic(auto)]
 
+mod head;
 mod laws;
-mod lent;
 mod output;
 mod reader;
 mod words;
 
+pub use head::AnswerHead;
 pub use laws::names_are_told_apart;
-pub use lent::{AnswerHead, LentStep};
 pub use output::Output;
 pub use reader::read_step;

@@ -165,7 +165,7 @@ pub fn read_step(alloc: Global, line: &[u8]) -> Result<Option<Step>, NoMemory>
         return Ok(None);
     };
     let mut written = Output::new(alloc);
-    written.step(&step)?;
+    written.step(&step.lend())?;
     if written.as_slice() == line {
         Ok(Some(step))
     } else {

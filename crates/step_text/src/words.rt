@@ -1,14 +1,14 @@
 //! Steps and answers as the words of a line.
 ghost use Rattle.std.specs.Prelude.{◌≡◌, ◌∷◌, [], map, decimal};
-ghost use Rattle.step_text.specs.Output.{Gains, escaped, kind_word};
-ghost use Rattle.step_text.specs.Lent.{lent_step, head_line};
+ghost use Rattle.step_text.specs.Output.{Gains, escaped};
+ghost use Rattle.step_text.specs.Head.{head_line};
 ghost use Rattle.step_text.specs.Words.{line_of, after_blanks, mode_word, step_words, answer_words};
 
-use crate::lent::{AnswerHead, LentStep};
+use crate::head::AnswerHead;
 use crate::output::Output;
 use path_text::{Names, NoMemory};
 use std::alloc::Global;
-use tree_model::{Answer, HandleNo, Mode, Step};
+use tree_model::{Answer, HandleNo, LentStep, Mode, StepOf};
 
 /// The word for how a rename treats an entry that is there already.
 fn mode_word(mode: Mode) -> &'static str
@@ -51,45 +51,37 @@ impl Output {
         self.text(mode_word(mode))
     }
 
-    /// Adds a step whose names and text are lent as the words of a line, with no newline. NoMemory where its room was
-    /// refused.
-    pub fn lent_step(&mut self, step: &LentStep) -> Result<(), NoMemory>
-        ensures { Gains self.old self.new (line_of (step_words (lent_step step.now))) result }
+    /// Adds a step as the words of a line, with no newline. NoMemory where its room was refused.
+    pub fn step(&mut self, step: &LentStep<'_>) -> Result<(), NoMemory>
+        ensures { Gains self.old self.new (line_of (step_words step.now)) result }
     {
         match step {
-            LentStep::Open(dir, name) => self.on_entry("open", *dir, name),
-            LentStep::Dup(handle) => self.on_handle("dup", *handle),
-            LentStep::Parent(handle) => self.on_handle("parent", *handle),
-            LentStep::ReadLink(handle) => self.on_handle("read_link", *handle),
-            LentStep::NameBelow(root, handle) => {
+            StepOf::Open(dir, name) => self.on_entry("open", *dir, name.bytes()),
+            StepOf::Dup(handle) => self.on_handle("dup", *handle),
+            StepOf::Parent(handle) => self.on_handle("parent", *handle),
+            StepOf::ReadLink(handle) => self.on_handle("read_link", *handle),
+            StepOf::NameBelow(root, handle) => {
                 self.on_handle("below", *root)?;
                 self.text(" ")?;
                 self.number(handle.number())
             }
-            LentStep::List(handle) => self.on_handle("list", *handle),
-            LentStep::Close(handle) => self.on_handle("close", *handle),
-            LentStep::MakeDir(dir, name) => self.on_entry("make_dir", *dir, name),
-            LentStep::MakeFile(dir, name) => self.on_entry("make_file", *dir, name),
-            LentStep::MakeLink(dir, name, text) => {
-                self.on_entry("make_link", *dir, name)?;
+            StepOf::List(handle) => self.on_handle("list", *handle),
+            StepOf::Close(handle) => self.on_handle("close", *handle),
+            StepOf::MakeDir(dir, name) => self.on_entry("make_dir", *dir, name.bytes()),
+            StepOf::MakeFile(dir, name) => self.on_entry("make_file", *dir, name.bytes()),
+            StepOf::MakeLink(dir, name, text) => {
+                self.on_entry("make_link", *dir, name.bytes())?;
                 self.text(" ")?;
-                self.escaped(text)
+                self.escaped(text.as_slice())
             }
-            LentStep::RemoveFile(dir, name) => self.on_entry("remove_file", *dir, name),
-            LentStep::RemoveDir(dir, name) => self.on_entry("remove_dir", *dir, name),
-            LentStep::Rename(from, old, to, new, mode) => {
-                self.on_entry("rename", *from, old)?;
+            StepOf::RemoveFile(dir, name) => self.on_entry("remove_file", *dir, name.bytes()),
+            StepOf::RemoveDir(dir, name) => self.on_entry("remove_dir", *dir, name.bytes()),
+            StepOf::Rename(from, old, to, new, mode) => {
+                self.on_entry("rename", *from, old.bytes())?;
                 self.text(" ")?;
-                self.new_entry(*to, new, *mode)
+                self.new_entry(*to, new.bytes(), *mode)
             }
         }
-    }
-
-    /// Adds a step as the words of a line, with no newline. NoMemory where its room was refused.
-    pub fn step(&mut self, step: &Step) -> Result<(), NoMemory>
-        ensures { Gains self.old self.new (line_of (step_words step.now)) result }
-    {
-        self.lent_step(&LentStep::of(step))
     }
 
     /// Adds a blank and a name for each of the names.

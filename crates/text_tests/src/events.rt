@@ -25,18 +25,19 @@ fn filled(alloc: Global) -> Result<EventLog, Errno> {
     let mut log = EventLog::new(alloc);
     for at in 0..COUNT {
         let event = event_at(alloc, at)?;
-        log.push(event.actor, &event.step, &event.answer)?;
+        log.push(event.actor, &event.step.lend(), &event.answer)?;
     }
     Ok(log)
 }
 
 /// Whether the event of a place is that, read back and compared in place.
 fn holds_at(alloc: Global, log: &EventLog, at: usize, event: &Event) -> Result<bool, NoMemory> {
-    if at >= log.len() || !log.is(at, event.actor, &event.step, &event.answer) {
+    if at >= log.len() || !log.is(at, event.actor, &event.step.lend(), &event.answer) {
         return Ok(false);
     }
     let read = log.event(alloc, at)?;
-    Ok(read.actor == event.actor && read.step.same(&event.step) && read.answer.same(&event.answer))
+    let is_step = read.step.lend().same(&event.step.lend());
+    Ok(read.actor == event.actor && is_step && read.answer.same(&event.answer))
 }
 
 fn holds_all(alloc: Global, log: &EventLog) -> Result<bool, Errno> {
@@ -125,8 +126,8 @@ fn tells_events_apart(rt: HostRuntime) -> Result<(), Fail> {
 fn add_two(alloc: Global, log: &mut EventLog) -> Result<(), Errno> {
     let step = step_of(alloc, "make_dir 0 a")?;
     log.reserve(2)?;
-    log.reserve_event(&step, &Answer::Done)?;
-    log.push_reserved(Actor::new(1), &step, &Answer::Done);
+    log.reserve_event(&step.lend(), &Answer::Done)?;
+    log.push_reserved(Actor::new(1), &step.lend(), &Answer::Done);
     log.push_close(Actor::new(1), HandleNo::new(4));
     Ok(())
 }
@@ -135,7 +136,7 @@ fn closes(alloc: Global) -> Result<bool, Errno> {
     let mut log = EventLog::new(alloc);
     add_two(alloc, &mut log)?;
     let close = step_of(alloc, "close 4")?;
-    Ok(log.len() == 2 && log.is(1, Actor::new(1), &close, &Answer::Done))
+    Ok(log.len() == 2 && log.is(1, Actor::new(1), &close.lend(), &Answer::Done))
 }
 
 #[test]

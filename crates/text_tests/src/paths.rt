@@ -1,7 +1,10 @@
 //! What no contract says of paths: that their words mean what the standards say, on worked examples, and that each call
 //! can succeed.
 use fixtures::names_of;
-use path_text::{Bytes, Component, Errno, Name, Names, NoMemory, Part, Parts, Path, Rule, Split};
+use path_text::{
+    Bytes, Component, Errno, LentBytes, LentName, Name, Names, NoMemory, Part, Parts, Path, Rule,
+    Split,
+};
 use std::alloc::Global;
 use std::fmt;
 use std::test::Fail;
@@ -169,6 +172,12 @@ fn splits(alloc: Global, text: &[u8], rule: Rule, wanted: &str) -> Result<bool, 
     }
 }
 
+/// Whether a name that is lent is told from another so, and from the copy of another so.
+fn lent_are_same(alloc: Global, f: &Name, other: &Name, wanted: bool) -> Result<bool, NoMemory> {
+    let copy = other.lend().copy(alloc)?;
+    Ok(f.lend().same(&other.lend()) == wanted && copy.lend().same(&f.lend()) == wanted)
+}
+
 /// How a name stands to another, where both tests say the same.
 fn order(f: &Name, other: &Name) -> &'static str {
     if f.same(other) != (f == other) || f == other && f < other {
@@ -189,12 +198,12 @@ fn copied(alloc: Global) -> Result<Name, Errno> {
 fn compares(alloc: Global, text: &[u8], wanted: &str) -> Result<bool, Errno> {
     let f = copied(alloc)?;
     let other = Name::new(alloc, text)?;
-    Ok(order(&f, &other) == wanted)
+    Ok(order(&f, &other) == wanted && lent_are_same(alloc, &f, &other, wanted == "same")?)
 }
 
 fn is_name(alloc: Global, text: &[u8]) -> Result<bool, Errno> {
     let name = Name::new(alloc, text)?;
-    Ok(name.bytes() == text)
+    Ok(name.bytes() == text && LentName::of(name.bytes()).bytes() == text)
 }
 
 /// The one part of a path, where that is a name.
@@ -211,7 +220,7 @@ fn is_part(alloc: Global, text: &[u8], is_too_long: bool) -> Result<bool, Errno>
     Ok(part.bytes() == text && part.is_too_long() == is_too_long)
 }
 
-/// Whether a part is a name of the same bytes.
+/// Whether a part is a name of the same bytes, both of its own and lent.
 fn is_named(alloc: Global, text: &[u8]) -> Result<bool, Errno> {
     let path = Path::parse(alloc, text)?;
     let part = only_name(&path)?;
@@ -219,7 +228,7 @@ fn is_named(alloc: Global, text: &[u8]) -> Result<bool, Errno> {
         return Ok(false);
     }
     let name = part.to_name(alloc)?;
-    Ok(name.bytes() == text)
+    Ok(name.bytes() == text && part.name().bytes() == text)
 }
 
 fn is_kept(alloc: Global, text: &[u8], wanted: &str) -> Result<bool, Errno> {
@@ -386,6 +395,15 @@ fn names_grow_and_shrink(alloc: Global) -> Result<bool, Errno> {
     Ok(shrinks(&names, &mut copy, &one) && names.len() == 2 && names.get(1) == b"b".as_slice())
 }
 
+/// Whether names stay as they are where room for more is got.
+fn names_get_room(alloc: Global) -> Result<bool, Errno> {
+    let mut names = two_names(alloc)?;
+    names.reserve(32, 255)?;
+    let path = Path::parse(alloc, b"c/d")?;
+    names.reserve_for(&path.parts, &path.parts)?;
+    Ok(names.same(&two_names(alloc)?))
+}
+
 /// `a`, `b`, as a list of names.
 fn name_list(alloc: Global) -> Result<Vec<Name>, Errno> {
     let mut list = Vec::new(alloc);
@@ -407,7 +425,8 @@ fn names_turn_round(alloc: Global) -> Result<bool, Errno> {
         return Ok(false);
     }
     let first = names.to_name(alloc, 0)?;
-    Ok(first.bytes() == b"b".as_slice())
+    let (lent, last) = (names.lend(0), names.lend(1));
+    Ok(lent.same(&first.lend()) && !last.same(&first.lend()) && last.bytes() == b"a".as_slice())
 }
 
 /// The parts `a`, `..`, `b`.
@@ -433,9 +452,20 @@ fn parts_go_at_both_ends(alloc: Global) -> Result<bool, Errno> {
 /// Whether a text's parts come in the place of the first.
 fn parts_are_put(alloc: Global) -> Result<bool, Errno> {
     let mut parts = three_parts(alloc)?;
-    let slash = parts.put_for_first(b"../")?;
+    let slash = parts.put_for_first(Bytes::from_slice(alloc, b"../")?)?;
     let wanted = Path::parse(alloc, b".././../b")?.parts;
     Ok(slash && parts.same(&wanted) && parts.same(&wanted.copy(alloc)?))
+}
+
+/// Whether a text's parts come in the place of the only one, and of none.
+fn parts_are_put_alone(alloc: Global) -> Result<bool, Errno> {
+    let mut parts = Path::parse(alloc, b"a")?.parts;
+    let slash = parts.put_for_first(Bytes::from_slice(alloc, b"../b")?)?;
+    let is_put = parts.same(&Path::parse(alloc, b"../b")?.parts);
+    parts.drop_first();
+    parts.drop_first();
+    let last_slash = parts.put_for_first(Bytes::from_slice(alloc, b"c/")?)?;
+    Ok(!slash && is_put && last_slash && parts.same(&Path::parse(alloc, b"c/")?.parts))
 }
 
 /// Whether the parts are those of a longer list after its first, and the first ones the same there.
@@ -459,14 +489,27 @@ fn bytes_are_copied(alloc: Global) -> Result<bool, Errno> {
     Ok(copy.as_slice() == b"../a".as_slice() && copy.same(&text) && !copy.same(&other))
 }
 
+/// Whether bytes that are lent are those that lend them, and their copies; and no others.
+fn bytes_are_lent(alloc: Global) -> Result<bool, Errno> {
+    let text = Bytes::from_slice(alloc, b"../a")?;
+    let lent = text.lend();
+    let copy = lent.copy(alloc)?;
+    let (same, other) = (LentBytes::of(b"../a"), LentBytes::of(b"../"));
+    let is_text = lent.as_slice() == text.as_slice() && copy.same(&text);
+    Ok(is_text && lent.same(&same) && !lent.same(&other))
+}
+
 fn lists_are_right(alloc: Global) -> Result<bool, Errno> {
     Ok(
         names_grow_and_shrink(alloc)?
+            && names_get_room(alloc)?
             && names_turn_round(alloc)?
             && parts_go_at_both_ends(alloc)?
             && parts_are_put(alloc)?
+            && parts_are_put_alone(alloc)?
             && parts_are_compared(alloc)?
-            && bytes_are_copied(alloc)?,
+            && bytes_are_copied(alloc)?
+            && bytes_are_lent(alloc)?,
     )
 }
 

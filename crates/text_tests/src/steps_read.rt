@@ -36,7 +36,7 @@ fn is_read(alloc: Global, line: &str) -> Result<bool, NoMemory> {
         return Ok(false);
     };
     let mut written = Output::new(alloc);
-    written.step(&step)?;
+    written.step(&step.lend())?;
     Ok(written.as_slice() == line.as_bytes())
 }
 

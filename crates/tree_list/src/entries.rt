@@ -1,11 +1,11 @@
 //! What changes a directory's entries.
-ghost use Rattle.std.specs.Prelude.{◌≡◌, IfOk};
+ghost use Rattle.std.specs.Prelude.{◌≡◌};
 ghost use Rattle.tree_model.specs.State.{put_at};
 ghost use Rattle.tree_model.specs.Entries.{makes, removes_file, removes_dir, moves, replace_fault, replaces, exchanges, renames};
 ghost use Rattle.tree_list.specs.Changes.{IsChange, IsGrowth};
 
 use crate::read::is_within;
-use path_text::{Errno, Name, NoMemory};
+use path_text::{Errno, LentName, NoMemory};
 use std::alloc::Global;
 use tree_model::{
     Inode, Mode, NUMBERS_MAX, Node, Object, Place, child, has_entries, is_dir, is_gone,
@@ -27,7 +27,7 @@ pub(crate) fn make(
     nodes: &mut Vec<Inode>,
     alloc: Global,
     dir: Node,
-    name: &Name,
+    name: &LentName<'_>,
     object: Object,
 ) -> Result<Result<(), Errno>, NoMemory>
     ensures { IsGrowth nodes.old.items nodes.new.items (makes nodes.old.items dir name.now object) result }
@@ -57,7 +57,7 @@ pub(crate) fn make(
 }
 
 /// Removes the entry of what is no directory. Takes no memory.
-pub(crate) fn remove_file(nodes: &mut [Inode], dir: Node, name: &Name) -> Result<(), Errno>
+pub(crate) fn remove_file(nodes: &mut [Inode], dir: Node, name: &LentName<'_>) -> Result<(), Errno>
     ensures { IsChange nodes.old nodes.new (removes_file nodes.old dir name.now) result }
 {
     if !is_dir(nodes, dir) {
@@ -74,7 +74,7 @@ pub(crate) fn remove_file(nodes: &mut [Inode], dir: Node, name: &Name) -> Result
 }
 
 /// Removes the entry of an empty directory. Takes no memory.
-pub(crate) fn remove_dir(nodes: &mut [Inode], dir: Node, name: &Name) -> Result<(), Errno>
+pub(crate) fn remove_dir(nodes: &mut [Inode], dir: Node, name: &LentName<'_>) -> Result<(), Errno>
     ensures { IsChange nodes.old nodes.new (removes_dir nodes.old dir name.now) result }
 {
     if !is_dir(nodes, dir) {

@@ -7,7 +7,7 @@ ghost use Rattle.tree_list.specs.Changes.{IsStep, IsStepOr, answer_of};
 use crate::entries::{make, remove_dir, remove_file, rename};
 use crate::read::{names_below, names_in, sorted};
 use crate::tree::ListTree;
-use path_text::{Bytes, Errno, Name, NoMemory, Path};
+use path_text::{Errno, LentBytes, LentName, NoMemory, Path};
 use std::alloc::Global;
 use tree_model::{
     Actor, Answer, HANDLES_MAX, HandleNo, Mode, NUMBERS_MAX, Node, Object, OpenHandle, Place,
@@ -88,7 +88,7 @@ impl ListTree {
         &mut self,
         actor: Actor,
         dir: HandleNo,
-        name: &Name,
+        name: &LentName<'_>,
     ) -> Result<Answer, NoMemory>
         ensures { IsStepOr self.old (outcome self.old actor (StepOf.Open dir name.now)) self.new result }
     {
@@ -208,7 +208,7 @@ impl ListTree {
         alloc: Global,
         actor: Actor,
         dir: HandleNo,
-        name: &Name,
+        name: &LentName<'_>,
         object: Object,
     ) -> Result<Answer, NoMemory>
         ensures { IsStepOr self.old
@@ -228,8 +228,8 @@ impl ListTree {
         alloc: Global,
         actor: Actor,
         dir: HandleNo,
-        name: &Name,
-        text: &Bytes,
+        name: &LentName<'_>,
+        text: &LentBytes<'_>,
     ) -> Result<Answer, NoMemory>
         ensures { IsStepOr self.old (outcome self.old actor (StepOf.MakeLink dir name.now text.now)) self.new result }
     {
@@ -245,7 +245,7 @@ impl ListTree {
     }
 
     /// Removes the entry of what is no directory (unlinkat(2)). Takes no memory.
-    pub(crate) fn remove_file(&mut self, actor: Actor, dir: HandleNo, name: &Name) -> Answer
+    pub(crate) fn remove_file(&mut self, actor: Actor, dir: HandleNo, name: &LentName<'_>) -> Answer
         ensures { IsStep (outcome self.old actor (StepOf.RemoveFile dir name.now)) self.new result }
     {
         let Some(dir) = self.node_held(actor, dir) else {
@@ -256,7 +256,7 @@ impl ListTree {
     }
 
     /// Removes the entry of an empty directory (unlinkat(2) with AT_REMOVEDIR). Takes no memory.
-    pub(crate) fn remove_dir(&mut self, actor: Actor, dir: HandleNo, name: &Name) -> Answer
+    pub(crate) fn remove_dir(&mut self, actor: Actor, dir: HandleNo, name: &LentName<'_>) -> Answer
         ensures { IsStep (outcome self.old actor (StepOf.RemoveDir dir name.now)) self.new result }
     {
         let Some(dir) = self.node_held(actor, dir) else {
@@ -271,8 +271,8 @@ impl ListTree {
         &mut self,
         alloc: Global,
         actor: Actor,
-        from: (HandleNo, &Name),
-        to: (HandleNo, &Name),
+        from: (HandleNo, &LentName<'_>),
+        to: (HandleNo, &LentName<'_>),
         mode: Mode,
     ) -> Result<Answer, NoMemory>
         ensures { IsStepOr self.old

@@ -11,7 +11,7 @@ use path_text::{Errno, Names, NoMemory};
 use std::alloc::Global;
 use std::marker::Model;
 use tree_model::{
-    Actor, Answer, HandleNo, Inode, Object, OpenHandle, Snapshot, Step, StepOf, Tree,
+    Actor, Answer, HandleNo, Inode, LentStep, Object, OpenHandle, Snapshot, StepOf, Tree,
 };
 
 /// A tree of two lists, the nodes and the handles by their numbers. Contracts see it as its state.
@@ -88,7 +88,12 @@ impl ListTree {
 impl Tree for ListTree {
     ghost state = { λ tree. tree };
 
-    fn step(&mut self, alloc: Global, actor: Actor, step: &Step) -> Result<Answer, NoMemory> {
+    fn step(
+        &mut self,
+        alloc: Global,
+        actor: Actor,
+        step: &LentStep<'_>,
+    ) -> Result<Answer, NoMemory> {
         match step {
             StepOf::Open(dir, name) => self.open(actor, *dir, name),
             StepOf::Dup(handle) => self.dup(actor, *handle),

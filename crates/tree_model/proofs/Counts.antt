@@ -7,7 +7,7 @@ use Rattle.std.proofs.lemmas.Option.{none-some, same_Some}
 use Rattle.tree_model.specs.declared.answer.Answer.{Answer}
 use Rattle.tree_model.specs.declared.answer.Answer.TheVariants.{Opened, Text, Names, NotBelow, Listed, Done, Refused}
 use Rattle.tree_model.specs.declared.inode.OpenHandle.{OpenHandle}
-use Rattle.tree_model.specs.declared.step.StepOf.{StepOf}
+use Rattle.tree_model.specs.StepWith.{StepWith}
 use Rattle.tree_model.specs.declared.step.StepOf.TheVariants.{Open, Dup, Parent, ReadLink, NameBelow, List as ListNames, Close, MakeDir, MakeFile, MakeLink, RemoveFile, RemoveDir, Rename}
 use Rattle.tree_model.specs.declared.tree.TheConstants.{HANDLES_MAX, NUMBERS_MAX}
 use Rattle.tree_model.specs.State.{State}
@@ -44,7 +44,7 @@ tells-opened (Listed names) e = refl
 tells-opened Done e = refl
 tells-opened (Refused error) e = refl
 
-tells-closed : (answer : Answer) (step : StepOf ℕ) → only_tells answer ≡ true → closed_count answer step ≡ 0
+tells-closed : (answer : Answer) (step : StepWith ℕ) → only_tells answer ≡ true → closed_count answer step ≡ 0
 tells-closed (Opened h x kind) step e = refl
 tells-closed (Text text) step e = refl
 tells-closed (Names names) step e = refl
@@ -53,7 +53,7 @@ tells-closed (Listed names) step e = refl
 tells-closed Done step e = absurd (false≢true e)
 tells-closed (Refused error) step e = refl
 
-entries-closed : (step : StepOf ℕ) → is_on_entries step ≡ true → closed_count Done step ≡ 0
+entries-closed : (step : StepWith ℕ) → is_on_entries step ≡ true → closed_count Done step ≡ 0
 entries-closed (Open h n) e = refl
 entries-closed (Dup h) e = refl
 entries-closed (Parent h) e = refl
@@ -79,7 +79,7 @@ if_own-zero true n e = e
 if_own-zero false n e = refl
 
 module _ (test : Option OpenHandle → Bool) (none_fails : test None ≡ false) where
-  counts : {s : State} {a : ℕ} {step : StepOf ℕ} {o : Outcome} (b : Bool) → ((x : ℕ) → test (Some (record { actor = a; node = x })) ≡ b) → Does s a step o
+  counts : {s : State} {a : ℕ} {step : StepWith ℕ} {o : Outcome} (b : Bool) → ((x : ℕ) → test (Some (record { actor = a; node = x })) ≡ b) → Does s a step o
       → count_by test o.after.handles + if_own b (closed_count o.answer step) ≡ count_by test s.handles + if_own b (opened_count o.answer)
   counts b own (refuses error) = refl
   counts {step = step} b own (tells answer e) =
@@ -110,7 +110,7 @@ others_counts_stay s a step b ne =
 
 -- ---- the limits
 
-keeps_limits : {s : State} {a : ℕ} {step : StepOf ℕ} {o : Outcome} → IsWithinLimits s → Does s a step o → ((b : ℕ) → held_count o.after b ≤ HANDLES_MAX) → IsWithinLimits o.after
+keeps_limits : {s : State} {a : ℕ} {step : StepWith ℕ} {o : Outcome} → IsWithinLimits s → Does s a step o → ((b : ℕ) → held_count o.after b ≤ HANDLES_MAX) → IsWithinLimits o.after
 keeps_limits l (refuses error) few = l
 keeps_limits l (tells answer e) few = l
 keeps_limits {s} {a} l (opens_on x what e1 e2 e3) few =
@@ -124,7 +124,7 @@ keeps_limits {s} l (closes h x e1) few = record { nodes = l.nodes; handles = let
 keeps_limits l (changes_to nodes e1 changed) few = record { nodes = Changed-few changed l.nodes; handles = l.handles; held = few }
 
 -- an actor that opens a handle had fewer than it may have
-own_few : {s : State} {a : ℕ} {step : StepOf ℕ} {o : Outcome} → held_count s a ≤ HANDLES_MAX → Does s a step o → held_count s a + opened_count o.answer ≤ HANDLES_MAX
+own_few : {s : State} {a : ℕ} {step : StepWith ℕ} {o : Outcome} → held_count s a ≤ HANDLES_MAX → Does s a step o → held_count s a + opened_count o.answer ≤ HANDLES_MAX
 own_few few (refuses error) = omega arith
 own_few few (tells answer e) = omega (arith, tells-opened answer e)
 own_few {s} {a} few (opens_on x what e1 e2 e3) =

@@ -7,7 +7,7 @@ use Rattle.tree_model.specs.declared.answer.Answer.TheVariants.{Opened, Text, Na
 use Rattle.tree_model.specs.declared.inode.Inode.{Inode}
 use Rattle.tree_model.specs.declared.inode.Object.{Object}
 use Rattle.tree_model.specs.declared.inode.Object.TheVariants as object
-use Rattle.tree_model.specs.declared.step.StepOf.{StepOf}
+use Rattle.tree_model.specs.StepWith.{StepWith}
 use Rattle.tree_model.specs.declared.step.StepOf.TheVariants.{Open, Dup, Parent, ReadLink, NameBelow, List as ListNames, Close, MakeDir, MakeFile, MakeLink, RemoveFile, RemoveDir, Rename}
 use Rattle.tree_model.specs.State.{State, object_at, child, parent, is_dir, names_below, names_in, sorted_names}
 use Rattle.tree_model.specs.Entries.{makes, makes_link, removes_file, removes_dir, renames}
@@ -16,18 +16,18 @@ use Rattle.tree_model.specs.StepLaws.{only_tells, is_on_entries}
 use Rattle.tree_model.proofs.Refusals.{refuse_if-both, with_some-both}
 use Rattle.tree_model.proofs.Changed.{Changed, IfDone, MakeDir-changed, MakeFile-changed, MakeLink-changed, RemoveFile-changed, RemoveDir-changed, Rename-changed}
 
-pub data Does (s : State) (a : ℕ) : StepOf ℕ → Outcome → Type 0 where
-  refuses : {step : StepOf ℕ} (error : Errno) → Does s a step (refused s error)
-  tells : {step : StepOf ℕ} (answer : Answer) → only_tells answer ≡ true → Does s a step (answered s answer)
-  opens_on : {step : StepOf ℕ} (x : ℕ) (what : Object)
+pub data Does (s : State) (a : ℕ) : StepWith ℕ → Outcome → Type 0 where
+  refuses : {step : StepWith ℕ} (error : Errno) → Does s a step (refused s error)
+  tells : {step : StepWith ℕ} (answer : Answer) → only_tells answer ≡ true → Does s a step (answered s answer)
+  opens_on : {step : StepWith ℕ} (x : ℕ) (what : Object)
       → is_on_entries step ≡ false → is_full s a ≡ false → object_at s.nodes x ≡ Some what
       → Does s a step (record { answer = Opened (length s.handles) x (kind_of what); after = with_handle s a x })
   closes : (h x : ℕ) → held s a h ≡ Some x
       → Does s a (Close h) (record { answer = Done; after = record { nodes = s.nodes; handles = slice_set s.handles h None } })
-  changes_to : {step : StepOf ℕ} (nodes : List Inode) → is_on_entries step ≡ true → Changed s.nodes nodes
+  changes_to : {step : StepWith ℕ} (nodes : List Inode) → is_on_entries step ≡ true → Changed s.nodes nodes
       → Does s a step (record { answer = Done; after = record { nodes = nodes; handles = s.handles } })
 
-module _ (s : State) (a : ℕ) (step : StepOf ℕ) where
+module _ (s : State) (a : ℕ) (step : StepWith ℕ) where
   with_handle-does : (h : ℕ) (otherwise : ℕ → Outcome) → ((x : ℕ) → held s a h ≡ Some x → Does s a step (otherwise x)) → Does s a step (on_handle s a h otherwise)
   with_handle-does h otherwise p = with_some-both (Does s a step) (held s a h) (refused s BadHandle) otherwise (refuses BadHandle) p
 
@@ -51,7 +51,7 @@ module _ (s : State) (a : ℕ) (step : StepOf ℕ) where
   changes-does e (Ok nodes) p = changes_to nodes e p
   changes-does e (Err error) p = refuses error
 
-pub does : (s : State) (a : ℕ) (step : StepOf ℕ) → Does s a step (outcome s a step)
+pub does : (s : State) (a : ℕ) (step : StepWith ℕ) → Does s a step (outcome s a step)
 does s a (Open h n) =
     with_handle-does s a (Open h n) h _ (λ d held_d.
     refuse_if-both (Does s a (Open h n)) (not (is_dir s.nodes d)) (refused s NotDir) _ (refuses NotDir) (λ e1.

@@ -7,7 +7,7 @@ use Rattle.tree_model.specs.declared.answer.Answer.TheVariants.{Opened, Done}
 use Rattle.tree_model.specs.declared.inode.Object.{Object}
 use Rattle.tree_model.specs.declared.inode.OpenHandle.{OpenHandle}
 use Rattle.tree_model.specs.declared.step.Kind.{Kind}
-use Rattle.tree_model.specs.declared.step.StepOf.{StepOf}
+use Rattle.tree_model.specs.StepWith.{StepWith}
 use Rattle.tree_model.specs.declared.step.StepOf.TheVariants.{Close}
 use Rattle.tree_model.specs.State.{State, object_at}
 use Rattle.tree_model.specs.Steps.{Outcome, node_held, held, kind_of, with_handle}
@@ -18,7 +18,7 @@ use Rattle.tree_model.proofs.Places.{slice_get-last}
 
 -- ---- the tree as a whole, and the nodes
 
-leaves_all : {s : State} {a : ℕ} {step : StepOf ℕ} {o : Outcome} → Does s a step o → only_tells o.answer ≡ true → o.after ≡ s
+leaves_all : {s : State} {a : ℕ} {step : StepWith ℕ} {o : Outcome} → Does s a step o → only_tells o.answer ≡ true → o.after ≡ s
 leaves_all (refuses error) e = refl
 leaves_all (tells answer e') e = refl
 leaves_all (opens_on x what e1 e2 e3) e = absurd (false≢true e)
@@ -28,7 +28,7 @@ leaves_all (changes_to nodes e1 changed) e = absurd (false≢true e)
 pub telling_changes_nothing : TellingChangesNothing
 telling_changes_nothing s a step e = leaves_all (does s a step) e
 
-leaves_nodes : {s : State} {a : ℕ} {step : StepOf ℕ} {o : Outcome} → Does s a step o → is_on_entries step ≡ false → o.after.nodes ≡ s.nodes
+leaves_nodes : {s : State} {a : ℕ} {step : StepWith ℕ} {o : Outcome} → Does s a step o → is_on_entries step ≡ false → o.after.nodes ≡ s.nodes
 leaves_nodes (refuses error) e = refl
 leaves_nodes (tells answer e') e = refl
 leaves_nodes (opens_on x what e1 e2 e3) e = refl
@@ -38,7 +38,7 @@ leaves_nodes (changes_to nodes e1 changed) e = absurd (true≢false (sym e1 ∙ 
 pub nodes_are_left : NodesAreLeft
 nodes_are_left s a step e = leaves_nodes (does s a step) e
 
-leaves_handles : {s : State} {a : ℕ} {step : StepOf ℕ} {o : Outcome} → Does s a step o → is_on_entries step ≡ true → o.after.handles ≡ s.handles
+leaves_handles : {s : State} {a : ℕ} {step : StepWith ℕ} {o : Outcome} → Does s a step o → is_on_entries step ≡ true → o.after.handles ≡ s.handles
 leaves_handles (refuses error) e = refl
 leaves_handles (tells answer e') e = refl
 leaves_handles (opens_on x what e1 e2 e3) e = absurd (false≢true (sym e1 ∙ e))
@@ -48,7 +48,7 @@ leaves_handles (changes_to nodes e1 changed) e = refl
 pub handles_are_left : HandlesAreLeft
 handles_are_left s a step e = leaves_handles (does s a step) e
 
-grow : {s : State} {a : ℕ} {step : StepOf ℕ} {o : Outcome} → Does s a step o → (length s.nodes ≤ length o.after.nodes) × (length s.handles ≤ length o.after.handles)
+grow : {s : State} {a : ℕ} {step : StepWith ℕ} {o : Outcome} → Does s a step o → (length s.nodes ≤ length o.after.nodes) × (length s.handles ≤ length o.after.handles)
 grow (refuses error) = (omega arith, omega arith)
 grow (tells answer e') = (omega arith, omega arith)
 grow {s} {a} (opens_on x what e1 e2 e3) = (omega arith, omega (arith, length-append s.handles (Some (record { actor = a; node = x }) ∷ [])))
@@ -58,7 +58,7 @@ grow (changes_to nodes e1 changed) = ((Changed-grows changed).longer, omega arit
 pub numbers_grow : NumbersGrow
 numbers_grow s a step = grow (does s a step)
 
-by_one : {s : State} {a : ℕ} {step : StepOf ℕ} {o : Outcome} → Does s a step o
+by_one : {s : State} {a : ℕ} {step : StepWith ℕ} {o : Outcome} → Does s a step o
     → (length o.after.nodes ≤ suc (length s.nodes)) × (length o.after.handles ≤ suc (length s.handles))
 by_one (refuses error) = (omega arith, omega arith)
 by_one (tells answer e') = (omega arith, omega arith)
@@ -69,7 +69,7 @@ by_one (changes_to nodes e1 changed) = (Changed-by_one changed, omega arith)
 pub numbers_grow_by_one : NumbersGrowByOne
 numbers_grow_by_one s a step = by_one (does s a step)
 
-objects_stay_by : {s : State} {a : ℕ} {step : StepOf ℕ} {o : Outcome} → Does s a step o → (x : ℕ) (object : Object)
+objects_stay_by : {s : State} {a : ℕ} {step : StepWith ℕ} {o : Outcome} → Does s a step o → (x : ℕ) (object : Object)
     → object_at s.nodes x ≡ Some object → object_at o.after.nodes x ≡ Some object
 objects_stay_by (refuses error) x object e = e
 objects_stay_by (tells answer e') x object e = e
@@ -125,7 +125,7 @@ held_closed [] h b = refl
 held_closed (first ∷ handles) zero b = refl
 held_closed (first ∷ handles) (suc h) b = held_closed handles h b
 
-others_stay : {s : State} {a : ℕ} {step : StepOf ℕ} {o : Outcome} → Does s a step o → (b h : ℕ) → b ≢ a → held o.after b h ≡ held s b h
+others_stay : {s : State} {a : ℕ} {step : StepWith ℕ} {o : Outcome} → Does s a step o → (b h : ℕ) → b ≢ a → held o.after b h ≡ held s b h
 others_stay (refuses error) b h ne = refl
 others_stay (tells answer e') b h ne = refl
 others_stay {s} {a} (opens_on x what e1 e2 e3) b h ne = held_more-other s.handles a b x h ne
@@ -140,7 +140,7 @@ others_stay (changes_to nodes e1 changed) b h ne = refl
 pub others_handles_stay : OthersHandlesStay
 others_handles_stay s a step b h ne = others_stay (does s a step) b h ne
 
-own_stay : {s : State} {a : ℕ} {step : StepOf ℕ} {o : Outcome} → Does s a step o → (h x : ℕ) → held s a h ≡ Some x → is_close_of h step ≡ false → held o.after a h ≡ Some x
+own_stay : {s : State} {a : ℕ} {step : StepWith ℕ} {o : Outcome} → Does s a step o → (h x : ℕ) → held s a h ≡ Some x → is_close_of h step ≡ false → held o.after a h ≡ Some x
 own_stay (refuses error) h x e open_still = e
 own_stay (tells answer e') h x e open_still = e
 own_stay {s} {a} (opens_on y what e1 e2 e3) h x e open_still =
@@ -162,7 +162,7 @@ closed_by (changes_to nodes e1 changed) e b = absurd (false≢true e1)
 pub closed_is_closed : ClosedIsClosed
 closed_is_closed s a h e b = closed_by (does s a (Close h)) e b
 
-opened_by : {s : State} {a : ℕ} {step : StepOf ℕ} {o : Outcome} → Does s a step o → (h x : ℕ) (kind : Kind) → o.answer ≡ Opened h x kind
+opened_by : {s : State} {a : ℕ} {step : StepWith ℕ} {o : Outcome} → Does s a step o → (h x : ℕ) (kind : Kind) → o.answer ≡ Opened h x kind
     → (h ≡ length s.handles) × (held o.after a h ≡ Some x) × (o.after ≡ with_handle s a x) × (option_map kind_of (object_at s.nodes x) ≡ Some kind)
 opened_by (refuses error) h x kind e = cc (e)
 opened_by (tells answer e') h x kind e = absurd (false≢true (sym (ap only_tells e) ∙ e'))

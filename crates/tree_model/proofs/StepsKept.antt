@@ -8,7 +8,7 @@ use Rattle.path_text.specs.declared.errno.Errno.TheVariants.{NotFound, NotDir, T
 use Rattle.tree_model.specs.declared.inode.Inode.{Inode}
 use Rattle.tree_model.specs.declared.inode.Object.{Object}
 use Rattle.tree_model.specs.declared.inode.OpenHandle.{OpenHandle}
-use Rattle.tree_model.specs.declared.step.StepOf.{StepOf}
+use Rattle.tree_model.specs.StepWith.{StepWith}
 use Rattle.tree_model.specs.Entries.{refuse_if, with_some}
 use Rattle.tree_model.specs.State.{State, TOP, object_at, child, is_dir, is_directory}
 use Rattle.tree_model.specs.Steps.{Outcome, is_full, with_handle, directory_at, grants_at}
@@ -47,7 +47,7 @@ more_handles s a x t within =
           (slice_get-one_more s.handles (Some (record { actor = a; node = x })) h (Some open_handle) e);
     }
 
-keeps : {s : State} {a : ℕ} {step : StepOf ℕ} {o : Outcome} → IsState s → Does s a step o → IsState o.after
+keeps : {s : State} {a : ℕ} {step : StepWith ℕ} {o : Outcome} → IsState s → Does s a step o → IsState o.after
 keeps {s} {a} t (refuses error) = t
 keeps {s} {a} t (tells answer e) = t
 keeps {s} {a} t (opens_on x what e1 e2 e3) = more_handles s a x t (object_at-within s.nodes x what e3)

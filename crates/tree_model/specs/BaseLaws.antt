@@ -5,7 +5,7 @@ use Rattle.tree_model.specs.declared.answer.Answer.{Answer}
 use Rattle.tree_model.specs.declared.answer.Answer.TheVariants.{Opened, Text, Names, NotBelow, Listed, Done, Refused}
 use Rattle.tree_model.specs.declared.step.Kind.TheVariants as kind
 use Rattle.tree_model.specs.declared.step.Mode.TheVariants.{Plain, NoReplace, Exchange}
-use Rattle.tree_model.specs.declared.step.StepOf.{StepOf}
+use Rattle.tree_model.specs.StepWith.{StepWith}
 use Rattle.tree_model.specs.declared.step.StepOf.TheVariants.{Open, Dup, Parent, ReadLink, NameBelow, List as ListNames, Close, MakeDir, MakeLink, RemoveFile, RemoveDir, Rename}
 use Rattle.tree_model.specs.State.{State, place_at}
 use Rattle.tree_model.specs.Steps.{outcome}
@@ -17,14 +17,14 @@ abbrev pub base : State
 base = base_opened 7 (1 ∷ 2 ∷ 3 ∷ 4 ∷ 5 ∷ 0 ∷ [])
 
 -- that tree after these steps of the actor
-abbrev pub base_after : List (StepOf ℕ) → State
+abbrev pub base_after : List (StepWith ℕ) → State
 base_after [] = base
 base_after (step ∷ earlier) = (outcome (base_after earlier) 7 step).after
 
-abbrev pub base_answer : StepOf ℕ → Answer
+abbrev pub base_answer : StepWith ℕ → Answer
 base_answer step = (outcome base 7 step).answer
 
-abbrev pub answer_after : List (StepOf ℕ) → StepOf ℕ → Answer
+abbrev pub answer_after : List (StepWith ℕ) → StepWith ℕ → Answer
 answer_after earlier step = (outcome (base_after earlier) 7 step).answer
 
 abbrev pub BaseIsTree : Type 0

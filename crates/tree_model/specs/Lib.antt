@@ -16,3 +16,4 @@ pub mod RowLaws
 pub mod BaseTree
 pub mod BaseLaws
 pub mod History
+pub mod StepWith

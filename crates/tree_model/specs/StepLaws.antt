@@ -6,7 +6,7 @@ use Rattle.tree_model.specs.declared.answer.Answer.{Answer}
 use Rattle.tree_model.specs.declared.answer.Answer.TheVariants.{Opened, Text, Names, NotBelow, Listed, Done, Refused}
 use Rattle.tree_model.specs.declared.inode.Object.{Object}
 use Rattle.tree_model.specs.declared.step.Kind.{Kind}
-use Rattle.tree_model.specs.declared.step.StepOf.{StepOf}
+use Rattle.tree_model.specs.StepWith.{StepWith}
 use Rattle.tree_model.specs.declared.step.StepOf.TheVariants.{Open, Dup, Parent, ReadLink, NameBelow, List as ListNames, Close, MakeDir, MakeFile, MakeLink, RemoveFile, RemoveDir, Rename}
 use Rattle.tree_model.specs.declared.tree.TheConstants.{HANDLES_MAX, NUMBERS_MAX}
 use Rattle.tree_model.specs.State.{State, object_at}
@@ -26,7 +26,7 @@ only_tells Done = false
 only_tells (Refused error) = true
 
 -- the steps on entries; the others are on handles, or tell something
-abbrev pub is_on_entries : StepOf ℕ → Bool
+abbrev pub is_on_entries : StepWith ℕ → Bool
 is_on_entries (Open h n) = false
 is_on_entries (Dup h) = false
 is_on_entries (Parent h) = false
@@ -42,7 +42,7 @@ is_on_entries (RemoveDir h n) = true
 is_on_entries (Rename h n k m mode) = true
 
 -- the step is the Close of that handle
-abbrev pub is_close_of : ℕ → StepOf ℕ → Bool
+abbrev pub is_close_of : ℕ → StepWith ℕ → Bool
 is_close_of k (Close h) = h == k
 is_close_of k (Open h n) = false
 is_close_of k (Dup h) = false
@@ -66,7 +66,7 @@ abbrev pub opened_count : Answer → ℕ
 opened_count (Opened h x kind) = 1
 opened_count answer = 0
 
-abbrev pub closed_count : Answer → StepOf ℕ → ℕ
+abbrev pub closed_count : Answer → StepWith ℕ → ℕ
 closed_count Done (Close h) = 1
 closed_count answer step = 0
 
@@ -80,7 +80,7 @@ pub record IsWithinLimits (s : State) : Type 0 where
 
 -- every step of every actor leads from a tree to a tree
 abbrev pub StepsKeepTrees : Type 0
-StepsKeepTrees = (s : State) (a : ℕ) (step : StepOf ℕ) → IsState s → IsState (outcome s a step).after
+StepsKeepTrees = (s : State) (a : ℕ) (step : StepWith ℕ) → IsState s → IsState (outcome s a step).after
 
 -- so does a handle that is granted
 abbrev pub GrantsKeepTrees : Type 0
@@ -88,44 +88,44 @@ GrantsKeepTrees = (s t : State) (a : ℕ) (names : List (List ℕ)) → IsState 
 
 -- a refused step changes nothing, and neither does one that is answered with a text, names or a listing
 abbrev pub TellingChangesNothing : Type 0
-TellingChangesNothing = (s : State) (a : ℕ) (step : StepOf ℕ) → only_tells (outcome s a step).answer ≡ true
+TellingChangesNothing = (s : State) (a : ℕ) (step : StepWith ℕ) → only_tells (outcome s a step).answer ≡ true
     → (outcome s a step).after ≡ s
 
 -- a step that isn't on entries leaves the nodes
 abbrev pub NodesAreLeft : Type 0
-NodesAreLeft = (s : State) (a : ℕ) (step : StepOf ℕ) → is_on_entries step ≡ false
+NodesAreLeft = (s : State) (a : ℕ) (step : StepWith ℕ) → is_on_entries step ≡ false
     → (outcome s a step).after.nodes ≡ s.nodes
 
 -- a step on entries leaves the handles
 abbrev pub HandlesAreLeft : Type 0
-HandlesAreLeft = (s : State) (a : ℕ) (step : StepOf ℕ) → is_on_entries step ≡ true
+HandlesAreLeft = (s : State) (a : ℕ) (step : StepWith ℕ) → is_on_entries step ≡ true
     → (outcome s a step).after.handles ≡ s.handles
 
 -- there are never fewer nodes, nor fewer numbers of handles
 abbrev pub NumbersGrow : Type 0
-NumbersGrow = (s : State) (a : ℕ) (step : StepOf ℕ)
+NumbersGrow = (s : State) (a : ℕ) (step : StepWith ℕ)
     → (length s.nodes ≤ length (outcome s a step).after.nodes)
     × (length s.handles ≤ length (outcome s a step).after.handles)
 
 -- and a step brings at most one of each
 abbrev pub NumbersGrowByOne : Type 0
-NumbersGrowByOne = (s : State) (a : ℕ) (step : StepOf ℕ)
+NumbersGrowByOne = (s : State) (a : ℕ) (step : StepWith ℕ)
     → (length (outcome s a step).after.nodes ≤ suc (length s.nodes))
     × (length (outcome s a step).after.handles ≤ suc (length s.handles))
 
 -- a node stays what it is
 abbrev pub ObjectsStay : Type 0
-ObjectsStay = (s : State) (a : ℕ) (step : StepOf ℕ) (x : ℕ) (object : Object)
+ObjectsStay = (s : State) (a : ℕ) (step : StepWith ℕ) (x : ℕ) (object : Object)
     → object_at s.nodes x ≡ Some object → object_at (outcome s a step).after.nodes x ≡ Some object
 
 -- a step of one actor leaves the others' handles
 abbrev pub OthersHandlesStay : Type 0
-OthersHandlesStay = (s : State) (a : ℕ) (step : StepOf ℕ) (b h : ℕ) → b ≢ a
+OthersHandlesStay = (s : State) (a : ℕ) (step : StepWith ℕ) (b h : ℕ) → b ≢ a
     → held (outcome s a step).after b h ≡ held s b h
 
 -- an open handle stays open on its node, but for the one that is closed
 abbrev pub OwnHandlesStay : Type 0
-OwnHandlesStay = (s : State) (a : ℕ) (step : StepOf ℕ) (h x : ℕ)
+OwnHandlesStay = (s : State) (a : ℕ) (step : StepWith ℕ) (h x : ℕ)
     → held s a h ≡ Some x → is_close_of h step ≡ false → held (outcome s a step).after a h ≡ Some x
 
 -- a closed handle is open to nobody
@@ -135,7 +135,7 @@ ClosedIsClosed = (s : State) (a h : ℕ) → (outcome s a (Close h)).answer ≡ 
 
 -- what is opened is open from then on, at the next number, on the node that was answered, which is what was answered
 abbrev pub OpenedIsOpen : Type 0
-OpenedIsOpen = (s : State) (a : ℕ) (step : StepOf ℕ) (h x : ℕ) (kind : Kind)
+OpenedIsOpen = (s : State) (a : ℕ) (step : StepWith ℕ) (h x : ℕ) (kind : Kind)
     → (outcome s a step).answer ≡ Opened h x kind
     → (h ≡ length s.handles) × (held (outcome s a step).after a h ≡ Some x)
     × ((outcome s a step).after ≡ with_handle s a x)
@@ -144,7 +144,7 @@ OpenedIsOpen = (s : State) (a : ℕ) (step : StepOf ℕ) (h x : ℕ) (kind : Kin
 -- the actor's open handles, and all open handles, are one more for each that was opened and one fewer for each that
 -- was closed
 abbrev pub HandlesAreCounted : Type 0
-HandlesAreCounted = (s : State) (a : ℕ) (step : StepOf ℕ)
+HandlesAreCounted = (s : State) (a : ℕ) (step : StepWith ℕ)
     → (held_count (outcome s a step).after a + closed_count (outcome s a step).answer step
     ≡ held_count s a + opened_count (outcome s a step).answer)
     × (open_count (outcome s a step).after + closed_count (outcome s a step).answer step
@@ -152,9 +152,9 @@ HandlesAreCounted = (s : State) (a : ℕ) (step : StepOf ℕ)
 
 -- and the others' stay as many
 abbrev pub OthersCountsStay : Type 0
-OthersCountsStay = (s : State) (a : ℕ) (step : StepOf ℕ) (b : ℕ) → b ≢ a
+OthersCountsStay = (s : State) (a : ℕ) (step : StepWith ℕ) (b : ℕ) → b ≢ a
     → held_count (outcome s a step).after b ≡ held_count s b
 
 -- no step leads past the limits
 abbrev pub LimitsAreKept : Type 0
-LimitsAreKept = (s : State) (a : ℕ) (step : StepOf ℕ) → IsWithinLimits s → IsWithinLimits (outcome s a step).after
+LimitsAreKept = (s : State) (a : ℕ) (step : StepWith ℕ) → IsWithinLimits s → IsWithinLimits (outcome s a step).after

@@ -12,7 +12,7 @@ use Rattle.tree_model.specs.declared.inode.Object.TheVariants as object
 use Rattle.tree_model.specs.declared.inode.OpenHandle.{OpenHandle}
 use Rattle.tree_model.specs.declared.step.Kind.{Kind}
 use Rattle.tree_model.specs.declared.step.Kind.TheVariants as kind
-use Rattle.tree_model.specs.declared.step.StepOf.{StepOf}
+use Rattle.tree_model.specs.StepWith.{StepWith}
 use Rattle.tree_model.specs.declared.step.StepOf.TheVariants.{Open, Dup, Parent, ReadLink, NameBelow, List as ListNames, Close, MakeDir, MakeFile, MakeLink, RemoveFile, RemoveDir, Rename}
 use Rattle.tree_model.specs.declared.tree.TheConstants.{HANDLES_MAX, NUMBERS_MAX}
 use Rattle.tree_model.specs.State.{State, TOP, object_at, child, parent, is_dir, names_below, names_in, sorted_names}
@@ -87,7 +87,7 @@ changes s (Ok nodes) = record { answer = Done; after = record { nodes = nodes; h
 abbrev pub on_handle : State → ℕ → ℕ → (ℕ → Outcome) → Outcome
 on_handle s a h otherwise = with_some (held s a h) (refused s BadHandle) otherwise
 
-abbrev pub outcome : State → ℕ → StepOf ℕ → Outcome
+abbrev pub outcome : State → ℕ → StepWith ℕ → Outcome
 outcome s a (Open h n) = on_handle s a h (λ d.
     refuse_if (not (is_dir s.nodes d)) (refused s NotDir)
     (with_some (child s.nodes d n) (refused s NotFound) (λ c. opens s a c)))
@@ -111,7 +111,7 @@ outcome s a (Rename h n k m mode) =
     on_handle s a h (λ d. on_handle s a k (λ f. changes s (renames s.nodes d n f m mode)))
 
 -- the steps that take no memory
-abbrev pub takes_no_memory : StepOf ℕ → Bool
+abbrev pub takes_no_memory : StepWith ℕ → Bool
 takes_no_memory (Close h) = true
 takes_no_memory (RemoveFile h n) = true
 takes_no_memory (RemoveDir h n) = true

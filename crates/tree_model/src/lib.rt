@@ -27,5 +27,5 @@ pub use nodes::{child, has_entries, is_dir, is_gone, object_at, parent, place_at
 pub use number::{Actor, HandleNo, Node};
 pub use row::Row;
 pub use snapshot::{Snapshot, same_nodes};
-pub use step::{Kind, Mode, Step, StepOf};
+pub use step::{Kind, LentStep, Mode, Step, StepOf};
 pub use tree::{HANDLES_MAX, NUMBERS_MAX, Tree};

@@ -1,12 +1,12 @@
 //! What every tree does.
-ghost use Rattle.std.specs.Prelude.{◌≡◌, ◌^◌, IfOk, OnOk, OnErr, IsOk, true, MatchResult};
+ghost use Rattle.std.specs.Prelude.{◌≡◌, IfOk, OnOk, OnErr, IsOk, true};
 ghost use Rattle.tree_model.specs.State.{State};
 ghost use Rattle.tree_model.specs.Steps.{outcome, takes_no_memory, held_count, grants, IsGrant};
 
 use crate::answer::Answer;
 use crate::number::{Actor, HandleNo};
 use crate::snapshot::Snapshot;
-use crate::step::Step;
+use crate::step::LentStep;
 use path_text::{Errno, Names, NoMemory};
 use std::alloc::Global;
 
@@ -24,7 +24,7 @@ pub trait Tree {
     /// Takes one step of an actor, by the step table. Errors of the table are answered as `Refused`, in its
     /// order, and change nothing. NoMemory where room was refused, which changes nothing either; Close,
     /// RemoveFile and RemoveDir take no memory.
-    fn step(&mut self, alloc: Global, actor: Actor, step: &Step) -> Result<Answer, NoMemory>
+    fn step(&mut self, alloc: Global, actor: Actor, step: &LentStep<'_>) -> Result<Answer, NoMemory>
         ensures answer { IfOk result (λ answer. answer ≡ (outcome (state self.old) actor step.now).answer) }
         ensures after { OnOk result (state self.new ≡ (outcome (state self.old) actor step.now).after) }
         ensures err { OnErr result (state self.new ≡ state self.old) }

@@ -3,10 +3,8 @@ use Rattle.std.proofs.Common.{◌≡◌, ◌≢◌, ◌⊎◌, ℕ, zero, suc, �
 use Rattle.std.proofs.lemmas.Bool.{cases_eq, ne_eqb, false≢true}
 use Rattle.std.proofs.lemmas.List.{get_or-set_same, get_or-set_other, get_or_past, length-set, map-append}
 use Rattle.std.proofs.lemmas.Option.{none-some, same_Some}
-use Rattle.std.specs.Option.{option_map, option_and_then}
+use Rattle.std.specs.Option.{option_and_then}
 use Rattle.std.specs.Map.{lookup}
-use Rattle.std.specs.BTreeMap.{BTreeMap}
-use Rattle.tree_list.proofs.Nodes.{is_some-option_map}
 use Rattle.slab.specs.Slab.{Slab, get, Updates}
 use Rattle.tree_slab.specs.Directories.{is_name, entries_at, has_map, entry_in, SetsEntry, AddsNode, LosesMap, new_entries, key_at, entries_of, HasEachMap, ChangesMap, SameMaps, IsNewMap, AddsMap}
 use Rattle.tree_slab.proofs.Keys.{entries_at-view, length-view, same_each, same_view, changed_each, changed_entry}
@@ -22,7 +20,7 @@ nothing_lost directories d none = record { entries = entries; count = refl }
       | inr ne ↦ rw (ne_eqb f d ne) refl
     ]
 
-module _ (keys : List (Option ℕ)) (old new : Slab (BTreeMap (List ℕ) ℕ)) (h : HasEachMap keys old) (d key : ℕ) (there : key_at keys d ≡ Some key) (u : Updates old new key None) where
+module _ (keys : List (Option ℕ)) (old new : Slab (List (List ℕ × ℕ))) (h : HasEachMap keys old) (d key : ℕ) (there : key_at keys d ≡ Some key) (u : Updates old new key None) where
   within : d < length keys
   within = grind (arith, get_or_past)
 
@@ -89,12 +87,12 @@ key_at-last : (keys : List (Option ℕ)) (key : Option ℕ) → key_at (keys ++ 
 key_at-last [] key = refl
 key_at-last (first ∷ keys) key = key_at-last keys key
 
-view-apart : (keys : List (Option ℕ)) (old new : Slab (BTreeMap (List ℕ) ℕ)) → ((x k : ℕ) → key_at keys x ≡ Some k → entries_of new (Some k) ≡ entries_of old (Some k)) → map (entries_of new) keys ≡ map (entries_of old) keys
+view-apart : (keys : List (Option ℕ)) (old new : Slab (List (List ℕ × ℕ))) → ((x k : ℕ) → key_at keys x ≡ Some k → entries_of new (Some k) ≡ entries_of old (Some k)) → map (entries_of new) keys ≡ map (entries_of old) keys
 view-apart [] old new same = refl
 view-apart (None ∷ keys) old new same = rw (view-apart keys old new (λ x k e. same (suc x) k e)) refl
 view-apart (Some k ∷ keys) old new same = rw (same zero k refl, view-apart keys old new (λ x k e. same (suc x) k e)) refl
 
-module _ (keys : List (Option ℕ)) (old new : Slab (BTreeMap (List ℕ) ℕ)) (h : HasEachMap keys old) where
+module _ (keys : List (Option ℕ)) (old new : Slab (List (List ℕ × ℕ))) (h : HasEachMap keys old) where
   each_with_none : new ≡ old → HasEachMap (keys ++ None ∷ []) new
   each_with_none same = record {
     there = λ x k e. ap (λ maps. is_some (get maps k)) same ∙ h.there x k (was x k e);
@@ -113,7 +111,7 @@ module _ (keys : List (Option ℕ)) (old new : Slab (BTreeMap (List ℕ) ℕ)) (
     each_with_new = record { there = there; apart = apart; used = used }
       where
         new_there : IsSome (get new key)
-        new_there = sym (is_some-option_map _ (get new key)) ∙ ap is_some n.empty
+        new_there = ap is_some n.empty
 
         there : (x k : ℕ) → key_at (keys ++ Some key ∷ []) x ≡ Some k → IsSome (get new k)
         there x k e = ⊎_elim (λ r. ap is_some (n.others k (old_key x k r)) ∙ h.there x k r) (λ r. ap (λ j. is_some (get new j)) (sym (same_Some key k r.1)) ∙ new_there) (key_at-one_more keys (Some key) x k e)
@@ -134,7 +132,7 @@ module _ (keys : List (Option ℕ)) (old new : Slab (BTreeMap (List ℕ) ℕ)) (
     view_with_new : map (entries_of new) (keys ++ Some key ∷ []) ≡ map (entries_of old) keys ++ Some [] ∷ []
     view_with_new =
         map-append (entries_of new) keys (Some key ∷ [])
-        ∙ rw (n.empty, view-apart keys old new (λ x k e. ap (option_map (λ m. m.entries)) (n.others k (old_key x k e)))) refl
+        ∙ rw (n.empty, view-apart keys old new (λ x k e. n.others k (old_key x k e))) refl
 
   pub each_with_more : (mapped : Bool) (key : Option ℕ) → AddsMap mapped old new key → HasEachMap (keys ++ key ∷ []) new
   each_with_more mapped None a = each_with_none a.1
@@ -195,7 +193,7 @@ added_node old mid d n mapped s = record {
 -- ---- the same in the steps that the code takes
 
 abbrev Maps : Type 0
-Maps = Slab (BTreeMap (List ℕ) ℕ)
+Maps = Slab (List (List ℕ × ℕ))
 
 -- room for more leaves the maps
 reserved : (old mid : Maps) → mid ≡ record old { capacity = mid.capacity } → SameMaps old mid
@@ -203,7 +201,7 @@ reserved old mid kept = record { entries = entries; maps = λ k. ap (λ maps. is
   where
     entries : (key : Option ℕ) → entries_of mid key ≡ entries_of old key
     entries None = refl
-    entries (Some k) = ap (λ maps. option_map (λ m. m.entries) (get maps k)) kept
+    entries (Some k) = ap (λ maps. get maps k) kept
 
 module _ (keys more : List (Option ℕ)) (old mid new : Maps) (mapped : Bool) (key : Option ℕ)
     (h : HasEachMap keys old) (kept : mid ≡ record old { capacity = mid.capacity }) where

@@ -2,29 +2,27 @@
 use Rattle.std.proofs.Common.{◌≡◌, ◌≢◌, ℕ, zero, suc, Bool, true, false, if◌then◌else◌, List, [], ◌∷◌, length, map, Option, Some, None, is_some, refl, ap, sym, ◌∙◌, inl, inr, eq-eqb}
 use Rattle.std.proofs.lemmas.Bool.{cases_eq, ne_eqb}
 use Rattle.std.proofs.lemmas.Option.{none-some, same_Some}
-use Rattle.std.specs.BTreeMap.{BTreeMap}
-use Rattle.tree_list.proofs.Nodes.{is_some-option_map}
 use Rattle.slab.specs.Slab.{Slab, get}
 use Rattle.tree_slab.specs.Directories.{is_name, entries_at, has_map, entry_in, with_entry, SetsEntry, key_at, entries_of, HasEachMap, ChangesMap, SameMaps}
 
 -- ---- what a look-up finds
 
-pub entries_at-view : (keys : List (Option ℕ)) (maps : Slab (BTreeMap (List ℕ) ℕ)) (x : ℕ) → entries_at (map (entries_of maps) keys) x ≡ entries_of maps (key_at keys x)
+pub entries_at-view : (keys : List (Option ℕ)) (maps : Slab (List (List ℕ × ℕ))) (x : ℕ) → entries_at (map (entries_of maps) keys) x ≡ entries_of maps (key_at keys x)
 entries_at-view [] maps x = refl
 entries_at-view (key ∷ keys) maps zero = refl
 entries_at-view (key ∷ keys) maps (suc x) = entries_at-view keys maps x
 
-pub length-view : (keys : List (Option ℕ)) (maps : Slab (BTreeMap (List ℕ) ℕ)) → length (map (entries_of maps) keys) ≡ length keys
+pub length-view : (keys : List (Option ℕ)) (maps : Slab (List (List ℕ × ℕ))) → length (map (entries_of maps) keys) ≡ length keys
 length-view [] maps = refl
 length-view (key ∷ keys) maps = ap suc (length-view keys maps)
 
-view-same : (keys : List (Option ℕ)) (old new : Slab (BTreeMap (List ℕ) ℕ)) → ((key : Option ℕ) → entries_of new key ≡ entries_of old key) → map (entries_of new) keys ≡ map (entries_of old) keys
+view-same : (keys : List (Option ℕ)) (old new : Slab (List (List ℕ × ℕ))) → ((key : Option ℕ) → entries_of new key ≡ entries_of old key) → map (entries_of new) keys ≡ map (entries_of old) keys
 view-same [] old new same = refl
 view-same (key ∷ keys) old new same = rw (same key, view-same keys old new same) refl
 
 -- ---- one entry of one map changes
 
-module _ (keys : List (Option ℕ)) (old new : Slab (BTreeMap (List ℕ) ℕ)) (h : HasEachMap keys old) where
+module _ (keys : List (Option ℕ)) (old new : Slab (List (List ℕ × ℕ))) (h : HasEachMap keys old) where
   each_stays : ((k : ℕ) → is_some (get new k) ≡ is_some (get old k)) → HasEachMap keys new
   each_stays same = record {
     there = λ x key e. same key ∙ h.there x key e;
@@ -57,7 +55,7 @@ module _ (keys : List (Option ℕ)) (old new : Slab (BTreeMap (List ℕ) ℕ)) (
 
     maps_kept : (f : ℕ) (o : Option ℕ) → key_at keys f ≡ o → has_map (map (entries_of new) keys) f ≡ has_map (map (entries_of old) keys) f
     maps_kept f None e = rw (entries_at-view keys new f, entries_at-view keys old f, e) refl
-    maps_kept f (Some k) e = rw (entries_at-view keys new f, entries_at-view keys old f, e) (is_some-option_map _ (get new k) ∙ c.maps k ∙ sym (is_some-option_map _ (get old k)))
+    maps_kept f (Some k) e = rw (entries_at-view keys new f, entries_at-view keys old f, e) (c.maps k)
 
     pub changed_entry : SetsEntry (map (entries_of old) keys) (map (entries_of new) keys) d n x
     changed_entry = record {

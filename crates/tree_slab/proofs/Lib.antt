@@ -1,5 +1,6 @@
 pub mod Maps
 pub mod NameOrder
+pub mod EntryMaps
 pub mod Keys
 pub mod Grown
 pub mod Agreement

@@ -3,11 +3,9 @@ use Rattle.std.proofs.Common.{◌≡◌, ℕ, ◌<◌, cond, List, get_or, set, 
 use Rattle.std.proofs.lemmas.List.{get_or_past}
 use Rattle.std.proofs.lemmas.Bool.{cases_eq, ne_eqb}
 use Rattle.std.proofs.lemmas.List.Sums.{sum_by-set}
-use Rattle.std.specs.Map.{lookup}
-use Rattle.std.specs.BTreeMap.{BTreeMap}
 use Rattle.slab.specs.Slab.{Slab, get, with_value, Updates}
 use Rattle.slab.proofs.SlabLemmas.{Updates-with_value}
-use Rattle.tree_slab.specs.Directories.{is_name, found_in, with_entry, ChangesMap}
+use Rattle.tree_slab.specs.Directories.{found_in, with_entry, ChangesEntry, ChangesMap}
 
 count_by-set_some : {T : Type 0} (slots : List (Option T)) (key : ℕ) (was is : T) → get_or slots key None ≡ Some was → count_by is_some (set slots key (Some is)) ≡ count_by is_some slots
 count_by-set_some slots key was is there =
@@ -16,8 +14,8 @@ count_by-set_some slots key was is there =
     omega (arith, rw there at both)
 
 -- one entry of the map of that key leads elsewhere
-pub map_changed : (maps : Slab (BTreeMap (List ℕ) ℕ)) (key : ℕ) (was is : BTreeMap (List ℕ) ℕ) (n : List ℕ) (x : Option ℕ) → get maps key ≡ Some was
-    → ((m : List ℕ) → lookup (is_name m) is.entries ≡ cond (is_name n m) x (lookup (is_name m) was.entries))
+pub map_changed : (maps : Slab (List (List ℕ × ℕ))) (key : ℕ) (was is : List (List ℕ × ℕ)) (n : List ℕ) (x : Option ℕ) → get maps key ≡ Some was
+    → ChangesEntry was is n x
     → ChangesMap maps (with_value maps key is) key n x
 map_changed maps key was is n x there updates = record { entries = entries; maps = kept; room = λ h. rw (count_by-set_some maps.slots key was is there) h }
   where

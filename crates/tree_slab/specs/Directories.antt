@@ -1,16 +1,20 @@
 -- The entries of the directories that stand, each directory's by the bytes of their names: for each node the entries
 -- of its map, if it has one.
-use Rattle.std.specs.Prelude.{◌≡◌, ◌≢◌, ℕ, suc, ◌==◌, ◌&&◌, List, [], Bool, if◌then◌else◌, length, slice_index_or, Option, Some, None, is_some, IsSome, true, false, MatchOption}
-use Rattle.std.specs.Option.{option_map, option_and_then}
+use Rattle.std.specs.Prelude.{◌≡◌, ◌≢◌, ℕ, suc, ◌==◌, ◌&&◌, List, [], Bool, cond, if◌then◌else◌, length, slice_index_or, Option, Some, None, is_some, IsSome, true, false, MatchOption}
+use Rattle.std.specs.Option.{option_and_then}
 use Rattle.std.specs.Ordering.{nat_cmp}
 use Rattle.std.specs.Cmp.Lexicographic.{slice_cmp}
 use Rattle.std.specs.Map.{lookup, keys_of}
-use Rattle.std.specs.BTreeMap.{BTreeMap, is_at}
+use Rattle.std.specs.BTreeMap.{is_at}
 use Rattle.slab.specs.Slab.{Slab, get, HasRoomFor}
 
 -- the two names are one
 abbrev pub is_name : List ℕ → List ℕ → Bool
 is_name n m = is_at (slice_cmp nat_cmp n) m
+
+-- one entry of a map leads elsewhere, or nowhere
+abbrev pub ChangesEntry : List (List ℕ × ℕ) → List (List ℕ × ℕ) → List ℕ → Option ℕ → Type 0
+ChangesEntry old new n x = (m : List ℕ) → lookup (is_name m) new ≡ cond (is_name n m) x (lookup (is_name m) old)
 
 -- ---- by the numbers of the nodes
 
@@ -65,38 +69,38 @@ abbrev pub key_at : List (Option ℕ) → ℕ → Option ℕ
 key_at keys x = slice_index_or keys x None
 
 -- the entries of the map of that key
-abbrev pub entries_of : Slab (BTreeMap (List ℕ) ℕ) → Option ℕ → Option (List (List ℕ × ℕ))
+abbrev pub entries_of : Slab (List (List ℕ × ℕ)) → Option ℕ → Option (List (List ℕ × ℕ))
 entries_of maps None = None
-entries_of maps (Some key) = option_map (λ m. m.entries) (get maps key)
+entries_of maps (Some key) = get maps key
 
 -- each key is that of a map, no two nodes have one map, and there is no other map
-pub record HasEachMap (keys : List (Option ℕ)) (maps : Slab (BTreeMap (List ℕ) ℕ)) : Type 0 where
+pub record HasEachMap (keys : List (Option ℕ)) (maps : Slab (List (List ℕ × ℕ))) : Type 0 where
   pub there : (x key : ℕ) → key_at keys x ≡ Some key → IsSome (get maps key)
   pub apart : (x y key : ℕ) → key_at keys x ≡ Some key → key_at keys y ≡ Some key → x ≡ y
   pub used : (key : ℕ) → IsSome (get maps key) → (x : ℕ) × (key_at keys x ≡ Some key)
 
 -- the node to which the entry of that name in the map of that key leads
-abbrev pub found_in : Slab (BTreeMap (List ℕ) ℕ) → ℕ → List ℕ → Option ℕ
+abbrev pub found_in : Slab (List (List ℕ × ℕ)) → ℕ → List ℕ → Option ℕ
 found_in maps key n = option_and_then (λ entries. lookup (is_name n) entries) (entries_of maps (Some key))
 
 -- one entry of the map of that key leads elsewhere, or nowhere
-pub record ChangesMap (old new : Slab (BTreeMap (List ℕ) ℕ)) (key : ℕ) (n : List ℕ) (x : Option ℕ) : Type 0 where
+pub record ChangesMap (old new : Slab (List (List ℕ × ℕ))) (key : ℕ) (n : List ℕ) (x : Option ℕ) : Type 0 where
   pub entries : (k : ℕ) (m : List ℕ) → found_in new k m ≡ with_entry (found_in old) key n x k m
   pub maps : (k : ℕ) → is_some (get new k) ≡ is_some (get old k)
   pub room : HasRoomFor old 1 → HasRoomFor new 1
 
 -- the maps have the entries that they had
-pub record SameMaps (old new : Slab (BTreeMap (List ℕ) ℕ)) : Type 0 where
+pub record SameMaps (old new : Slab (List (List ℕ × ℕ))) : Type 0 where
   pub entries : (key : Option ℕ) → entries_of new key ≡ entries_of old key
   pub maps : (k : ℕ) → is_some (get new k) ≡ is_some (get old k)
 
 -- a map without entries of a new key
-pub record IsNewMap (old new : Slab (BTreeMap (List ℕ) ℕ)) (key : ℕ) : Type 0 where
+pub record IsNewMap (old new : Slab (List (List ℕ × ℕ))) (key : ℕ) : Type 0 where
   pub free : get old key ≡ None
   pub empty : entries_of new (Some key) ≡ Some []
   pub others : (k : ℕ) → k ≢ key → get new k ≡ get old k
 
 -- a map of a new key where it is wanted
-abbrev pub AddsMap : Bool → Slab (BTreeMap (List ℕ) ℕ) → Slab (BTreeMap (List ℕ) ℕ) → Option ℕ → Type 0
+abbrev pub AddsMap : Bool → Slab (List (List ℕ × ℕ)) → Slab (List (List ℕ × ℕ)) → Option ℕ → Type 0
 AddsMap mapped old new key =
     MatchOption key ((mapped ≡ false) × (new ≡ old)) (λ k. (mapped ≡ true) × IsNewMap old new k)

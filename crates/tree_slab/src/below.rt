@@ -23,17 +23,20 @@ pub(crate) enum Found {
     Higher,
 }
 
-// Adds the names from the top down to a node, the outermost first, where it stands at most so deep below.
+// Adds the names from the top down to a node, the outermost first, where it stands at most so deep below. Room is got
+// at the top, for these and for `more` names of so many bytes that come after them.
 fn add_names(
     names: &mut Names,
     nodes: &[Inode],
     top: Node,
     x: Node,
     depth: usize,
+    more: (usize, usize),
 ) -> Result<Found, NoMemory>
     ensures { IfOk result (λ found. Tells found depth nodes.now top x names.old names.new) }
 {
     if x == top {
+        names.reserve(more.0, more.1)?;
         return Ok(Found::Below);
     }
     if depth == 0 {
@@ -42,10 +45,12 @@ fn add_names(
     let Some(place) = place_at(nodes, x) else {
         return Ok(Found::Apart);
     };
-    let found = add_names(names, nodes, top, place.parent, depth - 1)?;
+    let name = place.name.bytes();
+    let more = (more.0.saturating_add(1), more.1.saturating_add(name.len()));
+    let found = add_names(names, nodes, top, place.parent, depth - 1, more)?;
     match found {
         Found::Below => {
-            names.push_bytes(place.name.bytes())?;
+            names.push_bytes(name)?;
             Ok(Found::Below)
         }
         Found::Apart => Ok(Found::Apart),
@@ -75,7 +80,7 @@ pub(crate) fn names_down(
     ensures { IfOk result (λ names. names ≡ option_map reverse (names_below nodes.now top x)) }
 {
     let mut names = Names::new(alloc);
-    match add_names(&mut names, nodes, top, x, depth_of(nodes))? {
+    match add_names(&mut names, nodes, top, x, depth_of(nodes), (0, 0))? {
         Found::Below => Ok(Some(names)),
         Found::Apart => Ok(None),
         Found::Higher => names_from_deep(alloc, nodes, top, x),

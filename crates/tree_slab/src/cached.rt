@@ -7,7 +7,7 @@ ghost use Rattle.tree_slab.specs.Directories.{has_map, entry_in, names_at, SetsE
 
 use crate::directories::Directories;
 use dentry_cache::DentryCache;
-use path_text::{Name, Names, NoMemory};
+use path_text::{LentName, Names, NoMemory};
 use std::alloc::Global;
 use std::marker::Model;
 use tree_model::Node;
@@ -42,7 +42,7 @@ impl CachedDirectories {
     }
 
     /// The node to which a directory's entry of that name leads. It isn't noted, so that no memory is taken.
-    pub(crate) fn look(&mut self, dir: Node, name: &Name) -> Option<Node>
+    pub(crate) fn look(&mut self, dir: Node, name: &LentName<'_>) -> Option<Node>
         ensures found { result ≡ entry_in self.old dir name.now }
         ensures same { self.new ≡ self.old }
     {
@@ -53,7 +53,7 @@ impl CachedDirectories {
     }
 
     /// The same by the directory's map alone.
-    pub(crate) fn mapped(&self, dir: Node, name: &Name) -> Option<Node>
+    pub(crate) fn mapped(&self, dir: Node, name: &LentName<'_>) -> Option<Node>
         ensures { result ≡ entry_in self.now dir name.now }
     {
         self.maps.find(dir, name)
@@ -61,7 +61,7 @@ impl CachedDirectories {
 
     /// The same, noted where it was read in a map. A note that finds no memory is passed over. The entries of a small
     /// directory aren't noted, since its map finds them as fast.
-    pub(crate) fn find(&mut self, dir: Node, name: &Name) -> Option<Node>
+    pub(crate) fn find(&mut self, dir: Node, name: &LentName<'_>) -> Option<Node>
         ensures found { result ≡ entry_in self.old dir name.now }
         ensures same { self.new ≡ self.old }
     {
@@ -75,7 +75,7 @@ impl CachedDirectories {
     }
 
     // What the map has, noted.
-    fn read(&mut self, dir: Node, name: &Name) -> Option<Node>
+    fn read(&mut self, dir: Node, name: &LentName<'_>) -> Option<Node>
         ensures found { result ≡ entry_in self.old dir name.now }
         ensures same { self.new ≡ self.old }
     {
@@ -100,19 +100,24 @@ impl CachedDirectories {
         self.maps.names(alloc, dir)
     }
 
-    /// Lets an entry of a directory lead to a node. NoMemory where its room was refused, which only a new
-    /// entry needs.
-    pub(crate) fn link(&mut self, dir: Node, name: Name, x: Node) -> Result<(), NoMemory>
+    /// Lets an entry of a directory lead to a node. NoMemory where room was refused.
+    pub(crate) fn link(
+        &mut self,
+        alloc: Global,
+        dir: Node,
+        name: &LentName<'_>,
+        x: Node,
+    ) -> Result<(), NoMemory>
         requires { has_map self.old dir ≡ true }
-        ensures ok { OnOk result (SetsEntry self.old self.new dir name (Some x)) }
+        ensures ok { OnOk result (SetsEntry self.old self.new dir name.now (Some x)) }
         ensures err { OnErr result (self.new ≡ self.old) }
     {
-        self.cache.forget(dir, &name);
-        self.maps.link(dir, name, x)
+        self.cache.forget(dir, name);
+        self.maps.link(alloc, dir, name, x)
     }
 
     /// Lets an entry that is there lead to another node. Takes no memory.
-    pub(crate) fn relink(&mut self, dir: Node, name: &Name, x: Node)
+    pub(crate) fn relink(&mut self, dir: Node, name: &LentName<'_>, x: Node)
         requires { IsSome (entry_in self.old dir name.now) }
         ensures { SetsEntry self.old self.new dir name.now (Some x) }
     {
@@ -121,7 +126,7 @@ impl CachedDirectories {
     }
 
     /// Takes an entry away. Takes no memory.
-    pub(crate) fn unlink(&mut self, dir: Node, name: &Name)
+    pub(crate) fn unlink(&mut self, dir: Node, name: &LentName<'_>)
         ensures { SetsEntry self.old self.new dir name.now None }
     {
         self.cache.forget(dir, name);
@@ -133,14 +138,14 @@ impl CachedDirectories {
         &mut self,
         alloc: Global,
         dir: Node,
-        name: Name,
+        name: &LentName<'_>,
         mapped: bool,
     ) -> Result<(), NoMemory>
         requires { has_map self.old dir ≡ true }
-        ensures ok { OnOk result (AddsNode self.old self.new dir name mapped) }
+        ensures ok { OnOk result (AddsNode self.old self.new dir name.now mapped) }
         ensures err { OnErr result (self.new ≡ self.old) }
     {
-        self.cache.forget(dir, &name);
+        self.cache.forget(dir, name);
         self.maps.add(alloc, dir, name, mapped)
     }
 

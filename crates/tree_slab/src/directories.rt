@@ -1,17 +1,16 @@
 //! The ordered maps of the standing directories' entries, kept in a slab.
-ghost use Rattle.std.specs.Prelude.{◌≡◌, nat_le, length, ◌+◌, ◌++◌, ◌∷◌, [], IsTrue, ◌↔◌, List, ℕ, Some, None, true, false, IfOk, OnOk, OnErr, IsSome};
-ghost use Rattle.std.specs.Option.{option_map, option_map_or};
+ghost use Rattle.std.specs.Prelude.{◌≡◌, nat_le, option_copied, length, ◌+◌, ◌++◌, ◌∷◌, [], IsTrue, ◌↔◌, List, ℕ, Some, None, true, IfOk, OnOk, OnErr, IsSome};
+ghost use Rattle.std.specs.Option.{option_map_or};
 ghost use Rattle.std.specs.Ordering.{nat_cmp};
 ghost use Rattle.std.specs.Cmp.Lexicographic.{slice_cmp};
 ghost use Rattle.std.specs.List.Sorted.{IsStrictlySortedBy};
-ghost use Rattle.std.specs.BTreeMap.{keys, get as value_at, Updates};
 ghost use Rattle.slab.specs.Slab.{get, HasRoomFor};
 ghost use Rattle.tree_slab.specs.Directories.{key_at, entries_at, has_map, entry_in, names_at, new_entries, SetsEntry, AddsNode, LosesMap, found_in, ChangesMap, SameMaps, AddsMap};
 
-use path_text::{Name, Names, NoMemory};
+use crate::entry_map::EntryMap;
+use path_text::{LentName, Names, NoMemory};
 use slab::Slab;
 use std::alloc::Global;
-use std::collections::BTreeMap;
 use std::marker::Model;
 use tree_model::Node;
 
@@ -24,7 +23,7 @@ const SMALL: usize = 11;
 pub(crate) struct Directories {
     // The key of each node's map. Only a directory that stands has one.
     keys: Vec<Option<usize>>,
-    maps: Slab<BTreeMap<Name, Node>>,
+    maps: Slab<EntryMap>,
 }
 
 impl Model for Directories {
@@ -46,75 +45,53 @@ fn key_at(keys: &[Option<usize>], x: Node) -> Option<usize>
     keys.get(x.number() as usize).copied().flatten()
 }
 
-// Lets an entry of a map lead to a node. NoMemory where its room was refused, which only a new entry needs.
+// Lets an entry of a map lead to a node. NoMemory where room was refused.
 fn put_in(
-    maps: &mut Slab<BTreeMap<Name, Node>>,
+    maps: &mut Slab<EntryMap>,
+    alloc: Global,
     key: usize,
-    name: Name,
+    name: &LentName<'_>,
     x: Node,
 ) -> Result<(), NoMemory>
     requires { IsSome (get maps.old key) }
-    ensures ok { OnOk result (ChangesMap maps.old maps.new key name (Some x)) }
+    ensures ok { OnOk result (ChangesMap maps.old maps.new key name.now (Some x)) }
     ensures err { OnErr result (SameMaps maps.old maps.new) }
 {
     let Some(map) = maps.get_mut(key) else {
         unreachable!();
     };
-    map.insert(name, x)?;
-    Ok(())
+    map.put(alloc, name, x)
 }
 
 // Lets an entry of a map that is there lead to another node.
-fn set(map: &mut BTreeMap<Name, Node>, name: &Name, x: Node)
-    requires { IsSome (value_at (slice_cmp nat_cmp) map.old name.now) }
-    ensures { Updates (slice_cmp nat_cmp) map.old map.new name.now (Some x) }
-{
-    if let Some(there) = map.get_mut(name) {
-        *there = x;
-    }
-}
-
-// The same by the key of the map.
-fn set_in(maps: &mut Slab<BTreeMap<Name, Node>>, key: usize, name: &Name, x: Node)
+fn set_in(maps: &mut Slab<EntryMap>, key: usize, name: &LentName<'_>, x: Node)
     requires { IsSome (found_in maps.old key name.now) }
     ensures { ChangesMap maps.old maps.new key name.now (Some x) }
 {
     if let Some(map) = maps.get_mut(key) {
-        set(map, name, x);
+        map.set(name, x);
     }
 }
 
 // Takes an entry out of a map.
-fn take_from(maps: &mut Slab<BTreeMap<Name, Node>>, key: usize, name: &Name)
+fn take_from(maps: &mut Slab<EntryMap>, key: usize, name: &LentName<'_>)
     ensures { ChangesMap maps.old maps.new key name.now None }
 {
     if let Some(map) = maps.get_mut(key) {
-        let _ = map.remove(name);
+        map.remove(name);
     }
 }
 
 // A map without entries, where one is wanted.
-fn add_map(maps: &mut Slab<BTreeMap<Name, Node>>, alloc: Global, mapped: bool) -> Option<usize>
+fn add_map(maps: &mut Slab<EntryMap>, alloc: Global, mapped: bool) -> Option<usize>
     requires { HasRoomFor maps.old 1 }
     ensures { AddsMap mapped maps.old maps.new result }
 {
     if mapped {
-        Some(maps.insert_reserved(BTreeMap::new(alloc)))
+        Some(maps.insert_reserved(EntryMap::new(alloc)))
     } else {
         None
     }
-}
-
-// The names of a map's entries. NoMemory where their room was refused.
-fn names_of(alloc: Global, map: &BTreeMap<Name, Node>) -> Result<Names, NoMemory>
-    ensures same { IfOk result (λ names. names ≡ keys map.now) }
-    ensures sorted { IfOk result (λ names. IsStrictlySortedBy (slice_cmp nat_cmp) names) }
-{
-    let mut names = Names::new(alloc);
-    for name in map.keys() {
-        names.push_bytes(name.bytes())?;
-    }
-    Ok(names)
 }
 
 impl Directories {
@@ -129,17 +106,17 @@ impl Directories {
     }
 
     // The map of a directory that has one.
-    fn map_at(&self, dir: Node) -> Option<&BTreeMap<Name, Node>>
-        ensures { option_map (λ map. map.now.entries) result ≡ entries_at self.now dir }
+    fn map_at(&self, dir: Node) -> Option<&EntryMap>
+        ensures { option_copied result ≡ entries_at self.now dir }
     {
         self.maps.get(key_at(&self.keys, dir)?)
     }
 
     /// The node to which a directory's entry of that name leads.
-    pub(crate) fn find(&self, dir: Node, name: &Name) -> Option<Node>
+    pub(crate) fn find(&self, dir: Node, name: &LentName<'_>) -> Option<Node>
         ensures { result ≡ entry_in self.now dir name.now }
     {
-        self.map_at(dir)?.get(name).copied()
+        self.map_at(dir)?.get(name)
     }
 
     /// Whether a directory has no more entries than one node of its map holds.
@@ -168,26 +145,31 @@ impl Directories {
         ensures sorted { IfOk result (λ names. IsStrictlySortedBy (slice_cmp nat_cmp) names) }
     {
         match self.map_at(dir) {
-            Some(map) => names_of(alloc, map),
+            Some(map) => map.names(alloc),
             None => Ok(Names::new(alloc)),
         }
     }
 
-    /// Lets an entry of a directory lead to a node. NoMemory where its room was refused, which only a new
-    /// entry needs.
-    pub(crate) fn link(&mut self, dir: Node, name: Name, x: Node) -> Result<(), NoMemory>
+    /// Lets an entry of a directory lead to a node. NoMemory where room was refused.
+    pub(crate) fn link(
+        &mut self,
+        alloc: Global,
+        dir: Node,
+        name: &LentName<'_>,
+        x: Node,
+    ) -> Result<(), NoMemory>
         requires { has_map self.old dir ≡ true }
-        ensures ok { OnOk result (SetsEntry self.old self.new dir name (Some x)) }
+        ensures ok { OnOk result (SetsEntry self.old self.new dir name.now (Some x)) }
         ensures err { OnErr result (self.new ≡ self.old) }
     {
         let Some(key) = key_at(&self.keys, dir) else {
             unreachable!();
         };
-        put_in(&mut self.maps, key, name, x)
+        put_in(&mut self.maps, alloc, key, name, x)
     }
 
     /// Lets an entry that is there lead to another node. Takes no memory.
-    pub(crate) fn relink(&mut self, dir: Node, name: &Name, x: Node)
+    pub(crate) fn relink(&mut self, dir: Node, name: &LentName<'_>, x: Node)
         requires { IsSome (entry_in self.old dir name.now) }
         ensures { SetsEntry self.old self.new dir name.now (Some x) }
     {
@@ -197,7 +179,7 @@ impl Directories {
     }
 
     /// Takes an entry away. Takes no memory.
-    pub(crate) fn unlink(&mut self, dir: Node, name: &Name)
+    pub(crate) fn unlink(&mut self, dir: Node, name: &LentName<'_>)
         ensures { SetsEntry self.old self.new dir name.now None }
     {
         if let Some(key) = key_at(&self.keys, dir) {
@@ -222,11 +204,11 @@ impl Directories {
         &mut self,
         alloc: Global,
         dir: Node,
-        name: Name,
+        name: &LentName<'_>,
         mapped: bool,
     ) -> Result<(), NoMemory>
         requires { has_map self.old dir ≡ true }
-        ensures ok { OnOk result (AddsNode self.old self.new dir name mapped) }
+        ensures ok { OnOk result (AddsNode self.old self.new dir name.now mapped) }
         ensures err { OnErr result (self.new ≡ self.old) }
     {
         let Some(dir_key) = key_at(&self.keys, dir) else {
@@ -235,7 +217,7 @@ impl Directories {
         let x = Node::new(self.keys.len() as u64);
         self.keys.reserve(1)?;
         self.maps.reserve(1)?;
-        put_in(&mut self.maps, dir_key, name, x)?;
+        put_in(&mut self.maps, alloc, dir_key, name, x)?;
         let key = add_map(&mut self.maps, alloc, mapped);
         self.keys.push_reserved(key);
         Ok(())

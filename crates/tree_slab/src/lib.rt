@@ -10,6 +10,7 @@
 mod below;
 mod cached;
 mod directories;
+mod entry_map;
 mod handles;
 mod held;
 mod nodes;

@@ -1,5 +1,5 @@
 //! The nodes of a tree by their numbers, and beside them the maps of their entries.
-ghost use Rattle.std.specs.Prelude.{◌≡◌, ◌≢◌, ◌&&◌, ◌++◌, ◌∷◌, [], List, ℕ, true, false, Some, None, ◌<◌, IfOk, OnOk, OnErr, MatchResult, length};
+ghost use Rattle.std.specs.Prelude.{◌≡◌, ◌≢◌, ◌&&◌, ◌++◌, ◌∷◌, [], List, true, false, Some, None, ◌<◌, IfOk, OnOk, OnErr, length};
 ghost use Rattle.tree_model.specs.State.{put_at, is_directory, is_dir, is_gone, is_within, child, has_entries, names_in, sorted_names};
 ghost use Rattle.tree_model.specs.Entries.{makes, removes_file, removes_dir, moves, replace_fault, replaces, exchanges, renames};
 ghost use Rattle.tree_model.specs.Trees.{IsTree, HasPathText};
@@ -11,7 +11,7 @@ ghost use Rattle.tree_slab.specs.Index.{is_standing_dir, HasEmptyMaps, HasParent
 use crate::cached::CachedDirectories;
 use crate::directories::Directories;
 use dentry_cache::DentryCache;
-use path_text::{Errno, Name, Names, NoMemory};
+use path_text::{Errno, LentName, Names, NoMemory};
 use std::alloc::Global;
 use std::marker::Model;
 use tree_list::{GrowingNodes, is_within, put_at};
@@ -83,8 +83,7 @@ fn link(
     let Some(place) = place else {
         return Ok(());
     };
-    let name = place.name.copy(alloc)?;
-    directories.link(place.parent, name, x)
+    directories.link(alloc, place.parent, &place.name.lend(), x)
 }
 
 // Lets each node's entry lead to it. NoMemory where room was refused.
@@ -139,7 +138,7 @@ impl Nodes {
     }
 
     /// The node at the entry of that name in that directory, which is remembered then.
-    pub(crate) fn find(&mut self, dir: Node, name: &Name) -> Option<Node>
+    pub(crate) fn find(&mut self, dir: Node, name: &LentName<'_>) -> Option<Node>
         ensures found { result ≡ child self.old dir name.now }
         ensures same { self.new ≡ self.old }
     {
@@ -147,7 +146,7 @@ impl Nodes {
     }
 
     // The same, for a step that is about to change the entry. Takes no memory.
-    fn child(&mut self, dir: Node, name: &Name) -> Option<Node>
+    fn child(&mut self, dir: Node, name: &LentName<'_>) -> Option<Node>
         ensures found { result ≡ child self.old dir name.now }
         ensures same { self.new ≡ self.old }
     {
@@ -155,7 +154,7 @@ impl Nodes {
     }
 
     // The error of a step that is refused for what an entry leads to, which is remembered then.
-    fn refuse(&mut self, dir: Node, name: &Name, error: Errno) -> Errno
+    fn refuse(&mut self, dir: Node, name: &LentName<'_>, error: Errno) -> Errno
         ensures error { result ≡ error }
         ensures same { self.new ≡ self.old }
     {
@@ -178,7 +177,13 @@ impl Nodes {
     }
 
     // Adds a node at an entry that isn't there. NoMemory where its room was refused.
-    fn add(&mut self, alloc: Global, dir: Node, name: &Name, object: Object) -> Result<(), NoMemory>
+    fn add(
+        &mut self,
+        alloc: Global,
+        dir: Node,
+        name: &LentName<'_>,
+        object: Object,
+    ) -> Result<(), NoMemory>
         requires dir { is_dir self.old dir ≡ true }
         requires stays { is_gone self.old dir ≡ false }
         requires free { child self.old dir name.now ≡ None }
@@ -198,9 +203,8 @@ impl Nodes {
             object,
             place: Some(place),
         };
-        let key = name.copy(alloc)?;
         self.inodes.reserve(1)?;
-        self.directories.add(alloc, dir, key, mapped)?;
+        self.directories.add(alloc, dir, name, mapped)?;
         self.inodes.push_reserved(inode);
         Ok(())
     }
@@ -210,7 +214,7 @@ impl Nodes {
         &mut self,
         alloc: Global,
         dir: Node,
-        name: &Name,
+        name: &LentName<'_>,
         object: Object,
     ) -> Result<Result<(), Errno>, NoMemory>
         requires { HasPathText object }
@@ -233,7 +237,7 @@ impl Nodes {
     }
 
     // Takes the entry of a node without entries away.
-    fn take_out(&mut self, dir: Node, name: &Name, x: Node)
+    fn take_out(&mut self, dir: Node, name: &LentName<'_>, x: Node)
         requires there { child self.old dir name.now ≡ Some x }
         requires childless { (is_dir self.old x && has_entries self.old x) ≡ false }
         ensures { self.new ≡ put_at self.old x None }
@@ -244,7 +248,7 @@ impl Nodes {
     }
 
     /// Removes the entry of what is no directory. Takes no memory.
-    pub(crate) fn remove_file(&mut self, dir: Node, name: &Name) -> Result<(), Errno>
+    pub(crate) fn remove_file(&mut self, dir: Node, name: &LentName<'_>) -> Result<(), Errno>
         ensures { IsChange self.old self.new (removes_file self.old dir name.now) result }
     {
         if !is_dir(self.as_slice(), dir) {
@@ -261,7 +265,7 @@ impl Nodes {
     }
 
     /// Removes the entry of an empty directory. Takes no memory.
-    pub(crate) fn remove_dir(&mut self, dir: Node, name: &Name) -> Result<(), Errno>
+    pub(crate) fn remove_dir(&mut self, dir: Node, name: &LentName<'_>) -> Result<(), Errno>
         ensures { IsChange self.old self.new (removes_dir self.old dir name.now) result }
     {
         if !is_dir(self.as_slice(), dir) {
@@ -297,9 +301,9 @@ impl Nodes {
         if is_within(&self.inodes, moved, to.parent) {
             return Ok(Err(Errno::Invalid));
         }
-        let key = to.name.copy(alloc)?;
-        self.directories.link(to.parent, key, moved)?;
-        self.directories.unlink(from.parent, &from.name);
+        self.directories
+            .link(alloc, to.parent, &to.name.lend(), moved)?;
+        self.directories.unlink(from.parent, &from.name.lend());
         set_place(&mut self.inodes, moved, Some(to));
         Ok(Ok(()))
     }
@@ -331,8 +335,8 @@ impl Nodes {
         if let Some(fault) = self.replace_fault(moved, there) {
             return Err(fault);
         }
-        self.directories.relink(to.parent, &to.name, moved);
-        self.directories.unlink(from.parent, &from.name);
+        self.directories.relink(to.parent, &to.name.lend(), moved);
+        self.directories.unlink(from.parent, &from.name.lend());
         self.directories.give_back(there);
         set_place(&mut self.inodes, there, None);
         set_place(&mut self.inodes, moved, Some(to));
@@ -355,8 +359,9 @@ impl Nodes {
         if is_within(&self.inodes, there, from.parent) {
             return Err(Errno::Invalid);
         }
-        self.directories.relink(to.parent, &to.name, moved);
-        self.directories.relink(from.parent, &from.name, there);
+        self.directories.relink(to.parent, &to.name.lend(), moved);
+        self.directories
+            .relink(from.parent, &from.name.lend(), there);
         set_place(&mut self.inodes, moved, Some(to));
         set_place(&mut self.inodes, there, Some(from));
         Ok(())
@@ -379,16 +384,24 @@ impl Nodes {
         if !is_dir(self.as_slice(), to.parent) {
             return Ok(Err(Errno::NotDir));
         }
-        let Some(moved) = self.child(from.parent, &from.name) else {
-            return Ok(Err(self.refuse(from.parent, &from.name, Errno::NotFound)));
+        let Some(moved) = self.child(from.parent, &from.name.lend()) else {
+            return Ok(Err(self.refuse(from.parent, &from.name.lend(), Errno::NotFound)));
         };
         if is_gone(self.as_slice(), to.parent) {
             return Ok(Err(Errno::NotFound));
         }
-        match (mode, self.child(to.parent, &to.name)) {
-            (Mode::Exchange, None) => Ok(Err(self.refuse(to.parent, &to.name, Errno::NotFound))),
+        match (mode, self.child(to.parent, &to.name.lend())) {
+            (Mode::Exchange, None) => Ok(Err(self.refuse(
+                to.parent,
+                &to.name.lend(),
+                Errno::NotFound,
+            ))),
             (Mode::Plain | Mode::NoReplace, None) => self.move_to(alloc, &from, to, moved),
-            (Mode::NoReplace, Some(_)) => Ok(Err(self.refuse(to.parent, &to.name, Errno::Exists))),
+            (Mode::NoReplace, Some(_)) => Ok(Err(self.refuse(
+                to.parent,
+                &to.name.lend(),
+                Errno::Exists,
+            ))),
             (_, Some(there)) if there == moved => Ok(Ok(())),
             (Mode::Plain, Some(there)) => Ok(self.replace(&from, to, moved, there)),
             (Mode::Exchange, Some(there)) => Ok(self.exchange(from, to, moved, there)),
@@ -405,7 +418,7 @@ impl GrowingNodes for Nodes {
 
     // While entries are added none is noted.
     fn node_at(&self, at: &Place) -> Option<Node> {
-        self.directories.mapped(at.parent, &at.name)
+        self.directories.mapped(at.parent, &at.name.lend())
     }
 
     fn grow(
@@ -414,6 +427,6 @@ impl GrowingNodes for Nodes {
         at: Place,
         object: Object,
     ) -> Result<Result<(), Errno>, NoMemory> {
-        self.make(alloc, at.parent, &at.name, object)
+        self.make(alloc, at.parent, &at.name.lend(), object)
     }
 }

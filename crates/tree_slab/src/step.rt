@@ -1,7 +1,5 @@
 //! The single steps, each in the order of the step table.
-ghost use Rattle.std.specs.Prelude.{◌≡◌, ◌++◌, reverse, length, false, IfOk, OnErr};
-ghost use Rattle.std.specs.Option.{option_map};
-ghost use Rattle.tree_model.specs.State.{names_below};
+ghost use Rattle.std.specs.Prelude.{◌≡◌, length, false, IfOk, OnErr};
 ghost use Rattle.tree_model.specs.Steps.{outcome, held, is_full, with_handle, opens, changes, on_handle};
 ghost use Rattle.tree_model.specs.Entries.{makes};
 ghost use Rattle.tree_model.specs.Trees.{HasPathText};
@@ -9,7 +7,7 @@ ghost use Rattle.tree_list.specs.Changes.{IsStep, IsStepOr, answer_of};
 
 use crate::below::names_down;
 use crate::tree::SlabTree;
-use path_text::{Bytes, Errno, Name, Names, NoMemory, Path};
+use path_text::{Errno, LentBytes, LentName, Names, NoMemory, Path};
 use std::alloc::Global;
 use tree_model::{
     Actor, Answer, HandleNo, Inode, Mode, Node, Object, Place, StepOf, is_dir, parent, place_at,
@@ -74,7 +72,7 @@ impl SlabTree {
         &mut self,
         actor: Actor,
         dir: HandleNo,
-        name: &Name,
+        name: &LentName<'_>,
     ) -> Result<Answer, NoMemory>
         ensures { IsStepOr self.old (outcome self.old actor (StepOf.Open dir name.now)) self.new result }
     {
@@ -194,7 +192,7 @@ impl SlabTree {
         alloc: Global,
         actor: Actor,
         dir: HandleNo,
-        name: &Name,
+        name: &LentName<'_>,
         object: Object,
     ) -> Result<Answer, NoMemory>
         requires { HasPathText object }
@@ -215,8 +213,8 @@ impl SlabTree {
         alloc: Global,
         actor: Actor,
         dir: HandleNo,
-        name: &Name,
-        text: &Bytes,
+        name: &LentName<'_>,
+        text: &LentBytes<'_>,
     ) -> Result<Answer, NoMemory>
         ensures { IsStepOr self.old (outcome self.old actor (StepOf.MakeLink dir name.now text.now)) self.new result }
     {
@@ -232,7 +230,7 @@ impl SlabTree {
     }
 
     /// Removes the entry of what is no directory (unlinkat(2)). Takes no memory.
-    pub(crate) fn remove_file(&mut self, actor: Actor, dir: HandleNo, name: &Name) -> Answer
+    pub(crate) fn remove_file(&mut self, actor: Actor, dir: HandleNo, name: &LentName<'_>) -> Answer
         ensures { IsStep (outcome self.old actor (StepOf.RemoveFile dir name.now)) self.new result }
     {
         let Some(dir) = self.node_held(actor, dir) else {
@@ -243,7 +241,7 @@ impl SlabTree {
     }
 
     /// Removes the entry of an empty directory (unlinkat(2) with AT_REMOVEDIR). Takes no memory.
-    pub(crate) fn remove_dir(&mut self, actor: Actor, dir: HandleNo, name: &Name) -> Answer
+    pub(crate) fn remove_dir(&mut self, actor: Actor, dir: HandleNo, name: &LentName<'_>) -> Answer
         ensures { IsStep (outcome self.old actor (StepOf.RemoveDir dir name.now)) self.new result }
     {
         let Some(dir) = self.node_held(actor, dir) else {
@@ -258,8 +256,8 @@ impl SlabTree {
         &mut self,
         alloc: Global,
         actor: Actor,
-        from: (HandleNo, &Name),
-        to: (HandleNo, &Name),
+        from: (HandleNo, &LentName<'_>),
+        to: (HandleNo, &LentName<'_>),
         mode: Mode,
     ) -> Result<Answer, NoMemory>
         ensures { IsStepOr self.old

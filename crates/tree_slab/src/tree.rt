@@ -1,5 +1,5 @@
 //! The tree itself: how it is made, and that it is a `Tree`.
-ghost use Rattle.std.specs.Prelude.{◌≡◌, ℕ, ◌≤◌, IfErr, IfOk, MatchOption, MatchResult, None, Ok, OnOk, Some, Err};
+ghost use Rattle.std.specs.Prelude.{◌≡◌, IfErr, MatchOption, MatchResult, Ok, OnOk, Err};
 ghost use Rattle.tree_model.specs.Trees.{IsState, IsTree};
 ghost use Rattle.tree_list.specs.Build.{adds_all, with_nodes, top_alone, IsFaultFrom};
 ghost use Rattle.dentry_cache.specs.Cache.{cap_fault};
@@ -11,7 +11,7 @@ use path_text::{Errno, Names, NoMemory};
 use std::alloc::Global;
 use std::marker::Model;
 use tree_list::{BuildFault, Entry, ListTree, add_all, copy_nodes, directory_at};
-use tree_model::{Actor, Answer, HandleNo, Inode, Object, Snapshot, Step, StepOf, Tree};
+use tree_model::{Actor, Answer, HandleNo, Inode, LentStep, Object, Snapshot, StepOf, Tree};
 
 /// A tree whose entries are found by an ordered map for each directory that stands, and whose handles are
 /// counted by their actors. Contracts see it as its state.
@@ -89,7 +89,12 @@ impl SlabTree {
 impl Tree for SlabTree {
     ghost state = { λ tree. tree };
 
-    fn step(&mut self, alloc: Global, actor: Actor, step: &Step) -> Result<Answer, NoMemory> {
+    fn step(
+        &mut self,
+        alloc: Global,
+        actor: Actor,
+        step: &LentStep<'_>,
+    ) -> Result<Answer, NoMemory> {
         match step {
             StepOf::Open(dir, name) => self.open(actor, *dir, name),
             StepOf::Dup(handle) => self.dup(actor, *handle),

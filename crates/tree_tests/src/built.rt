@@ -1,4 +1,5 @@
 //! Trees built of lists of entries, and lists that are refused.
+use crate::grown::grown;
 use fixtures::{base_tree, entries, names_of};
 use path_text::{Bytes, Errno};
 use std::alloc::Global;
@@ -28,23 +29,22 @@ fn is_refused(fault: Option<BuildFault>, at: usize, cause: &str) -> bool {
     }
 }
 
-/// Why the plain tree and the indexed one refuse a list of entries.
-fn faults_of(
-    alloc: Global,
-    rows: &[(&str, &str)],
-) -> Result<(Option<BuildFault>, Option<BuildFault>), Errno> {
+/// Why the plain tree, the indexed one and listed nodes refuse a list of entries.
+fn faults_of(alloc: Global, rows: &[(&str, &str)]) -> Result<[Option<BuildFault>; 3], Errno> {
     let entries = entries(alloc, rows)?;
     let plain = ListTree::from_entries(alloc, &entries).err();
     let mut tree = SlabTree::new(alloc, 4)?;
     let indexed = tree.add_all(alloc, &entries).err();
-    Ok((plain, indexed))
+    let (listed, _) = grown(alloc, rows)?;
+    Ok([plain, indexed, listed])
 }
 
 /// The first row of which something else is refused.
 fn first_other(alloc: Global) -> Result<Option<usize>, Errno> {
     for (row, (first, what, second, other, at, cause)) in REFUSED.iter().enumerate() {
-        let (plain, indexed) = faults_of(alloc, &[(first, what), (second, other)])?;
-        if !is_refused(plain, *at, cause) || !is_refused(indexed, *at, cause) {
+        let [plain, indexed, listed] = faults_of(alloc, &[(first, what), (second, other)])?;
+        let is_plain = is_refused(plain, *at, cause) && is_refused(listed, *at, cause);
+        if !is_plain || !is_refused(indexed, *at, cause) {
             return Ok(Some(row));
         }
     }

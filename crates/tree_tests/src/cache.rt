@@ -77,13 +77,13 @@ fn is_answered(
     let name = Name::new(alloc, name.as_bytes())?;
     let said = wanted_of(said);
     match call {
-        "look" => Ok(cache.look(dir, &name) == said),
+        "look" => Ok(cache.look(dir, &name.lend()) == said),
         "note" => {
-            cache.note(dir, &name, said.flatten())?;
+            cache.note(dir, &name.lend(), said.flatten())?;
             Ok(true)
         }
         _ => {
-            cache.forget(dir, &name);
+            cache.forget(dir, &name.lend());
             Ok(call == "forget")
         }
     }
@@ -166,8 +166,8 @@ fn long_name(alloc: Global, last: u8) -> Result<Name, Errno> {
 
 /// Whether a name of 255 bytes is told from one that differs in the last.
 fn tells_long_names(alloc: Global) -> Result<bool, Errno> {
-    let name = long_name(alloc, b'x')?;
-    let other = long_name(alloc, b'y')?;
+    let (kept, another) = (long_name(alloc, b'x')?, long_name(alloc, b'y')?);
+    let (name, other) = (kept.lend(), another.lend());
     let mut cache = DentryCache::new(alloc, 4)?;
     let dir = Node::new(1);
     cache.note(dir, &name, Some(Node::new(2)))?;

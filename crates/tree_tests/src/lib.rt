@@ -6,6 +6,8 @@ mod built;
 #[cfg(test)]
 mod cache;
 #[cfg(test)]
+mod grown;
+#[cfg(test)]
 mod nodes;
 #[cfg(test)]
 mod whole;

@@ -79,9 +79,9 @@ fn step_of(alloc: Global, line: &str) -> Result<Step, Errno> {
 /// Whether the copy of a row's step is equal to another row's.
 fn copy_is_step(alloc: Global, line: &str, other: &str) -> Result<bool, Errno> {
     let step = step_of(alloc, line)?;
-    let copy = step.copy(alloc)?;
+    let copy = step.lend().copy(alloc)?;
     let another = step_of(alloc, other)?;
-    Ok(copy.same(&another))
+    Ok(copy.lend().same(&another.lend()))
 }
 
 fn kind(word: &str) -> Kind {

@@ -9,7 +9,7 @@ use Rattle.path_text.specs.declared.errno.NoMemory.{NoMemory as Refusal}
 use Rattle.path_text.specs.Reading.{Reading}
 use Rattle.tree_model.specs.declared.answer.Answer.{Answer}
 use Rattle.tree_model.specs.declared.answer.Event.{Event}
-use Rattle.tree_model.specs.declared.step.StepOf.{StepOf}
+use Rattle.tree_model.specs.StepWith.{StepWith}
 use Rattle.tree_model.specs.State.{State, is_dir}
 use Rattle.tree_model.specs.Steps.{outcome, held}
 use Rattle.tree_model.specs.Trees.{IsState}
@@ -223,7 +223,7 @@ ended_by every O acts owner way path r o s p t outcome result e tree root direct
 -- ---- somebody else's step
 
 -- one step, or none for want of memory
-pub by_one_step : (walker a : ℕ) (s t : State) (step : StepOf ℕ) (result : Result Answer Refusal) → a ≢ walker
+pub by_one_step : (walker a : ℕ) (s t : State) (step : StepWith ℕ) (result : Result Answer Refusal) → a ≢ walker
     → IfOk result (λ answer. answer ≡ (outcome s a step).answer) → OnOk result (t ≡ (outcome s a step).after) → OnErr result (t ≡ s) → ByOthers walker s t
 by_one_step walker a s t step (Ok answer) ne told after left = record {
   events = record { actor = a; step = step; answer = answer } ∷ [];
@@ -234,7 +234,7 @@ by_one_step walker a s t step (Ok answer) ne told after left = record {
 by_one_step walker a s t step (Err error) ne told after left = record { events = []; others = All-nil _; legal = tt; after = sym left }
 
 -- so it may step, and stays as it is
-pub may_step : (walker a : ℕ) (s t : State) (step : StepOf ℕ) (result : Result Answer Refusal) → a ≢ walker
+pub may_step : (walker a : ℕ) (s t : State) (step : StepWith ℕ) (result : Result Answer Refusal) → a ≢ walker
     → OnOk result (t ≡ (outcome s a step).after) → OnErr result (t ≡ s) → MayStep walker a step s t
 may_step walker a s t step (Ok answer) ne after left = inr (ne, after)
 may_step walker a s t step (Err error) ne after left = inl left

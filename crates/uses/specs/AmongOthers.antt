@@ -5,7 +5,7 @@ use Rattle.path_text.specs.declared.errno.Errno.{Errno}
 use Rattle.path_text.specs.declared.errno.Errno.TheVariants.{NoMemory}
 use Rattle.path_text.specs.Reading.{Reading}
 use Rattle.tree_model.specs.declared.answer.Event.{Event}
-use Rattle.tree_model.specs.declared.step.StepOf.{StepOf}
+use Rattle.tree_model.specs.StepWith.{StepWith}
 use Rattle.tree_model.specs.State.{State}
 use Rattle.tree_model.specs.Steps.{outcome}
 use Rattle.tree_model.specs.History.{IsLegal, after_events}
@@ -35,7 +35,7 @@ end_of goal (Ok (Partial standing rest)) =
 end_of goal (Err error) = failed error
 
 -- what one who isn't the walker may make of a tree by a step: nothing, or what the step table says
-abbrev pub MayStep : ℕ → ℕ → StepOf ℕ → State → State → Type 0
+abbrev pub MayStep : ℕ → ℕ → StepWith ℕ → State → State → Type 0
 MayStep walker a step s t = (t ≡ s) ⊎ ((a ≢ walker) × (t ≡ (outcome s a step).after))
 
 -- ---- who acted before which step

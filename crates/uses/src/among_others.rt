@@ -36,19 +36,16 @@ impl<T: Tree> Others<T> for EachTurn {
     fn act(&mut self, alloc: Global, tree: &mut T, walker: Actor) {
         if self.actor != walker {
             // A step that there was no memory for wasn't made.
-            let _ = tree.step(alloc, self.actor, &self.step);
+            let _ = tree.step(alloc, self.actor, &self.step.lend());
         }
     }
 }
 
-// The answer to the step that is due: the tree's, or that there was no memory to make it.
+// The answer to the step that is due: the tree's, or that it had no memory to make it.
 fn answer_due<T: Tree>(alloc: Global, tree: &mut T, actor: Actor, walk: &Walk) -> Answer
     ensures { IsAnswer walk.now.way walk.now.walking actor (T.state tree.old) (T.state tree.new) result }
 {
-    let Ok(step) = walk.due(alloc) else {
-        return Answer::Refused(Errno::NoMemory);
-    };
-    match tree.step(alloc, actor, &step) {
+    match tree.step(alloc, actor, &walk.due()) {
         Ok(answer) => answer,
         Err(_) => Answer::Refused(Errno::NoMemory),
     }
@@ -89,7 +86,7 @@ pub fn resolve_among<T: Tree, O: Others<T>>(
             Turn::More(walk) => {
                 others.act(alloc, tree, actor);
                 let answer = answer_due(alloc, tree, actor, &walk);
-                turn = walk.take(alloc, answer);
+                turn = walk.take(answer);
             }
             Turn::Found(standing) => return Ok(Resolved::Found(standing)),
             Turn::Partial(standing, rest) => return Ok(Resolved::Partial(standing, rest)),

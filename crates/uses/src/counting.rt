@@ -1,11 +1,11 @@
 //! A tree of one's own.
-ghost use Rattle.std.specs.Prelude.{◌≡◌, ◌+◌, true, IfOk, OnOk, OnErr, IsOk};
+ghost use Rattle.std.specs.Prelude.{◌≡◌, true, IfOk, OnOk, OnErr, IsOk};
 ghost use Rattle.tree_model.specs.Steps.{outcome, takes_no_memory};
 ghost use Rattle.uses.specs.Counting.{counted};
 
 use path_text::{Errno, Names, NoMemory};
 use std::alloc::Global;
-use tree_model::{Actor, Answer, HandleNo, Snapshot, Step, Tree};
+use tree_model::{Actor, Answer, HandleNo, LentStep, Snapshot, Tree};
 
 /// A tree that counts the steps that are made on it, refused ones too, up to the largest number there is. A step for
 /// which there was no memory isn't made, and not counted.
@@ -18,7 +18,7 @@ pub struct Counting<T> {
 impl<T: Tree> Tree for Counting<T> {
     ghost state = { λ counting. T.state counting.tree };
 
-    fn step(&mut self, alloc: Global, actor: Actor, step: &Step) -> Result<Answer, NoMemory>
+    fn step(&mut self, alloc: Global, actor: Actor, step: &LentStep<'_>) -> Result<Answer, NoMemory>
         ensures answer { IfOk result (λ answer. answer ≡ (outcome (T.state self.old.tree) actor step.now).answer) }
         ensures after { OnOk result (T.state self.new.tree ≡ (outcome (T.state self.old.tree) actor step.now).after) }
         ensures err { OnErr result (T.state self.new.tree ≡ T.state self.old.tree) }

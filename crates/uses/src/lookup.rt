@@ -44,7 +44,7 @@ pub fn look_up<T: Tree>(
     )? {
         Resolved::Found(standing) => {
             let node = standing.node();
-            tree.step(alloc, actor, &standing.into_close())?;
+            tree.step(alloc, actor, &standing.into_close().lend())?;
             Ok(node)
         }
         // only a walk to the deepest directory ends in a part of its path

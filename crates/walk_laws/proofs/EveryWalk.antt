@@ -5,7 +5,7 @@ use Rattle.path_text.specs.declared.errno.Errno.{Errno}
 use Rattle.path_text.specs.declared.errno.Errno.TheVariants.{NoMemory, CrossRoot}
 use Rattle.tree_model.specs.declared.answer.Answer.{Answer}
 use Rattle.tree_model.specs.declared.answer.Answer.TheVariants.{Refused}
-use Rattle.tree_model.specs.declared.step.StepOf.{StepOf}
+use Rattle.tree_model.specs.StepWith.{StepWith}
 use Rattle.walk_plan.specs.Plan.{leads_out}
 use Rattle.step_resolver.specs.Asked.{AskedPart}
 use Rattle.step_resolver.specs.Meaning.{LINKS_MAX}
@@ -72,7 +72,7 @@ module _ {w : WalkInHistory} (lived : Lived w) where
   step_ahead end texts now t n room (closing h hs after) good answer is ahead = no_text end texts now (closing h hs after) (suc n)
       (closing_ahead lived end texts now t n h hs after good answer is ahead)
 
-  read_on : (end : Turn) (lines : List Line) (now : ℕ) (walk : Walking) (step : StepOf ℕ) (answer : Answer) → step ≡ due w.way walk
+  read_on : (end : Turn) (lines : List Line) (now : ℕ) (walk : Walking) (step : StepWith ℕ) (answer : Answer) → step ≡ due w.way walk
       → AheadIn w end (parts_told_by (due w.way walk) answer + parts_read lines) now walk (suc (length lines))
       → AheadIn w end (parts_told_by step answer + parts_read lines) now walk (suc (length lines))
   read_on end lines now walk step answer same ahead =
@@ -157,7 +157,7 @@ module _ {w : WalkInHistory} (lived : Lived w) where
 
   lines_ahead : (lines : List Line) (now : ℕ) (turn end : Turn) → Tells w end → (IsSuccess end → TakesOff w end) → Good w now turn → Happens w now lines → LeadsTo w.way turn lines end
       → ((error : Errno) → IsWant error → TellsWant error lines → TellsError w error)
-      → ((step : StepOf ℕ) → MetRefusal step lines → MetRefusal step w.lines) → AheadAt w end (parts_read lines) now turn (length lines)
+      → ((step : StepWith ℕ) → MetRefusal step lines → MetRefusal step w.lines) → AheadAt w end (parts_read lines) now turn (length lines)
   lines_ahead [] now turn end tells plan good happens leads wants mets = subst (λ e. AheadAt w e 0 now turn 0) leads (ahead_at_once now turn (subst (Tells w) (sym leads) tells)
       (subst (λ e. IsSuccess e → TakesOff w e) (sym leads) plan))
   lines_ahead (answered step answer ∷ lines) now (more walk) end tells plan good happens leads wants mets =

@@ -6,7 +6,7 @@ use Rattle.path_text.specs.declared.errno.Errno.TheVariants.{NotFound, BadHandle
 use Rattle.path_text.specs.Text.{parts_of}
 use Rattle.tree_model.specs.declared.answer.Answer.{Answer}
 use Rattle.tree_model.specs.declared.answer.Answer.TheVariants.{Text}
-use Rattle.tree_model.specs.declared.step.StepOf.{StepOf}
+use Rattle.tree_model.specs.StepWith.{StepWith}
 use Rattle.tree_model.specs.declared.step.StepOf.TheVariants.{ReadLink}
 use Rattle.step_resolver.specs.Asked.{AskedPart}
 use Rattle.step_resolver.specs.Trail.{Timeline, Spot, Trail, all, before, stay, top, climb, down, through, into}
@@ -34,7 +34,7 @@ abbrev pub parts_told : Answer → ℕ
 parts_told (Text text) = length (parts_of text)
 parts_told _ = 0
 
-abbrev pub parts_told_by : StepOf ℕ → Answer → ℕ
+abbrev pub parts_told_by : StepWith ℕ → Answer → ℕ
 parts_told_by (ReadLink h) answer = parts_told answer
 parts_told_by _ answer = 0
 

@@ -10,7 +10,7 @@ ghost use Rattle.path_text.specs.Text.{begins_with_slash, parts_of, reading_of, 
 ghost use Rattle.walk_plan.specs.Plan.{IsPlan, IsNameAnd, IfName, CanStay, next_part, is_last, is_own, is_name, follows_next_link, stayed, went_up, went_down, spliced, through, through_fault, leads_out, begun, first_part, after_first, own_after_next};
 
 use crate::goal::Goal;
-use path_text::{Errno, Flags, Name, Names, NoMemory, Part, Parts, Path, SLASH};
+use path_text::{Bytes, Errno, Flags, LentName, Name, Names, NoMemory, Part, Parts, Path, SLASH};
 use std::alloc::Global;
 use std::marker::Model;
 
@@ -97,13 +97,13 @@ impl Plan {
             && (self.goal.follows_last_link() || !(self.is_own() && self.is_last()))
     }
 
-    /// The name that the next part is, as a copy. NoMemory where its room was refused.
-    pub fn next_name(&self, alloc: Global) -> Result<Name, NoMemory>
+    /// The name that the next part is, lent from the text that it stands in.
+    pub fn next_name(&self) -> LentName<'_>
         requires { IsNameAnd (next_part self.now) (λ name. length name ≤ NAME_MAX) }
-        ensures { IfOk result (λ name. next_part self.now ≡ Some (Named name)) }
+        ensures { next_part self.now ≡ Some (Named result) }
     {
         match self.next() {
-            Some(Part::Named(component)) => component.to_name(alloc),
+            Some(Part::Named(component)) => component.name(),
             // the caller sees to it that the next part is a name
             _ => unreachable!(),
         }
@@ -177,6 +177,10 @@ impl Plan {
             (IfName (next_part self.old) (λ name. self.new ≡ went_down self.old name)) }
         ensures err { OnErr result (self.new ≡ self.old) }
     {
+        // The first name gets room for all that are to come.
+        if self.names.is_empty() {
+            self.names.reserve_for(&self.inner, &self.own)?;
+        }
         // A name, as is required.
         if let Some(Part::Named(component)) = next_of(&self.inner, &self.own) {
             self.names.push_bytes(component.bytes())?;
@@ -192,20 +196,21 @@ impl Plan {
     /// Errors, in this order: Loop where no link may be followed any more, or none at all (`no_links`;
     /// ELOOP of openat2(2)); the text's faults, as of `Path::parse`; CrossRoot for an absolute text under
     /// `beneath` (EXDEV); NoMemory where room was refused. Each leaves the plan unchanged.
-    pub fn through(&mut self, _alloc: Global, text: &[u8]) -> Result<bool, Errno>
+    pub fn through(&mut self, text: Bytes) -> Result<bool, Errno>
         requires { IsTrue (is_name (next_part self.old)) }
-        ensures followed { OnOk result (through_fault self.old text.now ≡ None) }
-        ensures ok { OnOk result (self.new ≡ through self.old text.now) }
-        ensures answer { IfOk result (λ absolute. absolute ≡ begins_with_slash text.now) }
+        ensures followed { OnOk result (through_fault self.old text ≡ None) }
+        ensures ok { OnOk result (self.new ≡ through self.old text) }
+        ensures answer { IfOk result (λ absolute. absolute ≡ begins_with_slash text) }
 
         // The first fault, and NoMemory only where there is none.
         ensures error { IfErr result
-            (λ error. error ≡ unwrap_or (through_fault self.old text.now) Errno.NoMemory) }
+            (λ error. error ≡ unwrap_or (through_fault self.old text) Errno.NoMemory) }
         ensures err { OnErr result (self.new ≡ self.old) }
     {
-        self.check_link(text)?;
-        self.follow(text)?;
-        Ok(begins_with_slash(text))
+        self.check_link(text.as_slice())?;
+        let absolute = begins_with_slash(text.as_slice());
+        self.follow(text, absolute)?;
+        Ok(absolute)
     }
 
     // Why a link with this text isn't followed, where it isn't.
@@ -233,15 +238,16 @@ impl Plan {
     }
 
     // Follows a link with this text. NoMemory where room was refused, before anything changed.
-    fn follow(&mut self, text: &[u8]) -> Result<(), NoMemory>
+    fn follow(&mut self, text: Bytes, absolute: bool) -> Result<(), NoMemory>
         requires left { 0 < self.old.links_left }
-        requires text { text_fault text.now ≡ None }
-        ensures ok { OnOk result (self.new ≡ spliced self.old (reading_of text.now)) }
+        requires text { text_fault text ≡ None }
+        requires absolute { absolute ≡ begins_with_slash text }
+        ensures ok { OnOk result (self.new ≡ spliced self.old (reading_of text)) }
         ensures err { OnErr result (self.new ≡ self.old) }
     {
         splice(&mut self.inner, &mut self.own, text)?;
         self.links_left -= 1;
-        if begins_with_slash(text) {
+        if absolute {
             self.names.clear();
         }
         Ok(())
@@ -292,9 +298,9 @@ fn take_next(inner: &mut Parts, own: &mut Parts)
 
 // Puts the parts of the text in the place of the next one. NoMemory where room was refused, before anything changed.
 #[tactic(auto, using(crate::proofs::PartsLemmas::after_first_is))]
-fn splice(inner: &mut Parts, own: &mut Parts, text: &[u8]) -> Result<(), NoMemory>
-    requires { list_any (λ b. b == NUL) text.now ≡ false }
-    ensures inner { OnOk result (inner.new ≡ parts_of text.now ++ after_first inner.old) }
+fn splice(inner: &mut Parts, own: &mut Parts, text: Bytes) -> Result<(), NoMemory>
+    requires { list_any (λ b. b == NUL) text ≡ false }
+    ensures inner { OnOk result (inner.new ≡ parts_of text ++ after_first inner.old) }
     ensures own { OnOk result (own.new ≡ own_after_next inner.old own.old) }
     ensures err { OnErr result ((inner.new ≡ inner.old) × (own.new ≡ own.old)) }
 {

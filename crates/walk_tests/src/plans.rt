@@ -1,7 +1,7 @@
 //! Plans, step by step.
 use crate::words::{are_parts, are_printed, cut, goal_of, text_of};
 use fixtures::{PLAIN, flags_of};
-use path_text::{Errno, Flags, Name, Part, Path};
+use path_text::{Bytes, Errno, Flags, Name, Part, Path};
 use std::alloc::Global;
 use walk_plan::Plan;
 
@@ -137,8 +137,9 @@ fn pass_all(plan: &mut Plan) -> bool {
 
 // What following a link gives, where the next part is a name.
 fn follow(alloc: Global, plan: &mut Plan, text: &[u8]) -> Option<Result<bool, Errno>> {
+    let text = Bytes::from_slice(alloc, text).ok()?;
     match plan.next() {
-        Some(Part::Named(_)) => Some(plan.through(alloc, text)),
+        Some(Part::Named(_)) => Some(plan.through(text)),
         _ => None,
     }
 }
@@ -160,11 +161,9 @@ fn refuses(alloc: Global, plan: &mut Plan, text: &[u8], error: &str) -> bool {
     matches!(follow(alloc, plan, text), Some(Err(told)) if told.name() == error)
 }
 
-fn is_named(alloc: Global, plan: &Plan, name: &[u8]) -> bool {
+fn is_named(plan: &Plan, name: &[u8]) -> bool {
     match plan.next() {
-        Some(Part::Named(next)) if !next.is_too_long() => {
-            matches!(plan.next_name(alloc), Ok(next) if next.bytes() == name)
-        }
+        Some(Part::Named(next)) if !next.is_too_long() => plan.next_name().bytes() == name,
         _ => false,
     }
 }
@@ -205,7 +204,7 @@ fn step(alloc: Global, plan: &mut Plan, row: &Row<'_>) -> bool {
         "link" => followed(alloc, plan, text),
         "links" => follow_forty(alloc, plan, text),
         "refused" => refuses(alloc, plan, text, rest),
-        "named" => is_named(alloc, plan, text),
+        "named" => is_named(plan, text),
         "down" => go_down(alloc, plan, text),
         _ => false,
     }

@@ -10,7 +10,7 @@ use path_text::{Errno, Path};
 use std::alloc::Global;
 use step_resolver::{Turn, Walk, like_held};
 use step_text::Output;
-use tree_model::{Answer, HandleNo, Step};
+use tree_model::{Answer, HandleNo};
 
 // A walk, its steps, and its end: `more` where it goes on, and `opened dir 11 /a left b ..` where it is held at /a with
 // the parts `b` and `..` left.
@@ -150,16 +150,10 @@ fn start(alloc: Global, call: &str) -> Turn {
     }
 }
 
-fn is_step(alloc: Global, step: Step, line: &str) -> bool {
-    let mut written = Output::new(alloc);
-    written.step(&step).is_ok() && written.as_slice() == line.as_bytes()
-}
-
+// Only the line takes memory.
 fn is_due(alloc: Global, walk: &Walk, line: &str) -> bool {
-    match walk.due(alloc) {
-        Ok(step) => is_step(alloc, step, line),
-        Err(_) => false,
-    }
+    let mut written = Output::new(alloc);
+    written.step(&walk.due()).is_ok() && written.as_slice() == line.as_bytes()
 }
 
 // What the steps lead to, and whether each was due in its turn.
@@ -171,7 +165,7 @@ fn walked(alloc: Global, call: &str, steps: &str) -> (Turn, bool) {
         turn = match turn {
             Turn::More(walk) => {
                 all_due = all_due & is_due(alloc, &walk, step);
-                walk.take(alloc, answer_of(alloc, answer))
+                walk.take(answer_of(alloc, answer))
             }
             ended => {
                 all_due = false;
@@ -186,7 +180,7 @@ fn walked(alloc: Global, call: &str, steps: &str) -> (Turn, bool) {
 fn give_up(alloc: Global, mut turn: Turn) {
     loop {
         match turn {
-            Turn::More(walk) => turn = walk.take(alloc, Answer::Refused(Errno::NoMemory)),
+            Turn::More(walk) => turn = walk.take(Answer::Refused(Errno::NoMemory)),
             Turn::Found(_standing) => return,
             Turn::Partial(_standing, _rest) => return,
             Turn::Failed(_error) => return,

@@ -20,7 +20,7 @@ use Rattle.tree_model.specs.declared.inode.Object.{Object}
 use Rattle.tree_model.specs.declared.inode.Object.TheVariants as object
 use Rattle.tree_model.specs.declared.step.Mode.{Mode}
 use Rattle.tree_model.specs.declared.step.Mode.TheVariants.{Plain, NoReplace, Exchange}
-use Rattle.tree_model.specs.declared.step.StepOf.{StepOf}
+use Rattle.tree_model.specs.StepWith.{StepWith}
 use Rattle.tree_model.specs.declared.step.StepOf.TheVariants as steps
 use Rattle.tree_model.specs.declared.tree.TheConstants.{NUMBERS_MAX}
 use Rattle.tree_model.specs.State.{State, object_at, child, parent, is_dir, is_gone, is_within, has_entries, names_below}
@@ -197,7 +197,7 @@ module _ (s : State) where
   held_calm : (a h : ℕ) (next : ℕ → Outcome) → ((x : ℕ) → IsCalm (next x)) → IsCalm (with_some (held s a h) (refused s BadHandle) next)
   held_calm a h next rest = with_calm (held s a h) BadHandle next refl rest
 
-  pub table_calm : (a : ℕ) (step : StepOf ℕ) → IsCalm (outcome s a step)
+  pub table_calm : (a : ℕ) (step : StepWith ℕ) → IsCalm (outcome s a step)
   table_calm a (steps.Open h n) =
       held_calm a h _ (λ d. unless_calm (not (is_dir s.nodes d)) NotDir _ refl (with_calm (child s.nodes d n) NotFound _ refl (λ c. opens_calm a c)))
   table_calm a (steps.Dup h) = held_calm a h _ (λ x. opens_calm a x)
@@ -218,7 +218,7 @@ module _ (s : State) where
 -- ---- a step through a book
 
 -- with memory no step is answered so
-pub stepped_calm : (book : BookedHistory) (a : ℕ) (step : StepOf ℕ) → answer_wants (stepped_by true book a step).answer ≡ false
+pub stepped_calm : (book : BookedHistory) (a : ℕ) (step : StepWith ℕ) → answer_wants (stepped_by true book a step).answer ≡ false
 stepped_calm book a step = on (nat_lt (free_lines book) (lines_needed step)) (closes_nothing (tree_now book) a step)
   where
     on : (full shut : Bool) → answer_wants (unless_refused book a step (if full then Some BookFull else (if shut then Some BadHandle else None))).answer ≡ false

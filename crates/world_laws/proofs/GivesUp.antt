@@ -5,7 +5,7 @@ use Rattle.std.proofs.lemmas.List.{length_push}
 use Rattle.std.proofs.lemmas.Option.{none-some, same_Some}
 use Rattle.path_text.specs.declared.errno.Errno.TheVariants.{NoMemory}
 use Rattle.tree_model.specs.declared.answer.Answer.TheVariants.{Refused}
-use Rattle.tree_model.specs.declared.step.StepOf.{StepOf}
+use Rattle.tree_model.specs.StepWith.{StepWith}
 use Rattle.root_ops.specs.declared.below.Below.{Below}
 use Rattle.root_ops.specs.Order.{Reply, opened, link_text, done, count, stepped, kept, fault, Doing, CallTurn, more, ends, take, due}
 use Rattle.root_ops.specs.View.{CallView}
@@ -37,7 +37,7 @@ without_memory : (a : ℕ) (below : Below) (book : BookedHistory) (room : Bool) 
     → EndsInNone (take below room doing (stepped_by false book a (due below doing)).answer)
 without_memory a below book room doing none = on (is_close (due below doing)) refl
   where
-    step : StepOf ℕ
+    step : StepWith ℕ
     step = due below doing
 
     on : (b : Bool) → is_close (due below doing) ≡ b → EndsInNone (take below room doing (stepped_by false book a (due below doing)).answer)

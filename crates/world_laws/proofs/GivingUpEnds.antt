@@ -4,7 +4,7 @@ use Rattle.std.proofs.Common.{sym, ap, ◌∙◌, arith}
 use Rattle.path_text.specs.declared.errno.Errno.{Errno}
 use Rattle.path_text.specs.declared.errno.Errno.TheVariants.{NoMemory}
 use Rattle.tree_model.specs.declared.answer.Answer.TheVariants.{Refused}
-use Rattle.tree_model.specs.declared.step.StepOf.{StepOf}
+use Rattle.tree_model.specs.StepWith.{StepWith}
 use Rattle.tree_model.specs.declared.step.StepOf.TheVariants as steps
 use Rattle.root_ops.specs.declared.below.Below.{Below}
 use Rattle.root_ops.specs.Order.{CallTurn, more, ends, take, due, steps_left}
@@ -26,14 +26,14 @@ close_or_not : (book : BookedHistory) (a h : ℕ) (why : Option Errno) → IsClo
 close_or_not book a h None = record { closed = h ∷ []; is = refl }
 close_or_not book a h (Some error) = record { closed = []; is = refl }
 
-not_closed : (book : BookedHistory) (a : ℕ) (step : StepOf ℕ) → is_close step ≡ false → IsClosed a book (stepped_by false book a step).book
+not_closed : (book : BookedHistory) (a : ℕ) (step : StepWith ℕ) → is_close step ≡ false → IsClosed a book (stepped_by false book a step).book
 not_closed book a step e = record {
   closed = [];
   is = ap
       (λ (b : Bool). (if b then unless_refused book a step (refusal book a step) else record { answer = Refused NoMemory; book = book }).book) e;
 }
 
-stepped_closed : (book : BookedHistory) (a : ℕ) (step : StepOf ℕ) → IsClosed a book (stepped_by false book a step).book
+stepped_closed : (book : BookedHistory) (a : ℕ) (step : StepWith ℕ) → IsClosed a book (stepped_by false book a step).book
 stepped_closed book a (steps.Close h) = close_or_not book a h (refusal book a (steps.Close h))
 stepped_closed book a step = not_closed book a step refl
 

@@ -13,7 +13,7 @@ use Rattle.path_text.specs.Text.{text_fault, reading_of}
 use Rattle.tree_model.specs.declared.answer.Answer.{Answer}
 use Rattle.tree_model.specs.declared.answer.Answer.TheVariants.{Opened, Text, Done, Refused}
 use Rattle.tree_model.specs.declared.step.Mode.{Mode}
-use Rattle.tree_model.specs.declared.step.StepOf.{StepOf}
+use Rattle.tree_model.specs.StepWith.{StepWith}
 use Rattle.handles.specs.Objects.{StandingObject}
 use Rattle.walk_plan.specs.declared.goal.Goal.TheVariants.{Follow, NoFollow}
 use Rattle.step_resolver.specs.Order.{Way, Handle, Walking, found, partial, failed, is_dir_kind}
@@ -290,7 +290,7 @@ module _ (below : Below) where
   clearing_in (Ok split) =
       let turn = remove.begins (way_from below.root Follow below.flags) split.name split.dir in goes_too (removing_turn turn) (cleared_so turn)
 
-  one_step : (step : StepOf ℕ) (b : Bool) → GoesToNone (if b then more (acting wants.Any step []) else ends (fault Invalid))
+  one_step : (step : StepWith ℕ) (b : Bool) → GoesToNone (if b then more (acting wants.Any step []) else ends (fault Invalid))
   one_step step true = tt
   one_step step false = tt
 

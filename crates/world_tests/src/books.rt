@@ -7,7 +7,7 @@ use std::alloc::Global;
 use std::test::*;
 use step_text::{Output, read_step};
 use tree_list::ListTree;
-use tree_model::{Actor, Answer, HandleNo, Step, StepOf, Tree};
+use tree_model::{Actor, Answer, HandleNo, LentStep, StepOf, Tree};
 
 /// Directories `/c` and `/c/a` and a link in `/c`, and handle 0 of actor 0 on `/c`.
 fn tree(alloc: Global) -> Result<ListTree, Errno> {
@@ -46,7 +46,7 @@ fn step_into(
     alloc: Global,
     book: &mut Book<ListTree>,
     actor: Actor,
-    step: &Step,
+    step: &LentStep<'_>,
     own: &mut EventLog,
 ) -> Result<Answer, Errno> {
     match step {
@@ -73,8 +73,8 @@ fn is_answered(
     };
     let actor = Actor::new(if who == "0" { 0 } else { 1 });
     let answer = match own {
-        Some(own) => step_into(alloc, book, actor, &step, own),
-        None => book.step(alloc, actor, &step),
+        Some(own) => step_into(alloc, book, actor, &step.lend(), own),
+        None => book.step(alloc, actor, &step.lend()),
     };
     drop(step);
     let mut told = Output::new(alloc);
@@ -213,7 +213,7 @@ fn books_are_refused(rt: HostRuntime) {
 }
 
 /// Whether the log has that step of actor 0 with its answer, and nothing else.
-fn has_alone(events: &EventLog, step: &Step, answer: &Result<Answer, Errno>) -> bool {
+fn has_alone(events: &EventLog, step: &LentStep<'_>, answer: &Result<Answer, Errno>) -> bool {
     match answer {
         Ok(answer) => events.len() == 1 && events.is(0, Actor::new(0), step, answer),
         Err(_) => false,

@@ -12,9 +12,9 @@ use std::alloc::Global;
 use std::test::*;
 use step_text::Output;
 use tree_list::ListTree;
-use tree_model::{Actor, Answer, HandleNo, Snapshot, Step, StepOf, Tree};
+use tree_model::{Actor, Answer, HandleNo, LentStep, Snapshot, StepOf, Tree};
 
-fn takes_memory(step: &Step) -> bool
+fn takes_memory(step: &LentStep<'_>) -> bool
     ensures { IsTrue result ↔ (takes_no_memory step.now ≡ false) }
 {
     match step {
@@ -48,7 +48,12 @@ impl Short {
 impl Tree for Short {
     ghost state = { λ short. short.tree };
 
-    fn step(&mut self, alloc: Global, actor: Actor, step: &Step) -> Result<Answer, NoMemory> {
+    fn step(
+        &mut self,
+        alloc: Global,
+        actor: Actor,
+        step: &LentStep<'_>,
+    ) -> Result<Answer, NoMemory> {
         if takes_memory(step) && self.refuses() {
             return Err(NoMemory);
         }

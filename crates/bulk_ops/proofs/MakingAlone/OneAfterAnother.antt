@@ -9,7 +9,7 @@ use Rattle.tree_model.specs.declared.answer.Answer.TheVariants.{Opened, Refused}
 use Rattle.tree_model.specs.declared.inode.Inode.{Inode}
 use Rattle.tree_model.specs.declared.inode.Object.{Object}
 use Rattle.tree_model.specs.declared.inode.Object.TheVariants.{Dir}
-use Rattle.tree_model.specs.declared.step.StepOf.{StepOf}
+use Rattle.tree_model.specs.StepWith.{StepWith}
 use Rattle.tree_model.specs.declared.step.StepOf.TheVariants.{Open, NameBelow, Close, MakeDir}
 use Rattle.tree_model.specs.State.{State, Stands, object_at, child, is_dir, is_directory, is_gone}
 use Rattle.tree_model.specs.Steps.{Outcome, outcome, opens, shows, with_handle, kind_of}
@@ -283,7 +283,7 @@ module _ (a : ℕ) (way : Way) (r : ℕ) (base : List Inode) (meant : MakeMeant)
   take_good s room (closing h hs error) good = gives_up_good (outcome s a (Close h)).after hs error
       (subst (λ ns. Fails ns base meant error) (sym (nodes_are_left s a (Close h) refl)) good)
 
-  step_good : (s : State) (room : Bool) (call : Making) → GoodCall s call → (step : StepOf ℕ) (answer : Answer) → step ≡ due way call
+  step_good : (s : State) (room : Bool) (call : Making) → GoodCall s call → (step : StepWith ℕ) (answer : Answer) → step ≡ due way call
       → answer ≡ (outcome s a step).answer → GoodTurn (outcome s a step).after (take way room call answer)
   step_good s room call good step answer e told =
       subst (λ v. GoodTurn (outcome s a step).after (take way room call v)) (sym told)

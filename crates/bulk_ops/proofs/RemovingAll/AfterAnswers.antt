@@ -9,7 +9,7 @@ use Rattle.tree_model.specs.declared.answer.Answer.{Answer}
 use Rattle.tree_model.specs.declared.answer.Answer.TheVariants.{Opened, Listed, Done, Refused}
 use Rattle.tree_model.specs.declared.inode.Object.{Object}
 use Rattle.tree_model.specs.declared.inode.Object.TheVariants as object
-use Rattle.tree_model.specs.declared.step.StepOf.{StepOf}
+use Rattle.tree_model.specs.StepWith.{StepWith}
 use Rattle.tree_model.specs.declared.step.StepOf.TheVariants.{Open, List as ListNames, Close, RemoveFile, RemoveDir}
 use Rattle.tree_model.specs.State.{child, object_at, is_dir, is_directory, put_at, sorted_names, names_in}
 use Rattle.tree_model.specs.Steps.{Outcome, outcome, refused, node_held, opens, kind_of}
@@ -34,12 +34,12 @@ abbrev Ended : WalkInHistory → ℕ → ℕ → List ℕ → Type 0
 Ended c t d n = (child ((timeline c).nodes_at t) d n ≡ None)
     ⊎ ((entry : ℕ) × ((child ((timeline c).nodes_at t) d n ≡ Some entry) × ((timeline c).nodes_at (suc t) ≡ put_at ((timeline c).nodes_at t) entry None)))
 
-later : {c : WalkInHistory} {now t : ℕ} {step : StepOf ℕ} {answer : Answer} → StepAt c now t step answer → now ≤ suc t
+later : {c : WalkInHistory} {now t : ℕ} {step : StepWith ℕ} {answer : Answer} → StepAt c now t step answer → now ≤ suc t
 later {t = t} is = le_trans is.at.later (le-suc t)
 
 module _ {c : WalkInHistory} (lived : Lived c) (dir : ℕ) (target : List ℕ) (b : ℕ → Option ℕ) where
   -- the entry under way is cleared by the event at t
-  finished_good : (now t : ℕ) (lines : List Line) (level : Level) (above : List Level) (count left : ℕ) (step : StepOf ℕ) (answer : Answer)
+  finished_good : (now t : ℕ) (lines : List Line) (level : Level) (above : List Level) (count left : ℕ) (step : StepWith ℕ) (answer : Answer)
       → StepAt c now t step answer → (at : IsAt c dir target now level above) → IsOn level.dir level.name step
       → Ended c t (spot c dir target now level above at).node level.name → ((h : ℕ) → held_at c (suc t) h ≡ held_at c now h)
       → Holds c b now (dirs (level ∷ above)) → Tally c dir target (suc t) lines count left
@@ -74,7 +74,7 @@ module _ {c : WalkInHistory} (lived : Lived c) (dir : ℕ) (target : List ℕ) (
           (record { at = moved.1.1; stage_at = moved.1.0; holds = holds_kept kept holds; tally = tally })
 
   -- a step on the entry under way, through the handle of its directory
-  module _ (now t : ℕ) (line : Line) (lines : List Line) (level : Level) (above : List Level) (count left : ℕ) (step : StepOf ℕ) (answer : Answer)
+  module _ (now t : ℕ) (line : Line) (lines : List Line) (level : Level) (above : List Level) (count left : ℕ) (step : StepWith ℕ) (answer : Answer)
       (at : IsAt c dir target now level above) (holds : Holds c b now (dirs (level ∷ above))) (tally : Tally c dir target now (line ∷ lines) count (suc left))
       (is : AloneAt c now t step answer) (on : IsOn level.dir level.name step) (quiet : (error : Errno) → is_removal step (Refused error) ≡ false)
       (e : removals (line ∷ lines) ≡ one_more_if (is_removal step answer) (removals lines)) where

@@ -7,7 +7,7 @@ use Rattle.std.proofs.lemmas.Option.{none-some}
 use Rattle.path_text.specs.declared.errno.Errno.{Errno}
 use Rattle.path_text.specs.declared.errno.Errno.TheVariants.{Busy}
 use Rattle.tree_model.specs.declared.answer.Answer.{Answer}
-use Rattle.tree_model.specs.declared.step.StepOf.{StepOf}
+use Rattle.tree_model.specs.StepWith.{StepWith}
 use Rattle.tree_model.specs.State.{child, is_directory, put_at}
 use Rattle.step_resolver.specs.Trail.{Timeline}
 use Rattle.step_resolver.specs.Order.{Line}
@@ -222,7 +222,7 @@ pub record LastSoFar (c : WalkInHistory) (dir : ℕ) (target : List ℕ) (now : 
   pub own : (timeline c).is_own when ≡ true
   pub handle : ℕ
   pub is_open : held_at c when handle ≡ Some dir
-  pub step : StepOf ℕ
+  pub step : StepWith ℕ
   pub answer : Answer
   pub event : event_at c when step answer
   pub on : IsOn handle target step

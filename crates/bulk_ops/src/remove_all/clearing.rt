@@ -1,5 +1,5 @@
 //! The steps that clear a directory, one entry after another.
-ghost use Rattle.std.specs.Prelude.{◌≡◌, ◌<◌, ◌≤◌, ◌+◌, suc, [], ◌∷◌, ◌++◌, Bool, false, length, IfOk, IsOk};
+ghost use Rattle.std.specs.Prelude.{◌≡◌, ◌<◌, ◌≤◌, ◌+◌, suc, [], ◌∷◌, ◌++◌, Bool, length};
 ghost use Rattle.tree_model.specs.declared.answer.Answer.TheVariants.{Listed};
 ghost use Rattle.bulk_ops.specs.RemoveAllOrder.{closes, is_due, gives_up, finished, listed, opened, file_removed, dir_removed, removes_file, due_at};
 ghost use Rattle.bulk_ops.specs.declared.remove_all.clearing.TheConstants.{CLEARING_STEPS_MAX};
@@ -10,7 +10,7 @@ use handles::Reached;
 use path_text::{Errno, Names, NoMemory};
 use std::alloc::{AllocFailed, Global};
 use step_resolver::refusal_of;
-use tree_model::{Answer, Kind, Step, StepOf};
+use tree_model::{Answer, Kind, LentStep, StepOf};
 
 /// The most steps of clearing that one call makes; the closings of a call that fails, and that of the directory of its
 /// walk, aside.
@@ -109,7 +109,7 @@ impl Closing {
     }
 
     /// The step that is due.
-    pub(crate) fn due(&self) -> Step
+    pub(crate) fn due(&self) -> LentStep<'_>
         ensures { result ≡ StepOf.Close self.now.first.handle }
     {
         StepOf::Close(self.first.handle())
@@ -320,7 +320,7 @@ impl Progress {
 }
 
 impl Clearing {
-    ghost use Rattle.bulk_ops.specs.RemoveAllView.{phase_turn, stage_of, level_of, name_at, looks_up, clearing_of, TakesOn};
+    ghost use Rattle.bulk_ops.specs.RemoveAllView.{phase_turn, stage_of, level_of, name_at, clearing_of, TakesOn};
 
     /// The first step of clearing: the target's, in this directory.
     pub(crate) fn begin(alloc: Global, dir: Reached, target: Names) -> Phase
@@ -342,20 +342,18 @@ impl Clearing {
         .due(Stage::RemoveFile)
     }
 
-    /// The step that is due. NoMemory where the room of a name was refused.
-    pub(crate) fn due(&self, alloc: Global) -> Result<Step, NoMemory>
-        ensures exact { IfOk result (λ step. step
-            ≡ due_at (stage_of self.now.stage) (level_of self.now.progress.here)) }
-        ensures no_memory { looks_up (stage_of self.now.stage) ≡ false → IsOk result }
+    /// The step that is due.
+    pub(crate) fn due(&self) -> LentStep<'_>
+        ensures { result ≡ due_at (stage_of self.now.stage) (level_of self.now.progress.here) }
     {
         let here = &self.progress.here;
-        Ok(match &self.stage {
-            Stage::RemoveFile => StepOf::RemoveFile(here.dir.handle(), here.name(alloc)?),
-            Stage::Open => StepOf::Open(here.dir.handle(), here.name(alloc)?),
+        match &self.stage {
+            Stage::RemoveFile => StepOf::RemoveFile(here.dir.handle(), here.name()),
+            Stage::Open => StepOf::Open(here.dir.handle(), here.name()),
             Stage::List(child) => StepOf::List(child.handle()),
             Stage::Shut(child) | Stage::Leave(child) => StepOf::Close(child.handle()),
-            Stage::RemoveDir => StepOf::RemoveDir(here.dir.handle(), here.name(alloc)?),
-        })
+            Stage::RemoveDir => StepOf::RemoveDir(here.dir.handle(), here.name()),
+        }
     }
 
     /// What the answer to the step that was due comes to. The answer to a Close isn't looked at.

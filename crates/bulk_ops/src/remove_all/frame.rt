@@ -1,9 +1,8 @@
 //! A directory that is being cleared.
-ghost use Rattle.std.specs.Prelude.{◌≡◌, ◌<◌, [], ◌∷◌, IfOk, MatchResult, length};
+ghost use Rattle.std.specs.Prelude.{◌≡◌, ◌<◌, [], ◌∷◌, MatchResult, length};
 
 use handles::Reached;
-use path_text::{Name, Names, NoMemory};
-use std::alloc::Global;
+use path_text::{LentName, Names};
 
 /// A directory that is held, and the names of the entries that are to be cleared in it: those before the place are,
 /// and the one at the place is under way.
@@ -61,10 +60,10 @@ impl Frame {
         dir
     }
 
-    /// The name of the entry under way. NoMemory where its room was refused.
-    pub(crate) fn name(&self, alloc: Global) -> Result<Name, NoMemory>
-        ensures { IfOk result (λ name. name ≡ (level_of self.now).name) }
+    /// The name of the entry under way, lent.
+    pub(crate) fn name(&self) -> LentName<'_>
+        ensures { result ≡ (level_of self.now).name }
     {
-        self.names.to_name(alloc, self.at)
+        self.names.lend(self.at)
     }
 }

@@ -1,11 +1,11 @@
 //! What a call is doing, and what each answer comes to.
-ghost use Rattle.std.specs.Prelude.{◌≡◌, false, length, IfOk, IsOk};
+ghost use Rattle.std.specs.Prelude.{◌≡◌, length};
 
 use crate::remove_all::clearing::{Clearing, Closing, End};
-use path_text::{Errno, Names, NoMemory};
+use path_text::{Errno, Names};
 use std::alloc::Global;
 use step_resolver::{Turn, Walk};
-use tree_model::{Answer, Step};
+use tree_model::{Answer, LentStep};
 
 /// The walk to the directory of the target, and the target's name.
 #[derive(Debug)]
@@ -30,18 +30,17 @@ pub(crate) enum Phase {
 
 impl Phase {
     ghost use Rattle.bulk_ops.specs.RemoveAllOrder.{due};
-    ghost use Rattle.bulk_ops.specs.RemoveAllView.{removing_of, is_named, IsUnderWay, IsOver, TakesOn};
+    ghost use Rattle.bulk_ops.specs.RemoveAllView.{removing_of, IsUnderWay, IsOver, TakesOn};
 
-    /// The step that is due. NoMemory where the room of a name was refused.
-    pub(crate) fn due(&self, alloc: Global) -> Result<Step, NoMemory>
+    /// The step that is due.
+    pub(crate) fn due(&self) -> LentStep<'_>
         requires { IsUnderWay self.now }
-        ensures exact { IfOk result (λ step. step ≡ due (removing_of self.now)) }
-        ensures no_memory { is_named (removing_of self.now) ≡ false → IsOk result }
+        ensures { result ≡ due (removing_of self.now) }
     {
         match self {
-            Phase::Walking(to) => to.walk.due(alloc),
-            Phase::Clearing(clearing) => clearing.due(alloc),
-            Phase::Closing(closing) => Ok(closing.due()),
+            Phase::Walking(to) => to.walk.due(),
+            Phase::Clearing(clearing) => clearing.due(),
+            Phase::Closing(closing) => closing.due(),
             Phase::Over(_) => unreachable!(),
         }
     }
@@ -79,7 +78,7 @@ impl WalkTo {
         ensures { TakesOn (walking_of self) answer result }
     {
         let WalkTo { walk, target } = self;
-        match walk.take(alloc, answer) {
+        match walk.take(answer) {
             Turn::More(walk) => Phase::Walking(WalkTo { walk, target }),
             Turn::Found(standing) => Clearing::begin(alloc, standing.onward(), target),
             Turn::Partial(standing, _rest) => Closing::of(

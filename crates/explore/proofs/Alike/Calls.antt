@@ -12,7 +12,7 @@ use Rattle.path_text.specs.Split.{split_of}
 use Rattle.tree_model.specs.declared.answer.Answer.{Answer}
 use Rattle.tree_model.specs.declared.answer.Answer.TheVariants as answers
 use Rattle.tree_model.specs.declared.step.Mode.{Mode}
-use Rattle.tree_model.specs.declared.step.StepOf.{StepOf}
+use Rattle.tree_model.specs.StepWith.{StepWith}
 use Rattle.tree_model.specs.declared.step.StepOf.TheVariants as steps
 use Rattle.handles.specs.Objects.{StandingObject}
 use Rattle.walk_plan.specs.declared.goal.Goal.TheVariants.{Follow, NoFollow}
@@ -160,7 +160,7 @@ module _ (f : ℕ → ℕ) where
     from_entry_by mode new (Err error) = refl
     from_entry_by mode new (Ok old) = unless_fault_by (text_fault new) _ _ (between_by mode old (split_of (reading_of new) Drop))
 
-    single_by : (step : StepOf ℕ) → call_turn_by f (single step) ≡ single (step_by f step)
+    single_by : (step : StepWith ℕ) → call_turn_by f (single step) ≡ single (step_by f step)
     single_by (steps.Open h n) = refl
     single_by (steps.Dup h) = refl
     single_by (steps.Parent h) = refl
@@ -196,7 +196,7 @@ module _ (f : ℕ → ℕ) where
     lacks_by : (text : List ℕ) → call_turn_by f (lacks text) ≡ lacks text
     lacks_by text = unless_fault_by (text_fault text) _ _ refl
 
-    single_without_by : (step : StepOf ℕ) → call_turn_by f (if is_single step then ends (fault NoMemory) else ends (fault Invalid)) ≡ (if is_single (step_by f step) then ends (fault NoMemory) else ends (fault Invalid))
+    single_without_by : (step : StepWith ℕ) → call_turn_by f (if is_single step then ends (fault NoMemory) else ends (fault Invalid)) ≡ (if is_single (step_by f step) then ends (fault NoMemory) else ends (fault Invalid))
     single_without_by (steps.Open h n) = refl
     single_without_by (steps.Dup h) = refl
     single_without_by (steps.Parent h) = refl

@@ -4,7 +4,7 @@ use Rattle.std.specs.Option.{option_map}
 use Rattle.std.proofs.Common.{sym, ap, ◌∙◌}
 use Rattle.tree_model.specs.declared.answer.Answer.{Answer}
 use Rattle.tree_model.specs.declared.answer.Answer.TheVariants as answers
-use Rattle.tree_model.specs.declared.step.StepOf.{StepOf}
+use Rattle.tree_model.specs.StepWith.{StepWith}
 use Rattle.tree_model.specs.declared.step.StepOf.TheVariants as steps
 use Rattle.handles.specs.Objects.{StandingObject}
 use Rattle.step_resolver.specs.Order.{Position, root_itself, holds, Walking, handles_of}
@@ -79,7 +79,7 @@ module _ (f : ℕ → ℕ) where
       join (stage_handles stage) (level.dir ∷ levels_handles above) _ _ (stage_numbers stage) (ap (λ ks. f level.dir ∷ ks) (levels_numbers above))
   removing_numbers (remove.closing h hs end) = refl
 
-  step_numbers : (s : StepOf ℕ) → step_handles (step_by f s) ≡ numbers_by f (step_handles s)
+  step_numbers : (s : StepWith ℕ) → step_handles (step_by f s) ≡ numbers_by f (step_handles s)
   step_numbers (steps.Open h n) = refl
   step_numbers (steps.Dup h) = refl
   step_numbers (steps.Parent h) = refl

@@ -7,7 +7,7 @@ use Rattle.path_text.specs.declared.errno.Errno.TheVariants.{NoMemory}
 use Rattle.tree_model.specs.declared.answer.Answer.{Answer}
 use Rattle.tree_model.specs.declared.answer.Answer.TheVariants.{Opened, Text, Names, NotBelow, Listed, Done, Refused}
 use Rattle.tree_model.specs.declared.answer.Event.{Event}
-use Rattle.tree_model.specs.declared.step.StepOf.{StepOf}
+use Rattle.tree_model.specs.StepWith.{StepWith}
 use Rattle.tree_model.specs.History.{after_event, after_events}
 use Rattle.tree_model.specs.State.{State}
 use Rattle.tree_model.specs.Steps.{held}
@@ -52,7 +52,7 @@ blind_done f (Refused error) = refl
 
 -- ---- what a turn leaves: the opening tree and each actor's root
 
-pub stepped_books : (luck : Bool) (book : BookedHistory) (a : ℕ) (step : StepOf ℕ)
+pub stepped_books : (luck : Bool) (book : BookedHistory) (a : ℕ) (step : StepWith ℕ)
     → ((stepped_by luck book a step).book ≡ book) ⊎ ((stepped_by luck book a step).book ≡ booked book a step)
 stepped_books luck book a step = by (luck || is_close step) (refusal book a step)
   where
@@ -66,7 +66,7 @@ stepped_books luck book a step = by (luck || is_close step) (refusal book a step
 -- the book after a turn: as before, or with one event more
 pub data IsOneOn (book : BookedHistory) : BookedHistory → Type 0 where
   as_it_was : IsOneOn book book
-  one_more : (a : ℕ) (step : StepOf ℕ) → IsOneOn book (booked book a step)
+  one_more : (a : ℕ) (step : StepWith ℕ) → IsOneOn book (booked book a step)
 
 goes_books : (luck room : Bool) (book : BookedHistory) (ledger : LedgerView) (doing : Option CallView) → IsOneOn book (goes_on luck room book ledger doing).book
 goes_books luck room book ledger None = as_it_was

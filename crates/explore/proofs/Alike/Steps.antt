@@ -10,7 +10,7 @@ use Rattle.tree_model.specs.declared.inode.Object.{Object}
 use Rattle.tree_model.specs.declared.inode.Object.TheVariants as object
 use Rattle.tree_model.specs.declared.inode.OpenHandle.{OpenHandle}
 use Rattle.tree_model.specs.declared.step.Mode.{Mode}
-use Rattle.tree_model.specs.declared.step.StepOf.{StepOf}
+use Rattle.tree_model.specs.StepWith.{StepWith}
 use Rattle.tree_model.specs.declared.step.StepOf.TheVariants as steps
 use Rattle.tree_model.specs.State.{State, object_at}
 use Rattle.tree_model.specs.Entries.{refuse_if, with_some}
@@ -67,7 +67,7 @@ unbit false true e = absurd (omega arith)
 
 -- ---- steps by paired handles
 
-pub data Paired (pairs : Pairs) : StepOf ℕ → StepOf ℕ → Type 0 where
+pub data Paired (pairs : Pairs) : StepWith ℕ → StepWith ℕ → Type 0 where
   open' : (h k : ℕ) (n : List ℕ) → SameNumbers pairs h k → Paired pairs (steps.Open h n) (steps.Open k n)
   dup' : (h k : ℕ) → SameNumbers pairs h k → Paired pairs (steps.Dup h) (steps.Dup k)
   parent' : (h k : ℕ) → SameNumbers pairs h k → Paired pairs (steps.Parent h) (steps.Parent k)
@@ -87,44 +87,44 @@ module _ (pairs : Pairs) where
   pub zero_agrees : Agree pairs (λ h. 0) (λ h. 0)
   zero_agrees h k p = refl
 
-  pub paired_of : (x y : StepOf ℕ) → SameSteps pairs x y → Paired pairs x y
+  pub paired_of : (x y : StepWith ℕ) → SameSteps pairs x y → Paired pairs x y
   paired_of (steps.Open h n) (steps.Open k m) same =
-      let first : ◌≡◌ {A = StepOf ℕ} (steps.Open 0 n) (steps.Open 0 m) = same (λ h. 0) (λ h. 0) zero_agrees in
+      let first : ◌≡◌ {A = StepWith ℕ} (steps.Open 0 n) (steps.Open 0 m) = same (λ h. 0) (λ h. 0) zero_agrees in
       let names : n ≡ m = cc (first) in
-      subst (λ m. Paired pairs (steps.Open h n) (steps.Open k m)) names (open' h k n (λ f g agree. let e : ◌≡◌ {A = StepOf ℕ} (steps.Open (f h) n) (steps.Open (g k) m) = same f g agree in cc (e)))
-  paired_of (steps.Dup h) (steps.Dup k) same = dup' h k (λ f g agree. let e : ◌≡◌ {A = StepOf ℕ} (steps.Dup (f h)) (steps.Dup (g k)) = same f g agree in cc (e))
-  paired_of (steps.Parent h) (steps.Parent k) same = parent' h k (λ f g agree. let e : ◌≡◌ {A = StepOf ℕ} (steps.Parent (f h)) (steps.Parent (g k)) = same f g agree in cc (e))
-  paired_of (steps.ReadLink h) (steps.ReadLink k) same = read' h k (λ f g agree. let e : ◌≡◌ {A = StepOf ℕ} (steps.ReadLink (f h)) (steps.ReadLink (g k)) = same f g agree in cc (e))
+      subst (λ m. Paired pairs (steps.Open h n) (steps.Open k m)) names (open' h k n (λ f g agree. let e : ◌≡◌ {A = StepWith ℕ} (steps.Open (f h) n) (steps.Open (g k) m) = same f g agree in cc (e)))
+  paired_of (steps.Dup h) (steps.Dup k) same = dup' h k (λ f g agree. let e : ◌≡◌ {A = StepWith ℕ} (steps.Dup (f h)) (steps.Dup (g k)) = same f g agree in cc (e))
+  paired_of (steps.Parent h) (steps.Parent k) same = parent' h k (λ f g agree. let e : ◌≡◌ {A = StepWith ℕ} (steps.Parent (f h)) (steps.Parent (g k)) = same f g agree in cc (e))
+  paired_of (steps.ReadLink h) (steps.ReadLink k) same = read' h k (λ f g agree. let e : ◌≡◌ {A = StepWith ℕ} (steps.ReadLink (f h)) (steps.ReadLink (g k)) = same f g agree in cc (e))
   paired_of (steps.NameBelow r h) (steps.NameBelow q k) same =
-      below' r q h k (λ f g agree. let e : ◌≡◌ {A = StepOf ℕ} (steps.NameBelow (f r) (f h)) (steps.NameBelow (g q) (g k)) = same f g agree in cc (e))
-      (λ f g agree. let e : ◌≡◌ {A = StepOf ℕ} (steps.NameBelow (f r) (f h)) (steps.NameBelow (g q) (g k)) = same f g agree in cc (e))
-  paired_of (steps.List h) (steps.List k) same = list' h k (λ f g agree. let e : ◌≡◌ {A = StepOf ℕ} (steps.List (f h)) (steps.List (g k)) = same f g agree in cc (e))
-  paired_of (steps.Close h) (steps.Close k) same = close' h k (λ f g agree. let e : ◌≡◌ {A = StepOf ℕ} (steps.Close (f h)) (steps.Close (g k)) = same f g agree in cc (e))
+      below' r q h k (λ f g agree. let e : ◌≡◌ {A = StepWith ℕ} (steps.NameBelow (f r) (f h)) (steps.NameBelow (g q) (g k)) = same f g agree in cc (e))
+      (λ f g agree. let e : ◌≡◌ {A = StepWith ℕ} (steps.NameBelow (f r) (f h)) (steps.NameBelow (g q) (g k)) = same f g agree in cc (e))
+  paired_of (steps.List h) (steps.List k) same = list' h k (λ f g agree. let e : ◌≡◌ {A = StepWith ℕ} (steps.List (f h)) (steps.List (g k)) = same f g agree in cc (e))
+  paired_of (steps.Close h) (steps.Close k) same = close' h k (λ f g agree. let e : ◌≡◌ {A = StepWith ℕ} (steps.Close (f h)) (steps.Close (g k)) = same f g agree in cc (e))
   paired_of (steps.MakeDir h n) (steps.MakeDir k m) same =
-      let first : ◌≡◌ {A = StepOf ℕ} (steps.MakeDir 0 n) (steps.MakeDir 0 m) = same (λ h. 0) (λ h. 0) zero_agrees in
+      let first : ◌≡◌ {A = StepWith ℕ} (steps.MakeDir 0 n) (steps.MakeDir 0 m) = same (λ h. 0) (λ h. 0) zero_agrees in
       let names : n ≡ m = cc (first) in
-      subst (λ m. Paired pairs (steps.MakeDir h n) (steps.MakeDir k m)) names (make_dir' h k n (λ f g agree. let e : ◌≡◌ {A = StepOf ℕ} (steps.MakeDir (f h) n) (steps.MakeDir (g k) m) = same f g agree in cc (e)))
+      subst (λ m. Paired pairs (steps.MakeDir h n) (steps.MakeDir k m)) names (make_dir' h k n (λ f g agree. let e : ◌≡◌ {A = StepWith ℕ} (steps.MakeDir (f h) n) (steps.MakeDir (g k) m) = same f g agree in cc (e)))
   paired_of (steps.MakeFile h n) (steps.MakeFile k m) same =
-      let first : ◌≡◌ {A = StepOf ℕ} (steps.MakeFile 0 n) (steps.MakeFile 0 m) = same (λ h. 0) (λ h. 0) zero_agrees in
+      let first : ◌≡◌ {A = StepWith ℕ} (steps.MakeFile 0 n) (steps.MakeFile 0 m) = same (λ h. 0) (λ h. 0) zero_agrees in
       let names : n ≡ m = cc (first) in
-      subst (λ m. Paired pairs (steps.MakeFile h n) (steps.MakeFile k m)) names (make_file' h k n (λ f g agree. let e : ◌≡◌ {A = StepOf ℕ} (steps.MakeFile (f h) n) (steps.MakeFile (g k) m) = same f g agree in cc (e)))
+      subst (λ m. Paired pairs (steps.MakeFile h n) (steps.MakeFile k m)) names (make_file' h k n (λ f g agree. let e : ◌≡◌ {A = StepWith ℕ} (steps.MakeFile (f h) n) (steps.MakeFile (g k) m) = same f g agree in cc (e)))
   paired_of (steps.MakeLink h n text) (steps.MakeLink k m text') same =
-      let first : ◌≡◌ {A = StepOf ℕ} (steps.MakeLink 0 n text) (steps.MakeLink 0 m text') = same (λ h. 0) (λ h. 0) zero_agrees in
+      let first : ◌≡◌ {A = StepWith ℕ} (steps.MakeLink 0 n text) (steps.MakeLink 0 m text') = same (λ h. 0) (λ h. 0) zero_agrees in
       let names : n ≡ m = cc (first) in
       let texts : text ≡ text' = cc (first) in
       subst (λ m. Paired pairs (steps.MakeLink h n text) (steps.MakeLink k m text')) names
       (subst (λ text'. Paired pairs (steps.MakeLink h n text) (steps.MakeLink k n text')) texts
-      (make_link' h k n text (λ f g agree. let e : ◌≡◌ {A = StepOf ℕ} (steps.MakeLink (f h) n text) (steps.MakeLink (g k) m text') = same f g agree in cc (e))))
+      (make_link' h k n text (λ f g agree. let e : ◌≡◌ {A = StepWith ℕ} (steps.MakeLink (f h) n text) (steps.MakeLink (g k) m text') = same f g agree in cc (e))))
   paired_of (steps.RemoveFile h n) (steps.RemoveFile k m) same =
-      let first : ◌≡◌ {A = StepOf ℕ} (steps.RemoveFile 0 n) (steps.RemoveFile 0 m) = same (λ h. 0) (λ h. 0) zero_agrees in
+      let first : ◌≡◌ {A = StepWith ℕ} (steps.RemoveFile 0 n) (steps.RemoveFile 0 m) = same (λ h. 0) (λ h. 0) zero_agrees in
       let names : n ≡ m = cc (first) in
-      subst (λ m. Paired pairs (steps.RemoveFile h n) (steps.RemoveFile k m)) names (remove_file' h k n (λ f g agree. let e : ◌≡◌ {A = StepOf ℕ} (steps.RemoveFile (f h) n) (steps.RemoveFile (g k) m) = same f g agree in cc (e)))
+      subst (λ m. Paired pairs (steps.RemoveFile h n) (steps.RemoveFile k m)) names (remove_file' h k n (λ f g agree. let e : ◌≡◌ {A = StepWith ℕ} (steps.RemoveFile (f h) n) (steps.RemoveFile (g k) m) = same f g agree in cc (e)))
   paired_of (steps.RemoveDir h n) (steps.RemoveDir k m) same =
-      let first : ◌≡◌ {A = StepOf ℕ} (steps.RemoveDir 0 n) (steps.RemoveDir 0 m) = same (λ h. 0) (λ h. 0) zero_agrees in
+      let first : ◌≡◌ {A = StepWith ℕ} (steps.RemoveDir 0 n) (steps.RemoveDir 0 m) = same (λ h. 0) (λ h. 0) zero_agrees in
       let names : n ≡ m = cc (first) in
-      subst (λ m. Paired pairs (steps.RemoveDir h n) (steps.RemoveDir k m)) names (remove_dir' h k n (λ f g agree. let e : ◌≡◌ {A = StepOf ℕ} (steps.RemoveDir (f h) n) (steps.RemoveDir (g k) m) = same f g agree in cc (e)))
+      subst (λ m. Paired pairs (steps.RemoveDir h n) (steps.RemoveDir k m)) names (remove_dir' h k n (λ f g agree. let e : ◌≡◌ {A = StepWith ℕ} (steps.RemoveDir (f h) n) (steps.RemoveDir (g k) m) = same f g agree in cc (e)))
   paired_of (steps.Rename h n d m mode) (steps.Rename k n' e m' mode') same =
-      let first : ◌≡◌ {A = StepOf ℕ} (steps.Rename 0 n 0 m mode) (steps.Rename 0 n' 0 m' mode') = same (λ h. 0) (λ h. 0) zero_agrees in
+      let first : ◌≡◌ {A = StepWith ℕ} (steps.Rename 0 n 0 m mode) (steps.Rename 0 n' 0 m' mode') = same (λ h. 0) (λ h. 0) zero_agrees in
       let old : n ≡ n' = cc (first) in
       let new : m ≡ m' = cc (first) in
       let modes : mode ≡ mode' = cc (first) in
@@ -132,8 +132,8 @@ module _ (pairs : Pairs) where
       (subst (λ m'. Paired pairs (steps.Rename h n d m mode) (steps.Rename k n e m' mode')) new
       (subst (λ mode'. Paired pairs (steps.Rename h n d m mode) (steps.Rename k n e m mode')) modes
       (rename' h k n d e m mode
-      (λ f g agree. let q : ◌≡◌ {A = StepOf ℕ} (steps.Rename (f h) n (f d) m mode) (steps.Rename (g k) n' (g e) m' mode') = same f g agree in cc (q))
-      (λ f g agree. let q : ◌≡◌ {A = StepOf ℕ} (steps.Rename (f h) n (f d) m mode) (steps.Rename (g k) n' (g e) m' mode') = same f g agree in cc (q)))))
+      (λ f g agree. let q : ◌≡◌ {A = StepWith ℕ} (steps.Rename (f h) n (f d) m mode) (steps.Rename (g k) n' (g e) m' mode') = same f g agree in cc (q))
+      (λ f g agree. let q : ◌≡◌ {A = StepWith ℕ} (steps.Rename (f h) n (f d) m mode) (steps.Rename (g k) n' (g e) m' mode') = same f g agree in cc (q)))))
   paired_of x y same = absurd (differ (same (λ h. 0) (λ h. 0) zero_agrees))
     where
       differ : step_by (λ h. 0) x ≡ step_by (λ h. 0) y → ⊥
@@ -235,7 +235,7 @@ blind_answer (Refused error) e f = refl
 
 -- ---- the counts after it
 
-blind_close : (f : ℕ → ℕ) (step : StepOf ℕ) → is_close (step_by f step) ≡ is_close step
+blind_close : (f : ℕ → ℕ) (step : StepWith ℕ) → is_close (step_by f step) ≡ is_close step
 blind_close f (steps.Open h n) = refl
 blind_close f (steps.Dup h) = refl
 blind_close f (steps.Parent h) = refl
@@ -250,7 +250,7 @@ blind_close f (steps.RemoveFile h n) = refl
 blind_close f (steps.RemoveDir h n) = refl
 blind_close f (steps.Rename h n k m mode) = refl
 
-pub same_close : (pairs : Pairs) (x y : StepOf ℕ) → SameSteps pairs x y → is_close x ≡ is_close y
+pub same_close : (pairs : Pairs) (x y : StepWith ℕ) → SameSteps pairs x y → is_close x ≡ is_close y
 same_close pairs x y same =
     sym (blind_close (λ h. 0) x) ∙ ap is_close (same (λ h. 0) (λ h. 0) (zero_agrees pairs)) ∙ blind_close (λ h. 0) y
 
@@ -258,7 +258,7 @@ abbrev closed_by : Answer → Bool → ℕ
 closed_by Done true = 1
 closed_by answer is_one = 0
 
-closed_is : (answer : Answer) (step : StepOf ℕ) → closed_count answer step ≡ closed_by answer (is_close step)
+closed_is : (answer : Answer) (step : StepWith ℕ) → closed_count answer step ≡ closed_by answer (is_close step)
 closed_is Done (steps.Close h) = refl
 closed_is Done (steps.Open h n) = refl
 closed_is Done (steps.Dup h) = refl
@@ -279,10 +279,10 @@ closed_is NotBelow step = refl
 closed_is (Listed names) step = refl
 closed_is (Refused error) step = refl
 
-closed_same : (answer : Answer) (x y : StepOf ℕ) → is_close x ≡ is_close y → closed_count answer x ≡ closed_count answer y
+closed_same : (answer : Answer) (x y : StepWith ℕ) → is_close x ≡ is_close y → closed_count answer x ≡ closed_count answer y
 closed_same answer x y e = closed_is answer x ∙ ap (closed_by answer) e ∙ sym (closed_is answer y)
 
-pub counts_alike : {pairs : Pairs} {s t : State} {a : ℕ} {o u : Outcome} (x y : StepOf ℕ) → is_close x ≡ is_close y → AlikeEnds s t a pairs o u
+pub counts_alike : {pairs : Pairs} {s t : State} {a : ℕ} {o u : Outcome} (x y : StepWith ℕ) → is_close x ≡ is_close y → AlikeEnds s t a pairs o u
     → (opened_count o.answer ≡ opened_count u.answer) × (closed_count o.answer x ≡ closed_count u.answer y)
 counts_alike x y e (tells answer e') = (refl, closed_same answer x y e)
 counts_alike x y e (opens_on z what) = (refl, refl)

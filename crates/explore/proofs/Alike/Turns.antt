@@ -5,7 +5,7 @@ use Rattle.std.proofs.Common.{sym, ap, ◌∙◌, ◌||◌, is_some}
 use Rattle.std.proofs.lemmas.Option.{same_Some}
 use Rattle.path_text.specs.declared.errno.Errno.TheVariants.{BadHandle}
 use Rattle.tree_model.specs.declared.answer.Answer.{Answer}
-use Rattle.tree_model.specs.declared.step.StepOf.{StepOf}
+use Rattle.tree_model.specs.StepWith.{StepWith}
 use Rattle.tree_model.specs.declared.step.StepOf.TheVariants as steps
 use Rattle.handles.specs.declared.owner.Owner.{Owner}
 use Rattle.handles.specs.Objects.{StandingObject}
@@ -105,12 +105,12 @@ module _ (f : ℕ → ℕ) where
   handle_at_by root standings ref.Root = refl
   handle_at_by root standings (ref.Call number) = number_of (slice_index_or standings number None) ∙ ap (option_map (λ (s : StandingObject). s.handle)) (standing_under_by standings number)
 
-  one_by : (o o' : Option ℕ) → option_map f o ≡ o' → (F G : ℕ → Option (StepOf ℕ)) → ((x : ℕ) → option_map (step_by f) (F x) ≡ G (f x))
+  one_by : (o o' : Option ℕ) → option_map f o ≡ o' → (F G : ℕ → Option (StepWith ℕ)) → ((x : ℕ) → option_map (step_by f) (F x) ≡ G (f x))
       → option_map (step_by f) (with_handle o F) ≡ with_handle o' G
   one_by None o' e F G p = ap (λ o. with_handle o G) e
   one_by (Some x) o' e F G p = p x ∙ ap (λ o. with_handle o G) e
 
-  step_at_by : (at at' : Ref → Option ℕ) → ((r : Ref) → option_map f (at r) ≡ at' r) → (step : StepOf Ref) → option_map (step_by f) (step_at at step) ≡ step_at at' step
+  step_at_by : (at at' : Ref → Option ℕ) → ((r : Ref) → option_map f (at r) ≡ at' r) → (step : StepWith Ref) → option_map (step_by f) (step_at at step) ≡ step_at at' step
   step_at_by at at' e (steps.Open d n) = one_by (at d) (at' d) (e d) _ _ (λ x. refl)
   step_at_by at at' e (steps.Dup h) = one_by (at h) (at' h) (e h) _ _ (λ x. refl)
   step_at_by at at' e (steps.Parent h) = one_by (at h) (at' h) (e h) _ _ (λ x. refl)
@@ -125,8 +125,8 @@ module _ (f : ℕ → ℕ) where
   step_at_by at at' e (steps.RemoveDir d n) = one_by (at d) (at' d) (e d) _ _ (λ x. refl)
   step_at_by at at' e (steps.Rename d n k m mode) = one_by (at d) (at' d) (e d) _ _ (λ x. one_by (at k) (at' k) (e k) _ _ (λ y. refl))
 
-  single_by : (step : Option (StepOf ℕ)) → option_map (request_by f) (option_map (λ (s : StepOf ℕ). record { op = op.Single s; flags = plain }) step)
-      ≡ option_map (λ (s : StepOf ℕ). record { op = op.Single s; flags = plain }) (option_map (step_by f) step)
+  single_by : (step : Option (StepWith ℕ)) → option_map (request_by f) (option_map (λ (s : StepWith ℕ). record { op = op.Single s; flags = plain }) step)
+      ≡ option_map (λ (s : StepWith ℕ). record { op = op.Single s; flags = plain }) (option_map (step_by f) step)
   single_by None = refl
   single_by (Some step) = refl
 
@@ -140,7 +140,7 @@ module _ (f : ℕ → ℕ) where
   request_of_by root standings (planned.Call request) = refl
   request_of_by root standings (planned.Single step) =
       single_by (step_at (handle_at root standings) step)
-      ∙ ap (option_map (λ (s : StepOf ℕ). record { op = op.Single s; flags = plain }))
+      ∙ ap (option_map (λ (s : StepWith ℕ). record { op = op.Single s; flags = plain }))
       (step_at_by (handle_at root standings) (handle_at (root_by f root) (standings_by f standings)) (handle_at_by root standings) step)
   request_of_by root standings (planned.Release number) =
       release_by (slice_index_or standings number None)

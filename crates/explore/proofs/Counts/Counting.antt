@@ -9,7 +9,7 @@ use Rattle.path_text.specs.declared.errno.Errno.{Errno}
 use Rattle.path_text.specs.declared.errno.Errno.TheVariants.{BadHandle}
 use Rattle.tree_model.specs.declared.answer.Event.{Event}
 use Rattle.tree_model.specs.declared.inode.Inode.{Inode}
-use Rattle.tree_model.specs.declared.step.StepOf.{StepOf}
+use Rattle.tree_model.specs.StepWith.{StepWith}
 use Rattle.tree_model.specs.declared.step.StepOf.TheVariants as steps
 use Rattle.tree_model.specs.Entries.{with_some}
 use Rattle.tree_model.specs.History.{after_event, after_events}
@@ -101,7 +101,7 @@ on_tells : (s : State) (d : Option ℕ) (go : ℕ → Outcome) → ((x : ℕ) �
 on_tells s None go each e = refl
 on_tells s (Some x) go each e = each x e
 
-entries_tell : (s : State) (a : ℕ) (x : StepOf ℕ) → is_on_entries x ≡ true → is_done (outcome s a x).answer ≡ false → only_tells (outcome s a x).answer ≡ true
+entries_tell : (s : State) (a : ℕ) (x : StepWith ℕ) → is_on_entries x ≡ true → is_done (outcome s a x).answer ≡ false → only_tells (outcome s a x).answer ≡ true
 entries_tell s a (steps.MakeDir h n) e f = on_tells s (held s a h) _ (λ d. changes_tell s _) f
 entries_tell s a (steps.MakeFile h n) e f = on_tells s (held s a h) _ (λ d. changes_tell s _) f
 entries_tell s a (steps.MakeLink h n text) e f = on_tells s (held s a h) _ (λ d. changes_tell s _) f
@@ -118,7 +118,7 @@ entries_tell s a (steps.Close h) e f = absurd (true≢false (sym e))
 
 -- ---- one event more
 
-module _ (b : BookedHistory) (a : ℕ) (x : StepOf ℕ) where
+module _ (b : BookedHistory) (a : ℕ) (x : StepWith ℕ) where
   abbrev pub latest : Event
   latest = record { actor = a; step = x; answer = answer_now b a x }
 
@@ -167,7 +167,7 @@ module _ (b : BookedHistory) (a : ℕ) (x : StepOf ℕ) where
 
 -- ---- whether an event is one
 
-pub none_changed : (x : StepOf ℕ) → is_on_entries x ≡ false → changed_by x ≡ []
+pub none_changed : (x : StepWith ℕ) → is_on_entries x ≡ false → changed_by x ≡ []
 none_changed (steps.MakeDir h n) e = absurd (true≢false e)
 none_changed (steps.MakeFile h n) e = absurd (true≢false e)
 none_changed (steps.MakeLink h n text) e = absurd (true≢false e)

@@ -6,7 +6,7 @@ use Rattle.std.proofs.lemmas.Bool.{true≢false}
 use Rattle.std.proofs.lemmas.Bool.Decides.{nat_tests}
 use Rattle.std.proofs.lemmas.List.{length_push}
 use Rattle.tree_model.specs.declared.answer.Event.{Event}
-use Rattle.tree_model.specs.declared.step.StepOf.{StepOf}
+use Rattle.tree_model.specs.StepWith.{StepWith}
 use Rattle.tree_model.specs.State.{State}
 use Rattle.tree_model.specs.StepLaws.{open_count, opened_count, closed_count}
 use Rattle.tree_model.specs.Steps.{Outcome, outcome}
@@ -68,7 +68,7 @@ pub record HandlesGrow (s t : State) : Type 0 where
 none_grow : (s t : State) → length t.handles ≡ length s.handles → open_count t ≡ open_count s → HandlesGrow s t
 none_grow s t e e' = record { opens = false; closes = false; one = refl; numbers = omega arith; open_handles = omega arith }
 
-by_step : {s : State} {a : ℕ} {step : StepOf ℕ} {o : Outcome} → Does s a step o
+by_step : {s : State} {a : ℕ} {step : StepWith ℕ} {o : Outcome} → Does s a step o
     → open_count o.after + closed_count o.answer step ≡ open_count s + opened_count o.answer → HandlesGrow s o.after
 by_step {s} (refuses error) counted = none_grow s s refl refl
 by_step {s} (tells answer e) counted = none_grow s s refl refl
@@ -88,7 +88,7 @@ by_step {s} (closes h x e1) counted = record {
 }
 by_step {s} (changes_to nodes e1 changed) counted = none_grow s (record { nodes = nodes; handles = s.handles }) refl refl
 
-pub handles_grow : (s : State) (a : ℕ) (step : StepOf ℕ) → HandlesGrow s (outcome s a step).after
+pub handles_grow : (s : State) (a : ℕ) (step : StepWith ℕ) → HandlesGrow s (outcome s a step).after
 handles_grow s a step = by_step (does s a step) (handles_are_counted s a step).1
 
 -- ---- a turn

@@ -7,7 +7,7 @@ use Rattle.path_text.specs.declared.errno.Errno.{Errno}
 use Rattle.path_text.specs.declared.errno.Errno.TheVariants.{BadHandle, NoMemory, BookFull}
 use Rattle.tree_model.specs.declared.answer.Answer.TheVariants.{Refused}
 use Rattle.tree_model.specs.declared.answer.Event.{Event}
-use Rattle.tree_model.specs.declared.step.StepOf.{StepOf}
+use Rattle.tree_model.specs.StepWith.{StepWith}
 use Rattle.tree_model.specs.declared.step.StepOf.TheVariants as steps
 use Rattle.tree_model.specs.declared.tree.TheConstants.{HANDLES_MAX}
 use Rattle.tree_model.specs.State.{State}
@@ -25,7 +25,7 @@ use Rattle.explore.proofs.Alike.OutsideAlike.{after_push, blind_done}
 use Rattle.explore.proofs.Alike.Steps.{SameNumbers, zero_agrees, Paired, open', dup', parent', read', below', list', close', make_dir', make_file', make_link', remove_file', remove_dir', rename', paired_of, same_close}
 use Rattle.explore.proofs.Local.Steps.{PartBy, own_held, own_steps, either_way, one_each}
 
-blind_lines : (f : ℕ → ℕ) (step : StepOf ℕ) → lines_needed (step_by f step) ≡ lines_needed step
+blind_lines : (f : ℕ → ℕ) (step : StepWith ℕ) → lines_needed (step_by f step) ≡ lines_needed step
 blind_lines f (steps.Open h n) = refl
 blind_lines f (steps.Dup h) = refl
 blind_lines f (steps.Parent h) = refl
@@ -40,7 +40,7 @@ blind_lines f (steps.RemoveFile h n) = refl
 blind_lines f (steps.RemoveDir h n) = refl
 blind_lines f (steps.Rename h n k m mode) = refl
 
-needs_two : (step : StepOf ℕ) → lines_needed step ≤ 2
+needs_two : (step : StepWith ℕ) → lines_needed step ≤ 2
 needs_two (steps.Open h n) = omega arith
 needs_two (steps.Dup h) = omega arith
 needs_two (steps.Parent h) = omega arith
@@ -82,7 +82,7 @@ plus_each true false q m n = absurd (true≢false q)
 plus_each false true q m n = absurd (false≢true q)
 
 module _ (a : ℕ) (pairs : Pairs) (b c : BookedHistory) (part : PartBy a pairs (tree_now b) (tree_now c)) (ground : SameGround b c) where
-  own_closes : (x y : StepOf ℕ) → Paired pairs x y → closes_nothing (tree_now b) a x ≡ closes_nothing (tree_now c) a y
+  own_closes : (x y : StepWith ℕ) → Paired pairs x y → closes_nothing (tree_now b) a x ≡ closes_nothing (tree_now c) a y
   own_closes x y (open' h k n p) = refl
   own_closes x y (dup' h k p) = refl
   own_closes x y (parent' h k p) = refl
@@ -100,7 +100,7 @@ module _ (a : ℕ) (pairs : Pairs) (b c : BookedHistory) (part : PartBy a pairs 
   own_outside : (root : Option ℕ) (h k : ℕ) → SameNumbers pairs h k → is_outside (tree_now b).nodes root (held (tree_now b) a h) ≡ is_outside (tree_now c).nodes root (held (tree_now c) a k)
   own_outside root h k same = let at = own_held a pairs (tree_now b) (tree_now c) part h k same in λ i. is_outside (part.nodes i) root (at i)
 
-  own_any : (root : Option ℕ) (x y : StepOf ℕ) → Paired pairs x y → any_outside (tree_now b) root a (changed_by x) ≡ any_outside (tree_now c) root a (changed_by y)
+  own_any : (root : Option ℕ) (x y : StepWith ℕ) → Paired pairs x y → any_outside (tree_now b) root a (changed_by x) ≡ any_outside (tree_now c) root a (changed_by y)
   own_any root x y (open' h k n p) = refl
   own_any root x y (dup' h k p) = refl
   own_any root x y (parent' h k p) = refl
@@ -121,7 +121,7 @@ module _ (a : ℕ) (pairs : Pairs) (b c : BookedHistory) (part : PartBy a pairs 
   same_full : is_full (tree_now b) a ≡ is_full (tree_now c) a
   same_full = λ i. nat_le HANDLES_MAX (part.held_handles i) || ground.numbers i
 
-  module _ (x y : StepOf ℕ) (same : SameSteps pairs x y) where
+  module _ (x y : StepWith ℕ) (same : SameSteps pairs x y) where
     lines_alike : lines_needed x ≡ lines_needed y
     lines_alike = sym (blind_lines (λ h. 0) x) ∙ ap lines_needed (same (λ h. 0) (λ h. 0) (zero_agrees pairs)) ∙ blind_lines (λ h. 0) y
 

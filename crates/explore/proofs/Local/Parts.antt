@@ -3,7 +3,7 @@ use Rattle.std.specs.Prelude.{◌≡◌, ◌≢◌, ◌⊎◌, ◌≤◌, ◌<�
 use Rattle.std.proofs.Common.{inl, inr, sym, ap, ◌∙◌, subst, ⊎_elim, arith}
 use Rattle.std.proofs.lemmas.Option.{same_Some}
 use Rattle.tree_model.specs.declared.answer.Event.{Event}
-use Rattle.tree_model.specs.declared.step.StepOf.{StepOf}
+use Rattle.tree_model.specs.StepWith.{StepWith}
 use Rattle.tree_model.specs.State.{State}
 use Rattle.tree_model.specs.Steps.{held, held_count}
 use Rattle.tree_model.proofs.Counts.{others_counts_stay}
@@ -134,7 +134,7 @@ part_kept s t after others x y here there given part = record {
 -- the book after a turn of an actor: as before, or with one event of its more
 pub data IsOneBy (a : ℕ) (book : BookedHistory) : BookedHistory → Type 0 where
   as_it_was : IsOneBy a book book
-  one_more : (step : StepOf ℕ) → IsOneBy a book (booked book a step)
+  one_more : (step : StepWith ℕ) → IsOneBy a book (booked book a step)
 
 goes_books : (luck room : Bool) (book : BookedHistory) (ledger : LedgerView) (doing : Option CallView)
     → IsOneBy ledger.root.owner.actor book (goes_on luck room book ledger doing).book

@@ -6,7 +6,7 @@ use Rattle.tree_model.specs.declared.answer.Answer.TheVariants.{Opened, Listed}
 use Rattle.tree_model.specs.declared.inode.Inode.{Inode}
 use Rattle.tree_model.specs.declared.inode.Object.TheVariants as object
 use Rattle.tree_model.specs.declared.inode.OpenHandle.{OpenHandle}
-use Rattle.tree_model.specs.declared.step.StepOf.{StepOf}
+use Rattle.tree_model.specs.StepWith.{StepWith}
 use Rattle.tree_model.specs.State.{State, object_at, child, parent, is_dir, names_below, names_in, sorted_names}
 use Rattle.tree_model.specs.Entries.{makes, makes_link, removes_file, removes_dir, renames}
 use Rattle.tree_model.specs.StepLaws.{open_count}
@@ -54,7 +54,7 @@ module _ (a : ℕ) (pairs : Pairs) (s t : State) (part : PartBy a pairs s t) whe
 -- ---- what a step comes to in both trees
 
 module _ (a : ℕ) (pairs : Pairs) (s : State) (handles : List (Option OpenHandle)) (part : PartBy a pairs s (other s handles)) where
-  own_both : (x y : StepOf ℕ) → is_full s a ≡ is_full (other s handles) a → Paired pairs x y
+  own_both : (x y : StepWith ℕ) → is_full s a ≡ is_full (other s handles) a → Paired pairs x y
       → AlikeEnds s (other s handles) a pairs (outcome s a x) (outcome (other s handles) a y)
   own_both x y same (open' h k n p) =
       on_both pairs s handles a _ _ (own_held a pairs s (other s handles) part h k p) _ _ (λ d.
@@ -99,7 +99,7 @@ module _ (a : ℕ) (pairs : Pairs) (s : State) (handles : List (Option OpenHandl
       on_both pairs s handles a _ _ (own_held a pairs s (other s handles) part j l p') _ _
       (λ e. changes_both pairs s handles a (renames s.nodes d n e m mode)))
 
-own_ends : (a : ℕ) (pairs : Pairs) (s t : State) → PartBy a pairs s t → is_full s a ≡ is_full t a → (x y : StepOf ℕ) → Paired pairs x y
+own_ends : (a : ℕ) (pairs : Pairs) (s t : State) → PartBy a pairs s t → is_full s a ≡ is_full t a → (x y : StepWith ℕ) → Paired pairs x y
     → AlikeEnds s t a pairs (outcome s a x) (outcome t a y)
 own_ends a pairs s t part full x y p = go t.nodes part.nodes part
   where
@@ -297,7 +297,7 @@ after_own_ends {a} {pairs} {s} {t} part (changes_to nodes) held_handles open_han
 
 -- By paired handles a step of the actor comes to the same.
 pub own_steps : (a : ℕ) (pairs : Pairs) (s t : State) → PartBy a pairs s t → is_full s a ≡ is_full t a
-    → (x y : StepOf ℕ) → SameSteps pairs x y
+    → (x y : StepWith ℕ) → SameSteps pairs x y
     → AfterOwnStep a pairs s t (outcome s a x) (outcome t a y)
 own_steps a pairs s t part full x y same =
     let ends = own_ends a pairs s t part full x y (paired_of pairs x y same) in

@@ -7,7 +7,7 @@ use Rattle.path_text.specs.declared.errno.Errno.TheVariants.{NoMemory, Invalid}
 use Rattle.path_text.specs.Text.{text_fault, parts_of, begins_with_slash}
 use Rattle.tree_model.specs.declared.answer.Answer.{Answer}
 use Rattle.tree_model.specs.declared.answer.Answer.TheVariants.{Opened, Text, Names, Listed, Done, Refused}
-use Rattle.tree_model.specs.declared.step.StepOf.{StepOf}
+use Rattle.tree_model.specs.StepWith.{StepWith}
 use Rattle.walk_plan.specs.Plan.{leads_out}
 use Rattle.step_resolver.specs.Asked.{AskedPart, followed}
 use Rattle.step_resolver.specs.Order.{Way, Handle, Position, root_itself, holds, Todo, todo, Walking, Turn, is_followed}
@@ -290,7 +290,7 @@ unless_tells : (error : Option Errno) (turn : CallTurn) → Tells (call.unless_f
 unless_tells (Some error) turn = inl refl
 unless_tells None turn = inr refl
 
-single_tells : (step : StepOf ℕ) → Tells (if call.is_single step then call.ends (call.fault NoMemory) else call.ends (call.fault Invalid)) (call.single step)
+single_tells : (step : StepWith ℕ) → Tells (if call.is_single step then call.ends (call.fault NoMemory) else call.ends (call.fault Invalid)) (call.single step)
 single_tells step = by (call.is_single step)
   where
     by : (b : Bool) → Tells (if b then call.ends (call.fault NoMemory) else call.ends (call.fault Invalid))

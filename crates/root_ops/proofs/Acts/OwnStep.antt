@@ -9,7 +9,7 @@ use Rattle.tree_model.specs.declared.answer.Answer.TheVariants.{Refused}
 use Rattle.tree_model.specs.declared.inode.Inode.{Inode}
 use Rattle.tree_model.specs.declared.inode.Object.{Object}
 use Rattle.tree_model.specs.declared.inode.Object.TheVariants as object
-use Rattle.tree_model.specs.declared.step.StepOf.{StepOf}
+use Rattle.tree_model.specs.StepWith.{StepWith}
 use Rattle.tree_model.specs.declared.step.StepOf.TheVariants as steps
 use Rattle.tree_model.specs.State.{State, object_at}
 use Rattle.tree_model.specs.Steps.{Outcome, changes, reads}
@@ -58,7 +58,7 @@ module _ (w : WalkInHistory) where
   all_leave leaves t own = leaves t (omega arith) own
 
   -- so do those from m on, but for one at t
-  pub but_one : (m t : ℕ) (step : StepOf ℕ) (answer : Answer) → AloneAt w m t step answer → LeavesFrom (suc t) → (k : ℕ) → m ≤ k → k ≢ t → (timeline w).is_own k ≡ true → LeavesEntries w k
+  pub but_one : (m t : ℕ) (step : StepWith ℕ) (answer : Answer) → AloneAt w m t step answer → LeavesFrom (suc t) → (k : ℕ) → m ≤ k → k ≢ t → (timeline w).is_own k ≡ true → LeavesEntries w k
   but_one m t step answer made later k le other own = on (side k t)
     where
       on : Side k t → LeavesEntries w k
@@ -66,7 +66,7 @@ module _ (w : WalkInHistory) where
       on (is_at e) = absurd (other e)
       on (is_after past) = later k past own
 
-  pub and_one : (m t : ℕ) (step : StepOf ℕ) (answer : Answer) → AloneAt w m t step answer → LeavesEntries w t → LeavesFrom (suc t) → LeavesFrom m
+  pub and_one : (m t : ℕ) (step : StepWith ℕ) (answer : Answer) → AloneAt w m t step answer → LeavesEntries w t → LeavesFrom (suc t) → LeavesFrom m
   and_one m t step answer made here later k le own = on (side k t)
     where
       on : Side k t → LeavesEntries w k
@@ -74,7 +74,7 @@ module _ (w : WalkInHistory) where
       on (is_at e) = subst (LeavesEntries w) (sym e) here
       on (is_after past) = later k past own
 
-  pub leaves_by : (m t : ℕ) (step : StepOf ℕ) (answer : Answer) → StepAt w m t step answer → is_on_entries step ≡ false → LeavesEntries w t
+  pub leaves_by : (m t : ℕ) (step : StepWith ℕ) (answer : Answer) → StepAt w m t step answer → is_on_entries step ≡ false → LeavesEntries w t
   leaves_by m t step answer made e = ap (λ (s : State). s.nodes) made.after ∙ nodes_are_left (state_at w t) w.actor step e
 
   module _ (below : Below) (reply : Reply) where
@@ -85,7 +85,7 @@ module _ (w : WalkInHistory) where
       pub same : told ≡ reply
       pub leaves : LeavesFrom m
 
-    shut_one : (m t : ℕ) (step : StepOf ℕ) (answer : Answer) (told : Reply) → AloneAt w m t step answer → is_on_entries step ≡ false → Shuts (suc t) told → Shuts m told
+    shut_one : (m t : ℕ) (step : StepWith ℕ) (answer : Answer) (told : Reply) → AloneAt w m t step answer → is_on_entries step ≡ false → Shuts (suc t) told → Shuts m told
     shut_one m t step answer told made e later =
         record { same = later.same; leaves = and_one m t step answer made (leaves_by m t step answer made.made e) later.leaves }
 
@@ -103,17 +103,17 @@ module _ (w : WalkInHistory) where
     -- ---- the step
 
     -- it wasn't made for a want; or it is an own event, whose answer gives the reply
-    pub data Acted (m : ℕ) (wanted : Wanted) (step : StepOf ℕ) (lines : List Line) : Type 0 where
+    pub data Acted (m : ℕ) (wanted : Wanted) (step : StepWith ℕ) (lines : List Line) : Type 0 where
       step_unmade : (error : Errno) → fault error ≡ reply → IsWant error → TellsWant error lines → LeavesFrom m → Acted m wanted step lines
       step_made : (t : ℕ) (answer : Answer) → AloneAt w m t step answer → reply_to wanted answer ≡ reply → LeavesFrom (suc t) → Acted m wanted step lines
 
-    made_so : (m t : ℕ) (wanted : Wanted) (step made : StepOf ℕ) (answer : Answer) (lines all : List Line) (hs : List ℕ) → AloneAt w m t made answer → made ≡ step
+    made_so : (m t : ℕ) (wanted : Wanted) (step made : StepWith ℕ) (answer : Answer) (lines all : List Line) (hs : List ℕ) → AloneAt w m t made answer → made ≡ step
         → HappensAlone w (suc t) lines → LeadsTo below (closes hs (gives (reply_to wanted answer))) lines (ends reply) → Acted m wanted step all
     made_so m t wanted step made answer lines all hs alone same happens leads =
         let over = shut lines hs (reply_to wanted answer) (suc t) happens leads in
-        step_made t answer (subst (λ (s : StepOf ℕ). AloneAt w m t s answer) same alone) over.same over.leaves
+        step_made t answer (subst (λ (s : StepWith ℕ). AloneAt w m t s answer) same alone) over.same over.leaves
 
-    pub acted : (lines : List Line) (m : ℕ) (wanted : Wanted) (step : StepOf ℕ) (hs : List ℕ) → HappensAlone w m lines
+    pub acted : (lines : List Line) (m : ℕ) (wanted : Wanted) (step : StepWith ℕ) (hs : List ℕ) → HappensAlone w m lines
         → LeadsTo below (more (acting wanted step hs)) lines (ends reply) → Acted m wanted step lines
     acted [] m wanted step hs happens leads = cc (leads)
     acted (answered made answer ∷ lines) m wanted step hs happens leads =

@@ -9,7 +9,7 @@ use Rattle.tree_model.specs.declared.answer.Answer.TheVariants.{Refused, Opened,
 use Rattle.tree_model.specs.declared.inode.Inode.{Inode}
 use Rattle.tree_model.specs.declared.inode.Object.{Object}
 use Rattle.tree_model.specs.declared.inode.Object.TheVariants as object
-use Rattle.tree_model.specs.declared.step.StepOf.{StepOf}
+use Rattle.tree_model.specs.StepWith.{StepWith}
 use Rattle.tree_model.specs.declared.step.StepOf.TheVariants.{Open, Close}
 use Rattle.tree_model.specs.State.{State, is_directory}
 use Rattle.tree_model.specs.Entries.{refuse_if, renames}
@@ -55,7 +55,7 @@ module _ (w : WalkInHistory) (trees : (t : ℕ) → IsState (state_at w t)) (bel
     pub met : (error : Errno) → TellsWant error lines → TellsWant error w.lines
 
   module _ (m : ℕ) (lines : List Line) (ready : Ready m lines) where
-    abbrev step : StepOf ℕ
+    abbrev step : StepWith ℕ
     step = rename_step ren old.number new.number
 
     module _ (t : ℕ) (answer : Answer) (alone : AloneAt w m t step answer) (later : LeavesFrom w (suc t)) where
@@ -181,10 +181,10 @@ module _ (w : WalkInHistory) (trees : (t : ℕ) → IsState (state_at w t)) (bel
           left : (k : ℕ) → suc k ≤ suc u → (timeline w).is_own k ≡ true → LeavesEntries w k
           left k le own = early k own (side k t) (side k u) le
 
-      closed_at : (u : ℕ) (made : StepOf ℕ) (a : Answer) (second : Line) (others : List Line) → lines ≡ second ∷ others → AloneAt w (suc t) u made a → made ≡ Close child
+      closed_at : (u : ℕ) (made : StepWith ℕ) (a : Answer) (second : Line) (others : List Line) → lines ≡ second ∷ others → AloneAt w (suc t) u made a → made ≡ Close child
           → HappensAlone w (suc u) others → LeadsTo below renaming_turn others (ends reply) → Told reply
       closed_at u made a second others rest closed same happens leads =
-          from_here (suc u) others (ready_then u a second others rest (subst (λ (z : StepOf ℕ). AloneAt w (suc t) u z a) same closed)) happens leads
+          from_here (suc u) others (ready_then u a second others rest (subst (λ (z : StepWith ℕ). AloneAt w (suc t) u z a) same closed)) happens leads
 
       by_close : (ls : List Line) → lines ≡ ls → HappensAlone w (suc t) ls
           → LeadsTo below (closes (child ∷ []) (acts wants.Done (rename_step ren old.number new.number) (new.number ∷ old.number ∷ []))) ls (ends reply) → Told reply
@@ -233,11 +233,11 @@ module _ (w : WalkInHistory) (trees : (t : ℕ) → IsState (state_at w t)) (bel
 
   -- ---- the whole
 
-  opened_at : (slash : ren.slash ≡ true) (room : Bool) (line : Line) (lines : List Line) → w.lines ≡ line ∷ lines → (t : ℕ) (made : StepOf ℕ) (answer : Answer)
+  opened_at : (slash : ren.slash ≡ true) (room : Bool) (line : Line) (lines : List Line) → w.lines ≡ line ∷ lines → (t : ℕ) (made : StepWith ℕ) (answer : Answer)
       → AloneAt w 0 t made answer → made ≡ Open old.number ren.old → HappensAlone w (suc t) lines
       → LeadsTo below (take below room (checking old.number new.number ren) answer) lines (ends reply) → Told reply
   opened_at slash room line lines all t made answer alone same happens leads =
-      by_answer slash line lines all t answer (subst (λ (z : StepOf ℕ). AloneAt w 0 t z answer) same alone) room happens leads
+      by_answer slash line lines all t answer (subst (λ (z : StepWith ℕ). AloneAt w 0 t z answer) same alone) room happens leads
 
   by_check : (lines : List Line) → ren.slash ≡ true → w.lines ≡ lines → HappensAlone w 0 lines → LeadsTo below (more (checking old.number new.number ren)) lines (ends reply)
       → Told reply

@@ -5,7 +5,7 @@ use Rattle.path_text.specs.declared.errno.Errno.{Errno}
 use Rattle.tree_model.specs.declared.answer.Answer.{Answer}
 use Rattle.tree_model.specs.declared.answer.Answer.TheVariants.{Opened, Text, Names, NotBelow, Listed, Done, Refused}
 use Rattle.tree_model.specs.declared.answer.Event.{Event}
-use Rattle.tree_model.specs.declared.step.StepOf.{StepOf}
+use Rattle.tree_model.specs.StepWith.{StepWith}
 use Rattle.tree_model.specs.State.{State}
 use Rattle.tree_model.specs.Steps.{Outcome, outcome, held}
 use Rattle.tree_model.specs.History.{IsLegal, after_events}
@@ -145,10 +145,10 @@ module _ (below : Below) (a : ℕ) (old : State) where
   tail_over : (now last : State) (told reply : Reply) → IsPlain told × HandlesAre a old now [] → ends told ≡ ends reply → ((h : ℕ) → held last a h ≡ held now a h) → TailEnds last reply
   tail_over now last told reply is same kept' = record { plain = subst IsPlain (same_reply told reply same) is.0; stay = λ h. kept' h ∙ is.1.others h tt }
 
-  after_step : (room : Bool) (now : State) (doing : Doing) (step : StepOf ℕ) (answer : Answer) (window others : List Event) → (next : NextOwn a now window step answer others)
+  after_step : (room : Bool) (now : State) (doing : Doing) (step : StepWith ℕ) (answer : Answer) (window others : List Event) → (next : NextOwn a now window step answer others)
       → IsTail now doing → step ≡ due below doing → IsTailTurn (outcome next.at a step).after (take below room doing answer)
   after_step room now doing step answer window others next is e =
-      subst (λ (made : StepOf ℕ). answer ≡ (outcome next.at a made).answer → IsTailTurn (outcome next.at a made).after (take below room doing answer)) (sym e)
+      subst (λ (made : StepWith ℕ). answer ≡ (outcome next.at a made).answer → IsTailTurn (outcome next.at a made).after (take below room doing answer)) (sym e)
       (λ told. step_tail room next.at doing answer (tail_kept now next.at doing next.kept is) told) next.told
 
   pub tail_ends : (lines : List Line) (window : List Event) (now : State) (turn : CallTurn) (reply : Reply) → IsTailTurn now turn → LeadsTo below turn lines (ends reply)

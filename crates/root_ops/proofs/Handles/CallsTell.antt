@@ -13,7 +13,7 @@ use Rattle.tree_model.specs.declared.answer.Answer.TheVariants.{Refused}
 use Rattle.tree_model.specs.declared.answer.Answer.TheVariants as answers
 use Rattle.tree_model.specs.declared.answer.Event.{Event}
 use Rattle.tree_model.specs.declared.step.Mode.{Mode}
-use Rattle.tree_model.specs.declared.step.StepOf.{StepOf}
+use Rattle.tree_model.specs.StepWith.{StepWith}
 use Rattle.tree_model.specs.declared.step.StepOf.TheVariants.{Close}
 use Rattle.tree_model.specs.State.{State}
 use Rattle.tree_model.specs.Steps.{Outcome, outcome, refused, held}
@@ -287,7 +287,7 @@ module _ (below : Below) (r : ℕ) (old : State) where
   from_entry_ends mode text (Err error) has = fault_ends error
   from_entry_ends mode text (Ok d) has = unless_ends (text_fault text) _ (between_ends mode d (split_of (reading_of text) Drop) has)
 
-  single_ends : (step : StepOf ℕ) → EndsFrom old (single step)
+  single_ends : (step : StepWith ℕ) → EndsFrom old (single step)
   single_ends step = on (is_single step) refl
     where
       on : (b : Bool) → is_single step ≡ b → EndsFrom old (if b then more (call.acting wants.Any step []) else ends (fault Invalid))
@@ -404,9 +404,9 @@ module _ (c : CallInHistory) (is : IsCallInHistory c) (standing : StandingObject
       → LeadsTo c.below (more (releasing standing.handle)) lines (ends reply) → HandlesAfter c reply
   at_release [] reply own leads = cc (leads)
   at_release (answered step answer ∷ lines) reply own leads =
-      released answer lines reply (own ∙ ap (λ (made : StepOf ℕ). event_of (actor_of c) made answer ∷ events_of (actor_of c) lines) leads.0) leads.1
+      released answer lines reply (own ∙ ap (λ (made : StepWith ℕ). event_of (actor_of c) made answer ∷ events_of (actor_of c) lines) leads.0) leads.1
   at_release (no_room step answer ∷ lines) reply own leads =
-      released answer lines reply (own ∙ ap (λ (made : StepOf ℕ). event_of (actor_of c) made answer ∷ events_of (actor_of c) lines) leads.0) leads.1
+      released answer lines reply (own ∙ ap (λ (made : StepWith ℕ). event_of (actor_of c) made answer ∷ events_of (actor_of c) lines) leads.0) leads.1
   at_release (not_made error ∷ lines) reply own leads = unreleased error lines reply own leads.1
 
   at_keeping : (lines : List Line) (reply : Reply) → own_events (actor_of c) c.window ≡ events_of (actor_of c) lines

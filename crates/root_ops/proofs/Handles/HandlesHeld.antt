@@ -9,7 +9,7 @@ use Rattle.tree_model.specs.declared.inode.Object.{Object}
 use Rattle.tree_model.specs.declared.inode.Object.TheVariants as objects
 use Rattle.tree_model.specs.declared.inode.OpenHandle.{OpenHandle}
 use Rattle.tree_model.specs.declared.step.Kind.{Kind}
-use Rattle.tree_model.specs.declared.step.StepOf.{StepOf}
+use Rattle.tree_model.specs.StepWith.{StepWith}
 use Rattle.tree_model.specs.declared.step.StepOf.TheVariants as steps
 use Rattle.tree_model.specs.State.{State, object_at, child, is_dir, names_below, names_in, sorted_names}
 use Rattle.tree_model.specs.Steps.{Outcome, outcome, refused, answered, opens, reads, shows, held, node_held, kind_of}
@@ -66,7 +66,7 @@ module _ (a : ℕ) (old : State) where
 
 -- ---- steps that leave the handles
 
-abbrev pub LeavesHandles : StepOf ℕ → Type 0
+abbrev pub LeavesHandles : StepWith ℕ → Type 0
 LeavesHandles step = (s : State) (a h : ℕ) → held (outcome s a step).after a h ≡ held s a h
 
 same_held : (s t : State) (a h : ℕ) → t.handles ≡ s.handles → held t a h ≡ held s a h
@@ -127,7 +127,7 @@ below_leaves r d s a h = ap (λ (t : State). held t a h) (below_same r d s a)
 list_leaves : (d : ℕ) → LeavesHandles (steps.List d)
 list_leaves d s a h = ap (λ (t : State). held t a h) (list_same d s a)
 
-pub single_leaves : (step : StepOf ℕ) → is_single step ≡ true → LeavesHandles step
+pub single_leaves : (step : StepWith ℕ) → is_single step ≡ true → LeavesHandles step
 single_leaves (steps.Open h n) e = cc (e)
 single_leaves (steps.Dup h) e = cc (e)
 single_leaves (steps.Parent h) e = cc (e)

@@ -7,7 +7,7 @@ use Rattle.tree_model.specs.declared.answer.Answer.{Answer}
 use Rattle.tree_model.specs.declared.answer.Answer.TheVariants.{Refused}
 use Rattle.tree_model.specs.declared.answer.Event.{Event}
 use Rattle.tree_model.specs.declared.inode.Object.{Object}
-use Rattle.tree_model.specs.declared.step.StepOf.{StepOf}
+use Rattle.tree_model.specs.StepWith.{StepWith}
 use Rattle.tree_model.specs.State.{State, object_at, is_dir, is_directory}
 use Rattle.tree_model.specs.Steps.{held}
 use Rattle.tree_model.specs.Trees.{IsState}
@@ -54,7 +54,7 @@ module _ (below : Below) (aim : Aim) (reply : Reply) where
   one_later line first (inl e) = cc (e)
   one_later line first (inr met) = inr met
 
-  one_after_want : (step : StepOf ℕ) (answer : Answer) (first : List Line) → (false ≡ false) ⊎ TellsWant NoMemory first → TellsWant NoMemory (no_room step answer ∷ first)
+  one_after_want : (step : StepWith ℕ) (answer : Answer) (first : List Line) → (false ≡ false) ⊎ TellsWant NoMemory first → TellsWant NoMemory (no_room step answer ∷ first)
   one_after_want step answer first (inl e) = inl refl
   one_after_want step answer first (inr met) = inr met
 

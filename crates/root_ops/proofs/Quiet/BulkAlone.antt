@@ -9,7 +9,7 @@ use Rattle.path_text.specs.declared.path.Split.{Split as SplitPath}
 use Rattle.path_text.specs.Reading.{Reading}
 use Rattle.tree_model.specs.declared.answer.Answer.TheVariants.{Refused}
 use Rattle.tree_model.specs.declared.answer.Event.{Event}
-use Rattle.tree_model.specs.declared.step.StepOf.{StepOf}
+use Rattle.tree_model.specs.StepWith.{StepWith}
 use Rattle.tree_model.specs.State.{State, Stands, object_at, is_dir}
 use Rattle.tree_model.specs.Steps.{kind_of}
 use Rattle.tree_model.specs.History.{IsLegal, after_events}
@@ -53,7 +53,7 @@ use Rattle.root_ops.proofs.Quiet.EntriesAlone.{met_behind}
 -- ---- wants that were met
 
 -- an event that was refused for want of handles is one of the lines'
-refused_met : (a : ℕ) (lines : List Line) (t : ℕ) (step : StepOf ℕ) → slice_get (events_of a lines) t ≡ Some (record { actor = a; step = step; answer = Refused TooMany })
+refused_met : (a : ℕ) (lines : List Line) (t : ℕ) (step : StepWith ℕ) → slice_get (events_of a lines) t ≡ Some (record { actor = a; step = step; answer = Refused TooMany })
     → MetWant lines TooMany
 refused_met a [] t step e = absurd (none-some _ e)
 refused_met a (answered made answer ∷ lines) zero step e = inl (refl, ap (λ (v : Event). v.answer) (same_Some _ _ e))

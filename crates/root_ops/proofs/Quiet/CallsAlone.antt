@@ -9,7 +9,7 @@ use Rattle.path_text.specs.Text.{text_fault, reading_of}
 use Rattle.path_text.specs.Split.{split_of}
 use Rattle.tree_model.specs.declared.answer.Answer.{Answer}
 use Rattle.tree_model.specs.declared.answer.Answer.TheVariants as answer
-use Rattle.tree_model.specs.declared.step.StepOf.{StepOf}
+use Rattle.tree_model.specs.StepWith.{StepWith}
 use Rattle.tree_model.specs.declared.step.StepOf.TheVariants.{Close}
 use Rattle.tree_model.specs.State.{State}
 use Rattle.tree_model.specs.Entries.{with_some, refuse_by}
@@ -61,7 +61,7 @@ module _ (c : Caller) (has : HasRoot c.tree c.actor c.below.root.handle c.root) 
   step_reply end answer.Done = refl
   step_reply end (answer.Refused error) = refl
 
-  single_alone : (step : StepOf ℕ) (allowed : Bool) (lines : List Line)
+  single_alone : (step : StepWith ℕ) (allowed : Bool) (lines : List Line)
       → LeadsTo c.below (if allowed then more (acting wants.Any step []) else ends (fault Invalid)) lines (ends reply)
       → IsLegal c.tree (events_of c.actor lines)
       → ComesTo c (after_events c.tree (events_of c.actor lines)) true lines
@@ -96,7 +96,7 @@ module _ (c : Caller) (has : HasRoot c.tree c.actor c.below.root.handle c.root) 
     close_answer None e = ap (λ q. (closes_it q).answer) e
     close_answer (Some x) e = ap (λ q. (closes_it q).answer) e
 
-    closed_alone : (room : Bool) (step : StepOf ℕ) (told : Answer) (lines all : List Line) → step ≡ Close standing.handle → told ≡ (outcome c.tree c.actor step).answer
+    closed_alone : (room : Bool) (step : StepWith ℕ) (told : Answer) (lines all : List Line) → step ≡ Close standing.handle → told ≡ (outcome c.tree c.actor step).answer
         → LeadsTo c.below (ends (reply_to wants.Done told)) lines (ends reply)
         → ComesTo c (after_events (outcome c.tree c.actor step).after (events_of c.actor lines)) room all
         (record { reply = meaning.closes (held c.tree c.actor standing.handle); nodes = c.tree.nodes }) reply
@@ -146,7 +146,7 @@ module _ (c : Caller) (has : HasRoot c.tree c.actor c.below.root.handle c.root) 
       subst (λ m. ComesTo c (after_events c.tree (events_of c.actor lines)) false lines m reply) (sym (failing error)) (faults_alone c has error false lines reply leads)
   lacks_alone None whole lines failing leads = inr (runs_short c c.tree refl [] NoMemory lines reply leads false lines (inr (refl, refl)) refl)
 
-  single_lacks : (step : StepOf ℕ) (allowed : Bool) (lines : List Line)
+  single_lacks : (step : StepWith ℕ) (allowed : Bool) (lines : List Line)
       → LeadsTo c.below (if allowed then ends (fault NoMemory) else ends (fault Invalid)) lines (ends reply)
       → ComesTo c (after_events c.tree (events_of c.actor lines)) false lines
       (if allowed then meaning.steps (outcome c.tree c.actor step) else record { reply = fails Invalid; nodes = c.tree.nodes }) reply

@@ -14,7 +14,7 @@ use Rattle.tree_model.specs.declared.inode.Inode.{Inode}
 use Rattle.tree_model.specs.declared.inode.Object.{Object}
 use Rattle.tree_model.specs.declared.inode.Object.TheVariants as object
 use Rattle.tree_model.specs.declared.step.Mode.{Mode}
-use Rattle.tree_model.specs.declared.step.StepOf.{StepOf}
+use Rattle.tree_model.specs.StepWith.{StepWith}
 use Rattle.tree_model.specs.declared.step.StepOf.TheVariants.{Open, Close, Rename}
 use Rattle.tree_model.specs.State.{State, object_at, child, is_dir, is_directory}
 use Rattle.tree_model.specs.Entries.{refuse_if, with_some, refuse_by, renames}
@@ -136,10 +136,10 @@ module _ (c : Caller) (ren : Renaming) (d f : ℕ) (reply : Reply) where
         (Close-is_less opened c.actor k).others h other
         ∙ (with_handle-is_more t c.actor x).others h (λ e. other (e ∙ sym k_is)) ∙ is
 
-    stays_after : (step : StepOf ℕ) → step ≡ Close k → (h y : ℕ) → held t c.actor h ≡ Some y → held (outcome opened c.actor step).after c.actor h ≡ Some y
+    stays_after : (step : StepWith ℕ) → step ≡ Close k → (h y : ℕ) → held t c.actor h ≡ Some y → held (outcome opened c.actor step).after c.actor h ≡ Some y
     stays_after step is h y open_h = ap (λ st. held (outcome opened c.actor st).after c.actor h) is ∙ stays_open h y open_h
 
-    closed_then : (step : StepOf ℕ) (lines : List Line) → step ≡ Close k
+    closed_then : (step : StepWith ℕ) (lines : List Line) → step ≡ Close k
         → LeadsTo c.below (more (acting wants.Done (rename_step ren old new) (new ∷ old ∷ []))) lines (ends reply)
         → IsLegal (outcome opened c.actor step).after (events_of c.actor lines)
         → ComesTo c (after_events (outcome opened c.actor step).after (events_of c.actor lines)) true lines (changes c result) reply
@@ -193,7 +193,7 @@ module _ (c : Caller) (ren : Renaming) (d f : ℕ) (reply : Reply) where
         (subst (Onwards room line lines (refuse_if (not (is_directory (Some what))) (Some NotDir) None)) (sym e) (by_kind room x what line lines))
 
     -- the step was made
-    checked_by : (room : Bool) (step : StepOf ℕ) (answer : Answer) (line : Line) (lines : List Line) → (answer ≡ Refused TooMany → Meets TooMany line)
+    checked_by : (room : Bool) (step : StepWith ℕ) (answer : Answer) (line : Line) (lines : List Line) → (answer ≡ Refused TooMany → Meets TooMany line)
         → step ≡ Open old ren.old → answer ≡ (outcome t c.actor step).answer
         → LeadsTo c.below (take c.below room (checking old new ren) answer) lines (ends reply)
         → IsLegal (outcome t c.actor step).after (events_of c.actor lines)

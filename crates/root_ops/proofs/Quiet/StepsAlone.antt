@@ -6,7 +6,7 @@ use Rattle.tree_model.specs.declared.answer.Answer.{Answer}
 use Rattle.tree_model.specs.declared.answer.Answer.TheVariants.{Refused}
 use Rattle.tree_model.specs.declared.inode.Inode.{Inode}
 use Rattle.tree_model.specs.declared.inode.Object.TheVariants as object
-use Rattle.tree_model.specs.declared.step.StepOf.{StepOf}
+use Rattle.tree_model.specs.StepWith.{StepWith}
 use Rattle.tree_model.specs.State.{State}
 use Rattle.tree_model.specs.Entries.{with_some, makes, makes_link, removes_file, removes_dir}
 use Rattle.tree_model.specs.Steps.{Outcome, outcome, held, refused, changes}
@@ -71,7 +71,7 @@ met_later room line lines error (inr short) = inr short
 -- ---- the call's own step
 
 -- it was refused for a want; or it was made, and its answer gives the reply
-abbrev pub Acts : State → ℕ → Wanted → StepOf ℕ → State → List Line → Reply → Type 0
+abbrev pub Acts : State → ℕ → Wanted → StepWith ℕ → State → List Line → Reply → Type 0
 Acts t a wanted step end lines reply =
     ((error : Errno) × ((reply ≡ fault error) × (is_want error ≡ true) × (end.nodes ≡ t.nodes) × MetWant lines error))
     ⊎ ((reply ≡ reply_to wanted (outcome t a step).answer) × (end.nodes ≡ (outcome t a step).after.nodes))
@@ -85,8 +85,8 @@ pub is_a_want : (error : Errno) → IsWant error → is_want error ≡ true
 is_a_want error (inl e) = ap is_want e
 is_a_want error (inr e) = ap is_want e
 
-module _ (below : Below) (a : ℕ) (wanted : Wanted) (step : StepOf ℕ) (hs : List ℕ) (reply : Reply) (t : State) where
-  step_made : (made : StepOf ℕ) (answer : Answer) (lines all : List Line) → made ≡ step → answer ≡ (outcome t a made).answer
+module _ (below : Below) (a : ℕ) (wanted : Wanted) (step : StepWith ℕ) (hs : List ℕ) (reply : Reply) (t : State) where
+  step_made : (made : StepWith ℕ) (answer : Answer) (lines all : List Line) → made ≡ step → answer ≡ (outcome t a made).answer
       → LeadsTo below (closes hs (gives (reply_to wanted answer))) lines (ends reply)
       → Acts t a wanted step (after_events (outcome t a made).after (events_of a lines)) all reply
   step_made made answer lines all same told leads =

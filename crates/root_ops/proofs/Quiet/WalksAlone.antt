@@ -7,7 +7,7 @@ use Rattle.path_text.specs.declared.errno.Errno.{Errno}
 use Rattle.path_text.specs.declared.errno.Errno.TheVariants.{NoMemory, BookFull, TooMany}
 use Rattle.path_text.specs.Reading.{Reading}
 use Rattle.tree_model.specs.declared.answer.Answer.TheVariants.{Refused}
-use Rattle.tree_model.specs.declared.step.StepOf.{StepOf}
+use Rattle.tree_model.specs.StepWith.{StepWith}
 use Rattle.tree_model.specs.State.{State, Stands, object_at, is_dir}
 use Rattle.tree_model.specs.Steps.{held, kind_of}
 use Rattle.tree_model.specs.Trees.{IsState}
@@ -177,7 +177,7 @@ want_met (no_room step answer ∷ lines) error (inl tells) = inl (inl tells)
 want_met (not_made cause ∷ lines) error (inl tells) = inl tells
 want_met (line ∷ lines) error (inr tells) = inr (want_met lines error tells)
 
-refusal_met : (lines : List Line) (step : StepOf ℕ) → MetRefusal step lines → MetWant lines TooMany
+refusal_met : (lines : List Line) (step : StepWith ℕ) → MetRefusal step lines → MetWant lines TooMany
 refusal_met [] step met = met
 refusal_met (answered made answer ∷ lines) step (inl met) = inl (refl, met.1)
 refusal_met (no_room made answer ∷ lines) step (inl met) = inl (inr (refl, met.1))

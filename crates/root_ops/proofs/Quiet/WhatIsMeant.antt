@@ -7,7 +7,7 @@ use Rattle.path_text.specs.declared.path.Rule.TheVariants.{Drop, Refuse}
 use Rattle.tree_model.specs.declared.answer.Answer.{Answer}
 use Rattle.tree_model.specs.declared.answer.Answer.TheVariants as answer
 use Rattle.tree_model.specs.declared.inode.Inode.{Inode}
-use Rattle.tree_model.specs.declared.step.StepOf.{StepOf}
+use Rattle.tree_model.specs.StepWith.{StepWith}
 use Rattle.path_text.specs.Reading.{Reading}
 use Rattle.path_text.specs.Text.{text_fault, reading_of}
 use Rattle.tree_model.specs.State.{State, is_dir}
@@ -51,14 +51,14 @@ module _ (c : Caller) where
   at_entry text rule change each = changes_is (changed_at c text rule change)
       (onward_done (Changed c.tree.nodes) (entry_of text rule) _ (λ split. onward_done (Changed c.tree.nodes) (directory_of c split.dir) _ (λ d. each d split.name)))
 
-  step_is : {step : StepOf ℕ} {o : Outcome} → Does c.tree c.actor step o → Changed c.tree.nodes o.after.nodes
+  step_is : {step : StepWith ℕ} {o : Outcome} → Does c.tree c.actor step o → Changed c.tree.nodes o.after.nodes
   step_is (refuses_it error) = kept
   step_is (only_tells_it answer e) = kept
   step_is (opens_on x what e1 e2 e3) = kept
   step_is (closes_it h x e) = kept
   step_is (changes_to nodes e changed) = changed
 
-  single_is : (step : StepOf ℕ) (allowed : Bool) → IsChange (if allowed then steps (outcome c.tree c.actor step) else record { reply = fails Invalid; nodes = c.tree.nodes })
+  single_is : (step : StepWith ℕ) (allowed : Bool) → IsChange (if allowed then steps (outcome c.tree c.actor step) else record { reply = fails Invalid; nodes = c.tree.nodes })
   single_is step true = step_is (does c.tree c.actor step)
   single_is step false = kept
 
@@ -100,7 +100,7 @@ module _ (c : Caller) where
   error_tells answer.Done error is = cc (is)
   error_tells (answer.Refused cause) error is = refl
 
-  single_same : (step : StepOf ℕ) (allowed : Bool) (error : Errno)
+  single_same : (step : StepWith ℕ) (allowed : Bool) (error : Errno)
       → (if allowed then steps (outcome c.tree c.actor step) else record { reply = fails Invalid; nodes = c.tree.nodes }).reply ≡ fails error
       → (if allowed then steps (outcome c.tree c.actor step) else record { reply = fails Invalid; nodes = c.tree.nodes }).nodes ≡ c.tree.nodes
   single_same step true error is = ap (λ (s : State). s.nodes) (telling_changes_nothing c.tree c.actor step (error_tells (outcome c.tree c.actor step).answer error is))

@@ -6,7 +6,7 @@ use Rattle.path_text.specs.declared.errno.Errno.{Errno}
 use Rattle.path_text.specs.declared.errno.Errno.TheVariants.{NoMemory, CrossRoot, TooMany}
 use Rattle.tree_model.specs.declared.answer.Answer.{Answer}
 use Rattle.tree_model.specs.declared.answer.Answer.TheVariants.{Refused}
-use Rattle.tree_model.specs.declared.step.StepOf.{StepOf}
+use Rattle.tree_model.specs.StepWith.{StepWith}
 use Rattle.tree_model.specs.Steps.{held}
 use Rattle.walk_plan.specs.Plan.{leads_out}
 use Rattle.step_resolver.specs.Asked.{AskedPart}
@@ -92,7 +92,7 @@ module _ {w : WalkInHistory} (lived : Lived w) where
 
   lines_tell : (lines : List Line) (now : ℕ) (turn end : Turn) → Good w now turn → Happens w now lines → LeadsTo w.way turn lines end
       → ((error : Errno) → IsWant error → TellsWant error lines → TellsError w error)
-      → ((step : StepOf ℕ) → MetRefusal step lines → MetRefusal step w.lines) → Tells w end
+      → ((step : StepWith ℕ) → MetRefusal step lines → MetRefusal step w.lines) → Tells w end
   lines_tell [] now turn end good happens leads wants mets = subst (Tells w) leads (end_tells now turn happens good)
   lines_tell (answered step answer ∷ lines) now (more walk) end good happens leads wants mets =
       lines_tell lines (suc happens.0) (take w.way true walk answer) end

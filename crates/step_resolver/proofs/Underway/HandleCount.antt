@@ -7,7 +7,7 @@ use Rattle.path_text.specs.declared.errno.Errno.TheVariants.{TooMany}
 use Rattle.tree_model.specs.declared.answer.Answer.{Answer}
 use Rattle.tree_model.specs.declared.answer.Answer.TheVariants.{Refused}
 use Rattle.tree_model.specs.declared.inode.OpenHandle.{OpenHandle}
-use Rattle.tree_model.specs.declared.step.StepOf.{StepOf}
+use Rattle.tree_model.specs.StepWith.{StepWith}
 use Rattle.tree_model.specs.Entries.{refuse_if}
 use Rattle.tree_model.specs.Steps.{outcome, held_count, node_held, is_held_by, is_full}
 use Rattle.step_resolver.specs.Order.{Position, root_itself, holds, handles_of}
@@ -90,7 +90,7 @@ few_held w m (holds handle names) are =
     one_more w.actor (begin_of w).handles (state_at w m).handles handle.number (λ k ne. are.others k (ne, tt))
 
 -- a step that was refused for want of handles
-pub refusal_told : {w : WalkInHistory} {m t : ℕ} {step : StepOf ℕ} {answer : Answer} → StepAt w m t step answer → MetRefusal step w.lines
+pub refusal_told : {w : WalkInHistory} {m t : ℕ} {step : StepWith ℕ} {answer : Answer} → StepAt w m t step answer → MetRefusal step w.lines
     → (outcome (state_at w t) w.actor step).answer ≡ Refused TooMany → is_full (state_at w t) w.actor ≡ true
     → held_count (state_at w t) w.actor ≤ suc (held_count (begin_of w) w.actor) → TellsTooMany w
 refusal_told {w} {m} {t} {step} {answer} is line told full few = record {

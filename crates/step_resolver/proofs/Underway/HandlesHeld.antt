@@ -2,7 +2,7 @@
 use Rattle.std.specs.Prelude.{◌≡◌, ℕ, suc, [], ◌∷◌, length, Some}
 use Rattle.std.proofs.Common.{sym, ap, subst, ◌∙◌}
 use Rattle.tree_model.specs.declared.answer.Answer.{Answer}
-use Rattle.tree_model.specs.declared.step.StepOf.{StepOf}
+use Rattle.tree_model.specs.StepWith.{StepWith}
 use Rattle.tree_model.specs.Steps.{outcome, held, with_handle}
 use Rattle.step_resolver.specs.Order.{Position, root_itself, holds, handles_of, handle_at}
 use Rattle.step_resolver.specs.WalkHistory.{WalkInHistory, state_at}
@@ -14,12 +14,12 @@ pub handles_swapped : {w : WalkInHistory} {m h k : ℕ} → HandlesAre w m (h �
 handles_swapped are = record { others = λ x out. are.others x (out.1.0, (out.0, tt)); fresh = (are.fresh.1.0, (are.fresh.0, tt)) }
 
 -- a step that changes nothing
-pub kept_on : {w : WalkInHistory} {now t : ℕ} {step : StepOf ℕ} {answer : Answer} → StepAt w now t step answer
+pub kept_on : {w : WalkInHistory} {now t : ℕ} {step : StepWith ℕ} {answer : Answer} → StepAt w now t step answer
     → (outcome (state_at w t) w.actor step).after ≡ state_at w t → (h : ℕ) → held_at w (suc t) h ≡ held_at w now h
 kept_on {w} is same h = ap (λ s. held s w.actor h) (is.after ∙ same) ∙ is.kept h
 
 -- a step that opens
-pub more_on : {w : WalkInHistory} {now t : ℕ} {step : StepOf ℕ} {answer : Answer} → StepAt w now t step answer → (x : ℕ)
+pub more_on : {w : WalkInHistory} {now t : ℕ} {step : StepWith ℕ} {answer : Answer} → StepAt w now t step answer → (x : ℕ)
     → (outcome (state_at w t) w.actor step).after ≡ with_handle (state_at w t) w.actor x
     → IsMore (state_at w t) w.actor (state_at w (suc t)) (length (state_at w t).handles) x
 more_on {w} {t = t} is x same =

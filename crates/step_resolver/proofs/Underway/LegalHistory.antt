@@ -6,7 +6,7 @@ use Rattle.std.proofs.lemmas.Bool.{eqb-false}
 use Rattle.tree_model.specs.declared.answer.Answer.{Answer}
 use Rattle.tree_model.specs.declared.answer.Event.{Event}
 use Rattle.tree_model.specs.declared.inode.Object.{Object}
-use Rattle.tree_model.specs.declared.step.StepOf.{StepOf}
+use Rattle.tree_model.specs.StepWith.{StepWith}
 use Rattle.tree_model.specs.State.{State, object_at, is_directory}
 use Rattle.tree_model.specs.Steps.{outcome, held}
 use Rattle.tree_model.specs.Trees.{IsState}
@@ -95,7 +95,7 @@ unfolding tail_of
 same_tail x y xs ys e = ap tail_of e
 
 -- the walk's next event, and what is left after it
-record IsNext (w : WalkInHistory) (n : ℕ) (step : StepOf ℕ) (answer : Answer) (others : List Event) : Type 0 where
+record IsNext (w : WalkInHistory) (n : ℕ) (step : StepWith ℕ) (answer : Answer) (others : List Event) : Type 0 where
   pub t : ℕ
   pub state : State
   pub rest : List Event
@@ -133,7 +133,7 @@ whole_rest w = record {
     same_number j k e = omega arith
 
 module _ (laws : TreeLaws) (w : WalkInHistory) where
-  next_event : (rest : List Event) (m n : ℕ) (s : State) (step : StepOf ℕ) (answer : Answer) (others : List Event) → n ≤ m → IsRest w m s rest → IsLegal s rest
+  next_event : (rest : List Event) (m n : ℕ) (s : State) (step : StepWith ℕ) (answer : Answer) (others : List Event) → n ≤ m → IsRest w m s rest → IsLegal s rest
       → ((h : ℕ) → held s w.actor h ≡ held_at w n h)
       → own_events w.actor rest ≡ record { actor = w.actor; step = step; answer = answer } ∷ others → IsNext w n step answer others
   next_event [] m n s step answer others le is legal kept e = absurd (cons_not_nil _ others (sym e))

@@ -9,7 +9,7 @@ use Rattle.tree_model.specs.declared.inode.Inode.{Inode}
 use Rattle.tree_model.specs.declared.inode.Object.{Object}
 use Rattle.tree_model.specs.declared.inode.Object.TheVariants.{Link}
 use Rattle.tree_model.specs.declared.inode.OpenHandle.{OpenHandle}
-use Rattle.tree_model.specs.declared.step.StepOf.{StepOf}
+use Rattle.tree_model.specs.StepWith.{StepWith}
 use Rattle.tree_model.specs.State.{State, object_at, parent, is_dir, is_directory, Stands, names_below}
 use Rattle.tree_model.specs.Steps.{outcome, held, node_held, kind_of}
 use Rattle.tree_model.specs.Trees.{IsState}
@@ -39,7 +39,7 @@ pub record Lived (w : WalkInHistory) : Type 0 where
   pub root_is_dir : is_directory ((timeline w).object_of w.root) ≡ true
 
 -- a step of the walk's own at moment t, the actor's handles having stayed since m
-pub record StepAt (w : WalkInHistory) (m t : ℕ) (step : StepOf ℕ) (answer : Answer) : Type 0 where
+pub record StepAt (w : WalkInHistory) (m t : ℕ) (step : StepWith ℕ) (answer : Answer) : Type 0 where
   pub at : IsOwnFrom (timeline w) m t
   pub event : slice_get w.window t ≡ Some (record { actor = w.actor; step = step; answer = answer })
   pub kept : (h : ℕ) → held_at w t h ≡ held_at w m h

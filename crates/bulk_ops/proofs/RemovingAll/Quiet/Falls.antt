@@ -7,7 +7,7 @@ use Rattle.path_text.specs.declared.errno.Errno.TheVariants.{NotFound, BadHandle
 use Rattle.tree_model.specs.declared.answer.Answer.{Answer}
 use Rattle.tree_model.specs.declared.answer.Answer.TheVariants.{Opened, Text, Names, NotBelow, Listed, Done, Refused}
 use Rattle.tree_model.specs.declared.answer.Event.{Event}
-use Rattle.tree_model.specs.declared.step.StepOf.{StepOf}
+use Rattle.tree_model.specs.StepWith.{StepWith}
 use Rattle.tree_model.specs.declared.step.StepOf.TheVariants.{Open, Dup, Parent, ReadLink, NameBelow, List as ListNames, Close, MakeDir, MakeFile, MakeLink, RemoveFile, RemoveDir, Rename}
 use Rattle.tree_model.specs.State.{State, child, is_dir, has_entries, put_at}
 use Rattle.tree_model.specs.Steps.{Outcome, refused, changes, outcome, held}
@@ -84,7 +84,7 @@ dir_done h n Done r = refl
 dir_done h n (Refused error) r = absurd (false≢true r)
 
 -- a removal that is answered Done takes an entry away
-pub removal_takes : (s : State) (a : ℕ) (step : StepOf ℕ) (answer : Answer) → is_removal step answer ≡ true → answer ≡ (outcome s a step).answer
+pub removal_takes : (s : State) (a : ℕ) (step : StepWith ℕ) (answer : Answer) → is_removal step answer ≡ true → answer ≡ (outcome s a step).answer
     → Takes s (outcome s a step)
 removal_takes s a (RemoveFile h n) answer r e = file_takes s a h n (file_done h n answer r ∙ e)
 removal_takes s a (RemoveDir h n) answer r e = dir_takes s a h n (dir_done h n answer r ∙ e)

@@ -6,7 +6,7 @@ use Rattle.path_text.specs.declared.errno.Errno.TheVariants.{NotFound, BadHandle
 use Rattle.tree_model.specs.declared.answer.Answer.{Answer}
 use Rattle.tree_model.specs.declared.answer.Answer.TheVariants.{Refused}
 use Rattle.tree_model.specs.declared.answer.Event.{Event}
-use Rattle.tree_model.specs.declared.step.StepOf.{StepOf}
+use Rattle.tree_model.specs.StepWith.{StepWith}
 use Rattle.tree_model.specs.declared.step.StepOf.TheVariants.{RemoveFile}
 use Rattle.tree_model.specs.State.{State, child, is_dir, put_at}
 use Rattle.tree_model.specs.Steps.{refused, changes, outcome, held}
@@ -58,7 +58,7 @@ module _ (s : State) (a h d : ℕ) (target : List ℕ) (open_there : held s a h 
   on_answer : (answer : Answer) (rest : List Line) → answer ≡ Refused NotDir → LeadsTo (file_removed level [] 0 left answer) rest (removed count) → ⊥
   on_answer answer rest e leads = closing_fails h NotDir rest count (subst (λ v. LeadsTo (file_removed level [] 0 left v) rest (removed count)) e leads)
 
-  told : (step : StepOf ℕ) (answer : Answer) → step ≡ RemoveFile h target → answer ≡ (outcome s a step).answer → answer ≡ Refused NotDir
+  told : (step : StepWith ℕ) (answer : Answer) → step ≡ RemoveFile h target → answer ≡ (outcome s a step).answer → answer ≡ Refused NotDir
   told step answer is legal = legal ∙ ap (λ v. (outcome s a v).answer) is ∙ ap (λ o. o.answer) (file_refused s a h d target open_there no_dir)
 
   on_want : (error : Errno) (rest : List Line) → IsWant error → LeadsTo (file_removed level [] 0 left (Refused error)) rest (removed count) → ⊥

@@ -1,6 +1,8 @@
-use Rattle.std.proofs.Common.{◌≡◌, sym, ap, ◌∙◌}
+use Rattle.std.proofs.Common.{◌≡◌, ℕ, sym, ap, ◌∙◌}
 use Rattle.tree_model.specs.History.{after_event}
 use Rattle.tree_model.specs.State.{State}
+use Rattle.tree_model.specs.StepWith.{StepWith}
+use Rattle.tree_model.specs.Steps.{outcome}
 use Rattle.drawings.proofs.Lists.{moment_more}
 use Rattle.drawings.proofs.picture.lines_of.Goals as goal
 
@@ -8,7 +10,9 @@ pub loop-at-preserved : goal.loop-at-preserved
 loop-at-preserved c =
     let event = c.in_ok-event.event in
     let led : c.in_ok-after.after ≡ after_event c.loop-at.before event =
-    c.in_ok-after.ensures ∙ c.in_ok-_answer.ensures.after ∙ ap (λ (s : State). after_event s event) (sym c.loop-at.invariant.same) in
+    c.in_ok-after.ensures ∙ c.in_ok-_answer.ensures.after
+    ∙ ap (λ (step : StepWith ℕ). (outcome c.loop-at.tree event.actor step).after) c.lend.ensures
+    ∙ ap (λ (s : State). after_event s event) (sym c.loop-at.invariant.same) in
     record {
       same = c.in_ok-after.ensures;
       lines =

@@ -1,4 +1,4 @@
-use Rattle.std.proofs.Common.{◌≡◌, ◌∷◌, [], ◌++◌, length, arith}
+use Rattle.std.proofs.Common.{arith}
 use Rattle.event_log.proofs.Pieces.{name_written, piece_len}
 use Rattle.event_log.proofs.write.add_names.Goals as goal
 

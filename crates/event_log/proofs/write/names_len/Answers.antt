@@ -1,5 +1,4 @@
-use Rattle.std.proofs.Common.{◌≡◌, ◌+◌, length, drop, arith}
-use Rattle.event_log.specs.Shapes.{pieces_of}
+use Rattle.std.proofs.Common.{arith}
 use Rattle.event_log.proofs.Pieces.{piece_len}
 use Rattle.event_log.proofs.write.names_len.Goals as goal
 

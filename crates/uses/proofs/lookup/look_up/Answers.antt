@@ -1,5 +1,5 @@
 use Rattle.std.proofs.Common.{ℕ, Ok, ap, subst, ◌∙◌}
-use Rattle.tree_model.specs.declared.step.StepOf.{StepOf}
+use Rattle.tree_model.specs.StepWith.{StepWith}
 use Rattle.tree_model.specs.Steps.{outcome}
 use Rattle.step_resolver.specs.declared.driver.Resolved.{Resolved}
 use Rattle.step_resolver.specs.Driver.{LeavesHandles}
@@ -11,4 +11,4 @@ returns-clause-handles g c =
     closed_again c.handles_stay.ensures.others _ _ _ c.args.root.owner.actor c.in-Found.standing
     (subst (λ (r : Resolved). LeavesHandles (g.T.Tree.state c.args.tree.now) c.args.root.owner.actor (g.T.Tree.state c.resolve.new.tree) (Ok r)) c.in-Found.is c.in_ok-standing.ensures.handles)
     (c.in_ok-step-in-Found.ensures.after
-    ∙ ap (λ (step : StepOf ℕ). (outcome (g.T.Tree.state c.resolve.new.tree) c.args.root.owner.actor step).after) c.into_close.ensures)
+    ∙ ap (λ (step : StepWith ℕ). (outcome (g.T.Tree.state c.resolve.new.tree) c.args.root.owner.actor step).after) (c.lend.ensures ∙ c.into_close.ensures))

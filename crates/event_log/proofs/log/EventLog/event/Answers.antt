@@ -5,8 +5,8 @@ use Rattle.event_log.proofs.Again.{event_made}
 use Rattle.event_log.proofs.Placed.{found_in}
 use Rattle.event_log.proofs.log.EventLog.event.Goals as goal
 
-pub read_step-requires : goal.read_step-requires
-read_step-requires c =
+pub lent_step-requires : goal.lent_step-requires
+lent_step-requires c =
     let r = c.index-record.result.now in
     let own : c.back-own.result.now ≡ drop r.start c.self.inside.bytes.items = c.back-own.ensures ∙ ap (drop r.start) c.as_slice.ensures.value in
     let found = found_in c.self.inside.bytes.items c.self.inside.records.items c.args.self.now.events c.args.at r c.self.invariant (ap (λ v. v.events) c.self.view_is) c.requires c.index-record.ensures in
@@ -24,7 +24,7 @@ returns c =
     let r = c.index-record.result.now in
     let own : c.back-own.result.now ≡ drop r.start c.self.inside.bytes.items = c.back-own.ensures ∙ ap (drop r.start) c.as_slice.ensures.value in
     let found = found_in c.self.inside.bytes.items c.self.inside.records.items c.args.self.now.events c.args.at r c.self.invariant (ap (λ v. v.events) c.self.view_is) c.requires c.index-record.ensures in
-    let step : c.in_ok-step.step ≡ step_read r.step (drop r.start c.self.inside.bytes.items) = c.in_ok-step.ensures ∙ ap (step_read r.step) own in
+    let step : c.in_ok-step.step ≡ step_read r.step (drop r.start c.self.inside.bytes.items) = c.in_ok-step.ensures ∙ c.lent_step.ensures ∙ ap (step_read r.step) own in
     let answer : c.in_ok-answer.answer ≡ answer_read r.answer (step_rest r.step (drop r.start c.self.inside.bytes.items)) =
     c.in_ok-answer.ensures ∙ ap (answer_read r.answer) (c.after_step.ensures ∙ ap (step_rest r.step) own) in
     rw (← c.self.view_is) (found.there ∙ ap (λ e. Some e) (event_made r.actor _ _ _ _ (sym step) (sym answer)))

@@ -1,6 +1,5 @@
-use Rattle.std.proofs.Common.{◌≡◌, ◌++◌, ◌+◌, ◌≤◌, ◌∙◌, ◌∷◌, [], length, ap, sym, refl, subst, arith}
+use Rattle.std.proofs.Common.{◌≡◌, ◌++◌, ◌≤◌, ◌∙◌, ◌∷◌, [], length, ap, sym, refl, subst}
 use Rattle.std.specs.Prelude.{vec_len, vec_capacity}
-use Rattle.std.proofs.lemmas.List.{length-append}
 use Rattle.event_log.specs.declared.log.TheConstants.{TEXTS_MAX}
 use Rattle.event_log.specs.Log.{Log, room_for_texts}
 use Rattle.event_log.specs.Records.{IsLog, events_read, event_with}

@@ -6,6 +6,13 @@ use Rattle.event_log.proofs.Placed.{found_in}
 use Rattle.event_log.proofs.Printed.{event_written, nothing_said}
 use Rattle.event_log.proofs.log.EventLog.write_event.Goals as goal
 
+pub write_step-requires : goal.write_step-requires
+write_step-requires c =
+    let r = c.index-record.result.now in
+    let own : c.back-own.result.now ≡ drop r.start c.self.inside.bytes.items = c.back-own.ensures ∙ ap (drop r.start) c.as_slice.ensures.value in
+    let found = found_in c.self.inside.bytes.items c.self.inside.records.items c.args.self.now.events c.args.at r c.self.invariant (ap (λ v. v.events) c.self.view_is) c.requires c.index-record.ensures in
+    rw own found.named.0
+
 pub returns-in_err-write_step : goal.returns-in_err-write_step
 returns-in_err-write_step c = nothing_said _ event_words _ _ _ c.from_residual.ensures.0
 

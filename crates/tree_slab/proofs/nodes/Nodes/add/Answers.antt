@@ -12,6 +12,5 @@ invariant_of-self-2 c =
     let free : child c.self.inside.inodes.items c.args.dir c.args.name.now ≡ None = search rules in
     let bound : length c.self.inside.inodes.items < NUMBERS_MAX = search rules in
     let few : nat_le NUMBERS_MAX (length c.self.inside.inodes.items) ≡ false = lt-leb NUMBERS_MAX (length c.self.inside.inodes.items) (omega arith) in
-    let key : c.in_ok-key.key ≡ c.args.name.now = search rules in
     let grown : c.push_reserved.new.self.items ≡ c.self.inside.inodes.items ++ record { object = c.args.object; place = Some (record { parent = c.args.dir; name = c.args.name.now }) } ∷ [] = search rules in
-    rw grown (made_index c.self.inside.inodes.items c.self.inside.directories c.add.new.self c.self.invariant c.args.dir c.args.name.now c.args.object c.is_directory-mapped.result dir stays free few c.requires.text c.is_directory-mapped.ensures (rw (← key) c.in_ok-add.ensures.ok))
+    rw grown (made_index c.self.inside.inodes.items c.self.inside.directories c.add.new.self c.self.invariant c.args.dir c.args.name.now c.args.object c.is_directory-mapped.result dir stays free few c.requires.text c.is_directory-mapped.ensures c.in_ok-add.ensures.ok)

@@ -6,12 +6,12 @@ use Rattle.tree_slab.proofs.nodes.Nodes.exchange.Goals as goal
 pub relink-requires : goal.relink-requires
 relink-requires c =
     let other : child c.self.inside.inodes.items c.args.to.parent c.args.to.name ≡ Some c.args.there = search rules in
-    present c.self.inside.inodes.items c.self.inside.directories c.self.invariant c.args.to.parent c.args.to.name c.args.there other
+    rw c.lend.ensures (present c.self.inside.inodes.items c.self.inside.directories c.self.invariant c.args.to.parent c.args.to.name c.args.there other)
 
 pub relink-requires-2 : goal.relink-requires-2
 relink-requires-2 c =
     let there : child c.self.inside.inodes.items c.args.from.parent c.args.from.name ≡ Some c.args.moved = search rules in
-    present_after c.self.inside.inodes.items c.self.inside.directories c.self.invariant c.relink.new.self c.args.to.parent c.args.to.name c.args.moved c.args.from.parent c.args.from.name c.args.moved c.relink.ensures there
+    rw c.lend-2.ensures (present_after c.self.inside.inodes.items c.self.inside.directories c.self.invariant c.relink.new.self c.args.to.parent c.args.to.name c.args.moved c.args.from.parent c.args.from.name c.args.moved (rw c.lend.ensures at c.relink.ensures) there)
 
 pub invariant_of-self : goal.invariant_of-self
 invariant_of-self c =
@@ -21,4 +21,4 @@ invariant_of-self c =
     let other : child c.self.inside.inodes.items c.args.to.parent c.args.to.name ≡ Some c.args.there = search rules in
     let out : is_within c.self.inside.inodes.items c.args.moved c.args.to.parent ≡ false = search rules in
     let out2 : is_within c.self.inside.inodes.items c.args.there c.args.from.parent ≡ false = search rules in
-    rw (c.set_place-2.ensures, c.set_place.ensures) (exchanged_index c.self.inside.inodes.items c.self.inside.directories c.self.invariant c.relink.new.self c.relink-2.new.self c.args.from.parent c.args.from.name c.args.to.parent c.args.to.name c.args.moved c.args.there dir to_dir there other c.requires.apart out out2 c.relink.ensures c.relink-2.ensures)
+    rw (c.set_place-2.ensures, c.set_place.ensures) (exchanged_index c.self.inside.inodes.items c.self.inside.directories c.self.invariant c.relink.new.self c.relink-2.new.self c.args.from.parent c.args.from.name c.args.to.parent c.args.to.name c.args.moved c.args.there dir to_dir there other c.requires.apart out out2 (rw c.lend.ensures at c.relink.ensures) (rw c.lend-2.ensures at c.relink-2.ensures))

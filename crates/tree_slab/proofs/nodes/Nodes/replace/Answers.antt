@@ -7,13 +7,13 @@ use Rattle.tree_slab.proofs.nodes.Nodes.replace.Goals as goal
 pub relink-requires : goal.relink-requires
 relink-requires c =
     let other : child c.self.inside.inodes.items c.args.to.parent c.args.to.name ≡ Some c.args.there = search rules in
-    present c.self.inside.inodes.items c.self.inside.directories c.self.invariant c.args.to.parent c.args.to.name c.args.there other
+    rw c.lend.ensures (present c.self.inside.inodes.items c.self.inside.directories c.self.invariant c.args.to.parent c.args.to.name c.args.there other)
 
 pub give_back-requires : goal.give_back-requires
 give_back-requires c =
     let other : child c.self.inside.inodes.items c.args.to.parent c.args.to.name ≡ Some c.args.there = search rules in
     let childless : (is_dir c.self.inside.inodes.items c.args.there && has_entries c.self.inside.inodes.items c.args.there) ≡ false = replace_fault-none c.self.inside.inodes.items c.args.moved c.args.there (search rules) in
-    replaced_empty c.self.inside.inodes.items c.self.inside.directories c.self.invariant c.relink.new.self c.unlink.new.self c.args.from.now.parent c.args.from.now.name c.args.to.parent c.args.to.name c.args.moved c.args.there other childless c.relink.ensures c.unlink.ensures
+    replaced_empty c.self.inside.inodes.items c.self.inside.directories c.self.invariant c.relink.new.self c.unlink.new.self c.args.from.now.parent c.args.from.now.name c.args.to.parent c.args.to.name c.args.moved c.args.there other childless (rw c.lend.ensures at c.relink.ensures) (rw c.lend-2.ensures at c.unlink.ensures)
 
 pub invariant_of-self : goal.invariant_of-self
 invariant_of-self c =
@@ -23,4 +23,4 @@ invariant_of-self c =
     let other : child c.self.inside.inodes.items c.args.to.parent c.args.to.name ≡ Some c.args.there = search rules in
     let out : is_within c.self.inside.inodes.items c.args.moved c.args.to.parent ≡ false = search rules in
     let childless : (is_dir c.self.inside.inodes.items c.args.there && has_entries c.self.inside.inodes.items c.args.there) ≡ false = replace_fault-none c.self.inside.inodes.items c.args.moved c.args.there (search rules) in
-    rw (c.set_place-2.ensures, c.set_place.ensures) (replaced_index c.self.inside.inodes.items c.self.inside.directories c.self.invariant c.args.from.now.parent c.args.from.now.name c.args.to.parent c.args.to.name c.args.moved dir stays there out c.relink.new.self c.unlink.new.self c.give_back.new.self c.args.there other c.requires.apart childless c.relink.ensures c.unlink.ensures c.give_back.ensures)
+    rw (c.set_place-2.ensures, c.set_place.ensures) (replaced_index c.self.inside.inodes.items c.self.inside.directories c.self.invariant c.args.from.now.parent c.args.from.now.name c.args.to.parent c.args.to.name c.args.moved dir stays there out c.relink.new.self c.unlink.new.self c.give_back.new.self c.args.there other c.requires.apart childless (rw c.lend.ensures at c.relink.ensures) (rw c.lend-2.ensures at c.unlink.ensures) c.give_back.ensures)

@@ -7,6 +7,6 @@ pub returns-then-ne : goal.returns-then-ne
 returns-then-ne g c =
     let other : c.args.self.now.actor ≢ c.args.walker = λ e. false≢true (sym (c.if-ne.ensures ∙ ap not (eq-eqb c.args.self.now.actor c.args.walker e))) in
     record {
-      others = by_one_step c.args.walker c.args.self.now.actor _ _ c.args.self.now.step c.step.result other c.step.ensures.answer c.step.ensures.after c.step.ensures.err;
-      acted = (refl, may_step c.args.walker c.args.self.now.actor _ _ c.args.self.now.step c.step.result other c.step.ensures.after c.step.ensures.err);
+      others = by_one_step c.args.walker c.args.self.now.actor _ _ c.lend.result c.step.result other c.step.ensures.answer c.step.ensures.after c.step.ensures.err;
+      acted = (refl, rw (sym c.lend.ensures) (may_step c.args.walker c.args.self.now.actor _ _ c.lend.result c.step.result other c.step.ensures.after c.step.ensures.err));
     }
