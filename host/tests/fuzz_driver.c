@@ -4,7 +4,7 @@
  *
  * For libFuzzer, or with fuzz_main.c for stored cases. A case is bytes: who calls, the operation, flags, two paths by their
  * parts, and then one byte for each system call. To be linked with --wrap of each function that is wrapped here. Its tree is
- * in INROOT_FUZZ_DIR, or in a new directory of /tmp.
+ * in INROOT_FUZZ_DIR, or in a new directory of the current one.
  */
 #define _GNU_SOURCE
 #include "../inroot.h"
@@ -222,7 +222,7 @@ static void make_tree(void)
 static void begin(void)
 {
     const char *given = getenv("INROOT_FUZZ_DIR");
-    char name[64] = "/tmp/inroot-fuzz-XXXXXX";
+    char name[] = "inroot-fuzz-XXXXXX";
     base = open(given != NULL ? given : mkdtemp(name), O_PATH | O_DIRECTORY | O_CLOEXEC);
     MUST(base >= 0);
     mkdirat(base, "root", 0755);
