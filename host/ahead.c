@@ -3,14 +3,14 @@
  * text. It is kept beside the proved call, which has its own. What is thought here tells which names may be passed
  * by one system call (runs.c), and what was left where a call failed. It decides nothing that the call tells.
  */
+#define _GNU_SOURCE
 #include "driver.h"
 
 #include <string.h>
 
 /* How much of a path is its directory part, with the slashes that end it. */
-static size_t directory_part(const char *path)
+static size_t directory_part(const char *path, size_t length)
 {
-    size_t length = strlen(path);
     while (length > 0 && path[length - 1] == '/')
         length--;
     while (length > 0 && path[length - 1] != '/')
@@ -24,29 +24,30 @@ static bool walks_whole(enum inroot_op op)
            op == INROOT_ASK_MKDIR_ALL;
 }
 
-static void take(struct inroot_ahead *a, const char *path)
+static void take(struct inroot_ahead *a, const char *path, size_t length)
 {
-    size_t length = strlen(path);
     a->at = a->end = a->until = 0;
     a->bad = 0;
     a->known = length < INROOT_TEXT_MAX;
     if (!a->known)
         return;
-    memcpy(a->text, path, length);
+    memcpy(a->text, path, length + 1);
     a->end = length;
-    a->until = a->whole ? length : directory_part(path);
+    a->until = a->whole ? length : directory_part(path, length);
 }
 
-void inroot_ahead_begin(struct inroot_ahead *a, const struct inroot_request *asked)
+void inroot_ahead_begin(struct inroot_driver *d)
 {
+    const struct inroot_request *asked = d->asked;
+    struct inroot_ahead *a = &d->ahead;
     a->whole = walks_whole(asked->op);
     a->directory = asked->op == INROOT_ASK_MKDIR_ALL || asked->directory;
     a->link_may_end = asked->op == INROOT_ASK_RESOLVE_NOFOLLOW || asked->op == INROOT_ASK_READLINK;
     a->begun = a->from_top = a->makes = false;
-    a->has_second = asked->op == INROOT_ASK_RENAME && strlen(asked->second) < sizeof a->second;
+    a->has_second = asked->op == INROOT_ASK_RENAME && d->second_length < sizeof a->second;
     if (a->has_second)
-        memcpy(a->second, asked->second, strlen(asked->second) + 1);
-    take(a, asked->first);
+        memcpy(a->second, asked->second, d->second_length + 1);
+    take(a, asked->first, d->first_length);
 }
 
 void inroot_ahead_dup(struct inroot_ahead *a)
@@ -57,35 +58,17 @@ void inroot_ahead_dup(struct inroot_ahead *a)
     if (!walks_again)
         return;
     if (a->has_second)
-        take(a, a->second);
+        take(a, a->second, strlen(a->second));
     else
         a->known = false;
     a->has_second = false;
 }
 
-size_t inroot_ahead_part(const struct inroot_ahead *a, size_t at)
-{
-    const char *slash = memchr(a->text + at, '/', a->end - at);
-    return slash == NULL ? a->end - at : (size_t)(slash - a->text) - at;
-}
-
-bool inroot_ahead_dots(const struct inroot_ahead *a, size_t at, size_t length)
-{
-    return length > 0 && length <= 2 && memcmp(a->text + at, "..", length) == 0;
-}
-
-size_t inroot_ahead_skip(const struct inroot_ahead *a, size_t at)
-{
-    while (at < a->end && a->text[at] == '/')
-        at++;
-    return at;
-}
-
 /* Where the next name begins that is neither `.` nor `..`, or the end. */
-static size_t next_name(const struct inroot_ahead *a)
+static inline size_t next_name(const struct inroot_ahead *a)
 {
     size_t at = inroot_ahead_skip(a, a->at);
-    for (size_t length; (length = inroot_ahead_part(a, at)) > 0 && inroot_ahead_dots(a, at, length);)
+    for (size_t length; (length = inroot_ahead_dots(a, at)) > 0;)
         at = inroot_ahead_skip(a, at + length);
     return at;
 }
@@ -95,32 +78,26 @@ bool inroot_ahead_has_name(const struct inroot_ahead *a)
     return a->known && (!a->whole || next_name(a) < a->until);
 }
 
-bool inroot_ahead_is(struct inroot_ahead *a, const char *name)
+bool inroot_ahead_is(struct inroot_ahead *a, const char *name, size_t length)
 {
     if (!a->known)
         return false;
-    size_t at = next_name(a), length = inroot_ahead_part(a, at);
-    a->known = length > 0 && strlen(name) == length && memcmp(a->text + at, name, length) == 0;
+    size_t at = next_name(a);
+    bool fits = length > 0 && length <= a->end - at;
+    a->known = fits && memcmp(a->text + at, name, length) == 0 && inroot_ahead_ends(a, at + length);
     if (a->known)
         a->at = at;
     return a->known;
 }
 
-void inroot_ahead_pass(struct inroot_ahead *a)
+void inroot_ahead_pass_up(struct inroot_ahead *a)
 {
     if (!a->known)
         return;
-    a->at += inroot_ahead_part(a, a->at);
-    a->bad -= a->bad > 0;
-}
-
-/* Goes behind `..`, where it comes next. */
-void inroot_ahead_pass_up(struct inroot_ahead *a)
-{
     size_t at = inroot_ahead_skip(a, a->at);
-    while (a->known && inroot_ahead_part(a, at) == 1 && a->text[at] == '.')
+    while (inroot_ahead_dots(a, at) == 1)
         at = inroot_ahead_skip(a, at + 1);
-    if (a->known && inroot_ahead_part(a, at) == 2 && inroot_ahead_dots(a, at, 2))
+    if (inroot_ahead_dots(a, at) == 2)
         a->at = at + 2;
 }
 
@@ -135,11 +112,12 @@ void inroot_ahead_put(struct inroot_ahead *a, const char *text, size_t length)
     size_t left = a->end - a->at, until = a->until > a->at ? a->until - a->at : 0;
     a->bad = 0;
     a->from_top = length > 0 && text[0] == '/';
-    if (!a->known || length + left > sizeof a->text) {
+    if (!a->known || length + left >= sizeof a->text) {
         a->known = false;
         return;
     }
-    memmove(a->text + length, a->text + a->at, left);
+    /* With its NUL. */
+    memmove(a->text + length, a->text + a->at, left + 1);
     memcpy(a->text, text, length);
     a->at = 0;
     a->end = length + left;

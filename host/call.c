@@ -29,6 +29,19 @@ static ssize_t reply_of(struct inroot_driver *d, const struct inroot_told *told)
     }
 }
 
+/* Makes the step that was told. Of a long path nearly all open the next name of a run or close it, without a system call. */
+static struct inroot_result make(struct inroot_driver *d, const struct inroot_told *step, const char *room, char *text,
+                                 size_t *length)
+{
+    *length = 0;
+    d->steps++;
+    if (step->what == INROOT_STEP_CLOSE)
+        return inroot_handles_close(d, step->handle);
+    if (step->what == INROOT_STEP_OPEN && inroot_run_goes_on(d, step))
+        return inroot_run_next(d, step, room);
+    return inroot_make(d, step, room, text, length);
+}
+
 /* Takes turns with the proved call. */
 static ssize_t converse(struct inroot_driver *d, int root, const struct inroot_request *asked, char *room)
 {
@@ -44,14 +57,21 @@ static ssize_t converse(struct inroot_driver *d, int root, const struct inroot_r
     unsigned char *bytes = (unsigned char *)room;
     /* Apart from the room, which the library writes to while it reads this. */
     char text[INROOT_TEXT_MAX + 1];
-    inroot_begin(&numbers, (const unsigned char *)asked->first, strlen(asked->first),
-                 (const unsigned char *)asked->second, strlen(asked->second), &kept, &told, bytes, INROOT_ROOM);
+    inroot_begin(&numbers, (const unsigned char *)asked->first, d->first_length, (const unsigned char *)asked->second,
+                 d->second_length, &kept, &told, bytes, INROOT_ROOM);
     while (told.what < INROOT_REPLY_OPENED) {
         size_t length;
-        struct inroot_answered answered = inroot_make(d, &told, room, text, &length);
-        bool lists = answered.what == INROOT_ANSWER_LISTED;
-        inroot_next(&kept, &answered, (const unsigned char *)(lists ? d->names : text), lists ? d->names_length : length, &told,
-                    bytes, INROOT_ROOM);
+        struct inroot_result result = make(d, &told, room, text, &length);
+        bool lists = result.what == INROOT_ANSWER_LISTED;
+        const struct inroot_answered answered = {
+            .handle = result.handle,
+            .node = result.handle,
+            .what = (uint8_t)result.what,
+            .kind = (uint8_t)result.kind,
+            .error = (uint8_t)result.error,
+        };
+        inroot_next(&kept, &answered, (const unsigned char *)(lists ? d->names : text), lists ? d->names_length : length,
+                    &told, bytes, INROOT_ROOM);
     }
     return reply_of(d, &told);
 }
@@ -84,12 +104,14 @@ static bool opens(const struct inroot_request *asked)
 
 static void begin(struct inroot_driver *d, const struct inroot_request *asked)
 {
-    memset(d, 0, offsetof(struct inroot_driver, deepest_name));
+    memset(d, 0, offsetof(struct inroot_driver, asked));
     d->asked = asked;
+    d->first_length = strlen(asked->first);
+    d->second_length = strlen(asked->second);
     d->counts = asked->op == INROOT_ASK_REMOVE_ALL;
     d->proc = d->deepest = d->made = d->run.fd = INROOT_NONE;
-    d->step_name[0] = 0;
-    inroot_ahead_begin(&d->ahead, asked);
+    d->name = d->step_name;
+    inroot_ahead_begin(d);
 }
 
 ssize_t inroot_once(struct inroot_driver *d, int root, const struct inroot_request *asked, char *room)

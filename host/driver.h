@@ -36,7 +36,6 @@ enum { INROOT_AWAY = -2, INROOT_JAILED = -3, INROOT_PASSED = -4, INROOT_NONE = -
 /* What a handle of the proved call stands for. */
 struct inroot_slot {
     int fd, lost;                  /* the descriptor; and the error of one that could not be opened again */
-    uint32_t serial;               /* of the handle that has this slot now */
     int32_t above;                 /* while a tree is removed: the slot of the directory it was opened in */
     uint32_t depth, listed;        /* below the first such directory; how many bytes of names the call holds for it */
     uint8_t way, kind;
@@ -46,6 +45,13 @@ struct inroot_slot {
 
 /* What the last step of a call that makes an entry makes. */
 enum inroot_makes { INROOT_MAKES_NEW, INROOT_MAKES_OPEN, INROOT_MAKES_LINKED };
+
+/* The answer to a step. No answer rests on a node's number, so that the handle's own serves as one. */
+struct inroot_result {
+    uint64_t handle;
+    enum inroot_answer what;
+    uint16_t kind, error;
+};
 
 /* What is asked for: an operation, and its texts; and what the proved call knows nothing of. */
 struct inroot_request {
@@ -70,7 +76,8 @@ struct inroot_ahead {
     int bad;                       /* so many names were not passed by one system call, where it isn't zero */
     bool has_second;               /* another walk is to come, of a path of its own */
     size_t at, end, until;
-    char text[2 * PATH_MAX], second[PATH_MAX];
+    /* With a NUL at the end. It stays where it is but in a Dup or a ReadLink. */
+    char text[2 * PATH_MAX + 1], second[PATH_MAX];
 };
 
 /* Names that one system call passed: its descriptor, of the last of them or of the directory above, and what is to be told. */
@@ -86,29 +93,32 @@ enum { INROOT_FEW = 8 };
 
 /* A call under way. */
 struct inroot_driver {
-    const struct inroot_request *asked;
+    uint64_t steps, removed;
     bool moved;                    /* the thread's current directory was changed */
     bool counts, begun;            /* a tree is removed; and its first entry's turn has come */
     bool busy, too_deep;           /* a step was refused by EBUSY; a directory was not entered for its depth */
+    bool proc_is_own;              /* `proc` is closed at the call's end */
+    uint8_t step;                  /* the last one that was told, but for Close, or none */
     int unknown;                   /* an error that no step of the model is refused by */
+    uint32_t used, serial;         /* of the slots, so many were taken so far; and the last handle's number above its slot */
+    char *names;                   /* those of the directory that was listed last */
+    size_t listed;                 /* bytes of names that the call holds */
+    uint64_t placed;               /* the handle that was asked about right before, or zero */
+    size_t name_length;            /* of the name that `step` was about */
+    /* What follows isn't cleared as a call begins: it is set then, or where what it belongs to is. */
+    const struct inroot_request *asked;
+    size_t first_length, second_length;
+    const char *name;              /* what `step` was about, in `ahead` where that foresaw it, or in `step_name` */
     int proc;                      /* the /proc that was found to be one, or none yet */
-    bool proc_is_own;              /* it is closed at the call's end */
-    uint64_t steps, removed;
+    int made;                      /* the file that was made and opened, or none */
+    int deepest;                   /* where too_deep: the directory, and the entry in it */
     struct inroot_slot *slots;
-    uint32_t used, room, serial;
+    uint32_t room;
     int32_t free;                  /* the first slot that is free again; its `above` is the next one */
     int inner;                     /* a directory that was closed last, and from which `..` leads to the slot above */
     int32_t inner_above;
-    char *names;                   /* those of the directory that was listed last, and their length */
-    size_t names_length;
-    size_t listed;                 /* bytes of names that the call holds */
-    uint64_t placed;               /* the handle that was asked about right before, or zero; and its answer's length */
-    size_t placed_length;
-    int made;                      /* the file that was made and opened, or none */
+    size_t names_length, placed_length;
     struct inroot_run run;
-    uint8_t step;                  /* the last one that was told, but for Close, or none; and the name it was about */
-    int deepest;                   /* where too_deep: the directory, and the entry in it */
-    /* What follows isn't cleared as a call begins. */
     char deepest_name[NAME_MAX + 1], step_name[NAME_MAX + 1];
     struct inroot_slot few[INROOT_FEW];
     struct inroot_ahead ahead;
@@ -119,14 +129,13 @@ struct inroot_driver {
 /* handles.c */
 uint64_t inroot_handles_begin(struct inroot_driver *d, int root);
 void inroot_handles_end(struct inroot_driver *d);
-/* Whether there is room for one more handle. */
-bool inroot_handles_reserve(struct inroot_driver *d);
+/* Makes room for more handles, and whether it could. */
+bool inroot_handles_grow(struct inroot_driver *d);
 /* A handle on what was opened, by its name in DIR or otherwise; there is room. */
 uint64_t inroot_handles_put(struct inroot_driver *d, int fd, enum inroot_kind kind, enum inroot_way way, uint64_t dir);
-struct inroot_slot *inroot_handles_slot(struct inroot_driver *d, uint64_t handle);
-/* Its descriptor, opened again where it was let go. Gives 0 or an error's number. */
-int inroot_handles_fd(struct inroot_driver *d, uint64_t handle, int *fd);
-void inroot_handles_close(struct inroot_driver *d, uint64_t handle);
+/* The same as inroot_handles_fd() of a handle whose descriptor was let go, or that was passed with others. */
+int inroot_handles_fd_again(struct inroot_driver *d, uint64_t handle, int *fd);
+struct inroot_result inroot_handles_close(struct inroot_driver *d, uint64_t handle);
 /* A second handle on the root, by the same descriptor. */
 uint64_t inroot_handles_share(struct inroot_driver *d, uint64_t root);
 /* Takes the descriptor out of a handle, for the caller to keep, and tells its kind. Gives it or -errno. */
@@ -135,21 +144,17 @@ int inroot_handles_take(struct inroot_driver *d, uint64_t handle);
 bool inroot_handles_spare(struct inroot_driver *d, uint64_t handle);
 
 /* ahead.c */
-void inroot_ahead_begin(struct inroot_ahead *a, const struct inroot_request *asked);
+void inroot_ahead_begin(struct inroot_driver *d);
 /* A walk begins at the root, or goes on there. */
 void inroot_ahead_dup(struct inroot_ahead *a);
-/* Whether the next name is this one; and goes behind it; and behind `..`, where that is next. */
-bool inroot_ahead_is(struct inroot_ahead *a, const char *name);
-void inroot_ahead_pass(struct inroot_ahead *a);
+/* Whether the next name is this one, and goes to it; and goes behind `..`, where that is next. */
+bool inroot_ahead_is(struct inroot_ahead *a, const char *name, size_t length);
 void inroot_ahead_pass_up(struct inroot_ahead *a);
 /* A directory is made: what is behind it isn't there. */
 void inroot_ahead_make(struct inroot_ahead *a);
 /* Whether the walk doesn't end where it stands: at the root, if that is where it stands. */
 bool inroot_ahead_has_name(const struct inroot_ahead *a);
-/* The length of the part that begins there; where the next one begins; whether it is `.` or `..`; whether the path ends there. */
-size_t inroot_ahead_part(const struct inroot_ahead *a, size_t at);
-size_t inroot_ahead_skip(const struct inroot_ahead *a, size_t at);
-bool inroot_ahead_dots(const struct inroot_ahead *a, size_t at, size_t length);
+/* Whether the path ends there. */
 bool inroot_ahead_is_end(const struct inroot_ahead *a, size_t at);
 /* Puts a link's text before what is left. */
 void inroot_ahead_put(struct inroot_ahead *a, const char *text, size_t length);
@@ -157,18 +162,17 @@ void inroot_ahead_put(struct inroot_ahead *a, const char *text, size_t length);
 size_t inroot_ahead_rest(const struct inroot_ahead *a, const char **rest);
 
 /* runs.c */
-/*
- * Answers the Open of the next name of the path, with names behind it if it can: of the run that is under way, or from this
- * directory. False where a single open is to be made.
- */
-bool inroot_run_name(struct inroot_driver *d, uint64_t handle, int dir, bool from_root, struct inroot_answered *answered);
-/* Whether this is the step that comes next in the run under way, but for its name. */
-bool inroot_run_goes_on(const struct inroot_driver *d, const struct inroot_told *step);
-/* Answers the Parent with which it ends. */
-struct inroot_answered inroot_run_up(struct inroot_driver *d, uint64_t child);
+/* Passes the next name of the path, and names behind it, from this directory, where none are under way. Whether it could. */
+bool inroot_run_begin(struct inroot_driver *d, uint64_t handle);
+/* Answers the Open of the first name of a run, which is so long; and the Open or the Parent with which it goes on. */
+struct inroot_result inroot_run_first(struct inroot_driver *d, size_t length);
+struct inroot_result inroot_run_next(struct inroot_driver *d, const struct inroot_told *step, const char *name);
+struct inroot_result inroot_run_up(struct inroot_driver *d, uint64_t child);
 void inroot_run_drop(struct inroot_driver *d);
 
 /* error.c */
+/* Keeps which step is made and the name it is about, in case the call fails: the next turn overwrites the room. */
+void inroot_error_note(struct inroot_driver *d, const struct inroot_told *step, const char *room);
 /* Keeps why a call failed: in this driver; or by itself, where it gives -error. */
 void inroot_error_of(const struct inroot_driver *d, int error);
 int inroot_error_alone(int error, const char *step, const char *rest);
@@ -180,8 +184,8 @@ int inroot_proc_open(bool *is_own);
 /* The same, for a call. */
 int inroot_proc_for(struct inroot_driver *d);
 void inroot_proc_end(struct inroot_driver *d);
-/* The name in /proc of a descriptor of this thread. */
-void inroot_proc_name(int fd, char *name);
+/* The name in /proc of a descriptor of this thread, which is written into the room. */
+const char *inroot_proc_name(int fd, char room[INROOT_PROC_NAME]);
 /* The error of a system call on such a name: where there is no such link at all, there is no such /proc. */
 int inroot_proc_error(int proc, const char *name, int error);
 /* Sees to it that this thread has one that stays, and gives 0 or -errno; and lets go of what it keeps for the thread. */
@@ -212,16 +216,92 @@ int inroot_run_alone(int root, const struct inroot_request *asked);
 ssize_t inroot_remove_tree(int root, const struct inroot_request *asked, char *room);
 
 /* place.c */
-struct inroot_answered inroot_name_below(struct inroot_driver *d, const struct inroot_told *step, char *text, size_t *length);
+struct inroot_result inroot_name_below(struct inroot_driver *d, const struct inroot_told *step, char *text, size_t *length);
 
 /* listing.c */
-struct inroot_answered inroot_list(struct inroot_driver *d, uint64_t handle);
+struct inroot_result inroot_list(struct inroot_driver *d, uint64_t handle);
 
 /* steps.c */
-struct inroot_answered inroot_refused(struct inroot_driver *d, int error);
-/* Makes the step that was told, whose names lie in the room. What it reads is written to `text`. */
-struct inroot_answered inroot_make(struct inroot_driver *d, const struct inroot_told *step, const char *room, char *text, size_t *length);
+struct inroot_result inroot_refused(struct inroot_driver *d, int error);
+/*
+ * Makes a step that is neither a Close nor the Open with which a run goes on. Its names lie in the room. What it reads is
+ * written to `text`.
+ */
+struct inroot_result inroot_make(struct inroot_driver *d, const struct inroot_told *step, const char *room, char *text,
+                                 size_t *length);
 
 #pragma GCC visibility pop
+
+/* ---- what is done in nearly every turn */
+
+/* What was opened, whose kind is known. */
+static inline struct inroot_result inroot_opened(uint64_t handle, enum inroot_kind kind)
+{
+    return (struct inroot_result){.what = INROOT_ANSWER_OPENED, .handle = handle, .kind = (uint16_t)kind};
+}
+
+static inline struct inroot_slot *inroot_handles_slot(struct inroot_driver *d, uint64_t handle)
+{
+    return &d->slots[(uint32_t)handle];
+}
+
+/* Its descriptor, opened again where it was let go. Gives 0 or an error's number. */
+static inline int inroot_handles_fd(struct inroot_driver *d, uint64_t handle, int *fd)
+{
+    *fd = inroot_handles_slot(d, handle)->fd;
+    return *fd == INROOT_AWAY || *fd == INROOT_PASSED ? inroot_handles_fd_again(d, handle, fd) : 0;
+}
+
+/* Whether there is room for one more handle. */
+static inline bool inroot_handles_reserve(struct inroot_driver *d)
+{
+    return d->free >= 0 || d->used < d->room || inroot_handles_grow(d);
+}
+
+/* Behind the slashes that are there. */
+static inline size_t inroot_ahead_skip(const struct inroot_ahead *a, size_t at)
+{
+    while (a->text[at] == '/')
+        at++;
+    return at;
+}
+
+/* Whether a part ends there. */
+static inline bool inroot_ahead_ends(const struct inroot_ahead *a, size_t at)
+{
+    return a->text[at] == '/' || a->text[at] == 0;
+}
+
+/* How long the part is that begins there, where it is `.` or `..`, or zero. */
+static inline size_t inroot_ahead_dots(const struct inroot_ahead *a, size_t at)
+{
+    if (a->text[at] != '.')
+        return 0;
+    size_t length = a->text[at + 1] == '.' ? 2 : 1;
+    return inroot_ahead_ends(a, at + length) ? length : 0;
+}
+
+/* Goes behind the next name, which is so long. */
+static inline void inroot_ahead_pass(struct inroot_ahead *a, size_t length)
+{
+    a->at += length;
+    a->bad -= a->bad > 0;
+}
+
+/* Whether this is the step that comes next in the run under way, if there is one, but for its name. */
+static inline bool inroot_run_goes_on(const struct inroot_driver *d, const struct inroot_told *step)
+{
+    if (d->run.fd < 0 || step->handle != d->run.at)
+        return false;
+    return step->what == (d->run.left > 0 ? INROOT_STEP_OPEN : INROOT_STEP_PARENT);
+}
+
+/* Keeps that the next name is opened, which is so long. It stays where it is, but in a Dup or a ReadLink. */
+static inline void inroot_error_note_next(struct inroot_driver *d, size_t length)
+{
+    d->step = INROOT_STEP_OPEN;
+    d->name = d->ahead.text + d->ahead.at;
+    d->name_length = length;
+}
 
 #endif

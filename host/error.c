@@ -31,6 +31,16 @@ int inroot_error_alone(int error, const char *step, const char *rest)
     return -error;
 }
 
+void inroot_error_note(struct inroot_driver *d, const struct inroot_told *step, const char *room)
+{
+    bool on_name = step->what == INROOT_STEP_OPEN || step->what >= INROOT_STEP_MAKE_DIR;
+    size_t length = on_name ? step->first : 0;
+    d->step = step->what;
+    d->name = d->step_name;
+    d->name_length = length < sizeof d->step_name ? length : sizeof d->step_name;
+    memcpy(d->step_name, room, d->name_length);
+}
+
 void inroot_error_of(const struct inroot_driver *d, int error)
 {
     const char *rest;
@@ -38,7 +48,7 @@ void inroot_error_of(const struct inroot_driver *d, int error)
     size_t length = inroot_ahead_rest(&d->ahead, &rest);
     last.error = error;
     last.step = steps[d->step <= INROOT_STEP_RENAME ? d->step : 0];
-    keep(last.name, sizeof last.name, d->step_name, strlen(d->step_name));
+    keep(last.name, sizeof last.name, d->name, d->name_length);
     keep(last.rest, sizeof last.rest, rest, is_one ? length : 0);
 }
 

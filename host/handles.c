@@ -12,39 +12,36 @@
 #include <sys/stat.h>
 #include <unistd.h>
 
-static uint32_t index_of(uint64_t handle)
+static int32_t index_of(uint64_t handle)
 {
-    return (uint32_t)handle;
-}
-
-struct inroot_slot *inroot_handles_slot(struct inroot_driver *d, uint64_t handle)
-{
-    return &d->slots[index_of(handle)];
+    return (int32_t)(uint32_t)handle;
 }
 
 /* Takes a slot, of which there is one. A handle's number counts up above its slot, so that none comes twice in a call. */
-static uint64_t take_slot(struct inroot_driver *d, struct inroot_slot *with)
+static uint64_t take_slot(struct inroot_driver *d, int fd, enum inroot_kind kind, enum inroot_way way)
 {
-    uint32_t at = d->used;
-    if (d->free >= 0) {
-        at = (uint32_t)d->free;
-        d->free = d->slots[at].above;
-    } else {
-        d->used++;
-    }
-    with->serial = ++d->serial;
-    d->slots[at] = *with;
-    return (uint64_t)with->serial << 32 | at;
+    bool is_free = d->free >= 0;
+    uint32_t at = is_free ? (uint32_t)d->free : d->used++;
+    struct inroot_slot *slot = &d->slots[at];
+    if (is_free)
+        d->free = slot->above;
+    slot->fd = fd;
+    slot->lost = 0;
+    slot->above = -1;
+    slot->depth = slot->listed = 0;
+    slot->way = (uint8_t)way;
+    slot->kind = (uint8_t)kind;
+    slot->is_shared = false;
+    return (uint64_t)++d->serial << 32 | at;
 }
 
 uint64_t inroot_handles_begin(struct inroot_driver *d, int root)
 {
-    struct inroot_slot slot = {.fd = root, .above = -1, .way = INROOT_BY_ROOT, .kind = INROOT_KIND_DIR};
     d->slots = d->few;
     d->room = INROOT_FEW;
     d->free = -1;
     d->inner = INROOT_NONE;
-    return take_slot(d, &slot);
+    return take_slot(d, root, INROOT_KIND_DIR, INROOT_BY_ROOT);
 }
 
 static void drop_inner(struct inroot_driver *d)
@@ -61,10 +58,8 @@ void inroot_handles_end(struct inroot_driver *d)
         free(d->slots);
 }
 
-bool inroot_handles_reserve(struct inroot_driver *d)
+bool inroot_handles_grow(struct inroot_driver *d)
 {
-    if (d->free >= 0 || d->used < d->room)
-        return true;
     uint32_t room = 2 * d->room;
     bool is_few = d->slots == d->few;
     struct inroot_slot *more = realloc(is_few ? NULL : d->slots, room * sizeof *more);
@@ -167,48 +162,61 @@ static void come_back(struct inroot_driver *d, struct inroot_slot *slot, int32_t
 
 /* ---- handles */
 
-uint64_t inroot_handles_put(struct inroot_driver *d, int fd, enum inroot_kind kind, enum inroot_way way, uint64_t dir)
+/* While a tree is removed: tells a handle where its directory is, and lets one far above go. Gives the handle. */
+static uint64_t put_below(struct inroot_driver *d, uint64_t handle, uint64_t dir)
 {
-    struct inroot_slot slot = {.fd = fd, .above = -1, .way = (uint8_t)way, .kind = (uint8_t)kind};
-    if (d->begun && kind == INROOT_KIND_DIR) {
-        slot.above = (int32_t)index_of(dir);
-        slot.depth = inroot_handles_slot(d, dir)->depth + 1;
-    }
-    uint64_t handle = take_slot(d, &slot);
+    struct inroot_slot *slot = inroot_handles_slot(d, handle);
     int count;
-    struct inroot_slot *outer = d->begun ? outermost(d, handle, &count) : NULL;
+    if (slot->kind == INROOT_KIND_DIR) {
+        slot->above = index_of(dir);
+        slot->depth = inroot_handles_slot(d, dir)->depth + 1;
+    }
+    struct inroot_slot *outer = outermost(d, handle, &count);
     if (outer != NULL && count > INROOT_HELD_MAX)
         let_go(outer);
     return handle;
 }
 
-int inroot_handles_fd(struct inroot_driver *d, uint64_t handle, int *fd)
+uint64_t inroot_handles_put(struct inroot_driver *d, int fd, enum inroot_kind kind, enum inroot_way way, uint64_t dir)
+{
+    uint64_t handle = take_slot(d, fd, kind, way);
+    return d->begun ? put_below(d, handle, dir) : handle;
+}
+
+int inroot_handles_fd_again(struct inroot_driver *d, uint64_t handle, int *fd)
 {
     struct inroot_slot *slot = inroot_handles_slot(d, handle);
     if (slot->fd == INROOT_AWAY && slot->lost == 0)
-        come_back(d, slot, (int32_t)index_of(handle));
+        come_back(d, slot, index_of(handle));
     *fd = slot->fd;
     /* To open it by its name could give another directory, so that the step isn't made, as if there were no memory for it. */
     return slot->fd == INROOT_PASSED ? ENOMEM : slot->lost;
 }
 
 /* A directory by which the one above is to be found again stays open until that one's turn, or the next Close. */
-void inroot_handles_close(struct inroot_driver *d, uint64_t handle)
+static void close_slot(struct inroot_driver *d, const struct inroot_slot *slot)
 {
-    struct inroot_slot *slot = inroot_handles_slot(d, handle);
     drop_inner(d);
-    if (slot->is_shared)
-        slot->fd = INROOT_NONE;
+    if (slot->fd < 0 || slot->is_shared)
+        return;
     if (slot->above >= 0 && d->slots[slot->above].fd == INROOT_AWAY) {
         d->inner = slot->fd;
         d->inner_above = slot->above;
-    } else if (slot->fd >= 0) {
+    } else {
         close(slot->fd);
     }
+}
+
+struct inroot_result inroot_handles_close(struct inroot_driver *d, uint64_t handle)
+{
+    struct inroot_slot *slot = inroot_handles_slot(d, handle);
+    if (slot->fd >= 0 || d->inner >= 0)
+        close_slot(d, slot);
     d->listed -= slot->listed;
     slot->fd = INROOT_NONE;
     slot->above = d->free;
-    d->free = (int32_t)index_of(handle);
+    d->free = index_of(handle);
+    return (struct inroot_result){.what = INROOT_ANSWER_DONE};
 }
 
 uint64_t inroot_handles_share(struct inroot_driver *d, uint64_t root)

@@ -130,7 +130,7 @@ static int open_to_read(struct inroot_driver *d, uint64_t handle, int fd)
     return dir < 0 ? -errno : dir;
 }
 
-struct inroot_answered inroot_list(struct inroot_driver *d, uint64_t handle)
+struct inroot_result inroot_list(struct inroot_driver *d, uint64_t handle)
 {
     int fd;
     int error = inroot_handles_fd(d, handle, &fd);
@@ -150,5 +150,5 @@ struct inroot_answered inroot_list(struct inroot_driver *d, uint64_t handle)
         return inroot_refused(d, -error);
     inroot_handles_slot(d, handle)->listed = (uint32_t)part.used;
     d->listed += part.used;
-    return (struct inroot_answered){.what = INROOT_ANSWER_LISTED};
+    return (struct inroot_result){.what = INROOT_ANSWER_LISTED};
 }

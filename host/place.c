@@ -9,9 +9,9 @@
 #include <sys/syscall.h>
 #include <unistd.h>
 
-static struct inroot_answered names(void)
+static struct inroot_result names(void)
 {
-    return (struct inroot_answered){.what = INROOT_ANSWER_NAMES};
+    return (struct inroot_result){.what = INROOT_ANSWER_NAMES};
 }
 
 /*
@@ -32,9 +32,8 @@ static ssize_t link_of(int proc, int fd, char *text)
 {
     static const char deleted[] = " (deleted)";
     const size_t tail = sizeof deleted - 1;
-    char name[INROOT_PROC_NAME];
-    inroot_proc_name(fd, name);
-    ssize_t length = readlinkat(proc, name, text, INROOT_TEXT_MAX);
+    char written[INROOT_PROC_NAME];
+    ssize_t length = readlinkat(proc, inroot_proc_name(fd, written), text, INROOT_TEXT_MAX);
     if (length < 0 && errno == ENOENT)
         errno = ENOSYS;
     if (length == INROOT_TEXT_MAX) {
@@ -58,7 +57,7 @@ static size_t cut_root(char *text, size_t length, size_t root)
 }
 
 /* Three moments: the path of the root, of the object, and of the root again. */
-static struct inroot_answered by_links(struct inroot_driver *d, int root, int fd, char *text, size_t *length)
+static struct inroot_result by_links(struct inroot_driver *d, int root, int fd, char *text, size_t *length)
 {
     char first[INROOT_TEXT_MAX], again[INROOT_TEXT_MAX];
     int proc = inroot_proc_for(d);
@@ -78,7 +77,7 @@ static struct inroot_answered by_links(struct inroot_driver *d, int root, int fd
 }
 
 /* In a thread whose root it is: the link's path of what is inside begins there. That of what is outside begins at the top. */
-static struct inroot_answered by_link(struct inroot_driver *d, int fd, char *text, size_t *length)
+static struct inroot_result by_link(struct inroot_driver *d, int fd, char *text, size_t *length)
 {
     int proc = inroot_proc_for(d);
     if (proc < 0)
@@ -105,7 +104,7 @@ static int go_to(struct inroot_driver *d, int fd)
 }
 
 /* One answer of the kernel for a directory: its path begins with '(unreachable)' outside, and what is gone has none. */
-static struct inroot_answered in_jail(struct inroot_driver *d, const struct inroot_slot *slot, char *text, size_t *length)
+static struct inroot_result in_jail(struct inroot_driver *d, const struct inroot_slot *slot, char *text, size_t *length)
 {
     if (slot->kind != INROOT_KIND_DIR)
         return by_link(d, slot->fd, text, length);
@@ -122,7 +121,7 @@ static struct inroot_answered in_jail(struct inroot_driver *d, const struct inro
     return names();
 }
 
-struct inroot_answered inroot_name_below(struct inroot_driver *d, const struct inroot_told *step, char *text, size_t *length)
+struct inroot_result inroot_name_below(struct inroot_driver *d, const struct inroot_told *step, char *text, size_t *length)
 {
     int fd, root;
     int lost = inroot_handles_fd(d, step->handle, &fd);

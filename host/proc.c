@@ -85,17 +85,18 @@ void inroot_proc_end(struct inroot_driver *d)
         close(d->proc);
 }
 
-void inroot_proc_name(int fd, char *name)
+const char *inroot_proc_name(int fd, char room[INROOT_PROC_NAME])
 {
     static const char above[] = "thread-self/fd/";
-    char digits[3 * sizeof fd], *first = digits + sizeof digits;
+    size_t at = INROOT_PROC_NAME;
+    unsigned int rest = (unsigned int)fd;
+    room[--at] = 0;
     do
-        *--first = (char)('0' + fd % 10);
-    while ((fd /= 10) > 0);
-    size_t count = (size_t)(digits + sizeof digits - first);
-    memcpy(name, above, sizeof above - 1);
-    memcpy(name + sizeof above - 1, first, count);
-    name[sizeof above - 1 + count] = 0;
+        room[--at] = (char)('0' + rest % 10);
+    while ((rest /= 10) > 0);
+    at -= sizeof above - 1;
+    memcpy(room + at, above, sizeof above - 1);
+    return room + at;
 }
 
 int inroot_proc_error(int proc, const char *name, int error)

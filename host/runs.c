@@ -26,16 +26,40 @@ struct spelled {
     char text[INROOT_TEXT_MAX];
 };
 
-static bool append(struct spelled *run, const char *name, size_t length)
+/* Where begins what is added: behind a slash. */
+static size_t next_at(const struct spelled *run)
 {
-    if (run->used + length + 2 > sizeof run->text)
-        return false;
-    if (run->used > 0 && run->text[run->used - 1] != '/')
-        run->text[run->used++] = '/';
-    memcpy(run->text + run->used, name, length);
-    run->used += length;
+    return run->used > 0 && run->text[run->used - 1] != '/' ? run->used + 1 : run->used;
+}
+
+/* Adds what fits with a NUL. */
+static void append(struct spelled *run, const char *names, size_t length)
+{
+    size_t at = next_at(run);
+    if (at > run->used)
+        run->text[run->used] = '/';
+    memcpy(run->text + at, names, length);
+    run->used = at + length;
     run->text[run->used] = 0;
-    return true;
+}
+
+/* Adds names from there on, with one slash between each two: at most so many, and while they fit. Gives where they end. */
+static size_t append_names(const struct inroot_ahead *a, size_t from, int most, struct spelled *run)
+{
+    size_t end = from, begins = next_at(run);
+    for (size_t at = from; at < a->until && run->count < most; at = end + 1) {
+        if (a->text[at] == '/' || inroot_ahead_dots(a, at) > 0)
+            break;
+        const char *slash = memchr(a->text + at, '/', a->end - at);
+        size_t behind = slash == NULL ? a->end : (size_t)(slash - a->text);
+        if (begins + (behind - from) >= sizeof run->text)
+            break;
+        run->count++;
+        end = behind;
+    }
+    if (end > from)
+        append(run, a->text + from, end - from);
+    return end;
 }
 
 /* At most so many names from the next one on, over any `.` between them. */
@@ -46,18 +70,20 @@ static void spell(const struct inroot_ahead *a, int most, bool from_root, struct
     run->used = run->ends = 0;
     if (from_root)
         run->text[run->used++] = '/';
-    for (size_t at = a->at, length; at < a->until && run->count < most; at = inroot_ahead_skip(a, at + length)) {
-        length = inroot_ahead_part(a, at);
-        if (length == 1 && inroot_ahead_dots(a, at, length))
-            continue;
-        if (inroot_ahead_dots(a, at, length)) {
-            run->up = run->count > 0 && append(run, "..", length);
+    for (size_t at = a->at; at < a->until && run->count < most; at = inroot_ahead_skip(a, at)) {
+        size_t dots = inroot_ahead_dots(a, at);
+        if (dots == 2) {
+            run->up = run->count > 0 && next_at(run) + dots < sizeof run->text;
+            if (run->up)
+                append(run, "..", dots);
             return;
         }
-        if (!append(run, a->text + at, length))
+        size_t end = dots == 1 ? at + 1 : append_names(a, at, most, run);
+        if (end == at)
             return;
-        run->count++;
-        run->ends = at + length;
+        if (dots == 0)
+            run->ends = end;
+        at = end;
     }
 }
 
@@ -150,48 +176,56 @@ static bool begin(struct inroot_driver *d, uint64_t handle, int dir, bool from_r
     return false;
 }
 
-/* Tells the next name of the run, of which there is one. */
-static struct inroot_answered tell(struct inroot_driver *d, uint64_t dir)
+bool inroot_run_begin(struct inroot_driver *d, uint64_t handle)
 {
+    int dir;
+    bool is_single = d->asked->flags & INROOT_ONE_BY_ONE || d->ahead.makes || has_none;
+    if (is_single || !inroot_handles_reserve(d) || inroot_handles_fd(d, handle, &dir) != 0)
+        return false;
+    bool from_root = dir == INROOT_JAILED;
+    return begin(d, handle, from_root ? AT_FDCWD : dir, from_root);
+}
+
+/* Tells the next name of the run, which is so long. There is room for its handle. */
+static inline struct inroot_result tell(struct inroot_driver *d, size_t length)
+{
+    struct inroot_run *run = &d->run;
     int fd = INROOT_PASSED;
     enum inroot_kind kind = INROOT_KIND_DIR;
-    inroot_ahead_pass(&d->ahead);
-    if (--d->run.left == 0 && !d->run.up) {
-        fd = d->run.fd;
-        kind = d->run.kind;
-        d->run.fd = INROOT_NONE;
+    inroot_ahead_pass(&d->ahead, length);
+    if (--run->left == 0 && !run->up) {
+        fd = run->fd;
+        kind = run->kind;
+        run->fd = INROOT_NONE;
     }
-    uint64_t handle = inroot_handles_put(d, fd, kind, INROOT_BY_NAME, dir);
-    d->run.at = handle;
-    return (struct inroot_answered){
-        .what = INROOT_ANSWER_OPENED, .handle = handle, .node = handle, .kind = (uint8_t)kind};
+    run->at = inroot_handles_put(d, fd, kind, INROOT_BY_NAME, run->at);
+    return inroot_opened(run->at, kind);
 }
 
-bool inroot_run_name(struct inroot_driver *d, uint64_t handle, int dir, bool from_root,
-                     struct inroot_answered *answered)
+struct inroot_result inroot_run_first(struct inroot_driver *d, size_t length)
 {
-    if (!inroot_handles_reserve(d))
-        return false;
-    bool is_single = has_none || d->ahead.makes || d->asked->flags & INROOT_ONE_BY_ONE;
-    if (d->run.fd < 0 && (is_single || !begin(d, handle, dir, from_root)))
-        return false;
-    *answered = tell(d, handle);
-    return true;
+    return tell(d, length);
 }
 
-bool inroot_run_goes_on(const struct inroot_driver *d, const struct inroot_told *step)
+struct inroot_result inroot_run_next(struct inroot_driver *d, const struct inroot_told *step, const char *name)
 {
-    if (step->handle != d->run.at)
-        return false;
-    return d->run.left > 0 ? step->what == INROOT_STEP_OPEN : step->what == INROOT_STEP_PARENT;
+    bool foreseen = inroot_ahead_is(&d->ahead, name, step->first);
+    if (foreseen)
+        inroot_error_note_next(d, step->first);
+    else
+        inroot_error_note(d, step, name);
+    if (foreseen && inroot_handles_reserve(d))
+        return tell(d, step->first);
+    /* What isn't foreseen can't be opened from a directory that was only passed. */
+    inroot_run_drop(d);
+    return inroot_refused(d, ENOMEM);
 }
 
-struct inroot_answered inroot_run_up(struct inroot_driver *d, uint64_t child)
+struct inroot_result inroot_run_up(struct inroot_driver *d, uint64_t child)
 {
     uint64_t handle = inroot_handles_put(d, d->run.fd, INROOT_KIND_DIR, INROOT_BY_PARENT, child);
     d->run.fd = INROOT_NONE;
-    return (struct inroot_answered){
-        .what = INROOT_ANSWER_OPENED, .handle = handle, .node = handle, .kind = INROOT_KIND_DIR};
+    return inroot_opened(handle, INROOT_KIND_DIR);
 }
 
 void inroot_run_drop(struct inroot_driver *d)

@@ -11,7 +11,7 @@
 
 /* ---- answers */
 
-struct inroot_answered inroot_refused(struct inroot_driver *d, int error)
+struct inroot_result inroot_refused(struct inroot_driver *d, int error)
 {
     switch (error) {
     case EBUSY:
@@ -24,19 +24,18 @@ struct inroot_answered inroot_refused(struct inroot_driver *d, int error)
         /* The call ends by EBADF, and this is told in its place. */
         d->unknown = error;
     }
-    return (struct inroot_answered){.what = INROOT_ANSWER_REFUSED, .error = (uint8_t)error};
+    return (struct inroot_result){.what = INROOT_ANSWER_REFUSED, .error = (uint16_t)error};
 }
 
-static struct inroot_answered done_or(struct inroot_driver *d, long failed)
+static struct inroot_result done_or(struct inroot_driver *d, long failed)
 {
-    return failed ? inroot_refused(d, errno) : (struct inroot_answered){.what = INROOT_ANSWER_DONE};
+    return failed ? inroot_refused(d, errno) : (struct inroot_result){.what = INROOT_ANSWER_DONE};
 }
 
-/* What was opened, whose kind is known. No answer rests on a node's number, so that the handle's own serves as one. */
-static struct inroot_answered opened(struct inroot_driver *d, int fd, enum inroot_kind kind, enum inroot_way way, uint64_t dir)
+/* What was opened by a descriptor, whose kind is known. */
+static struct inroot_result opened(struct inroot_driver *d, int fd, enum inroot_kind kind, enum inroot_way way, uint64_t dir)
 {
-    uint64_t handle = inroot_handles_put(d, fd, kind, way, dir);
-    return (struct inroot_answered){.what = INROOT_ANSWER_OPENED, .handle = handle, .node = handle, .kind = (uint8_t)kind};
+    return inroot_opened(inroot_handles_put(d, fd, kind, way, dir), kind);
 }
 
 /* ---- a directory and a name in it */
@@ -48,12 +47,11 @@ struct entry {
     char from_root[NAME_MAX + 2];
 };
 
-static int find(struct inroot_driver *d, uint64_t handle, const char *name, struct entry *entry)
+static int find(struct inroot_driver *d, uint64_t handle, const char *name, size_t length, struct entry *entry)
 {
     int error = inroot_handles_fd(d, handle, &entry->dir);
     entry->name = name;
     if (error == 0 && entry->dir == INROOT_JAILED) {
-        size_t length = strlen(name);
         if (length > NAME_MAX)
             return ENAMETOOLONG;
         entry->from_root[0] = '/';
@@ -82,7 +80,7 @@ static bool is_too_deep(struct inroot_driver *d, uint64_t dir)
 }
 
 /* A tree that is too deep for one proved call, which ends, is left at this entry, from which another call goes on. */
-static struct inroot_answered leave_here(struct inroot_driver *d, uint64_t dir, const struct entry *entry)
+static struct inroot_result leave_here(struct inroot_driver *d, uint64_t dir, const struct entry *entry)
 {
     const struct entry itself = {.dir = entry->dir, .name = "."};
     size_t length = strlen(entry->name);
@@ -97,7 +95,7 @@ static struct inroot_answered leave_here(struct inroot_driver *d, uint64_t dir, 
 }
 
 /* What is opened as it is; what is neither a directory nor a link is a file. */
-static struct inroot_answered open_any(struct inroot_driver *d, uint64_t dir, const struct entry *entry)
+static struct inroot_result open_any(struct inroot_driver *d, uint64_t dir, const struct entry *entry)
 {
     struct stat about;
     int fd = open_path(d, dir, entry, 0);
@@ -116,7 +114,7 @@ static struct inroot_answered open_any(struct inroot_driver *d, uint64_t dir, co
  * A directory is told by being opened as one. Anything else gives ENOTDIR, a link as well, and is opened by a second call,
  * whose answer alone is the step's.
  */
-static struct inroot_answered open_name(struct inroot_driver *d, uint64_t dir, const struct entry *entry, bool is_expected)
+static struct inroot_result open_name(struct inroot_driver *d, uint64_t dir, const struct entry *entry, bool is_expected)
 {
     if (is_too_deep(d, dir))
         return leave_here(d, dir, entry);
@@ -130,37 +128,48 @@ static struct inroot_answered open_name(struct inroot_driver *d, uint64_t dir, c
     return errno == ENOTDIR ? open_any(d, dir, entry) : inroot_refused(d, errno);
 }
 
-/* Whether a directory is expected there: not where the path ends, nor where one was not. */
-static bool expects_directory(const struct inroot_ahead *a)
+/* Whether a directory is expected by the next name, which is so long: not where the path ends, nor where one was not. */
+static bool expects_directory(const struct inroot_ahead *a, size_t length)
 {
-    if (!a->known)
-        return true;
-    return a->bad != 1 && (a->directory || !inroot_ahead_is_end(a, a->at + inroot_ahead_part(a, a->at)));
+    return a->bad != 1 && (a->directory || !inroot_ahead_is_end(a, a->at + length));
 }
 
-/* The next name of the path, by a run of names or alone; or another one. */
-static struct inroot_answered open_next(struct inroot_driver *d, uint64_t dir, const char *name, const struct entry *entry)
+/* A name alone: the next one of the path, or another. */
+static struct inroot_result open_alone(struct inroot_driver *d, const struct inroot_told *step, const char *name,
+                                       bool foreseen)
 {
-    struct inroot_answered answered;
-    bool foreseen = inroot_ahead_is(&d->ahead, name);
-    if (!foreseen)
-        inroot_run_drop(d);
-    else if (inroot_run_name(d, dir, entry->dir, entry->name == entry->from_root, &answered))
-        return answered;
-    answered = open_name(d, dir, entry, expects_directory(&d->ahead));
-    if (foreseen && answered.what == INROOT_ANSWER_OPENED)
-        inroot_ahead_pass(&d->ahead);
-    return answered;
+    struct entry entry;
+    int error = find(d, step->handle, name, step->first, &entry);
+    if (error)
+        return inroot_refused(d, error);
+    bool is_expected = !foreseen || expects_directory(&d->ahead, step->first);
+    struct inroot_result result = open_name(d, step->handle, &entry, is_expected);
+    if (foreseen && result.what == INROOT_ANSWER_OPENED)
+        inroot_ahead_pass(&d->ahead, step->first);
+    return result;
+}
+
+/* The next name of the path, by a run of names if it can, or alone; or another one. */
+static struct inroot_result open_next(struct inroot_driver *d, const struct inroot_told *step, const char *name)
+{
+    bool foreseen = inroot_ahead_is(&d->ahead, name, step->first);
+    inroot_run_drop(d);
+    if (!foreseen) {
+        inroot_error_note(d, step, name);
+        return open_alone(d, step, name, false);
+    }
+    inroot_error_note_next(d, step->first);
+    return inroot_run_begin(d, step->handle) ? inroot_run_first(d, step->first) : open_alone(d, step, name, true);
 }
 
 /*
  * Where the walk goes on from the root, by the caller's own descriptor. Else by one that shares nothing with it but the
  * directory, as the call's end gives one that is handed out.
  */
-static struct inroot_answered open_root(struct inroot_driver *d, uint64_t root)
+static struct inroot_result open_root(struct inroot_driver *d, uint64_t root)
 {
     struct entry itself;
-    int error = find(d, root, ".", &itself);
+    int error = find(d, root, ".", 1, &itself);
     if (error)
         return inroot_refused(d, error);
     if (!inroot_handles_reserve(d))
@@ -170,20 +179,18 @@ static struct inroot_answered open_root(struct inroot_driver *d, uint64_t root)
         uint64_t handle = inroot_handles_share(d, root);
         /* No system call has seen whether the root is one. */
         d->steps--;
-        return (struct inroot_answered){
-            .what = INROOT_ANSWER_OPENED, .handle = handle, .node = handle, .kind = INROOT_KIND_DIR,
-        };
+        return inroot_opened(handle, INROOT_KIND_DIR);
     }
     int fd = open_path(d, root, &itself, O_DIRECTORY);
     return fd < 0 ? inroot_refused(d, errno) : opened(d, fd, INROOT_KIND_DIR, INROOT_BY_ROOT, root);
 }
 
 /* The kernel opens the old parent of a removed directory. Removal is for good, so that asking afterwards is enough. */
-static struct inroot_answered open_parent(struct inroot_driver *d, uint64_t handle)
+static struct inroot_result open_parent(struct inroot_driver *d, uint64_t handle)
 {
     struct stat child;
     struct entry above;
-    int error = find(d, handle, "..", &above);
+    int error = find(d, handle, "..", 2, &above);
     if (error)
         return inroot_refused(d, error);
     if (!inroot_handles_reserve(d))
@@ -199,18 +206,8 @@ static struct inroot_answered open_parent(struct inroot_driver *d, uint64_t hand
     return opened(d, up, INROOT_KIND_DIR, INROOT_BY_PARENT, handle);
 }
 
-/* The next name of a run, or what isn't foreseen, which can't be opened from a directory that was only passed. */
-static struct inroot_answered open_foreseen(struct inroot_driver *d, uint64_t dir, const char *name)
-{
-    struct inroot_answered answered;
-    if (inroot_ahead_is(&d->ahead, name) && inroot_run_name(d, dir, INROOT_NONE, false, &answered))
-        return answered;
-    inroot_run_drop(d);
-    return inroot_refused(d, ENOMEM);
-}
-
 /* The directory above the last name of a run, with which it ends. */
-static struct inroot_answered go_up(struct inroot_driver *d, uint64_t child)
+static struct inroot_result go_up(struct inroot_driver *d, uint64_t child)
 {
     if (!inroot_handles_reserve(d)) {
         inroot_run_drop(d);
@@ -223,7 +220,7 @@ static struct inroot_answered go_up(struct inroot_driver *d, uint64_t child)
 /* ---- other steps */
 
 /* A text as large as the room may be cut off, and is too long in either case. ENOENT is what is no link. */
-static struct inroot_answered read_link(struct inroot_driver *d, uint64_t handle, char *text, size_t *length)
+static struct inroot_result read_link(struct inroot_driver *d, uint64_t handle, char *text, size_t *length)
 {
     int fd;
     int error = inroot_handles_fd(d, handle, &fd);
@@ -237,23 +234,23 @@ static struct inroot_answered read_link(struct inroot_driver *d, uint64_t handle
         return inroot_refused(d, errno == ENOENT ? EINVAL : errno);
     *length = (size_t)got;
     inroot_ahead_put(&d->ahead, text, *length);
-    return (struct inroot_answered){.what = INROOT_ANSWER_TEXT};
+    return (struct inroot_result){.what = INROOT_ANSWER_TEXT};
 }
 
 /* Gives the object another name. Its link in /proc leads to it, a link as well, which isn't followed then. */
-static struct inroot_answered link_object(struct inroot_driver *d, const struct entry *entry)
+static struct inroot_result link_object(struct inroot_driver *d, const struct entry *entry)
 {
-    char name[INROOT_PROC_NAME];
+    char written[INROOT_PROC_NAME];
     int proc = inroot_proc_for(d);
     if (proc < 0)
         return inroot_refused(d, -proc);
-    inroot_proc_name(d->asked->object, name);
+    const char *name = inroot_proc_name(d->asked->object, written);
     if (linkat(proc, name, entry->dir, entry->name, AT_SYMLINK_FOLLOW) == 0)
-        return (struct inroot_answered){.what = INROOT_ANSWER_DONE};
+        return (struct inroot_result){.what = INROOT_ANSWER_DONE};
     return inroot_refused(d, inroot_proc_error(proc, name, errno));
 }
 
-static struct inroot_answered make_file(struct inroot_driver *d, const struct entry *entry)
+static struct inroot_result make_file(struct inroot_driver *d, const struct entry *entry)
 {
     const struct inroot_request *asked = d->asked;
     if (asked->makes == INROOT_MAKES_LINKED)
@@ -264,43 +261,42 @@ static struct inroot_answered make_file(struct inroot_driver *d, const struct en
     return done_or(d, d->made < 0);
 }
 
-static struct inroot_answered make_link(struct inroot_driver *d, const struct entry *entry, const char *text)
+static struct inroot_result make_link(struct inroot_driver *d, const struct entry *entry, const char *text)
 {
     if (d->asked->makes == INROOT_MAKES_LINKED)
         return link_object(d, entry);
     return done_or(d, symlinkat(text, entry->dir, entry->name));
 }
 
-static struct inroot_answered removed(struct inroot_driver *d, const struct entry *entry, int flags)
+static struct inroot_result removed(struct inroot_driver *d, const struct entry *entry, int flags)
 {
     d->begun = d->counts;
     if (unlinkat(entry->dir, entry->name, flags) != 0)
         return inroot_refused(d, errno);
     d->removed++;
-    return (struct inroot_answered){.what = INROOT_ANSWER_DONE};
+    return (struct inroot_result){.what = INROOT_ANSWER_DONE};
 }
 
-static struct inroot_answered rename_entry(struct inroot_driver *d, const struct inroot_told *step, const struct entry *old, const char *name)
+static struct inroot_result rename_entry(struct inroot_driver *d, const struct inroot_told *step, const struct entry *old,
+                                         const char *name)
 {
     struct entry new;
-    int error = find(d, step->other, name, &new);
+    int error = find(d, step->other, name, step->second, &new);
     if (error)
         return inroot_refused(d, error);
     /* The modes have the kernel's own numbers. */
     return done_or(d, syscall(SYS_renameat2, old->dir, old->name, new.dir, new.name, (unsigned int)step->detail));
 }
 
-/* A step on an entry: a directory's handle, and a name in it. */
-static struct inroot_answered on_entry(struct inroot_driver *d, const struct inroot_told *step, const char *room)
+/* A step that changes an entry: a directory's handle, and a name in it. */
+static struct inroot_result change_entry(struct inroot_driver *d, const struct inroot_told *step, const char *room)
 {
     struct entry entry;
     const char *second = room + step->first + 1;
-    int error = find(d, step->handle, room, &entry);
+    int error = find(d, step->handle, room, step->first, &entry);
     if (error)
         return inroot_refused(d, error);
     switch (step->what) {
-    case INROOT_STEP_OPEN:
-        return open_next(d, step->handle, room, &entry);
     case INROOT_STEP_MAKE_DIR:
         inroot_ahead_make(&d->ahead);
         return done_or(d, mkdirat(entry.dir, entry.name, d->asked->bits));
@@ -317,45 +313,26 @@ static struct inroot_answered on_entry(struct inroot_driver *d, const struct inr
     }
 }
 
-/* Keeps which step this is, and the name it is about, of which there may be as much as fits. */
-static void note(struct inroot_driver *d, const struct inroot_told *step, const char *room)
-{
-    bool on_name = step->what == INROOT_STEP_OPEN || step->what >= INROOT_STEP_MAKE_DIR;
-    size_t length = on_name ? step->first : 0;
-    d->step = step->what;
-    length = length < sizeof d->step_name ? length : sizeof d->step_name - 1;
-    memcpy(d->step_name, room, length);
-    d->step_name[length] = 0;
-}
-
 /* Asked twice in a row, it stands where it did right after the first time, and its names are in the text still. */
-static struct inroot_answered name_below(struct inroot_driver *d, const struct inroot_told *step, char *text, size_t *length)
+static struct inroot_result name_below(struct inroot_driver *d, const struct inroot_told *step, char *text, size_t *length)
 {
     if (step->handle == d->placed) {
         *length = d->placed_length;
-        return (struct inroot_answered){.what = INROOT_ANSWER_NAMES};
+        return (struct inroot_result){.what = INROOT_ANSWER_NAMES};
     }
-    struct inroot_answered answered = inroot_name_below(d, step, text, length);
-    d->placed = answered.what == INROOT_ANSWER_NAMES ? step->handle : 0;
+    struct inroot_result result = inroot_name_below(d, step, text, length);
+    d->placed = result.what == INROOT_ANSWER_NAMES ? step->handle : 0;
     d->placed_length = *length;
-    return answered;
+    return result;
 }
 
-struct inroot_answered inroot_make(struct inroot_driver *d, const struct inroot_told *step, const char *room, char *text, size_t *length)
+/* Any step but Open and Close. */
+static struct inroot_result make_other(struct inroot_driver *d, const struct inroot_told *step, const char *room, char *text,
+                                       size_t *length)
 {
-    *length = 0;
-    d->steps++;
-    if (step->what != INROOT_STEP_CLOSE && step->whole)
-        note(d, step, room);
-    /* Only a link's text can be too long for the room. */
-    if (!step->whole)
-        return inroot_refused(d, ENAMETOOLONG);
-    if (step->what != INROOT_STEP_CLOSE && step->what != INROOT_STEP_NAME_BELOW)
-        d->placed = 0;
-    bool goes_on = d->run.fd >= 0 && inroot_run_goes_on(d, step);
-    if (goes_on && step->what == INROOT_STEP_OPEN)
-        return open_foreseen(d, step->handle, room);
-    if (!goes_on && step->what != INROOT_STEP_CLOSE)
+    bool goes_on = inroot_run_goes_on(d, step);
+    inroot_error_note(d, step, room);
+    if (!goes_on)
         inroot_run_drop(d);
     switch (step->what) {
     case INROOT_STEP_DUP:
@@ -368,10 +345,18 @@ struct inroot_answered inroot_make(struct inroot_driver *d, const struct inroot_
         return name_below(d, step, text, length);
     case INROOT_STEP_LIST:
         return inroot_list(d, step->handle);
-    case INROOT_STEP_CLOSE:
-        inroot_handles_close(d, step->handle);
-        return (struct inroot_answered){.what = INROOT_ANSWER_DONE};
     default:
-        return on_entry(d, step, room);
+        return change_entry(d, step, room);
     }
+}
+
+struct inroot_result inroot_make(struct inroot_driver *d, const struct inroot_told *step, const char *room, char *text,
+                                 size_t *length)
+{
+    /* Only a link's text can be too long for the room. */
+    if (!step->whole)
+        return inroot_refused(d, ENAMETOOLONG);
+    if (step->what != INROOT_STEP_NAME_BELOW)
+        d->placed = 0;
+    return step->what == INROOT_STEP_OPEN ? open_next(d, step, room) : make_other(d, step, room, text, length);
 }

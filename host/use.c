@@ -71,12 +71,12 @@ static int find(int root, const struct use *use, enum inroot_kind *kind)
 
 static int reopened(int fd, int how)
 {
-    char name[INROOT_PROC_NAME];
+    char written[INROOT_PROC_NAME];
     bool is_own;
     int proc = inroot_proc_open(&is_own);
     if (proc < 0)
         return proc;
-    inroot_proc_name(fd, name);
+    const char *name = inroot_proc_name(fd, written);
     int used = openat(proc, name, how | ALWAYS);
     if (used < 0)
         used = -inroot_proc_error(proc, name, errno);

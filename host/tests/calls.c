@@ -144,12 +144,14 @@ static void ring(int number)
 static void interrupted(void)
 {
     const struct sigaction rings = {.sa_handler = ring};
-    const struct itimerval soon = {.it_value = {.tv_usec = 20000}}, never = {{0, 0}, {0, 0}};
+    /* Again and again, since it may ring before the call waits. */
+    const struct timeval soon = {.tv_usec = 20000};
+    const struct itimerval often = {.it_interval = soon, .it_value = soon}, never = {{0, 0}, {0, 0}};
     expect(inroot_mknod(at, "waits", S_IFIFO | 0600, 0, 0) == 0, "a FIFO");
     expect(closed(inroot_openat(at, "waits", O_RDONLY | O_NONBLOCK, 0, 0)) == 0, "a FIFO that isn't waited for");
     expect(closed(inroot_openat(at, "waits", O_WRONLY | O_NONBLOCK, 0, 0)) == -ENXIO, "a FIFO without a reader");
     sigaction(SIGALRM, &rings, NULL);
-    setitimer(ITIMER_REAL, &soon, NULL);
+    setitimer(ITIMER_REAL, &often, NULL);
     expect(closed(inroot_openat(at, "waits", O_RDONLY, 0, 0)) == -EINTR, "a FIFO that is waited for");
     setitimer(ITIMER_REAL, &never, NULL);
 }
