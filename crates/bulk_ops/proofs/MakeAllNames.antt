@@ -21,13 +21,8 @@ use Rattle.step_resolver.specs.View.{handle_of, check_refusal}
 use Rattle.step_resolver.specs.TurnView.{standing_handle}
 use Rattle.bulk_ops.specs.MakeAllOrder.{Making, making, opening, leaving, ending, MakeTurn, more, made, rest_fault, rest_names, gives_up, goes_down, begins_to_make, raced_if_missing, refused_make, enters, due}
 use Rattle.bulk_ops.specs.MakeAllOrder.{take as takes}
-use Rattle.bulk_ops.specs.MakeAllView.{MakingView, IsTurn, at_next, gone_into, passed, to_come, fault_in, names_in, view_of, IsStage, making_of}
-use Rattle.bulk_ops.specs.declared.make_all.Call.{Call}
+use Rattle.bulk_ops.specs.MakeAllView.{MakingView, IsTurn, at_next, gone_into, passed, to_come, fault_in, names_in}
 use Rattle.bulk_ops.specs.declared.make_all.Chain.{Chain}
-use Rattle.bulk_ops.specs.declared.make_all.Stage.{Stage}
-use Rattle.bulk_ops.specs.declared.make_all.Stage.TheVariants.{Making as MakingIn, Opening}
-use Rattle.std.specs.Global.{Global}
-use Rattle.std.specs.Prelude.{Box}
 use Rattle.bulk_ops.specs.declared.turn.BulkTurn.{BulkTurn}
 
 -- ---- the rest

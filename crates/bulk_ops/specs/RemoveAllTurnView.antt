@@ -2,8 +2,7 @@
 use Rattle.std.specs.Prelude.{◌≡◌, ℕ, ◌+◌, ◌*◌, List, Bool}
 use Rattle.path_text.specs.Reading.{Reading}
 use Rattle.tree_model.specs.declared.answer.Answer.{Answer}
-use Rattle.step_resolver.specs.Order.{Way, Position, root_itself, holds, Walking, opening, reading, rising, judging, duping, ending}
-use Rattle.step_resolver.specs.Order as walk
+use Rattle.step_resolver.specs.Order.{Way, Walking}
 use Rattle.step_resolver.specs.TurnView.{STEPS_MAX, IsFirstWalk}
 use Rattle.bulk_ops.specs.declared.remove_all.clearing.TheConstants.{CLEARING_STEPS_MAX}
 use Rattle.bulk_ops.specs.declared.remove_all.phase.Phase.{Phase}

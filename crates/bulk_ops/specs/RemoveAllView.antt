@@ -1,5 +1,5 @@
 -- What a contract sees of a RemoveAll call: the order's, read off the directories that it holds.
-use Rattle.std.specs.Prelude.{◌≡◌, ℕ, suc, ◌-◌, List, [], ◌∷◌, ◌++◌, Bool, true, false, drop, map, reverse, slice_get, unwrap_or, Option, Some, None}
+use Rattle.std.specs.Prelude.{◌≡◌, ℕ, suc, ◌-◌, List, [], ◌∷◌, ◌++◌, Bool, drop, map, reverse, slice_get, unwrap_or, Option, Some, None}
 use Rattle.tree_model.specs.declared.answer.Answer.{Answer}
 use Rattle.handles.specs.Objects.{ReachedObject}
 use Rattle.bulk_ops.specs.declared.remove_all.clearing.Stage.TheVariants as stage

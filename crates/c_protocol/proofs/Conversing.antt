@@ -1,5 +1,5 @@
 -- From turn to turn, each exchange is a line of the call.
-use Rattle.std.specs.Prelude.{◌≡◌, ◌⊎◌, ℕ, List, [], ◌∷◌, Bool, true, false, if◌then◌else◌, Option, Some, refl}
+use Rattle.std.specs.Prelude.{◌≡◌, ◌⊎◌, ℕ, List, [], ◌∷◌, Bool, true, false, Option, Some, refl}
 use Rattle.std.proofs.Common.{sym, ◌∙◌, ap, subst, inl, inr, true≢false}
 use Rattle.path_text.specs.declared.errno.Errno.TheVariants.{NoMemory}
 use Rattle.path_text.specs.declared.errno.Errno.TheVariants as errors
@@ -24,7 +24,6 @@ use Rattle.root_ops.proofs.Refusals.{refusal_needs_no_room, unmade}
 use Rattle.c_protocol.specs.Numbers.{op_of, below_asked, answer_of}
 use Rattle.c_protocol.specs.Turns.{call_of, IsDueTold, BeginsTo, BeginsWith, IsNext}
 use Rattle.c_protocol.specs.History.{Heard, Exchange, Hears, Conversation, last_heard, is_close, Spells, IsMade, LineOf, LinesOf, RepliesLast, IsCall, IsWantAtOnce, ConversationsAreCalls}
-use Rattle.c_protocol.specs.declared.numbers.Answered.{Answered}
 use Rattle.c_protocol.specs.declared.numbers.Asked.{Asked}
 
 -- ---- whether a line is left out

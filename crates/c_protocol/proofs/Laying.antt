@@ -1,5 +1,5 @@
 -- Bytes that are laid into a room, one after another.
-use Rattle.std.specs.Prelude.{◌≡◌, ℕ, ◌+◌, ◌<◌, ◌≤◌, List, [], ◌∷◌, ◌++◌, take, drop, length, Bool, nat_le, true, false, if◌then◌else◌, Some, slice_get, refl}
+use Rattle.std.specs.Prelude.{◌≡◌, ℕ, ◌+◌, ◌<◌, ◌≤◌, List, [], ◌∷◌, ◌++◌, take, drop, length, Bool, nat_le, false, if◌then◌else◌, Some, slice_get, refl}
 use Rattle.std.proofs.Common.{ap, arith, length-append, append_assoc}
 use Rattle.std.proofs.Math.Seq.{take-add, take-append_seam}
 use Rattle.std.proofs.lemmas.Bool.{le-leb, lt-leb}

@@ -3,3 +3,4 @@ mod Laying
 mod Spelling
 mod Conversing
 mod Outright
+mod Passing

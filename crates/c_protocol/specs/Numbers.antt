@@ -1,5 +1,5 @@
 -- Requests, steps, answers and replies as the numbers and bytes that a C program has of them.
-use Rattle.std.specs.Prelude.{ℕ, List, [], ◌∷◌, ◌++◌, ◌==◌, if◌then◌else◌, length, Bool, true, false, Option, Some, None}
+use Rattle.std.specs.Prelude.{ℕ, List, [], ◌∷◌, ◌++◌, ◌==◌, if◌then◌else◌, length, Bool, true, Option, Some, None}
 use Rattle.path_text.specs.Errno.{number_of}
 use Rattle.path_text.specs.Print.{printed, names_read}
 use Rattle.path_text.specs.declared.errno.Errno.{Errno}

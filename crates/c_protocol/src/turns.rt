@@ -2,6 +2,7 @@
 ghost use Rattle.std.specs.Prelude.{◌≡◌, IfSome, IsSome, None};
 ghost use Rattle.root_ops.specs.declared.call.CallTurn.{CallTurn};
 ghost use Rattle.root_ops.specs.Order.{due};
+ghost use Rattle.root_ops.specs.TurnView.{turn_view, Keeps, TakesTo};
 ghost use Rattle.c_protocol.specs.Turns.{call_of, IsBegun, IsDueTold, IsNext, IsTold};
 
 use crate::kept::{Held, Kept};
@@ -11,6 +12,7 @@ use path_text::Errno;
 use root_ops::{Below, Call, CallTurn, Reply, Request};
 use std::alloc::Global;
 use std::mem;
+use tree_model::Answer;
 
 // The first turn of what is asked.
 fn begun(alloc: Global, asked: &Asked, first: &[u8], second: &[u8]) -> CallTurn
@@ -145,13 +147,39 @@ fn turn_after(
         × IsTold turn result.held told.new room.old room.new) }
 {
     let mut held = kept.into_box();
+    let answer = answered.answer(alloc, bytes);
+    match held.call.as_mut() {
+        Some(call) => {
+            if call.pass(&answer) {
+                tell_due(call, told, room);
+                return Kept::of_box(held);
+            }
+        }
+        // Only a call that goes on is kept.
+        None => unreachable!(),
+    }
+    taken(alloc, held, answer, told, room)
+}
+
+// The turn by which the call is moved. Apart from `turn_after`, so that a turn that passes makes no room for it.
+#[inline(never)]
+fn taken(
+    alloc: Global,
+    mut held: Box<Held>,
+    answer: Answer,
+    told: &mut Told,
+    room: &mut [u8],
+) -> Kept
+    requires { IsSome held.value.call }
+    ensures { IfSome held.value.call (λ call. (turn : CallTurn)
+        × (TakesTo call.below call.doing answer (turn_view turn) × Keeps call.below turn)
+        × IsTold turn result.held told.new room.old room.new) }
+{
     match held.call.take() {
         Some(call) => {
-            let answer = answered.answer(alloc, bytes);
             let turn = call.take(alloc, answer);
             keep(alloc, held, turn, told, room)
         }
-        // Only a call that goes on is kept.
         None => unreachable!(),
     }
 }

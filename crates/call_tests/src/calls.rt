@@ -6,13 +6,15 @@ ghost use Rattle.root_ops.specs.Order.{steps_left};
 ghost use Rattle.root_ops.specs.TurnView.{steps_to_come};
 
 use crate::copies::run_copies;
-use crate::requests::asked;
+use crate::passes::run_passing;
+use crate::requests::{asked, cut};
 use fixtures::{BENEATH, BOTH, NO_LINKS, PLAIN, answered, base_tree, names_of, root};
 use handles::Standing;
 use path_text::{Errno, Flags, NoMemory};
-use root_ops::{Call, CallTurn, Op, Reply, Request};
+use root_ops::{Call, CallTurn, Op, Reply, Request, run_call};
 use std::alloc::Global;
 use std::test::*;
+use step_resolver::Root;
 use step_text::Output;
 use tree_model::{Actor, Answer, HandleNo, Tree};
 use tree_slab::SlabTree;
@@ -86,7 +88,11 @@ resolve up -> 3 fault EXDEV
 resolve a/../.. -> 5 fault EXDEV
 resolve a/b/f -> 6 opened file 4 /a/b/f
 rename a/b/f /x plain -> 5 fault EXDEV
-mkdir_all /n -> 0 fault EXDEV, mkdir_all a/n -> * opened dir 11 /a/n, remove_all /a -> 0 fault EXDEV";
+mkdir_all /n -> 0 fault EXDEV, mkdir_all a/n -> * opened dir 11 /a/n, remove_all /a -> 0 fault EXDEV
+resolve abs -> * fault EXDEV
+create_link l q -> * done
+rename a/b x plain -> * done
+remove_all a -> * count 3";
 
 const WITH_NO_LINKS: &str = "resolve abs/f -> 2 fault ELOOP
 resolve up -> * fault ELOOP
@@ -99,22 +105,25 @@ remove_all abs/f -> * fault ELOOP, remove_all abs -> 4 count 1, mkdir_all up/n -
 const WITH_BOTH: &str = "resolve abs -> * fault ELOOP
 resolve /a -> 0 fault EXDEV";
 
-// With copies of the requests and of the calls.
-const COPIES: &str = "resolve abs -> * fault EXDEV
-create_link l q -> * done
-rename a/b x plain -> * done
-mkdir_all /n -> * fault EXDEV
-remove_all a -> * count 3
-list 0 -> * stepped listed 5 a abs dang loop up";
-
 const OPENED: &str = "resolve a -> * opened dir 2 /a";
 
-/// Lines of calls, each line on a tree of its own, and how they are made.
+/// How a call is carried out.
+#[derive(Clone, Copy, PartialEq, Eq)]
+enum How {
+    /// Each answer is taken.
+    Taken,
+    /// Each answer is offered to `pass` first.
+    Passed,
+    /// By `run_call`, which tells no number of steps.
+    Whole,
+    /// It is a copy of the request that is asked, and each step a copy of the call that makes it.
+    Copied,
+}
+
+/// Lines of calls, each line on a tree of its own.
 struct Table<'a> {
     lines: &'a str,
     flags: Flags,
-    /// Whether it is a copy of the request that is asked, and each step a copy of the call that makes it.
-    is_copied: bool,
     /// Others make these steps after so many of each call. Their handles are 1 on `/c`, 2 on `/c/a` and 3 on `/secret`.
     after: u32,
     others: &'a str,
@@ -129,7 +138,6 @@ struct Table<'a> {
 const QUIET: Table<'static> = Table {
     lines: OPENED,
     flags: PLAIN,
-    is_copied: false,
     after: 0,
     others: "",
     before: "",
@@ -138,7 +146,8 @@ const QUIET: Table<'static> = Table {
     held: 1,
 };
 
-const TABLES: [Table<'static>; 17] = [
+// Among these nobody else acts.
+const ALONE: [Table<'static>; 10] = [
     Table {
         lines: RENAMES,
         ..QUIET
@@ -170,27 +179,21 @@ const TABLES: [Table<'static>; 17] = [
         flags: BOTH,
         ..QUIET
     },
+    QUIET,
     Table {
-        lines: COPIES,
-        flags: BENEATH,
-        is_copied: true,
+        tag: 8,
+        released: "0 kept",
+        held: 2,
         ..QUIET
     },
     Table {
-        lines: RENAMES,
-        is_copied: true,
+        before: "close 4",
+        released: "1 fault EBADF",
         ..QUIET
     },
-    Table {
-        lines: CHANGES,
-        is_copied: true,
-        ..QUIET
-    },
-    Table {
-        lines: BULK,
-        is_copied: true,
-        ..QUIET
-    },
+];
+
+const AMONG_OTHERS: [Table<'static>; 3] = [
     Table {
         lines: "remove_all a -> 12 count 2",
         after: 6,
@@ -207,18 +210,6 @@ const TABLES: [Table<'static>; 17] = [
         lines: "mkdir_all a/n -> 8 fault EAGAIN",
         after: 6,
         others: "rename 1 a 3 a plain",
-        ..QUIET
-    },
-    QUIET,
-    Table {
-        tag: 8,
-        released: "0 kept",
-        held: 2,
-        ..QUIET
-    },
-    Table {
-        before: "close 4",
-        released: "1 fault EBADF",
         ..QUIET
     },
 ];
@@ -241,19 +232,19 @@ pub fn open<T: Tree>(alloc: Global, tree: &mut T) -> bool {
         && grant(alloc, tree, 1, "/secret").is_ok()
 }
 
-// The answer to the step that is due.
-fn made<T: Tree>(alloc: Global, tree: &mut T, call: &Call) -> Result<Answer, NoMemory> {
+/// The answer to the step that is due.
+pub fn made<T: Tree>(alloc: Global, tree: &mut T, call: &Call) -> Answer {
     let step = call.due();
     let answer = tree.step(alloc, Actor::new(0), &step);
     drop(step);
-    answer
+    answer.unwrap_or(Answer::Refused(Errno::NoMemory))
 }
 
 /// What a call has come to after its due step.
 pub fn step<T: Tree>(alloc: Global, tree: &mut T, call: Call) -> CallTurn
     ensures { steps_to_come result < steps_left call.below call.doing }
 {
-    let answer = made(alloc, tree, &call).unwrap_or(Answer::Refused(Errno::NoMemory));
+    let answer = made(alloc, tree, &call);
     call.take(alloc, answer)
 }
 
@@ -310,45 +301,72 @@ fn tell(alloc: Global, told: &mut Output, reply: &Reply) -> Result<(), NoMemory>
     }
 }
 
-// Tells the number of a call's steps, or `*` where that is what is wanted, and its reply.
+// Tells the number of a call's steps and the reply. As the number it tells what is wanted, where that is `*`
+// or none is known.
 fn tell_end(
     alloc: Global,
     told: &mut Output,
     reply: &Reply,
-    steps: u32,
+    steps: Option<u32>,
     wanted: &str,
 ) -> Result<(), NoMemory> {
-    if wanted.starts_with("*") {
-        told.text("*")?;
-    } else {
-        told.number(u64::from(steps))?;
+    match (steps, cut(wanted).0) {
+        (Some(steps), number) if number != "*" => told.number(u64::from(steps))?,
+        (_, number) => told.text(number)?,
     }
     told.text(" ")?;
     tell(alloc, told, reply)
 }
 
 // Whether a call's end is told so.
-fn is_end(alloc: Global, reply: &Reply, steps: u32, wanted: &str) -> bool {
+fn is_end(alloc: Global, reply: &Reply, steps: Option<u32>, wanted: &str) -> bool {
     let mut told = Output::new(alloc);
     let is_told = tell_end(alloc, &mut told, reply, steps, wanted).is_ok();
     is_told && told.as_slice() == wanted.as_bytes()
 }
 
+// The reply to what is asked, and the number of steps to there where that is known.
+fn replied<T: Tree>(
+    alloc: Global,
+    tree: &mut T,
+    request: Request,
+    root: Root,
+    table: &Table,
+    how: How,
+) -> (Reply, Option<u32>) {
+    if how == How::Whole {
+        return (run_call(alloc, tree, request, root), None);
+    }
+    let turn = Call::start(alloc, request, root);
+    let (reply, steps) = match how {
+        How::Copied => run_copies(alloc, tree, turn),
+        How::Passed => run_passing(alloc, tree, turn, &mut 0),
+        _ => run(alloc, tree, turn, table.after, table.others),
+    };
+    (reply, Some(steps))
+}
+
 // Whether what was opened is released so.
-fn is_released<T: Tree>(alloc: Global, tree: &mut T, standing: Standing, table: &Table) -> bool {
+fn is_released<T: Tree>(
+    alloc: Global,
+    tree: &mut T,
+    standing: Standing,
+    table: &Table,
+    how: How,
+) -> bool {
     let _told = answered(alloc, tree, 0, table.before);
     let op = Op::Release(standing);
-    let turn = Call::start(alloc, Request { op, flags: PLAIN }, root(table.tag));
-    let (reply, steps) = run(alloc, tree, turn, 0, "");
+    let request = Request { op, flags: PLAIN };
+    let (reply, steps) = replied(alloc, tree, request, root(table.tag), &QUIET, how);
     let is_right = is_end(alloc, &reply, steps, table.released);
     drop(reply);
     is_right && tree.held(Actor::new(0)) == table.held
 }
 
 // Whether what a reply opened is released so. Of one that opened nothing the root's handle alone is to be open.
-fn releases<T: Tree>(alloc: Global, tree: &mut T, reply: Reply, table: &Table) -> bool {
+fn releases<T: Tree>(alloc: Global, tree: &mut T, reply: Reply, table: &Table, how: How) -> bool {
     match reply {
-        Reply::Opened(standing) => is_released(alloc, tree, standing, table),
+        Reply::Opened(standing) => is_released(alloc, tree, standing, table, how),
         other => {
             drop(other);
             tree.held(Actor::new(0)) == 1
@@ -357,33 +375,28 @@ fn releases<T: Tree>(alloc: Global, tree: &mut T, reply: Reply, table: &Table) -
 }
 
 // Whether a call of a line ends so, and what it opened is released.
-fn ends<T: Tree>(alloc: Global, tree: &mut T, call: &str, table: &Table) -> bool {
+fn ends<T: Tree>(alloc: Global, tree: &mut T, call: &str, table: &Table, how: How) -> bool {
     let (words, wanted) = call.split_once(" -> ").unwrap_or((call, ""));
-    let request = asked(alloc, words, table.flags, table.is_copied);
-    let turn = Call::start(alloc, request, root(OWN));
-    let (reply, steps) = if table.is_copied {
-        run_copies(alloc, tree, turn)
-    } else {
-        run(alloc, tree, turn, table.after, table.others)
-    };
+    let request = asked(alloc, words, table.flags, how == How::Copied);
+    let (reply, steps) = replied(alloc, tree, request, root(OWN), table, how);
     let is_right = is_end(alloc, &reply, steps, wanted);
-    releases(alloc, tree, reply, table) && is_right
+    releases(alloc, tree, reply, table, how) && is_right
 }
 
 // Whether each call of a line ends so.
-fn all_end<T: Tree>(alloc: Global, tree: &mut T, line: &str, table: &Table) -> bool {
+fn all_end<T: Tree>(alloc: Global, tree: &mut T, line: &str, table: &Table, how: How) -> bool {
     let mut all = open(alloc, tree);
     for call in line.split(", ") {
-        all = ends(alloc, tree, call, table) && all;
+        all = ends(alloc, tree, call, table, how) && all;
     }
     all
 }
 
-fn all_end_on_list(alloc: Global, line: &str, table: &Table) -> bool {
+fn all_end_on_list(alloc: Global, line: &str, table: &Table, how: How) -> bool {
     let Ok(mut list) = base_tree(alloc) else {
         return false;
     };
-    let all = all_end(alloc, &mut list, line, table);
+    let all = all_end(alloc, &mut list, line, table, how);
     drop(list);
     all
 }
@@ -395,22 +408,31 @@ fn indexed_tree(alloc: Global) -> Result<SlabTree, Errno> {
     slab
 }
 
-fn all_end_on_slab(alloc: Global, line: &str, table: &Table) -> bool {
+fn all_end_on_slab(alloc: Global, line: &str, table: &Table, how: How) -> bool {
     let Ok(mut slab) = indexed_tree(alloc) else {
         return false;
     };
-    let all = all_end(alloc, &mut slab, line, table);
+    let all = all_end(alloc, &mut slab, line, table, how);
     drop(slab);
     all
 }
 
-// The first line of which a call ends otherwise on one of the trees, and of none nothing.
-fn first_wrong(alloc: Global) -> &'static str {
-    for table in TABLES.as_slice() {
-        for line in table.lines.lines() {
-            if !all_end_on_list(alloc, line, table) || !all_end_on_slab(alloc, line, table) {
-                return line;
-            }
+// The first line of the table of which a call ends otherwise on one of the trees, and of none nothing.
+fn wrong_line<'a>(alloc: Global, table: &Table<'a>, how: How) -> &'a str {
+    for line in table.lines.lines() {
+        if !all_end_on_list(alloc, line, table, how) || !all_end_on_slab(alloc, line, table, how) {
+            return line;
+        }
+    }
+    ""
+}
+
+// The same of some tables.
+fn first_wrong<'a>(alloc: Global, tables: &[Table<'a>], how: How) -> &'a str {
+    for table in tables {
+        let wrong = wrong_line(alloc, table, how);
+        if !wrong.is_empty() {
+            return wrong;
         }
     }
     ""
@@ -418,5 +440,24 @@ fn first_wrong(alloc: Global) -> &'static str {
 
 #[test]
 fn operations_end_as_they_do_on_linux(rt: HostRuntime) {
-    assert_eq!(rt; first_wrong(rt.alloc()), "");
+    assert_eq!(rt; first_wrong(rt.alloc(), ALONE.as_slice(), How::Taken), "");
+    assert_eq!(rt;
+        first_wrong(rt.alloc(), AMONG_OTHERS.as_slice(), How::Taken),
+        ""
+    );
+}
+
+#[test]
+fn copies_end_the_same(rt: HostRuntime) {
+    assert_eq!(rt; first_wrong(rt.alloc(), ALONE.as_slice(), How::Copied), "");
+}
+
+#[test]
+fn calls_whose_answers_pass_end_the_same(rt: HostRuntime) {
+    assert_eq!(rt; first_wrong(rt.alloc(), ALONE.as_slice(), How::Passed), "");
+}
+
+#[test]
+fn calls_run_whole_end_the_same(rt: HostRuntime) {
+    assert_eq!(rt; first_wrong(rt.alloc(), ALONE.as_slice(), How::Whole), "");
 }

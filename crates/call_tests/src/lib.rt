@@ -8,4 +8,6 @@ mod copies;
 #[cfg(test)]
 mod like;
 #[cfg(test)]
+mod passes;
+#[cfg(test)]
 mod requests;

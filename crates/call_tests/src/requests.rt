@@ -8,8 +8,8 @@ use std::alloc::Global;
 use step_text::read_step;
 use tree_model::Mode;
 
-// A word, and what comes after it.
-fn cut(line: &str) -> (&str, &str) {
+/// A word, and what comes after it.
+pub fn cut(line: &str) -> (&str, &str) {
     line.split_once(' ').unwrap_or((line, ""))
 }
 

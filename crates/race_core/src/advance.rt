@@ -35,6 +35,10 @@ pub(crate) fn advance<T: Tree>(
     ensures fewer { steps_to_come result < steps_left call.below call.doing }
 {
     let answer = answer_due(alloc, book, actor, &call);
+    let mut call = call;
+    if call.pass(&answer) {
+        return CallTurn::More(call);
+    }
     call.take(alloc, answer)
 }
 

@@ -13,4 +13,5 @@ pub mod FreeHandles
 pub mod FirstWalks
 pub mod Resolves
 pub mod BulkReplies
+pub mod DrivenCalls
 pub mod LikeCalls

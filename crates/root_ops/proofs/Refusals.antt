@@ -72,8 +72,8 @@ refusal_needs_no_room below room (call.walking w aim) error =
 refusal_needs_no_room below room (call.acting wanted step hs) error = refl
 refusal_needs_no_room below room (call.checking old new renaming) error = refl
 refusal_needs_no_room below room (call.closing h hs after) error = refl
-refusal_needs_no_room below room (call.making making) error = ap makes (of_a_make (make_way below) room making error)
-refusal_needs_no_room below room (call.removing removing) error = ap removing_turn (of_a_removal room removing error)
+refusal_needs_no_room below room (call.making m) error = ap makes (of_a_make (make_way below) room m error)
+refusal_needs_no_room below room (call.removing r) error = ap removing_turn (of_a_removal room r error)
 refusal_needs_no_room below room (call.releasing h) error = refl
 
 -- ---- a step that may be left out
@@ -111,6 +111,6 @@ unmade below (call.walking w aim) error want not_close = (want, walk_closes_none
 unmade below (call.acting wanted step hs) error want not_close = want
 unmade below (call.checking old new renaming) error want not_close = want
 unmade below (call.closing h hs after) error want not_close = absurd (not_close h refl)
-unmade below (call.making making) error want not_close = (want, make_closes_none (make_way below) making not_close)
-unmade below (call.removing removing) error want not_close = (want, removal_closes_none removing not_close)
+unmade below (call.making m) error want not_close = (want, make_closes_none (make_way below) m not_close)
+unmade below (call.removing r) error want not_close = (want, removal_closes_none r not_close)
 unmade below (call.releasing h) error want not_close = absurd (not_close h refl)

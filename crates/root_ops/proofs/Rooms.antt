@@ -11,7 +11,7 @@ use Rattle.tree_model.specs.declared.answer.Answer.TheVariants.{Opened, Text}
 use Rattle.step_resolver.specs.Asked.{AskedPart, Cur, Up, Named, asked, followed, follows}
 use Rattle.step_resolver.specs.Meaning.{LINKS_MAX, is_too_long}
 use Rattle.walk_plan.specs.Plan.{leads_out}
-use Rattle.step_resolver.specs.Order.{Way, Handle, Position, root_itself, holds, Todo, todo, After, gives, onward, judges, Walking, opening, reading, rising, judging, duping, ending, closing, Turn, more, found, partial, failed, names_of, handles_of, is_dir_position, is_followed, gives_up, at_end, in_directory, on_part, on_own, on_parts, goes_on, begins, for_walk, comes, closes, with_room, follows_link, enters, refused_open, from_link, read_text, refused_rise, take, due}
+use Rattle.step_resolver.specs.Order.{Way, Handle, Position, root_itself, holds, Todo, todo, After, gives, onward, judges, Walking, opening, reading, rising, judging, duping, ending, closing, Turn, more, found, partial, failed, names_of, handles_of, is_dir_position, is_followed, gives_up, at_end, in_directory, on_part, on_own, on_parts, goes_on, begins, for_walk, comes, closes, with_room, follows_link, enters, refused_open, from_link, read_text, refused_rise, take}
 use Rattle.walk_plan.specs.declared.goal.Goal.{Goal}
 use Rattle.step_resolver.specs.View.{WalkView, way_from}
 use Rattle.step_resolver.specs.declared.walk.Turn.{Turn as Outcome}

@@ -12,6 +12,7 @@ pub mod Copies
 pub mod Order
 pub mod View
 pub mod TurnView
+pub mod FirstView
 pub mod StepCount
 pub mod CallHistory
 pub mod BulkTells
@@ -22,5 +23,6 @@ pub mod Quiet
 pub mod QuietWorked
 pub mod Acts
 pub mod EachCall
+pub mod Driver
 pub mod FreeHandles
 pub mod Renamed

@@ -310,6 +310,16 @@ take below room (making call) answer = makes (make.take (make_way below) room ca
 take below room (removing call) answer = removing_turn (remove.take room call answer)
 take below room (releasing h) answer = ends (reply_to wants.Done answer)
 
+-- the answers after which a call surely goes on: those of a walk that are
+abbrev pub passes : Doing → Answer → Bool
+passes (walking walking' aim) answer = walk.passes walking' answer
+passes (acting wanted step hs) answer = false
+passes (checking old new renaming) answer = false
+passes (closing h hs after) answer = false
+passes (making call) answer = false
+passes (removing call) answer = false
+passes (releasing h) answer = false
+
 abbrev pub due : Below → Doing → StepWith ℕ
 due below (walking walking' aim) = walk.due (way_of below aim) walking'
 due below (acting wanted step hs) = step

@@ -1,6 +1,5 @@
 -- What a contract sees of a call: the order's call, read off what it holds.
 use Rattle.std.specs.Prelude.{◌≡◌, ℕ, List, [], ◌∷◌, Bool, true, false, reverse}
-use Rattle.tree_model.specs.StepWith.{StepWith}
 use Rattle.tree_model.specs.declared.step.StepOf.TheVariants as steps
 use Rattle.handles.specs.declared.owner.Owner.{Owner}
 use Rattle.step_resolver.specs.TurnView.{standing_handle}

@@ -9,7 +9,8 @@ use crate::reply::Reply;
 use step_resolver::refusal_of;
 use tree_model::Answer;
 
-/// The reply that an answer gives.
+/// The reply that an answer gives. Part of its caller, which mostly knows what is wanted.
+#[inline(always)]
 pub(crate) fn reply_to(wanted: Wanted, answer: Answer) -> Reply
     ensures reply { reply_view result ≡ reply_to wanted answer }
     ensures owner { (owner : Owner) → IsOwned owner result }

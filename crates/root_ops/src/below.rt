@@ -1,15 +1,17 @@
 //! Where a call walks, and what each answer makes of a call.
-ghost use Rattle.std.specs.Prelude.{◌≡◌, ◌≤◌, Bool, reverse};
+ghost use Rattle.std.specs.Prelude.{◌≡◌, ◌≤◌, [], Bool, reverse};
 ghost use Rattle.step_resolver.specs.View.{way_from};
 ghost use Rattle.step_resolver.specs.TurnView.{standing_handle};
 ghost use Rattle.step_resolver.specs.TurnView as walk;
-ghost use Rattle.root_ops.specs.Order.{comes, closes, gives_up, renames, walked_on, reached, walked, take, checking, goal_of, way_of, make_way, makes, removing_turn};
+ghost use Rattle.root_ops.specs.Order.{comes, closes, gives_up, ends, fault, renames, walked_on, reached, walked, walks, held_by, take, checking, goal_of, way_of, make_way, makes, removing_turn};
+ghost use Rattle.bulk_ops.specs.MakeAllOrder as make;
+ghost use Rattle.bulk_ops.specs.RemoveAllOrder as remove;
 ghost use Rattle.bulk_ops.specs.MakeAllOrder.{MakeTurn};
 ghost use Rattle.bulk_ops.specs.MakeAllView as making;
 ghost use Rattle.bulk_ops.specs.RemoveAllOrder.{Turn as ClearTurn};
 ghost use Rattle.bulk_ops.specs.RemoveAllTurnView as removing;
 ghost use Rattle.root_ops.specs.View.{doing_view, after_view, list_of, next_view, IsNext, IsOurs, IsAfter};
-ghost use Rattle.root_ops.specs.TurnView.{TakesTo};
+ghost use Rattle.root_ops.specs.TurnView.{Either, TakesTo};
 
 use crate::aim::{Aim, Renaming, Wanted};
 use crate::answers::reply_to;
@@ -17,7 +19,7 @@ use crate::doing::{After, Doing, Handles, Next};
 use crate::reply::Reply;
 use bulk_ops::{BulkTurn, MkdirAll, RemoveAll};
 use handles::{Owner, Standing};
-use path_text::{Errno, Flags, Path};
+use path_text::{Errno, Flags, Name, Path};
 use std::alloc::Global;
 use step_resolver::{Root, Turn, Walk, refusal_of};
 use tree_model::{Answer, HandleNo, Kind, StepOf};
@@ -206,6 +208,40 @@ impl Below {
             BulkTurn::Removed(count) => Next::Over(Reply::Count(count)),
             BulkTurn::Failed(error) => Next::Over(Reply::Fault(error)),
         }
+    }
+
+    /// The first step of a walk with that aim, or the end.
+    #[inline(always)]
+    pub(crate) fn walks(&self, alloc: Global, aim: Aim, path: Path) -> Next
+        requires { held_by aim ≡ [] }
+        ensures turn { Either (walks self.now aim path) (ends (fault Errno.NoMemory)) (next_view result) }
+        ensures kept { IsNext self.now result }
+    {
+        match self.start(alloc, path, aim.goal()) {
+            Turn::More(walk) => Next::Walks(walk, aim),
+            ended => self.walked(alloc, aim, ended),
+        }
+    }
+
+    /// The first step by which all that is missing of the path is made, or the end.
+    pub(crate) fn makes(&self, alloc: Global, path: Path) -> Next
+        ensures turn { Either (makes (make.begins (make_way self.now) path))
+            (ends (fault Errno.NoMemory)) (next_view result) }
+        ensures kept { IsNext self.now result }
+    {
+        let turn = MkdirAll::start(alloc, self.root, path, self.flags);
+        self.made(turn)
+    }
+
+    /// The first step by which the entry of the name is removed with all below it, or the end.
+    pub(crate) fn clears(&self, alloc: Global, directory: Path, name: Name) -> Next
+        ensures turn { Either
+            (removing_turn (remove.begins (way_from self.now.root Goal.Follow self.now.flags) name directory))
+            (ends (fault Errno.NoMemory)) (next_view result) }
+        ensures kept { IsNext self.now result }
+    {
+        let turn = RemoveAll::start(alloc, self.root, directory, name, self.flags);
+        self.cleared(turn)
     }
 
     // What is to be renamed was opened to see that it is a directory, and is closed again.

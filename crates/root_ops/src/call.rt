@@ -1,20 +1,20 @@
 //! A call that is under way.
-ghost use Rattle.std.specs.Prelude.{◌≡◌, ◌<◌, ◌≤◌, Bool, true};
+ghost use Rattle.std.specs.Prelude.{◌≡◌, ◌<◌, ◌≤◌, Bool, IsTrue, true, false};
 ghost use Rattle.step_resolver.specs.TurnView as walk;
 
-use crate::aim::{Aim, Change, Wanted};
+use crate::aim::Wanted;
 use crate::answers::reply_to;
+use crate::begin::failed;
 use crate::below::Below;
 use crate::doing::{Doing, Next, Stage};
-use crate::op::{Op, Request};
+use crate::first::{First, first_of};
+use crate::op::Request;
 use crate::reply::Reply;
-use path_text::{NoMemory, Rule};
 use std::alloc::Global;
 use std::marker::Model;
 use std::mem;
 use step_resolver::{Root, Turn};
-use tree_model::{Answer, LentStep, Step, StepOf};
-use walk_plan::Goal;
+use tree_model::{Answer, LentStep, StepOf};
 
 /// A call that is under way. You can't drop it: make each step that is `due`, and `take` its answer, until the call
 /// ends. To give it up, make each Close that is due, and answer `Refused(NoMemory)` to every other step. It lies in
@@ -48,7 +48,7 @@ pub enum CallTurn {
 }
 
 impl Call {
-    ghost use Rattle.root_ops.specs.Order.{due, steps_left, walked, way_of, goal_of};
+    ghost use Rattle.root_ops.specs.Order.{due, more, passes, steps_left, walked, way_of, goal_of};
     ghost use Rattle.root_ops.specs.View.{is_aimed, aim_of, next_view, HoldsNoCall, IsNext};
     ghost use Rattle.root_ops.specs.TurnView.{below_of, turn_view, Keeps, StartsTo, TakesTo, steps_to_come, STEPS_MAX};
 
@@ -76,30 +76,13 @@ impl Call {
     {
         let Request { op, flags } = request;
         let below = Below { root, flags };
-        match op {
-            Op::Resolve(path) => Call::on_path(alloc, below, Aim::Opens(Goal::Follow), &path),
-            Op::ResolveNoFollow(path) => {
-                Call::on_path(alloc, below, Aim::Opens(Goal::NoFollow), &path)
-            }
-            Op::ReadLink(path) => Call::on_path(alloc, below, Aim::Reads, &path),
-            Op::CreateFile(path) => {
-                Call::on_entry(alloc, below, Rule::Refuse, Change::MakeFile, &path)
-            }
-            Op::CreateDir(path) => Call::on_entry(alloc, below, Rule::Drop, Change::MakeDir, &path),
-            Op::CreateLink(path, text) => {
-                Call::on_entry(alloc, below, Rule::Refuse, Change::MakeLink(text), &path)
-            }
-            Op::RemoveFile(path) => {
-                Call::on_entry(alloc, below, Rule::Refuse, Change::RemoveFile, &path)
-            }
-            Op::RemoveDir(path) => {
-                Call::on_entry(alloc, below, Rule::Drop, Change::RemoveDir, &path)
-            }
-            Op::Rename(old, new, mode) => Call::between(alloc, below, &old, &new, mode),
-            Op::MkdirAll(path) => Call::on_missing(alloc, below, &path),
-            Op::RemoveAll(path) => Call::on_all_below(alloc, below, &path),
-            Op::Single(step) => Call::single(alloc, below, step),
-            Op::Release(standing) => Call::release(below, standing),
+        match first_of(alloc, op) {
+            Ok(First::Walks(aim, path)) => Call::walk(alloc, below, aim, path),
+            Ok(First::Makes(path)) => Call::make(alloc, below, path),
+            Ok(First::Clears(path, name)) => Call::clear(alloc, below, path, name),
+            Ok(First::Acts(step)) => Call::single(alloc, below, step),
+            Ok(First::Releases(standing)) => Call::release(below, standing),
+            Err(error) => failed(error),
         }
     }
 
@@ -129,6 +112,24 @@ impl Call {
         ensures fewer { steps_to_come result < steps_left self.below self.doing }
     {
         self.taken(alloc, answer)
+    }
+
+    /// Takes the answer to the due step in place, where this is a walk's Open or Close after which the walk surely goes
+    /// on: true, and the call is at the next turn, that of `take`. Otherwise false, nothing is changed, and the answer
+    /// is for `take`. Most turns pass, and move nothing.
+    pub fn pass(&mut self, answer: &Answer) -> bool
+        ensures which { result ≡ passes self.old.doing answer.now }
+        ensures turn { IsTrue result → TakesTo self.old.below self.old.doing answer.now (more self.new.doing) }
+        ensures kept { self.new.below ≡ self.old.below }
+        ensures fewer { IsTrue result
+            → steps_left self.new.below self.new.doing < steps_left self.old.below self.old.doing }
+        ensures left { result ≡ false → self.new ≡ self.old }
+    {
+        match &mut self.stage {
+            Stage::Walking(walk, _) => return walk.pass(answer),
+            Stage::Boxed(_) | Stage::Releasing(_) => {}
+        }
+        false
     }
 
     // The same, as the order of steps has it.

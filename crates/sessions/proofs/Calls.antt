@@ -16,7 +16,7 @@ use Rattle.root_ops.specs.Order.{kept, same_owner, starts, Doing, releasing, Cal
 use Rattle.root_ops.specs.declared.op.Request.{Request as RequestTo}
 use Rattle.root_ops.specs.declared.reply.Reply.{Reply as Told}
 use Rattle.root_ops.specs.TurnView.{below_of, StartsTo, TakesTo}
-use Rattle.root_ops.specs.View.{reply_view, IsOwned}
+use Rattle.root_ops.specs.View.{CallView, reply_view, IsOwned}
 use Rattle.step_resolver.proofs.DrivenWalks.{joined_events}
 use Rattle.root_ops.proofs.Refusals.{refusal_needs_no_room}
 use Rattle.root_ops.proofs.FirstTurn.{leads_on}
@@ -67,6 +67,19 @@ led_on below first second third from mid to one two =
       logged = logged_on first second third (events_of (actor_of first) one.lines) (events_of (actor_of first) two.lines) one.logged later
           ∙ ap (logs first) (sym (joined_events (actor_of first) one.lines two.lines));
     }
+
+-- on by what a call that is below the same root was led by
+pub passed_on : (v below : Below) (first second third : SessionView) (from mid to : CallTurn) → v ≡ below
+    → Leads below first from second mid → Leads v second mid third to → Leads below first from third to
+passed_on v below first second third from mid to same one two =
+    led_on below first second third from mid to one (subst (λ (b : Below). Leads b second mid third to) same two)
+
+-- by one answer more, which the call takes
+pub taken_on : (below : Below) (first second third : SessionView) (from to : CallTurn) (old new : CallView) (answer : Answer) → old.below ≡ below → new ≡ old
+    → Leads below first from second (more old.doing) → IsAnswer old.below old.doing second third answer → TakesTo new.below new.doing answer to → Leads below first from third to
+taken_on below first second third from to old new answer same still one is taken =
+    let at : TakesTo old.below old.doing answer to = subst (λ (c : CallView). TakesTo c.below c.doing answer to) still taken in
+    passed_on old.below below first second third from (more old.doing) to same one (advanced old.below second third old.doing answer to is at)
 
 -- what was to be released was closed, or wasn't open
 pub gives_back : (below : Below) (old new : SessionView) (doing : Doing) (h : ℕ) (answer : Answer) (to : CallTurn) → doing ≡ releasing h

@@ -1,5 +1,5 @@
 //! A session's calls: one lock hold for each step.
-ghost use Rattle.std.specs.Prelude.{◌≡◌, ◌<◌, ◌≤◌, ◌⊎◌, true, false, IfOk, IfErr};
+ghost use Rattle.std.specs.Prelude.{◌≡◌, ◌<◌, ◌≤◌, ◌⊎◌, true, false, None, IfOk, IfErr, IfSome};
 ghost use Rattle.race_core.specs.Book.{is_close};
 ghost use Rattle.step_resolver.specs.Order.{IsWant};
 ghost use Rattle.tree_model.specs.StepLaws.{opened_count};
@@ -174,20 +174,27 @@ impl Session {
         }
     }
 
-    // Makes the step that is due, and takes its answer.
-    fn advance<T: Tree, R: Wait>(
+    // Makes the step that is due, and lets the call take its answer in place, or gives it back.
+    fn pass_due<T: Tree, R: Wait>(
         &mut self,
         rt: &R,
         alloc: Global,
         service: &Service<T>,
-        call: Call,
-    ) -> CallTurn
-        ensures led { Leads call.below self.old (more call.doing) self.new (turn_view result) }
-        ensures kept { Keeps call.below result }
-        ensures fewer { steps_to_come result < steps_left call.below call.doing }
+        call: &mut Call,
+    ) -> Option<Answer>
+        ensures passed { result ≡ None
+            → Leads call.old.below self.old (more call.old.doing) self.new (more call.new.doing) }
+        ensures below { call.new.below ≡ call.old.below }
+        ensures fewer { result ≡ None
+            → steps_left call.new.below call.new.doing < steps_left call.old.below call.old.doing }
+        ensures left { IfSome result (λ answer. (call.new ≡ call.old)
+            × IsAnswer call.old.below call.old.doing self.old self.new answer) }
     {
-        let answer = self.answer_due(rt, alloc, service, &call);
-        call.take(alloc, answer)
+        let answer = self.answer_due(rt, alloc, service, call);
+        if call.pass(&answer) {
+            return None;
+        }
+        Some(answer)
     }
 
     // Closes what is to be released, and takes the answer.
@@ -230,9 +237,12 @@ impl Session {
                 call: number,
                 step,
             });
-            match self.advance(rt, alloc, service, call) {
-                CallTurn::More(next) => call = next,
-                CallTurn::Done(reply) => return reply,
+            match self.pass_due(rt, alloc, service, &mut call) {
+                None => {}
+                Some(answer) => match call.take(alloc, answer) {
+                    CallTurn::More(next) => call = next,
+                    CallTurn::Done(reply) => return reply,
+                },
             }
         }
     }

@@ -197,6 +197,10 @@ pub taken_lowers : (way : Way) (walking : Walking) (answer : Answer) (outcome : 
 taken_lowers way walking answer outcome taken =
     lowers way.goal walking outcome (subst (FewerThan (steps_left walking)) (sym taken.1) (take_lowers way taken.0 walking answer))
 
+-- where the walk goes on
+pub more_lowers : (way : Way) (walking : Walking) (answer : Answer) (next : Walking) → TakesTo way walking answer (more next) → steps_left next < steps_left walking
+more_lowers way walking answer next taken = subst (FewerThan (steps_left walking)) (sym taken.1) (take_lowers way taken.0 walking answer)
+
 pub asked_length : (follow : Bool) (ps : List Part) → length (asked follow ps) ≡ length ps
 asked_length follow [] = refl
 asked_length follow (p ∷ []) = refl

@@ -260,6 +260,19 @@ take way room (ending handle names rest) NotBelow = gives_up (handle.number ∷ 
 take way room (ending handle names rest) answer = gives_up (handle.number ∷ []) (refusal_of answer)
 take way room (closing h hs after) answer = closes way hs after
 
+-- the answers to an Open and to a Close after which the walk surely goes on, since something is held
+abbrev pub passes : Walking → Answer → Bool
+passes (opening root_itself own follow n rest) (Opened h x kind) = true
+passes (opening root_itself own follow n rest) answer = false
+passes (opening (holds handle names) own follow n rest) answer = true
+passes (reading position link rest) answer = false
+passes (rising handle names rest) answer = false
+passes (judging handle names rest) answer = false
+passes (duping rest) answer = false
+passes (ending handle names rest) answer = false
+passes (closing h [] (onward (holds handle names) rest)) answer = true
+passes (closing h hs after) answer = false
+
 abbrev pub due : Way → Walking → StepWith ℕ
 due way (opening position own follow n rest) = Open (handle_at way position) n
 due way (reading position link rest) = ReadLink link.number

@@ -75,6 +75,11 @@ abbrev pub next_turn : Course → Option ReachedObject → Next → Turn
 next_turn course place (next.Due pending) = more (walking_of course.plan place pending)
 next_turn course place (next.Failed error) = failed error
 
+-- another step is due
+abbrev pub IsDue : Next → Type 0
+IsDue (next.Due _) = Unit {0}
+IsDue (next.Failed _) = ⊥
+
 abbrev pub IsNext : Course → Option ReachedObject → Next → Type 0
 IsNext course place (next.Due pending) = IsPending course.plan place pending
 IsNext course place (next.Failed error) = place ≡ None

@@ -1,5 +1,6 @@
 //! A walk apart from its pending step, and what each answer comes to.
 ghost use Rattle.std.specs.Prelude.{◌≡◌, [], true, false, Option, Some, None, IsSome, option_to_list, reverse};
+ghost use Rattle.handles.specs.Objects.{reached_by};
 ghost use Rattle.path_text.specs.declared.part.Part.TheVariants.{Up};
 ghost use Rattle.walk_plan.specs.Plan.{next_part, is_own, follows_next_link, stayed};
 ghost use Rattle.step_resolver.specs.Order.{gives, ending, gives_up, closing, at_end, goes_on, closes, comes, handle_at, more, refused_open, follows_link, is_followed};
@@ -106,7 +107,7 @@ fn all_given_up(place: Option<Reached>) -> Option<HandleNo>
 
 impl Course {
     ghost use Rattle.step_resolver.specs.View.{course_way, position_at, IsPlace, IsAfter};
-    ghost use Rattle.step_resolver.specs.TurnView.{next_turn, KeepsCourse, TakesOn, TakesTo, end_turn, IsEnd};
+    ghost use Rattle.step_resolver.specs.TurnView.{next_turn, IsDue, KeepsCourse, TakesOn, TakesTo, end_turn, IsEnd};
 
     /// The handle through which the place is reached.
     pub(crate) fn handle_at(&self, place: &Option<Reached>) -> HandleNo
@@ -122,6 +123,7 @@ impl Course {
     fn fail(&self, place: &mut Option<Reached>, error: Errno) -> Next
         ensures turn { next_turn self.now place.new result ≡ gives_up (numbers_of place.old) error }
         ensures kept { KeepsCourse self.now self.now place.new result }
+        ensures due { IsSome place.old → IsDue result }
     {
         match mem::replace(place, None) {
             None => Next::Failed(error),
@@ -141,6 +143,7 @@ impl Course {
         ensures turn { next_turn self.now place.now result
             ≡ more (closing first.handle (numbers_of second) (after_of self.now.plan place.now after)) }
         ensures kept { KeepsCourse self.now self.now place.now result }
+        ensures due { IsDue result }
     {
         Next::Due(Pending::Closing {
             first: given_up(first),
@@ -156,6 +159,7 @@ impl Course {
         ensures turn { next_turn self.now place.now result
             ≡ at_end (position_at self.now place.now) (own_to_come self.now.plan) }
         ensures kept { KeepsCourse self.now self.now place.now result }
+        ensures due { IsDue result }
     {
         Next::Due(match place {
             None => Pending::Duping,
@@ -170,6 +174,7 @@ impl Course {
         ensures turn { next_turn self.new place.new result
             ≡ goes_on (course_way self.old) (position_at self.old place.old) (todo_of self.old.plan) }
         ensures kept { KeepsCourse self.old self.new place.new result }
+        ensures due { IsSome place.old → IsDue result }
     {
         match self.plan.next() {
             None => self.end(place),
@@ -193,6 +198,7 @@ impl Course {
         ensures turn { next_turn self.new place.new result
             ≡ goes_on (course_way self.old) (position_at self.old place.old) (todo_of self.old.plan) }
         ensures kept { KeepsCourse self.old self.new place.new result }
+        ensures due { IsSome place.old → IsDue result }
     {
         match self.plan.next() {
             None => self.end(place),
@@ -219,6 +225,7 @@ impl Course {
         ensures turn { next_turn self.new place.new result
             ≡ goes_on (course_way self.old) (position_at self.old place.old) (todo_of self.old.plan) }
         ensures kept { KeepsCourse self.old self.new place.new result }
+        ensures due { IsSome place.old → IsDue result }
     {
         if self.plan.names().is_empty() {
             return self.fail(place, Errno::CrossRoot);
@@ -233,15 +240,18 @@ impl Course {
         }
     }
 
-    /// A name was opened: a link that must be followed is read, anything else entered.
-    pub(crate) fn opened(&mut self, place: &mut Option<Reached>, answer: Answer) -> Next
+    /// A name was opened: a link that must be followed is read, anything else entered. Another step is due then. It
+    /// also is if something is held, since that is closed first.
+    pub(crate) fn opened(&mut self, place: &mut Option<Reached>, answer: &Answer) -> Next
         requires place { IsPlace self.old.plan.names place.old }
         requires named { IsAtName self.old.plan }
-        ensures turn { TakesOn self.old place.old Pending.Opening answer self.new place.new result }
+        ensures turn { TakesOn self.old place.old Pending.Opening answer.now self.new place.new result }
         ensures kept { KeepsCourse self.old self.new place.new result }
+        ensures due { IsSome place.old → IsDue result }
+        ensures opened { IsSome (reached_by answer.now) → IsDue result }
     {
-        match Reached::of(&answer) {
-            None => self.not_opened(place, refusal_of(&answer)),
+        match Reached::of(answer) {
+            None => self.not_opened(place, refusal_of(answer)),
             Some(new) => {
                 if self.must_follow(new.kind()) {
                     self.follow(place, new)
@@ -268,6 +278,7 @@ impl Course {
             (follows_next_link self.now.plan) (name_in (next_part self.now.plan))
             (todo_of (stayed self.now.plan)) error }
         ensures kept { KeepsCourse self.now self.now place.new result }
+        ensures due { IsSome place.old → IsDue result }
     {
         if error == Errno::NotFound && self.plan.goal() == Goal::Deepest && self.plan.is_own() {
             self.end(place)
@@ -284,6 +295,7 @@ impl Course {
             ≡ follows_link (course_way self.now) (position_at self.now place.old) (handle_of link)
             (todo_of (stayed self.now.plan)) }
         ensures kept { KeepsCourse self.now self.now place.new result }
+        ensures due { IsDue result }
     {
         if self.plan.links_left() == 0 || self.plan.flags().no_links {
             self.fail_with(place, link, Errno::Loop)
@@ -297,6 +309,7 @@ impl Course {
         ensures turn { next_turn self.now place.new result
             ≡ more (closing new.handle (numbers_of place.old) (gives error)) }
         ensures kept { KeepsCourse self.now self.now place.new result }
+        ensures due { IsDue result }
     {
         let held = mem::replace(place, None);
         self.close(place, new, held, AfterClose::Gives(error))
@@ -311,6 +324,7 @@ impl Course {
             (name_in (next_part self.old.plan)) (handle_of new) (todo_of (stayed self.old.plan))
             (next_turn self.new place.new result) }
         ensures kept { KeepsCourse self.old self.new place.new result }
+        ensures due { IsDue result }
     {
         match self.plan.entered() {
             Err(_) => self.fail_with(place, new, Errno::NoMemory),

@@ -1,12 +1,12 @@
 //! What a path means, how it is passed while the tree changes, and the walk that passes it.
 //!
 //! A `Walk` asks for one step at a time and is told its answer, so that others may change the tree in between
-//! (openat2(2), RESOLVE_IN_ROOT; path_resolution(7)). Its `start`, `due` and `take` are exactly the order of
-//! steps of `specs/Order.antt`, and each `take` leaves fewer steps to come. What holds of that order in every legal
-//! history is the law `headline`, which `specs/Headline.antt` states clause by clause. The layers above use its
-//! parts: `walks_tell`, what holds at each end of a walk, and `walks_mean`, that the end is what the path means where
-//! no other actor changes an entry that the path reads. `start` and `take` have it as their clause `headline`
-//! (`specs/TurnsTell.antt`).
+//! (openat2(2), RESOLVE_IN_ROOT; path_resolution(7)). Its `start`, `due`, `take` and `pass` are exactly the order
+//! of steps of `specs/Order.antt`, and each `take` leaves fewer steps to come. `pass` is `take` in place, of the
+//! turns that surely don't end the walk. What holds of that order in every legal history is the law `headline`,
+//! which `specs/Headline.antt` states clause by clause. The layers above use its parts: `walks_tell`, what holds at
+//! each end of a walk, and `walks_mean`, that the end is what the path means where no other actor changes an entry
+//! that the path reads. `start`, `take` and `pass` have it as their clause `headline` (`specs/TurnsTell.antt`).
 #![tactic(auto)]
 
 mod answers;

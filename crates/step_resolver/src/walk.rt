@@ -1,11 +1,15 @@
 //! A walk along a path below a root.
-ghost use Rattle.std.specs.Prelude.{◌≡◌, ◌<◌, ◌≤◌, [], Bool, true, false, IsTrue, length};
+ghost use Rattle.std.specs.Prelude.{◌≡◌, ◌<◌, ◌≤◌, ◌↔◌, [], Bool, true, false, IsSome, IsTrue, length};
+ghost use Rattle.handles.specs.Objects.{reached_by};
 ghost use Rattle.path_text.specs.declared.path.TheConstants.{PARTS_MAX};
+ghost use Rattle.step_resolver.specs.declared.pending.Next.TheVariants.{Due};
+ghost use Rattle.step_resolver.specs.View.{HoldsNoLink};
+ghost use Rattle.step_resolver.specs.TurnView.{IsDue};
 
 use crate::course::{self, Course};
 use crate::footprint_laws::walks_mean;
 use crate::laws::walks_tell;
-use crate::pending::{End, Next, Pending};
+use crate::pending::{AfterClose, End, Next, Pending};
 use handles::{Owner, Reached, Standing};
 use path_text::{Errno, Flags, NoMemory, PARTS_MAX, Parts, Path};
 use std::alloc::{AllocFailed, Global};
@@ -71,7 +75,7 @@ pub enum Turn {
 }
 
 impl Walk {
-    ghost use Rattle.step_resolver.specs.Order.{due, for_walk, goes_on, root_itself, steps_left};
+    ghost use Rattle.step_resolver.specs.Order.{due, for_walk, goes_on, more, passes, root_itself, steps_left};
     ghost use Rattle.step_resolver.specs.View.{way_from, course_way, todo_of, walking_of, IsPending, is_ending};
     ghost use Rattle.step_resolver.specs.TurnView.{turn_view, Keeps, StartsTo, TakesTo, steps_to_come, STEPS_MAX};
     ghost use Rattle.step_resolver.specs.TurnsTell.{TellsBegun, TellsTaken};
@@ -195,6 +199,57 @@ impl Walk {
         self.taken(answer)
     }
 
+    /// Takes the answer to the due step in place, where this is an Open or a Close after which the walk surely goes on:
+    /// true, and the walk is at the next turn, that of `take`. Otherwise false, nothing is changed, and the answer is
+    /// for `take`. Most turns pass, and move nothing.
+    #[tactic(auto, using(crate::proofs::TurnsTell::taken_tells))]
+    pub fn pass(&mut self, answer: &Answer) -> bool
+        ensures which { result ≡ passes self.old.walking answer.now }
+        ensures turn { IsTrue result → TakesTo self.old.way self.old.walking answer.now (more self.new.walking) }
+        ensures kept { (self.new.owner ≡ self.old.owner) × (self.new.way ≡ self.old.way) }
+        ensures fewer { IsTrue result → steps_left self.new.walking < steps_left self.old.walking }
+        ensures headline { IsTrue result
+            → TellsTaken self.old.way self.old.walking answer.now (more self.new.walking) }
+        ensures left { result ≡ false → self.new ≡ self.old }
+    {
+        // What every walk's end tells, which `headline` says of this turn.
+        walks_tell();
+        walks_mean();
+        self.passed(answer)
+    }
+
+    // The same, as the order of steps has it.
+    fn passed(&mut self, answer: &Answer) -> bool
+        ensures which { result ≡ passes self.old.walking answer.now }
+        ensures turn { IsTrue result → TakesTo self.old.way self.old.walking answer.now (more self.new.walking) }
+        ensures kept { (self.new.owner ≡ self.old.owner) × (self.new.way ≡ self.old.way) }
+        ensures left { result ≡ false → self.new ≡ self.old }
+    {
+        let State {
+            course,
+            place,
+            pending,
+        } = &mut *self.state;
+        match pending {
+            Pending::Opening if place.is_some() || has_opened(answer) => {
+                let next = course.opened(place, answer);
+                goes_on(pending, next);
+                return true;
+            }
+            Pending::Closing {
+                first: _,
+                second: None,
+                after: AfterClose::Onward,
+            } if place.is_some() => {
+                let next = course.go_on(place);
+                goes_on(pending, next);
+                return true;
+            }
+            _ => {}
+        }
+        false
+    }
+
     // The same, as the order of steps has it. Part of its caller, since a turn is larger than what most turns move.
     #[inline(always)]
     fn taken(self, answer: Answer) -> Turn
@@ -243,6 +298,33 @@ impl Walk {
     }
 }
 
+// The step that comes next takes the place of one that holds no link.
+fn goes_on(pending: &mut Pending, next: Next)
+    requires no_link { HoldsNoLink pending.old }
+    requires due { IsDue next }
+    ensures { next ≡ Due pending.new }
+{
+    match next {
+        // The one that comes back holds nothing. An assignment would have to drop it, and no step can be.
+        Next::Due(due) => mem::replace(pending, due).let_go(),
+        Next::Failed(_) => unreachable!(),
+    }
+}
+
+// Whether an object was opened.
+fn has_opened(answer: &Answer) -> bool
+    ensures { IsTrue result ↔ IsSome (reached_by answer.now) }
+{
+    matches!(
+        answer,
+        Answer::Opened {
+            handle: _,
+            node: _,
+            kind: _,
+        }
+    )
+}
+
 impl State {
     ghost use Rattle.step_resolver.specs.View.{HoldsNothing, HoldsNoLink, IsPending, is_ending};
     ghost use Rattle.step_resolver.specs.TurnView.{TakesOn, KeepsCourse};
@@ -258,7 +340,7 @@ impl State {
         ensures no_link { HoldsNoLink self.new.pending }
     {
         match &self.pending {
-            Pending::Opening => self.course.opened(&mut self.place, answer),
+            Pending::Opening => self.course.opened(&mut self.place, &answer),
             Pending::Reading(_) => self.read(answer),
             Pending::Rising => self.course.risen(&mut self.place, answer),
             Pending::Judging => self.course.judged(&mut self.place, answer),

@@ -1,65 +1,64 @@
--- The way from the top to a new entry, name by name.
-use Rattle.std.proofs.Common.{◌≡◌, ℕ, suc, take, ◌+◌, ◌<◌, List, [], ◌∷◌, ◌++◌, length, get_or, drop, true, false, not, Some, None, Result, Ok, Err, refl, ap, subst, ◌∙◌, arith}
+-- An entry is added in the directory to which its names but the last lead, and entries one after another.
+use Rattle.std.proofs.Common.{◌≡◌, ℕ, zero, suc, take, ◌+◌, ◌-◌, ◌<◌, Bool, List, [], ◌∷◌, ◌++◌, length, get_or, drop, true, false, not, Option, Some, None, Result, Ok, Err, refl, sym, ap, ◌∙◌, arith}
 use Rattle.std.specs.Prelude.{slice_get}
-use Rattle.std.proofs.lemmas.List.{drop_more, take_more, length-drop, nil_from_length}
-use Rattle.std.proofs.lemmas.Option.{slice_get-get_or}
+use Rattle.std.proofs.lemmas.List.{drop_more, take_more}
+use Rattle.std.proofs.lemmas.Option.{slice_get-get_or, same_Some}
 use Rattle.path_text.specs.declared.errno.Errno.{Errno}
 use Rattle.path_text.specs.declared.errno.Errno.TheVariants.{NotFound, NotDir}
-use Rattle.path_text.specs.Text.{text_fault}
 use Rattle.tree_model.specs.declared.inode.Inode.{Inode}
 use Rattle.tree_model.specs.declared.inode.Object.{Object}
-use Rattle.tree_model.specs.State.{child, is_dir}
+use Rattle.tree_model.specs.State.{TOP, child, is_dir}
+use Rattle.tree_model.specs.Steps.{directory_at}
 use Rattle.tree_model.specs.Entries.{refuse_if, with_some, makes}
-use Rattle.tree_model.specs.Trees.{HasPathText}
-use Rattle.tree_list.proofs.Ways.{drop_from_get}
-use Rattle.tree_list.specs.Build.{new_fault, object_of, makes_at, adds, adds_all, with_added}
+use Rattle.tree_list.specs.Build.{new_fault, object_of, way, makes_at, adds, adds_all, with_added}
 use Rattle.tree_list.specs.declared.build.Entry.{Entry}
-use Rattle.tree_list.specs.declared.build.New.{New}
-use Rattle.tree_list.specs.declared.build.New.TheVariants.{Dir, File, Link}
 use Rattle.tree_list.specs.declared.build.BuildFault.{BuildFault}
 
-makes_at-on : (nodes : List Inode) (x : ℕ) (n : List ℕ) (names : List (List ℕ)) (what : Object) → 0 < length names
-    → makes_at nodes x (n ∷ names) what ≡ refuse_if (not (is_dir nodes x)) (Err NotDir) (with_some (child nodes x n) (Err NotFound) (λ c. makes_at nodes c names what))
-makes_at-on nodes x n [] what more = absurd (omega (arith, more))
-makes_at-on nodes x n (m ∷ names) what more = refl
+-- what is done in a directory that was found, or why none was
+abbrev in_found : Result ℕ Errno → (ℕ → Result (List Inode) Errno) → Result (List Inode) Errno
+in_found (Err error) f = Err error
+in_found (Ok d) f = f d
 
--- one name on
-makes_at_more : (nodes : List Inode) (x : ℕ) (names : List (List ℕ)) (i : ℕ) (n : List ℕ) (what : Object) → slice_get names i ≡ Some n → i + 1 < length names
-    → makes_at nodes x (drop i names) what ≡ refuse_if (not (is_dir nodes x)) (Err NotDir) (with_some (child nodes x n) (Err NotFound) (λ c. makes_at nodes c (drop (i + 1) names) what))
-makes_at_more nodes x names i n what is more =
-    rw (drop_from_get names i n is)
-    (makes_at-on nodes x n (drop (i + 1) names) what (omega (arith, length-drop (i + 1) names, more)))
+refused_once : (b : Bool) (x : ℕ) (r : Result (List Inode) Errno) (f : ℕ → Result (List Inode) Errno) → f x ≡ refuse_if b (Err NotDir) r
+    → f x ≡ in_found (refuse_if b (Err NotDir) (Ok x)) f
+refused_once true x r f e = e
+refused_once false x r f e = refl
 
-pub makes_at_no_directory : (nodes : List Inode) (x : ℕ) (names : List (List ℕ)) (i last : ℕ) (what : Object) → length names ≡ last + 1 → i < last → is_dir nodes x ≡ false
-    → makes_at nodes x (drop i names) what ≡ Err NotDir
-makes_at_no_directory nodes x names i last what count before not_dir =
-    let n = get_or names i [] in
-    makes_at_more nodes x names i n what (slice_get-get_or names i [] (omega (arith, count, before))) (omega (arith, count, before))
-    ∙ ap (λ t. refuse_if (not t) (Err NotDir) (with_some (child nodes x n) (Err NotFound) (λ c. makes_at nodes c (drop (i + 1) names) what))) not_dir
+found_below : (b : Bool) (o : Option ℕ) (g : ℕ → Result ℕ Errno) (f h : ℕ → Result (List Inode) Errno) → ((c : ℕ) → h c ≡ in_found (g c) f)
+    → refuse_if b (Err NotDir) (with_some o (Err NotFound) h) ≡ in_found (refuse_if b (Err NotDir) (with_some o (Err NotFound) g)) f
+found_below true o g f h e = refl
+found_below false None g f h e = refl
+found_below false (Some c) g f h e = e c
 
-pub makes_at_missing : (nodes : List Inode) (x : ℕ) (names : List (List ℕ)) (i last : ℕ) (n : List ℕ) (what : Object) → length names ≡ last + 1 → i < last
-    → slice_get names i ≡ Some n → is_dir nodes x ≡ true → child nodes x n ≡ None → makes_at nodes x (drop i names) what ≡ Err NotFound
-makes_at_missing nodes x names i last n what count before is dir none =
-    makes_at_more nodes x names i n what is (omega (arith, count, before)) ∙ rw (dir, none) refl
+-- a node is made in the directory to which the names but the last lead
+makes_at-in : (nodes : List Inode) (x : ℕ) (names : List (List ℕ)) (last : ℕ) (n : List ℕ) (what : Object) → length names ≡ last + 1 → slice_get names last ≡ Some n
+    → makes_at nodes x names what ≡ in_found (directory_at nodes x (take last names)) (λ d. makes nodes d n what)
+makes_at-in nodes x [] last n what count is = absurd (omega arith)
+makes_at-in nodes x (m ∷ []) zero n what count is =
+    let same : m ≡ n = cc (is) in
+    ap (λ name. makes nodes x name what) same ∙ refused_once (not (is_dir nodes x)) x _ (λ d. makes nodes d n what) refl
+makes_at-in nodes x (m ∷ []) (suc last) n what count is = absurd (omega arith)
+makes_at-in nodes x (m ∷ k ∷ names) zero n what count is = absurd (omega arith)
+makes_at-in nodes x (m ∷ k ∷ names) (suc last) n what count is =
+    found_below (not (is_dir nodes x)) (child nodes x m) (λ c. directory_at nodes c (take last (k ∷ names))) (λ d. makes nodes d n what) (λ c. makes_at nodes c (k ∷ names) what)
+    (λ c. makes_at-in nodes c (k ∷ names) last n what (omega arith) is)
 
-pub makes_at_enters : (nodes : List Inode) (x c : ℕ) (names : List (List ℕ)) (i last : ℕ) (n : List ℕ) (what : Object) → length names ≡ last + 1 → i < last
-    → slice_get names i ≡ Some n → is_dir nodes x ≡ true → child nodes x n ≡ Some c → makes_at nodes x (drop i names) what ≡ makes_at nodes c (drop (i + 1) names) what
-makes_at_enters nodes x c names i last n what count before is dir found =
-    makes_at_more nodes x names i n what is (omega (arith, count, before)) ∙ rw (dir, found) refl
+module _ (nodes : List Inode) (entry : Entry) (last : ℕ) (n : List ℕ) (fits : new_fault entry.what ≡ None) (count : length entry.at ≡ last + 1) (is : slice_get entry.at last ≡ Some n) where
+  adds-in : adds nodes entry ≡ in_found (directory_at nodes TOP (way entry.at)) (λ d. makes nodes d n (object_of entry.what))
+  adds-in =
+      let whole : length entry.at - 1 ≡ last = omega arith in
+      rw (fits, whole) (makes_at-in nodes TOP entry.at last n (object_of entry.what) count is)
 
--- the last name
-pub makes_at_last : (nodes : List Inode) (x : ℕ) (names : List (List ℕ)) (last : ℕ) (n : List ℕ) (what : Object) → length names ≡ last + 1 → slice_get names last ≡ Some n
-    → makes_at nodes x (drop last names) what ≡ makes nodes x n what
-makes_at_last nodes x names last n what count is =
-    let none : drop (last + 1) names ≡ [] = nil_from_length (drop (last + 1) names) (omega (arith, length-drop (last + 1) names, count)) in
-    rw (drop_from_get names last n is, none) refl
+  pub adds_found : (dir : ℕ) → directory_at nodes TOP (way entry.at) ≡ Ok dir → adds nodes entry ≡ makes nodes dir n (object_of entry.what)
+  adds_found dir found = adds-in ∙ ap (λ r. in_found r (λ d. makes nodes d n (object_of entry.what))) found
 
--- a link whose text has no fault has the text of a path
-pub new_has_text : (what : New) → new_fault what ≡ None → HasPathText (object_of what)
-new_has_text Dir fits text is = absurd (cc is)
-new_has_text File fits text is = absurd (cc is)
-new_has_text (Link link_text) fits text is =
-    let same : link_text ≡ text = cc is in subst (λ t. text_fault t ≡ None) same fits
+  adds_in_none : (error : Errno) → directory_at nodes TOP (way entry.at) ≡ Err error → adds nodes entry ≡ Err error
+  adds_in_none error none = adds-in ∙ ap (λ r. in_found r (λ d. makes nodes d n (object_of entry.what))) none
+
+pub adds_not_found : (nodes : List Inode) (entry : Entry) (last : ℕ) (error : Errno) → new_fault entry.what ≡ None → length entry.at ≡ last + 1
+    → directory_at nodes TOP (way entry.at) ≡ Err error → adds nodes entry ≡ Err error
+adds_not_found nodes entry last error fits count none =
+    adds_in_none nodes entry last (get_or entry.at last []) fits count (slice_get-get_or entry.at last [] (omega arith)) error none
 
 -- one entry on
 pub adds_all_more : (i : ℕ) (nodes added : List Inode) (entries : List Entry) (entry : Entry) → i < length entries → entry ≡ get_or entries i entry → adds nodes entry ≡ Ok added → adds_all i nodes (drop i entries) ≡ adds_all (i + 1) added (drop (i + 1) entries)
@@ -83,3 +82,9 @@ adds_all-push k nodes mid last (first ∷ entries) entry made all =
 pub adds_all_take_more : (k i : ℕ) (nodes mid last : List Inode) (entries : List Entry) (entry : Entry) → i < length entries → entry ≡ get_or entries i entry → adds mid entry ≡ Ok last → adds_all k nodes (take i entries) ≡ Ok mid → adds_all k nodes (take (i + 1) entries) ≡ Ok last
 adds_all_take_more k i nodes mid last entries entry more is made all =
     rw (take_more entries i entry more, ← is) (adds_all-push k nodes mid last (take i entries) entry made all)
+
+-- the entry before the next
+pub entry_before : (entries : List Entry) (i : ℕ) (entry before : Entry) → i < length entries → entry ≡ get_or entries i entry → slice_get entries (i + 1 - 1) ≡ Some before → entry ≡ before
+entry_before entries i entry before more is there =
+    let here : i + 1 - 1 ≡ i = omega arith in
+    is ∙ same_Some (get_or entries i entry) before (sym (slice_get-get_or entries i entry more) ∙ (rw here at there))

@@ -1,21 +1,32 @@
 -- The index of a tree's entries as the nodes grow.
-use Rattle.std.proofs.Common.{◌≡◌, ℕ, suc, ◌+◌, Bool, true, false, ◌&&◌, cond, List, [], ◌∷◌, ◌++◌, length, Option, Some, None, Ordering, Less, Equal, Greater, refl, sym, ap, ◌∙◌, zero-add, arith}
-use Rattle.std.specs.BTreeMap.{BTreeMap, get, Updates, IsEmpty}
-use Rattle.std.specs.Cmp.{unsigned_ties}
-use Rattle.std.specs.Cmp.Lexicographic.{slice_cmp, texts_ties}
-use Rattle.std.specs.Map.{lookup}
-use Rattle.std.specs.Ordering.{nat_cmp, is_eq, ordering_then}
+use Rattle.std.proofs.Common.{◌≡◌, ℕ, zero, suc, ◌+◌, Bool, true, false, ◌<◌, ◌≢◌, cond, List, [], ◌∷◌, ◌++◌, length, get_or, slice_set, inl, inr, eq-eqb, Option, Some, None, refl, sym, ap, ◌∙◌, zero-add, length-append, arith}
+use Rattle.std.proofs.lemmas.Bool.{false≢true, cases_eq, ne_eqb}
+use Rattle.std.proofs.lemmas.List.{length-set}
+use Rattle.std.specs.Option.{option_and_then}
+use Rattle.std.specs.BTreeMap.{BTreeMap, get_by, IsEmpty}
+use Rattle.std.specs.Cmp.Lexicographic.{slice_cmp, texts_ties, bytes_decides}
+use Rattle.std.specs.Global.{Vec}
+use Rattle.std.specs.Map.{lookup, KeepsOthers}
+use Rattle.std.specs.Ordering.{nat_cmp, is_eq, eq_by_cmp}
 use Rattle.path_text.specs.Name.{same_bytes}
 use Rattle.tree_model.specs.declared.inode.Inode.{Inode}
 use Rattle.tree_model.specs.declared.inode.Object.{Object}
 use Rattle.tree_model.specs.declared.inode.Place.{Place}
 use Rattle.tree_model.specs.State.{child, child_from, is_at}
 use Rattle.tree_model.proofs.Children.{entry, is_at-true}
+use Rattle.tree_model.proofs.StepLaws.{slice_get-set_other}
 use Rattle.tree_list.specs.Build.{top_alone}
-use Rattle.tree_list.specs.Index.{place_order, IsIndexOf}
+use Rattle.tree_list.specs.Index.{node_in, PutsNode, IsIndexOf}
 
-pub index-empty : (index : BTreeMap Place ℕ) → IsEmpty index → IsIndexOf top_alone index
-index-empty index none at = ap (lookup (λ k. is_eq (place_order at k))) none
+-- a map without entries for one node more
+node_in-empty_more : (index : List (BTreeMap (Vec ℕ) ℕ)) (map : BTreeMap (Vec ℕ) ℕ) → IsEmpty map → (d : ℕ) (n : List ℕ) → node_in (index ++ map ∷ []) d n ≡ node_in index d n
+node_in-empty_more [] map none zero n = ap (lookup (λ k. is_eq (slice_cmp nat_cmp n k.items))) none
+node_in-empty_more [] map none (suc d) n = refl
+node_in-empty_more (first ∷ index) map none zero n = refl
+node_in-empty_more (first ∷ index) map none (suc d) n = node_in-empty_more index map none d n
+
+pub index-empty : (map : BTreeMap (Vec ℕ) ℕ) → IsEmpty map → IsIndexOf top_alone (map ∷ [])
+index-empty map none = record { found = λ d n. node_in-empty_more [] map none d n; count = refl }
 
 -- what is found among the nodes and one more
 abbrev or_last : Bool → ℕ → Option ℕ → Option ℕ
@@ -41,18 +52,6 @@ child-one_more nodes object p d n =
     child_from-one_more 0 nodes (record { object = object; place = Some p }) d n
     ∙ ap (λ m. or_last (is_at d n (Some p)) m (child nodes d n)) (zero-add (length nodes))
 
-is_eq-then : (o p : Ordering) → is_eq (ordering_then o p) ≡ (is_eq o && is_eq p)
-is_eq-then Less p = refl
-is_eq-then Equal p = refl
-is_eq-then Greater p = refl
-
--- the order ties where the entry is the one
-ties : (p at : Place) → is_eq (place_order p at) ≡ is_at at.parent at.name (Some p)
-ties p at =
-    is_eq-then (nat_cmp p.parent at.parent) (slice_cmp nat_cmp p.name at.name)
-    ∙ sym (ap (λ b. b && same_bytes p.name at.name) (unsigned_ties p.parent at.parent)
-    ∙ ap (λ b. is_eq (nat_cmp p.parent at.parent) && b) (texts_ties p.name at.name))
-
 updated : (nodes : List Inode) (p at : Place) (k : ℕ) → child nodes p.parent p.name ≡ None → (b : Bool) → is_at at.parent at.name (Some p) ≡ b
     → (o : Option ℕ) → child nodes at.parent at.name ≡ o → cond b (Some k) o ≡ or_last b k o
 updated nodes p at k free b e None q = refl
@@ -61,11 +60,69 @@ updated nodes p at k free true e (Some c) q =
     let same : Some p ≡ Some (entry at.parent at.name) = is_at-true at.parent at.name (Some p) e in
     absurd (cc (same, free, q))
 
-pub index-one_more : (nodes : List Inode) (index new : BTreeMap Place ℕ) (object : Object) (p : Place) → IsIndexOf nodes index → child nodes p.parent p.name ≡ None
-    → Updates place_order index new p (Some (length nodes)) → IsIndexOf (nodes ++ record { object = object; place = Some p } ∷ []) new
-index-one_more nodes index new object p is free changed at =
-    changed.0 at
-    ∙ ap (λ b. cond b (Some (length nodes)) (get place_order index at)) (ties p at)
-    ∙ ap (λ o. cond (is_at at.parent at.name (Some p)) (Some (length nodes)) o) (is at)
-    ∙ updated nodes p at (length nodes) free (is_at at.parent at.name (Some p)) refl (child nodes at.parent at.name) refl
-    ∙ sym (child-one_more nodes object p at.parent at.name)
+pub index-one_more : (nodes : List Inode) (index put : List (BTreeMap (Vec ℕ) ℕ)) (map : BTreeMap (Vec ℕ) ℕ) (object : Object) (p : Place) → IsIndexOf nodes index
+    → child nodes p.parent p.name ≡ None → PutsNode index put p (length nodes) → IsEmpty map
+    → IsIndexOf (nodes ++ record { object = object; place = Some p } ∷ []) (put ++ map ∷ [])
+index-one_more nodes index put map object p is free changed none = record {
+  found = λ d n.
+      node_in-empty_more put map none d n
+      ∙ changed.nodes d n
+      ∙ ap (λ o. cond (is_at d n (Some p)) (Some (length nodes)) o) (is.found d n)
+      ∙ updated nodes p (entry d n) (length nodes) free (is_at d n (Some p)) refl (child nodes d n) refl
+      ∙ sym (child-one_more nodes object p d n);
+  count = omega (arith, length-append put (map ∷ []), length-append nodes (record { object = object; place = Some p } ∷ []), changed.count, is.count);
+}
+
+-- ---- one map is changed
+
+-- a name's order ties with that of the same bytes
+ties : (n m : List ℕ) → is_eq (slice_cmp nat_cmp n m) ≡ same_bytes n m
+ties n m = sym (texts_ties n m)
+
+same_name : (n m : List ℕ) → is_eq (slice_cmp nat_cmp n m) ≡ true → n ≡ m
+same_name n m e = (bytes_decides n m).0 (texts_ties n m ∙ e)
+
+module _ {K : Type 0} (bytes : K → List ℕ) where
+  -- what is found by a name after another entry was changed
+  changed_name : (n m : List ℕ) (x : Option ℕ) (old new : List (K × ℕ)) → lookup (λ k. is_eq (slice_cmp nat_cmp n (bytes k))) new ≡ x
+      → KeepsOthers (eq_by_cmp (λ j k. slice_cmp nat_cmp (bytes j) (bytes k))) (λ k. is_eq (slice_cmp nat_cmp n (bytes k))) old new
+      → (b : Bool) → is_eq (slice_cmp nat_cmp n m) ≡ b
+      → lookup (λ k. is_eq (slice_cmp nat_cmp m (bytes k))) new ≡ cond b x (lookup (λ k. is_eq (slice_cmp nat_cmp m (bytes k))) old)
+  unfolding KeepsOthers
+  changed_name n m x old new here others true e = ap (λ q. lookup (λ k. is_eq (slice_cmp nat_cmp q (bytes k))) new) (sym (same_name n m e)) ∙ here
+  changed_name n m x old new here others false e =
+      others (λ k. is_eq (slice_cmp nat_cmp m (bytes k))) (λ j k t. ap (λ q. is_eq (slice_cmp nat_cmp q (bytes k))) (same_name m (bytes j) t))
+      (λ k t. apart k t (is_eq (slice_cmp nat_cmp m (bytes k))) refl)
+    where
+      apart : (k : K) → is_eq (slice_cmp nat_cmp n (bytes k)) ≡ true → (b : Bool) → is_eq (slice_cmp nat_cmp m (bytes k)) ≡ b → b ≡ false
+      apart k t true u = absurd (false≢true (sym e ∙ ap (λ q. is_eq (slice_cmp nat_cmp n q)) (same_name m (bytes k) u) ∙ t))
+      apart k t false u = refl
+
+-- a map of the index is another
+node_in-set : (index : List (BTreeMap (Vec ℕ) ℕ)) (d : ℕ) (map : BTreeMap (Vec ℕ) ℕ) (n : List ℕ) → d < length index
+    → node_in (slice_set index d map) d n ≡ lookup (λ k. is_eq (slice_cmp nat_cmp n k.items)) map.entries
+node_in-set [] d map n less = absurd (omega arith)
+node_in-set (first ∷ index) zero map n less = refl
+node_in-set (first ∷ index) (suc d) map n less = node_in-set index d map n (omega arith)
+
+node_in-get : (index : List (BTreeMap (Vec ℕ) ℕ)) (d : ℕ) (map : BTreeMap (Vec ℕ) ℕ) (n : List ℕ) → d < length index → map ≡ get_or index d map
+    → node_in index d n ≡ lookup (λ k. is_eq (slice_cmp nat_cmp n k.items)) map.entries
+node_in-get [] d map n less is = absurd (omega arith)
+node_in-get (first ∷ index) zero map n less is = ap (λ m. lookup (λ k. is_eq (slice_cmp nat_cmp n k.items)) m.entries) (sym is)
+node_in-get (first ∷ index) (suc d) map n less is = node_in-get index d map n (omega arith) is
+
+node_in-set_other : (index : List (BTreeMap (Vec ℕ) ℕ)) (d : ℕ) (map : BTreeMap (Vec ℕ) ℕ) (f : ℕ) (n : List ℕ) → f ≢ d → node_in (slice_set index d map) f n ≡ node_in index f n
+node_in-set_other index d map f n ne = ap (option_and_then (get_by (λ key. slice_cmp nat_cmp n key.items))) (slice_get-set_other index d map f ne)
+
+pub put_one : (index : List (BTreeMap (Vec ℕ) ℕ)) (d : ℕ) (old new : BTreeMap (Vec ℕ) ℕ) (n : List ℕ) (x : ℕ) → d < length index → old ≡ get_or index d old
+    → lookup (λ k. is_eq (slice_cmp nat_cmp n k.items)) new.entries ≡ Some x
+    → KeepsOthers (eq_by_cmp (λ j k. slice_cmp nat_cmp j.items k.items)) (λ k. is_eq (slice_cmp nat_cmp n k.items)) old.entries new.entries
+    → PutsNode index (slice_set index d new) (entry d n) x
+put_one index d old new n x less is here others = record { nodes = nodes; count = length-set index d new }
+  where
+    nodes : (f : ℕ) (m : List ℕ) → node_in (slice_set index d new) f m ≡ cond (is_at f m (Some (entry d n))) (Some x) (node_in index f m)
+    nodes f m = elim (cases_eq f d) as (λ _. node_in (slice_set index d new) f m ≡ cond (is_at f m (Some (entry d n))) (Some x) (node_in index f m)) [
+      | inl e ↦ rw (e, eq-eqb d d refl, ← ties n m, node_in-set index d new m less, node_in-get index d old m less is)
+          (changed_name (λ k. k.items) n m (Some x) old.entries new.entries here others (is_eq (slice_cmp nat_cmp n m)) refl)
+      | inr ne ↦ rw (ne_eqb d f (λ e. ne (sym e))) (node_in-set_other index d new f m ne)
+    ]

@@ -1,5 +1,6 @@
 pub mod Nodes
 pub mod Building
+pub mod Lasting
 pub mod Sorting
 pub mod Ways
 pub mod Built

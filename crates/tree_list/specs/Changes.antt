@@ -22,7 +22,7 @@ IsGrowth old new wanted result =
     MatchResult result (λ change. IsChange old new wanted change) (λ _. IsOk wanted × (new ≡ old))
 
 -- a change that may want memory before it is known to be refused
-abbrev pub IsTry : List Inode → List Inode → Result (List Inode) Errno → Result (Unit {0}) Errno → Type 0
+abbrev pub IsTry : {A : Type 0} → List Inode → List Inode → Result (List Inode) Errno → Result A Errno → Type 0
 IsTry old new wanted result = MatchResult result (λ _. wanted ≡ Ok new)
     (λ error. ((wanted ≡ Err error) ⊎ (error ≡ errno.NoMemory)) × (new ≡ old))
 

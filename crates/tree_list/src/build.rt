@@ -1,8 +1,8 @@
 //! Adds the entries of a list to nodes, however these are kept, and builds a tree of such a list.
-ghost use Rattle.std.specs.Prelude.{◌≡◌, ◌+◌, length, MatchResult, Ok, IfErr, IfOk, OnOk};
+ghost use Rattle.std.specs.Prelude.{◌≡◌, ◌↔◌, IsTrue, MatchResult, Ok, IfSome, IfErr, IfOk, OnOk};
 ghost use Rattle.tree_model.specs.State.{TOP};
-ghost use Rattle.tree_model.specs.Trees.{HasPathText};
-ghost use Rattle.tree_list.specs.Build.{new_fault, object_of, makes_at, adds, adds_all, built, IsFaultFrom, IsFaultOf};
+ghost use Rattle.tree_model.specs.Steps.{directory_at};
+ghost use Rattle.tree_list.specs.Build.{new_fault, object_of, way, adds, adds_all, built, StandsIn, IsFaultFrom, IsFaultOf};
 ghost use Rattle.tree_list.specs.Changes.{IsTry};
 
 use crate::growing::GrowingNodes;
@@ -10,7 +10,7 @@ use crate::indexed::IndexedNodes;
 use path_text::{Bytes, Errno, Names, NoMemory, Path};
 use std::alloc::Global;
 use thiserror::Error;
-use tree_model::{Inode, Object, Place, top};
+use tree_model::{Inode, Node, Object, Place, top};
 
 /// What a new entry is.
 #[derive(Debug, Drop)]
@@ -57,44 +57,70 @@ fn object_of(alloc: Global, what: &New) -> Result<Object, NoMemory>
     })
 }
 
-// Makes a node at the last of these names, below the top.
-fn make_at<N: GrowingNodes>(
-    nodes: &mut N,
-    alloc: Global,
-    names: &Names,
-    last: usize,
-    object: Object,
-) -> Result<(), Errno>
-    requires last { length names.now ≡ last + 1 }
-    requires text { HasPathText object }
-    ensures { IsTry (N.inodes nodes.old) (N.inodes nodes.new)
-        (makes_at (N.inodes nodes.old) TOP names.now object) result }
+// Whether two entries at these names stand in one directory: their names but the last are the same.
+fn are_together(names: &Names, others: &Names) -> bool
+    ensures { IsTrue result ↔ (way names.now ≡ way others.now) }
+{
+    let last = names.len().saturating_sub(1);
+    if others.len().saturating_sub(1) != last {
+        return false;
+    }
+    for at in 0..last {
+        if names.get(at) != others.get(at) {
+            return false;
+        }
+    }
+    true
+}
+
+// The directory of an entry at these names, found from the top.
+fn directory_of<N: GrowingNodes>(nodes: &N, names: &Names) -> Result<Node, Errno>
+    ensures { result ≡ directory_at (N.inodes nodes.now) TOP (way names.now) }
 {
     let mut dir = top();
-    for step in 0..last {
+    for step in 0..names.len().saturating_sub(1) {
         if !nodes.is_dir(dir) {
             return Err(Errno::NotDir);
         }
-        let at = Place {
-            parent: dir,
-            name: names.to_name(alloc, step)?,
-        };
-        let Some(next) = nodes.node_at(&at) else {
+        let Some(next) = nodes.node_at(dir, &names.lend(step)) else {
             return Err(Errno::NotFound);
         };
         dir = next;
     }
-    let at = Place {
-        parent: dir,
-        name: names.to_name(alloc, last)?,
-    };
-    nodes.grow(alloc, at, object)?
+    if !nodes.is_dir(dir) {
+        return Err(Errno::NotDir);
+    }
+    Ok(dir)
 }
 
-// Adds an entry.
-#[tactic(auto, using(crate::proofs::Building::new_has_text))]
-fn add<N: GrowingNodes>(nodes: &mut N, alloc: Global, entry: &Entry) -> Result<(), Errno>
-    ensures { IsTry (N.inodes nodes.old) (N.inodes nodes.new) (adds (N.inodes nodes.old) entry.now) result }
+// The same, where another entry's names are given, and its directory if that is known. Entries mostly follow others of
+// their directory, which is then not looked up again.
+fn directory_near<N: GrowingNodes>(
+    nodes: &N,
+    before: &Names,
+    known: Option<Node>,
+    names: &Names,
+) -> Result<Node, Errno>
+    requires { IfSome known (StandsIn (N.inodes nodes.now) before.now) }
+    ensures { result ≡ directory_at (N.inodes nodes.now) TOP (way names.now) }
+{
+    match known {
+        Some(dir) if are_together(before, names) => Ok(dir),
+        _ => directory_of(nodes, names),
+    }
+}
+
+// Adds an entry, and tells in which directory. The names of another are given, and its directory if that is known.
+fn add<N: GrowingNodes>(
+    nodes: &mut N,
+    alloc: Global,
+    before: &Names,
+    known: Option<Node>,
+    entry: &Entry,
+) -> Result<Node, Errno>
+    requires { IfSome known (StandsIn (N.inodes nodes.old) before.now) }
+    ensures added { IsTry (N.inodes nodes.old) (N.inodes nodes.new) (adds (N.inodes nodes.old) entry.now) result }
+    ensures dir { IfOk result (StandsIn (N.inodes nodes.new) entry.now.at) }
 {
     if let Some(fault) = new_fault(&entry.what) {
         return Err(fault);
@@ -103,7 +129,13 @@ fn add<N: GrowingNodes>(nodes: &mut N, alloc: Global, entry: &Entry) -> Result<(
         return Err(Errno::Exists);
     };
     let object = object_of(alloc, &entry.what)?;
-    make_at(nodes, alloc, &entry.at, last, object)
+    let dir = directory_near(nodes, before, known, &entry.at)?;
+    let at = Place {
+        parent: dir,
+        name: entry.at.to_name(alloc, last)?,
+    };
+    nodes.grow(alloc, at, object)??;
+    Ok(dir)
 }
 
 /// Adds these entries to the nodes, each at its names below the top, in the order of the list: entry k is the node of
@@ -120,9 +152,12 @@ pub fn add_all<N: GrowingNodes>(
     ensures ok { OnOk result (adds_all 0 (N.inodes nodes.old) entries.now ≡ Ok (N.inodes nodes.new)) }
     ensures err { IfErr result (IsFaultFrom (N.inodes nodes.old) entries.now) }
 {
+    // The directory of the entry before, once there is one.
+    let mut known = None;
     for (at, entry) in entries.iter().enumerate() {
-        match add(nodes, alloc, entry) {
-            Ok(()) => {}
+        let before = &entries[at.saturating_sub(1)].at;
+        match add(nodes, alloc, before, known, entry) {
+            Ok(dir) => known = Some(dir),
             Err(cause) => return Err(BuildFault { at, cause }),
         }
     }

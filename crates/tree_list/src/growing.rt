@@ -6,7 +6,7 @@ ghost use Rattle.tree_model.specs.Entries.{makes};
 ghost use Rattle.tree_model.specs.Trees.{HasPathText};
 ghost use Rattle.tree_list.specs.Changes.{IsGrowth};
 
-use path_text::{Errno, NoMemory};
+use path_text::{Errno, LentName, NoMemory};
 use std::alloc::Global;
 use tree_model::{Node, Object, Place};
 
@@ -19,9 +19,9 @@ pub trait GrowingNodes {
     fn is_dir(&self, x: Node) -> bool
         ensures { result ≡ is_dir (inodes self.now) x };
 
-    /// The node at an entry.
-    fn node_at(&self, at: &Place) -> Option<Node>
-        ensures { result ≡ child (inodes self.now) at.now.parent at.now.name };
+    /// The node at the entry of that name in a directory.
+    fn node_at(&self, parent: Node, name: &LentName<'_>) -> Option<Node>
+        ensures { result ≡ child (inodes self.now) parent name.now };
 
     /// Makes a node at an entry that wasn't there. NoMemory where its room was refused, which changes nothing.
     fn grow(

@@ -1,12 +1,12 @@
 //! The nodes of a tree by their numbers, and beside them the maps of their entries.
-ghost use Rattle.std.specs.Prelude.{◌≡◌, ◌≢◌, ◌&&◌, ◌++◌, ◌∷◌, [], List, true, false, Some, None, ◌<◌, IfOk, OnOk, OnErr, length};
+ghost use Rattle.std.specs.Prelude.{◌≡◌, ◌≢◌, ◌&&◌, ◌++◌, ◌∷◌, [], List, true, false, Some, None, Err, MatchOption, IfOk, OnOk, OnErr};
 ghost use Rattle.tree_model.specs.State.{put_at, is_directory, is_dir, is_gone, is_within, child, has_entries, names_in, sorted_names};
 ghost use Rattle.tree_model.specs.Entries.{makes, removes_file, removes_dir, moves, replace_fault, replaces, exchanges, renames};
 ghost use Rattle.tree_model.specs.Trees.{IsTree, HasPathText};
-ghost use Rattle.tree_model.specs.declared.tree.TheConstants.{NUMBERS_MAX};
+ghost use Rattle.tree_model.specs.declared.inode.Object.{Object};
 ghost use Rattle.tree_list.specs.Build.{top_alone};
 ghost use Rattle.tree_list.specs.Changes.{IsChange, IsGrowth};
-ghost use Rattle.tree_slab.specs.Index.{is_standing_dir, HasEmptyMaps, HasParentMap, Links, IsIndexed};
+ghost use Rattle.tree_slab.specs.Index.{is_standing_dir, CanMake, HasEmptyMaps, HasParentMap, Links, IsIndexed};
 
 use crate::cached::CachedDirectories;
 use crate::directories::Directories;
@@ -177,36 +177,40 @@ impl Nodes {
     }
 
     // Adds a node at an entry that isn't there. NoMemory where its room was refused.
-    fn add(
-        &mut self,
-        alloc: Global,
-        dir: Node,
-        name: &LentName<'_>,
-        object: Object,
-    ) -> Result<(), NoMemory>
-        requires dir { is_dir self.old dir ≡ true }
-        requires stays { is_gone self.old dir ≡ false }
-        requires free { child self.old dir name.now ≡ None }
-        requires few { length self.old < NUMBERS_MAX }
+    fn add(&mut self, alloc: Global, place: Place, object: Object) -> Result<(), NoMemory>
+        requires free { CanMake self.old place.parent place.name }
         requires text { HasPathText object }
-        ensures ok { OnOk result (self.new
-            ≡ self.old ++ record { object = object; place = Some (record { parent = dir; name = name.now }) }
-            ∷ []) }
+        ensures ok { OnOk result (self.new ≡ self.old ++ record { object = object; place = Some place } ∷ []) }
         ensures err { OnErr result (self.new ≡ self.old) }
     {
         let mapped = is_directory(&object);
-        let place = Place {
-            parent: dir,
-            name: name.copy(alloc)?,
-        };
+        self.inodes.reserve(1)?;
+        self.directories
+            .add(alloc, place.parent, &place.name.lend(), mapped)?;
         let inode = Inode {
             object,
             place: Some(place),
         };
-        self.inodes.reserve(1)?;
-        self.directories.add(alloc, dir, name, mapped)?;
         self.inodes.push_reserved(inode);
         Ok(())
+    }
+
+    // Why no node can be made at an entry.
+    fn make_fault(&mut self, dir: Node, name: &LentName<'_>) -> Option<Errno>
+        ensures fault { MatchOption result (CanMake self.old dir name.now)
+            (λ fault. (object : Object) → makes self.old dir name.now object ≡ Err fault) }
+        ensures same { self.new ≡ self.old }
+    {
+        if !is_dir(self.as_slice(), dir) {
+            return Some(Errno::NotDir);
+        }
+        if is_gone(self.as_slice(), dir) {
+            return Some(Errno::NotFound);
+        }
+        if self.child(dir, name).is_some() {
+            return Some(self.refuse(dir, name, Errno::Exists));
+        }
+        (self.as_slice().len() >= NUMBERS_MAX).then_some(Errno::TooMany)
     }
 
     /// Makes a node at an entry that wasn't there.
@@ -220,19 +224,14 @@ impl Nodes {
         requires { HasPathText object }
         ensures { IsGrowth self.old self.new (makes self.old dir name.now object) result }
     {
-        if !is_dir(self.as_slice(), dir) {
-            return Ok(Err(Errno::NotDir));
+        if let Some(fault) = self.make_fault(dir, name) {
+            return Ok(Err(fault));
         }
-        if is_gone(self.as_slice(), dir) {
-            return Ok(Err(Errno::NotFound));
-        }
-        if self.child(dir, name).is_some() {
-            return Ok(Err(self.refuse(dir, name, Errno::Exists)));
-        }
-        if self.as_slice().len() >= NUMBERS_MAX {
-            return Ok(Err(Errno::TooMany));
-        }
-        self.add(alloc, dir, name, object)?;
+        let place = Place {
+            parent: dir,
+            name: name.copy(alloc)?,
+        };
+        self.add(alloc, place, object)?;
         Ok(Ok(()))
     }
 
@@ -417,8 +416,8 @@ impl GrowingNodes for Nodes {
     }
 
     // While entries are added none is noted.
-    fn node_at(&self, at: &Place) -> Option<Node> {
-        self.directories.mapped(at.parent, &at.name.lend())
+    fn node_at(&self, parent: Node, name: &LentName<'_>) -> Option<Node> {
+        self.directories.mapped(parent, name)
     }
 
     fn grow(
@@ -427,6 +426,10 @@ impl GrowingNodes for Nodes {
         at: Place,
         object: Object,
     ) -> Result<Result<(), Errno>, NoMemory> {
-        self.make(alloc, at.parent, &at.name.lend(), object)
+        if let Some(fault) = self.make_fault(at.parent, &at.name.lend()) {
+            return Ok(Err(fault));
+        }
+        self.add(alloc, at, object)?;
+        Ok(Ok(()))
     }
 }

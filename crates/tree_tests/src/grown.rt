@@ -1,6 +1,6 @@
 //! Nodes in a plain list, to which entries are added one by one.
 use fixtures::{BASE, base_tree, entries};
-use path_text::{Errno, NoMemory};
+use path_text::{Errno, LentName, NoMemory};
 use std::alloc::Global;
 use std::test::Fail;
 use tree_list::{BuildFault, GrowingNodes, add_all};
@@ -21,8 +21,8 @@ impl GrowingNodes for Listed {
         is_dir(&self.nodes, x)
     }
 
-    fn node_at(&self, at: &Place) -> Option<Node> {
-        child(&self.nodes, at.parent, at.name.bytes())
+    fn node_at(&self, parent: Node, name: &LentName<'_>) -> Option<Node> {
+        child(&self.nodes, parent, name.bytes())
     }
 
     fn grow(
@@ -37,7 +37,7 @@ impl GrowingNodes for Listed {
         if is_gone(&self.nodes, at.parent) {
             return Ok(Err(Errno::NotFound));
         }
-        if self.node_at(&at).is_some() {
+        if self.node_at(at.parent, &at.name.lend()).is_some() {
             return Ok(Err(Errno::Exists));
         }
         if self.nodes.len() >= NUMBERS_MAX {

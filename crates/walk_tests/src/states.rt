@@ -1,9 +1,10 @@
 //! A handle's states, each call with values from outside.
-use crate::words::{answer_of, are_printed, closes, reached_by};
+use crate::words::{answer_of, are_printed, closes, let_go, reached_by};
 use fixtures::names_of;
 use handles::{Owner, Reached, Standing};
 use path_text::Names;
 use std::alloc::Global;
+use step_resolver::like_held;
 use tree_model::{Actor, HandleNo, Kind, Node};
 
 // What opens handle 5 on the directory 11.
@@ -126,5 +127,50 @@ fn reaches_only_what_was_opened(rt: HostRuntime) {
 #[test]
 fn stands_only_at_the_expected_names(rt: HostRuntime) {
     let wrong = wrong_judgement(rt.alloc(), JUDGED.as_slice());
+    assert!(rt; wrong.is_empty(), "{wrong}");
+}
+
+// What is opened beside `dir 5 11`, and whether it is the same but for its handle.
+const BESIDE: [(&str, bool); 3] = [
+    ("dir 4 11", true),
+    ("dir 5 12", false),
+    ("file 5 11", false),
+];
+
+// Nothing where the answer opens nothing.
+fn is_like(alloc: Global, held: &Reached, other: &str) -> Option<bool> {
+    match reached_by(alloc, other) {
+        Some(other) => {
+            let like = like_held(held, &other);
+            let_go(other);
+            Some(like)
+        }
+        None => None,
+    }
+}
+
+fn wrong_opened<'a>(alloc: Global, held: &Reached, rows: &[(&'a str, bool)]) -> &'a str {
+    for (other, like) in rows {
+        if is_like(alloc, held, other) != Some(*like) {
+            return other;
+        }
+    }
+    ""
+}
+
+fn wrong_beside<'a>(alloc: Global, opened: &str, rows: &[(&'a str, bool)]) -> &'a str {
+    match reached_by(alloc, opened) {
+        Some(held) => {
+            let wrong = wrong_opened(alloc, &held, rows);
+            let_go(held);
+            wrong
+        }
+        None => "nothing is opened",
+    }
+}
+
+#[test]
+fn what_is_held_but_for_its_handle(rt: HostRuntime) {
+    let wrong = wrong_beside(rt.alloc(), OPENED, BESIDE.as_slice());
     assert!(rt; wrong.is_empty(), "{wrong}");
 }

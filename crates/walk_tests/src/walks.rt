@@ -1,14 +1,15 @@
 //! Walks driven by answers made by hand: the steps in their order, and the ends, as openat2(2) and
 //! path_resolution(7) tell of them.
 //!
-//! A walk is a path below handle 0 and the words of its goal and its restrictions, as `l nofollow no_links`. Its steps
-//! come each with the answer after an arrow.
-use crate::words::{answer_of, are_parts, cut, goal_of, is_number, let_go, reached_by};
+//! A walk is a path below handle 0 and the words of its goal and its restrictions, as `l nofollow no_links`.
+//! Its steps come each with the answer after an arrow: `=>` where the answer passes in place, `->` where it
+//! must be taken.
+use crate::words::{answer_of, are_parts, cut, goal_of, is_number};
 use fixtures::{flags_of, root};
-use handles::{Reached, Standing};
+use handles::Standing;
 use path_text::{Errno, Path};
 use std::alloc::Global;
-use step_resolver::{Turn, Walk, like_held};
+use step_resolver::{Turn, Walk};
 use step_text::Output;
 use tree_model::{Answer, HandleNo};
 
@@ -35,40 +36,40 @@ const BEGINNINGS: [Row; 5] = [
 const NAMES_AND_LINKS: [Row; 7] = [
     (
         "a/b",
-        "open 0 a -> dir 4 11, open 4 b -> file 5 12, close 4 -> done, below 0 5 -> names /a/b",
+        "open 0 a => dir 4 11, open 4 b => file 5 12, close 4 => done, below 0 5 -> names /a/b",
         "opened file 12 /a/b",
     ),
     (
         "l/b",
-        "open 0 l -> link 4 11, read_link 4 -> text c/d, close 4 -> done, open 0 c -> dir 5 12, \
-            open 5 d -> dir 6 13, close 5 -> done, open 6 b -> file 7 14, close 6 -> done, \
+        "open 0 l => link 4 11, read_link 4 -> text c/d, close 4 -> done, open 0 c => dir 5 12, \
+            open 5 d => dir 6 13, close 5 => done, open 6 b => file 7 14, close 6 => done, \
             below 0 7 -> names /c/d/b",
         "opened file 14 /c/d/b",
     ),
     (
         "a/l",
-        "open 0 a -> dir 4 11, open 4 l -> link 5 12, read_link 5 -> text /c, close 5 -> done, \
-            close 4 -> done, open 0 c -> dir 6 13, below 0 6 -> names /c",
+        "open 0 a => dir 4 11, open 4 l => link 5 12, read_link 5 -> text /c, close 5 -> done, \
+            close 4 -> done, open 0 c => dir 6 13, below 0 6 -> names /c",
         "opened dir 13 /c",
     ),
     (
         "l nofollow no_links",
-        "open 0 l -> link 4 11, below 0 4 -> names /l",
+        "open 0 l => link 4 11, below 0 4 -> names /l",
         "opened link 11 /l",
     ),
     (
         "l no_links",
-        "open 0 l -> link 4 11, close 4 -> done",
+        "open 0 l => link 4 11, close 4 -> done",
         "fault ELOOP",
     ),
     (
         "l beneath",
-        "open 0 l -> link 4 11, read_link 4 -> text /c, close 4 -> done",
+        "open 0 l => link 4 11, read_link 4 -> text /c, close 4 -> done",
         "fault EXDEV",
     ),
     (
         "f/",
-        "open 0 f -> file 4 11, close 4 -> done",
+        "open 0 f => file 4 11, close 4 -> done",
         "fault ENOTDIR",
     ),
 ];
@@ -76,24 +77,24 @@ const NAMES_AND_LINKS: [Row; 7] = [
 const CHECKS: [Row; 4] = [
     (
         "a/..",
-        "open 0 a -> dir 4 11, parent 4 -> dir 5 1, close 4 -> done, below 0 5 -> names /, \
+        "open 0 a => dir 4 11, parent 4 -> dir 5 1, close 4 -> done, below 0 5 -> names /, \
             below 0 5 -> names /",
         "opened dir 1 /",
     ),
     (
         "a/../b",
-        "open 0 a -> dir 4 11, parent 4 -> dir 5 20, close 4 -> done, below 0 5 -> not_below, \
+        "open 0 a => dir 4 11, parent 4 -> dir 5 20, close 4 -> done, below 0 5 -> not_below, \
             close 5 -> done",
         "fault EAGAIN",
     ),
     (
         "a/..",
-        "open 0 a -> dir 4 11, parent 4 -> refused ENOENT, close 4 -> done",
+        "open 0 a => dir 4 11, parent 4 -> refused ENOENT, close 4 -> done",
         "fault EAGAIN",
     ),
     (
         "a",
-        "open 0 a -> dir 4 11, below 0 4 -> names /b, close 4 -> done",
+        "open 0 a => dir 4 11, below 0 4 -> names /b, close 4 -> done",
         "fault EAGAIN",
     ),
 ];
@@ -101,7 +102,7 @@ const CHECKS: [Row; 4] = [
 const DEEPEST: [Row; 4] = [
     (
         "a/b/../c deepest",
-        "open 0 a -> dir 4 11, open 4 b -> refused ENOENT, below 0 4 -> names /a",
+        "open 0 a => dir 4 11, open 4 b => refused ENOENT, below 0 4 -> names /a",
         "opened dir 11 /a left b .. c",
     ),
     (
@@ -111,12 +112,12 @@ const DEEPEST: [Row; 4] = [
     ),
     (
         "l/b deepest",
-        "open 0 l -> link 4 11, read_link 4 -> text none, close 4 -> done, open 0 none -> refused ENOENT",
+        "open 0 l => link 4 11, read_link 4 -> text none, close 4 -> done, open 0 none -> refused ENOENT",
         "fault ENOENT",
     ),
     (
         "a/b",
-        "open 0 a -> dir 4 11, open 4 b -> refused ENOENT, close 4 -> done",
+        "open 0 a => dir 4 11, open 4 b => refused ENOENT, close 4 -> done",
         "fault ENOENT",
     ),
 ];
@@ -124,22 +125,54 @@ const DEEPEST: [Row; 4] = [
 const FAILURES: [Row; 5] = [
     (
         "a/l",
-        "open 0 a -> dir 4 11, open 4 l -> link 5 12, read_link 5 -> refused ENOMEM, close 5 -> done, \
+        "open 0 a => dir 4 11, open 4 l => link 5 12, read_link 5 -> refused ENOMEM, close 5 -> done, \
             close 4 -> refused ENOMEM",
         "fault ENOMEM",
     ),
     (
         "a/b",
-        "open 0 a -> dir 4 11, open 4 b -> refused ENOSPC, close 4 -> done",
+        "open 0 a => dir 4 11, open 4 b => refused ENOSPC, close 4 -> done",
         "fault ENOSPC",
     ),
     ("a", "open 0 a -> names /a", "fault EBADF"),
     (
         "a",
-        "open 0 a -> dir 4 11, below 0 4 -> done, close 4 -> not_below",
+        "open 0 a => dir 4 11, below 0 4 -> done, close 4 -> not_below",
         "fault EBADF",
     ),
-    ("a", "open 0 a -> dir 4 11", "more"),
+    ("a", "open 0 a => dir 4 11", "more"),
+];
+
+// What else passes, and what doesn't.
+const IN_PLACE: [Row; 6] = [
+    (
+        "a/l",
+        "open 0 a => dir 4 11, open 4 l => link 5 12, read_link 5 -> text b, close 5 => done, \
+            open 4 b => dir 6 13, close 4 => refused ENOMEM, below 0 6 -> names /a/b",
+        "opened dir 13 /a/b",
+    ),
+    (
+        "a/b/..",
+        "open 0 a => dir 4 11, open 4 b => dir 5 12, close 4 => done, parent 5 -> dir 6 11, close 5 -> done, \
+            below 0 6 -> names /a, below 0 6 -> names /a",
+        "opened dir 11 /a",
+    ),
+    (
+        "a/f/b",
+        "open 0 a => dir 4 11, open 4 f => file 5 12, close 4 => done, close 5 -> done",
+        "fault ENOTDIR",
+    ),
+    (
+        "a/l no_links",
+        "open 0 a => dir 4 11, open 4 l => link 5 12, close 5 -> done, close 4 -> done",
+        "fault ELOOP",
+    ),
+    (
+        "a/b",
+        "open 0 a => dir 4 11, open 4 b => not_below, close 4 -> done",
+        "fault EBADF",
+    ),
+    ("a/b", "open 0 a -> refused ENOENT", "fault ENOENT"),
 ];
 
 fn start(alloc: Global, call: &str) -> Turn {
@@ -156,24 +189,52 @@ fn is_due(alloc: Global, walk: &Walk, line: &str) -> bool {
     written.step(&walk.due()).is_ok() && written.as_slice() == line.as_bytes()
 }
 
-// What the steps lead to, and whether each was due in its turn.
-fn walked(alloc: Global, call: &str, steps: &str) -> (Turn, bool) {
+// A line's step and its answer, and whether that passes in place.
+fn parts_of(line: &str) -> (&str, &str, bool) {
+    match line.split_once(" => ") {
+        Some((step, answer)) => (step, answer, true),
+        None => {
+            let (step, answer) = line.split_once(" -> ").unwrap_or((line, ""));
+            (step, answer, false)
+        }
+    }
+}
+
+// The turn after a line's answer, and whether its step was due. Where the answer is offered to `pass`, also
+// whether it passed as the line says, and left its step due where it didn't.
+fn answered(alloc: Global, mut walk: Walk, line: &str, offers: bool) -> (Turn, bool) {
+    let (step, words, passes) = parts_of(line);
+    let answer = answer_of(alloc, words);
+    let was_due = is_due(alloc, &walk, step);
+    if !offers {
+        return (walk.take(answer), was_due);
+    }
+    if walk.pass(&answer) {
+        return (Turn::More(walk), was_due && passes);
+    }
+    let still_due = is_due(alloc, &walk, step);
+    (walk.take(answer), was_due && still_due && !passes)
+}
+
+// What the steps lead to, and whether each was due in its turn, and passed as its line says where it was
+// offered.
+fn walked(alloc: Global, call: &str, steps: &str, offers: bool) -> (Turn, bool) {
     let mut turn = start(alloc, call);
-    let mut all_due = true;
+    let mut all_right = true;
     for line in steps.split(", ").filter(|line| !line.is_empty()) {
-        let (step, answer) = line.split_once(" -> ").unwrap_or((line, ""));
         turn = match turn {
             Turn::More(walk) => {
-                all_due = all_due & is_due(alloc, &walk, step);
-                walk.take(answer_of(alloc, answer))
+                let (next, is_right) = answered(alloc, walk, line, offers);
+                all_right = all_right & is_right;
+                next
             }
             ended => {
-                all_due = false;
+                all_right = false;
                 ended
             }
         };
     }
-    (turn, all_due)
+    (turn, all_right)
 }
 
 // Tells each step that it wasn't made, until the walk ends.
@@ -207,19 +268,20 @@ fn is_end(alloc: Global, turn: &Turn, end: &str) -> bool {
     }
 }
 
-// Whether each step is due in its turn, and the walk comes to its end.
-fn holds(alloc: Global, call: &str, steps: &str, end: &str) -> bool {
-    let (turn, all_due) = walked(alloc, call, steps);
+// Whether the steps are right, and the walk comes to its end.
+fn holds(alloc: Global, row: &Row<'_>, offers: bool) -> bool {
+    let (call, steps, end) = row;
+    let (turn, all_right) = walked(alloc, call, steps, offers);
     let is_end = is_end(alloc, &turn, end);
     give_up(alloc, turn);
-    all_due && is_end
+    all_right && is_end
 }
 
-// The steps of the first row that doesn't hold.
+// The steps of the first row that doesn't hold where each answer is taken, or is offered to `pass` first.
 fn wrong_steps<'a>(alloc: Global, rows: &[Row<'a>]) -> &'a str {
-    for (call, steps, end) in rows {
-        if !holds(alloc, call, steps, end) {
-            return steps;
+    for row in rows {
+        if !holds(alloc, row, false) || !holds(alloc, row, true) {
+            return row.1;
         }
     }
     ""
@@ -255,50 +317,58 @@ fn closes_what_it_holds_before_it_fails(rt: HostRuntime) {
     assert!(rt; wrong.is_empty(), "{wrong}");
 }
 
-const OPENS: &str = "open 0 a -> dir 4 11";
+#[test]
+fn passes_answers_in_place(rt: HostRuntime) {
+    let wrong = wrong_steps(rt.alloc(), IN_PLACE.as_slice());
+    assert!(rt; wrong.is_empty(), "{wrong}");
+}
 
-const READS: &str = "open 0 a -> dir 4 11, open 4 b -> link 5 12";
+const OPENS: &str = "open 0 a => dir 4 11";
 
-const CLOSES: &str = "open 0 a -> dir 4 11, open 4 b -> link 5 12, read_link 5 -> done";
+const READS: &str = "open 0 a => dir 4 11, open 4 b => link 5 12";
+
+const CLOSES: &str = "open 0 a => dir 4 11, open 4 b => link 5 12, read_link 5 -> done";
 
 // The steps of a walk along `a/b`; another walk and its steps; and whether the two are like each other, and go the same
 // way.
-const LIKE: [(&str, &str, &str, &str); 12] = [
-    (OPENS, "a/b", "open 0 a -> dir 7 11", "walk way"),
-    (OPENS, "a/b deepest", "open 0 a -> dir 7 11", "walk"),
+type Pair<'a> = (&'a str, &'a str, &'a str, &'a str);
+
+const LIKE: [Pair; 12] = [
+    (OPENS, "a/b", "open 0 a => dir 7 11", "walk way"),
+    (OPENS, "a/b deepest", "open 0 a => dir 7 11", "walk"),
     (OPENS, "a/b nofollow", OPENS, "neither"),
-    (OPENS, "a/b", "open 0 a -> dir 4 12", "way"),
+    (OPENS, "a/b", "open 0 a => dir 4 12", "way"),
     (OPENS, "a/c", OPENS, "way"),
-    (OPENS, "c/b", "open 0 c -> dir 4 11", "way"),
+    (OPENS, "c/b", "open 0 c => dir 4 11", "way"),
     (
         OPENS,
         "l/b",
-        "open 0 l -> link 4 9, read_link 4 -> text a, close 4 -> done, open 0 a -> dir 4 11",
+        "open 0 l => link 4 9, read_link 4 -> text a, close 4 -> done, open 0 a => dir 4 11",
         "way",
     ),
     (OPENS, "a/b", READS, "way"),
     (
         READS,
         "a/b",
-        "open 0 a -> dir 5 11, open 5 b -> link 6 12",
+        "open 0 a => dir 5 11, open 5 b => link 6 12",
         "walk way",
     ),
     (
         READS,
         "a/b",
-        "open 0 a -> dir 4 11, open 4 b -> link 5 13",
+        "open 0 a => dir 4 11, open 4 b => link 5 13",
         "way",
     ),
     (
         CLOSES,
         "a/b",
-        "open 0 a -> dir 5 11, open 5 b -> link 6 12, read_link 6 -> done",
+        "open 0 a => dir 5 11, open 5 b => link 6 12, read_link 6 -> done",
         "walk way",
     ),
     (
         CLOSES,
         "a/b",
-        "open 0 a -> dir 4 11, open 4 b -> done",
+        "open 0 a => dir 4 11, open 4 b => done",
         "way",
     ),
 ];
@@ -318,19 +388,21 @@ fn likeness(turn: &Turn, other: &Turn) -> &'static str {
     }
 }
 
-fn is_told(alloc: Global, steps: &str, call: &str, others_steps: &str, told: &str) -> bool {
-    let (turn, _) = walked(alloc, "a/b", steps);
-    let (other, _) = walked(alloc, call, others_steps);
+// Whether that is told of the two. The other walk's answers are taken, also where the first one's pass.
+fn is_told(alloc: Global, pair: &Pair<'_>, offers: bool) -> bool {
+    let (steps, call, others_steps, told) = pair;
+    let (turn, is_right) = walked(alloc, "a/b", steps, offers);
+    let (other, is_other_right) = walked(alloc, call, others_steps, false);
     let likeness = likeness(&turn, &other);
     give_up(alloc, turn);
     give_up(alloc, other);
-    likeness == told
+    is_right && is_other_right && likeness == *told
 }
 
-fn wrong_pair<'a>(alloc: Global, rows: &[(&str, &str, &'a str, &str)]) -> &'a str {
-    for (steps, call, others_steps, told) in rows {
-        if !is_told(alloc, steps, call, others_steps, told) {
-            return others_steps;
+fn wrong_pair<'a>(alloc: Global, rows: &[Pair<'a>]) -> &'a str {
+    for pair in rows {
+        if !is_told(alloc, pair, false) || !is_told(alloc, pair, true) {
+            return pair.2;
         }
     }
     ""
@@ -348,12 +420,12 @@ const HELD: [(&str, &str); 7] = [
     (OPENS, "4"),
     (READS, "4 5"),
     (CLOSES, "5 4"),
-    ("open 0 a -> dir 4 11, open 4 b -> dir 5 12", "4 5"),
+    ("open 0 a => dir 4 11, open 4 b => dir 5 12", "4 5"),
     (
-        "open 0 a -> dir 4 11, open 4 b -> link 5 12, read_link 5 -> text c",
+        "open 0 a => dir 4 11, open 4 b => link 5 12, read_link 5 -> text c",
         "5 4",
     ),
-    ("open 0 a -> dir 4 11, open 4 b -> done", "4"),
+    ("open 0 a => dir 4 11, open 4 b => done", "4"),
 ];
 
 fn are_numbers(handles: &[HandleNo], numbers: &str) -> bool {
@@ -378,16 +450,18 @@ fn holds_handles(alloc: Global, turn: &Turn, numbers: &str) -> bool {
     told && are_numbers(handles.as_slice(), numbers)
 }
 
-fn comes_to_hold(alloc: Global, steps: &str, numbers: &str) -> bool {
-    let (turn, _) = walked(alloc, "a/b/..", steps);
+fn comes_to_hold(alloc: Global, steps: &str, numbers: &str, offers: bool) -> bool {
+    let (turn, is_right) = walked(alloc, "a/b/..", steps, offers);
     let holds = holds_handles(alloc, &turn, numbers);
     give_up(alloc, turn);
-    holds
+    is_right && holds
 }
 
 fn wrong_holder<'a>(alloc: Global, rows: &[(&'a str, &str)]) -> &'a str {
     for (steps, numbers) in rows {
-        if !comes_to_hold(alloc, steps, numbers) {
+        if !comes_to_hold(alloc, steps, numbers, false)
+            || !comes_to_hold(alloc, steps, numbers, true)
+        {
             return steps;
         }
     }
@@ -397,50 +471,5 @@ fn wrong_holder<'a>(alloc: Global, rows: &[(&'a str, &str)]) -> &'a str {
 #[test]
 fn handles_that_a_walk_holds(rt: HostRuntime) {
     let wrong = wrong_holder(rt.alloc(), HELD.as_slice());
-    assert!(rt; wrong.is_empty(), "{wrong}");
-}
-
-// What is opened beside handle 4 on the directory 11, and whether that is the same but for its handle.
-const OPENED: [(&str, bool); 3] = [
-    ("dir 5 11", true),
-    ("dir 4 12", false),
-    ("file 4 11", false),
-];
-
-// Nothing where the answer opens nothing.
-fn is_like(alloc: Global, held: &Reached, other: &str) -> Option<bool> {
-    match reached_by(alloc, other) {
-        Some(other) => {
-            let like = like_held(held, &other);
-            let_go(other);
-            Some(like)
-        }
-        None => None,
-    }
-}
-
-fn wrong_opened<'a>(alloc: Global, held: &Reached, rows: &[(&'a str, bool)]) -> &'a str {
-    for (other, like) in rows {
-        if is_like(alloc, held, other) != Some(*like) {
-            return other;
-        }
-    }
-    ""
-}
-
-fn wrong_beside<'a>(alloc: Global, opened: &str, rows: &[(&'a str, bool)]) -> &'a str {
-    match reached_by(alloc, opened) {
-        Some(held) => {
-            let wrong = wrong_opened(alloc, &held, rows);
-            let_go(held);
-            wrong
-        }
-        None => "nothing is opened",
-    }
-}
-
-#[test]
-fn what_is_held_but_for_its_handle(rt: HostRuntime) {
-    let wrong = wrong_beside(rt.alloc(), "dir 4 11", OPENED.as_slice());
     assert!(rt; wrong.is_empty(), "{wrong}");
 }

@@ -52,9 +52,9 @@ module _ (goes : ℕ → Bool) where
   place_goes true inode = refl
   place_goes false inode = refl
 
-  none_anyway : (b : Bool) (none : Option Place) → none ≡ None → none ≡ (if b then None else none)
-  none_anyway true none e = e
-  none_anyway false none e = refl
+  none_anyway : (b : Bool) (place : Option Place) → place ≡ None → place ≡ (if b then None else place)
+  none_anyway true place e = e
+  none_anyway false place e = refl
 
   pub place_at-without : (k : ℕ) (nodes : List Inode) (x j : ℕ) → j ≡ k + x
       → place_at (without_from goes k nodes) x ≡ (if goes j then None else place_at nodes x)

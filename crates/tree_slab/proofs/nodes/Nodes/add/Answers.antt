@@ -7,10 +7,11 @@ use Rattle.tree_slab.proofs.nodes.Nodes.add.Goals as goal
 
 pub invariant_of-self-2 : goal.invariant_of-self-2
 invariant_of-self-2 c =
-    let dir : is_dir c.self.inside.inodes.items c.args.dir ≡ true = search rules in
-    let stays : is_gone c.self.inside.inodes.items c.args.dir ≡ false = search rules in
-    let free : child c.self.inside.inodes.items c.args.dir c.args.name.now ≡ None = search rules in
+    let place = c.args.place in
+    let dir : is_dir c.self.inside.inodes.items place.parent ≡ true = search rules in
+    let stays : is_gone c.self.inside.inodes.items place.parent ≡ false = search rules in
+    let free : child c.self.inside.inodes.items place.parent place.name ≡ None = search rules in
     let bound : length c.self.inside.inodes.items < NUMBERS_MAX = search rules in
     let few : nat_le NUMBERS_MAX (length c.self.inside.inodes.items) ≡ false = lt-leb NUMBERS_MAX (length c.self.inside.inodes.items) (omega arith) in
-    let grown : c.push_reserved.new.self.items ≡ c.self.inside.inodes.items ++ record { object = c.args.object; place = Some (record { parent = c.args.dir; name = c.args.name.now }) } ∷ [] = search rules in
-    rw grown (made_index c.self.inside.inodes.items c.self.inside.directories c.add.new.self c.self.invariant c.args.dir c.args.name.now c.args.object c.is_directory-mapped.result dir stays free few c.requires.text c.is_directory-mapped.ensures c.in_ok-add.ensures.ok)
+    let grown : c.push_reserved.new.self.items ≡ c.self.inside.inodes.items ++ record { object = c.args.object; place = Some place } ∷ [] = search rules in
+    rw grown (made_index c.self.inside.inodes.items c.self.inside.directories c.add.new.self c.self.invariant place.parent place.name c.args.object c.is_directory-mapped.result dir stays free few c.requires.text c.is_directory-mapped.ensures (rw c.lend.ensures at c.in_ok-add.ensures.ok))

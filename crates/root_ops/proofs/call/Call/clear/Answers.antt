@@ -1,9 +1,0 @@
-use Rattle.std.proofs.Common.{◌∙◌}
-use Rattle.root_ops.specs.TurnView.{turn_view}
-use Rattle.root_ops.proofs.Bulk.{clears_by}
-use Rattle.root_ops.proofs.call.Call.clear.Goals as goal
-
-pub returns-in-Ok-clause-turn : goal.returns-in-Ok-clause-turn
-returns-in-Ok-clause-turn c =
-    clears_by c.args.below c.args.name c.args.directory c.start-turn.result (turn_view c.turned.result) c.start-turn.ensures.turn
-    (λ to is. c.turned.ensures.turn ∙ c.cleared-next.ensures.turn to is)
