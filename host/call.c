@@ -43,21 +43,15 @@ static struct inroot_result make(struct inroot_driver *d, const struct inroot_to
 }
 
 /* Takes turns with the proved call. */
-static ssize_t converse(struct inroot_driver *d, int root, const struct inroot_request *asked, char *room)
+static ssize_t converse(struct inroot_driver *d, const struct inroot_asked *numbers, char *room)
 {
-    struct inroot_asked numbers = {
-        .root = inroot_handles_begin(d, root),
-        .op = (uint8_t)asked->op,
-        .mode = (uint8_t)asked->mode,
-        .beneath = asked->flags & INROOT_BENEATH,
-        .no_links = asked->flags & INROOT_NO_LINKS,
-    };
+    const struct inroot_request *asked = d->asked;
     struct inroot_told told;
     struct inroot_kept kept = {0};
     unsigned char *bytes = (unsigned char *)room;
     /* Apart from the room, which the library writes to while it reads this. */
     char text[INROOT_TEXT_MAX + 1];
-    inroot_begin(&numbers, (const unsigned char *)asked->first, d->first_length, (const unsigned char *)asked->second,
+    inroot_begin(numbers, (const unsigned char *)asked->first, d->first_length, (const unsigned char *)asked->second,
                  d->second_length, &kept, &told, bytes, INROOT_ROOM);
     while (told.what < INROOT_REPLY_OPENED) {
         size_t length;
@@ -114,17 +108,34 @@ static void begin(struct inroot_driver *d, const struct inroot_request *asked)
     inroot_ahead_begin(d);
 }
 
+/* The reply, at once or by a conversation, of which nothing stays open but what is handed out. */
+static ssize_t reply_to(struct inroot_driver *d, int root, const struct inroot_request *asked, char *room)
+{
+    struct inroot_asked numbers = {
+        .op = (uint8_t)asked->op,
+        .mode = (uint8_t)asked->mode,
+        .beneath = asked->flags & INROOT_BENEATH,
+        .no_links = asked->flags & INROOT_NO_LINKS,
+    };
+    int fd = inroot_at_once(d, root, &numbers, room);
+    if (fd >= 0)
+        return fd;
+    numbers.root = inroot_handles_begin(d, root);
+    ssize_t result = converse(d, &numbers, room);
+    inroot_run_drop(d);
+    inroot_handles_end(d);
+    free(d->names);
+    if (result < 0 && d->made >= 0)
+        close(d->made);
+    return result;
+}
+
 ssize_t inroot_once(struct inroot_driver *d, int root, const struct inroot_request *asked, char *room)
 {
     bool jailed = root == INROOT_JAIL;
     begin(d, asked);
-    ssize_t result = converse(d, jailed ? INROOT_JAILED : root, asked, room);
-    inroot_run_drop(d);
-    inroot_handles_end(d);
+    ssize_t result = reply_to(d, jailed ? INROOT_JAILED : root, asked, room);
     inroot_proc_end(d);
-    free(d->names);
-    if (result < 0 && d->made >= 0)
-        close(d->made);
     if (d->moved)
         result = come_home(result, opens(asked));
     /* A step tells of a root that is none. What comes before any step is told after that. */

@@ -1,5 +1,5 @@
 /*
- * calls.h: the proved library's two functions, and what passes between it and a driver. The numbers and bytes are those
+ * calls.h: the proved library's three functions, and what passes between it and a driver. The numbers and bytes are those
  * of crates/c_protocol, whose contracts say what they stand for. A program that makes calls includes inroot.h, and not this.
  */
 #ifndef INROOT_CALLS_H
@@ -64,5 +64,15 @@ void inroot_begin(const struct inroot_asked *asked, const unsigned char *first, 
  */
 void inroot_next(struct inroot_kept *kept, const struct inroot_answered *answered, const unsigned char *bytes,
                  size_t length, struct inroot_told *told, unsigned char *room, size_t size);
+
+/*
+ * Whether a call goes so: PATH's names are opened one after another, each a directory but for the last, which is of this
+ * KIND, and stands at PLACE when it is asked for. Then its reply is what was opened. It is true of a resolve, but not of a
+ * link that it would follow, and of a call that makes all directories, where they are there; and only where PATH is just
+ * the names of PLACE, with a slash between each two and one before the first or none. It takes no memory, changes nothing,
+ * and needs no call under way. docs/HOST.md has the argument.
+ */
+bool inroot_opens_at_once(const struct inroot_asked *asked, const unsigned char *path, size_t path_length, uint8_t kind,
+                          const unsigned char *place, size_t place_length);
 
 #endif

@@ -104,6 +104,7 @@ struct inroot_driver {
     char *names;                   /* those of the directory that was listed last */
     size_t listed;                 /* bytes of names that the call holds */
     uint64_t placed;               /* the handle that was asked about right before, or zero */
+    int tried, tried_error;        /* the whole path, of so many names, was tried at once and failed so; or zero */
     size_t name_length;            /* of the name that `step` was about */
     /* What follows isn't cleared as a call begins: it is set then, or where what it belongs to is. */
     const struct inroot_request *asked;
@@ -162,6 +163,8 @@ void inroot_ahead_put(struct inroot_ahead *a, const char *text, size_t length);
 size_t inroot_ahead_rest(const struct inroot_ahead *a, const char **rest);
 
 /* runs.c */
+/* Passes the whole path from the root where it is several plain names, before any step is made. Whether it could. */
+bool inroot_run_whole(struct inroot_driver *d, int root);
 /* Passes the next name of the path, and names behind it, from this directory, where none are under way. Whether it could. */
 bool inroot_run_begin(struct inroot_driver *d, uint64_t handle);
 /* Answers the Open of the first name of a run, which is so long; and the Open or the Parent with which it goes on. */
@@ -169,6 +172,10 @@ struct inroot_result inroot_run_first(struct inroot_driver *d, size_t length);
 struct inroot_result inroot_run_next(struct inroot_driver *d, const struct inroot_told *step, const char *name);
 struct inroot_result inroot_run_up(struct inroot_driver *d, uint64_t child);
 void inroot_run_drop(struct inroot_driver *d);
+
+/* at_once.c */
+/* Opens the whole path at once, where the library says that this is the reply; or gives INROOT_NONE. */
+int inroot_at_once(struct inroot_driver *d, int root, const struct inroot_asked *numbers, char *text);
 
 /* error.c */
 /* Keeps which step is made and the name it is about, in case the call fails: the next turn overwrites the room. */
@@ -184,13 +191,24 @@ int inroot_proc_open(bool *is_own);
 /* The same, for a call. */
 int inroot_proc_for(struct inroot_driver *d);
 void inroot_proc_end(struct inroot_driver *d);
-/* The name in /proc of a descriptor of this thread, which is written into the room. */
+/* The name in /proc of a descriptor of this thread, which is written into the room: its number, behind that of the table. */
+#define INROOT_PROC_TABLE "thread-self/fd/"
 const char *inroot_proc_name(int fd, char room[INROOT_PROC_NAME]);
 /* The error of a system call on such a name: where there is no such link at all, there is no such /proc. */
 int inroot_proc_error(int proc, const char *name, int error);
-/* Sees to it that this thread has one that stays, and gives 0 or -errno; and lets go of what it keeps for the thread. */
+/* Sees to it that this thread has one that stays, and gives 0 or -errno; and lets go of what is kept for the thread. */
 int inroot_proc_stay(void);
 void inroot_proc_leave(void);
+/* Whether what is kept for this thread will be let go of as it ends; and whether a descriptor is of a proc(5). */
+bool inroot_proc_ends(void);
+bool inroot_proc_is(int fd);
+
+/* trust.c */
+/* Keeps the directory of this thread's descriptors in /proc open, where the kernel lets it: 0 or -errno. */
+int inroot_trust_begin(void);
+void inroot_trust_end(void);
+/* It, or INROOT_NONE where none is kept. */
+int inroot_trust_table(void);
 
 /* jail.c */
 bool inroot_is_jailed(void);
@@ -216,6 +234,9 @@ int inroot_run_alone(int root, const struct inroot_request *asked);
 ssize_t inroot_remove_tree(int root, const struct inroot_request *asked, char *room);
 
 /* place.c */
+/* Where what is open by this descriptor stands below the root, which is INROOT_JAILED in a jail. */
+struct inroot_result inroot_place(struct inroot_driver *d, int root, int fd, enum inroot_kind kind, enum inroot_way way,
+                                  char *text, size_t *length);
 struct inroot_result inroot_name_below(struct inroot_driver *d, const struct inroot_told *step, char *text, size_t *length);
 
 /* listing.c */

@@ -25,13 +25,15 @@
  *   INROOT_NOFOLLOW    of inroot_open() and inroot_stat() alone: a link at the end of PATH is what is meant
  *   INROOT_FOLLOW      of inroot_link() alone: a link at the end of EXISTING is followed (AT_SYMLINK_FOLLOW)
  *
+ * INROOT_TRUST_PROC is of inroot_jail_with() alone, which takes no other.
+ *
  * MODE is what the kernel takes for a new entry, less the umask: bits of 07777. The kernel may drop some, as
  * mkdirat(2) does with those for set-user-ID.
  *
  * A call that finds that others moved or removed what it had come to begins again: it makes up to INROOT_TRIES tries,
  * the first eight one after another, and before each other one it waits, 10 microseconds at first and twice as long
  * each time up to a millisecond, so some 20 milliseconds in all. Then it gives EAGAIN. Who renames without end can
- * make it fail so: in the races of docs/HOST.md up to four of a hundred calls ended so with one try, and none of six
+ * make it fail so: in the races of docs/HOST.md up to four of a hundred calls ended so with one try, and none of twenty
  * million with all.
  *
  * Every call gives -errno where it fails, and then leaves no descriptor open. In this order:
@@ -89,6 +91,7 @@ enum {
     INROOT_NO_RETRY = 8,
     INROOT_FOLLOW = 16,
     INROOT_ONE_BY_ONE = 32,
+    INROOT_TRUST_PROC = 64,
 };
 
 /* How often a call is tried, where others are in its way. */
@@ -126,8 +129,25 @@ int inroot_use_proc(int proc);
 int inroot_jail(int root);
 
 /*
+ * The same, by FLAGS: 0, or INROOT_TRUST_PROC. By this one the thread keeps a descriptor of its /proc/thread-self/fd open,
+ * and its calls read the link of what is no directory there, without looking first whether that is still a proc(5). This
+ * saves a system call, and a longer path. The program promises in return that it
+ *
+ *   leaves that descriptor alone: it closes no descriptor that it didn't open, and puts no other in this one's place
+ *   makes no calls in a child process that shares the memory or the descriptors of such a thread: of vfork(2), or of
+ *   clone(2) with CLONE_VM or CLONE_FILES
+ *
+ * Where it breaks that, a call may take an object outside of the root for one inside. A child of fork(2) needs no
+ * promise: it goes on as in a jail without the flag. So does a thread where the kernel has no MADV_WIPEONFORK
+ * (madvise(2)), by which it tells a child from its parent.
+ *
+ * Gives -EINVAL of another flag, before all else, and then what inroot_jail() gives.
+ */
+int inroot_jail_with(int root, int flags);
+
+/*
  * Ends what inroot_jail() began: calls of this thread may not be given INROOT_JAIL then. The thread stays below the
- * root.
+ * root. What it kept is closed, as it is when the thread ends.
  */
 void inroot_jail_done(void);
 

@@ -75,11 +75,13 @@ static int move_from_here(int root)
     return failed;
 }
 
-static int move_below(int root)
+static int move_below(int root, bool trusts)
 {
     int failed = check(root);
     if (failed == 0)
         failed = inroot_proc_stay();
+    if (failed == 0 && trusts)
+        failed = inroot_trust_begin();
     if (failed == 0)
         failed = move_from_here(root);
     if (failed)
@@ -88,13 +90,20 @@ static int move_below(int root)
     return failed;
 }
 
-int inroot_jail(int root)
+int inroot_jail_with(int root, int flags)
 {
     int state;
+    if (flags & ~INROOT_TRUST_PROC)
+        return -EINVAL;
     if (jailed)
         return -EBUSY;
     pthread_setcancelstate(PTHREAD_CANCEL_DISABLE, &state);
-    int failed = move_below(root);
+    int failed = move_below(root, flags & INROOT_TRUST_PROC);
     pthread_setcancelstate(state, NULL);
     return failed;
+}
+
+int inroot_jail(int root)
+{
+    return inroot_jail_with(root, 0);
 }

@@ -24,16 +24,12 @@ static bool is_gone(int fd)
     return fstat(fd, &about) != 0 || !S_ISDIR(about.st_mode) || about.st_nlink == 0;
 }
 
-/*
- * The path of a descriptor's link in /proc, 0 for what is gone, or -1 with errno. It is this thread's descriptor, whichever
- * thread of which process this is by now.
- */
-static ssize_t link_of(int proc, int fd, char *text)
+/* The path of a descriptor's link, which has this name in a directory of /proc; 0 for what is gone, or -1 with errno. */
+static ssize_t read_link(int dir, const char *name, int fd, char *text)
 {
     static const char deleted[] = " (deleted)";
     const size_t tail = sizeof deleted - 1;
-    char written[INROOT_PROC_NAME];
-    ssize_t length = readlinkat(proc, inroot_proc_name(fd, written), text, INROOT_TEXT_MAX);
+    ssize_t length = readlinkat(dir, name, text, INROOT_TEXT_MAX);
     if (length < 0 && errno == ENOENT)
         errno = ENOSYS;
     if (length == INROOT_TEXT_MAX) {
@@ -43,6 +39,13 @@ static ssize_t link_of(int proc, int fd, char *text)
     if (length >= (ssize_t)tail && memcmp(text + length - tail, deleted, tail) == 0 && is_gone(fd))
         return 0;
     return length;
+}
+
+/* The same by /proc itself. It is this thread's descriptor, whichever thread of which process this is by now. */
+static ssize_t link_of(int proc, int fd, char *text)
+{
+    char written[INROOT_PROC_NAME];
+    return read_link(proc, inroot_proc_name(fd, written), fd, text);
 }
 
 /* Cuts off the root's path. The top's own path is a slash, and that of any other directory ends in none. */
@@ -76,13 +79,29 @@ static struct inroot_result by_links(struct inroot_driver *d, int root, int fd, 
     return names();
 }
 
+/* By the table that this thread keeps open, or -1. One that doesn't have the link was closed, and is forgotten. */
+static ssize_t link_in_table(int fd, char *text)
+{
+    char written[INROOT_PROC_NAME];
+    int table = inroot_trust_table();
+    if (table < 0)
+        return -1;
+    ssize_t length = read_link(table, inroot_proc_name(fd, written) + sizeof INROOT_PROC_TABLE - 1, fd, text);
+    if (length < 0 && errno != ENAMETOOLONG)
+        inroot_trust_end();
+    return length;
+}
+
 /* In a thread whose root it is: the link's path of what is inside begins there. That of what is outside begins at the top. */
 static struct inroot_result by_link(struct inroot_driver *d, int fd, char *text, size_t *length)
 {
-    int proc = inroot_proc_for(d);
-    if (proc < 0)
-        return inroot_refused(d, -proc);
-    ssize_t got = link_of(proc, fd, text);
+    ssize_t got = link_in_table(fd, text);
+    if (got < 0) {
+        int proc = inroot_proc_for(d);
+        if (proc < 0)
+            return inroot_refused(d, -proc);
+        got = link_of(proc, fd, text);
+    }
     if (got < 0)
         return inroot_refused(d, errno);
     *length = (size_t)got;
@@ -104,14 +123,12 @@ static int go_to(struct inroot_driver *d, int fd)
 }
 
 /* One answer of the kernel for a directory: its path begins with '(unreachable)' outside, and what is gone has none. */
-static struct inroot_result in_jail(struct inroot_driver *d, const struct inroot_slot *slot, char *text, size_t *length)
+static struct inroot_result by_directory(struct inroot_driver *d, int fd, enum inroot_way way, char *text, size_t *length)
 {
-    if (slot->kind != INROOT_KIND_DIR)
-        return by_link(d, slot->fd, text, length);
-    if (go_to(d, slot->fd) != 0) {
+    if (go_to(d, fd) != 0) {
         /* A directory that may not be searched can be where a path ends, and leads nowhere. */
-        if (errno == EACCES && slot->way == INROOT_BY_NAME)
-            return by_link(d, slot->fd, text, length);
+        if (errno == EACCES && way == INROOT_BY_NAME)
+            return by_link(d, fd, text, length);
         return inroot_refused(d, errno);
     }
     long got = syscall(SYS_getcwd, text, (size_t)INROOT_TEXT_MAX);
@@ -119,6 +136,15 @@ static struct inroot_result in_jail(struct inroot_driver *d, const struct inroot
         return errno == ENOENT ? names() : inroot_refused(d, errno);
     *length = (size_t)got - 1;
     return names();
+}
+
+struct inroot_result inroot_place(struct inroot_driver *d, int root, int fd, enum inroot_kind kind, enum inroot_way way,
+                                  char *text, size_t *length)
+{
+    *length = 0;
+    if (root != INROOT_JAILED)
+        return by_links(d, root, fd, text, length);
+    return kind == INROOT_KIND_DIR ? by_directory(d, fd, way, text, length) : by_link(d, fd, text, length);
 }
 
 struct inroot_result inroot_name_below(struct inroot_driver *d, const struct inroot_told *step, char *text, size_t *length)
@@ -137,5 +163,5 @@ struct inroot_result inroot_name_below(struct inroot_driver *d, const struct inr
     lost = inroot_handles_fd(d, step->other, &root);
     if (lost)
         return inroot_refused(d, lost);
-    return root == INROOT_JAILED ? in_jail(d, slot, text, length) : by_links(d, root, fd, text, length);
+    return inroot_place(d, root, fd, (enum inroot_kind)slot->kind, (enum inroot_way)slot->way, text, length);
 }

@@ -24,7 +24,7 @@ static pthread_once_t key_once = PTHREAD_ONCE_INIT;
 static pthread_key_t key;
 static bool has_key;
 
-static bool is_proc(int fd)
+bool inroot_proc_is(int fd)
 {
     struct statfs about;
     return fd >= 0 && fstatfs(fd, &about) == 0 && about.f_type == PROC_SUPER_MAGIC;
@@ -36,7 +36,7 @@ static int open_proc(void)
     int fd = open("/proc", O_PATH | O_DIRECTORY | O_NOFOLLOW | O_CLOEXEC);
     if (fd < 0)
         return errno == EMFILE || errno == ENFILE || errno == ENOMEM ? -errno : -ENOSYS;
-    if (is_proc(fd))
+    if (inroot_proc_is(fd))
         return fd;
     close(fd);
     return -ENOSYS;
@@ -53,9 +53,9 @@ static bool keep(int fd)
 static int at_hand(void)
 {
     int fd = atomic_load(&kept);
-    if (is_proc(fd))
+    if (inroot_proc_is(fd))
         return fd;
-    return is_proc(of_thread) ? of_thread : INROOT_NONE;
+    return inroot_proc_is(of_thread) ? of_thread : INROOT_NONE;
 }
 
 int inroot_proc_open(bool *is_own)
@@ -87,7 +87,7 @@ void inroot_proc_end(struct inroot_driver *d)
 
 const char *inroot_proc_name(int fd, char room[INROOT_PROC_NAME])
 {
-    static const char above[] = "thread-self/fd/";
+    static const char above[] = INROOT_PROC_TABLE;
     size_t at = INROOT_PROC_NAME;
     unsigned int rest = (unsigned int)fd;
     room[--at] = 0;
@@ -125,6 +125,12 @@ __attribute__((destructor)) static void drop_key(void)
         pthread_key_delete(key);
 }
 
+bool inroot_proc_ends(void)
+{
+    pthread_once(&key_once, make_key);
+    return has_key && pthread_setspecific(key, &of_thread) == 0;
+}
+
 int inroot_proc_stay(void)
 {
     if (at_hand() >= 0)
@@ -132,8 +138,7 @@ int inroot_proc_stay(void)
     int fd = open_proc();
     if (fd < 0 || keep(fd))
         return fd < 0 ? fd : 0;
-    pthread_once(&key_once, make_key);
-    if (!has_key || pthread_setspecific(key, &of_thread) != 0) {
+    if (!inroot_proc_ends()) {
         close(fd);
         return -ENOMEM;
     }
@@ -143,7 +148,8 @@ int inroot_proc_stay(void)
 
 void inroot_proc_leave(void)
 {
-    if (is_proc(of_thread))
+    inroot_trust_end();
+    if (inroot_proc_is(of_thread))
         close(of_thread);
     of_thread = INROOT_NONE;
 }
@@ -155,7 +161,7 @@ static int take_over(int proc)
     struct statfs about;
     if (fstatfs(proc, &about) != 0)
         return -errno;
-    if (!is_proc(proc))
+    if (!inroot_proc_is(proc))
         return -EINVAL;
     int fd = openat(proc, ".", O_PATH | O_DIRECTORY | O_CLOEXEC);
     if (fd < 0)

@@ -70,7 +70,7 @@ static void spell(const struct inroot_ahead *a, int most, bool from_root, struct
     run->used = run->ends = 0;
     if (from_root)
         run->text[run->used++] = '/';
-    for (size_t at = a->at; at < a->until && run->count < most; at = inroot_ahead_skip(a, at)) {
+    for (size_t at = inroot_ahead_skip(a, a->at); at < a->until && run->count < most; at = inroot_ahead_skip(a, at)) {
         size_t dots = inroot_ahead_dots(a, at);
         if (dots == 2) {
             run->up = run->count > 0 && next_at(run) + dots < sizeof run->text;
@@ -159,12 +159,23 @@ static int fewer(struct inroot_ahead *a, int count, int error)
     return first ? count - 1 : count / 2;
 }
 
+/* How many names to try at first. The whole path isn't tried a second time. */
+static int most_of(struct inroot_driver *d)
+{
+    struct inroot_ahead *a = &d->ahead;
+    int tried = d->tried;
+    d->tried = 0;
+    if (tried > 0)
+        return fewer(a, tried, d->tried_error);
+    return a->bad > 0 ? a->bad / 2 : INROOT_TEXT_MAX;
+}
+
 /* Passes as many names as it can, and whether there were any. */
 static bool begin(struct inroot_driver *d, uint64_t handle, int dir, bool from_root)
 {
     struct spelled spelled;
     struct inroot_ahead *a = &d->ahead;
-    int most = a->bad > 0 ? a->bad / 2 : INROOT_TEXT_MAX;
+    int most = most_of(d);
     while (most > 0) {
         spell(a, most, from_root, &spelled);
         if (spelled.count < 2 && !spelled.up)
@@ -173,6 +184,30 @@ static bool begin(struct inroot_driver *d, uint64_t handle, int dir, bool from_r
             return true;
         most = has_none ? 0 : fewer(a, spelled.count, errno);
     }
+    return false;
+}
+
+/* Whether these are several names that are the whole path, but for a slash before the first. */
+static bool is_whole(const struct inroot_ahead *a, const struct spelled *run, bool from_root)
+{
+    size_t slash = a->text[0] == '/' ? 1 : 0;
+    size_t names = run->used - (from_root ? 1 : 0);
+    return run->count > 1 && !run->up && run->ends == a->end && slash + names == a->end;
+}
+
+bool inroot_run_whole(struct inroot_driver *d, int root)
+{
+    struct spelled spelled;
+    bool from_root = root == INROOT_JAILED;
+    if (d->asked->flags & INROOT_ONE_BY_ONE || has_none || !d->ahead.known)
+        return false;
+    spell(&d->ahead, INROOT_TEXT_MAX, from_root, &spelled);
+    if (!is_whole(&d->ahead, &spelled, from_root))
+        return false;
+    if (pass(d, 0, from_root ? AT_FDCWD : root, &spelled))
+        return true;
+    d->tried_error = errno;
+    d->tried = spelled.count;
     return false;
 }
 

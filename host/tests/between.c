@@ -72,46 +72,60 @@ static void make_directory(void) { sure(mkdirat(root, "2/d", 0755), "2/d"); }
 static void remove_file(void) { sure(unlinkat(root, "2/f", 0), "2/f"); }
 static void make_file(void) { sure(mknodat(root, "2/f", S_IFREG | 0600, 0), "2/f"); }
 
-/* Each path, what is done before which question, what undoes it, and what a call with one try gives. */
+/*
+ * Each path, what is done before which question, what undoes it, and what a call with one try gives: by /proc and in a jail;
+ * and the same where the path's plain names are opened at once: if that isn't the reply, the steps are made after the act.
+ */
 static const struct {
     const char *path;
     int questions;
     void (*done)(void), (*undone)(void);
-    int by_proc, in_jail;
+    int by_proc, in_jail, at_once_by_proc, at_once_in_jail;
 } rows[] = {
-    {"2/d", 1, move_beside, move_back, -EAGAIN, -EAGAIN},
-    {"2/f", 1, move_beside, move_back, -EAGAIN, -EAGAIN},
-    {"2/d/..", 1, move_beside, move_back, -EAGAIN, -EAGAIN},
-    {"2/d", 2, move_beside, move_back, -EAGAIN, 0},
-    {"2/d", 3, move_beside, move_back, 0, 0},
-    {"2/d", 1, move_out, move_in, -EAGAIN, -EAGAIN},
-    {"2/f", 1, move_file, return_file, -EAGAIN, -EAGAIN},
-    {"2/f", 2, move_file, return_file, -EAGAIN, 0},
-    {"2/d", 1, remove_directory, make_directory, -EAGAIN, -EAGAIN},
-    {"2/f", 1, remove_file, make_file, -EAGAIN, -EAGAIN},
-    {"2/d", 1, move_root, return_root, 0, 0},
-    {"2/d", 2, move_root, return_root, -EAGAIN, 0},
-    {"2/f", 3, move_root, return_root, -EAGAIN, 0},
+    {"2/d", 1, move_beside, move_back, -EAGAIN, -EAGAIN, -ENOENT, -ENOENT},
+    {"2/f", 1, move_beside, move_back, -EAGAIN, -EAGAIN, -ENOENT, -ENOENT},
+    {"2/d/..", 1, move_beside, move_back, -EAGAIN, -EAGAIN, -EAGAIN, -EAGAIN},
+    {"2/d", 2, move_beside, move_back, -EAGAIN, 0, -ENOENT, 0},
+    {"2/d", 3, move_beside, move_back, 0, 0, 0, 0},
+    {"2/d", 1, move_out, move_in, -EAGAIN, -EAGAIN, -ENOENT, -ENOENT},
+    {"2/f", 1, move_file, return_file, -EAGAIN, -EAGAIN, -ENOENT, -ENOENT},
+    {"2/f", 2, move_file, return_file, -EAGAIN, 0, -ENOENT, 0},
+    {"2/d", 1, remove_directory, make_directory, -EAGAIN, -EAGAIN, -ENOENT, -ENOENT},
+    {"2/f", 1, remove_file, make_file, -EAGAIN, -EAGAIN, -ENOENT, -ENOENT},
+    {"2/d", 1, move_root, return_root, 0, 0, 0, 0},
+    {"2/d", 2, move_root, return_root, -EAGAIN, 0, 0, 0},
+    {"2/f", 3, move_root, return_root, -EAGAIN, 0, 0, 0},
 };
+
+/* One call of a row, whose path stands behind these words. */
+static void one(size_t row, const char *before, int flags, int wanted)
+{
+    char path[16];
+    snprintf(path, sizeof path, "%s%s", before, rows[row].path);
+    act = rows[row].done;
+    questions = rows[row].questions;
+    int fd = inroot_open(at, path, flags | INROOT_NO_RETRY);
+    bool has_acted = act == NULL;
+    act = NULL;
+    expect((fd < 0 ? fd : 0) == wanted, "row %zu, %s, flags %d: %d", row, path, flags, fd);
+    if (fd >= 0)
+        close(fd);
+    if (has_acted)
+        rows[row].undone();
+    else
+        expect(wanted == 0, "row %zu: nothing was asked", row);
+}
 
 static void each(void)
 {
-    for (size_t row = 0; row < sizeof rows / sizeof *rows; row++)
-        for (int flags = INROOT_NO_RETRY, turn = 0; turn < 2; flags |= INROOT_ONE_BY_ONE, turn++) {
-            int wanted = at == INROOT_JAIL ? rows[row].in_jail : rows[row].by_proc;
-            act = rows[row].done;
-            questions = rows[row].questions;
-            int fd = inroot_open(at, rows[row].path, flags);
-            bool has_acted = act == NULL;
-            act = NULL;
-            expect((fd < 0 ? fd : 0) == wanted, "row %zu, flags %d: %d", row, flags, fd);
-            if (fd >= 0)
-                close(fd);
-            if (has_acted)
-                rows[row].undone();
-            else
-                expect(wanted == 0, "row %zu: nothing was asked", row);
-        }
+    bool is_jail = at == INROOT_JAIL;
+    for (size_t row = 0; row < sizeof rows / sizeof *rows; row++) {
+        int by_steps = is_jail ? rows[row].in_jail : rows[row].by_proc;
+        one(row, "", INROOT_ONE_BY_ONE, by_steps);
+        one(row, "./", 0, by_steps);
+        one(row, "", 0, is_jail ? rows[row].at_once_in_jail : rows[row].at_once_by_proc);
+        one(row, "/", 0, is_jail ? rows[row].at_once_in_jail : rows[row].at_once_by_proc);
+    }
 }
 
 static void by_proc(void)
@@ -120,15 +134,25 @@ static void by_proc(void)
     each();
 }
 
-static void in_jail(void)
+static void jail_by(int flags)
 {
-    int failed = inroot_jail(root);
+    int failed = inroot_jail_with(root, flags);
     if (failed == -EPERM)
         _exit(NO_RIGHT);
     errno = -failed;
-    sure(failed, "inroot_jail");
+    sure(failed, "inroot_jail_with");
     at = INROOT_JAIL;
     each();
+}
+
+static void in_jail(void)
+{
+    jail_by(0);
+}
+
+static void in_trusting_jail(void)
+{
+    jail_by(INROOT_TRUST_PROC);
 }
 
 int main(int count, char **words)
@@ -143,6 +167,7 @@ int main(int count, char **words)
     make_file();
     apart(by_proc);
     int skipped = apart(in_jail);
+    apart(in_trusting_jail);
     printf("between: %d not as they are to be\n", wrong);
     return wrong != 0 ? 1 : skipped;
 }

@@ -1,7 +1,7 @@
 /*
- * conversations: what the two functions of the proved library are asked and tell, to the number and the byte. The steps
- * of a call are answered by hand, in rooms of each size up to one that is large enough. Errors are those of errno(3),
- * as openat2(2), mkdirat(2) and renameat2(2) give them.
+ * conversations: what the functions of the proved library are asked and tell, to the number and the byte. The steps of
+ * a call are answered by hand, in rooms of each size up to one that is large enough. Errors are those of errno(3), as
+ * openat2(2), mkdirat(2) and renameat2(2) give them. And which paths are opened at once.
  *
  * usage: conversations. Exits 0 where each row holds.
  */
@@ -329,6 +329,138 @@ static void converses(const struct conversation *with, size_t size)
     give_up(&talk);
 }
 
+/* ---- what is opened at once */
+
+/* A path and a place, of as many bytes as they have before their last NUL: in some there is a NUL between. */
+#define TEXTS(path, place) path, sizeof path - 1, place, sizeof place - 1
+
+struct opening {
+    bool wanted;
+    uint8_t op;
+    bool beneath, no_links;
+    uint8_t kind;
+    const char *path;
+    size_t path_length;
+    const char *place;
+    size_t place_length;
+};
+
+/* Kinds: 1 a directory, 3 a link, any other a file. Operations: 1 resolves, 2 resolves the link itself, 10 makes all. */
+static const struct opening openings[] = {
+    {true, 1, false, false, 2, TEXTS("a/b/f", "/a/b/f")},
+    {true, 1, false, false, 1, TEXTS("a/b", "/a/b")},
+    {true, 1, false, false, 2, TEXTS("f", "/f")},
+    {true, 2, false, false, 2, TEXTS("a/b/f", "/a/b/f")},
+    {true, 2, false, false, 3, TEXTS("a/l", "/a/l")},
+    {false, 1, false, false, 3, TEXTS("a/l", "/a/l")},
+    {true, 1, false, true, 2, TEXTS("a/f", "/a/f")},
+    {true, 1, true, false, 2, TEXTS("a/f", "/a/f")},
+    {true, 2, true, true, 3, TEXTS("a/l", "/a/l")},
+    {true, 1, false, false, 2, TEXTS("/a/f", "/a/f")},
+    {false, 1, true, false, 2, TEXTS("/a/f", "/a/f")},
+    {false, 2, true, false, 2, TEXTS("/a/f", "/a/f")},
+    {false, 0, false, false, 2, TEXTS("a/f", "/a/f")},
+    {false, 3, false, false, 3, TEXTS("a/l", "/a/l")},
+    {false, 4, false, false, 2, TEXTS("a/f", "/a/f")},
+    {false, 5, false, false, 1, TEXTS("a/b", "/a/b")},
+    {true, 10, false, false, 1, TEXTS("a/b", "/a/b")},
+    {true, 10, true, true, 1, TEXTS("a/b", "/a/b")},
+    {false, 10, true, false, 1, TEXTS("/a/b", "/a/b")},
+    {false, 10, false, false, 2, TEXTS("a/f", "/a/f")},
+    {false, 10, false, false, 3, TEXTS("a/l", "/a/l")},
+    {true, 1, false, false, 0, TEXTS("a/f", "/a/f")},
+    {true, 1, false, false, 255, TEXTS("a/f", "/a/f")},
+    {false, 11, false, false, 1, TEXTS("a/b", "/a/b")},
+    {false, 12, false, false, 2, TEXTS("a/f", "/a/f")},
+    {false, 255, false, false, 2, TEXTS("a/f", "/a/f")},
+    {false, 1, false, false, 2, TEXTS("a//f", "/a//f")},
+    {false, 1, false, false, 2, TEXTS("a//f", "/a/f")},
+    {false, 1, false, false, 2, TEXTS("//a/f", "/a/f")},
+    {false, 1, false, false, 2, TEXTS("//a/f", "//a/f")},
+    {false, 1, false, false, 2, TEXTS("/a/f", "//a/f")},
+    {false, 1, false, false, 1, TEXTS("a/b/", "/a/b/")},
+    {false, 1, false, false, 1, TEXTS("a/b/", "/a/b")},
+    {false, 1, false, false, 1, TEXTS("a/b", "/a/b/")},
+    {false, 1, false, false, 2, TEXTS("./a/f", "/a/f")},
+    {false, 1, false, false, 2, TEXTS("./a/f", "/./a/f")},
+    {false, 1, false, false, 2, TEXTS("a/./f", "/a/./f")},
+    {false, 1, false, false, 1, TEXTS("a/.", "/a/.")},
+    {false, 1, false, false, 1, TEXTS("a/b/..", "/a")},
+    {false, 1, false, false, 1, TEXTS("a/b/..", "/a/b/..")},
+    {false, 1, false, false, 1, TEXTS("../a/b", "/../a/b")},
+    {true, 1, false, false, 1, TEXTS("a/...", "/a/...")},
+    {true, 1, false, false, 2, TEXTS("..a/.f", "/..a/.f")},
+    {true, 1, false, false, 2, TEXTS("a/f (deleted)", "/a/f (deleted)")},
+    {true, 1, false, false, 2, TEXTS("a\xff/\x01", "/a\xff/\x01")},
+    {false, 1, false, false, 2, TEXTS("a/\0f", "/a/\0f")},
+    {false, 1, false, false, 2, TEXTS("a/f\0", "/a/f\0")},
+    {false, 1, false, false, 2, TEXTS("a/f\0", "/a/f")},
+    {false, 1, false, false, 1, TEXTS("", "")},
+    {false, 1, false, false, 1, TEXTS("", "/")},
+    {false, 1, false, false, 1, TEXTS("/", "/")},
+    {false, 1, false, false, 1, TEXTS(".", "/")},
+    {false, 1, false, false, 2, TEXTS("a/f", "")},
+    {false, 1, false, false, 2, TEXTS("a/f", "/")},
+    {false, 1, false, false, 2, TEXTS("a/f", "a/f")},
+    {false, 1, false, false, 2, TEXTS("a/f", "/a/g")},
+    {false, 1, false, false, 2, TEXTS("a/f", "/b/f")},
+    {false, 1, false, false, 2, TEXTS("a/f", "/a")},
+    {false, 1, false, false, 2, TEXTS("a/f", "/a/ff")},
+    {false, 1, false, false, 2, TEXTS("a/ff", "/a/f")},
+    {false, 1, false, false, 2, TEXTS("a/f", "/a/f (deleted)")},
+    {false, 1, false, false, 2, TEXTS("a/f", "(unreachable)/a/f")},
+    {false, 1, false, false, 2, TEXTS("a/f", "/out/a/f")},
+};
+
+static bool at_once(const struct opening *with)
+{
+    const struct inroot_asked asked = {
+        .root = ROOT, .op = with->op, .beneath = with->beneath, .no_links = with->no_links,
+    };
+    return inroot_opens_at_once(&asked, (const unsigned char *)with->path, with->path_length, with->kind,
+                                (const unsigned char *)with->place, with->place_length);
+}
+
+static void opens(const struct opening *with)
+{
+    rows++;
+    if (at_once(with) == with->wanted)
+        return;
+    wrong++;
+    printf("not so: operation %u, beneath %u, kind %u, %.20s of %zu bytes at %.20s of %zu: at once is to be %u\n", with->op,
+           with->beneath, with->kind, with->path, with->path_length, with->place, with->place_length, with->wanted);
+}
+
+/* A path of so many bytes, whose names have so many each, but for a shorter last one; with a slash before it or none. */
+static void opens_long(size_t length, size_t name, bool slash, bool wanted)
+{
+    static char place[2 * 4096];
+    size_t from = slash ? 0 : 1;
+    memset(place, 'n', sizeof place);
+    for (size_t at = 0; at < length; at += name + 1)
+        place[at] = '/';
+    const struct opening with = {
+        .wanted = wanted, .op = INROOT_ASK_RESOLVE, .kind = INROOT_KIND_FILE,
+        .path = place + from, .path_length = length, .place = place, .place_length = length + from,
+    };
+    opens(&with);
+}
+
+static void openings_at_once(void)
+{
+    for (size_t at = 0; at < sizeof openings / sizeof *openings; at++)
+        opens(&openings[at]);
+    opens_long(255, 255, false, true);
+    opens_long(256, 256, false, false);
+    opens_long(256, 255, true, true);
+    opens_long(257, 256, true, false);
+    opens_long(4095, 255, false, true);
+    opens_long(4096, 200, false, false);
+    opens_long(4095, 200, true, true);
+    opens_long(4096, 200, true, false);
+    opens_long(5000, 200, false, false);
+}
+
 #define COUNT(table) (sizeof(table) / sizeof *(table))
 
 int main(void)
@@ -341,6 +473,7 @@ int main(void)
         for (size_t at = 0; at < COUNT(changes); at++)
             converses(&changes[at], size);
     }
+    openings_at_once();
     printf("conversations: %u of %u rows not as they are to be\n", wrong, rows);
     return wrong != 0;
 }

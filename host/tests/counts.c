@@ -1,7 +1,8 @@
 /*
- * counts: how many system calls a call makes, in a jail and by /proc, with runs of names and name by name. What is
- * opened is closed by the program, which isn't counted. It is no more than docs/HOST.md has. And how often
- * inroot_openat() tries to create, and what the calls give where openat2(2) is missing or fails.
+ * counts: how many system calls a call makes, in a jail, by /proc and in a jail that trusts its descriptor of that,
+ * with runs of names and name by name. What is opened is closed by the program, which isn't counted. It is no more than
+ * docs/HOST.md has. And how often inroot_openat() tries to create, and what the calls give where openat2(2) is missing
+ * or fails.
  *
  * usage: counts DIR. Exits 0 where that holds. 77: no openat2(2) here. 78: no right to change a root. To be linked
  * with --wrap of each function that is wrapped here.
@@ -14,6 +15,7 @@
 #include <pthread.h>
 #include <stdarg.h>
 #include <string.h>
+#include <sys/mman.h>
 #include <sys/stat.h>
 #include <sys/syscall.h>
 #include <sys/vfs.h>
@@ -22,8 +24,8 @@
 static volatile unsigned made, created, runs;
 static bool is_taken;
 
-/* The error by which each openat2(2) fails, or 0. */
-static int refusal;
+/* The error by which each openat2(2) fails, or 0; and each madvise(2). */
+static int refusal, no_advice;
 
 #define COUNTED(type, name, parameters, arguments)               \
     type __real_##name parameters;                               \
@@ -64,6 +66,17 @@ int __wrap_openat(int dir, const char *name, int flags, ...)
     return -1;
 }
 
+int __real_madvise(void *page, size_t size, int advice);
+int __wrap_madvise(void *page, size_t size, int advice);
+
+int __wrap_madvise(void *page, size_t size, int advice)
+{
+    if (no_advice == 0)
+        return __real_madvise(page, size, advice);
+    errno = no_advice;
+    return -1;
+}
+
 long __wrap_syscall(long number, ...)
 {
     long with[5];
@@ -87,6 +100,11 @@ static char deep[128] = "d";
 static int open_it(const char *path, int flags)
 {
     return inroot_open(at, path, flags);
+}
+
+static int open_beneath(const char *path, int flags)
+{
+    return inroot_open(at, path, flags | INROOT_BENEATH);
 }
 
 static int read_it(const char *path, int flags)
@@ -113,27 +131,35 @@ static int make_all(const char *path, int flags)
     return inroot_mkdir_all(at, path, 0755, flags);
 }
 
-/* At most so many system calls: in a jail, in the same name by name, by /proc, and by /proc name by name. */
+/* Where a call is made; each of them is followed by the same name by name. */
+enum { BY_JAIL = 0, BY_PROC = 2, BY_TRUST = 4, COLUMNS = 6 };
+
+/* At most so many system calls: in a jail, by /proc, and in a jail that trusts. */
 static const struct {
     const char *what, *path;
     int (*call)(const char *path, int flags);
-    unsigned most[4];
+    unsigned most[COLUMNS];
 } rows[] = {
-    {"open a/b", "a/b", open_it, {6, 8, 6, 8}},
-    {"open a/b/f, a file", "a/b/f", open_it, {4, 8, 6, 10}},
-    {"open four times b/..", "a/b/../b/../b/../b/..", open_it, {17, 31, 20, 34}},
-    {"open 32 directories", deep, open_it, {6, 68, 6, 68}},
-    {"open 32, O_PATH | O_DIRECTORY", deep, open_directory, {5, 67, 5, 67}},
-    {"open d/l/f, l a link to ../a/b", "d/l/f", open_it, {19, 22, 20, 23}},
-    {"open a/b/none", "a/b/none", open_it, {4, 5, 4, 5}},
-    {"read a/b/f", "a/b/f", read_it, {7, 11, 9, 13}},
-    {"create a/b/new", "a/b/new", create, {7, 9, 7, 9}},
-    {"make n/e/w/s", "n/e/w/s", make_all, {18, 16, 18, 16}},
+    {"open a/b", "a/b", open_it, {6, 8, 6, 8, 6, 8}},
+    {"open a/b/f, a file", "a/b/f", open_it, {4, 8, 6, 10, 3, 7}},
+    {"open four times b/..", "a/b/../b/../b/../b/..", open_it, {17, 31, 20, 34, 17, 31}},
+    {"open 32 directories", deep, open_it, {6, 68, 6, 68, 6, 68}},
+    {"open 32, O_PATH | O_DIRECTORY", deep, open_directory, {5, 67, 5, 67, 5, 67}},
+    {"open d/l/f, l a link to ../a/b", "d/l/f", open_it, {19, 22, 20, 23, 18, 21}},
+    {"open a/b/none", "a/b/none", open_it, {4, 5, 4, 5, 4, 5}},
+    {"open /a/b/none", "/a/b/none", open_it, {4, 5, 4, 5, 4, 5}},
+    {"open /a/none beneath", "/a/none", open_beneath, {0, 0, 1, 1, 0, 0}},
+    {"open f, a file", "f", open_it, {4, 4, 6, 6, 3, 3}},
+    {"open l, a link to a/b", "l", open_it, {10, 12, 10, 12, 10, 12}},
+    {"read a/b/f", "a/b/f", read_it, {7, 11, 9, 13, 6, 10}},
+    {"create a/b/new", "a/b/new", create, {7, 9, 7, 9, 7, 9}},
+    {"make n/e/w/s", "n/e/w/s", make_all, {18, 16, 18, 16, 18, 16}},
+    {"make a/b, which is there", "a/b", make_all, {5, 7, 5, 7, 5, 7}},
 };
 
 enum { ROWS = sizeof rows / sizeof *rows };
 
-static unsigned counted[ROWS][4];
+static unsigned counted[ROWS][COLUMNS];
 
 static unsigned count_one(int row, int flags)
 {
@@ -156,6 +182,32 @@ static void count_all(int column)
             unsigned most = rows[row].most[column + way];
             expect(count <= most, "%s makes %u system calls, and %u are told of", rows[row].what, count, most);
         }
+}
+
+/* In a thread of its own. */
+static void *count_trusting(void *unused)
+{
+    errno = -inroot_jail_with(root, INROOT_TRUST_PROC);
+    sure(-errno, "inroot_jail_with");
+    at = INROOT_JAIL;
+    count_all(BY_TRUST);
+    return unused;
+}
+
+/* Where the kernel can't tell a child from its parent, nothing is kept, and the calls look at /proc each time. */
+static void *count_without_advice(void *unused)
+{
+    int before = open_descriptors();
+    no_advice = ENOMEM;
+    expect(inroot_jail_with(root, INROOT_TRUST_PROC) == -ENOMEM, "a jail without memory");
+    no_advice = EINVAL;
+    errno = -inroot_jail_with(root, INROOT_TRUST_PROC);
+    no_advice = 0;
+    sure(-errno, "inroot_jail_with");
+    expect(open_descriptors() == before, "a descriptor is kept that can't be told from a parent's");
+    at = INROOT_JAIL;
+    count_all(BY_JAIL);
+    return unused;
 }
 
 /* Where others put an entry in place and take it away each time: so many tries, or one. */
@@ -206,7 +258,9 @@ static void make_tree(void)
     for (size_t one = 0; one < sizeof dirs / sizeof *dirs; one++)
         sure(mkdirat(root, dirs[one], 0755), dirs[one]);
     sure(mknodat(root, "a/b/f", S_IFREG | 0600, 0), "a/b/f");
+    sure(mknodat(root, "f", S_IFREG | 0600, 0), "f");
     sure(symlinkat("../a/b", root, "d/l"), "d/l");
+    sure(symlinkat("a/b", root, "l"), "l");
     for (int one = 1; one < 32; one++)
         sure(mkdirat(root, strcat(deep, "/d"), 0755), deep);
 }
@@ -224,13 +278,23 @@ int main(int count, char **words)
     at = root;
     tries();
     refused_openat2();
-    count_all(2);
-    if (inroot_jail(root) != 0)
+    count_all(BY_PROC);
+    if (!may_jail(root))
         return NO_RIGHT;
+    pthread_t thread;
+    pthread_create(&thread, NULL, count_trusting, NULL);
+    pthread_join(thread, NULL);
+    pthread_create(&thread, NULL, count_without_advice, NULL);
+    pthread_join(thread, NULL);
+    errno = -inroot_jail(root);
+    sure(-errno, "inroot_jail");
     at = INROOT_JAIL;
-    count_all(0);
-    for (int row = 0; row < ROWS; row++)
-        printf("counts: %s: in a jail %u, name by name %u; by /proc %u, name by name %u\n", rows[row].what,
-               counted[row][0], counted[row][1], counted[row][2], counted[row][3]);
+    count_all(BY_JAIL);
+    for (int row = 0; row < ROWS; row++) {
+        const unsigned *of = counted[row];
+        printf("counts: %s: in a jail %u, name by name %u; by /proc %u, name by name %u; in a jail that trusts %u, name by "
+               "name %u\n",
+               rows[row].what, of[BY_JAIL], of[BY_JAIL + 1], of[BY_PROC], of[BY_PROC + 1], of[BY_TRUST], of[BY_TRUST + 1]);
+    }
     return wrong != 0;
 }

@@ -102,16 +102,19 @@ static void close_proc(void)
             close(fd);
 }
 
+static int jail_flags;
+
 static void jail_here(void)
 {
-    errno = -inroot_jail(root);
-    sure(-errno, "inroot_jail");
+    errno = -inroot_jail_with(root, jail_flags);
+    sure(-errno, "inroot_jail_with");
 }
 
 static void *end_in_jail(void *unused)
 {
     jail_here();
     expect(inroot_open(INROOT_JAIL, "a/b/none", 0) == -ENOENT, "what isn't there, in a jail");
+    close(sure(inroot_open(INROOT_JAIL, "a/b/f", 0), "a/b/f"));
     return unused;
 }
 
@@ -142,6 +145,12 @@ static void in_jails(void)
     expect(open_descriptors() == before, "inroot_jail_done: /proc is open still");
 }
 
+static void in_trusting_jails(void)
+{
+    jail_flags = INROOT_TRUST_PROC;
+    in_jails();
+}
+
 static void nothing(void)
 {
 }
@@ -159,8 +168,10 @@ int main(int count, char **words)
     apart(each_call);
     apart(of_the_root);
     bool may = may_jail(root);
-    if (may)
+    if (may) {
         apart(in_jails);
+        apart(in_trusting_jails);
+    }
     printf("ends: %d not as they are to be\n", wrong);
     return wrong != 0 ? 1 : may ? 0 : NO_RIGHT;
 }

@@ -114,16 +114,19 @@ static void tries(void)
     close(root);
 }
 
-/* As nobody: a directory that may not be searched is opened where the path ends, and leads nowhere. */
-static void *shut_directories(void *in_jail)
+/*
+ * As nobody: a directory that may not be searched is opened where the path ends, and leads nowhere. By /proc, or in a jail
+ * by these flags.
+ */
+static void shut_directories(bool in_jail, int flags)
 {
     int root = sure(openat(base, "open", O_PATH | O_DIRECTORY | O_CLOEXEC), "open"), at = root;
-    if (in_jail != NULL) {
-        int failed = inroot_jail(root);
+    if (in_jail) {
+        int failed = inroot_jail_with(root, flags);
         if (failed == -EPERM)
-            return in_jail;
+            _exit(NO_RIGHT);
         errno = -failed;
-        sure(failed, "inroot_jail");
+        sure(failed, "inroot_jail_with");
         at = INROOT_JAIL;
     }
     if (setresuid(65534, 65534, 65534) != 0)
@@ -133,19 +136,23 @@ static void *shut_directories(void *in_jail)
     expect(closed(inroot_open(at, "shut/x", 0)) == -EACCES, "what is in it");
     expect(closed(inroot_open(at, "shut/..", 0)) == -EACCES, "what is above it");
     expect(closed(inroot_open(at, "sub/../sub", 0)) == 0, "what may be searched");
+    expect(closed(inroot_open(at, "sub/file", 0)) == 0, "a file in it");
     close(root);
-    return NULL;
 }
 
 static void shut_by_proc(void)
 {
-    shut_directories(NULL);
+    shut_directories(false, 0);
 }
 
 static void shut_in_jail(void)
 {
-    if (shut_directories(&base) != NULL)
-        _exit(NO_RIGHT);
+    shut_directories(true, 0);
+}
+
+static void shut_in_trusting_jail(void)
+{
+    shut_directories(true, INROOT_TRUST_PROC);
 }
 
 int main(int count, char **words)
@@ -160,6 +167,7 @@ int main(int count, char **words)
     sure(mkdirat(base, "open/sub", 0755), "sub");
     sure(mkdirat(base, "open/shut", 0), "shut");
     sure(mkdirat(base, "open/sub/shut", 0), "shut");
+    sure(mknodat(base, "open/sub/file", S_IFREG | 0600, 0), "file");
     open_proc();
     int before = open_descriptors();
     bad_roots();
@@ -168,7 +176,7 @@ int main(int count, char **words)
     tries();
     if (geteuid() == 0) {
         apart(shut_by_proc);
-        if (apart(shut_in_jail) == NO_RIGHT)
+        if (apart(shut_in_jail) == NO_RIGHT || apart(shut_in_trusting_jail) == NO_RIGHT)
             puts("errors: no right to change a root here");
     }
     int left = open_descriptors() - before;

@@ -1,6 +1,7 @@
 /*
- * fuzz_calls: the proved library's two functions with any request, any answers and any size of room. A program that hands in
+ * fuzz_calls: the proved library's functions with any request, any answers and any size of room. A program that hands in
  * whatever it likes is told steps that can be made, closes each handle once, and comes to a reply with nothing left open.
+ * And what is opened at once has a path of plain names, and stands at just these.
  *
  * For libFuzzer, or with fuzz_main.c for stored cases. A case is bytes: the operation, flags, sizes, texts, and the answers.
  */
@@ -136,6 +137,42 @@ static void converse(struct input *in, struct inroot_kept *kept, struct inroot_t
     }
 }
 
+/* Whether these are names with one slash before each, as the C library's own functions see it. */
+static bool is_place(const unsigned char *place, size_t length)
+{
+    if (length == 0 || place[0] != '/' || place[length - 1] == '/' || memchr(place, 0, length) != NULL)
+        return false;
+    for (size_t at = 1, name; at < length; at += name + 1) {
+        const unsigned char *slash = memchr(place + at, '/', length - at);
+        name = slash == NULL ? length - at : (size_t)(slash - place) - at;
+        if (name == 0 || name > NAME_MAX || (place[at] == '.' && (name == 1 || (name == 2 && place[at + 1] == '.'))))
+            return false;
+    }
+    return true;
+}
+
+/* The path at any place; and where it stands itself, with a slash before it or not. */
+static void at_once(const struct inroot_asked *asked, uint8_t kind, const unsigned char *path, size_t length,
+                    const unsigned char *place, size_t place_length)
+{
+    unsigned char *own = malloc(length + 1);
+    if (own == NULL)
+        abort();
+    own[0] = '/';
+    memcpy(own + 1, path, length);
+    bool opens_it = asked->op == INROOT_ASK_RESOLVE_NOFOLLOW ||
+                    (asked->op == INROOT_ASK_RESOLVE && kind != INROOT_KIND_LINK) ||
+                    (asked->op == INROOT_ASK_MKDIR_ALL && kind == INROOT_KIND_DIR);
+    bool inside = !asked->beneath || length == 0 || path[0] != '/';
+    bool may = opens_it && inside && length >= 1 && length < PATH_MAX;
+    MUST(inroot_opens_at_once(asked, path, length, kind, own, length + 1) == (may && is_place(own, length + 1)));
+    MUST(inroot_opens_at_once(asked, path, length, kind, path, length) == (may && is_place(path, length)));
+    if (inroot_opens_at_once(asked, path, length, kind, place, place_length))
+        MUST(may && is_place(place, place_length) && place_length - length <= 1 &&
+             memcmp(place + (place_length - length), path, length) == 0);
+    free(own);
+}
+
 int LLVMFuzzerTestOneInput(const uint8_t *data, size_t size)
 {
     static const size_t rooms[] = {ROOM, ROOM, ROOM, 0, 1, 2, 16, 300};
@@ -151,6 +188,7 @@ int LLVMFuzzerTestOneInput(const uint8_t *data, size_t size)
     if (room == NULL)
         abort();
     open_count = 0;
+    at_once(&asked, (uint8_t)(flags / 32), first, first_length, second, second_length);
     inroot_begin(&asked, first, first_length, second, second_length, &kept, &told, room, room_size);
     converse(&in, &kept, &told, room, room_size);
     MUST(told.what <= INROOT_REPLY_FAULT);

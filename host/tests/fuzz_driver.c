@@ -302,9 +302,12 @@ static void call(void)
     plan.armed = false;
 }
 
-/* A thread in a jail that makes the calls it is handed. */
-static sem_t handed, made;
-static bool has_jail;
+/* A thread in a jail by these flags that makes the calls it is handed. */
+static struct jail {
+    int flags;
+    bool has_jail;
+    sem_t handed, made;
+} jails[] = {{.flags = 0}, {.flags = INROOT_TRUST_PROC}};
 
 static void await(sem_t *turn)
 {
@@ -312,25 +315,26 @@ static void await(sem_t *turn)
         ;
 }
 
-static void *in_jail(void *unused)
+static void *in_jail(void *self)
 {
-    has_jail = inroot_jail(root) == 0;
-    sem_post(&made);
-    while (has_jail) {
-        await(&handed);
+    struct jail *me = self;
+    me->has_jail = inroot_jail_with(root, me->flags) == 0;
+    sem_post(&me->made);
+    while (me->has_jail) {
+        await(&me->handed);
         call();
-        sem_post(&made);
+        sem_post(&me->made);
     }
-    return unused;
+    return NULL;
 }
 
-static void begin_jail(void)
+static void begin_jail(struct jail *jail)
 {
     pthread_t thread;
-    sem_init(&handed, 0, 0);
-    sem_init(&made, 0, 0);
-    MUST(pthread_create(&thread, NULL, in_jail, NULL) == 0);
-    await(&made);
+    sem_init(&jail->handed, 0, 0);
+    sem_init(&jail->made, 0, 0);
+    MUST(pthread_create(&thread, NULL, in_jail, jail) == 0);
+    await(&jail->made);
 }
 
 /* What is outside was made or removed by nobody. */
@@ -347,7 +351,8 @@ int LLVMFuzzerTestOneInput(const uint8_t *data, size_t size)
     struct stat about;
     if (!begun) {
         begin();
-        begin_jail();
+        begin_jail(&jails[0]);
+        begin_jail(&jails[1]);
         begun = true;
     }
     make_tree();
@@ -361,10 +366,11 @@ int LLVMFuzzerTestOneInput(const uint8_t *data, size_t size)
     plan.at = data;
     plan.left = size;
     opened_by_call = 0;
-    asked.root = who % 2 && has_jail ? INROOT_JAIL : root;
+    struct jail *jail = &jails[who >= 128];
+    asked.root = who % 2 && jail->has_jail ? INROOT_JAIL : root;
     if (asked.root == INROOT_JAIL) {
-        sem_post(&handed);
-        await(&made);
+        sem_post(&jail->handed);
+        await(&jail->made);
     } else {
         call();
     }

@@ -1,7 +1,8 @@
 /*
- * peers: races as other libraries' tests have them. Directories are made beside renames and beside deletion, paths are looked up
- * beside exchanges of a directory for one outside and for a link, 2 to 128 threads make the same at once, and 16 threads, half
- * of them in jails, do everything. With `storm` all of it under a storm of signals, with `overlay` or `bind` on such a mount.
+ * peers: races as other libraries have them. Directories are made beside renames and beside deletion, paths are looked up
+ * beside exchanges of a directory for one outside and for a link, 2 to 128 threads make the same at once, and 16 threads,
+ * half of them in jails that trust or don't, do everything. With `storm` all of it under a storm of signals, with `overlay`
+ * or `bind` on such a mount.
  *
  * usage: peers DIR SECONDS RACE [storm|overlay|bind]. RACE is rename, delete, exchange, create or all. Exits 0 where nothing that
  * was always outside was found or changed, no descriptor is left, and an unchecked walk was fooled. 78: no right to do so here.
@@ -34,7 +35,7 @@ static struct stat outside[3];
 struct worker {
     const char *name;
     int (*work)(int at, int flags, uint64_t *state);
-    int flags;
+    int flags, jail_flags;
     bool jailed, control;
     unsigned long done, raced, failed, escaped;
 };
@@ -119,9 +120,9 @@ static void *work(void *self)
     uint64_t state = 88172645463325252u + (uintptr_t)self;
     int at = root;
     if (me->jailed) {
-        int failed = inroot_jail(root);
+        int failed = inroot_jail_with(root, me->jail_flags);
         errno = -failed;
-        sure(failed, "inroot_jail");
+        sure(failed, "inroot_jail_with");
         at = INROOT_JAIL;
     }
     while (!stop) {
@@ -273,28 +274,36 @@ static void race(const char *name, struct worker *workers, int count, void (*abo
     printf("peers: %s: %lu moves, %d descriptors left open\n", name, (unsigned long)moves, left);
 }
 
-static void race_of_four(const char *name, int (*what)(int, int, uint64_t *), void (*about)(uint64_t *), bool jails, unsigned seconds)
+static void race_of_ways(const char *name, int (*what)(int, int, uint64_t *), void (*about)(uint64_t *), bool jails,
+                         unsigned seconds)
 {
     struct worker workers[] = {
         {.name = "by /proc, one try", .work = what, .flags = INROOT_NO_RETRY},
         {.name = "by /proc", .work = what},
         {.name = "in a jail, one try", .work = what, .flags = INROOT_NO_RETRY, .jailed = true},
         {.name = "in a jail", .work = what, .jailed = true},
+        {.name = "in a jail that trusts", .work = what, .jailed = true, .jail_flags = INROOT_TRUST_PROC},
         {.name = "a walk without a check", .work = unchecked, .control = true},
     };
     if (!jails) {
-        workers[2] = workers[4];
+        workers[2] = workers[5];
         race(name, workers, what == look_up ? 3 : 2, about, seconds);
     } else {
-        race(name, workers, what == look_up ? 5 : 4, about, seconds);
+        race(name, workers, what == look_up ? 6 : 5, about, seconds);
     }
 }
 
 static void race_of_all(bool jails, unsigned seconds)
 {
     struct worker workers[16];
-    for (int at = 0; at < 16; at++)
-        workers[at] = (struct worker){.name = at % 2 && jails ? "in a jail" : "by /proc", .work = all_kinds, .jailed = at % 2 && jails};
+    for (int at = 0; at < 16; at++) {
+        workers[at] = (struct worker){.name = "by /proc", .work = all_kinds};
+        if (at % 2 == 0 || !jails)
+            continue;
+        workers[at].jailed = true;
+        workers[at].name = at % 4 == 1 ? "in a jail" : "in a jail that trusts";
+        workers[at].jail_flags = at % 4 == 1 ? 0 : INROOT_TRUST_PROC;
+    }
     race("16 threads", workers, 16, all_about, seconds);
 }
 
@@ -415,11 +424,11 @@ int main(int count, char **words)
     if (strcmp(on, "storm") == 0)
         storm();
     if (strcmp(what, "rename") == 0)
-        race_of_four("directories made beside renames", make_all, rename_about, jails, seconds);
+        race_of_ways("directories made beside renames", make_all, rename_about, jails, seconds);
     else if (strcmp(what, "delete") == 0)
-        race_of_four("directories made beside deletion", make_all, delete_about, jails, seconds);
+        race_of_ways("directories made beside deletion", make_all, delete_about, jails, seconds);
     else if (strcmp(what, "exchange") == 0)
-        race_of_four("lookups beside exchange", look_up, exchange_about, jails, seconds);
+        race_of_ways("lookups beside exchange", look_up, exchange_about, jails, seconds);
     else if (strcmp(what, "create") == 0)
         create(jails, seconds);
     else if (strcmp(what, "all") == 0)

@@ -74,6 +74,7 @@ static void no_proc(void)
     expect(inroot_open(root, "f", 0) == -ENOSYS, "a file without /proc");
     expect(inroot_mkdir(root, "a/x", 0755, 0) == -ENOSYS, "a directory without /proc");
     expect(inroot_jail(root) == -ENOSYS, "a jail without /proc");
+    expect(inroot_jail_with(root, INROOT_TRUST_PROC) == -ENOSYS, "a jail that trusts without /proc");
     expect(inroot_open(root, "none", 0) == -ENOENT, "what isn't there, without /proc");
 }
 
@@ -84,6 +85,22 @@ static void forged(void)
     expect(inroot_open(root, "f", 0) == -ENOSYS, "a file by a /proc that is none");
     expect(inroot_open(root, "a/../f", 0) == -ENOSYS, "a file after `..` by a /proc that is none");
     expect(inroot_jail(root) == -ENOSYS, "a jail by a /proc that is none");
+    expect(inroot_jail_with(root, INROOT_TRUST_PROC) == -ENOSYS, "a jail that trusts by a /proc that is none");
+}
+
+/* The directory of the thread's descriptors is that of the /proc that was handed in, and is closed with it. */
+static void handed_in_to_trust(void)
+{
+    cover(true);
+    expect(inroot_use_proc(good) == 0, "a /proc");
+    close(good);
+    expect(inroot_jail_with(root, INROOT_TRUST_PROC) == 0, "a jail that trusts by the /proc that was handed in");
+    expect(inroot_open(INROOT_JAIL, "f", 0) >= 0, "a file in a jail that trusts by that /proc");
+    expect(inroot_open(INROOT_JAIL, "a/g", 0) >= 0, "a file deeper in a jail that trusts by that /proc");
+    close_proc();
+    expect(inroot_open(INROOT_JAIL, "a", 0) >= 0, "a directory in a jail that trusts whose /proc was closed");
+    expect(inroot_open(INROOT_JAIL, "f", 0) == -ENOSYS, "a file in a jail that trusts whose /proc was closed");
+    expect(inroot_open(INROOT_JAIL, "a/g", 0) == -ENOSYS, "a file deeper in a jail that trusts whose /proc was closed");
 }
 
 static void handed_in(void)
@@ -120,11 +137,14 @@ static void not_its_top(void)
     expect(inroot_use_proc(below) == 0, "a directory of /proc");
     no_use("by a directory of /proc");
     expect(inroot_open(root, "f", 0) == -ENOSYS, "a file by a directory of /proc");
+    expect(inroot_jail_with(root, INROOT_TRUST_PROC) == 0, "a jail that trusts by a directory of /proc, which keeps none");
+    expect(inroot_open(INROOT_JAIL, "f", 0) == -ENOSYS, "a file in a jail that trusts by a directory of /proc");
+    expect(inroot_open(INROOT_JAIL, "a", 0) >= 0, "a directory in a jail that trusts by a directory of /proc");
 }
 
 int main(int count, char **words)
 {
-    static void (*const parts[])(void) = {no_proc, forged, handed_in, covered_later, not_its_top};
+    static void (*const parts[])(void) = {no_proc, forged, handed_in, handed_in_to_trust, covered_later, not_its_top};
     if (count != 2)
         return 2;
     root = sure(open(words[1], O_PATH | O_DIRECTORY | O_CLOEXEC), words[1]);
@@ -132,6 +152,7 @@ int main(int count, char **words)
         return 1;
     sure(mknodat(root, "f", S_IFREG | 0600, 0), "f");
     sure(mkdirat(root, "a", 0755), "a");
+    sure(mknodat(root, "a/g", S_IFREG | 0600, 0), "a/g");
     good = sure(open("/proc", O_PATH | O_DIRECTORY | O_CLOEXEC), "/proc");
     int skipped = 0;
     for (size_t at = 0; at < sizeof parts / sizeof *parts; at++)

@@ -33,11 +33,14 @@ struct resolver {
     const char *name;
     int (*resolve)(const char *path);
     bool jailed, control;
+    int jail_flags;
     unsigned long opened, escaped, raced, failed;
 };
 
-/* Paths that lead to `secret` or above the root only where `..` leads out of it. */
-static const char *const paths[] = {"a/b/c/../../secret", "a/b/../secret", "a/b/c/../../../secret", "a/b/c/d/../../..", "a/b/c/../f"};
+/* Paths that lead to `secret` or above the root only where `..` leads out of it; and two of names alone, opened at once. */
+static const char *const paths[] = {
+    "a/b/c/../../secret", "a/b/../secret", "a/b/c/../../../secret", "a/b/c/d/../../..", "a/b/c/../f", "a/b/f", "a/b/c/d",
+};
 enum { PATHS = sizeof paths / sizeof *paths };
 
 static bool is_outside(int fd)
@@ -98,7 +101,7 @@ static void *resolve(void *self)
     struct resolver *me = self;
     uint64_t state = 88172645463325252u + (uintptr_t)self;
     if (me->jailed)
-        errno = -inroot_jail(root), sure(-errno, "inroot_jail");
+        errno = -inroot_jail_with(root, me->jail_flags), sure(-errno, "inroot_jail_with");
     while (!stop) {
         int fd = me->resolve(paths[pick(&state, PATHS)]);
         if (fd < 0) {
@@ -153,13 +156,14 @@ int main(int count, char **words)
 {
     struct resolver resolvers[] = {
         {.name = "inroot_open in a jail", .resolve = by_jail, .jailed = true},
+        {.name = "inroot_open in a jail that trusts", .resolve = by_jail, .jailed = true, .jail_flags = INROOT_TRUST_PROC},
         {.name = "inroot_open by /proc", .resolve = by_proc},
         {.name = "inroot_open in a jail, name by name", .resolve = by_jail_singly, .jailed = true},
         {.name = "inroot_open by /proc, name by name", .resolve = by_proc_singly},
         {.name = "openat2", .resolve = by_kernel},
         {.name = "a walk without a check", .resolve = unchecked, .control = true},
     };
-    enum { THREADS = sizeof resolvers / sizeof *resolvers, OURS = 4 };
+    enum { THREADS = sizeof resolvers / sizeof *resolvers, OURS = 5 };
     pthread_t mover, threads[THREADS];
     if (count < 3 || count > 4)
         return 2;

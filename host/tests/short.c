@@ -11,7 +11,8 @@
 
 enum { MOST = 20 };
 
-static int root, jailed;
+static int root, jail_flags;
+static bool jailed;
 
 /* Takes the numbers between those that are in use. Gives the next one, so that a limit of it leaves none. */
 static int take_gaps(void)
@@ -38,8 +39,8 @@ static void each_call(void)
 {
     int at = root, ran_short = 0;
     if (jailed) {
-        errno = -inroot_jail(root);
-        sure(-errno, "inroot_jail");
+        errno = -inroot_jail_with(root, jail_flags);
+        sure(-errno, "inroot_jail_with");
         at = INROOT_JAIL;
     }
     int none = take_gaps();
@@ -69,9 +70,12 @@ int main(int count, char **words)
     root = sure(open(words[1], O_PATH | O_DIRECTORY | O_CLOEXEC), words[1]);
     make_tree(root);
     apart(each_call);
-    jailed = 1;
-    if (may_jail(root))
+    jailed = true;
+    if (may_jail(root)) {
         apart(each_call);
+        jail_flags = INROOT_TRUST_PROC;
+        apart(each_call);
+    }
     printf("short: %d not as they are to be\n", wrong);
     return wrong != 0;
 }

@@ -260,10 +260,18 @@ static void bad_jails(void)
     sure(chdir("/usr"), "/usr");
     expect(inroot_jail(file) == -ENOTDIR, "a jail in a file");
     expect(inroot_jail(999) == -EBADF, "a jail in what isn't open");
+    expect(inroot_jail_with(file, INROOT_TRUST_PROC) == -ENOTDIR, "a jail that trusts in a file");
+    expect(inroot_jail_with(999, INROOT_TRUST_PROC) == -EBADF, "a jail that trusts in what isn't open");
+    for (unsigned flag = 1; flag != 0; flag <<= 1)
+        if (flag != INROOT_TRUST_PROC)
+            expect(inroot_jail_with(999, (int)(flag | INROOT_TRUST_PROC)) == -EINVAL, "a flag that is none: %x", flag);
+    expect(inroot_open(root, "f", INROOT_TRUST_PROC) == -EINVAL, "a flag of a jail");
     expect(is_at("/usr"), "the current directory after jails that failed");
     close(file);
     jail_here();
     expect(inroot_jail(root) == -EBUSY, "a second jail");
+    expect(inroot_jail_with(999, INROOT_TRUST_PROC) == -EBUSY, "a second jail that trusts");
+    expect(inroot_jail_with(root, INROOT_BENEATH) == -EINVAL, "a second jail by a flag that is none");
     static const char *const paths[] = {"a/b", "a/b/..", "f", "none", "a/../a/b/f"};
     for (size_t at = 0; at < sizeof paths / sizeof *paths; at++) {
         int fd = inroot_open(INROOT_JAIL, paths[at], 0);

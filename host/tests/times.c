@@ -1,12 +1,12 @@
 /*
  * times: how long calls take beside others. One resolution: by openat2(2); by a plain walk of single openat(2) calls that
  * asks the same questions; by a join of the path as text, part by part, that is then opened, and that no race may meet; and
- * by inroot_open(), in a jail and by /proc, with runs of names and name by name. Four directories of a path made: by
- * mkdirat(2) from the root, by the calls of mkdir(1) with -p, and by inroot_mkdir_all(). And many files in a directory
- * removed, by rm(1) and by inroot_remove_all().
+ * by inroot_open(), in a jail that trusts its descriptor of /proc, in another and by /proc, with runs of names and name by
+ * name. Four directories of a path made: by mkdirat(2) from the root, by the calls of mkdir(1) with -p, and by
+ * inroot_mkdir_all(). And many files in a directory removed, by rm(1) and by inroot_remove_all().
  *
  * The ways take turns batch by batch, on one processor, so that what the machine does beside weighs on all of them, and the
- * least of many batches counts. The jail has a thread of its own. One of the two threads waits while the other works, since in
+ * least of many batches counts. Each jail has a thread of its own. All threads but one wait while that one works, since in
  * a process of several each use of a descriptor costs more.
  *
  * usage: times DIR [FILES]. Prints a line for each. 77: no openat2(2) here. 78: no right to change a root.
@@ -201,12 +201,16 @@ static double microseconds(const struct task *task)
     return taken / BATCH;
 }
 
-/* What is handed to the thread in the jail, a task or none for its end, and what it hands back. */
-static struct {
+/* What is handed to the thread in a jail, a task or none for its end, and what it hands back. */
+struct jail {
+    int flags;
+    pthread_t thread;
     sem_t asked, answered;
     const struct task *task;
     double taken;
-} jail;
+};
+
+static struct jail jail, trusting = {.flags = INROOT_TRUST_PROC};
 
 static void await(sem_t *turn)
 {
@@ -214,31 +218,48 @@ static void await(sem_t *turn)
         ;
 }
 
-static void *stay_in_jail(void *unused)
+static void *stay_in_jail(void *self)
 {
-    errno = -inroot_jail(root);
-    sure(-errno, "inroot_jail");
-    sem_post(&jail.answered);
-    for (await(&jail.asked); jail.task != NULL; await(&jail.asked)) {
-        jail.taken = microseconds(jail.task);
-        sem_post(&jail.answered);
+    struct jail *me = self;
+    errno = -inroot_jail_with(root, me->flags);
+    sure(-errno, "inroot_jail_with");
+    sem_post(&me->answered);
+    for (await(&me->asked); me->task != NULL; await(&me->asked)) {
+        me->taken = microseconds(me->task);
+        sem_post(&me->answered);
     }
     inroot_jail_done();
-    return unused;
+    return NULL;
 }
 
-static double microseconds_in_jail(const struct task *task)
+static void begin_jail(struct jail *one)
 {
-    jail.task = task;
-    sem_post(&jail.asked);
-    await(&jail.answered);
-    return jail.taken;
+    sem_init(&one->asked, 0, 0);
+    sem_init(&one->answered, 0, 0);
+    pthread_create(&one->thread, NULL, stay_in_jail, one);
+    await(&one->answered);
 }
 
+static void end_jail(struct jail *one)
+{
+    one->task = NULL;
+    sem_post(&one->asked);
+    pthread_join(one->thread, NULL);
+}
+
+static double microseconds_in_jail(struct jail *one, const struct task *task)
+{
+    one->task = task;
+    sem_post(&one->asked);
+    await(&one->answered);
+    return one->taken;
+}
+
+/* How it is gone, and in which jail, if in any. */
 struct way {
     const char *name;
     int (*go)(const char *path);
-    bool jailed;
+    struct jail *jail;
 };
 
 enum { MOST_WAYS = 8 };
@@ -249,7 +270,7 @@ static void time_ways(const char *what, const char *path, const struct way *ways
     for (int batch = 0; batch < BATCHES; batch++)
         for (int way = 0; way < count; way++) {
             const struct task task = {.path = path, .go = ways[way].go, .undo = undo};
-            double taken = ways[way].jailed ? microseconds_in_jail(&task) : microseconds(&task);
+            double taken = ways[way].jail != NULL ? microseconds_in_jail(ways[way].jail, &task) : microseconds(&task);
             if (batch == 0 || taken < least[way])
                 least[way] = taken;
         }
@@ -327,19 +348,20 @@ static void stay_on_one_processor(void)
 static void time_all(const char *deep, long files)
 {
     static const struct way found[] = {
-        {"openat2", by_kernel, false},
-        {"a plain walk", plainly, false},
-        {"a join of text", by_join, false},
-        {"in a jail", by_jail, true},
-        {"by /proc", by_proc, false},
-        {"name by name in a jail", by_jail_singly, true},
-        {"name by name by /proc", by_proc_singly, false},
+        {"openat2", by_kernel, NULL},
+        {"a plain walk", plainly, NULL},
+        {"a join of text", by_join, NULL},
+        {"in a jail that trusts", by_jail, &trusting},
+        {"in a jail", by_jail, &jail},
+        {"by /proc", by_proc, NULL},
+        {"name by name in a jail", by_jail_singly, &jail},
+        {"name by name by /proc", by_proc_singly, NULL},
     };
     static const struct way made[] = {
-        {"mkdirat(2) from the root", make_by_paths, false},
-        {"as mkdir -p", make_as_mkdir, false},
-        {"in a jail", make_by_jail, true},
-        {"by /proc", make_by_proc, false},
+        {"mkdirat(2) from the root", make_by_paths, NULL},
+        {"as mkdir -p", make_as_mkdir, NULL},
+        {"in a jail", make_by_jail, &jail},
+        {"by /proc", make_by_proc, NULL},
     };
     const char *const paths[][2] = {
         {"a/b", "a/b"}, {"a/b/f", "a/b/f"}, {"four b/..", "a/b/../b/../b/../b/.."}, {"32 directories", deep},
@@ -353,7 +375,6 @@ static void time_all(const char *deep, long files)
 int main(int count, char **words)
 {
     static char deep[2 * DEPTH + 1];
-    pthread_t thread;
     if (count < 2 || count > 3 || realpath(words[1], where) == NULL)
         return 2;
     root = sure(open(where, O_PATH | O_DIRECTORY | O_CLOEXEC), where);
@@ -369,13 +390,10 @@ int main(int count, char **words)
         sure(mkdirat(root, deep, 0755), deep);
     }
     stay_on_one_processor();
-    sem_init(&jail.asked, 0, 0);
-    sem_init(&jail.answered, 0, 0);
-    pthread_create(&thread, NULL, stay_in_jail, NULL);
-    await(&jail.answered);
+    begin_jail(&jail);
+    begin_jail(&trusting);
     time_all(deep, count == 3 ? atol(words[2]) : FILES);
-    jail.task = NULL;
-    sem_post(&jail.asked);
-    pthread_join(thread, NULL);
+    end_jail(&jail);
+    end_jail(&trusting);
     return wrong != 0;
 }

@@ -1,11 +1,12 @@
-//! The functions by which a C program makes calls: a static library of two exports, over `c_protocol`.
+//! The functions by which a C program makes calls: a static library of three exports, over `c_protocol`.
 //!
 //! Each export is the function of that name of `c_protocol`, with its clauses. What a C program owes is said in
 //! `host/calls.h`: a what is kept is empty (zero) before the first call, and is left alone between two turns.
 #![tactic(auto)]
 
-ghost use Rattle.std.specs.Prelude.{IfSome, IsSome};
+ghost use Rattle.std.specs.Prelude.{◌≡◌, IfSome, IsSome};
 ghost use Rattle.root_ops.specs.declared.call.CallTurn.{CallTurn};
+ghost use Rattle.c_protocol.specs.AtOnce.{opens_at_once};
 ghost use Rattle.c_protocol.specs.Turns.{call_of, IsBegun, IsNext, IsTold};
 
 use c_protocol::{Answered, Asked, Kept, Told};
@@ -44,4 +45,12 @@ pub extern "C" fn inroot_next(
         × IsTold turn kept.new.held told.new room.old room.new) }
 {
     c_protocol::next(alloc, kept, answered, bytes, told, room);
+}
+
+/// Whether a call whose names were passed at once opens what the last one is: `c_protocol::opens_at_once`.
+#[unsafe(no_mangle)]
+pub extern "C" fn inroot_opens_at_once(asked: &Asked, path: &[u8], kind: u8, place: &[u8]) -> bool
+    ensures { result ≡ opens_at_once asked.now path.now kind place.now }
+{
+    c_protocol::opens_at_once(asked, path, kind, place)
 }

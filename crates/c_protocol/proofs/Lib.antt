@@ -4,3 +4,5 @@ mod Spelling
 mod Conversing
 mod Outright
 mod Passing
+mod PassingNames
+mod AtOnce

@@ -8,3 +8,4 @@ pub mod Numbers
 pub mod Turns
 pub mod History
 pub mod Outright
+pub mod AtOnce

@@ -1,4 +1,5 @@
 //! What a C program's call tells in a history: laws, each the contract of a function without a body.
+ghost use Rattle.c_protocol.specs.AtOnce.{OpensAtOnceTell};
 ghost use Rattle.c_protocol.specs.History.{ConversationsAreCalls};
 ghost use Rattle.c_protocol.specs.Outright.{ConversationsTell};
 
@@ -28,5 +29,15 @@ pub fn conversations_tell()
     ensures { ConversationsTell }
 {
     conversations_are_calls();
+    each_call_tells();
+}
+
+/// A call of which `opens_at_once` is true, by whatever handles each name was opened in the directory before it: the
+/// opens, the closes between them and the question where the last one stands are the lines of that call, which replies
+/// that it opened the last one. In each legal history in which these lines are the program's own events, it tells what
+/// `conversations_tell` says of a call.
+pub fn opens_at_once_tell()
+    ensures { OpensAtOnceTell }
+{
     each_call_tells();
 }

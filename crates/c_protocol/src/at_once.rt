@@ -1,0 +1,70 @@
+//! A call that opens by names which were passed at once.
+ghost use Rattle.std.specs.Prelude.{◌≡◌};
+ghost use Rattle.std.specs.List.{list_all};
+ghost use Rattle.path_text.specs.Name.{is_name};
+ghost use Rattle.path_text.specs.Print.{names_read};
+ghost use Rattle.path_text.specs.Text.{between_slashes};
+ghost use Rattle.c_protocol.specs.AtOnce.{has_names, opens_at_once, opens_kind, spells_place};
+ghost use Rattle.c_protocol.specs.Numbers.{kind_of};
+
+use crate::numbers::Asked;
+use path_text::{Name, Path, SLASH};
+
+// Whether each piece between the slashes is a name.
+fn are_names(text: &[u8]) -> bool
+    ensures { result ≡ list_all is_name (between_slashes text.now) }
+{
+    for piece in text.split(|byte| *byte == SLASH) {
+        if Name::fault_of(piece).is_some() {
+            return false;
+        }
+    }
+    true
+}
+
+// Whether it is a slash before each of one or more names.
+fn has_names(place: &[u8]) -> bool
+    ensures { result ≡ has_names (names_read place.now) }
+{
+    match place.split_first() {
+        Some((&SLASH, [])) => false,
+        Some((&SLASH, names)) => are_names(names),
+        _ => false,
+    }
+}
+
+// Whether the path is the place's, with the slash at its beginning or without.
+fn spells_place(path: &[u8], place: &[u8]) -> bool
+    ensures { result ≡ spells_place path.now place.now }
+{
+    match place.split_first() {
+        Some((_, names)) => path == place || path == names,
+        None => false,
+    }
+}
+
+// Whether a call of this number opens what is of this kind, and follows no link there.
+fn opens_kind(op: u8, kind: u8) -> bool
+    ensures { result ≡ opens_kind op (kind_of kind) }
+{
+    op == 2 || (op == 1 && kind != 3) || (op == 10 && kind == 1)
+}
+
+/// Whether a call goes by the names of this place alone, to an object of this kind that stands there (openat2(2),
+/// RESOLVE_NO_SYMLINKS). Then its path is the place's, with the slash at its beginning or without, and by
+/// `opens_at_once_tell` it replies that it opened the object, if each name was opened in the directory before it, and
+/// the object's place was asked for last. Takes no memory.
+///
+/// `kind` is 1 of a directory, 3 of a link, any other of a file; `place` is a slash before each name. True of a
+/// resolve, but not of a link that it would follow, and of a directory that is there with all above it, where missing
+/// ones would be made. False of any other operation, of a path that is none or has another part, and of one that
+/// begins with a slash where that leads out (RESOLVE_BENEATH).
+pub fn opens_at_once(asked: &Asked, path: &[u8], kind: u8, place: &[u8]) -> bool
+    ensures { result ≡ opens_at_once asked.now path.now kind place.now }
+{
+    opens_kind(asked.op, kind)
+        && !(asked.beneath && path.first() == Some(&SLASH))
+        && Path::fault_of(path).is_none()
+        && has_names(place)
+        && spells_place(path, place)
+}

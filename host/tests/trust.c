@@ -1,0 +1,329 @@
+/*
+ * trust: what a thread in a jail keeps that trusts its descriptor of /proc, and whose descriptors its calls ask about:
+ * after fork(2), with a table of its own, after the program has closed what the thread keeps, and where something runs out.
+ *
+ * usage: trust DIR. Exits 0 where each call's answer is about the caller, and nothing is left. 78: no right to change a
+ * root.
+ */
+#define _GNU_SOURCE
+#include "support.h"
+
+#include <errno.h>
+#include <fcntl.h>
+#include <linux/magic.h>
+#include <pthread.h>
+#include <sched.h>
+#include <stdatomic.h>
+#include <string.h>
+#include <sys/resource.h>
+#include <sys/stat.h>
+#include <sys/vfs.h>
+
+/* `root` holds the file `a/b/f` and the link `a/l`. */
+static int root, proc;
+
+/* How many descriptors a thread keeps: one, or none where the kernel can't tell a child from its parent. */
+static int keeps;
+
+static bool is_proc(int fd)
+{
+    struct statfs about;
+    return fstatfs(fd, &about) == 0 && about.f_type == PROC_SUPER_MAGIC;
+}
+
+static void jail_here(void)
+{
+    int before = open_descriptors();
+    errno = -inroot_jail_with(root, INROOT_TRUST_PROC);
+    sure(-errno, "inroot_jail_with");
+    keeps = open_descriptors() - before;
+    expect(keeps == 0 || keeps == 1, "a thread keeps %d descriptors", keeps);
+}
+
+static bool is(int fd, const char *path)
+{
+    struct stat one, other;
+    return fd >= 0 && fstat(fd, &one) == 0 && fstatat(root, path, &other, AT_SYMLINK_NOFOLLOW) == 0 &&
+           one.st_ino == other.st_ino;
+}
+
+/* What is no directory, by plain names, by steps, and not followed: with one try, so that a wrong table shows. */
+static void look_up(const char *when)
+{
+    static const struct {
+        const char *path;
+        int flags;
+        const char *found;
+    } rows[] = {
+        {"a/b/f", 0, "a/b/f"}, {"a/b/../b/f", 0, "a/b/f"}, {"a/b/f", INROOT_ONE_BY_ONE, "a/b/f"}, {"a/l", 0, "a/b/f"},
+        {"a/l", INROOT_NOFOLLOW, "a/l"}, {"a/b", 0, "a/b"},
+    };
+    for (size_t at = 0; at < sizeof rows / sizeof *rows; at++) {
+        int fd = inroot_open(INROOT_JAIL, rows[at].path, rows[at].flags | INROOT_NO_RETRY);
+        expect(is(fd, rows[at].found), "%s, flags %d, %s: %d", rows[at].path, rows[at].flags, when, fd);
+        if (fd >= 0)
+            close(fd);
+    }
+    expect(inroot_open(INROOT_JAIL, "a/b/none", INROOT_NO_RETRY) == -ENOENT, "a/b/none, %s", when);
+}
+
+/* The numbers that come next are those of the directory `a` in this table. */
+static void fill(void)
+{
+    for (int at = 0; at < 40; at++)
+        sure(openat(root, "a", O_PATH | O_CLOEXEC), "a");
+}
+
+/* How many kilobytes of memory the kernel empties for a child, or -1 where it doesn't tell. */
+static long emptied(void)
+{
+    char line[256];
+    long size = 0, all = 0;
+    int fd = openat(proc, "self/smaps", O_RDONLY | O_CLOEXEC);
+    FILE *maps = fd < 0 ? NULL : fdopen(fd, "r");
+    if (maps == NULL)
+        return -1;
+    while (fgets(line, sizeof line, maps) != NULL) {
+        sscanf(line, "Size: %ld kB", &size);
+        if (strncmp(line, "VmFlags:", 8) == 0 && strstr(line, " wf") != NULL)
+            all += size;
+    }
+    fclose(maps);
+    return all;
+}
+
+static void in_thread(void *(*what)(void *))
+{
+    pthread_t thread;
+    pthread_create(&thread, NULL, what, NULL);
+    pthread_join(thread, NULL);
+}
+
+/* ---- fork(2) */
+
+/* The child's descriptors have the numbers that are those of `a` in its parent's table. */
+static void in_child(void)
+{
+    int before = open_descriptors();
+    look_up("in a child of fork");
+    expect(open_descriptors() == before - keeps, "a child of fork keeps its parent's table");
+    expect(emptied() <= 0, "a child of fork keeps a page");
+    look_up("in a child of fork, once more");
+    inroot_jail_done();
+    expect(open_descriptors() == before - keeps, "the end of the jail in a child of fork");
+}
+
+static void *fork_in_jail(void *unused)
+{
+    int go[2], status;
+    char byte = 0;
+    jail_here();
+    look_up("before a fork");
+    sure(pipe2(go, O_CLOEXEC), "pipe");
+    pid_t child = sure(fork(), "fork");
+    if (child == 0) {
+        wrong = 0;
+        sure((int)read(go[0], &byte, 1), "read");
+        in_child();
+        fflush(stdout);
+        _exit(wrong);
+    }
+    int before = open_descriptors();
+    look_up("in the parent of a fork");
+    expect(open_descriptors() == before, "the parent of a fork keeps something else than before");
+    fill();
+    sure((int)write(go[1], &byte, 1), "write");
+    sure(waitpid(child, &status, 0), "waitpid");
+    expect(WIFEXITED(status) && WEXITSTATUS(status) == 0, "a child of fork: %x", (unsigned)status);
+    look_up("in the parent after its child");
+    return unused;
+}
+
+static void forks(void)
+{
+    in_thread(fork_in_jail);
+}
+
+/* ---- a table of the thread's own */
+
+static void *with_own_table(void *turn)
+{
+    atomic_int *now = turn;
+    jail_here();
+    look_up("before its own table");
+    sure(unshare(CLONE_FILES), "unshare");
+    *now = 1;
+    while (*now == 1)
+        sched_yield();
+    look_up("with its own table");
+    return NULL;
+}
+
+static void own_table(void)
+{
+    pthread_t thread;
+    static atomic_int turn;
+    pthread_create(&thread, NULL, with_own_table, &turn);
+    while (turn == 0)
+        sched_yield();
+    fill();
+    turn = 2;
+    pthread_join(thread, NULL);
+}
+
+/* ---- what is kept and left */
+
+static void *end_in_jail(void *unused)
+{
+    jail_here();
+    expect(emptied() < 0 || (emptied() > 0) == (keeps > 0), "%ld kB are emptied for a child", emptied());
+    look_up("in a thread that ends");
+    return unused;
+}
+
+static void *leave_jail(void *unused)
+{
+    jail_here();
+    look_up("in a thread that leaves its jail");
+    int before = open_descriptors();
+    inroot_jail_done();
+    expect(before - open_descriptors() == keeps, "descriptors after the end of a jail");
+    expect(emptied() <= 0, "a page after the end of a jail");
+    expect(inroot_open(INROOT_JAIL, "a/b/f", 0) == -EBADF, "a jail after its end");
+    /* And once more, where it is now: `/proc` is open. */
+    jail_here();
+    look_up("in a second jail");
+    return unused;
+}
+
+static void *cancelled(void *unused)
+{
+    pthread_cancel(pthread_self());
+    pthread_testcancel();
+    return unused;
+}
+
+static void *cancelled_in_jail(void *unused)
+{
+    jail_here();
+    look_up("in a thread that is cancelled");
+    return cancelled(unused);
+}
+
+static void ended(void)
+{
+    static void *(*const ways[])(void *) = {end_in_jail, leave_jail, cancelled_in_jail};
+    /* What the C library loads to end a thread isn't there below a root. */
+    in_thread(cancelled);
+    int before = open_descriptors();
+    for (int at = 0; at < 99; at++)
+        in_thread(ways[at % 3]);
+    expect(open_descriptors() == before, "%d descriptors are left of threads", open_descriptors() - before);
+    expect(emptied() <= 0, "%ld kB are left of threads", emptied());
+}
+
+/* The program closes what the thread keeps, which is no harm while nothing else is put in its place. */
+static void *closed_behind(void *unused)
+{
+    int before[64];
+    for (int fd = 0; fd < 64; fd++)
+        before[fd] = fcntl(fd, F_GETFD);
+    jail_here();
+    for (int fd = 0; fd < 64; fd++)
+        if (before[fd] < 0 && is_proc(fd))
+            close(fd);
+    int left = open_descriptors();
+    look_up("after the table was closed");
+    look_up("after the table was closed, once more");
+    expect(open_descriptors() == left, "descriptors after the table was closed");
+    expect(emptied() <= 0, "a page after the table was closed");
+    return unused;
+}
+
+static void closed(void)
+{
+    in_thread(closed_behind);
+}
+
+/* ---- what runs out */
+
+/* Takes the numbers between those that are in use, and gives the next one. */
+static int take_gaps(void)
+{
+    int top = 255;
+    while (top >= 0 && fcntl(top, F_GETFD) < 0)
+        top--;
+    int fd = sure(dup(root), "dup");
+    while (fd < top)
+        fd = sure(dup(root), "dup");
+    close(fd);
+    return fd;
+}
+
+static void allow(int which, rlim_t count)
+{
+    struct rlimit limit;
+    sure(getrlimit(which, &limit), "getrlimit");
+    limit.rlim_cur = count < limit.rlim_max ? count : limit.rlim_max;
+    sure(setrlimit(which, &limit), "setrlimit");
+}
+
+static void *run_short(void *unused)
+{
+    int none = take_gaps(), before = open_descriptors(), failed = -EMFILE, left = 0;
+    for (; failed == -EMFILE && left < 10; left++) {
+        allow(RLIMIT_NOFILE, (rlim_t)(none + left));
+        failed = inroot_jail_with(root, INROOT_TRUST_PROC);
+        allow(RLIMIT_NOFILE, 256);
+        if (failed == 0)
+            break;
+        expect(failed == -EMFILE, "a jail with %d descriptors left: %d", left, failed);
+        expect(open_descriptors() == before, "a jail with %d descriptors left leaves some open", left);
+        expect(emptied() <= 0, "a jail with %d descriptors left leaves a page", left);
+        expect(inroot_open(INROOT_JAIL, "a/b/f", 0) == -EBADF, "a jail with %d descriptors left", left);
+        expect(faccessat(AT_FDCWD, "/proc", F_OK, 0) == 0, "a thread was moved with %d descriptors left", left);
+    }
+    expect(failed == 0 && left >= 2, "a jail with %d descriptors left: %d", left, failed);
+    look_up("after it ran short of descriptors");
+    return unused;
+}
+
+static void *run_out_of_memory(void *unused)
+{
+    int before = open_descriptors();
+    allow(RLIMIT_AS, 1);
+    int failed = inroot_jail_with(root, INROOT_TRUST_PROC);
+    allow(RLIMIT_AS, RLIM_INFINITY);
+    expect(failed == -ENOMEM, "a jail without memory: %d", failed);
+    expect(open_descriptors() == before, "a jail without memory leaves descriptors open");
+    expect(inroot_open(INROOT_JAIL, "a/b/f", 0) == -EBADF, "a jail without memory");
+    jail_here();
+    look_up("after it ran out of memory");
+    return unused;
+}
+
+static void shortages(void)
+{
+    in_thread(run_short);
+    in_thread(run_out_of_memory);
+}
+
+int main(int count, char **words)
+{
+    static void (*const parts[])(void) = {forks, own_table, ended, closed, shortages};
+    if (count != 2)
+        return 2;
+    root = sure(open(words[1], O_PATH | O_DIRECTORY | O_CLOEXEC), words[1]);
+    proc = sure(open("/proc", O_PATH | O_DIRECTORY | O_CLOEXEC), "/proc");
+    if (!may_jail(root))
+        return NO_RIGHT;
+    sure(mkdirat(root, "a", 0755), "a");
+    sure(mkdirat(root, "a/b", 0755), "a/b");
+    sure(mknodat(root, "a/b/f", S_IFREG | 0600, 0), "a/b/f");
+    sure(symlinkat("b/f", root, "a/l"), "a/l");
+    open_proc();
+    for (size_t at = 0; at < sizeof parts / sizeof *parts; at++)
+        apart(parts[at]);
+    printf("trust: %d not as they are to be\n", wrong);
+    return wrong != 0;
+}
