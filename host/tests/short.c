@@ -14,19 +14,6 @@ enum { MOST = 20 };
 static int root, jail_flags;
 static bool jailed;
 
-/* Takes the numbers between those that are in use. Gives the next one, so that a limit of it leaves none. */
-static int take_gaps(void)
-{
-    int top = 255;
-    while (top >= 0 && fcntl(top, F_GETFD) < 0)
-        top--;
-    int fd = sure(dup(root), "dup");
-    while (fd < top)
-        fd = sure(dup(root), "dup");
-    close(fd);
-    return fd;
-}
-
 static void allow(int count)
 {
     struct rlimit limit;
@@ -43,7 +30,7 @@ static void each_call(void)
         sure(-errno, "inroot_jail_with");
         at = INROOT_JAIL;
     }
-    int none = take_gaps();
+    int none = take_gaps(root);
     for (int number = 0; number < CALLS; number++) {
         allow(256);
         int wanted = call(at, number);

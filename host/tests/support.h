@@ -62,6 +62,19 @@ static inline int open_descriptors(void)
     return count;
 }
 
+/* Takes the numbers between those that are in use, by copies of the root. Gives the next one, so that a limit of it leaves none. */
+static inline int take_gaps(int root)
+{
+    int top = 255;
+    while (top >= 0 && fcntl(top, F_GETFD) < 0)
+        top--;
+    int fd = sure(dup(root), "dup");
+    while (fd < top)
+        fd = sure(dup(root), "dup");
+    close(fd);
+    return fd;
+}
+
 /* Has the calls ask a /proc that is open already, so that descriptors can be counted. */
 static inline void open_proc(void)
 {

@@ -247,19 +247,6 @@ static void closed(void)
 
 /* ---- what runs out */
 
-/* Takes the numbers between those that are in use, and gives the next one. */
-static int take_gaps(void)
-{
-    int top = 255;
-    while (top >= 0 && fcntl(top, F_GETFD) < 0)
-        top--;
-    int fd = sure(dup(root), "dup");
-    while (fd < top)
-        fd = sure(dup(root), "dup");
-    close(fd);
-    return fd;
-}
-
 static void allow(int which, rlim_t count)
 {
     struct rlimit limit;
@@ -270,7 +257,7 @@ static void allow(int which, rlim_t count)
 
 static void *run_short(void *unused)
 {
-    int none = take_gaps(), before = open_descriptors(), failed = -EMFILE, left = 0;
+    int none = take_gaps(root), before = open_descriptors(), failed = -EMFILE, left = 0;
     for (; failed == -EMFILE && left < 10; left++) {
         allow(RLIMIT_NOFILE, (rlim_t)(none + left));
         failed = inroot_jail_with(root, INROOT_TRUST_PROC);
