@@ -173,3 +173,8 @@ module _ (others_stay : OthersHandlesStay) (w : WalkInHistory) where
   -- the lines happen in the window
   pub lines_happen : IsLegal (begin_of w) w.window → own_events w.actor w.window ≡ events_of w.actor w.lines → HappensAlone w 0 w.lines
   lines_happen legal own = happen w.lines w.window 0 0 (begin_of w) (le_refl 0) (whole_rest w) legal (λ h. refl) (at_once 0) own
+
+  -- and from a later moment on, in what is left of it
+  pub lines_happen_from : (lines : List Line) (rest : List Event) (m : ℕ) (s : State) → IsRest w m s rest → IsLegal s rest
+      → ((h : ℕ) → held s w.actor h ≡ held_at w m h) → own_events w.actor rest ≡ events_of w.actor lines → HappensAlone w m lines
+  lines_happen_from lines rest m s is legal kept own = happen lines rest m m s (le_refl m) is legal kept (at_once m) own

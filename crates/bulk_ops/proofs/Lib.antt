@@ -1,6 +1,8 @@
 pub mod OwnEvents
 pub mod Happening
+pub mod WalkParts
 pub mod MakeAllNames
+pub mod Within
 pub mod MakeAllSteps
 pub mod RemovingAll
 pub mod MakeAllGood
@@ -12,3 +14,4 @@ pub mod MappedLists
 pub mod LikeCalls
 pub mod LikeStages
 pub mod LikeFrames
+pub mod RacedCalls

@@ -1,6 +1,6 @@
 -- What each answer makes of a call keeps what is known of it.
-use Rattle.std.specs.Prelude.{◌≡◌, ℕ, suc, ◌≤◌, List, [], ◌∷◌, ◌++◌, Bool, true, false, if◌then◌else◌, length, reverse, Some, None, Ok, refl}
-use Rattle.std.proofs.Common.{sym, ap, subst, ◌∙◌, le_refl, le_trans, append-nil, append_assoc, inl, inr}
+use Rattle.std.specs.Prelude.{◌≡◌, ℕ, suc, ◌<◌, ◌≤◌, ◌⊎◌, List, [], ◌∷◌, ◌++◌, Bool, true, false, if◌then◌else◌, length, reverse, Some, None, Ok, refl}
+use Rattle.std.proofs.Common.{sym, ap, subst, ◌∙◌, le_refl, le_trans, append-nil, append_assoc, inl, inr, arith}
 use Rattle.std.proofs.Math.Nat.{le-suc}
 use Rattle.std.proofs.lemmas.List.{reverse-append}
 use Rattle.std.proofs.lemmas.Bool.{false≢true, leb-true}
@@ -8,12 +8,13 @@ use Rattle.path_text.specs.declared.errno.Errno.{Errno}
 use Rattle.path_text.specs.declared.errno.Errno.TheVariants.{NotFound, Raced, Exists, NotDir, TooMany, TooLong}
 use Rattle.tree_model.specs.declared.answer.Answer.{Answer}
 use Rattle.tree_model.specs.declared.answer.Answer.TheVariants.{Opened, Names, NotBelow, Done, Refused}
+use Rattle.tree_model.specs.declared.inode.Inode.{Inode}
 use Rattle.tree_model.specs.declared.inode.Object.{Object}
 use Rattle.tree_model.specs.declared.inode.Object.TheVariants.{Dir}
 use Rattle.tree_model.specs.StepWith.{StepWith}
 use Rattle.tree_model.specs.declared.step.StepOf.TheVariants.{Open, NameBelow, Close, MakeDir}
 use Rattle.tree_model.specs.declared.tree.TheConstants.{NUMBERS_MAX}
-use Rattle.tree_model.specs.State.{State, Stands, object_at, child, is_dir, is_directory, is_gone}
+use Rattle.tree_model.specs.State.{State, Stands, object_at, place_at, child, is_dir, is_directory, is_gone}
 use Rattle.tree_model.specs.Entries.{makes}
 use Rattle.tree_model.specs.Steps.{outcome, opens, kind_of}
 use Rattle.tree_model.specs.Steps.{held as holding}
@@ -22,7 +23,8 @@ use Rattle.step_resolver.specs.Meaning.{is_too_long}
 use Rattle.step_resolver.specs.Trail.{down_to}
 use Rattle.step_resolver.specs.Order.{Handle, holds, is_dir_kind}
 use Rattle.step_resolver.specs.WalkHistory.{WalkInHistory, state_at, timeline}
-use Rattle.tree_model.proofs.Children.{entry, place_at-child}
+use Rattle.tree_model.proofs.Children.{entry, place_at-child, child-entry}
+use Rattle.tree_model.proofs.Places.{place_at-last}
 use Rattle.step_resolver.proofs.Meaning.NodesAtEntries.{object_at-place}
 use Rattle.step_resolver.proofs.Trail.Joined.{own_earlier}
 use Rattle.step_resolver.proofs.Underway.StepOutcomes.{IsMore, IsLess, Close-is_less, Opening, too_many, no_object, is_opened, opening_of, OpenCase, no_dir, no_child, at_child, open_case}
@@ -32,9 +34,10 @@ use Rattle.step_resolver.proofs.Underway.HandlesHeld.{handles_swapped, kept_on, 
 use Rattle.step_resolver.proofs.Underway.LegalHistory.{TreeLaws}
 use Rattle.step_resolver.proofs.Underway.NextPart.{a_directory, no_directory}
 use Rattle.bulk_ops.specs.MakeAllOrder.{making, opening, leaving, ending, closing, MakeTurn, more, made, rest_fault, rest_names, gives_up, take, enters}
-use Rattle.bulk_ops.specs.MakeAllTells.{into, AtName, LeavesNodes, Reach, not_begun, begun, MayDo, MakingCause, full, gone, missing, not_directory, astray}
+use Rattle.bulk_ops.specs.MakeAllTells.{into, AtName, Reach, not_begun, begun, MayDo, MakingCause, full, gone, missing, not_directory, astray}
+use Rattle.bulk_ops.specs.WalkFirst.{event_at, LeavesEntries}
 use Rattle.bulk_ops.proofs.Happening.{IsAlone}
-use Rattle.bulk_ops.proofs.MakeAllGood.{DidUntil, Chained, OnWay, Failing, GoodCall, GoodTurn, did_further, gives_up_good, goes_down_good, chained_later, MakeCase, dir_gone, is_there, no_number, is_made, make_case, BelowCase, stands_there, stands_elsewhere, stands_nowhere, below_case, below_kept, below_nodes}
+use Rattle.bulk_ops.proofs.MakeAllGood.{DidUntil, Chained, OnWay, Shown, OnWayIn, Failing, GoodCall, GoodTurn, did_further, gives_up_good, goes_down_good, chained_later, MakeCase, dir_gone, is_there, no_number, is_made, make_case, BelowCase, stands_there, stands_elsewhere, stands_nowhere, below_case, below_kept, below_nodes}
 
 -- each name of a rest without fault is short enough
 not_empty : (xs : List (List ℕ)) (n : List ℕ) (ys : List (List ℕ)) → [] ≡ xs ++ n ∷ ys → ⊥
@@ -79,6 +82,9 @@ module _ {w : WalkInHistory} (lived : Lived w) (now t : ℕ) (held : Handle) (na
   past_now : (step : StepWith ℕ) → StepAt w now t step answer → now ≤ suc t
   past_now step is = le_trans is.at.later (le-suc t)
 
+  event_as : (step : StepWith ℕ) → StepAt w now t step answer → (v : Answer) → answer ≡ v → event_at w t step v
+  event_as step is v told = is.event ∙ ap (λ u. Some (record { actor = w.actor; step = step; answer = u })) told
+
   -- the call fails here, where the step changed no handle
   fails_here : (error : Errno) → ((h : ℕ) → held_at w (suc t) h ≡ held_at w now h) → MayDo w (begun way.p) t → MakingCause w way.p error
       → GoodTurn w (suc t) (gives_up (held.number ∷ []) error)
@@ -98,34 +104,60 @@ module _ {w : WalkInHistory} (lived : Lived w) (now t : ℕ) (held : Handle) (na
     made_as : (v : Answer) → answer ≡ v → GoodTurn w (suc t) (take w.way room (making held names n left) v) → GoodTurn w (suc t) (take w.way room (making held names n left) answer)
     made_as v e g = subst (λ u. GoodTurn w (suc t) (take w.way room (making held names n left) u)) (sym e) g
 
-    nodes_left : (outcome s w.actor (MakeDir held.number n)).after ≡ s → LeavesNodes w t
+    abbrev made_inode : Inode
+    made_inode = record { object = Dir; place = Some (record { parent = held.node; name = n }) }
+
+    nodes_left : (outcome s w.actor (MakeDir held.number n)).after ≡ s → LeavesEntries w t
     nodes_left same = ap (λ x. x.nodes) (is.after ∙ same)
 
-    to_opening : ((h : ℕ) → held_at w (suc t) h ≡ held_at w now h) → MayDo w (begun way.p) t → OnWay w (suc t) held names (n ∷ left) (held.number ∷ [])
-    to_opening kept did = record {
-      p = way.p;
-      chained = chained_later (past_now (MakeDir held.number n) is) kept c;
-      handles = handles_kept kept way.handles;
-      did = did_further (begun way.p) way.did alone did;
+    to_opening : ((h : ℕ) → held_at w (suc t) h ≡ held_at w now h) → MayDo w (begun way.p) t → (v : Answer) → answer ≡ v
+        → (v ≡ Done) ⊎ (v ≡ Refused Exists) → (entry : ℕ) → child (state_at w (suc t)).nodes held.node n ≡ Some entry → OnWayIn w (suc t) held names n left
+    to_opening kept did v told so entry child_is = record {
+      way = record {
+        p = way.p;
+        chained = chained_later (past_now (MakeDir held.number n) is) kept c;
+        handles = handles_kept kept way.handles;
+        did = did_further (begun way.p) way.did alone did;
+      };
+      shown = record {
+        first = t;
+        is_now = refl;
+        at = own_earlier (timeline w) c.past is.at;
+        there = record {
+          answer = v;
+          event = event_as (MakeDir held.number n) is v told;
+          told = so;
+          entry = entry;
+          child = ap (λ d. child (state_at w (suc t)).nodes d n) c.node ∙ child_is;
+        };
+      };
     }
 
     on_case : MakeCase s held.node n (outcome s w.actor (MakeDir held.number n)) → GoodTurn w (suc t) (take w.way room (making held names n left) answer)
     on_case (dir_gone g o) = made_as (Refused NotFound) (is.told ∙ ap (λ r. r.answer) o)
         (fails_here Raced (kept_on is (ap (λ r. r.after) o)) (inl (nodes_left (ap (λ r. r.after) o)))
-        (gone c.to n t (at_name (MakeDir held.number n) is) (ap (is_gone s.nodes) c.node ∙ g)))
-    on_case (is_there o) = made_as (Refused Exists) (is.told ∙ ap (λ r. r.answer) o)
-        (to_opening (kept_on is (ap (λ r. r.after) o)) (inl (nodes_left (ap (λ r. r.after) o))))
+        (gone c.to n held.number t (at_name (MakeDir held.number n) is)
+        (event_as (MakeDir held.number n) is (Refused NotFound) (is.told ∙ ap (λ r. r.answer) o)) (ap (is_gone s.nodes) c.node ∙ g)))
+    on_case (is_there x child_is o) = made_as (Refused Exists) (is.told ∙ ap (λ r. r.answer) o)
+        (to_opening (kept_on is (ap (λ r. r.after) o)) (inl (nodes_left (ap (λ r. r.after) o))) (Refused Exists) (is.told ∙ ap (λ r. r.answer) o) (inr refl)
+        x (ap (λ (ns : List Inode). child ns held.node n) (nodes_left (ap (λ r. r.after) o)) ∙ child_is))
     on_case (no_number many o) = made_as (Refused TooMany) (is.told ∙ ap (λ r. r.answer) o)
         (fails_here TooMany (kept_on is (ap (λ r. r.after) o)) (inl (nodes_left (ap (λ r. r.after) o)))
-        (full t (MakeDir held.number n) (is.event ∙ ap (λ v. Some (record { actor = w.actor; step = MakeDir held.number n; answer = v })) (is.told ∙ ap (λ r. r.answer) o)) (ap (λ r. r.answer) o) (inr (leb-true NUMBERS_MAX (length s.nodes) many))))
-    on_case (is_made nodes e o) = made_as Done (is.told ∙ ap (λ r. r.answer) o)
+        (full t (MakeDir held.number n) (event_as (MakeDir held.number n) is (Refused TooMany) (is.told ∙ ap (λ r. r.answer) o)) (ap (λ r. r.answer) o)
+        (inr (leb-true NUMBERS_MAX (length s.nodes) many))))
+    on_case (is_made nodes one_more e o) =
+        let after : (state_at w (suc t)).nodes ≡ s.nodes ++ made_inode ∷ [] = ap (λ (x : State). x.nodes) (is.after ∙ ap (λ r. r.after) o) ∙ one_more in
+        made_as Done (is.told ∙ ap (λ r. r.answer) o)
         (to_opening (λ h. ap (λ x. holding x w.actor h) (is.after ∙ ap (λ r. r.after) o) ∙ is.kept h)
         (inr (record {
           dir = c.to;
           name = n;
           at_name = at_name (MakeDir held.number n) is;
           makes = subst (λ x. makes s.nodes x n Dir ≡ Ok (state_at w (suc t)).nodes) (sym c.node) (e ∙ ap (λ (x : State). Ok x.nodes) (sym (is.after ∙ ap (λ r. r.after) o)));
-        })))
+        }))
+        Done (is.told ∙ ap (λ r. r.answer) o) (inl refl) (length s.nodes)
+        (child-entry (state_at w (suc t)).nodes (lived.states (suc t)).tree held.node n (length s.nodes)
+        (ap (λ (ns : List Inode). place_at ns (length s.nodes)) after ∙ place_at-last s.nodes made_inode)))
 
     pub making_good : GoodTurn w (suc t) (take w.way room (making held names n left) answer)
     making_good =
@@ -134,15 +166,15 @@ module _ {w : WalkInHistory} (lived : Lived w) (now t : ℕ) (held : Handle) (na
 
   -- ---- Open
 
-  module _ (room : Bool) (is : StepAt w now t (Open held.number n) answer) where
+  module _ (room : Bool) (is : StepAt w now t (Open held.number n) answer) (shown : Shown w now held.number n c.to) where
     opened_as : (v : Answer) → answer ≡ v → GoodTurn w (suc t) (take w.way room (opening held names n left) v) → GoodTurn w (suc t) (take w.way room (opening held names n left) answer)
     opened_as v e g = subst (λ u. GoodTurn w (suc t) (take w.way room (opening held names n left) u)) (sym e) g
 
-    same_nodes : (after : State) → (outcome s w.actor (Open held.number n)).after ≡ after → after.nodes ≡ s.nodes → LeavesNodes w t
+    same_nodes : (after : State) → (outcome s w.actor (Open held.number n)).after ≡ after → after.nodes ≡ s.nodes → LeavesEntries w t
     same_nodes after e same = ap (λ (x : State). x.nodes) (is.after ∙ e) ∙ same
 
     module _ (x : ℕ) (what : Object) (child_is : child s.nodes held.node n ≡ Some x) (is_what : object_at s.nodes x ≡ Some what)
-        (new : IsMore s w.actor (state_at w (suc t)) (length s.handles) x) (nodes : LeavesNodes w t) where
+        (new : IsMore s w.actor (state_at w (suc t)) (length s.handles) x) (nodes : LeavesEntries w t) where
       abbrev new_handle : Handle
       new_handle = record { number = length s.handles; node = x; kind = kind_of what }
 
@@ -205,18 +237,36 @@ module _ {w : WalkInHistory} (lived : Lived w) (now t : ℕ) (held : Handle) (na
         → Opening s w.actor x (opens s w.actor x) → GoodTurn w (suc t) (take w.way room (opening held names n left) answer)
     on_opening x e o (too_many f q) = opened_as (Refused TooMany) (is.told ∙ ap (λ r. r.answer) (o ∙ q))
         (fails_here TooMany (kept_on is (ap (λ r. r.after) (o ∙ q))) (inl (same_nodes s (ap (λ r. r.after) (o ∙ q)) refl))
-        (full t (Open held.number n) (is.event ∙ ap (λ v. Some (record { actor = w.actor; step = Open held.number n; answer = v })) (is.told ∙ ap (λ r. r.answer) (o ∙ q))) (ap (λ r. r.answer) (o ∙ q)) (inl (f, few_held w t (holds held names) (handles_kept is.kept way.handles)))))
+        (full t (Open held.number n) (event_as (Open held.number n) is (Refused TooMany) (is.told ∙ ap (λ r. r.answer) (o ∙ q))) (ap (λ r. r.answer) (o ∙ q)) (inl (f, few_held w t (holds held names) (handles_kept is.kept way.handles)))))
     on_opening x e o (no_object z q) =
         absurd (object_at-place s.nodes x (entry held.node n) (place_at-child s.nodes held.node n x e) z)
     on_opening x e o (is_opened what z q) = opened_as (Opened (length s.handles) x (kind_of what)) (is.told ∙ ap (λ r. r.answer) (o ∙ q))
         (opened_good x what e z (more_on is x (ap (λ r. r.after) (o ∙ q))) (same_nodes _ (ap (λ r. r.after) (o ∙ q)) refl)
         (short_at way.p.rest c.whole (reverse c.passed) n left c.split))
 
+    since : now ≤ t → shown.first < t
+    since le = let e = shown.is_now in omega (arith, e, le)
+
+    from_now : (k : ℕ) → shown.first < k → now ≤ k
+    from_now k after = let e = shown.is_now in omega (arith, e, after)
+
     on_open_case : OpenCase s w.actor held.node n (outcome s w.actor (Open held.number n)) → GoodTurn w (suc t) (take w.way room (opening held names n left) answer)
     on_open_case (no_dir e o) = absurd (false≢true (sym e ∙ (dir_then (Open held.number n) is).dir))
     on_open_case (no_child e o) = opened_as (Refused NotFound) (is.told ∙ ap (λ r. r.answer) o)
         (fails_here Raced (kept_on is (ap (λ r. r.after) o)) (inl (same_nodes s (ap (λ r. r.after) o) refl))
-        (missing c.to n t (at_name (Open held.number n) is) (ap (λ d. child s.nodes d n) c.node ∙ e)))
+        (missing (record {
+          dir = c.to;
+          name = n;
+          handle = held.number;
+          first = shown.first;
+          at_name = record { passed = c.passed; left = left; names = c.split; down = c.down; at = shown.at };
+          there = shown.there;
+          when = t;
+          later = since (is.at.later);
+          between = λ k after before. alone.none k (from_now k after) before;
+          refused = event_as (Open held.number n) is (Refused NotFound) (is.told ∙ ap (λ r. r.answer) o);
+          missing = ap (λ d. child s.nodes d n) c.node ∙ e;
+        })))
     on_open_case (at_child x e o) = on_opening x e o (opening_of s w.actor x)
 
     pub opening_good : GoodTurn w (suc t) (take w.way room (opening held names n left) answer)
@@ -224,7 +274,7 @@ module _ {w : WalkInHistory} (lived : Lived w) (now t : ℕ) (held : Handle) (na
 
 -- ---- Close
 
-closed_nodes : (laws : TreeLaws) {w : WalkInHistory} {now t : ℕ} {h : ℕ} {answer : Answer} → StepAt w now t (Close h) answer → LeavesNodes w t
+closed_nodes : (laws : TreeLaws) {w : WalkInHistory} {now t : ℕ} {h : ℕ} {answer : Answer} → StepAt w now t (Close h) answer → LeavesEntries w t
 closed_nodes laws {w} {now} {t} {h} is = ap (λ (s : State). s.nodes) is.after ∙ laws.nodes (state_at w t) w.actor (Close h) refl
 
 closed : {w : WalkInHistory} {now t : ℕ} {h : ℕ} {answer : Answer} → StepAt w now t (Close h) answer → IsLess (state_at w t) w.actor (state_at w (suc t)) h
@@ -255,7 +305,7 @@ module _ (laws : TreeLaws) {w : WalkInHistory} (lived : Lived w) (now t : ℕ) (
         did = did_further (begun good.0.p) good.0.did alone (inl (closed_nodes laws is));
       })
 
-  close_did : (reach : Reach w) → LeavesNodes w t → MayDo w reach t
+  close_did : (reach : Reach w) → LeavesEntries w t → MayDo w reach t
   close_did not_begun same = same
   close_did (begun p) same = inl same
 
@@ -292,9 +342,9 @@ module _ (laws : TreeLaws) {w : WalkInHistory} (lived : Lived w) (now t : ℕ) (
 
     ended_made : Stands (state_at w t).nodes w.root held.node names → GoodTurn w (suc t) (made held names)
     ended_made st = record {
-      reach = begun way.p;
+      p = way.p;
       did = did_all;
-      ends = record {
+      last = record {
         chained = chained_later (le_trans is.at.later (le-suc t)) kept last;
         when = t;
         is_now = refl;

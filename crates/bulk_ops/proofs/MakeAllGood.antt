@@ -9,25 +9,25 @@ use Rattle.path_text.specs.Names.{same_names}
 use Rattle.tree_model.specs.declared.answer.Answer.{Answer}
 use Rattle.tree_model.specs.declared.answer.Answer.TheVariants.{Names, NotBelow, Done}
 use Rattle.tree_model.specs.declared.inode.Inode.{Inode}
-use Rattle.tree_model.specs.declared.inode.Object.{Object}
-use Rattle.tree_model.specs.declared.inode.Object.TheVariants.{Dir, File, Link}
+use Rattle.tree_model.specs.declared.inode.Object.TheVariants.{Dir}
 use Rattle.tree_model.specs.declared.step.StepOf.TheVariants.{NameBelow, MakeDir}
 use Rattle.tree_model.specs.declared.tree.TheConstants.{NUMBERS_MAX}
 use Rattle.tree_model.specs.State.{State, Stands, child, is_dir, is_directory, is_gone, names_below}
 use Rattle.tree_model.specs.Entries.{refuse_if, with_some, makes}
-use Rattle.tree_model.specs.Steps.{Outcome, outcome, refused, changes, shows, held, kind_of}
+use Rattle.tree_model.specs.Steps.{Outcome, outcome, refused, changes, shows, held}
 use Rattle.tree_model.proofs.Standing.{Stands-names_below}
 use Rattle.tree_model.proofs.PlaceLaws.{below_is}
-use Rattle.step_resolver.specs.Trail.{Spot}
+use Rattle.step_resolver.specs.Trail.{Spot, IsOwnFrom}
 use Rattle.step_resolver.specs.Order.{Handle, is_dir_kind}
 use Rattle.step_resolver.specs.WalkHistory.{WalkInHistory, state_at, timeline}
 use Rattle.step_resolver.specs.Headline.{StoodAt}
 use Rattle.handles.proofs.SameNames.{same_where_equal}
-use Rattle.step_resolver.proofs.Underway.WalkInvariant.{Lived, StepAt, held_at, HandlesAre, IsHeld, held_kept, GoodWalk, FoundAt}
+use Rattle.step_resolver.proofs.Underway.WalkInvariant.{Lived, StepAt, held_at, HandlesAre, IsHeld, held_kept}
 use Rattle.step_resolver.proofs.Underway.AfterParent.{names_same, reversed_same}
 use Rattle.step_resolver.proofs.Underway.HandlesHeld.{kept_on}
 use Rattle.bulk_ops.specs.MakeAllOrder.{Making, walking, making, opening, leaving, ending, closing, MakeTurn, more, made, failed, rest_fault, rest_names, gives_up, goes_down}
-use Rattle.bulk_ops.specs.MakeAllTells.{OpenedDown, DeepestAt, start_of, LeavesNodes, Reach, not_begun, begun, MayDo, Cause}
+use Rattle.bulk_ops.specs.MakeAllTells.{OpenedDown, DeepestAt, start_of, Reach, begun, MayDo, Cause, IsThere}
+use Rattle.bulk_ops.specs.WalkFirst.{LeavesEntries}
 use Rattle.bulk_ops.proofs.Happening.{IsAlone, before_or_from}
 
 -- ---- what is known
@@ -44,7 +44,7 @@ pub record Chained (w : WalkInHistory) (now : ℕ) (p : DeepestAt w) (held : Han
   pub down : OpenedDown (timeline w) (start_of p) passed to
   pub node : to.node ≡ held.node
   pub at_names : to.names ≡ names
-  pub names_are : names ≡ passed ++ p.to.names
+  pub names_are : names ≡ passed ++ p.names
   pub past : to.moment ≤ now
   pub dir : is_directory ((timeline w).object_of to.node) ≡ true
   pub kind : is_dir_kind held.kind ≡ true
@@ -70,20 +70,28 @@ pub record LastAt (w : WalkInHistory) (now : ℕ) (p : DeepestAt w) (handle : Ha
   pub is_now : now ≡ suc when
   pub stood : StoodAt w chained.to when
 
-abbrev pub MadeBy : (w : WalkInHistory) → ℕ → Reach w → Handle → List (List ℕ) → Type 0
-MadeBy w now not_begun handle names = FoundAt w now handle names [] × (is_dir_kind handle.kind ≡ true)
-MadeBy w now (begun p) handle names = LastAt w now p handle names
-
 pub record MadeNow (w : WalkInHistory) (now : ℕ) (handle : Handle) (names : List (List ℕ)) : Type 0 where
-  pub reach : Reach w
-  pub did : DidUntil w reach now
-  pub ends : MadeBy w now reach handle names
+  pub p : DeepestAt w
+  pub did : DidUntil w (begun p) now
+  pub last : LastAt w now p handle names
   pub handles : HandlesAre w now (handle.number ∷ [])
 
+-- the event before this moment was the MakeDir of the next name, which was made then, or was there
+pub record Shown (w : WalkInHistory) (now h : ℕ) (n : List ℕ) (dir : Spot) : Type 0 where
+  pub first : ℕ
+  pub is_now : now ≡ suc first
+  pub at : IsOwnFrom (timeline w) dir.moment first
+  pub there : IsThere w dir.node h n first
+
+pub record OnWayIn (w : WalkInHistory) (now : ℕ) (held : Handle) (names : List (List ℕ)) (n : List ℕ) (left : List (List ℕ)) : Type 0 where
+  pub way : OnWay w now held names (n ∷ left) (held.number ∷ [])
+  pub shown : Shown w now held.number n way.chained.to
+
+-- the walk is over
 abbrev pub GoodCall : WalkInHistory → ℕ → Making → Type 0
-GoodCall w now (walking walker) = GoodWalk w now walker × DidUntil w not_begun now
+GoodCall w now (walking walker) = ⊥
 GoodCall w now (making held names n left) = OnWay w now held names (n ∷ left) (held.number ∷ [])
-GoodCall w now (opening held names n left) = OnWay w now held names (n ∷ left) (held.number ∷ [])
+GoodCall w now (opening held names n left) = OnWayIn w now held names n left
 GoodCall w now (leaving old new names left) = OnWay w now new names left (old ∷ new.number ∷ []) × (new.number ≢ old)
 GoodCall w now (ending held names) = OnWay w now held names [] (held.number ∷ [])
 GoodCall w now (closing h hs error) = Failing w now error (h ∷ hs)
@@ -114,11 +122,6 @@ pub goes_down_good : {w : WalkInHistory} {now : ℕ} (held : Handle) (names left
 goes_down_good held names [] way = way
 goes_down_good held names (n ∷ left) way = way
 
-pub kind_of_dir : (what : Object) → is_directory (Some what) ≡ true → is_dir_kind (kind_of what) ≡ true
-kind_of_dir Dir e = refl
-kind_of_dir File e = e
-kind_of_dir (Link text) e = e
-
 abbrev pub chained_later : {w : WalkInHistory} {now k : ℕ} {p : DeepestAt w} {held : Handle} {names left : List (List ℕ)} → now ≤ k
     → ((h : ℕ) → held_at w k h ≡ held_at w now h) → Chained w now p held names left → Chained w k p held names left
 chained_later le kept c = record {
@@ -141,9 +144,10 @@ chained_later le kept c = record {
 -- what MakeDir is answered in a directory
 pub data MakeCase (s : State) (d : ℕ) (n : List ℕ) (o : Outcome) : Type 0 where
   dir_gone : is_gone s.nodes d ≡ true → o ≡ refused s NotFound → MakeCase s d n o
-  is_there : o ≡ refused s Exists → MakeCase s d n o
+  is_there : (x : ℕ) → child s.nodes d n ≡ Some x → o ≡ refused s Exists → MakeCase s d n o
   no_number : nat_le NUMBERS_MAX (length s.nodes) ≡ true → o ≡ refused s TooMany → MakeCase s d n o
-  is_made : (nodes : List Inode) → makes s.nodes d n Dir ≡ Ok nodes → o ≡ record { answer = Done; after = record { nodes = nodes; handles = s.handles } } → MakeCase s d n o
+  is_made : (nodes : List Inode) → nodes ≡ s.nodes ++ record { object = Dir; place = Some (record { parent = d; name = n }) } ∷ [] → makes s.nodes d n Dir ≡ Ok nodes
+      → o ≡ record { answer = Done; after = record { nodes = nodes; handles = s.handles } } → MakeCase s d n o
 
 module _ (s : State) (d : ℕ) (n : List ℕ) where
   abbrev with_number : Bool → Result (List Inode) Errno
@@ -167,16 +171,16 @@ module _ (s : State) (d : ℕ) (n : List ℕ) where
       on_number : makes s.nodes d n Dir ≡ with_number (nat_le NUMBERS_MAX (length s.nodes)) → (b : Bool) → nat_le NUMBERS_MAX (length s.nodes) ≡ b
           → MakeCase s d n (changes s (makes s.nodes d n Dir))
       on_number q true e = no_number e (ap (changes s) (q ∙ ap with_number e))
-      on_number q false e = is_made _ (q ∙ ap with_number e) (ap (changes s) (q ∙ ap with_number e))
+      on_number q false e = is_made _ refl (q ∙ ap with_number e) (ap (changes s) (q ∙ ap with_number e))
 
-      on_name : makes s.nodes d n Dir ≡ with_name (is_some (child s.nodes d n)) → (b : Bool) → is_some (child s.nodes d n) ≡ b
+      on_name : makes s.nodes d n Dir ≡ with_name (is_some (child s.nodes d n)) → (o : Option ℕ) → child s.nodes d n ≡ o
           → MakeCase s d n (changes s (makes s.nodes d n Dir))
-      on_name q true e = is_there (ap (changes s) (q ∙ ap with_name e))
-      on_name q false e = on_number (q ∙ ap with_name e) (nat_le NUMBERS_MAX (length s.nodes)) refl
+      on_name q (Some x) e = is_there x e (ap (changes s) (q ∙ ap (λ o. with_name (is_some o)) e))
+      on_name q None e = on_number (q ∙ ap (λ o. with_name (is_some o)) e) (nat_le NUMBERS_MAX (length s.nodes)) refl
 
       on_gone : (b : Bool) → is_gone s.nodes d ≡ b → MakeCase s d n (changes s (makes s.nodes d n Dir))
       on_gone true e = dir_gone e (ap (changes s) (to_place ∙ ap in_place e))
-      on_gone false e = on_name (to_place ∙ ap in_place e) (is_some (child s.nodes d n)) refl
+      on_gone false e = on_name (to_place ∙ ap in_place e) (child s.nodes d n) refl
 
 pub make_case : (s : State) (a h : ℕ) (n : List ℕ) (d : ℕ) → held s a h ≡ Some d → is_dir s.nodes d ≡ true → MakeCase s d n (outcome s a (MakeDir h n))
 make_case s a h n d e dir =
@@ -204,7 +208,7 @@ module _ {w : WalkInHistory} (lived : Lived w) (m u h node : ℕ) (names : List 
   pub below_kept : (k : ℕ) → held_at w (suc u) k ≡ held_at w m k
   below_kept = kept_on is (ap (λ r. r.after) outcome_is ∙ shows_keeps (state_at w u) (names_below (state_at w u).nodes w.root node))
 
-  pub below_nodes : LeavesNodes w u
+  pub below_nodes : LeavesEntries w u
   below_nodes = ap (λ s. s.nodes) (is.after ∙ ap (λ r. r.after) outcome_is ∙ shows_keeps (state_at w u) (names_below (state_at w u).nodes w.root node))
 
   pub below_case : BelowCase w u node names answer

@@ -11,10 +11,11 @@ use Rattle.path_text.specs.Reading.{Reading}
 use Rattle.path_text.specs.Text.{text_fault, parts_of, begins_with_slash}
 use Rattle.tree_model.specs.declared.answer.Answer.{Answer}
 use Rattle.tree_model.specs.declared.answer.Answer.TheVariants.{Opened, Text, Names, NotBelow, Done, Refused}
+use Rattle.step_machine.specs.Machine.{taken}
 use Rattle.step_resolver.specs.Asked.{AskedPart, Cur, Up, Named, asked, followed, is_deepest}
 use Rattle.walk_plan.specs.Plan.{follows, leads_out}
 use Rattle.step_resolver.specs.Meaning.{LINKS_MAX, is_too_long}
-use Rattle.step_resolver.specs.Order.{Way, Handle, Position, root_itself, holds, Todo, todo, After, gives, onward, judges, Walking, opening, reading, rising, judging, duping, ending, closing, names_of, handles_of, is_dir_position, is_dir_kind, is_followed, at_end, in_directory, on_part, on_own, on_parts, goes_on, for_walk, comes, closes, refusal_of, with_room, follows_link, enters, refused_open, from_link, read_text, end_of, judged, refused_rise, Line, answered, no_room, not_made}
+use Rattle.step_resolver.specs.Order.{Way, Handle, Position, root_itself, holds, Todo, todo, After, gives, onward, judges, Walking, opening, reading, rising, judging, duping, ending, closing, names_of, handles_of, is_dir_position, is_dir_kind, is_followed, at_end, in_directory, on_part, on_own, on_parts, goes_on, for_walk, comes, closes, refusal_of, with_room, follows_link, enters, refused_open, from_link, read_text, end_of, judged, refused_rise, Line, answered, no_room, not_made, has_room, answer_of}
 use Rattle.step_resolver.specs.Order as walk
 use Rattle.step_resolver.specs.View.{WalkView}
 use Rattle.step_resolver.specs.TurnView.{STEPS_MAX, turn_view}
@@ -22,7 +23,7 @@ use Rattle.step_resolver.specs.TurnView.{TakesTo as TakesWalk, StartsTo as Start
 use Rattle.step_resolver.specs.declared.walk.Turn.{Turn as Outcome}
 use Rattle.walk_plan.specs.declared.goal.Goal.TheVariants.{Deepest}
 use Rattle.step_resolver.proofs.WalkSteps.{FewerThan, take_lowers, a_step_left, begins_few, asked_length}
-use Rattle.bulk_ops.specs.MakeAllOrder.{Making, walking, MakeTurn, rest_fault, rest_names, goes_down, begins_to_make, after_walk, own_in, own_after, own_here, own_left, steps_left, take, LeadsTo}
+use Rattle.bulk_ops.specs.MakeAllOrder.{Making, walking, MakeTurn, rest_fault, rest_names, goes_down, begins_to_make, after_walk, own_in, own_after, own_here, own_left, steps_left, take, calls, LeadsTo}
 use Rattle.bulk_ops.specs.MakeAllOrder as make
 use Rattle.bulk_ops.specs.MakeAllSteps.{StepsAfterTheWalk}
 use Rattle.bulk_ops.specs.MakeAllView.{MakingView, way_of, MAKE_STEPS_MAX, IsTurn, TakesTo, StartsTo, steps_to_come}
@@ -386,12 +387,8 @@ fewer_than way room call answer k few = stays_fewer (steps_left call) (suc k) (t
 lines_few : (way : Way) (k : ℕ) (lines : List Line) (turn end : MakeTurn) → MakesFewerThan (suc k) turn → LeadsTo way turn lines end → length lines ≤ k
 lines_few way k [] turn end few leads = omega arith
 lines_few way zero (line ∷ lines) (make.more call) end few leads = absurd (omega (arith, few, left_some call))
-lines_few way (suc k) (answered step answer ∷ lines) (make.more call) end few leads =
-    omega (arith, lines_few way k lines (take way true call answer) end (fewer_than way true call answer k few) leads.1)
-lines_few way (suc k) (no_room step answer ∷ lines) (make.more call) end few leads =
-    omega (arith, lines_few way k lines (take way false call answer) end (fewer_than way false call answer k few) leads.1)
-lines_few way (suc k) (not_made error ∷ lines) (make.more call) end few leads =
-    omega (arith, lines_few way k lines (take way true call (Refused error)) end (fewer_than way true call (Refused error) k few) leads.1.1)
+lines_few way (suc k) (line ∷ lines) (make.more call) end few leads =
+    omega (arith, lines_few way k lines (taken (calls way) call line) end (fewer_than way (has_room line) call (answer_of line) k few) leads.1)
 lines_few way k (line ∷ lines) (make.made handle names) end few leads = absurd leads
 lines_few way k (line ∷ lines) (make.failed error) end few leads = absurd leads
 

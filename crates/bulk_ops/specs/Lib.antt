@@ -9,6 +9,7 @@ pub use Rattle.step_resolver.specs.Order
 pub use Rattle.step_resolver.specs.WalkHistory
 pub use Rattle.step_resolver.specs.View
 pub use Rattle.step_resolver.specs.TurnView
+pub mod WalkFirst
 pub mod MakeAllOrder
 pub mod MakeAllView
 pub mod MakeAllSteps
@@ -23,4 +24,6 @@ pub mod MakeAllTurnsTell
 pub mod MakeAllQuiet
 pub mod MakeAllWorked
 pub mod MakeAllQuietWorked
+pub mod RacedCalls
+pub mod Renumbered
 pub mod Renamed

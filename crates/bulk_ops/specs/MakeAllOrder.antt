@@ -7,12 +7,14 @@ use Rattle.path_text.specs.declared.errno.Errno.TheVariants.{NotFound, Raced, No
 use Rattle.path_text.specs.Names.{same_names}
 use Rattle.path_text.specs.Reading.{Reading}
 use Rattle.tree_model.specs.declared.answer.Answer.{Answer}
-use Rattle.tree_model.specs.declared.answer.Answer.TheVariants.{Opened, Names, NotBelow, Done, Refused}
+use Rattle.tree_model.specs.declared.answer.Answer.TheVariants.{Opened, Names, NotBelow, Done}
 use Rattle.tree_model.specs.StepWith.{StepWith}
 use Rattle.tree_model.specs.declared.step.StepOf.TheVariants.{Open, NameBelow, Close, MakeDir}
+use Rattle.step_machine.specs.Machine.{Machine}
+use Rattle.step_machine.specs.Machine as machine
 use Rattle.step_resolver.specs.Asked.{AskedPart, Cur, Up, Named}
 use Rattle.step_resolver.specs.Meaning.{is_too_long}
-use Rattle.step_resolver.specs.Order.{Way, Handle, Walking, Line, answered, no_room, not_made, IsWant, is_dir_kind, refusal_of}
+use Rattle.step_resolver.specs.Order.{Way, Handle, Walking, Line, IsWant, is_dir_kind, refusal_of}
 use Rattle.step_resolver.specs.Order as walk
 
 -- A call under way, by the step that is due. Names are those from the root down to what is held, the innermost first.
@@ -138,16 +140,23 @@ is_closing (closing h hs error) = true
 
 -- ---- a call's lines
 
--- These lines, one by one, lead from one turn to another. A Close is always made.
+-- the call that goes on, where it does
+abbrev pub under_way : MakeTurn → Option Making
+under_way (more call) = Some call
+under_way (made handle names) = None
+under_way (failed error) = None
+
+-- why a step wasn't made: for want of memory or of room in the book, but no Close for that
+abbrev pub IsUnmade : Making → Errno → Type 0
+IsUnmade call error = IsWant error × (is_closing call ≡ false)
+
+-- calls on this way, step by step
+abbrev pub calls : Way → Machine MakeTurn Making
+calls way = record { more = more; under_way = under_way; due = due way; IsUnmade = IsUnmade; take = take way }
+
+-- These lines, one by one, lead from one turn to another.
 abbrev pub LeadsTo : Way → MakeTurn → List Line → MakeTurn → Type 0
-LeadsTo way turn [] end = turn ≡ end
-LeadsTo way (more call) (answered step answer ∷ lines) end =
-    (step ≡ due way call) × LeadsTo way (take way true call answer) lines end
-LeadsTo way (more call) (no_room step answer ∷ lines) end =
-    (step ≡ due way call) × LeadsTo way (take way false call answer) lines end
-LeadsTo way (more call) (not_made error ∷ lines) end =
-    (IsWant error) × ((is_closing call ≡ false) × LeadsTo way (take way true call (Refused error)) lines end)
-LeadsTo way _ (line ∷ lines) end = ⊥
+LeadsTo way = machine.LeadsTo (calls way)
 
 -- ---- how many steps are left at most
 

@@ -7,11 +7,12 @@ use Rattle.tree_model.specs.declared.inode.Inode.{Inode}
 use Rattle.tree_model.specs.declared.inode.Object.TheVariants.{Dir}
 use Rattle.tree_model.specs.State.{Stands, is_dir, is_gone}
 use Rattle.walk_plan.specs.declared.goal.Goal.TheVariants.{Deepest}
-use Rattle.step_resolver.specs.Meaning.{Deep, whole, up_to, none, reading_deepest}
 use Rattle.step_resolver.specs.WalkHistory.{WalkInHistory, IsWalkInHistory, begin_of, end_of}
 use Rattle.step_resolver.specs.Footprint.{ground, is_want}
 use Rattle.step_resolver.specs.FootprintLaws.{IsQuiet}
-use Rattle.bulk_ops.specs.MakeAllOrder.{MakeTurn, more, made, failed, begins, rest_fault, rest_names, LeadsTo}
+use Rattle.step_resolver.specs.Deepest.{Deep, whole, up_to, none, reading_deepest}
+use Rattle.step_machine.specs.Machine.{HasEnded}
+use Rattle.bulk_ops.specs.MakeAllOrder.{MakeTurn, made, failed, begins, rest_fault, rest_names, under_way, LeadsTo}
 
 -- ---- what is made
 
@@ -76,9 +77,7 @@ MakingComesTo before after r meant end = IsMeantEnd before after r meant end ⊎
 
 -- the call is over
 abbrev pub IsOver : MakeTurn → Type 0
-IsOver (more call) = ⊥
-IsOver (made handle names) = Unit {0}
-IsOver (failed error) = Unit {0}
+IsOver turn = HasEnded (under_way turn)
 
 -- Where no other actor acts in the window, the end is what the path means in the tree as the window begins, and the
 -- nodes after it are those that are meant; or something ran short.

@@ -1,25 +1,26 @@
 -- What a call to MkdirAll did and what its end tells, in every legal history. mkdir(2), path_resolution(7),
 -- openat2(2).
-use Rattle.std.specs.Prelude.{◌≡◌, ℕ, suc, ◌<◌, ◌≤◌, ◌⊎◌, List, [], ◌∷◌, ◌++◌, Bool, true, false, length, reverse, Some, None, Ok, slice_get}
+use Rattle.std.specs.Prelude.{◌≡◌, ℕ, suc, ◌<◌, ◌≤◌, ◌⊎◌, List, [], ◌∷◌, ◌++◌, true, false, length, reverse, Some, None, Ok}
 use Rattle.path_text.specs.declared.errno.Errno.{Errno}
-use Rattle.path_text.specs.declared.errno.Errno.TheVariants.{Raced, NotDir, TooMany}
-use Rattle.tree_model.specs.declared.answer.Answer.TheVariants.{Refused}
-use Rattle.tree_model.specs.declared.inode.Object.{Object}
+use Rattle.path_text.specs.declared.errno.Errno.TheVariants.{NotFound, Raced, Exists, NotDir, TooMany}
+use Rattle.tree_model.specs.declared.answer.Answer.{Answer}
+use Rattle.tree_model.specs.declared.answer.Answer.TheVariants.{Done, Refused}
 use Rattle.tree_model.specs.declared.inode.Object.TheVariants.{Dir}
 use Rattle.tree_model.specs.StepWith.{StepWith}
+use Rattle.tree_model.specs.declared.step.StepOf.TheVariants.{Open, MakeDir}
 use Rattle.tree_model.specs.State.{Stands, child, is_directory, is_gone}
 use Rattle.tree_model.specs.Entries.{makes}
 use Rattle.tree_model.specs.declared.tree.TheConstants.{NUMBERS_MAX}
 use Rattle.tree_model.specs.Steps.{outcome, held_count, is_full}
-use Rattle.step_resolver.specs.Asked.{AskedPart, Named}
-use Rattle.step_resolver.specs.Trail.{Timeline, Spot, later, down_to, IsOwnFrom, IsChildAt}
+use Rattle.step_resolver.specs.Asked.{AskedPart}
+use Rattle.step_resolver.specs.Trail.{Timeline, Spot, down_to, IsOwnFrom, IsChildAt}
 use Rattle.step_resolver.specs.Order.{Handle, IsWant, is_dir_kind}
-use Rattle.step_resolver.specs.WalkHistory.{WalkInHistory, IsWalkInHistory, begin_of, state_at, timeline, parts_of_walk, IsTrailTo}
-use Rattle.step_resolver.specs.Failures.{IsMissingAt, HandlesStay, TellsError, TellsWant}
-use Rattle.step_resolver.specs.Headline.{Opens, StoodAt, IsNewHandle}
+use Rattle.step_resolver.specs.Order as walk
+use Rattle.step_resolver.specs.WalkHistory.{WalkInHistory, IsWalkInHistory, begin_of, state_at, timeline}
+use Rattle.step_resolver.specs.Failures.{HandlesStay, TellsWant}
+use Rattle.step_resolver.specs.Headline.{StoodAt, IsNewHandle}
 use Rattle.bulk_ops.specs.MakeAllOrder.{MakeTurn, more, made, failed, begins, rest_fault, rest_names, LeadsTo}
-
--- A call in a history is given as a walk is: `lines` are all that the call was told, those of its walk first.
+use Rattle.bulk_ops.specs.WalkFirst.{event_at, LeavesEntries, WalkedTo, TellsWalkFailed, TellsWalkFound}
 
 -- From one directory to another by names alone, each opened at an own moment, the moments rising, and never through a
 -- link. Names the innermost first.
@@ -31,27 +32,17 @@ pub data OpenedDown (timeline : Timeline) (from : Spot) : List (List ℕ) → Sp
 
 -- ---- where the call begins to make
 
--- The deepest directory on the way: the parts before the rest were passed, the first name of the rest was missing
--- then, and afterwards, at the own event `when`, the directory stood under the root at the names passed.
+-- The call's walk came to the deepest directory that was there, and to this rest of the path, whose first name it
+-- lacked; afterwards it stood under the root at the names passed, as the walk's headline says.
 pub record DeepestAt (w : WalkInHistory) : Type 0 where
-  pub front : List AskedPart
+  pub handle : Handle
+  pub names : List (List ℕ)
   pub rest : List AskedPart
-  pub parts : parts_of_walk w ≡ front ++ rest
-  pub to : Spot
-  pub trail : IsTrailTo w front to
-  pub follow : Bool
-  pub name : List ℕ
-  pub others : List AskedPart
-  pub begins_with : rest ≡ Named follow name ∷ others
-  pub first : ℕ
-  pub missing : IsMissingAt w to name first
-  pub when : ℕ
-  pub stood : StoodAt w to when
-  pub after : first < when
+  pub walked : WalkedTo w (walk.partial handle names rest)
 
--- from there on it goes down
+-- from there on it goes down, once the walk is over
 abbrev pub start_of : {w : WalkInHistory} → DeepestAt w → Spot
-start_of p = later (suc p.when) p.to
+start_of p = record { node = p.handle.node; names = p.names; links = 0; moment = length p.walked.window }
 
 -- some names of the rest were passed, and the next one is due in the directory that they led to
 pub record AtName (w : WalkInHistory) (p : DeepestAt w) (dir : Spot) (name : List ℕ) (t : ℕ) : Type 0 where
@@ -62,9 +53,6 @@ pub record AtName (w : WalkInHistory) (p : DeepestAt w) (dir : Spot) (name : Lis
   pub at : IsOwnFrom (timeline w) dir.moment t
 
 -- ---- what it made
-
-abbrev pub LeavesNodes : WalkInHistory → ℕ → Type 0
-LeavesNodes w t = (timeline w).nodes_at (suc t) ≡ (timeline w).nodes_at t
 
 -- event t made the directory at the next name, and nothing else
 pub record MakesName (w : WalkInHistory) (p : DeepestAt w) (t : ℕ) : Type 0 where
@@ -80,8 +68,8 @@ pub data Reach (w : WalkInHistory) : Type 0 where
 
 -- what an own event may have done
 abbrev pub MayDo : (w : WalkInHistory) → Reach w → ℕ → Type 0
-MayDo w not_begun t = LeavesNodes w t
-MayDo w (begun p) t = LeavesNodes w t ⊎ MakesName w p t
+MayDo w not_begun t = LeavesEntries w t
+MayDo w (begun p) t = LeavesEntries w t ⊎ MakesName w p t
 
 abbrev pub Did : (w : WalkInHistory) → Reach w → Type 0
 Did w reach = (t : ℕ) → (timeline w).is_own t ≡ true → MayDo w reach t
@@ -97,7 +85,7 @@ pub record MadeLast (w : WalkInHistory) (p : DeepestAt w) (handle : Handle) (nam
   pub to : Spot
   pub down : OpenedDown (timeline w) (start_of p) passed to
   pub node : to.node ≡ handle.node
-  pub at_names : names ≡ passed ++ p.to.names
+  pub at_names : names ≡ passed ++ p.names
   pub same_names : to.names ≡ names
   pub when : ℕ
   pub stood : StoodAt w to when
@@ -106,16 +94,19 @@ pub record MadeLast (w : WalkInHistory) (p : DeepestAt w) (handle : Handle) (nam
   pub new : IsNewHandle w handle
 
 -- or the whole path led to a directory that was there
+pub record MadeNothing (w : WalkInHistory) (handle : Handle) (names : List (List ℕ)) : Type 0 where
+  pub found : TellsWalkFound w handle names
+  pub dir : is_dir_kind handle.kind ≡ true
+
 abbrev pub MadeEnd : (w : WalkInHistory) → Reach w → Handle → List (List ℕ) → Type 0
-MadeEnd w not_begun handle names = Opens w handle names × (is_dir_kind handle.kind ≡ true)
+MadeEnd w not_begun handle names = MadeNothing w handle names
 MadeEnd w (begun p) handle names = MadeLast w p handle names
 
--- why nothing was made: the walk's own failure; all parts led to what is no directory; or what the rest has in it
+-- why nothing was made: the walk's own failure; it found what is no directory; or what the rest has in it
 pub data UnbegunCause (w : WalkInHistory) : Errno → Type 0 where
-  of_walk : {error : Errno} → TellsError w error → UnbegunCause w error
-  no_directory : (to : Spot) (what : Object) → IsTrailTo w (parts_of_walk w) to
-      → (timeline w).object_of to.node ≡ Some what
-      → is_directory (Some what) ≡ false → UnbegunCause w NotDir
+  of_walk : {error : Errno} → TellsWalkFailed w error → UnbegunCause w error
+  no_directory : (handle : Handle) (names : List (List ℕ)) → WalkedTo w (walk.found handle names)
+      → is_dir_kind handle.kind ≡ false → UnbegunCause w NotDir
   of_rest : {error : Errno} (p : DeepestAt w) → rest_fault p.rest ≡ Some error → UnbegunCause w error
 
 -- A limit was reached at moment t: the actor, which then held one handle more than before at most, could open no
@@ -125,18 +116,41 @@ IsAtLimit w t = ((is_full (state_at w t) w.actor ≡ true)
     × (held_count (state_at w t) w.actor ≤ suc (held_count (begin_of w) w.actor)))
     ⊎ (NUMBERS_MAX ≤ length ((timeline w).nodes_at t))
 
+-- The own event t was MakeDir of that name in directory d through this handle. It made the entry, or it was answered
+-- that there is one: as the event is over, there is.
+pub record IsThere (w : WalkInHistory) (d h : ℕ) (name : List ℕ) (t : ℕ) : Type 0 where
+  pub answer : Answer
+  pub event : event_at w t (MakeDir h name) answer
+  pub told : (answer ≡ Done) ⊎ (answer ≡ Refused Exists)
+  pub entry : ℕ
+  pub child : child ((timeline w).nodes_at (suc t)) d name ≡ Some entry
+
+-- The next name was there after the own event `first`, and at the own event `when`, which was to open it, it was
+-- missing. The actor did nothing in between.
+pub record IsTakenAway (w : WalkInHistory) (p : DeepestAt w) : Type 0 where
+  pub dir : Spot
+  pub name : List ℕ
+  pub handle : ℕ
+  pub first : ℕ
+  pub at_name : AtName w p dir name first
+  pub there : IsThere w dir.node handle name first
+  pub when : ℕ
+  pub later : first < when
+  pub between : (t : ℕ) → first < t → t < when → (timeline w).is_own t ≡ false
+  pub refused : event_at w when (Open handle name) (Refused NotFound)
+  pub missing : child ((timeline w).nodes_at when) dir.node name ≡ None
+
 -- why making ended: a want; the step table refused a step for its limits; the directory in which a name was to be
--- made was gone; the name that was made was missing; or something else stood there; or the last directory stood
--- elsewhere
+-- made was gone; the name was there, and then it was missing; or something else stood there; or the last directory
+-- stood elsewhere
 pub data MakingCause (w : WalkInHistory) (p : DeepestAt w) : Errno → Type 0 where
   for_want : {error : Errno} → IsWant error → TellsWant error w.lines → MakingCause w p error
-  full : (t : ℕ) (step : StepWith ℕ)
-      → slice_get w.window t ≡ Some (record { actor = w.actor; step = step; answer = Refused TooMany })
+  full : (t : ℕ) (step : StepWith ℕ) → event_at w t step (Refused TooMany)
       → (outcome (state_at w t) w.actor step).answer ≡ Refused TooMany → IsAtLimit w t → MakingCause w p TooMany
-  gone : (dir : Spot) (name : List ℕ) (t : ℕ) → AtName w p dir name t
+  gone : (dir : Spot) (name : List ℕ) (h t : ℕ) → AtName w p dir name t
+      → event_at w t (MakeDir h name) (Refused NotFound)
       → is_gone ((timeline w).nodes_at t) dir.node ≡ true → MakingCause w p Raced
-  missing : (dir : Spot) (name : List ℕ) (t : ℕ) → AtName w p dir name t
-      → child ((timeline w).nodes_at t) dir.node name ≡ None → MakingCause w p Raced
+  missing : IsTakenAway w p → MakingCause w p Raced
   not_directory : (dir : Spot) (name : List ℕ) (t c : ℕ) → AtName w p dir name t
       → child ((timeline w).nodes_at t) dir.node name ≡ Some c
       → is_directory ((timeline w).object_of c) ≡ false → MakingCause w p NotDir

@@ -6,8 +6,8 @@ use Rattle.tree_model.specs.declared.inode.Inode.{Inode}
 use Rattle.tree_model.specs.declared.inode.Object.TheVariants.{Dir}
 use Rattle.tree_model.specs.BaseTree.{base_nodes, standing}
 use Rattle.tree_model.specs.State.{put_at}
-use Rattle.step_resolver.specs.Meaning.{reading_deepest}
 use Rattle.step_resolver.specs.WorkedPaths.{ROOT, plain}
+use Rattle.step_resolver.specs.Deepest.{reading_deepest}
 use Rattle.bulk_ops.specs.MakeAllQuiet.{MakeMeant, refuses, gives, make_means}
 
 -- what a path text means in these nodes, below the directory r

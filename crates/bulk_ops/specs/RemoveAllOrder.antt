@@ -2,7 +2,7 @@
 -- the path is walked; then the target in it is cleared: an entry is removed as what is no directory, and where a
 -- directory stands there that is opened by its name, listed, its own entries are cleared, and then it is removed.
 -- unlink(2), rmdir(2), openat(2) with O_PATH and O_NOFOLLOW.
-use Rattle.std.specs.Prelude.{◌≡◌, ℕ, suc, zero, ◌+◌, ◌*◌, List, [], ◌∷◌, Bool, true, false, length, map}
+use Rattle.std.specs.Prelude.{◌≡◌, ℕ, suc, zero, ◌+◌, ◌*◌, List, [], ◌∷◌, Bool, true, false, length, map, Option, Some, None}
 use Rattle.path_text.specs.declared.errno.Errno.{Errno}
 use Rattle.path_text.specs.declared.errno.Errno.TheVariants.{NotFound, NoMemory, Busy, NotDir, IsDir, NotEmpty}
 use Rattle.path_text.specs.Reading.{Reading}
@@ -12,7 +12,9 @@ use Rattle.tree_model.specs.declared.step.Kind.{Kind}
 use Rattle.tree_model.specs.declared.step.Kind.TheVariants as kind
 use Rattle.tree_model.specs.StepWith.{StepWith}
 use Rattle.tree_model.specs.declared.step.StepOf.TheVariants.{Open, List as ListNames, Close, RemoveFile, RemoveDir}
-use Rattle.step_resolver.specs.Order.{Way, Walking, refusal_of, Line, answered, no_room, not_made, IsWant}
+use Rattle.step_machine.specs.Machine.{Machine}
+use Rattle.step_machine.specs.Machine as machine
+use Rattle.step_resolver.specs.Order.{Way, Walking, refusal_of, Line, IsWant}
 use Rattle.step_resolver.specs.Order as walk
 use Rattle.bulk_ops.specs.declared.remove_all.clearing.TheConstants.{CLEARING_STEPS_MAX}
 
@@ -211,16 +213,23 @@ is_closing (closing h hs end) = true
 
 -- ---- a call's lines
 
--- These lines, one by one, lead from one turn to another. A Close is always made.
+-- the call that goes on, where it does
+abbrev pub under_way : Turn → Option Removing
+under_way (more call) = Some call
+under_way (removed count) = None
+under_way (failed error) = None
+
+-- why a step wasn't made: for want of memory or of room in the book, but no Close for that
+abbrev pub IsUnmade : Removing → Errno → Type 0
+IsUnmade call error = IsWant error × (is_closing call ≡ false)
+
+-- calls, step by step
+abbrev pub calls : Machine Turn Removing
+calls = record { more = more; under_way = under_way; due = due; IsUnmade = IsUnmade; take = take }
+
+-- These lines, one by one, lead from one turn to another.
 abbrev pub LeadsTo : Turn → List Line → Turn → Type 0
-LeadsTo turn [] end = turn ≡ end
-LeadsTo (more call) (answered step answer ∷ lines) end =
-    (step ≡ due call) × LeadsTo (take true call answer) lines end
-LeadsTo (more call) (no_room step answer ∷ lines) end =
-    (step ≡ due call) × LeadsTo (take false call answer) lines end
-LeadsTo (more call) (not_made error ∷ lines) end =
-    (IsWant error) × ((is_closing call ≡ false) × LeadsTo (take true call (Refused error)) lines end)
-LeadsTo _ (line ∷ lines) end = ⊥
+LeadsTo = machine.LeadsTo calls
 
 -- ---- how many steps are left at most
 

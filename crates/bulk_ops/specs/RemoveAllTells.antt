@@ -1,11 +1,10 @@
 -- What the end of a RemoveAll call tells, for every interleaving of actors' single steps. unlink(2), rmdir(2);
 -- openat2(2).
-use Rattle.std.specs.Prelude.{◌≡◌, ℕ, suc, ◌≤◌, ◌⊎◌, List, [], ◌∷◌, ◌++◌, Bool, true, false, drop, length, slice_get, Some, None}
+use Rattle.std.specs.Prelude.{◌≡◌, ℕ, suc, ◌≤◌, ◌⊎◌, List, [], ◌∷◌, Bool, true, false, drop, length, Some, None}
 use Rattle.path_text.specs.declared.errno.Errno.{Errno}
 use Rattle.path_text.specs.declared.errno.Errno.TheVariants.{NotFound, BadHandle, Raced, NoMemory, Busy, Exists, CrossRoot, NotDir, IsDir, Invalid, TooMany, BookFull, TooLong, NotEmpty, Loop}
 use Rattle.tree_model.specs.declared.answer.Answer.{Answer}
 use Rattle.tree_model.specs.declared.answer.Answer.TheVariants.{Done, Refused}
-use Rattle.tree_model.specs.declared.answer.Event.{Event}
 use Rattle.tree_model.specs.StepWith.{StepWith}
 use Rattle.tree_model.specs.declared.step.StepOf.TheVariants.{Open, Close, RemoveFile, RemoveDir}
 use Rattle.tree_model.specs.State.{child, is_directory, put_at}
@@ -14,11 +13,11 @@ use Rattle.step_resolver.specs.Trail.{Timeline, IsOwnFrom}
 use Rattle.step_resolver.specs.Order.{Handle, Line, answered, no_room, not_made}
 use Rattle.step_resolver.specs.Order as walk
 use Rattle.step_resolver.specs.WalkHistory.{WalkInHistory, IsWalkInHistory, state_at, timeline}
-use Rattle.step_resolver.specs.Failures.{HandlesStay, TellsError, TellsWant}
-use Rattle.step_resolver.specs.Headline.{Opens}
+use Rattle.step_resolver.specs.Failures.{HandlesStay, TellsWant}
 use Rattle.step_resolver.specs.Asked.{is_deepest}
 use Rattle.bulk_ops.specs.declared.remove_all.clearing.TheConstants.{CLEARING_STEPS_MAX}
 use Rattle.bulk_ops.specs.RemoveAllOrder.{Turn, more, removed, failed, begins, LeadsTo}
+pub use Rattle.bulk_ops.specs.WalkFirst.{event_at, LeavesEntries, AllLeaveEntries, walk_part, rest_part, WalkedTo, after_walk, TellsWalkFailed}
 
 -- ---- the directories that are reached
 
@@ -55,9 +54,6 @@ removals (answered step answer ∷ lines) = one_more_if (is_removal step answer)
 removals (no_room step answer ∷ lines) = one_more_if (is_removal step answer) (removals lines)
 removals (not_made error ∷ lines) = removals lines
 
-abbrev pub event_at : WalkInHistory → ℕ → StepWith ℕ → Answer → Type 0
-event_at w t step answer = slice_get w.window t ≡ Some (record { actor = w.actor; step = step; answer = answer })
-
 -- the own event t takes one entry away: the target in that directory, or one of a directory that was reached from
 -- the target by names alone
 pub record TakesAway (w : WalkInHistory) (dir : ℕ) (target : List ℕ) (t : ℕ) : Type 0 where
@@ -74,13 +70,6 @@ pub record TakesAway (w : WalkInHistory) (dir : ℕ) (target : List ℕ) (t : �
   pub entry : ℕ
   pub child : child ((timeline w).nodes_at t) inner name ≡ Some entry
   pub gone : (timeline w).nodes_at (suc t) ≡ put_at ((timeline w).nodes_at t) entry None
-
-abbrev pub LeavesEntries : WalkInHistory → ℕ → Type 0
-LeavesEntries w t = (timeline w).nodes_at (suc t) ≡ (timeline w).nodes_at t
-
--- each own event leaves all entries
-abbrev pub AllLeaveEntries : WalkInHistory → Type 0
-AllLeaveEntries w = (t : ℕ) → (timeline w).is_own t ≡ true → LeavesEntries w t
 
 -- each own event leaves all entries, or takes one away so
 abbrev pub OnlyTakesAway : WalkInHistory → ℕ → List ℕ → Type 0
@@ -155,31 +144,14 @@ TellsFault w dir Loop = ⊥
 
 -- ---- the parts of a call
 
--- the walk's part of the window, with what the walk was told; and what comes after it
-abbrev pub walk_part : WalkInHistory → List Event → List Line → WalkInHistory
-walk_part w window lines = record w { window = window; lines = lines }
-
-abbrev pub rest_part : WalkInHistory → List Event → List Event → List Line → WalkInHistory
-rest_part w first window lines = record w { before = w.before ++ first; window = window; lines = lines }
-
--- The walk found an object, by this handle, in the first part of the window, and left all entries; and the call
--- cleared in the second.
+-- The walk found an object, by this handle; and the call cleared in what came after it.
 pub record Parts (w : WalkInHistory) : Type 0 where
-  pub walk_window : List Event
-  pub window : List Event
-  pub windows : w.window ≡ walk_window ++ window
-  pub walk_lines : List Line
-  pub lines : List Line
-  pub all_lines : w.lines ≡ walk_lines ++ lines
   pub handle : Handle
   pub names : List (List ℕ)
-  pub walked : walk.LeadsTo w.way (walk.begins w.way w.path) walk_lines (walk.found handle names)
-  pub is_walk : IsWalkInHistory (walk_part w walk_window walk_lines)
-  pub opens : Opens (walk_part w walk_window walk_lines) handle names
-  pub leaves : AllLeaveEntries (walk_part w walk_window walk_lines)
+  pub walked : WalkedTo w (walk.found handle names)
 
 abbrev pub clearing_part : (w : WalkInHistory) → Parts w → WalkInHistory
-clearing_part w parts = rest_part w parts.walk_window parts.window parts.lines
+clearing_part w parts = after_walk parts.walked
 
 -- ---- the whole
 
@@ -202,12 +174,6 @@ pub record TellsGivenUp (w : WalkInHistory) (target : List ℕ) (error : Errno) 
   pub entries : OnlyTakesAway (clearing_part w parts) parts.handle.node target
   pub bounded : IsBounded (clearing_part w parts).lines
   pub fault : TellsFault (clearing_part w parts) parts.handle.node error
-
--- the walk's, which fails in this way, and is all that the call did; it left all entries
-pub record TellsWalkFailed (w : WalkInHistory) (error : Errno) : Type 0 where
-  pub walked : walk.LeadsTo w.way (walk.begins w.way w.path) w.lines (walk.failed error)
-  pub true_once : TellsError w error
-  pub leaves : AllLeaveEntries w
 
 pub record TellsRemovalFailed (w : WalkInHistory) (target : List ℕ) (error : Errno) : Type 0 where
   pub why : TellsWalkFailed w error ⊎ TellsGivenUp w target error

@@ -3,45 +3,29 @@ use Rattle.std.specs.Prelude.{◌≡◌, ℕ, List, [], ◌∷◌, ◌++◌}
 pub use Rattle.step_resolver.specs.Renamed.{numbers_by, root_by, way_by, handle_by, position_by, walk_after_by, walking_by, walk_turn_by, walk_after_handles, walking_handles}
 use Rattle.bulk_ops.specs.MakeAllOrder as make
 use Rattle.bulk_ops.specs.RemoveAllOrder as remove
+use Rattle.bulk_ops.specs.Renumbered.{for_handles}
+use Rattle.bulk_ops.specs.Renumbered as all
 
 abbrev pub making_by : (ℕ → ℕ) → make.Making → make.Making
-making_by f (make.walking w) = make.walking (walking_by f w)
-making_by f (make.making held names n left) = make.making (handle_by f held) names n left
-making_by f (make.opening held names n left) = make.opening (handle_by f held) names n left
-making_by f (make.leaving old new names left) = make.leaving (f old) (handle_by f new) names left
-making_by f (make.ending held names) = make.ending (handle_by f held) names
-making_by f (make.closing h hs error) = make.closing (f h) (numbers_by f hs) error
+making_by f = all.making_by (for_handles f)
 
 abbrev pub make_turn_by : (ℕ → ℕ) → make.MakeTurn → make.MakeTurn
-make_turn_by f (make.more bulk) = make.more (making_by f bulk)
-make_turn_by f (make.made handle names) = make.made (handle_by f handle) names
-make_turn_by f (make.failed error) = make.failed error
+make_turn_by f = all.make_turn_by (for_handles f)
 
 abbrev pub level_by : (ℕ → ℕ) → remove.Level → remove.Level
-level_by f level = record level { dir = f level.dir }
+level_by f = all.level_by (for_handles f)
 
 abbrev pub levels_by : (ℕ → ℕ) → List remove.Level → List remove.Level
-levels_by f [] = []
-levels_by f (level ∷ levels) = level_by f level ∷ levels_by f levels
+levels_by f = all.levels_by (for_handles f)
 
 abbrev pub stage_by : (ℕ → ℕ) → remove.Stage → remove.Stage
-stage_by f remove.removes_file = remove.removes_file
-stage_by f remove.opens = remove.opens
-stage_by f (remove.lists h) = remove.lists (f h)
-stage_by f (remove.shuts h) = remove.shuts (f h)
-stage_by f (remove.leaves h) = remove.leaves (f h)
-stage_by f remove.removes_dir = remove.removes_dir
+stage_by f = all.stage_by (for_handles f)
 
 abbrev pub removing_by : (ℕ → ℕ) → remove.Removing → remove.Removing
-removing_by f (remove.walking way target w) = remove.walking (way_by f way) target (walking_by f w)
-removing_by f (remove.clearing stage level above count left) =
-    remove.clearing (stage_by f stage) (level_by f level) (levels_by f above) count left
-removing_by f (remove.closing h hs end) = remove.closing (f h) (numbers_by f hs) end
+removing_by f = all.removing_by (for_handles f)
 
 abbrev pub remove_turn_by : (ℕ → ℕ) → remove.Turn → remove.Turn
-remove_turn_by f (remove.more bulk) = remove.more (removing_by f bulk)
-remove_turn_by f (remove.removed count) = remove.removed count
-remove_turn_by f (remove.failed error) = remove.failed error
+remove_turn_by f = all.remove_turn_by (for_handles f)
 
 -- ---- the handles themselves, one by one
 

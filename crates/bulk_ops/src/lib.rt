@@ -24,7 +24,11 @@ mod turn;
 pub use like_laws::like_bulk_calls_agree;
 pub use make_all::MkdirAll;
 pub use make_all_laws::{
-    makes_tell, quiet_makes_mean, steps_after_the_walk, worked_make_call, worked_makes,
+    makes_tell, quiet_makes_mean, raced_makes_need_a_change, steps_after_the_walk,
+    worked_make_call, worked_makes,
 };
-pub use remove_all::{CLEARING_STEPS_MAX, RemoveAll, quiet_remove_all, remove_all_tells};
+pub use remove_all::{
+    CLEARING_STEPS_MAX, RemoveAll, clearing_limit_is_a_number, quiet_remove_all,
+    raced_removals_need_a_change, remove_all_tells,
+};
 pub use turn::BulkTurn;

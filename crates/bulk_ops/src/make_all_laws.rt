@@ -3,6 +3,7 @@ ghost use Rattle.bulk_ops.specs.MakeAllTells.{MakesTell};
 ghost use Rattle.bulk_ops.specs.MakeAllSteps.{StepsAfterTheWalk};
 ghost use Rattle.bulk_ops.specs.MakeAllQuiet.{QuietMakesMean};
 ghost use Rattle.bulk_ops.specs.MakeAllWorked.{MakesAreWorked};
+ghost use Rattle.bulk_ops.specs.RacedCalls.{RacedMakesNeedAChange};
 ghost use Rattle.bulk_ops.specs.MakeAllQuietWorked.{MakeIsWorked};
 
 /// After its walk a call takes at most three steps for each part of the rest of the path, and two more; and one
@@ -20,6 +21,12 @@ pub fn steps_after_the_walk()
 /// more, which names the directory.
 pub fn makes_tell()
     ensures { MakesTell }
+{}
+
+/// A call that ends in Raced met a step of another in its window that made, removed or renamed an entry, if the
+/// root's directory stands as the window begins. Below a root that is gone nothing can be made (openat2(2), EAGAIN).
+pub fn raced_makes_need_a_change()
+    ensures { RacedMakesNeedAChange }
 {}
 
 /// Where no other actor's event stands in the call's window, the call's end and the nodes after it are those that

@@ -20,7 +20,9 @@ mod like;
 mod phase;
 
 pub use clearing::CLEARING_STEPS_MAX;
-pub use laws::{quiet_remove_all, remove_all_tells};
+pub use laws::{
+    clearing_limit_is_a_number, quiet_remove_all, raced_removals_need_a_change, remove_all_tells,
+};
 
 /// A call that is under way: it removes an entry with all that is below it, by single steps, and follows no link
 /// below the target. You can't drop it: make each step that is `due`, and `take` its answer, until the call ends. To

@@ -147,10 +147,11 @@ fn finds_nothing_the_second_time(rt: HostRuntime) {
     assert_eq!(rt; first_wrong_again(rt.alloc()), Ok(None));
 }
 
-// A tree in which each directory is empty when it is listed, and not when it is removed; how many steps were made on
-// it, and how many Closes among them.
+// A tree in which each directory is empty when it is listed, and not when it is removed, until it has been asked for so
+// many steps; how many were made on it, and how many Closes among them.
 #[derive(Drop)]
 struct Filling {
+    until: u64,
     steps: u64,
     closes: u64,
 }
@@ -161,7 +162,24 @@ impl Answers for Filling {
         if matches!(step, StepOf::Close(_)) {
             self.closes = self.closes.saturating_add(1);
         }
-        Ok(answer_by_hand(alloc, step, self.steps))
+        Ok(match step {
+            StepOf::RemoveDir(_, _) => self.dir_removed(),
+            _ => answer_by_hand(alloc, step, self.steps),
+        })
+    }
+}
+
+impl Filling {
+    // The first three times somebody has put a file in the directory's place, which is a directory again when that is
+    // to be removed: each takes one step more, so that a call may come to its end at any of four steps in turn.
+    fn dir_removed(&self) -> Answer {
+        if self.closes <= 3 {
+            Answer::Refused(Errno::NotDir)
+        } else if self.steps < self.until {
+            Answer::Refused(Errno::NotEmpty)
+        } else {
+            Answer::Done
+        }
     }
 }
 
@@ -175,170 +193,30 @@ fn answer_by_hand(alloc: Global, step: &LentStep<'_>, handle: u64) -> Answer {
         StepOf::NameBelow(_, _) => Answer::Names(Names::new(alloc)),
         StepOf::List(_) => Answer::Listed(Names::new(alloc)),
         StepOf::RemoveFile(_, _) => Answer::Refused(Errno::IsDir),
-        StepOf::RemoveDir(_, _) => Answer::Refused(Errno::NotEmpty),
         _ => Answer::Done,
     }
 }
 
-// The walk has two steps, and the last one closes its directory. One RemoveFile, and then Open, List, Close and
-// RemoveDir in turn: the last step of clearing is a Close.
-fn gives_up(alloc: Global) -> bool {
+// The walk has two steps, and the last one closes its directory. Four RemoveFile, and otherwise Open, List, Close and
+// RemoveDir in turn: the last of 600,000 steps of clearing is a RemoveDir.
+fn ends_at(alloc: Global, until: u64, end: &str) -> bool {
     let mut tree = Filling {
+        until,
         steps: 0,
         closes: 0,
     };
-    let end = called::<RemoveAll, Filling>(alloc, &mut tree, "t", PLAIN);
-    let is_end = is_end(alloc, &end, "fault EBUSY");
-    drop(end);
-    is_end && tree.steps == 600_003 && tree.closes == 150_001
+    let last = called::<RemoveAll, Filling>(alloc, &mut tree, "t", PLAIN);
+    let is_end = is_end(alloc, &last, end);
+    drop(last);
+    is_end && tree.steps == 600_003 && tree.closes == 150_000
+}
+
+#[test]
+fn clears_in_as_many_steps_as_it_may_take(rt: HostRuntime) {
+    assert!(rt; ends_at(rt.alloc(), 600_002, "count 1"));
 }
 
 #[test]
 fn gives_up_a_directory_that_others_fill(rt: HostRuntime) {
-    assert!(rt; gives_up(rt.alloc()));
-}
-
-// A call over so many directories `t`, each in the one before it and the first in `/c`.
-struct Chain {
-    depth: u64,
-    row: Row,
-}
-
-const CHAINS: [Chain; 2] = [
-    Chain {
-        depth: 1022,
-        row: Row {
-            path: "t",
-            end: "count 1022",
-            steps: 5113,
-            places: "none /c/t",
-            ..QUIET
-        },
-    },
-    Chain {
-        depth: 1023,
-        row: Row {
-            path: "t",
-            end: "fault EMFILE",
-            steps: 4093,
-            entries: 1033,
-            places: "11 /c/t",
-            ..QUIET
-        },
-    },
-];
-
-// The other makes `t` in its directory, goes into it, and closes the one above. Each handle's number is one greater
-// than the one before.
-fn goes_deeper(alloc: Global, scene: &mut Scene, handle: u64) -> Result<(), Errno> {
-    let steps = format!(in alloc; "make_dir {handle} t, open {handle} t, close {handle}")?;
-    others_act(alloc, &mut scene.tree, steps.as_str());
-    Ok(())
-}
-
-fn deep_scene(alloc: Global, depth: u64) -> Result<Scene, Errno> {
-    let mut scene = base_scene(alloc, OTHER_AT)?;
-    for above in 0..depth {
-        goes_deeper(alloc, &mut scene, above.saturating_add(1))?;
-    }
-    Ok(scene)
-}
-
-// Whether the call on a chain ends so.
-fn ends_on(alloc: Global, chain: &Chain) -> Result<bool, Errno> {
-    let mut scene = deep_scene(alloc, chain.depth)?;
-    ends_so::<RemoveAll>(alloc, &mut scene, &chain.row, PLAIN)
-}
-
-// The depth of the first chain on which it ends otherwise.
-fn first_wrong_chain(alloc: Global) -> Option<u64> {
-    for chain in CHAINS.as_slice() {
-        if ends_on(alloc, chain) != Ok(true) {
-            return Some(chain.depth);
-        }
-    }
-    None
-}
-
-#[test]
-fn holds_a_handle_for_each_directory(rt: HostRuntime) {
-    assert_eq!(rt; first_wrong_chain(rt.alloc()), None);
-}
-
-const FRESH: Pair = Pair {
-    path: "a",
-    steps: 0,
-    other: "a",
-    other_steps: 0,
-    after: 0,
-    others: "",
-    is_like: true,
-    handles: &[],
-    other_handles: &[],
-};
-
-const PAIRS: [Pair; 6] = [
-    Pair {
-        steps: 1,
-        other_steps: 1,
-        handles: &[0, 2],
-        other_handles: &[0, 3],
-        ..FRESH
-    },
-    Pair {
-        steps: 8,
-        other_steps: 8,
-        handles: &[4, 3, 2],
-        other_handles: &[5, 4, 3],
-        ..FRESH
-    },
-    Pair {
-        steps: 13,
-        other_steps: 13,
-        handles: &[2],
-        other_handles: &[3],
-        ..FRESH
-    },
-    // at another step
-    Pair {
-        steps: 8,
-        other_steps: 9,
-        is_like: false,
-        handles: &[4, 3, 2],
-        other_handles: &[5, 4, 3],
-        ..FRESH
-    },
-    // with one entry more to come
-    Pair {
-        path: "a/b",
-        steps: 5,
-        other: "a/b",
-        other_steps: 5,
-        others: "open 1 a, open 3 b, make_file 4 z",
-        is_like: false,
-        handles: &[3, 2],
-        other_handles: &[6, 5],
-        ..FRESH
-    },
-    // one that the other was faster to remove isn't counted
-    Pair {
-        path: "a/b",
-        steps: 6,
-        other: "a/b",
-        other_steps: 6,
-        after: 5,
-        others: "open 1 a, open 5 b, remove_file 6 f",
-        is_like: false,
-        handles: &[3, 2],
-        other_handles: &[4, 3],
-        ..FRESH
-    },
-];
-
-#[test]
-fn is_like_another_but_for_handles(rt: HostRuntime) {
-    assert_eq!(rt;
-        first_wrong_pair::<RemoveAll>(rt.alloc(), OTHER_AT, PAIRS.as_slice()),
-        None
-    );
+    assert!(rt; ends_at(rt.alloc(), 600_003, "fault EBUSY"));
 }

@@ -3,7 +3,7 @@ ghost use Rattle.c_protocol.specs.AtOnce.{OpensAtOnceTell};
 ghost use Rattle.c_protocol.specs.History.{ConversationsAreCalls};
 ghost use Rattle.c_protocol.specs.Outright.{ConversationsTell};
 
-use root_ops::{calls_tell, each_call_tells};
+use root_ops::{calls_tell, calls_tell_by_any_numbers, each_call_tells};
 
 /// From what `begin` and `next` say alone, up to the turn that keeps nothing: what is told last is the reply of a
 /// call of the operation that was asked for. Each exchange is a line of that call: the step that had been told, with
@@ -24,12 +24,14 @@ pub fn conversations_are_calls()
 /// the nodes after it are those of the operation done whole. And whoever acts meanwhile: of the walk with which it
 /// begins (the old path's of a rename) the headline (openat2(2), RESOLVE_IN_ROOT), that a resolve replies by the end
 /// of this walk, and of the calls that make or remove all which entries they made or took away and why they failed
-/// (mkdir(2), unlink(2), rmdir(2)).
+/// (mkdir(2), unlink(2), rmdir(2)). The program's numbers of handles and nodes are its own: the same is so in each
+/// legal history in which other numbers, put in the place of these, make the lines its events.
 pub fn conversations_tell()
     ensures { ConversationsTell }
 {
     conversations_are_calls();
     each_call_tells();
+    calls_tell_by_any_numbers();
 }
 
 /// A call of which `opens_at_once` is true, by whatever handles each name was opened in the directory before it: the

@@ -12,8 +12,6 @@ use Rattle.command_line.specs.declared.commands.Drawing.{Drawing}
 use Rattle.command_line.specs.declared.commands.Request.{Request}
 use Rattle.command_line.specs.declared.commands.Request.TheVariants as request
 use Rattle.command_line.specs.declared.commands.Walking.{Walking}
-use Rattle.script_drawings.specs.declared.drawing.Form.{Form}
-use Rattle.script_drawings.specs.declared.drawing.Form.TheVariants.{Text, Svg}
 use Rattle.survey_text.specs.declared.asked.Options.{Options}
 use Rattle.survey_text.specs.Asked.{texts_in}
 
@@ -39,20 +37,18 @@ abbrev pub IsSchedule : ArgMatches → Option (Bor (List ℕ)) → Type 0
 IsSchedule matches (Some text) = first_value (found_of matches) (codes "schedule") ≡ Some text.now
 IsSchedule matches None = first_value (found_of matches) (codes "schedule") ≡ None
 
--- `--svg` asks for SVG
-abbrev pub is_svg : Form → Bool
-is_svg Svg = true
-is_svg Text = false
-
 -- `--all` asks for what is closed, too
 abbrev pub is_all : Closes → Bool
 is_all Shown = true
 is_all Hidden = false
 
+-- `--svg` asks for SVG, and the texts are those that were given
 pub record IsDrawing (matches : ArgMatches) (drawing : Drawing) : Type 0 where
   pub schedule : IsSchedule matches drawing.schedule
-  pub form : IsOption matches (codes "svg") (is_svg drawing.style.form)
-  pub closes : IsOption matches (codes "all") (is_all drawing.style.closes)
+  pub form : IsOption matches (codes "svg") drawing.svg
+  pub closes : IsOption matches (codes "all") (is_all drawing.closes)
+  pub width : option_map (λ text. text.now) drawing.width ≡ first_value (found_of matches) (codes "width")
+  pub color : option_map (λ text. text.now) drawing.color ≡ first_value (found_of matches) (codes "color")
 
 -- the number is what the text after `--workers` says in decimal digits, and there may be so many
 pub record IsWorkers (matches : ArgMatches) (workers : ℕ) : Type 0 where

@@ -2,10 +2,11 @@
 use Rattle.std.specs.Borrow.{Bor}
 use Rattle.std.specs.Prelude.{⊤, ℕ, List, Option, Some, None, Result, Ok, Err}
 use Rattle.scripts.specs.declared.fault.RunFault.TheVariants.{Script, ReadFailed, WriteFailed, NoMemory, BookFull}
+use Rattle.scripts.specs.declared.fault.ScriptFault.TheVariants.{Turn, TooManyTurns}
 use Rattle.survey_text.specs.declared.merging.MergeFault.{MergeFault}
 use Rattle.survey_text.specs.declared.merging.MergeFault.TheVariants as merge
 use Rattle.command_line.specs.declared.ending.Fault.{Fault}
-use Rattle.command_line.specs.declared.ending.Fault.TheVariants.{Usage, NotUtf8, Schedule, NoRequest, Run, Options, PropertyFails, ExploreActor, ExploreProperty, ExploreStates, ExploreTurns, ExploreBegin, ExploreCuts, Merge, DrawActors, DrawLines, Service}
+use Rattle.command_line.specs.declared.ending.Fault.TheVariants.{Usage, NotUtf8, Schedule, AskedTurn, AskedTurns, Width, Color, NoRequest, Run, Options, PropertyFails, ExploreActor, ExploreProperty, ExploreStates, ExploreTurns, ExploreBegin, ExploreCuts, Merge, DrawActors, DrawLines, Service}
 use Rattle.script_drawings.specs.declared.drawing.DrawFault.{DrawFault}
 use Rattle.script_jobs.specs.declared.jobs.JobsFault.{JobsFault}
 use Rattle.script_jobs.specs.declared.jobs.JobsFault.TheVariants as jobs
@@ -39,6 +40,10 @@ status_of (Ok answer) = ANSWERED
 status_of (Err Usage) = USAGE
 status_of (Err NotUtf8) = USAGE
 status_of (Err Schedule) = USAGE
+status_of (Err (AskedTurn at)) = USAGE
+status_of (Err AskedTurns) = USAGE
+status_of (Err Width) = USAGE
+status_of (Err Color) = USAGE
 status_of (Err NoRequest) = FAILED
 status_of (Err (Run (Script fault))) = SCRIPT_REFUSED
 status_of (Err (Run ReadFailed)) = FAILED
@@ -102,3 +107,10 @@ IsOrder (Some text) (Ok (Asked turns)) = SaysTurns text.now turns.items
 IsOrder (Some text) (Err Schedule) = (turns : List Turns) → SaysTurns text.now turns → ⊥
 IsOrder (Some text) (Err (Run NoMemory)) = ⊤
 IsOrder (Some text) (Err other) = ⊥
+
+-- where turns are asked for, they are at fault, and not the script
+abbrev pub blamed_of : TurnOrder → Fault → Fault
+blamed_of OfScript fault = fault
+blamed_of (Asked turns) (Run (Script (Turn at))) = AskedTurn at
+blamed_of (Asked turns) (Run (Script TooManyTurns)) = AskedTurns
+blamed_of (Asked turns) other = other

@@ -1,2 +1,5 @@
+pub mod Advice
 pub mod Command
 pub mod Ending
+pub mod Entry
+pub mod Style

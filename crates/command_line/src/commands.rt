@@ -7,7 +7,6 @@ use clap::builder::ValueParser;
 use clap::{Arg, ArgAction, ArgMatches, Command};
 use drawings::Closes;
 use path_text::Flags;
-use script_drawings::{Form, Style};
 use script_jobs::WORKERS_MAX;
 use std::alloc::{AllocError, Global};
 use survey_text::Options;
@@ -33,6 +32,10 @@ const SCHEDULE: &str = "schedule";
 const SVG: &str = "svg";
 
 const ALL: &str = "all";
+
+const WIDTH: &str = "width";
+
+const COLOR: &str = "color";
 
 const WORKERS: &str = "workers";
 
@@ -156,6 +159,10 @@ Draws what each actor calls for and how it ended, and then a column for each act
 which its steps stand at their moments, but for the handles that it closes. A run that
 is drawn has at most 2000 events, and a picture 2000 lines.
 
+As text it has 100 columns; on a terminal as many as COLUMNS says in the environment,
+or 80. Red is what stands outside of the root, yellow a call that failed, green a check
+that says yes, and a call that did what it was to do. NO_COLOR asks for no colours.
+
 Example:
   inroot draw < examples/attacks/moved-out.json";
 
@@ -163,12 +170,28 @@ Example:
 fn draw<'a>(alloc: Global) -> Result<Command<'a>, AllocError> {
     let svg = option(alloc, SVG, "Draw as SVG and not as text");
     let all = option(alloc, ALL, "Show each handle that is closed, too");
+    let width = valued(
+        alloc,
+        WIDTH,
+        "N",
+        ArgAction::Set,
+        "Draw the text in N columns, 40 to 10000",
+    );
+    let color = valued(
+        alloc,
+        COLOR,
+        "WHEN",
+        ArgAction::Set,
+        "Draw the text in colours: never, auto or always; auto is on a terminal",
+    );
     Command::new(alloc, DRAW)
         .about("Run the actors' calls by the schedule, and draw who did what when")
         .override_usage("inroot draw [OPTIONS] < SCRIPT")
         .after_help(DRAWING)
         .arg(svg)?
         .arg(all)?
+        .arg(width)?
+        .arg(color)?
         .arg(schedule(alloc))?
         .arg(strict(alloc))
 }
@@ -342,11 +365,16 @@ pub struct Walking<'a> {
     pub flags: Flags,
 }
 
-/// A picture to draw, with the turns that are asked for in place of the script's.
+/// A picture to draw, with the texts of its options.
 #[derive(Clone, Copy, Debug)]
 pub struct Drawing<'a> {
+    /// The turns that are asked for in place of the script's.
     pub schedule: Option<&'a str>,
-    pub style: Style,
+    /// As SVG, and not as text.
+    pub svg: bool,
+    pub closes: Closes,
+    pub width: Option<&'a str>,
+    pub color: Option<&'a str>,
 }
 
 /// What a command line asks for.
@@ -389,19 +417,18 @@ fn schedule_asked<'a>(matches: &ArgMatches<'a>) -> Option<&'a str>
 fn drawing_asked<'a>(matches: &ArgMatches<'a>) -> Drawing<'a>
     ensures { IsDrawing matches.now result }
 {
-    let schedule = schedule_asked(matches);
-    let form = if matches.get_flag(SVG) {
-        Form::Svg
-    } else {
-        Form::Text
-    };
     let closes = if matches.get_flag(ALL) {
         Closes::Shown
     } else {
         Closes::Hidden
     };
-    let style = Style { form, closes };
-    Drawing { schedule, style }
+    Drawing {
+        schedule: schedule_asked(matches),
+        svg: matches.get_flag(SVG),
+        closes,
+        width: matches.get_str(WIDTH),
+        color: matches.get_str(COLOR),
+    }
 }
 
 /// How many workers the arguments of `run` ask for, if it is a number that there may be.

@@ -23,6 +23,16 @@ pub enum Fault {
     /// Turns that are asked for and have another form.
     #[error("--schedule is I or I*N between commas, I an actor and N 1 to 100000, or - for none")]
     Schedule,
+    /// The first turn that is asked for and no actor's, by its place, counted from 0.
+    #[error("--schedule: turn {0} is no actor's")]
+    AskedTurn(usize),
+    /// More turns are asked for than a schedule may have.
+    #[error("--schedule: too many turns")]
+    AskedTurns,
+    #[error("--width is a number from 40 to 10000")]
+    Width,
+    #[error("--color is never, auto or always")]
+    Color,
     /// A command line that was taken, and has no command with its path: the table of the options is wrong.
     #[error("the command line has no request")]
     NoRequest,
@@ -178,6 +188,15 @@ pub fn status(ended: &Result<(), Fault>) -> u8
             | Fault::DrawLines
             | Fault::Service(_),
         ) => 4,
-        Err(Fault::Usage | Fault::NotUtf8 | Fault::Schedule | Fault::Options(_)) => 2,
+        Err(
+            Fault::Usage
+            | Fault::NotUtf8
+            | Fault::Schedule
+            | Fault::AskedTurn(_)
+            | Fault::AskedTurns
+            | Fault::Width
+            | Fault::Color
+            | Fault::Options(_),
+        ) => 2,
     }
 }

@@ -1,10 +1,16 @@
 //! The statuses, and what a command line asks for.
-use command_line::{Fault, Request, asked, command, is_strict, order_of, status};
-use drawings::Closes;
+use command_line::{
+    Drawing, Fault, Request, Screen, advise, asked, blamed, command, entry_text, is_strict,
+    order_of, status, style_of,
+};
+use drawings::{Closes, Colours, Legend};
+use path_text::Errno;
 use script_drawings::Form;
 use script_jobs::ServiceFault;
-use scripts::{RunFault, ScriptFault, TurnOrder};
+use scripts::{Cause, RunFault, ScriptFault, TurnOrder};
+use serde_json::Value;
 use std::alloc::Global;
+use step_text::Output;
 use survey_text::{OptionFault, Options};
 
 #[test]
@@ -25,6 +31,10 @@ fn ends_with_its_statuses(rt: HostRuntime) {
         (Err(Fault::Usage), 2),
         (Err(Fault::NotUtf8), 2),
         (Err(Fault::Schedule), 2),
+        (Err(Fault::AskedTurn(3)), 2),
+        (Err(Fault::AskedTurns), 2),
+        (Err(Fault::Width), 2),
+        (Err(Fault::Color), 2),
         (Err(Fault::NoRequest), 4),
         (Err(Fault::Run(RunFault::Script(ScriptFault::TooLong))), 3),
         (Err(Fault::Run(RunFault::ReadFailed)), 4),
@@ -39,10 +49,10 @@ fn ends_with_its_statuses(rt: HostRuntime) {
     }
 }
 
-/// Turns that are asked for with a replay or a drawing, and how it is drawn.
-type Run<'a> = (Option<&'a str>, Option<(Form, Closes)>);
+/// Turns that are asked for with a replay or a drawing, and how it is drawn: whether as SVG.
+type Run<'a> = (Option<&'a str>, Option<(bool, Closes)>);
 
-fn is_run(want: Option<Run>, schedule: Option<&str>, style: Option<(Form, Closes)>) -> bool {
+fn is_run(want: Option<Run>, schedule: Option<&str>, style: Option<(bool, Closes)>) -> bool {
     match want {
         Some((turns, wanted)) => turns == schedule && wanted == style,
         None => false,
@@ -60,7 +70,7 @@ fn asks_run(alloc: Global, words: &[&str], want: Option<Run>) -> bool {
     match asked(&matches) {
         Some(Request::Replay(schedule)) => is_run(want, schedule, None),
         Some(Request::Draw(drawing)) => {
-            let style = (drawing.style.form, drawing.style.closes);
+            let style = (drawing.svg, drawing.closes);
             is_run(want, drawing.schedule, Some(style))
         }
         _ => want.is_none(),
@@ -94,11 +104,11 @@ fn reads_its_command_line(rt: HostRuntime) {
         (&["inroot", "replay", "a"], None),
         (
             &["inroot", "draw", "--all"],
-            Some((None, Some((Form::Text, Closes::Shown)))),
+            Some((None, Some((false, Closes::Shown)))),
         ),
         (
             &["inroot", "draw", "--schedule=-", "--svg"],
-            Some((Some("-"), Some((Form::Svg, Closes::Hidden)))),
+            Some((Some("-"), Some((true, Closes::Hidden)))),
         ),
         (&["inroot", "replay", "--svg"], None),
     ] {
@@ -228,5 +238,199 @@ fn reads_whether_it_is_strict(rt: HostRuntime) {
         (&["inroot", "--strict", "replay"], None),
     ] {
         assert!(rt; asks_strictly(rt.alloc(), words) == want, "{words:?}");
+    }
+}
+
+/// How a picture looks: its columns, its colours, and whether it is said that closes are left out; or why there is
+/// none.
+type Look = Result<(usize, Colours, Legend), Fault>;
+
+fn look_of(drawing: Drawing, screen: Screen) -> Look {
+    match style_of(drawing, screen)?.form {
+        Form::Text(look) => Ok((look.columns.count(), look.colours, look.legend)),
+        Form::Svg => Err(Fault::NoRequest),
+    }
+}
+
+/// A case: the width and the colours that are asked for, the columns of the terminal, if it is one, whether that has no
+/// colours, and how the picture looks.
+type Case<'a> = (
+    Option<&'a str>,
+    Option<&'a str>,
+    Option<&'a str>,
+    bool,
+    bool,
+    Look,
+);
+
+const CASES: [Case; 10] = [
+    (
+        None,
+        None,
+        Some("60"),
+        false,
+        false,
+        Ok((100, Colours::Off, Legend::Off)),
+    ),
+    (
+        None,
+        None,
+        Some("60"),
+        true,
+        false,
+        Ok((60, Colours::On, Legend::NoCloses)),
+    ),
+    (
+        None,
+        None,
+        None,
+        true,
+        true,
+        Ok((80, Colours::Off, Legend::NoCloses)),
+    ),
+    (
+        None,
+        None,
+        Some("39"),
+        true,
+        false,
+        Ok((80, Colours::On, Legend::NoCloses)),
+    ),
+    (
+        None,
+        Some("always"),
+        None,
+        false,
+        true,
+        Ok((100, Colours::On, Legend::Off)),
+    ),
+    (
+        None,
+        Some("never"),
+        None,
+        true,
+        false,
+        Ok((80, Colours::Off, Legend::NoCloses)),
+    ),
+    (
+        Some("40"),
+        Some("auto"),
+        None,
+        false,
+        false,
+        Ok((40, Colours::Off, Legend::NoCloses)),
+    ),
+    (Some("39"), None, None, true, false, Err(Fault::Width)),
+    (
+        Some("10001"),
+        Some("on"),
+        None,
+        true,
+        false,
+        Err(Fault::Width),
+    ),
+    (None, Some("on"), None, true, false, Err(Fault::Color)),
+];
+
+#[test]
+fn draws_as_it_is_asked_to(rt: HostRuntime) {
+    for (width, color, columns, is_terminal, is_plain, want) in CASES {
+        let drawing = Drawing {
+            schedule: None,
+            svg: false,
+            closes: Closes::Hidden,
+            width,
+            color,
+        };
+        let screen = Screen {
+            is_terminal,
+            columns,
+            is_plain,
+        };
+        assert!(rt;
+            look_of(drawing, screen) == want,
+            "{width:?} {color:?} {columns:?}"
+        );
+    }
+}
+
+/// The fault that is told where turns are asked for.
+fn blamed_for(alloc: Global, asked: &str, fault: ScriptFault) -> Result<Fault, Fault> {
+    let order = order_of(alloc, Some(asked))?;
+    Ok(blamed(&order, Fault::Run(RunFault::Script(fault))))
+}
+
+#[test]
+fn blames_the_turns_that_are_asked_for(rt: HostRuntime) {
+    let script = Fault::Run(RunFault::Script(ScriptFault::Lines));
+    for (fault, want) in [
+        (ScriptFault::Turn(3), Fault::AskedTurn(3)),
+        (ScriptFault::TooManyTurns, Fault::AskedTurns),
+        (ScriptFault::Lines, script),
+    ] {
+        assert!(rt; blamed_for(rt.alloc(), "0*3,7", fault) == Ok(want));
+    }
+}
+
+/// Whether that is told in the line after a fault of a search that may go through so many states.
+fn is_advised(alloc: Global, fault: Fault, states: u64, want: &str) -> bool {
+    let mut out = Output::new(alloc);
+    advise(&mut out, fault, states).is_ok() && out.as_slice() == want.as_bytes()
+}
+
+#[test]
+fn tells_limits_and_what_helps(rt: HostRuntime) {
+    for (fault, states, want) in [
+        (
+            Fault::ExploreStates,
+            7,
+            "more than 7 states; --states takes up to 10000000",
+        ),
+        (
+            Fault::ExploreStates,
+            10_000_000,
+            "more than 10000000 states; --cuts and --begin leave fewer",
+        ),
+        (Fault::DrawActors, 0, "a picture has at most 4 actors"),
+        (Fault::Usage, 0, ""),
+    ] {
+        assert!(rt; is_advised(rt.alloc(), fault, states, want), "{want}");
+    }
+}
+
+const SCRIPT: &str =
+    "{\"tree\":[[\"dir\",\"/b c\"]],\"actors\":[{\"root\":\"\u{7f}\",\"calls\":[7]}],\"schedule\":[9]}";
+
+/// Whether that is shown of the script; none where nothing is.
+fn is_shown(alloc: Global, fault: ScriptFault, want: Option<&str>) -> Option<bool> {
+    let script = Value::from_str(alloc, SCRIPT).ok()?;
+    match entry_text(alloc, &script, fault).ok()? {
+        Some(text) => Some(want.map(|want| want.as_bytes()) == Some(text.as_slice())),
+        None => Some(want.is_none()),
+    }
+}
+
+#[test]
+fn shows_what_is_refused(rt: HostRuntime) {
+    for (fault, want) in [
+        (
+            ScriptFault::TreeEntry(0, Cause::Shape),
+            Some("[\"dir\",\"/b c\"]"),
+        ),
+        (ScriptFault::TreeEntry(1, Cause::Shape), None),
+        (
+            ScriptFault::Actor(0, Cause::Shape),
+            Some("{\"calls\":[7],\"root\":\"\\x7f\"}"),
+        ),
+        (
+            ScriptFault::Actor(0, Cause::Refused(Errno::NotFound)),
+            Some("\"\\x7f\""),
+        ),
+        (ScriptFault::Call(0, 0, None), Some("7")),
+        (ScriptFault::NoJob(0), Some("7")),
+        (ScriptFault::Turn(0), Some("9")),
+        (ScriptFault::Version, None),
+    ] {
+        assert!(rt; is_shown(rt.alloc(), fault, want) == Some(true), "{want:?}");
     }
 }

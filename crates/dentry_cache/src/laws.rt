@@ -1,4 +1,6 @@
 //! What holds of every run of calls: laws, each the contract of a function without a body.
+ghost use Rattle.std.specs.Prelude.{◌≡◌};
+ghost use Rattle.dentry_cache.specs.declared.cache.TheConstants.{CAP_MAX};
 ghost use Rattle.dentry_cache.specs.Calls.{HitsAreNotedLast, NotesAreFound, NotesAreKept, CallsKeepCaches};
 
 /// After any calls, what a look-up finds was noted last of that entry, and not forgotten since.
@@ -19,4 +21,9 @@ pub fn notes_are_kept()
 /// No call makes an entry be remembered twice, or more than the cap.
 pub fn calls_keep_caches()
     ensures { CallsKeepCaches }
+{}
+
+/// A cap is at most 65,536.
+pub fn cap_limit_is_a_number()
+    ensures { CAP_MAX ≡ 65536 }
 {}

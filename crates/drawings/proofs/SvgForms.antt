@@ -11,12 +11,12 @@ use Rattle.drawings.specs.declared.picture.Head.{Head}
 use Rattle.drawings.specs.declared.picture.Line.{Line}
 use Rattle.drawings.specs.declared.picture.TheConstants.{ACTORS_MAX, LINES_MAX}
 use Rattle.drawings.specs.declared.picture.Tone.{Tone}
-use Rattle.drawings.specs.declared.picture.Tone.TheVariants.{Plain, Good, Bad}
-use Rattle.drawings.specs.declared.svg.TheConstants.{SHOWN_MAX}
+use Rattle.drawings.specs.declared.picture.Tone.TheVariants.{Plain, Good, Failed, Bad}
+use Rattle.drawings.specs.declared.svg.TheConstants.{SHOWN_MAX, HEAD_MAX}
 use Rattle.drawings.specs.Cells.{cut, mark_of, actor_name}
 use Rattle.drawings.specs.DrawingLaws.{AreBytes, IsLine, SvgIsWellFormed}
 use Rattle.drawings.specs.Picture.{line_count}
-use Rattle.drawings.specs.Svg.{xml_text, text_at, column_x, names_y, heading_y, line_y, life_line, svg_dot, dot_if, svg_place, svg_heading, svg_column, svg_columns, svg_line, svg_head}
+use Rattle.drawings.specs.Svg.{xml_text, text_at, column_x, names_y, heading_y, line_y, life_line, svg_dot, dot_if, svg_place, svg_heading, svg_column, svg_columns, svg_line, heading_width, wider, widest, svg_width, svg_head, about}
 use Rattle.drawings.specs.Xml.{IsPlain, IsXmlText, IsAttributes, IsContent, is_name, attribute, element_text}
 use Rattle.drawings.specs.Xml.IsXmlText.{done as all_told, plain, amp, lt, gt, quot, apos}
 use Rattle.drawings.specs.Xml.IsAttributes.{none, more}
@@ -92,6 +92,8 @@ text_then x y Plain text others small_x small_y bytes h =
     simp append_assoc (simp append_assoc at (line_of_text _ _ text others (place_then x y small_x small_y [] [] refl refl none) bytes h))
 text_then x y Good text others small_x small_y bytes h =
     simp append_assoc (simp append_assoc at (line_of_text _ _ text others (place_then x y small_x small_y _ _ refl refl (coloured (codes "#1a7f37") refl)) bytes h))
+text_then x y Failed text others small_x small_y bytes h =
+    simp append_assoc (simp append_assoc at (line_of_text _ _ text others (place_then x y small_x small_y _ _ refl refl (coloured (codes "#9a6700") refl)) bytes h))
 text_then x y Bad text others small_x small_y bytes h =
     simp append_assoc (simp append_assoc at (line_of_text _ _ text others (place_then x y small_x small_y _ _ refl refl (coloured (codes "#c0182b") refl)) bytes h))
 
@@ -134,7 +136,7 @@ headings_then at (head ∷ heads) others few bytes h =
     let P : Head → Type 0 = λ head. AreBytes head.text in
     let rest = numbered svg_heading (suc at) heads in
     rw (append_assoc (svg_heading at head) rest others)
-    (text_then 8 (heading_y at) head.tone (cut SHOWN_MAX head.text) (rest ++ others) (omega arith) (omega arith) (cut_is_bytes SHOWN_MAX head.text (All-head P head heads bytes))
+    (text_then 8 (heading_y at) head.tone (cut HEAD_MAX head.text) (rest ++ others) (omega arith) (omega arith) (cut_is_bytes HEAD_MAX head.text (All-head P head heads bytes))
     (headings_then (suc at) heads others (omega arith) (All-tail P head heads bytes) h))
 
 column_then : (heads end actor : ℕ) (others : List ℕ) → heads ≤ LINES_MAX → end < 2 ^ 64 → actor < ACTORS_MAX → IsContent others → IsContent (svg_column heads end actor ++ others)
@@ -188,16 +190,52 @@ lines_then actors heads at (line ∷ lines) others few short are h =
     (line_then actors (heads + at) line (rest ++ others) few (omega arith) is.bytes is.moment
     (lines_then actors heads (suc at) lines others few (omega arith) (All-tail IsLine line lines are) h))
 
+-- ---- the opening tag and what is said of the picture
+
+small_heading : (head : Head) → heading_width head ≤ 8016
+small_heading head = by (nat_le (length head.text) HEAD_MAX) refl
+  where
+    by : (t : Bool) → nat_le (length head.text) HEAD_MAX ≡ t → 16 + 8 * (if t then length head.text else HEAD_MAX) ≤ 8016
+    by true e = let fits : length head.text ≤ HEAD_MAX = grind (arith, nat_tests) in omega (arith, fits)
+    by false e = omega arith
+
+small_wider : (width other : ℕ) → width ≤ 8016 → other ≤ 8016 → wider width other ≤ 8016
+small_wider width other h g = by (nat_lt width other)
+  where
+    by : (t : Bool) → (if t then other else width) ≤ 8016
+    by true = g
+    by false = h
+
+small_widest : (width : ℕ) (heads : List Head) → width ≤ 8016 → widest width heads ≤ 8016
+small_widest width [] h = h
+small_widest width (head ∷ heads) h = small_widest (wider width (heading_width head)) heads (small_wider width (heading_width head) h (small_heading head))
+
+-- an element of constant text, and a line's end behind it
+told_then : (name text others : List ℕ) → is_name name ≡ true → list_all is_plain text ≡ true → IsContent others
+    → IsContent (element_text name [] (text ++ []) ++ (0xa ∷ others))
+told_then name text others is_one plain_one h =
+    element [] name [] (text ++ []) (0xa ∷ others) is_one none (shown text [] (plain_text text plain_one) done) (line_end others h)
+
+about_then : (others : List ℕ) → IsContent others → IsContent (about ++ others)
+unfolding about
+about_then others h =
+    simp append_assoc (told_then (codes "title") (codes "A run of calls below a root") _ refl refl
+    (told_then (codes "desc") (codes "A column for each actor, and a line for each step at its moment. Red: what is outside of the root is opened or held, or a check says no. Green: a check says yes, or a call did what it was to do. Brown: a call failed. Where a moment is missing, an actor closed a handle.") others refl refl h))
+
 pub svg_is_well_formed : SvgIsWellFormed
 unfolding svg_head
 svg_is_well_formed picture can bytes =
     let heads = length picture.heads in
     let end = line_y (line_count picture) in
-    let width = 48 + 494 * picture.actors in
+    let width = svg_width picture in
+    let narrow : width ≤ 8016 = small_widest (48 + 494 * picture.actors) picture.heads (omega (arith, can.few)) in
     let short : line_count picture ≤ LINES_MAX = can.short in
     let small : end < 2 ^ 64 = omega arith in
-    let size = numbers_then (codes "width") (codes "height") width end refl refl (omega (arith, can.few)) small [] [] refl refl none in
-    let sized = more _ (codes "font-size") (codes "13") _ refl refl (plain_text (codes "13") refl) size in
+    let size = numbers_then (codes "width") (codes "height") width end refl refl (omega (arith, narrow)) small [] [] refl refl none in
+    let box : IsXmlText (codes "0 0 " ++ (decimal width ++ (codes " " ++ decimal end))) =
+    join (plain_text (codes "0 0 ") refl) (join (digits width (omega (arith, narrow))) (join (plain_text (codes " ") refl) (digits end small))) in
+    let boxed = more _ (codes "viewBox") _ _ refl refl box size in
+    let sized = more _ (codes "font-size") (codes "13") _ refl refl (plain_text (codes "13") refl) boxed in
     let faced = more _ (codes "font-family") (codes "monospace") _ refl refl (plain_text (codes "monospace") refl) sized in
     let styled = more _ (codes "style") (codes "background:white") _ refl refl (plain_text (codes "background:white") refl) faced in
     let spaced = more _ (codes "xml:space") (codes "preserve") _ refl refl (plain_text (codes "preserve") refl) styled in
@@ -209,6 +247,6 @@ svg_is_well_formed picture can bytes =
       content = _;
       is_named = refl;
       has_attributes = more _ (codes "xmlns") (codes "http://www.w3.org/2000/svg") _ refl refl (plain_text (codes "http://www.w3.org/2000/svg") refl) spaced;
-      has_content = line_end _ (headings_then 0 picture.heads _ (omega arith) bytes.heads columns);
+      has_content = line_end _ (about_then _ (headings_then 0 picture.heads _ (omega arith) bytes.heads columns));
       is = simp (append_assoc, append-nil);
     }

@@ -1,14 +1,18 @@
 -- How wide the lines of the text form are.
-use Rattle.std.proofs.Common.{◌≡◌, Bool, true, false, ℕ, zero, suc, ◌+◌, ◌-◌, ◌*◌, ◌<◌, ◌≤◌, List, ◌++◌, length, take, replicate, refl, lit<, arith}
+use Rattle.std.proofs.Common.{◌≡◌, Bool, true, false, ℕ, zero, suc, ◌+◌, ◌-◌, ◌*◌, ◌<◌, ◌≤◌, List, [], ◌++◌, length, take, replicate, refl, lit<, arith}
 use Rattle.std.specs.Prelude.{nat_le, if◌then◌else◌, codes}
 use Rattle.std.proofs.lemmas.Bool.Decides.{nat_tests}
 use Rattle.std.proofs.lemmas.List.{length-append, length-replicate, length-take-le}
 use Rattle.std.proofs.lemmas.Fmt.{length-decimal-le}
 use Rattle.step_text.specs.Words.{BLANK}
-use Rattle.drawings.specs.declared.text.TheConstants.{LINE_COLUMNS, MARK_COLUMNS}
+use Rattle.drawings.specs.declared.look.Colours.TheVariants.{Off}
+use Rattle.drawings.specs.declared.look.Legend.TheVariants as legend
+use Rattle.drawings.specs.declared.look.TheConstants.{COLUMNS_MIN}
+use Rattle.drawings.specs.declared.picture.Tone.{Tone}
+use Rattle.drawings.specs.declared.text.TheConstants.{MARK_COLUMNS}
 use Rattle.drawings.specs.Cells.{cut, fitted, to_right}
-use Rattle.drawings.specs.DrawingLaws.{RowsFit, MarksFit, HeadingFits}
-use Rattle.drawings.specs.Text.{cell_width, cells, row}
+use Rattle.drawings.specs.DrawingLaws.{RowsFit, MarksFit, HeadingFits, LegendFits}
+use Rattle.drawings.specs.Text.{cell_width, cell, cells, row}
 
 -- a fitted text takes its width
 length_fitted : (width : ℕ) (text : List ℕ) → 0 < width → length (fitted width text) ≡ width
@@ -30,15 +34,16 @@ length_fitted width text h = by (nat_le (length text) width) refl
         )
 
 -- each cell takes its width, and 3 columns before it
-length_cells : (actors width : ℕ) (shown : ℕ → List ℕ) → 0 < width → length (cells actors width shown) ≡ actors * (width + 3)
-length_cells zero width shown h = omega arith
-length_cells (suc actor) width shown h =
+length_cells : (actors width : ℕ) (tone : ℕ → Tone) (shown : ℕ → List ℕ) → 0 < width → length (cells actors width Off tone shown) ≡ actors * (width + 3)
+length_cells zero width tone shown h = omega arith
+length_cells (suc actor) width tone shown h =
     omega (
       arith,
-      length_cells actor width shown h,
+      length_cells actor width tone shown h,
       length_fitted width (shown actor) h,
-      length-append (cells actor width shown) (codes " | " ++ fitted width (shown actor)),
-      length-append (codes " | ") (fitted width (shown actor)),
+      length-append (cells actor width Off tone shown) (cell width Off (tone actor) (shown actor)),
+      length-append (codes " | ") (fitted width (shown actor) ++ []),
+      length-append (fitted width (shown actor)) [],
     )
 
 length_mark : (mark : List ℕ) → length mark ≤ MARK_COLUMNS → length (to_right MARK_COLUMNS mark) ≡ MARK_COLUMNS
@@ -46,25 +51,25 @@ length_mark mark h =
     omega (arith, length-append (replicate (MARK_COLUMNS - length mark) BLANK) mark, length-replicate (MARK_COLUMNS - length mark) BLANK)
 
 -- a line takes the mark, the cells, the last bar and the newline
-length_row : (actors : ℕ) (mark : List ℕ) (shown : ℕ → List ℕ) → 0 < cell_width actors → length mark ≤ MARK_COLUMNS
-    → length (row actors mark shown) ≡ 9 + actors * (cell_width actors + 3)
-length_row actors mark shown some h =
-    let all = cells actors (cell_width actors) shown in
+length_row : (actors columns : ℕ) (mark : List ℕ) (tone : ℕ → Tone) (shown : ℕ → List ℕ) → 0 < cell_width actors columns → length mark ≤ MARK_COLUMNS
+    → length (row actors columns Off mark tone shown) ≡ 9 + actors * (cell_width actors columns + 3)
+length_row actors columns mark tone shown some h =
+    let all = cells actors (cell_width actors columns) Off tone shown in
     omega (
       arith,
       length_mark mark h,
-      length_cells actors (cell_width actors) shown some,
+      length_cells actors (cell_width actors columns) tone shown some,
       length-append (to_right MARK_COLUMNS mark) (all ++ codes " |\n"),
       length-append all (codes " |\n"),
     )
 
 pub rows_fit : RowsFit
-rows_fit zero some few mark h shown = absurd (omega (arith, some))
-rows_fit (suc zero) some few mark h shown = omega (arith, length_row 1 mark shown (omega arith) h)
-rows_fit (suc (suc zero)) some few mark h shown = omega (arith, length_row 2 mark shown (omega arith) h)
-rows_fit (suc (suc (suc zero))) some few mark h shown = omega (arith, length_row 3 mark shown (omega arith) h)
-rows_fit (suc (suc (suc (suc zero)))) some few mark h shown = omega (arith, length_row 4 mark shown (omega arith) h)
-rows_fit (suc (suc (suc (suc (suc more))))) some few mark h shown = absurd (omega (arith, few))
+rows_fit zero some few columns enough mark h tone shown = absurd (omega (arith, some))
+rows_fit (suc zero) some few columns enough mark h tone shown = omega (arith, enough, length_row 1 columns mark tone shown (omega (arith, enough)) h)
+rows_fit (suc (suc zero)) some few columns enough mark h tone shown = omega (arith, enough, length_row 2 columns mark tone shown (omega (arith, enough)) h)
+rows_fit (suc (suc (suc zero))) some few columns enough mark h tone shown = omega (arith, enough, length_row 3 columns mark tone shown (omega (arith, enough)) h)
+rows_fit (suc (suc (suc (suc zero)))) some few columns enough mark h tone shown = omega (arith, enough, length_row 4 columns mark tone shown (omega (arith, enough)) h)
+rows_fit (suc (suc (suc (suc (suc more))))) some few columns enough mark h tone shown = absurd (omega (arith, few))
 
 pub marks_fit : MarksFit
 marks_fit moment small = length-decimal-le 6 moment (omega arith) small (omega arith)
@@ -81,4 +86,13 @@ length_cut width text h = by (nat_le (length text) width) refl
         omega (arith, length-append (take (width - 1) text) (codes "~"))
 
 pub heading_fits : HeadingFits
-heading_fits head = omega (arith, length_cut LINE_COLUMNS head.text (lit< tt), length-append (cut LINE_COLUMNS head.text) (codes "\n"))
+heading_fits columns enough head =
+    omega (
+      arith,
+      length_cut columns head.text (omega (arith, enough)),
+      length-append (cut columns head.text) (codes "\n"),
+    )
+
+pub legend_fits : LegendFits
+legend_fits legend.Off = omega arith
+legend_fits legend.NoCloses = omega arith

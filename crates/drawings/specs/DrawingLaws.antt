@@ -3,11 +3,15 @@ use Rattle.std.specs.Prelude.{◌<◌, ◌≤◌, ◌+◌, ◌^◌, ℕ, Some, I
 use Rattle.drawings.specs.declared.picture.TheConstants.{ACTORS_MAX}
 use Rattle.drawings.specs.declared.picture.Head.{Head}
 use Rattle.drawings.specs.declared.picture.Line.{Line}
-use Rattle.drawings.specs.declared.text.TheConstants.{LINE_COLUMNS, MARK_COLUMNS}
+use Rattle.drawings.specs.declared.look.Colours.TheVariants.{Off}
+use Rattle.drawings.specs.declared.look.Legend.{Legend}
+use Rattle.drawings.specs.declared.look.TheConstants.{COLUMNS_MIN}
+use Rattle.drawings.specs.declared.text.TheConstants.{MARK_COLUMNS}
+use Rattle.drawings.specs.declared.picture.Tone.{Tone}
 use Rattle.drawings.specs.Cells.{mark_of}
 use Rattle.drawings.specs.Picture.{Drawn, CanBeDrawn}
 use Rattle.drawings.specs.Svg.{xml_text, svg_of}
-use Rattle.drawings.specs.Text.{row, heading_row}
+use Rattle.drawings.specs.Text.{row, heading_row, legend_text}
 use Rattle.drawings.specs.Xml.{IsXmlText, IsDocument}
 
 abbrev pub AreBytes : List ℕ → Type 0
@@ -36,12 +40,18 @@ SvgIsWellFormed = (picture : Drawn) → CanBeDrawn picture → IsOfBytes picture
 abbrev pub MarksFit : Type 0
 MarksFit = (moment : ℕ) → moment < 10 ^ 6 → length (mark_of (Some moment)) ≤ MARK_COLUMNS
 
--- no line of the table is wider than 100 columns, whatever is shown; one byte more is the newline
+-- no line of the table is wider than the columns that there are, whatever is shown; one byte more is the newline, and
+-- without colours there is nothing else
 abbrev pub RowsFit : Type 0
-RowsFit = (actors : ℕ) → 0 < actors → actors ≤ ACTORS_MAX → (mark : List ℕ) → length mark ≤ MARK_COLUMNS
-    → (shown : ℕ → List ℕ)
-    → length (row actors mark shown) ≤ LINE_COLUMNS + 1
+RowsFit = (actors : ℕ) → 0 < actors → actors ≤ ACTORS_MAX → (columns : ℕ) → COLUMNS_MIN ≤ columns
+    → (mark : List ℕ) → length mark ≤ MARK_COLUMNS → (tone : ℕ → Tone) (shown : ℕ → List ℕ)
+    → length (row actors columns Off mark tone shown) ≤ columns + 1
 
 -- nor is a line of the heading
 abbrev pub HeadingFits : Type 0
-HeadingFits = (head : Head) → length (heading_row head) ≤ LINE_COLUMNS + 1
+HeadingFits = (columns : ℕ) → COLUMNS_MIN ≤ columns → (head : Head)
+    → length (heading_row columns Off head) ≤ columns + 1
+
+-- nor is what is said below it
+abbrev pub LegendFits : Type 0
+LegendFits = (legend : Legend) → length (legend_text legend) ≤ COLUMNS_MIN + 1

@@ -6,6 +6,7 @@ use Rattle.race_core.specs.declared.report.Outcome.TheVariants as ended
 use Rattle.tree_model.specs.declared.answer.Answer.{Answer}
 use Rattle.tree_model.specs.declared.answer.Answer.TheVariants as answer
 use Rattle.tree_model.specs.declared.answer.Event.{Event}
+use Rattle.tree_model.specs.declared.inode.Inode.{Inode}
 use Rattle.tree_model.specs.StepWith.{StepWith}
 use Rattle.tree_model.specs.declared.step.StepOf.TheVariants.{Close}
 use Rattle.tree_model.specs.History.{after_event}
@@ -19,9 +20,9 @@ use Rattle.drawings.specs.declared.picture.PictureFault.{PictureFault}
 use Rattle.drawings.specs.declared.picture.PictureFault.TheVariants.{Actors, Lines, NoMemory}
 use Rattle.drawings.specs.declared.picture.TheConstants.{ACTORS_MAX, LINES_MAX}
 use Rattle.drawings.specs.declared.picture.Tone.{Tone}
-use Rattle.drawings.specs.declared.picture.Tone.TheVariants.{Plain, Good, Bad}
+use Rattle.drawings.specs.declared.picture.Tone.TheVariants.{Plain, Good, Failed, Bad}
 use Rattle.drawings.specs.Events.{event_text}
-use Rattle.drawings.specs.Notes.{notes_below}
+use Rattle.drawings.specs.Notes.{notes_below, root_of, is_outside}
 use Rattle.drawings.specs.Places.{way_of, place_words}
 
 -- how many actors there are, the heading, and the lines
@@ -32,16 +33,29 @@ pub record Drawn : Type 0 where
 
 -- ---- the lines
 
--- a check says yes or no
-abbrev pub answer_tone : Answer → Tone
-answer_tone (answer.Names names) = Good
-answer_tone answer.NotBelow = Bad
-answer_tone other = Plain
+-- what is opened outside of a root is red
+abbrev pub tone_below : List Inode → Option ℕ → ℕ → Tone
+tone_below nodes None node = Plain
+tone_below nodes (Some root) node = if is_outside nodes root node then Bad else Plain
+
+-- the root is the actor's, wherever it stands by then
+abbrev pub opened_tone : State → State → ℕ → ℕ → Tone
+opened_tone opening s actor node = tone_below s.nodes (root_of opening actor) node
+
+-- a check says yes or no, or something is opened
+abbrev pub answer_tone : State → State → ℕ → Answer → Tone
+answer_tone opening s actor (answer.Names names) = Good
+answer_tone opening s actor answer.NotBelow = Bad
+answer_tone opening s actor (answer.Opened handle node kind) = opened_tone opening s actor node
+answer_tone opening s actor other = Plain
+
+abbrev pub event_tone : State → State → Event → Tone
+event_tone opening s event = answer_tone opening s event.actor event.answer
 
 -- an event at its moment, told in the tree just before it
-abbrev pub moment_line : State → ℕ → Event → Line
-moment_line s k event =
-    record { moment = Some k; actor = event.actor; tone = answer_tone event.answer; text = event_text s event }
+abbrev pub moment_line : State → State → ℕ → Event → Line
+moment_line opening s k event =
+    record { moment = Some k; actor = event.actor; tone = event_tone opening s event; text = event_text s event }
 
 -- a handle was closed, which changes nothing that is drawn
 abbrev pub is_plain_close : StepWith ℕ → Answer → Bool
@@ -60,7 +74,7 @@ line_if shown line = if shown then line ∷ [] else []
 -- and then the notes of the other actors
 abbrev pub moment_lines : Closes → ℕ → State → State → ℕ → Event → List Line
 moment_lines closes actors opening s k event =
-    line_if (is_shown closes event) (moment_line s k event)
+    line_if (is_shown closes event) (moment_line opening s k event)
     ++ notes_below opening s (after_event s event) event.actor actors
 
 -- those of all events from a tree on, their moments counted from k
@@ -82,9 +96,9 @@ root_head opening actor =
 
 abbrev pub reply_tone : Option Outcome → Tone
 reply_tone None = Plain
-reply_tone (Some (ended.Opened node kind names)) = Good
-reply_tone (Some (ended.Fault error)) = Bad
-reply_tone (Some other) = Plain
+reply_tone (Some (ended.Stepped given)) = Plain
+reply_tone (Some (ended.Fault error)) = Failed
+reply_tone (Some other) = Good
 
 -- how a call ended; a report has a reply for each
 abbrev pub reply_text : Option Outcome → List ℕ

@@ -1,13 +1,13 @@
 -- A picture as SVG (Scalable Vector Graphics 1.1, W3C).
-use Rattle.std.specs.Prelude.{Bool, ℕ, zero, suc, ◌+◌, ◌-◌, ◌*◌, ◌==◌, List, [], ◌++◌, length, nat_lt, if◌then◌else◌, is_some, codes, decimal}
+use Rattle.std.specs.Prelude.{Bool, ℕ, zero, suc, ◌+◌, ◌-◌, ◌*◌, ◌==◌, List, [], ◌∷◌, ◌++◌, length, nat_le, nat_lt, if◌then◌else◌, is_some, codes, decimal}
 use Rattle.std.specs.List.{flat_map}
 use Rattle.step_text.specs.Output.{escaped_byte}
 use Rattle.report_text.specs.Report.{numbered}
 use Rattle.drawings.specs.declared.picture.Head.{Head}
 use Rattle.drawings.specs.declared.picture.Line.{Line}
 use Rattle.drawings.specs.declared.picture.Tone.{Tone}
-use Rattle.drawings.specs.declared.picture.Tone.TheVariants.{Plain, Good, Bad}
-use Rattle.drawings.specs.declared.svg.TheConstants.{SHOWN_MAX}
+use Rattle.drawings.specs.declared.picture.Tone.TheVariants.{Plain, Good, Failed, Bad}
+use Rattle.drawings.specs.declared.svg.TheConstants.{SHOWN_MAX, HEAD_MAX}
 use Rattle.drawings.specs.Cells.{cut, mark_of, actor_name}
 use Rattle.drawings.specs.Picture.{Drawn, line_count}
 
@@ -30,10 +30,11 @@ xml_text bs = flat_map xml_byte bs
 abbrev pub tag : List ℕ → ℕ → List ℕ → ℕ → List ℕ → List ℕ
 tag first x second y last = first ++ (decimal x ++ (second ++ (decimal y ++ last)))
 
--- what ends the opening tag of a text: what is well is green, and what isn't is red
+-- what ends the opening tag of a text: what is well is green, what failed is brown, and what stands outside is red
 abbrev pub tone_end : Tone → List ℕ
 tone_end Plain = codes "'>"
 tone_end Good = codes "' fill='#1a7f37'>"
+tone_end Failed = codes "' fill='#9a6700'>"
 tone_end Bad = codes "' fill='#c0182b'>"
 
 -- a text that begins at a place
@@ -59,7 +60,7 @@ line_y at = 66 + 22 * at
 
 -- a line of the heading by its place
 abbrev pub svg_heading : ℕ → Head → List ℕ
-svg_heading at head = text_at 8 (heading_y at) head.tone (cut SHOWN_MAX head.text)
+svg_heading at head = text_at 8 (heading_y at) head.tone (cut HEAD_MAX head.text)
 
 abbrev pub svg_headings : List Head → List ℕ
 svg_headings heads = numbered svg_heading 0 heads
@@ -104,15 +105,38 @@ svg_line actors at line = text_at 8 (line_y at) Plain (mark_of line.moment) ++ s
 abbrev pub svg_lines : ℕ → ℕ → List Line → List ℕ
 svg_lines actors heads lines = numbered (λ at line. svg_line actors (heads + at) line) 0 lines
 
+-- a line of the heading has a margin, and 8 for each byte
+abbrev pub heading_width : Head → ℕ
+heading_width head = 16 + 8 * (if nat_le (length head.text) HEAD_MAX then length head.text else HEAD_MAX)
+
+abbrev pub wider : ℕ → ℕ → ℕ
+wider width other = if nat_lt width other then other else width
+
+-- the widest of a width and the lines of the heading
+abbrev pub widest : ℕ → List Head → ℕ
+widest width [] = width
+widest width (head ∷ heads) = widest (wider width (heading_width head)) heads
+
+-- the columns of the actors, or the heading where that is wider
+abbrev pub svg_width : Drawn → ℕ
+svg_width picture = widest (48 + 494 * picture.actors) picture.heads
+
 -- the opening tag; blanks at the beginning of a text count
 unfoldable pub svg_head : ℕ → ℕ → List ℕ
 svg_head width height =
-    tag (codes "<svg xmlns='http://www.w3.org/2000/svg' xml:space='preserve' style='background:white' font-family='monospace' font-size='13' width='") width (codes "' height='") height
-    (codes "'>\n")
+    tag (codes "<svg xmlns='http://www.w3.org/2000/svg' xml:space='preserve' style='background:white' font-family='monospace' font-size='13' viewBox='0 0 ") width (codes " ") height
+    (codes "' width='")
+    ++ tag [] width (codes "' height='") height (codes "'>\n")
+
+-- what the picture is, and what its colours say
+unfoldable pub about : List ℕ
+about =
+    codes "<title>A run of calls below a root</title>\n"
+    ++ codes "<desc>A column for each actor, and a line for each step at its moment. Red: what is outside of the root is opened or held, or a check says no. Green: a check says yes, or a call did what it was to do. Brown: a call failed. Where a moment is missing, an actor closed a handle.</desc>\n"
 
 abbrev pub svg_of : Drawn → List ℕ
 svg_of picture =
     let heads = length picture.heads in
     let end = line_y (line_count picture) in
-    svg_head (48 + 494 * picture.actors) end ++ (svg_headings picture.heads ++ (svg_columns heads end picture.actors
-    ++ (svg_lines picture.actors heads picture.lines ++ codes "</svg>\n")))
+    svg_head (svg_width picture) end ++ (about ++ (svg_headings picture.heads ++ (svg_columns heads end picture.actors
+    ++ (svg_lines picture.actors heads picture.lines ++ codes "</svg>\n"))))

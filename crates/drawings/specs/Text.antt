@@ -1,43 +1,88 @@
 -- A picture as text: its heading, and a table with a row for each line and a column for each actor.
-use Rattle.std.specs.Prelude.{ℕ, zero, suc, ◌-◌, ◌/◌, ◌==◌, List, [], ◌++◌, if◌then◌else◌, codes}
+use Rattle.std.specs.Prelude.{ℕ, zero, suc, ◌-◌, ◌/◌, ◌==◌, List, [], ◌∷◌, ◌++◌, if◌then◌else◌, codes}
 use Rattle.std.specs.List.{flat_map}
+use Rattle.drawings.specs.declared.look.Colours.{Colours}
+use Rattle.drawings.specs.declared.look.Colours.TheVariants.{Off, On}
+use Rattle.drawings.specs.declared.look.Legend.{Legend}
+use Rattle.drawings.specs.declared.look.Legend.TheVariants as legend
+use Rattle.drawings.specs.declared.look.Look.{Look}
 use Rattle.drawings.specs.declared.picture.Head.{Head}
 use Rattle.drawings.specs.declared.picture.Line.{Line}
-use Rattle.drawings.specs.declared.text.TheConstants.{LINE_COLUMNS, MARK_COLUMNS}
+use Rattle.drawings.specs.declared.picture.Tone.{Tone}
+use Rattle.drawings.specs.declared.picture.Tone.TheVariants.{Plain, Good, Failed, Bad}
+use Rattle.drawings.specs.declared.text.TheConstants.{MARK_COLUMNS}
 use Rattle.drawings.specs.Cells.{cut, fitted, to_right, mark_of, actor_name}
 use Rattle.drawings.specs.Picture.{Drawn}
 
 -- the mark and the last bar take 8 columns, and the bar before a cell 3
-abbrev pub cell_width : ℕ → ℕ
-cell_width actors = (LINE_COLUMNS - 8) / actors - 3
+abbrev pub cell_width : ℕ → ℕ → ℕ
+cell_width actors columns = (columns - 8) / actors - 3
+
+-- Select Graphic Rendition (ECMA-48, 8.3.117): green, yellow and red
+abbrev pub tone_begin : Colours → Tone → List ℕ
+tone_begin Off tone = []
+tone_begin On Plain = []
+tone_begin On Good = 0x1b ∷ codes "[32m"
+tone_begin On Failed = 0x1b ∷ codes "[33m"
+tone_begin On Bad = 0x1b ∷ codes "[31m"
+
+abbrev pub tone_end : Colours → Tone → List ℕ
+tone_end Off tone = []
+tone_end On Plain = []
+tone_end On Good = 0x1b ∷ codes "[0m"
+tone_end On Failed = 0x1b ∷ codes "[0m"
+tone_end On Bad = 0x1b ∷ codes "[0m"
+
+-- a bar, and a text in its colour
+abbrev pub cell : ℕ → Colours → Tone → List ℕ → List ℕ
+cell width colours tone text =
+    codes " | " ++ (tone_begin colours tone ++ (fitted width text ++ tone_end colours tone))
 
 -- the cells of the actors below that number
-abbrev pub cells : ℕ → ℕ → (ℕ → List ℕ) → List ℕ
-cells zero width shown = []
-cells (suc actor) width shown = cells actor width shown ++ (codes " | " ++ fitted width (shown actor))
+abbrev pub cells : ℕ → ℕ → Colours → (ℕ → Tone) → (ℕ → List ℕ) → List ℕ
+cells zero width colours tone shown = []
+cells (suc actor) width colours tone shown =
+    cells actor width colours tone shown ++ cell width colours (tone actor) (shown actor)
 
 -- a mark, and what is shown of each actor
-abbrev pub row : ℕ → List ℕ → (ℕ → List ℕ) → List ℕ
-row actors mark shown = to_right MARK_COLUMNS mark ++ (cells actors (cell_width actors) shown ++ codes " |\n")
+abbrev pub row : ℕ → ℕ → Colours → List ℕ → (ℕ → Tone) → (ℕ → List ℕ) → List ℕ
+row actors columns colours mark tone shown =
+    to_right MARK_COLUMNS mark ++ (cells actors (cell_width actors columns) colours tone shown ++ codes " |\n")
 
 -- the names of the columns
-abbrev pub head_row : ℕ → List ℕ
-head_row actors = row actors [] actor_name
+abbrev pub no_tone : ℕ → Tone
+no_tone actor = Plain
+
+abbrev pub head_row : ℕ → ℕ → List ℕ
+head_row actors columns = row actors columns Off [] no_tone actor_name
 
 -- a line's text in the column of its actor
 abbrev pub shown : Line → ℕ → List ℕ
 shown line actor = if actor == line.actor then line.text else []
 
-abbrev pub line_row : ℕ → Line → List ℕ
-line_row actors line = row actors (mark_of line.moment) (shown line)
+abbrev pub tone_shown : Line → ℕ → Tone
+tone_shown line actor = if actor == line.actor then line.tone else Plain
+
+abbrev pub line_row : ℕ → ℕ → Colours → Line → List ℕ
+line_row actors columns colours line =
+    row actors columns colours (mark_of line.moment) (tone_shown line) (shown line)
 
 -- a line of the heading
-abbrev pub heading_row : Head → List ℕ
-heading_row head = cut LINE_COLUMNS head.text ++ codes "\n"
+abbrev pub heading_row : ℕ → Colours → Head → List ℕ
+heading_row columns colours head =
+    tone_begin colours head.tone ++ (cut columns head.text ++ (tone_end colours head.tone ++ codes "\n"))
 
-abbrev pub table : Drawn → List ℕ
-table picture = head_row picture.actors ++ flat_map (line_row picture.actors) picture.lines
+-- what is said below the heading
+abbrev pub legend_text : Legend → List ℕ
+legend_text legend.Off = []
+legend_text legend.NoCloses = codes "closes are left out (--all shows them)\n"
+
+abbrev pub table : ℕ → Colours → Drawn → List ℕ
+table columns colours picture =
+    head_row picture.actors columns ++ flat_map (line_row picture.actors columns colours) picture.lines
 
 -- an empty line stands between the heading and the table
-abbrev pub text_of : Drawn → List ℕ
-text_of picture = flat_map heading_row picture.heads ++ (codes "\n" ++ table picture)
+abbrev pub text_of : Look → Drawn → List ℕ
+text_of look picture =
+    flat_map (heading_row look.columns.count look.colours) picture.heads
+    ++ (legend_text look.legend ++ (codes "\n" ++ table look.columns.count look.colours picture))

@@ -36,9 +36,9 @@ fn reply_tone(reply: Option<&Outcome>) -> Tone
     ensures { result ≡ reply_tone (option_copied reply.entry) }
 {
     match reply {
-        Some(Outcome::Opened { .. }) => Tone::Good,
-        Some(Outcome::Fault(_)) => Tone::Bad,
-        _ => Tone::Plain,
+        Some(Outcome::Fault(_)) => Tone::Failed,
+        Some(Outcome::Stepped(_)) | None => Tone::Plain,
+        Some(_) => Tone::Good,
     }
 }
 

@@ -27,8 +27,8 @@ fn newest_in(actor: Actor, handles: &[Option<OpenHandle>]) -> Option<Node>
     newest
 }
 
-// Whether a node stands in the tree, and neither is a root nor stands below it.
-fn is_outside(nodes: &[Inode], root: Node, x: Node) -> bool
+/// Whether a node stands in the tree, and neither is a root nor stands below it.
+pub(crate) fn is_outside(nodes: &[Inode], root: Node, x: Node) -> bool
     ensures { result ≡ is_outside nodes.now root x }
 {
     is_within(nodes, top(), x) && !is_within(nodes, root, x)

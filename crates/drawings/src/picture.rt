@@ -1,13 +1,14 @@
 //! A picture as its heading and its lines.
 ghost use Rattle.std.specs.Prelude.{◌≡◌, ◌<◌, ◌≤◌, ◌++◌, IfOk, IfErr, OnOk};
 ghost use Rattle.tree_model.specs.History.{after_event};
-ghost use Rattle.drawings.specs.Picture.{answer_tone, moment_line, is_shown, line_if, moment_lines, lines_from, drawn_of, CanBeDrawn, IsPictureFault};
+ghost use Rattle.drawings.specs.Picture.{opened_tone, event_tone, moment_line, is_shown, line_if, moment_lines, lines_from, drawn_of, CanBeDrawn, IsPictureFault};
 ghost use Rattle.drawings.specs.declared.picture.PictureFault.TheVariants as picture_fault;
 
 use crate::calls::CallWords;
 use crate::events::event_text;
 use crate::heading::heads_of;
-use crate::notes::add_notes;
+use crate::notes::{add_notes, is_outside};
+use crate::places::held;
 use event_log::EventLog;
 use path_text::NoMemory;
 use race_core::Outcomes;
@@ -16,7 +17,7 @@ use std::marker::Model;
 use step_text::Output;
 use thiserror::Error;
 use tree_list::ListTree;
-use tree_model::{Answer, Event, Snapshot, StepOf, Tree};
+use tree_model::{Actor, Answer, Event, HandleNo, Node, Snapshot, StepOf, Tree};
 
 /// The most actors that are drawn.
 pub const ACTORS_MAX: u64 = 4;
@@ -28,9 +29,11 @@ pub const LINES_MAX: usize = 2000;
 #[derive(Clone, Copy, Debug, PartialEq, Eq)]
 pub enum Tone {
     Plain,
-    /// All is where it should be.
+    /// A call did what it was to do, or what was asked for stands below the root.
     Good,
-    /// A call failed, or something is where it should not be.
+    /// A call failed.
+    Failed,
+    /// Something is opened or held outside of the root, or doesn't stand below it.
     Bad,
 }
 
@@ -99,27 +102,50 @@ impl From<NoMemory> for PictureFault {
     }
 }
 
-// How an answer looks.
-fn answer_tone(answer: &Answer) -> Tone
-    ensures { result ≡ answer_tone answer.now }
+// How it looks that an actor opened a node.
+fn opened_tone(opening: &Snapshot, tree: &Snapshot, actor: Actor, node: Node) -> Tone
+    ensures { result ≡ opened_tone opening.now tree.now actor node }
 {
-    match answer {
+    match held(opening, actor, HandleNo::new(u64::from(actor.number()))) {
+        Some(root) => {
+            if is_outside(tree.nodes(), root, node) {
+                Tone::Bad
+            } else {
+                Tone::Plain
+            }
+        }
+        None => Tone::Plain,
+    }
+}
+
+// How an event looks, in the tree just before it.
+fn event_tone(opening: &Snapshot, tree: &Snapshot, event: &Event) -> Tone
+    ensures { result ≡ event_tone opening.now tree.now event.now }
+{
+    match &event.answer {
         Answer::Names(_) => Tone::Good,
         Answer::NotBelow => Tone::Bad,
+        Answer::Opened { node, .. } => opened_tone(opening, tree, event.actor, *node),
         _ => Tone::Plain,
     }
 }
 
 // The line of an event, told in the tree just before it.
-fn moment_line(alloc: Global, tree: &Snapshot, moment: u64, event: &Event) -> Result<Line, NoMemory>
-    ensures { IfOk result (λ line. line ≡ moment_line tree.now moment event.now) }
+fn moment_line(
+    alloc: Global,
+    opening: &Snapshot,
+    tree: &Snapshot,
+    moment: u64,
+    event: &Event,
+) -> Result<Line, NoMemory>
+    ensures { IfOk result (λ line. line ≡ moment_line opening.now tree.now moment event.now) }
 {
     let mut text = Output::new(alloc);
     event_text(alloc, &mut text, tree, event)?;
     Ok(Line {
         moment: Some(moment),
         actor: u64::from(event.actor.number()),
-        tone: answer_tone(&event.answer),
+        tone: event_tone(opening, tree, event),
         text,
     })
 }
@@ -139,15 +165,16 @@ fn add_line(
     alloc: Global,
     lines: &mut Vec<Line>,
     closes: Closes,
+    opening: &Snapshot,
     before: &Snapshot,
     moment: u64,
     event: &Event,
 ) -> Result<(), NoMemory>
-    ensures { OnOk result (lines.new.items
-        ≡ lines.old.items ++ line_if (is_shown closes event.now) (moment_line before.now moment event.now)) }
+    ensures { OnOk result (lines.new.items ≡ lines.old.items
+        ++ line_if (is_shown closes event.now) (moment_line opening.now before.now moment event.now)) }
 {
     if is_shown(closes, event) {
-        let line = moment_line(alloc, before, moment, event)?;
+        let line = moment_line(alloc, opening, before, moment, event)?;
         lines.push(line)?;
     }
     Ok(())
@@ -170,7 +197,7 @@ fn add_moment(
     ensures { OnOk result (lines.new.items
         ≡ lines.old.items ++ moment_lines closes actors opening.now before.now moment event.now) }
 {
-    add_line(alloc, lines, closes, before, moment, event)?;
+    add_line(alloc, lines, closes, opening, before, moment, event)?;
     add_notes(alloc, lines, opening, before, after, event.actor, actors)
 }
 

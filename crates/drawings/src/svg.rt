@@ -4,7 +4,7 @@ ghost use Rattle.step_text.specs.Output.{Gains};
 ghost use Rattle.drawings.specs.declared.picture.Head.{Head as HeadValue};
 ghost use Rattle.drawings.specs.DrawingLaws.{AreBytes, IsLine};
 ghost use Rattle.drawings.specs.Xml.{IsDocument};
-ghost use Rattle.drawings.specs.Svg.{tag, xml_byte, xml_text, tone_end, text_at, life_line, column_x, names_y, heading_y, line_y, svg_heading, svg_headings, svg_column, svg_columns, svg_dot, dot_if, svg_place, svg_line, svg_lines, svg_head, svg_of};
+ghost use Rattle.drawings.specs.Svg.{tag, xml_byte, xml_text, tone_end, text_at, life_line, column_x, names_y, heading_y, line_y, svg_heading, svg_headings, svg_column, svg_columns, svg_dot, dot_if, svg_place, svg_line, svg_lines, heading_width, wider, widest, svg_head, about, svg_of};
 
 use crate::cells::{actor_name, cut, mark_of};
 use crate::picture::{ACTORS_MAX, Head, LINES_MAX, Line, Picture, Tone};
@@ -12,8 +12,11 @@ use path_text::NoMemory;
 use std::alloc::Global;
 use step_text::Output;
 
-/// How many bytes of a text are shown.
+/// How many bytes of a line are shown.
 pub const SHOWN_MAX: usize = 55;
+
+/// How many bytes of a line of the heading are shown.
+pub const HEAD_MAX: usize = 1000;
 
 // Adds one byte of a text: what XML takes for markup as its entity (XML 1.0, section 4.6), a blank and any other
 // printed byte as it is, and the rest as `\x` and two hexadecimal digits.
@@ -67,6 +70,7 @@ fn tone_end(tone: Tone) -> &'static str
     match tone {
         Tone::Plain => "'>",
         Tone::Good => "' fill='#1a7f37'>",
+        Tone::Failed => "' fill='#9a6700'>",
         Tone::Bad => "' fill='#c0182b'>",
     }
 }
@@ -124,7 +128,7 @@ fn heading(out: &mut Output, alloc: Global, at: usize, head: &Head) -> Result<()
 {
     let mut text = Output::new(alloc);
     let whole = head.text.as_slice();
-    cut(&mut text, SHOWN_MAX, whole)?;
+    cut(&mut text, HEAD_MAX, whole)?;
     text_at(out, 8, heading_y(at), head.tone, text.as_slice())
 }
 
@@ -257,6 +261,36 @@ fn lines(
     Ok(())
 }
 
+// How wide a line of the heading is.
+fn heading_width(head: &Head) -> u64
+    ensures width { result ≡ heading_width head.now }
+    ensures small { result ≤ 8016 }
+{
+    let whole = head.text.as_slice().len();
+    let shown = if whole <= HEAD_MAX { whole } else { HEAD_MAX };
+    16 + 8 * shown as u64
+}
+
+// The greater of two widths.
+fn wider(width: u64, other: u64) -> u64
+    ensures { result ≡ wider width other }
+{
+    if width < other { other } else { width }
+}
+
+// How wide a picture is that has this width for its columns: no line of the heading is wider.
+fn widest(columns: u64, heads: &[Head]) -> u64
+    requires { columns ≤ 8016 }
+    ensures width { result ≡ widest columns heads.now }
+    ensures small { result ≤ 8016 }
+{
+    let mut width = columns;
+    for head in heads {
+        width = wider(width, heading_width(head));
+    }
+    width
+}
+
 // Adds the opening tag.
 #[tactic(auto, unfolding(crate::specs::Svg::svg_head))]
 fn head(out: &mut Output, width: u64, height: u64) -> Result<(), NoMemory>
@@ -264,18 +298,31 @@ fn head(out: &mut Output, width: u64, height: u64) -> Result<(), NoMemory>
 {
     tag(
         out,
-        "<svg xmlns='http://www.w3.org/2000/svg' xml:space='preserve' style='background:white' font-family='monospace' font-size='13' width='",
+        "<svg xmlns='http://www.w3.org/2000/svg' xml:space='preserve' style='background:white' font-family='monospace' font-size='13' viewBox='0 0 ",
         width,
-        "' height='",
+        " ",
         height,
-        "'>\n",
+        "' width='",
+    )?;
+    tag(out, "", width, "' height='", height, "'>\n")
+}
+
+// Adds what the picture is, and what its colours say.
+#[tactic(auto, unfolding(crate::specs::Svg::about))]
+fn about(out: &mut Output) -> Result<(), NoMemory>
+    ensures { Gains out.old out.new about result }
+{
+    out.text("<title>A run of calls below a root</title>\n")?;
+    out.text(
+        "<desc>A column for each actor, and a line for each step at its moment. Red: what is outside of the root is opened or held, or a check says no. Green: a check says yes, or a call did what it was to do. Brown: a call failed. Where a moment is missing, an actor closed a handle.</desc>\n",
     )
 }
 
 impl Picture {
-    /// Adds the picture as SVG, in ASCII: the heading's lines, for each actor its name and a life line, and each
-    /// line's moment, dot and text. A text over 55 bytes is cut, and ends in a tilde. What is well is green, and
-    /// what isn't is red. No byte of a text stands as markup: `&`, `<`, `>` and the quotation marks are entities.
+    /// Adds the picture as SVG, in ASCII: what it is, the heading's lines, for each actor its name and a life line,
+    /// and each line's moment, dot and text. The picture is as wide as its heading. A text over 55 bytes is cut, and
+    /// ends in a tilde; of the heading one over 1,000. What is well is green, what failed is brown, and what stands
+    /// outside is red. No byte of a text stands as markup: `&`, `<`, `>` and the quotation marks are entities.
     /// NoMemory where its room was refused.
     pub fn svg(&self, alloc: Global, out: &mut Output) -> Result<(), NoMemory>
         ensures told { Gains out.old out.new (svg_of self.now) result }
@@ -283,7 +330,8 @@ impl Picture {
     {
         let heads = self.heads.len();
         let end = line_y(heads + self.lines.len());
-        head(out, 48 + 494 * self.actors, end)?;
+        head(out, widest(48 + 494 * self.actors, &self.heads), end)?;
+        about(out)?;
         headings(alloc, out, &self.heads)?;
         columns(alloc, out, heads, end, self.actors)?;
         lines(alloc, out, self.actors, heads, &self.lines)?;

@@ -2,48 +2,79 @@
 ghost use Rattle.std.specs.Prelude.{◌≡◌, ◌<◌, ◌≤◌, ◌++◌, codes};
 ghost use Rattle.std.specs.List.{flat_map};
 ghost use Rattle.step_text.specs.Output.{Gains};
-ghost use Rattle.drawings.specs.Cells.{fitted, actor_name};
-ghost use Rattle.drawings.specs.Text.{cell_width, shown, cells, head_row, line_row, heading_row, table, text_of};
+ghost use Rattle.drawings.specs.declared.look.TheConstants.{COLUMNS_MIN};
+ghost use Rattle.drawings.specs.declared.look.Colours.TheVariants.{Off};
+ghost use Rattle.drawings.specs.Cells.{actor_name};
+ghost use Rattle.drawings.specs.Text.{cell_width, tone_begin, tone_end, cell, no_tone, shown, tone_shown, cells, head_row, line_row, heading_row, legend_text, table, text_of};
 
 use crate::cells::{actor_name, cut, fitted, mark_of, to_right};
-use crate::picture::{ACTORS_MAX, Head, Line, Picture};
+use crate::look::{Colours, Legend, Look};
+use crate::picture::{ACTORS_MAX, Head, Line, Picture, Tone};
 use path_text::NoMemory;
 use std::alloc::Global;
 use step_text::Output;
-
-/// How wide a line is at most, without the newline.
-pub const LINE_COLUMNS: usize = 100;
 
 /// How wide the moment at the beginning of a line is.
 pub const MARK_COLUMNS: usize = 6;
 
 // How wide the cell of each actor is.
-fn cell_width(actors: u64) -> usize
+fn cell_width(actors: u64, columns: usize) -> usize
     requires some { 0 < actors }
     requires few { actors ≤ ACTORS_MAX }
-    ensures width { result ≡ cell_width actors }
+    requires enough { COLUMNS_MIN ≤ columns }
+    ensures width { result ≡ cell_width actors columns }
     ensures some { 0 < result }
 {
-    (LINE_COLUMNS - 8) / actors as usize - 3
+    (columns - 8) / actors as usize - 3
+}
+
+// What a terminal takes for the colour of a tone, and none where it has none.
+fn tone_begin(colours: Colours, tone: Tone) -> &'static str
+    ensures { result.now ≡ tone_begin colours tone }
+{
+    match (colours, tone) {
+        (Colours::Off, _) | (Colours::On, Tone::Plain) => "",
+        (Colours::On, Tone::Good) => "\x1b[32m",
+        (Colours::On, Tone::Failed) => "\x1b[33m",
+        (Colours::On, Tone::Bad) => "\x1b[31m",
+    }
+}
+
+// What ends it.
+fn tone_end(colours: Colours, tone: Tone) -> &'static str
+    ensures { result.now ≡ tone_end colours tone }
+{
+    match (colours, tone) {
+        (Colours::Off, _) | (Colours::On, Tone::Plain) => "",
+        (Colours::On, _) => "\x1b[0m",
+    }
 }
 
 // Adds a bar and a cell.
-fn cell(out: &mut Output, width: usize, text: &[u8]) -> Result<(), NoMemory>
+fn cell(
+    out: &mut Output,
+    width: usize,
+    colours: Colours,
+    tone: Tone,
+    text: &[u8],
+) -> Result<(), NoMemory>
     requires { 0 < width }
-    ensures { Gains out.old out.new (codes " | " ++ fitted width text.now) result }
+    ensures { Gains out.old out.new (cell width colours tone text.now) result }
 {
     out.text(" | ")?;
-    fitted(out, width, text)
+    out.text(tone_begin(colours, tone))?;
+    fitted(out, width, text)?;
+    out.text(tone_end(colours, tone))
 }
 
 // Adds the name of each actor.
 fn names(alloc: Global, out: &mut Output, actors: u64, width: usize) -> Result<(), NoMemory>
     requires { 0 < width }
-    ensures { Gains out.old out.new (cells actors width actor_name) result }
+    ensures { Gains out.old out.new (cells actors width Off no_tone actor_name) result }
 {
     for actor in 0..actors {
         let name = actor_name(alloc, actor)?;
-        cell(out, width, name.as_slice())?;
+        cell(out, width, Colours::Off, Tone::Plain, name.as_slice())?;
     }
     Ok(())
 }
@@ -59,87 +90,157 @@ fn shown(line: &Line, actor: u64) -> &[u8]
     }
 }
 
+// How it looks.
+fn tone_shown(line: &Line, actor: u64) -> Tone
+    ensures { result ≡ tone_shown line.now actor }
+{
+    if actor == line.actor {
+        line.tone
+    } else {
+        Tone::Plain
+    }
+}
+
 // Adds a line's cell of each actor.
-fn cells(out: &mut Output, actors: u64, width: usize, line: &Line) -> Result<(), NoMemory>
+fn cells(
+    out: &mut Output,
+    actors: u64,
+    width: usize,
+    colours: Colours,
+    line: &Line,
+) -> Result<(), NoMemory>
     requires { 0 < width }
-    ensures { Gains out.old out.new (cells actors width (shown line.now)) result }
+    ensures { Gains out.old out.new (cells actors width colours (tone_shown line.now) (shown line.now)) result }
 {
     for actor in 0..actors {
-        cell(out, width, shown(line, actor))?;
+        let tone = tone_shown(line, actor);
+        cell(out, width, colours, tone, shown(line, actor))?;
     }
     Ok(())
 }
 
 // Adds the names of the columns.
-fn head_row(alloc: Global, out: &mut Output, actors: u64) -> Result<(), NoMemory>
+fn head_row(alloc: Global, out: &mut Output, actors: u64, columns: usize) -> Result<(), NoMemory>
     requires some { 0 < actors }
     requires few { actors ≤ ACTORS_MAX }
-    ensures { Gains out.old out.new (head_row actors) result }
+    requires enough { COLUMNS_MIN ≤ columns }
+    ensures { Gains out.old out.new (head_row actors columns) result }
 {
     to_right(out, MARK_COLUMNS, &[])?;
-    names(alloc, out, actors, cell_width(actors))?;
+    names(alloc, out, actors, cell_width(actors, columns))?;
     out.text(" |\n")
 }
 
 // Adds a line.
-fn line_row(alloc: Global, out: &mut Output, actors: u64, line: &Line) -> Result<(), NoMemory>
+fn line_row(
+    alloc: Global,
+    out: &mut Output,
+    actors: u64,
+    columns: usize,
+    colours: Colours,
+    line: &Line,
+) -> Result<(), NoMemory>
     requires some { 0 < actors }
     requires few { actors ≤ ACTORS_MAX }
-    ensures { Gains out.old out.new (line_row actors line.now) result }
+    requires enough { COLUMNS_MIN ≤ columns }
+    ensures { Gains out.old out.new (line_row actors columns colours line.now) result }
 {
     let mark = mark_of(alloc, line.moment)?;
     to_right(out, MARK_COLUMNS, mark.as_slice())?;
-    cells(out, actors, cell_width(actors), line)?;
+    cells(out, actors, cell_width(actors, columns), colours, line)?;
     out.text(" |\n")
 }
 
 // Adds all lines.
-fn line_rows(alloc: Global, out: &mut Output, actors: u64, lines: &[Line]) -> Result<(), NoMemory>
+fn line_rows(
+    alloc: Global,
+    out: &mut Output,
+    actors: u64,
+    columns: usize,
+    colours: Colours,
+    lines: &[Line],
+) -> Result<(), NoMemory>
     requires some { 0 < actors }
     requires few { actors ≤ ACTORS_MAX }
-    ensures { Gains out.old out.new (flat_map (line_row actors) lines.now) result }
+    requires enough { COLUMNS_MIN ≤ columns }
+    ensures { Gains out.old out.new (flat_map (line_row actors columns colours) lines.now) result }
 {
     for line in lines {
-        line_row(alloc, out, actors, line)?;
+        line_row(alloc, out, actors, columns, colours, line)?;
     }
     Ok(())
 }
 
 // Adds a line of the heading.
-fn heading_row(out: &mut Output, head: &Head) -> Result<(), NoMemory>
-    ensures { Gains out.old out.new (heading_row head.now) result }
+fn heading_row(
+    out: &mut Output,
+    columns: usize,
+    colours: Colours,
+    head: &Head,
+) -> Result<(), NoMemory>
+    requires { COLUMNS_MIN ≤ columns }
+    ensures { Gains out.old out.new (heading_row columns colours head.now) result }
 {
-    cut(out, LINE_COLUMNS, head.text.as_slice())?;
+    out.text(tone_begin(colours, head.tone))?;
+    cut(out, columns, head.text.as_slice())?;
+    out.text(tone_end(colours, head.tone))?;
     out.text("\n")
 }
 
 // Adds the heading.
-fn heading_rows(out: &mut Output, heads: &[Head]) -> Result<(), NoMemory>
-    ensures { Gains out.old out.new (flat_map heading_row heads.now) result }
+fn heading_rows(
+    out: &mut Output,
+    columns: usize,
+    colours: Colours,
+    heads: &[Head],
+) -> Result<(), NoMemory>
+    requires { COLUMNS_MIN ≤ columns }
+    ensures { Gains out.old out.new (flat_map (heading_row columns colours) heads.now) result }
 {
     for head in heads {
-        heading_row(out, head)?;
+        heading_row(out, columns, colours, head)?;
     }
     Ok(())
 }
 
+// What is said below the heading.
+fn legend_text(legend: Legend) -> &'static str
+    ensures { result.now ≡ legend_text legend }
+{
+    match legend {
+        Legend::Off => "",
+        Legend::NoCloses => "closes are left out (--all shows them)\n",
+    }
+}
+
 impl Picture {
     // Adds the table.
-    fn table(&self, alloc: Global, out: &mut Output) -> Result<(), NoMemory>
-        ensures { Gains out.old out.new (table self.now) result }
+    fn table(
+        &self,
+        alloc: Global,
+        out: &mut Output,
+        columns: usize,
+        colours: Colours,
+    ) -> Result<(), NoMemory>
+        requires { COLUMNS_MIN ≤ columns }
+        ensures { Gains out.old out.new (table columns colours self.now) result }
     {
-        head_row(alloc, out, self.actors)?;
-        line_rows(alloc, out, self.actors, &self.lines)
+        head_row(alloc, out, self.actors, columns)?;
+        line_rows(alloc, out, self.actors, columns, colours, &self.lines)
     }
 
     /// Adds the picture as text: its heading, an empty line, and a table: the columns' names, and then each line,
-    /// with its moment and a column for each actor. No line is wider than 100 columns: a text that is too wide is
-    /// cut, and ends in a tilde. NoMemory where its room was refused.
-    pub fn text(&self, alloc: Global, out: &mut Output) -> Result<(), NoMemory>
-        ensures { Gains out.old out.new (text_of self.now) result }
+    /// with its moment and a column for each actor. No line is wider than the columns that `look` has: a text that is
+    /// too wide is cut, and ends in a tilde. With colours what begins and ends one stands around a line of the heading
+    /// and a cell: what is well is green, what failed is yellow, and what stands outside is red. NoMemory where its
+    /// room was refused.
+    pub fn text(&self, alloc: Global, out: &mut Output, look: Look) -> Result<(), NoMemory>
+        ensures { Gains out.old out.new (text_of look self.now) result }
     {
-        heading_rows(out, &self.heads)?;
+        let columns = look.columns.count();
+        heading_rows(out, columns, look.colours, &self.heads)?;
+        out.text(legend_text(look.legend))?;
         out.text("\n")?;
-        self.table(alloc, out)
+        self.table(alloc, out, columns, look.colours)
     }
 }

@@ -1,5 +1,5 @@
 -- What was written is read again: one step, one answer, one event, and a whole log.
-use Rattle.std.proofs.Common.{◌≡◌, ℕ, ◌+◌, ◌≤◌, List, [], ◌∷◌, ◌++◌, length, take, drop, refl, sym, ap, ◌∙◌, arith}
+use Rattle.std.proofs.Common.{◌≡◌, ℕ, ◌+◌, List, [], ◌∷◌, ◌++◌, length, take, drop, refl, sym, ap, ◌∙◌, arith}
 use Rattle.std.proofs.Math.Seq.{take-append_seam, drop-append_seam}
 use Rattle.std.proofs.lemmas.List.{append_assoc, append-nil, length-append}
 use Rattle.std.proofs.lemmas.List.Elements.{All-push}
@@ -8,7 +8,6 @@ use Rattle.tree_model.specs.declared.answer.Answer.TheVariants.{Opened, Text, Na
 use Rattle.tree_model.specs.declared.answer.Event.{Event}
 use Rattle.tree_model.specs.StepWith.{StepWith}
 use Rattle.tree_model.specs.declared.step.StepOf.TheVariants.{Open, Dup, Parent, ReadLink, NameBelow, List as ListNames, Close, MakeDir, MakeFile, MakeLink, RemoveFile, RemoveDir, Rename}
-use Rattle.event_log.specs.declared.log.TheConstants.{TEXTS_MAX}
 use Rattle.event_log.specs.declared.shape.Record.{Record}
 use Rattle.event_log.specs.Shapes.{step_shape, step_texts, step_read, step_rest, answer_shape, answer_texts, answer_read, pieces_of, pieces_read}
 use Rattle.event_log.specs.Records.{event_texts, record_of, event_read, events_read, records_from, texts_of, HasNames, IsLog}
@@ -162,11 +161,10 @@ events_more bytes records event h =
     ∙ ap (λ bs. events_read bs (records_from 0 events)) (more_written bytes records event h ∙ sym (append-nil (texts_of events)))
     ∙ events_again [] events []
 
-pub log_more : (bytes : List ℕ) (records : List Record) (event : Event) → IsLog bytes records → HasNames event → length (bytes ++ event_texts event) ≤ TEXTS_MAX
+pub log_more : (bytes : List ℕ) (records : List Record) (event : Event) → IsLog bytes records → HasNames event
     → IsLog (bytes ++ event_texts event) (records ++ record_of (length bytes) event ∷ [])
-log_more bytes records event h named short = record {
+log_more bytes records event h named = record {
   recorded = more_recorded bytes records event h ∙ ap (records_from 0) (sym (events_more bytes records event h));
   written = more_written bytes records event h ∙ ap texts_of (sym (events_more bytes records event h));
   named = rw (events_more bytes records event h) (All-push HasNames (events_read bytes records) event h.named named);
-  short = short;
 }

@@ -1,4 +1,3 @@
-pub mod Room
 pub mod Again
 pub mod Pieces
 pub mod Placed

@@ -7,7 +7,6 @@ use Rattle.tree_model.specs.declared.answer.Event.{Event}
 use Rattle.tree_model.specs.declared.answer.Answer.{Answer}
 use Rattle.tree_model.specs.StepWith.{StepWith}
 use Rattle.event_log.specs.declared.shape.Record.{Record}
-use Rattle.event_log.specs.declared.log.TheConstants.{TEXTS_MAX}
 use Rattle.event_log.specs.declared.shape.AnswerShape.{AnswerShape}
 use Rattle.event_log.specs.declared.shape.StepShape.{StepShape}
 use Rattle.event_log.specs.Shapes.{step_shape, step_texts, answer_shape, answer_texts, HasStepNames, HasAnswerNames}
@@ -113,14 +112,13 @@ lies_own bytes records k start end h within is_start is_end =
 
 pub push_log : (bytes new_bytes : List ℕ) (records kept new_records : List Record) (start a : ℕ) (s : StepWith ℕ) (v : Answer) (shape : StepShape) (answer : AnswerShape)
     → IsLog bytes records → HasStepNames s → HasAnswerNames v → kept ≡ records → start ≡ length bytes → shape ≡ step_shape s → answer ≡ answer_shape v
-    → new_bytes ≡ bytes ++ (step_texts s ++ answer_texts v) → length new_bytes ≤ TEXTS_MAX
+    → new_bytes ≡ bytes ++ (step_texts s ++ answer_texts v)
     → new_records ≡ kept ++ record { start = start; actor = a; step = shape; answer = answer } ∷ []
     → IsLog new_bytes new_records × (events_read new_bytes new_records ≡ events_read bytes records ++ event_with a s v ∷ [])
-push_log bytes new_bytes records kept new_records start a s v shape answer log names others is_kept is_start is_shape is_answer is_bytes short is_records =
+push_log bytes new_bytes records kept new_records start a s v shape answer log names others is_kept is_start is_shape is_answer is_bytes is_records =
     let event : Event = event_with a s v in
     let at_end : new_records ≡ records ++ record_of (length bytes) event ∷ [] = cc in
-    let small : length (bytes ++ event_texts event) ≤ TEXTS_MAX = omega (arith, short, ap length is_bytes) in
-    rw (at_end, is_bytes) (log_more bytes records event log (names, others) small, events_more bytes records event log)
+    rw (at_end, is_bytes) (log_more bytes records event log (names, others), events_more bytes records event log)
 
 -- ---- an event and its record
 

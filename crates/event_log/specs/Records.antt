@@ -1,9 +1,8 @@
 -- The records of events, and the one buffer of their names and texts.
-use Rattle.std.specs.Prelude.{◌≡◌, ℕ, ◌+◌, ◌≤◌, List, [], ◌∷◌, ◌++◌, length, drop, map, All}
+use Rattle.std.specs.Prelude.{◌≡◌, ℕ, ◌+◌, List, [], ◌∷◌, ◌++◌, length, drop, map, All}
 use Rattle.tree_model.specs.declared.answer.Answer.{Answer}
 use Rattle.tree_model.specs.declared.answer.Event.{Event}
 use Rattle.tree_model.specs.StepWith.{StepWith}
-use Rattle.event_log.specs.declared.log.TheConstants.{TEXTS_MAX}
 use Rattle.event_log.specs.declared.shape.Record.{Record}
 use Rattle.event_log.specs.Shapes.{step_shape, step_texts, step_read, step_rest, answer_shape, answer_texts, answer_read, HasStepNames, HasAnswerNames}
 
@@ -49,4 +48,3 @@ pub record IsLog (bytes : List ℕ) (records : List Record) : Type 0 where
   pub recorded : records ≡ records_from 0 (events_read bytes records)
   pub written : bytes ≡ texts_of (events_read bytes records)
   pub named : All HasNames (events_read bytes records)
-  pub short : length bytes ≤ TEXTS_MAX

@@ -13,4 +13,4 @@ mod read;
 mod shape;
 mod write;
 
-pub use log::{EventLog, TEXTS_MAX};
+pub use log::EventLog;

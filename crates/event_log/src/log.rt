@@ -1,9 +1,10 @@
 //! The log itself.
-ghost use Rattle.std.specs.Prelude.{◌≡◌, ◌≤◌, ◌<◌, suc, ◌+◌, ◌++◌, [], ◌∷◌, length, take, slice_get, Some, IsTrue, ◌↔◌, IfOk, IfSome, OnOk, OnErr, IsOk};
+ghost use Rattle.std.specs.Prelude.{◌≡◌, ℕ, List, ◌≤◌, ◌<◌, suc, ◌+◌, ◌++◌, [], ◌∷◌, length, take, slice_get, Some, IsTrue, ◌↔◌, IfOk, IfSome, OnOk, OnErr, IsOk};
 ghost use Rattle.tree_model.specs.declared.answer.Answer.TheVariants.{Done as DoneAnswer};
 ghost use Rattle.tree_model.specs.declared.step.StepOf.TheVariants.{Close as CloseStep};
 ghost use Rattle.step_text.specs.Output.{Gains};
 ghost use Rattle.step_text.specs.Words.{event_words};
+ghost use Rattle.event_log.specs.Handles.{open_after};
 ghost use Rattle.event_log.specs.Records.{event_with, event_texts, events_read, texts_of, IsLog};
 ghost use Rattle.event_log.specs.Shapes.{step_texts, answer_texts};
 
@@ -20,9 +21,6 @@ use tree_model::{Actor, Answer, Event, HandleNo, LentStep};
 
 mod copy;
 
-/// The most bytes that the names and texts of a log's events have together.
-pub const TEXTS_MAX: usize = 0x0200_0000;
-
 /// Events in their order, kept as records. Contracts see the events, and for how many more events and bytes of
 /// names and texts there is memory already.
 #[derive(Debug, Drop)]
@@ -34,7 +32,7 @@ pub struct EventLog {
 
 impl Model for EventLog {
     ghost use Rattle.std.specs.Prelude.{◌-◌, vec_len, vec_capacity};
-    ghost use Rattle.event_log.specs.Log.{Log, room_for_texts};
+    ghost use Rattle.event_log.specs.Log.{Log};
     ghost use Rattle.event_log.specs.Records.{events_read, IsLog};
 
     ghost Value = { Log };
@@ -42,7 +40,7 @@ impl Model for EventLog {
     ghost view = { λ l. record {
       events = events_read l.bytes.items l.records.items;
       room = vec_capacity l.records - vec_len l.records;
-      text_room = room_for_texts (vec_capacity l.bytes) (vec_len l.bytes);
+      text_room = vec_capacity l.bytes - vec_len l.bytes;
     } };
 
     ghost invariant = { λ l. IsLog l.bytes.items l.records.items };
@@ -54,7 +52,7 @@ fn start_of(records: &[Record], bytes: &[u8], at: usize) -> usize
     ensures { result ≡ length (texts_of (take at (events_read bytes.now records.now))) }
 {
     if at < records.len() {
-        records[at].start as usize
+        records[at].start
     } else {
         bytes.len()
     }
@@ -69,6 +67,17 @@ fn texts_at<'a>(records: &[Record], bytes: &'a [u8], at: usize) -> &'a [u8]
     let start = start_of(records, bytes, at);
     let end = start_of(records, bytes, at + 1);
     &bytes[start..end]
+}
+
+// Whether a handle is open after the events of these records, where `was` says whether it was open before.
+fn is_open_after(records: &[Record], handle: HandleNo, was: bool) -> bool
+    ensures { (bytes : List ℕ) → result ≡ open_after handle was (events_read bytes records.now) }
+{
+    let mut is_open = was;
+    for record in records {
+        is_open = record.leaves(handle, is_open);
+    }
+    is_open
 }
 
 impl EventLog {
@@ -93,24 +102,19 @@ impl EventLog {
         Ok(())
     }
 
-    /// Gets room for the names and the text of a step. NoMemory where it was refused, or where the log would have
-    /// more than 33,554,432 bytes of them; no room is lost then.
+    /// Gets room for the names and the text of a step. NoMemory where it was refused; no room is lost then.
     pub fn reserve_texts(&mut self, step: &LentStep<'_>) -> Result<(), NoMemory>
         ensures events { self.new.events ≡ self.old.events }
         ensures ok { OnOk result (length (step_texts step.now) ≤ self.new.text_room) }
         ensures room { self.old.room ≤ self.new.room }
         ensures text_room { self.old.text_room ≤ self.new.text_room }
     {
-        let size = step_len(step);
-        if size > TEXTS_MAX - self.bytes.len() {
-            return Err(NoMemory);
-        }
-        self.bytes.reserve(size)?;
+        self.bytes.reserve(step_len(step))?;
         Ok(())
     }
 
-    /// Gets room for an event, and for its names and texts. NoMemory where it was refused, or where the log would have
-    /// more than 33,554,432 bytes of them; no room is lost then. It takes no memory where there is that room.
+    /// Gets room for an event, and for its names and texts. NoMemory where it was refused; no room is lost then. It
+    /// takes no memory where there is that room.
     pub fn reserve_event(&mut self, step: &LentStep<'_>, answer: &Answer) -> Result<(), NoMemory>
         ensures events { self.new.events ≡ self.old.events }
         ensures ok { OnOk result ((0 < self.new.room)
@@ -120,7 +124,8 @@ impl EventLog {
         ensures fits { 0 < self.old.room
             → length (step_texts step.now ++ answer_texts answer.now) ≤ self.old.text_room → IsOk result }
     {
-        let left = TEXTS_MAX - self.bytes.len();
+        // No memory holds more bytes than can be counted.
+        let left = usize::MAX - self.bytes.len();
         let size = step_len(step);
         if size > left {
             return Err(NoMemory);
@@ -143,15 +148,14 @@ impl EventLog {
         let start = self.bytes.len();
         add_event(&mut self.bytes, step, answer);
         self.records.push_reserved(Record {
-            start: start as u32,
+            start,
             actor,
             step: StepShape::of(step),
             answer: AnswerShape::of(answer),
         });
     }
 
-    /// Adds an event at the end. NoMemory where room was refused, or where the log would have more than
-    /// 33,554,432 bytes of names and texts; the events are then unchanged.
+    /// Adds an event at the end. NoMemory where room was refused; the events are then unchanged.
     pub fn push(
         &mut self,
         actor: Actor,
@@ -173,7 +177,7 @@ impl EventLog {
         ensures room { self.old.room ≡ suc self.new.room }
     {
         self.records.push_reserved(Record {
-            start: self.bytes.len() as u32,
+            start: self.bytes.len(),
             actor,
             step: StepShape::Close(handle),
             answer: AnswerShape::Done,
@@ -200,7 +204,7 @@ impl EventLog {
         ensures { IfOk result (λ event. slice_get self.now.events at ≡ Some event) }
     {
         let record = &self.records[at];
-        let own = back(self.bytes.as_slice(), record.start as usize);
+        let own = back(self.bytes.as_slice(), record.start);
         let step = lent_step(&record.step, own).copy(alloc)?;
         let answer = read_answer(alloc, &record.answer, after_step(&record.step, own))?;
         Ok(Event {
@@ -217,7 +221,7 @@ impl EventLog {
         ensures { IfSome (slice_get self.now.events at) (λ event. Gains out.old out.new (event_words event) result) }
     {
         let record = &self.records[at];
-        let own = back(self.bytes.as_slice(), record.start as usize);
+        let own = back(self.bytes.as_slice(), record.start);
         write_step(out, &record.step, own)?;
         out.text(" = ")?;
         write_answer(out, &record.answer, after_step(&record.step, own))
@@ -231,13 +235,21 @@ impl EventLog {
         self.records[at].actor
     }
 
+    /// Whether a handle is open after all events, where `was` says whether it was open before the first. Takes no
+    /// memory.
+    pub fn leaves_open(&self, handle: HandleNo, was: bool) -> bool
+        ensures { result ≡ open_after handle was self.now.events }
+    {
+        is_open_after(self.records.as_slice(), handle, was)
+    }
+
     /// Whether the event at a place, counted from 0, is that one. Takes no memory.
     pub fn is(&self, at: usize, actor: Actor, step: &LentStep<'_>, answer: &Answer) -> bool
         requires { at < length self.now.events }
         ensures { IsTrue result ↔ (slice_get self.now.events at ≡ Some (event_with actor step.now answer.now)) }
     {
         let record = &self.records[at];
-        let own = back(self.bytes.as_slice(), record.start as usize);
+        let own = back(self.bytes.as_slice(), record.start);
         record.actor == actor
             && is_step(&record.step, own, step)
             && is_answer(&record.answer, after_step(&record.step, own), answer)

@@ -1,7 +1,8 @@
 //! Steps and answers without their names and texts, and the records that are made of them.
-ghost use Rattle.std.specs.Prelude.{◌≡◌, IsTrue, ◌↔◌};
+ghost use Rattle.std.specs.Prelude.{◌≡◌, ℕ, List, IsTrue, ◌↔◌};
+ghost use Rattle.event_log.specs.Handles.{left_after};
 ghost use Rattle.event_log.specs.Shapes.{step_shape, answer_shape, HasStepNames, HasAnswerNames};
-ghost use Rattle.event_log.specs.Records.{IsLike};
+ghost use Rattle.event_log.specs.Records.{event_read, IsLike};
 
 use path_text::Errno;
 use tree_model::{Actor, Answer, HandleNo, Kind, LentStep, Mode, Node, StepOf};
@@ -39,14 +40,14 @@ pub(crate) enum AnswerShape {
 /// An event without its names and texts, which begin at `start` in the log's buffer.
 #[derive(Clone, Copy, Debug)]
 pub(crate) struct Record {
-    pub(crate) start: u32,
+    pub(crate) start: usize,
     pub(crate) actor: Actor,
     pub(crate) step: StepShape,
     pub(crate) answer: AnswerShape,
 }
 
 // What an event costs beside its names and texts.
-const _: () = prove!(size_of::<Record>() == 56);
+const _: () = prove!(size_of::<Record>() == 64);
 
 impl StepShape {
     /// The shape of a step, whose names are valid.
@@ -152,5 +153,17 @@ impl Record {
         ensures { IsTrue result ↔ IsLike self.now other.now }
     {
         self.actor == other.actor && self.step.same(&other.step) && self.answer.same(&other.answer)
+    }
+
+    /// Whether a handle is open after the event, where `was` says whether it was open before.
+    pub(crate) fn leaves(&self, handle: HandleNo, was: bool) -> bool
+        ensures { (bytes : List ℕ) → result
+            ≡ left_after handle was (event_read bytes self.now).answer (event_read bytes self.now).step }
+    {
+        match (&self.answer, &self.step) {
+            (AnswerShape::Opened(_, opened, _), _) => was || *opened == handle,
+            (AnswerShape::Done, StepShape::Close(closed)) => was && *closed != handle,
+            _ => was,
+        }
     }
 }

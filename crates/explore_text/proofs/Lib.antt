@@ -1,3 +1,5 @@
 mod Numbers
+mod Replayed
 mod ToldOnes
 mod Unsurveyed
+mod WholeCalls

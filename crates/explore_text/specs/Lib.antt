@@ -4,4 +4,6 @@ pub mod Json
 pub mod Options
 pub mod Part
 pub mod PartText
+pub mod Replayed
 pub mod Surveyed
+pub mod WholeCalls

@@ -6,7 +6,8 @@ use crate::part_read::{PartFault, part, properties, question};
 use crate::part_text::part_text;
 use crate::script::told_by;
 use crate::search::Asked;
-use explore::{Progress, Scene};
+use crate::waiter::Waiter;
+use explore::Scene;
 use path_text::NoMemory;
 use scripts::{RunFault, TurnOrder, read_scene, read_script};
 use serde_json::Value;
@@ -21,7 +22,7 @@ use survey_text::{ExploreFault, MergeFault, Part, Property, merge};
 /// to as a line of JSON that `merge_parts` reads.
 ///
 /// Errors as of `explore_script`, but that turns which can't be taken make a part of no schedules.
-pub fn explore_part<Rt: Threads + Sync, R: Read, W: Write, P: Progress>(
+pub fn explore_part<Rt: Threads + Sync, R: Read, W: Write, P: Waiter>(
     alloc: Global,
     threads: &Rt,
     reader: &mut R,
@@ -36,7 +37,9 @@ pub fn explore_part<Rt: Threads + Sync, R: Read, W: Write, P: Progress>(
         return Err(ExploreFault::Run(RunFault::BookFull));
     }
     let scene = Scene { tree, plans, lines };
-    let part = match part_of_scene(alloc, threads, &scene, asked, progress) {
+    let explored = part_of_scene(alloc, threads, &scene, asked, progress);
+    progress.over();
+    let part = match explored {
         Ok(part) => part,
         Err(fault) => return Err(told_by(fault)),
     };

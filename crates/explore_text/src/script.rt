@@ -5,6 +5,7 @@ ghost use Rattle.survey_text.specs.declared.fault.ExploreFault.TheVariants as ex
 ghost use Rattle.explore_text.specs.Explore.{told_by, IsExplore, IsNoSurvey, IsSurveyOf};
 
 use crate::search::{Asked, SurveyFault, survey_scene};
+use crate::waiter::Waiter;
 use explore::{Progress, Scene};
 use scripts::{RunFault, Scenario, TurnOrder, read_scene};
 use std::alloc::Global;
@@ -58,8 +59,8 @@ fn surveyed<Rt: Threads + Sync, P: Progress>(
 
 /// Reads a script, goes through all schedules of its world, those with at most so many cuts that begin with the turns
 /// that are asked for, and writes what they come to. The script's own schedule is checked and not used. The result
-/// is whether no property fails. On the way `progress` gets the number of worlds so far. What is written is the same
-/// on any number of threads.
+/// is whether no property fails. On the way `progress` gets the number of worlds so far, and then that the search is
+/// over. What is written is the same on any number of threads.
 ///
 /// Errors, in this order: those of `read_scenario`; `BookFull` where the script gives its book fewer lines than it
 /// has actors; `NoSuchActor` of the first that is named and isn't there; `NoSuchLine` of the first property that
@@ -67,7 +68,7 @@ fn surveyed<Rt: Threads + Sync, P: Progress>(
 /// one can; `NotBusy` and `TooManyCuts` of the first turn of the beginning that can't be taken; `TooManyStates` where
 /// there are more worlds than are gone through, and `TooManyTurns` where a schedule has more turns than the limit,
 /// whichever is met first; `NoMemory`; `WriteFailed`. Nothing is written before the text is whole.
-pub fn explore_script<Rt: Threads + Sync, R: Read, W: Write, P: Progress>(
+pub fn explore_script<Rt: Threads + Sync, R: Read, W: Write, P: Waiter>(
     alloc: Global,
     threads: &Rt,
     reader: &mut R,
@@ -78,7 +79,9 @@ pub fn explore_script<Rt: Threads + Sync, R: Read, W: Write, P: Progress>(
     ensures run { IsExplore asked.now (R.remaining reader.old) (W.contents writer.old) (W.contents writer.new) result }
 {
     let (scenario, tree) = read_scene(alloc, reader, &TurnOrder::OfScript)?;
-    let survey = surveyed(alloc, threads, scenario, tree, asked, progress)?;
+    let explored = surveyed(alloc, threads, scenario, tree, asked, progress);
+    progress.over();
+    let survey = explored?;
     match writer.write_all(survey.text.as_slice()) {
         Ok(()) => Ok(survey.holds),
         Err(_) => Err(ExploreFault::Run(RunFault::WriteFailed)),

@@ -5,7 +5,7 @@ use Rattle.path_text.specs.Reading.{Reading}
 use Rattle.tree_model.specs.declared.answer.Answer.{Answer}
 use Rattle.tree_model.specs.declared.answer.Event.{Event}
 use Rattle.walk_plan.specs.declared.goal.Goal.{Goal}
-use Rattle.step_resolver.specs.Order.{Way, Walking, Turn, more, found, partial, failed, begins, for_walk, due, Line, answered, no_room, not_made, events_of, LeadsTo}
+use Rattle.step_resolver.specs.Order.{Way, Walking, Turn, more, found, partial, failed, begins, for_walk, due, walks, Line, answered, no_room, not_made, events_of, LeadsTo}
 use Rattle.step_resolver.specs.Order.{take as takes}
 use Rattle.step_resolver.specs.Footprint.{IsEnd}
 use Rattle.step_resolver.specs.Headline.{EveryWalk}
@@ -15,7 +15,8 @@ use Rattle.step_resolver.specs.declared.walk.Turn.{Turn as Outcome}
 use Rattle.step_resolver.specs.declared.walk.Turn.TheVariants.{More, Found, Partial, Failed}
 use Rattle.step_resolver.specs.TurnsTell.{first_lines}
 use Rattle.step_resolver.proofs.FirstTurns.{first_lines_lead}
-use Rattle.step_resolver.proofs.TurnsTell.{leads_on, line_leads}
+use Rattle.step_machine.proofs.Runs.{leads_on}
+use Rattle.step_resolver.proofs.TurnsTell.{line_leads}
 use Rattle.step_resolver.proofs.DrivenWalks.{joined_events, joined_without_book}
 use Rattle.headline_only.specs.Alone.{TellsAlone, IsAnswer, Leads}
 
@@ -47,7 +48,7 @@ module _ (way : Way) (a : ℕ) (before after : List Event) (walking : Walking) (
   advanced (inl is) taken = made taken.0 taken.1 is
   advanced (inr is) taken = record {
     lines = not_made NoMemory ∷ [];
-    leads = line_leads way taken.0 walking answer to (not_made NoMemory) taken.1 (inl refl, is.2, is.0);
+    leads = line_leads way taken.0 walking answer to (not_made NoMemory) taken.1 ((inl refl, is.2), is.0);
     booked = is.1 ∙ sym (append-nil before);
     without_book = (refl, tt);
   }
@@ -59,7 +60,7 @@ pub led_on : (way : Way) (a : ℕ) (first second third : List Event) (from mid t
     → Leads way a first from second mid → Leads way a second mid third to → Leads way a first from third to
 led_on way a first second third from mid to one two = record {
   lines = one.lines ++ two.lines;
-  leads = leads_on way one.lines from mid two.lines to one.leads two.leads;
+  leads = leads_on (walks way) one.lines from mid two.lines to one.leads two.leads;
   booked = two.booked ∙ ap (λ es. es ++ events_of a two.lines) one.booked ∙ append_assoc first (events_of a one.lines) (events_of a two.lines)
       ∙ ap (λ es. first ++ es) (sym (joined_events a one.lines two.lines));
   without_book = joined_without_book one.lines two.lines one.without_book two.without_book;

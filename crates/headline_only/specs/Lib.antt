@@ -9,3 +9,4 @@ pub use Rattle.step_resolver.specs.Headline
 pub use Rattle.step_resolver.specs.View
 pub use Rattle.step_resolver.specs.TurnView
 pub mod Alone
+pub mod WorkedEnds

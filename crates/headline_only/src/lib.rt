@@ -14,10 +14,13 @@ ghost use Rattle.step_resolver.specs.TurnView.{turn_view, Keeps, steps_to_come};
 ghost use Rattle.step_resolver.specs.View.{way_from};
 ghost use Rattle.headline_only.specs.Alone.{IsAnswer, Leads, TellsAlone};
 
+mod worked_ends;
+
 use path_text::{Errno, Flags, NoMemory, Path};
 use std::alloc::Global;
 use step_resolver::{Goal, Root, Turn, Walk, headline};
 use tree_model::{Actor, Answer, LentStep};
+pub use worked_ends::{found_is_worked, wrong_ends_are_refused};
 
 /// What makes an actor's steps, and books them as events. Others may act in between.
 pub trait Book {

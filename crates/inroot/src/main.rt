@@ -8,25 +8,30 @@
 
 ghost use Rattle.std.specs.Prelude.{◌<◌, ◌≤◌};
 
+mod telling;
 mod waiting;
 
 use clap::ArgMatches;
-use command_line::{Fault, Request, Walking, asked, command, is_strict, order_of, status};
+use command_line::{
+    Drawing, Fault, Request, Screen, Walking, asked, blamed, command, is_strict, order_of, status,
+    style_of,
+};
 use explore_text::{Asked, explore_part, explore_script, merge_parts, read_asked};
 use script_drawings::{Style, draw};
 use script_jobs::run_jobs;
 use script_runs::{replay, walk};
-use scripts::{RunFault, TurnOrder, read_strictly};
+use scripts::{RunFault, TurnOrder, read_script, read_strictly};
 use std::alloc::Global;
-use std::io::Read;
+use std::io::{IsTerminal, Read};
 use std::process::ExitCode;
 use std::sync::Wait;
 use std::thread::Threads;
 use std::{env, io};
+use telling::{Told, tell};
 use waiting::Waiting;
 
 /// Tells help, the version or a usage fault, and how the program ends after it.
-fn told(rt: &HostRuntime, error: &clap::Error) -> Result<(), Fault> {
+fn told_by(rt: &HostRuntime, error: &clap::Error) -> Result<(), Fault> {
     if error.kind() == clap::error::ErrorKind::OutOfMemory {
         return Err(Fault::Run(RunFault::NoMemory));
     }
@@ -70,12 +75,39 @@ enum Task<'a> {
     Merge,
 }
 
+/// A variable of the environment, if it is set to a text that isn't empty.
+fn variable(rt: &HostRuntime, name: &str) -> Option<String> {
+    match env::var(rt, name) {
+        Ok(text) if !text.is_empty() => Some(text),
+        _ => None,
+    }
+}
+
+/// How the picture is drawn that is asked for.
+fn style_on(rt: &HostRuntime, drawing: Drawing<'_>) -> Result<Style, Fault> {
+    let columns = variable(rt, "COLUMNS");
+    let is_dumb = match variable(rt, "TERM") {
+        Some(term) => term.as_str() == "dumb",
+        None => true,
+    };
+    let screen = Screen {
+        is_terminal: rt.stdout().is_terminal(),
+        columns: columns.as_deref(),
+        is_plain: is_dumb || variable(rt, "NO_COLOR").is_some(),
+    };
+    style_of(drawing, screen)
+}
+
 /// What the arguments ask for. Reads the texts of the options.
-fn task_of<'m>(alloc: Global, matches: &'m ArgMatches<'_>) -> Result<Task<'m>, Fault> {
+fn task_of<'m>(rt: &HostRuntime, matches: &'m ArgMatches<'_>) -> Result<Task<'m>, Fault> {
+    let alloc = rt.alloc();
     Ok(match asked(matches).ok_or(Fault::NoRequest)? {
         Request::Walk(walking) => Task::Walk(walking),
         Request::Replay(schedule) => Task::Replay(order_of(alloc, schedule)?),
-        Request::Draw(asked) => Task::Draw(order_of(alloc, asked.schedule)?, asked.style),
+        Request::Draw(drawing) => Task::Draw(
+            order_of(alloc, drawing.schedule)?,
+            style_on(rt, drawing)?,
+        ),
         Request::Run(count) => Task::Run(Workers { count }),
         Request::Explore(options) => Task::Explore(read_asked(alloc, options)?),
         Request::Part(options) => Task::Part(read_asked(alloc, options)?),
@@ -105,61 +137,73 @@ fn perform<R: Threads + Wait + Sync, S: Read>(
             let path = asked.path.as_bytes();
             walk(alloc, script, &mut output, path, asked.flags)?;
         }
-        Task::Replay(order) => replay(alloc, script, &mut output, order)?,
-        Task::Draw(order, style) => draw(alloc, script, &mut output, order, *style)?,
-        Task::Run(workers) => run_jobs(threads, alloc, script, &mut output, workers.count)?,
+        Task::Replay(order) => {
+            if let Err(fault) = replay(alloc, script, &mut output, order) {
+                return Err(blamed(order, Fault::from(fault)));
+            }
+        }
+        Task::Draw(order, style) => {
+            if let Err(fault) = draw(alloc, script, &mut output, order, *style) {
+                return Err(blamed(order, Fault::from(fault)));
+            }
+        }
+        Task::Run(workers) => {
+            run_jobs(threads, alloc, script, &mut output, workers.count)?;
+        }
         Task::Explore(asked) => {
-            let mut waiting = Waiting::new(rt);
-            let explored = explore_script(alloc, threads, script, &mut output, asked, &mut waiting);
-            waiting.end();
-            return judged(explored?);
+            let mut waiting = Waiting::new(rt, asked.limits.states);
+            let holds = explore_script(alloc, threads, script, &mut output, asked, &mut waiting)?;
+            return judged(holds);
         }
         Task::Part(asked) => {
-            let mut waiting = Waiting::new(rt);
-            let told = explore_part(alloc, threads, script, &mut output, asked, &mut waiting);
-            waiting.end();
-            told?;
+            let mut waiting = Waiting::new(rt, asked.limits.states);
+            explore_part(alloc, threads, script, &mut output, asked, &mut waiting)?;
         }
         Task::Merge => return judged(merge_parts(alloc, script, &mut output)?),
     }
     Ok(())
 }
 
+/// How many states may be gone through.
+fn most_states(task: &Task<'_>) -> u64 {
+    match task {
+        Task::Explore(asked) | Task::Part(asked) => asked.limits.states,
+        _ => 0,
+    }
+}
+
 /// Reads the command line, and does what it asks for over the script on standard input. Where it asks for
-/// strictness, the whole script is read strictly first.
-fn run<R: Threads + Wait + Sync>(rt: &HostRuntime, threads: &R) -> Result<(), Fault> {
+/// strictness, the whole script is read strictly first. Parts are no script, and are read as they come.
+fn run<R: Threads + Wait + Sync>(
+    rt: &HostRuntime,
+    threads: &R,
+    told: &mut Told,
+) -> Result<(), Fault> {
     let alloc = rt.alloc();
     let words = words(rt)?;
     let matches = match command(alloc)?.try_get_matches_from(words.as_slice()) {
         Ok(matches) => matches,
-        Err(error) => return told(rt, &error),
+        Err(error) => return told_by(rt, &error),
     };
-    let task = task_of(alloc, &matches)?;
+    let task = task_of(rt, &matches)?;
+    told.states = most_states(&task);
     let mut input = rt.stdin();
-    if !is_strict(&matches) {
+    if let Task::Merge = task {
         return perform(rt, threads, &task, &mut input);
     }
-    let script = read_strictly(alloc, &mut input)?;
-    perform(rt, threads, &task, &mut script.as_slice())
-}
-
-/// Tells a fault on standard error, and what was wanted in a second line; but for one that clap or the answer has
-/// told.
-fn tell(rt: &HostRuntime, fault: Fault) -> io::Result<()> {
-    match fault {
-        Fault::Usage | Fault::PropertyFails => Ok(()),
-        Fault::Run(run) if let Some(detail) = run.detail() => {
-            eprintln!(rt; "inroot: {run}\ninroot: {detail}")
-        }
-        fault => eprintln!(rt; "inroot: {fault}"),
+    told.script = read_script(alloc, &mut input)?;
+    if is_strict(&matches) {
+        read_strictly(alloc, &mut told.script.as_slice())?;
     }
+    perform(rt, threads, &task, &mut told.script.as_slice())
 }
 
 fn main(rt: HostRuntime) -> ExitCode {
-    let ended = run(&rt, &rt);
+    let mut told = Told::new(rt.alloc());
+    let ended = run(&rt, &rt, &mut told);
     if let Err(fault) = ended {
         // The status says it where standard error can't.
-        let _ = tell(&rt, fault);
+        let _ = tell(&rt, fault, &told);
     }
     ExitCode::from(status(&ended))
 }

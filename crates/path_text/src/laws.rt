@@ -4,7 +4,8 @@
 ghost use Rattle.std.specs.Prelude.{◌≡◌, ℕ, List, map, All, None, Some, length, nat_lt, if◌then◌else◌, true, false};
 ghost use Rattle.path_text.specs.declared.errno.Errno.TheVariants.{TooLong};
 ghost use Rattle.path_text.specs.declared.part.Part.TheVariants.{Named};
-ghost use Rattle.path_text.specs.declared.path.TheConstants.{TEXT_MAX};
+ghost use Rattle.path_text.specs.declared.name.TheConstants.{SLASH, NAME_MAX};
+ghost use Rattle.path_text.specs.declared.path.TheConstants.{TEXT_MAX, PARTS_MAX};
 ghost use Rattle.path_text.specs.Name.{name_fault};
 ghost use Rattle.path_text.specs.Print.{printed, names_read};
 ghost use Rattle.path_text.specs.Spelling.{Run, IsSpelling, reading_spelled};
@@ -37,4 +38,13 @@ pub fn printed_names_are_read()
         → text_fault (printed names) ≡ (if nat_lt TEXT_MAX (length (printed names)) then Some TooLong else None) }
     ensures names { (names : List (List ℕ)) → All (λ name. name_fault name ≡ None) names
         → names_read (printed names) ≡ Some names }
+{}
+
+/// The limits that texts and names have, as numbers: a slash is the byte 47; a name has at most 255 bytes (NAME_MAX of
+/// Linux's limits.h), a text at most 4,095 (PATH_MAX there, without the NUL), and so at most 2,048 parts.
+pub fn text_limits_are_numbers()
+    ensures slash { SLASH ≡ 47 }
+    ensures name { NAME_MAX ≡ 255 }
+    ensures text { TEXT_MAX ≡ 4095 }
+    ensures parts { PARTS_MAX ≡ 2048 }
 {}

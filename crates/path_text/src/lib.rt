@@ -24,7 +24,8 @@ pub use bytes::Bytes;
 pub use errno::{Errno, NoMemory};
 pub use flags::Flags;
 pub use laws::{
-    printed_names_are_read, spellings_are_read, spellings_are_unique, texts_are_spelled,
+    printed_names_are_read, spellings_are_read, spellings_are_unique, text_limits_are_numbers,
+    texts_are_spelled,
 };
 pub use lent::{LentBytes, LentName};
 pub use name::{NAME_MAX, Name, SLASH};

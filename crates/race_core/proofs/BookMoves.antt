@@ -1,5 +1,5 @@
 -- What a step and a turn do to the book, to the actor's handles and own events, and to its root.
-use Rattle.std.proofs.Common.{◌≡◌, ◌≢◌, ℕ, ◌==◌, List, [], ◌∷◌, ◌++◌, Bool, true, false, cond, if◌then◌else◌, ◌||◌, length, Option, Some, None, is_some, not, refl, sym, ap, subst, ◌∙◌, inl, inr, eq-eqb, append-nil, le_refl, ltb-true, arith}
+use Rattle.std.proofs.Common.{◌≡◌, ◌≢◌, ℕ, ◌==◌, List, [], ◌∷◌, ◌++◌, Bool, true, false, cond, if◌then◌else◌, ◌||◌, length, Option, Some, None, is_some, refl, sym, ap, subst, ◌∙◌, inl, inr, eq-eqb, append-nil, le_refl, ltb-true, arith}
 use Rattle.std.specs.Prelude.{nat_lt}
 use Rattle.std.proofs.lemmas.Bool.{false≢true, ne_eqb}
 use Rattle.std.proofs.lemmas.List.Elements.{filter-append}

@@ -22,12 +22,12 @@ use Rattle.root_ops.specs.declared.aim.Wanted.TheVariants as wants
 use Rattle.root_ops.specs.declared.below.Below.{Below}
 use Rattle.root_ops.specs.declared.op.Op.TheVariants.{Release}
 use Rattle.root_ops.specs.declared.op.Request.{Request}
-use Rattle.root_ops.specs.Order.{Reply, done, fault, Doing, releasing, CallTurn, more, ends, reply_to, starts, take, due, IsUnmade, LeadsTo}
+use Rattle.root_ops.specs.Order.{Reply, done, fault, Doing, releasing, CallTurn, more, ends, reply_to, starts, take, due, IsUnmade, calls as calls_below, LeadsTo}
 use Rattle.root_ops.specs.TurnView.{below_of}
 use Rattle.root_ops.specs.View.{CallView}
 use Rattle.step_resolver.proofs.DrivenWalks.{joined_events}
 use Rattle.root_ops.proofs.Refusals.{refusal_needs_no_room, unmade}
-use Rattle.root_ops.proofs.FirstTurn.{leads_on}
+use Rattle.step_machine.proofs.Runs.{leads_on}
 use Rattle.race_core.specs.declared.plan.Planned.{Planned}
 use Rattle.race_core.specs.declared.plan.Planned.TheVariants as plans
 use Rattle.race_core.specs.declared.seat.Seat.{Seat}
@@ -323,7 +323,7 @@ module _ (plan : List Planned) (book : BookedHistory) (ledger : LedgerView) (cal
     asked = c.asked;
     standings = c.standings;
     is_below = c.is_below;
-    leads = leads_on below c.lines (starts below c.room c.request.op) (more doing) (line ∷ []) _ c.leads leads;
+    leads = leads_on (calls_below below) c.lines (starts below c.room c.request.op) (more doing) (line ∷ []) _ c.leads leads;
     own = own_more a book.events event refl ∙ ap (λ es. es ++ event ∷ []) c.own ∙ append_assoc (events_of_calls a calls) (events_of a c.lines) (event ∷ [])
         ∙ ap (λ es. events_of_calls a calls ++ (events_of a c.lines ++ es)) (sym is_event) ∙ ap (λ es. events_of_calls a calls ++ es) (sym (joined_events a c.lines (line ∷ [])));
     holds = holds_on (HeldIn plan book ledger) (HeldIn plan next_book ledger) (answer_now book a step) (FreedIn plan book ledger) (FreedIn plan next_book ledger) below b doing
@@ -352,7 +352,7 @@ module _ (plan : List Planned) (book : BookedHistory) (ledger : LedgerView) (cal
     asked = c.asked;
     standings = c.standings;
     is_below = c.is_below;
-    leads = leads_on below c.lines (starts below c.room c.request.op) (more doing) (not_made error ∷ []) _ c.leads (why, sym (refusal_needs_no_room below room doing error));
+    leads = leads_on (calls_below below) c.lines (starts below c.room c.request.op) (more doing) (not_made error ∷ []) _ c.leads (why, sym (refusal_needs_no_room below room doing error));
     own = c.own ∙ ap (λ es. events_of_calls a calls ++ es) (sym (append-nil (events_of a c.lines)) ∙ sym (joined_events a c.lines (not_made error ∷ [])));
     holds = holds_on (HeldIn plan book ledger) (HeldIn plan book ledger) (Refused error) (FreedIn plan book ledger) (FreedIn plan book ledger) below room doing
         (unmoved (HeldIn plan book ledger) step error) c.holds;

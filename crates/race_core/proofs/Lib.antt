@@ -19,3 +19,4 @@ pub mod HandlesLeft
 pub mod OneEnd
 pub mod LikeLists
 pub mod LikeSeats
+pub mod WorkedRun

@@ -1,15 +1,12 @@
 -- Seats that are the same but for the numbers of their handles.
-use Rattle.std.proofs.Common.{◌≡◌, ℕ, List, [], ◌∷◌, ◌++◌, Option, Some, None, append_assoc, refl, sym, ap, subst, ◌∙◌}
+use Rattle.std.proofs.Common.{◌≡◌, ℕ, List, [], ◌∷◌, ◌++◌, Option, Some, None, append_assoc, refl, sym, ap, ◌∙◌}
 use Rattle.std.specs.Prelude.{map}
 use Rattle.std.specs.List.{flat_map}
 use Rattle.std.specs.Option.{option_map}
 use Rattle.std.proofs.lemmas.Option.{same_Some}
 use Rattle.handles.specs.Objects.{StandingObject}
-use Rattle.tree_model.specs.declared.answer.Answer.{Answer}
 use Rattle.tree_model.specs.declared.answer.Answer.TheVariants as answers
-use Rattle.tree_model.specs.StepWith.{StepWith}
 use Rattle.tree_model.specs.declared.step.StepOf.TheVariants as steps
-use Rattle.root_ops.specs.declared.op.Op.{Op}
 use Rattle.root_ops.specs.declared.op.Op.TheVariants as ops
 use Rattle.root_ops.specs.View.{CallView}
 use Rattle.step_resolver.specs.declared.walk.Root.{Root}
@@ -19,7 +16,7 @@ use Rattle.race_core.specs.declared.report.Outcome.{Outcome}
 use Rattle.race_core.specs.declared.report.Outcome.TheVariants as outcomes
 use Rattle.race_core.specs.declared.seat.Seat.{Seat}
 use Rattle.race_core.specs.Ledgers.{LedgerView}
-use Rattle.race_core.specs.Renamed.{numbers_by, root_by, step_by, answer_by, standing_by, op_by, call_by, step_handles, answer_handles, op_handles, call_handles, planned_by, plans_by, outcome_by, outcomes_by, standings_by, kept_by, ledger_by, seat_by, seats_by, planned_handles, plans_handles, outcome_handles, outcomes_handles, option_handles, standings_handles, kept_handles, ledger_handles, doing_call_handles, seat_handles, LikeSeatsAgree}
+use Rattle.race_core.specs.Renamed.{numbers_by, root_by, step_by, answer_by, standing_by, op_by, call_by, step_handles, answer_handles, op_handles, planned_by, plans_by, outcome_by, outcomes_by, standings_by, kept_by, ledger_by, seat_by, seats_by, planned_handles, plans_handles, outcome_handles, outcomes_handles, option_handles, standings_handles, kept_handles, ledger_handles, doing_call_handles, LikeSeatsAgree}
 use Rattle.root_ops.proofs.LikeCalls.{like_answers_agree, like_requests_agree, like_calls_agree}
 use Rattle.race_core.proofs.LikeLists.{KeepsHandles, Agree, AgreeFirst, agree_first, all_agree_first}
 

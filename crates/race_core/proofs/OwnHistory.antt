@@ -10,7 +10,7 @@ use Rattle.step_resolver.specs.WalkHistory.{own_events}
 use Rattle.root_ops.specs.declared.below.Below.{Below}
 use Rattle.bulk_ops.proofs.OwnEvents.{own_first, own_later, cut}
 use Rattle.root_ops.proofs.Handles.WalkParts.{HasRoot, root_later}
-use Rattle.race_core.specs.OwnHistory.{NoneCloses, IsHistory, Around}
+use Rattle.race_core.specs.OwnHistory.{NoneCloses, IsHistory, FirstIsOwn, Around}
 
 pub around : (a : ℕ) (events earlier own later : List Event) → own_events a events ≡ earlier ++ (own ++ later) → Around a events earlier own later
 around a events earlier own later e =
@@ -25,6 +25,42 @@ around a events earlier own later e =
       own_window = second.own_before;
       own_after = second.own_after;
     }
+
+-- others' events first, and then one of the actor's own, if there is one
+pub record Skipped (a : ℕ) (events : List Event) : Type 0 where
+  pub others : List Event
+  pub rest : List Event
+  pub whole : events ≡ others ++ rest
+  pub none_own : own_events a others ≡ []
+  pub same_own : own_events a rest ≡ own_events a events
+  pub first : FirstIsOwn a rest
+
+pub skip : (a : ℕ) (events : List Event) → Skipped a events
+skip a [] = record { others = []; rest = []; whole = refl; none_own = refl; same_own = refl; first = tt }
+skip a (event ∷ events) = on (event.actor == a) refl (skip a events)
+  where
+    on : (b : Bool) → (event.actor == a) ≡ b → Skipped a events → Skipped a (event ∷ events)
+    on true q later = record { others = []; rest = event ∷ events; whole = refl; none_own = refl; same_own = refl; first = eqb-true event.actor a q }
+    on false q later = record {
+      others = event ∷ later.others;
+      rest = later.rest;
+      whole = ap (λ es. event ∷ es) later.whole;
+      none_own = own_later a event later.others q ∙ later.none_own;
+      same_own = later.same_own ∙ sym (own_later a event events q);
+      first = later.first;
+    }
+
+-- the own events of both
+own_one : (a : ℕ) (e : Event) (es fs : List Event) → own_events a (es ++ fs) ≡ own_events a es ++ own_events a fs
+    → (mine : Bool) → (e.actor == a) ≡ mine → own_events a (e ∷ (es ++ fs)) ≡ own_events a (e ∷ es) ++ own_events a fs
+own_one a e es fs rest true q =
+    own_first a e (es ++ fs) q ∙ ap (λ xs. e ∷ xs) rest ∙ sym (ap (λ xs. xs ++ own_events a fs) (own_first a e es q))
+own_one a e es fs rest false q =
+    own_later a e (es ++ fs) q ∙ rest ∙ sym (ap (λ xs. xs ++ own_events a fs) (own_later a e es q))
+
+pub own_both : (a : ℕ) (es fs : List Event) → own_events a (es ++ fs) ≡ own_events a es ++ own_events a fs
+own_both a [] fs = refl
+own_both a (e ∷ es) fs = own_one a e es fs (own_both a es fs) (e.actor == a) refl
 
 -- ---- events that spare a handle
 

@@ -14,3 +14,4 @@ pub mod WorldCalls
 pub mod WorldLaws
 pub mod Worlds
 pub mod Renamed
+pub mod WorkedRun

@@ -23,6 +23,11 @@ pub record IsHistory (opening : State) (events : List Event) (root : Root) (node
   pub opened : held opening root.owner.actor root.handle ≡ Some node
   pub directory : is_dir opening.nodes node ≡ true
 
+-- the first of these events, where there is one, is the actor's
+abbrev pub FirstIsOwn : ℕ → List Event → Type 0
+FirstIsOwn a [] = Unit {0}
+FirstIsOwn a (event ∷ events) = event.actor ≡ a
+
 -- the history in three: up to some of the actor's own events, these with others' between, and what comes after
 pub record Around (a : ℕ) (events earlier own later : List Event) : Type 0 where
   pub before : List Event

@@ -34,7 +34,7 @@ mod world_laws;
 
 pub use book::{Book, LINES_MAX, OpenRefusal};
 pub use copy_tree::CopyTree;
-pub use laws::free_lines_never_rise;
+pub use laws::{free_lines_never_rise, world_limits_are_numbers};
 pub use like::like_outcomes;
 pub use like_laws::like_seats_agree;
 pub use opening::ACTORS_MAX;
@@ -43,6 +43,7 @@ pub use report::{Outcome, Outcomes, Report, WorldFault};
 pub use run_laws::{reports_with_memory_are_one, turns_join_runs};
 pub use world::World;
 pub use world_laws::{
-    actors_calls_stand_in_order, calls_tell_in_reports, handles_at_end, kept_is_released,
-    resolve_tells_in_reports, roots_stay_open, single_resolve_tells, walks_tell_in_reports,
+    actors_calls_stand_in_order, calls_have_windows, calls_tell_in_reports,
+    four_handles_are_enough_in_reports, handles_at_end, kept_is_released, resolve_tells_in_reports,
+    roots_stay_open, single_resolve_tells, undisturbed_resolve_is_worked, walks_tell_in_reports,
 };

@@ -1,11 +1,10 @@
 -- The bulk calls of a call: what their turns are in its own order of steps.
-use Rattle.std.proofs.Common.{◌≡◌, ℕ, List, [], ◌∷◌, Bool, true, false, refl, sym, ◌∙◌, ap}
+use Rattle.std.proofs.Common.{◌≡◌, ℕ, List, Bool, true, false, refl, sym, ◌∙◌, ap}
 use Rattle.path_text.specs.declared.errno.Errno.TheVariants.{NoMemory}
 use Rattle.path_text.specs.Reading.{Reading}
 use Rattle.tree_model.specs.declared.answer.Answer.{Answer}
-use Rattle.tree_model.specs.declared.answer.Answer.TheVariants.{Refused}
 use Rattle.walk_plan.specs.declared.goal.Goal.TheVariants.{Follow}
-use Rattle.step_resolver.specs.Order.{Way, Line, answered, no_room, not_made}
+use Rattle.step_resolver.specs.Order.{Way, Line}
 use Rattle.step_resolver.specs.Order as walk
 use Rattle.step_resolver.specs.View.{way_from}
 use Rattle.bulk_ops.specs.declared.turn.BulkTurn.{BulkTurn}
@@ -14,8 +13,13 @@ use Rattle.bulk_ops.specs.MakeAllView as making_view
 use Rattle.bulk_ops.specs.MakeAllView.{MakingView}
 use Rattle.bulk_ops.specs.RemoveAllOrder as remove
 use Rattle.bulk_ops.specs.RemoveAllTurnView as removing_view
+use Rattle.step_machine.specs.Machine.{HasEnded}
+use Rattle.step_machine.proofs.Split.{runs_split, all_led}
+use Rattle.bulk_ops.proofs.MakeAllTurns.{is_machine as making_machine}
+use Rattle.bulk_ops.proofs.RemovingAll.TurnsTell.{is_machine as removing_machine}
+use Rattle.root_ops.proofs.Within.{making_of_call, removing_of_call}
 use Rattle.root_ops.specs.declared.below.Below.{Below}
-use Rattle.root_ops.specs.Order.{Reply, CallTurn, ends, fault, making, removing, make_way, makes, removing_turn, LeadsTo}
+use Rattle.root_ops.specs.Order.{Reply, CallTurn, ends, fault, making, removing, make_way, makes, removing_turn, under_way, calls, LeadsTo}
 use Rattle.root_ops.specs.TurnView.{Either, TakesTo}
 use Rattle.root_ops.proofs.Rooms.{FindsNone, first_turn}
 
@@ -73,18 +77,16 @@ pub record MakeLed (below : Below) (turn : make.MakeTurn) (lines : List Line) (r
   pub is_reply : makes end ≡ ends reply
 
 pub makes_led : (below : Below) (turn : make.MakeTurn) (lines : List Line) (reply : Reply) → LeadsTo below (makes turn) lines (ends reply) → MakeLed below turn lines reply
-makes_led below turn [] reply leads = record { end = turn; led = refl; is_reply = leads }
-makes_led below (make.more call) (answered step answer ∷ lines) reply leads =
-    let later = makes_led below (make.take (make_way below) true call answer) lines reply leads.1 in
-    record { end = later.end; led = (leads.0, later.led); is_reply = later.is_reply }
-makes_led below (make.more call) (no_room step answer ∷ lines) reply leads =
-    let later = makes_led below (make.take (make_way below) false call answer) lines reply leads.1 in
-    record { end = later.end; led = (leads.0, later.led); is_reply = later.is_reply }
-makes_led below (make.more call) (not_made error ∷ lines) reply leads =
-    let later = makes_led below (make.take (make_way below) true call (Refused error)) lines reply leads.1 in
-    record { end = later.end; led = (leads.0.0, (leads.0.1, later.led)); is_reply = later.is_reply }
-makes_led below (make.made handle names) (line ∷ lines) reply leads = absurd leads
-makes_led below (make.failed error) (line ∷ lines) reply leads = absurd leads
+makes_led below turn lines reply leads =
+    let m = make.calls (make_way below) in
+    let split = runs_split m (calls below) (λ room. makes) making (making_machine (make_way below)) (making_of_call below) true turn lines (ends reply) tt leads in
+    let by = all_led m (calls below) (λ room. makes) making (λ room. made_over) true turn lines (ends reply) split in
+    record { end = by.at; led = by.led; is_reply = by.is_end }
+  where
+    made_over : (t : make.MakeTurn) → HasEnded (make.under_way t) → HasEnded (under_way (makes t))
+    made_over (make.more call) over = absurd over
+    made_over (make.made handle names) over = tt
+    made_over (make.failed error) over = tt
 
 -- the same of a RemoveAll
 pub record ClearLed (turn : remove.Turn) (lines : List Line) (reply : Reply) : Type 0 where
@@ -93,15 +95,12 @@ pub record ClearLed (turn : remove.Turn) (lines : List Line) (reply : Reply) : T
   pub is_reply : removing_turn end ≡ ends reply
 
 pub clears_led : (below : Below) (turn : remove.Turn) (lines : List Line) (reply : Reply) → LeadsTo below (removing_turn turn) lines (ends reply) → ClearLed turn lines reply
-clears_led below turn [] reply leads = record { end = turn; led = refl; is_reply = leads }
-clears_led below (remove.more call) (answered step answer ∷ lines) reply leads =
-    let later = clears_led below (remove.take true call answer) lines reply leads.1 in
-    record { end = later.end; led = (leads.0, later.led); is_reply = later.is_reply }
-clears_led below (remove.more call) (no_room step answer ∷ lines) reply leads =
-    let later = clears_led below (remove.take false call answer) lines reply leads.1 in
-    record { end = later.end; led = (leads.0, later.led); is_reply = later.is_reply }
-clears_led below (remove.more call) (not_made error ∷ lines) reply leads =
-    let later = clears_led below (remove.take true call (Refused error)) lines reply leads.1 in
-    record { end = later.end; led = (leads.0.0, (leads.0.1, later.led)); is_reply = later.is_reply }
-clears_led below (remove.removed n) (line ∷ lines) reply leads = absurd leads
-clears_led below (remove.failed error) (line ∷ lines) reply leads = absurd leads
+clears_led below turn lines reply leads =
+    let split = runs_split remove.calls (calls below) (λ room. removing_turn) removing removing_machine (removing_of_call below) true turn lines (ends reply) tt leads in
+    let by = all_led remove.calls (calls below) (λ room. removing_turn) removing (λ room. cleared_over) true turn lines (ends reply) split in
+    record { end = by.at; led = by.led; is_reply = by.is_end }
+  where
+    cleared_over : (t : remove.Turn) → HasEnded (remove.under_way t) → HasEnded (under_way (removing_turn t))
+    cleared_over (remove.more call) over = absurd over
+    cleared_over (remove.removed count) over = tt
+    cleared_over (remove.failed error) over = tt

@@ -15,7 +15,7 @@ use Rattle.root_ops.specs.declared.op.Op.{Op}
 use Rattle.root_ops.specs.declared.op.Op.TheVariants.{MkdirAll, RemoveAll}
 use Rattle.root_ops.specs.declared.reply.Reply.{Reply as Told}
 use Rattle.root_ops.specs.BulkTells.{BulkCallsTell}
-use Rattle.root_ops.specs.CallHistory.{CallInHistory, IsCallInHistory, RepliesWith}
+use Rattle.root_ops.specs.CallHistory.{CallInHistory, IsCallInHistory, RepliesWith, IsPath}
 use Rattle.root_ops.specs.EachCall.{Makes, Clears, MakeAllTells, RemoveAllTells, BulkTells}
 use Rattle.root_ops.specs.Order.{opened, count, fault, ends, make_way, makes, removing_turn, clear_in, unless_fault}
 use Rattle.root_ops.specs.View.{reply_view}
@@ -30,18 +30,18 @@ same_made handle names standing same_handle same_names = ap (λ (h : Handle). ma
 module _ (bulk : BulkCallsTell) (c : CallInHistory) (reply : Told) (is : IsCallInHistory c) (leads : RepliesWith c (reply_view reply)) where
   -- ---- MkdirAll
 
-  make_by_end : (text : List ℕ) (end : make.MakeTurn) → makes end ≡ ends (reply_view reply) → Makes c (reading_of text) end → MakeAllTells c text reply
-  make_by_end text (make.more call) e tells = cc (e)
-  make_by_end text (make.made handle names) e tells =
+  make_by_end : (text : List ℕ) → IsPath text → (end : make.MakeTurn) → makes end ≡ ends (reply_view reply) → Makes c (reading_of text) end → MakeAllTells c text reply
+  make_by_end text fine (make.more call) e tells = cc (e)
+  make_by_end text fine (make.made handle names) e tells =
       let told = is_opened reply handle names (same_reply (opened handle names) (reply_view reply) e) in
       subst (MakeAllTells c text) (sym told.1.0)
-      (subst (λ (end : make.MakeTurn). Makes c (reading_of text) end) (same_made handle names told.0 told.1.1.0 told.1.1.1) tells)
-  make_by_end text (make.failed error) e tells = subst (MakeAllTells c text) (sym (is_fault reply error (same_reply (fault error) (reply_view reply) e))) (inr tells)
+      (fine, subst (λ (end : make.MakeTurn). Makes c (reading_of text) end) (same_made handle names told.0 told.1.1.0 told.1.1.1) tells)
+  make_by_end text fine (make.failed error) e tells = subst (MakeAllTells c text) (sym (is_fault reply error (same_reply (fault error) (reply_view reply) e))) (inr tells)
 
   make_with : (text : List ℕ) → c.op ≡ MkdirAll text → c.room ≡ true → text_fault text ≡ None → MakeAllTells c text reply
   make_with text same room fine =
       let told = bulk.made c (reply_view reply) text is leads same room fine in
-      make_by_end text told.end told.is_reply told.tells
+      make_by_end text fine told.end told.is_reply told.tells
 
   make_by : (text : List ℕ) (why : Option Errno) (room : Bool) → c.op ≡ MkdirAll text → text_fault text ≡ why → c.room ≡ room → MakeAllTells c text reply
   make_by text (Some error) true same e with_room =
@@ -58,17 +58,17 @@ module _ (bulk : BulkCallsTell) (c : CallInHistory) (reply : Told) (is : IsCallI
 
   -- ---- RemoveAll
 
-  clear_by_end : (text : List ℕ) (end : remove.Turn) → removing_turn end ≡ ends (reply_view reply) → Clears c (reading_of text) end → RemoveAllTells c text reply
-  clear_by_end text (remove.more call) e tells = cc (e)
-  clear_by_end text (remove.removed n) e tells = subst (RemoveAllTells c text) (sym (is_count reply n (same_reply (count n) (reply_view reply) e))) tells
-  clear_by_end text (remove.failed error) e tells =
+  clear_by_end : (text : List ℕ) → IsPath text → (end : remove.Turn) → removing_turn end ≡ ends (reply_view reply) → Clears c (reading_of text) end → RemoveAllTells c text reply
+  clear_by_end text fine (remove.more call) e tells = cc (e)
+  clear_by_end text fine (remove.removed n) e tells = subst (RemoveAllTells c text) (sym (is_count reply n (same_reply (count n) (reply_view reply) e))) (fine, tells)
+  clear_by_end text fine (remove.failed error) e tells =
       subst (RemoveAllTells c text) (sym (is_fault reply error (same_reply (fault error) (reply_view reply) e))) (inr (inr tells))
 
   clear_with : (text : List ℕ) (split : Split) → c.op ≡ RemoveAll text → c.room ≡ true → text_fault text ≡ None → split_of (reading_of text) Drop ≡ Ok split
       → RemoveAllTells c text reply
   clear_with text split same room fine at =
       let told = bulk.cleared c (reply_view reply) text split is leads same room fine at in
-      clear_by_end text told.end told.is_reply (record { split = split; at = at; tells = told.tells })
+      clear_by_end text fine told.end told.is_reply (record { split = split; at = at; tells = told.tells })
 
   clear_by_split : (text : List ℕ) (at : Result Split Errno) → c.op ≡ RemoveAll text → c.room ≡ true → text_fault text ≡ None → split_of (reading_of text) Drop ≡ at
       → RemoveAllTells c text reply

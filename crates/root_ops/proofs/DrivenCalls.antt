@@ -19,11 +19,11 @@ use Rattle.step_resolver.specs.View.{WalkView}
 use Rattle.step_resolver.specs.TurnView.{TakesTo as WalkTakesTo}
 use Rattle.root_ops.specs.declared.aim.Wanted.{Wanted}
 use Rattle.root_ops.specs.declared.aim.Wanted.TheVariants as wants
-use Rattle.root_ops.specs.Order.{After, gives, closes, Doing, walking, acting, closing, releasing, CallTurn, more, ends, Reply, kept, reply_to, same_owner, releases, walked, due, take, steps_left, way_of, IsUnmade}
+use Rattle.root_ops.specs.Order.{After, gives, closes, Doing, walking, acting, closing, releasing, CallTurn, more, ends, Reply, kept, reply_to, same_owner, releases, walked, due, take, calls, steps_left, way_of, IsUnmade}
 use Rattle.root_ops.specs.TurnView.{StartsTo, TakesTo}
 use Rattle.root_ops.specs.Driver.{IsAnswer, Drives, Runs, steps_in}
 use Rattle.root_ops.proofs.Refusals.{refusal_needs_no_room, unmade}
-use Rattle.root_ops.proofs.FirstTurn.{leads_on}
+use Rattle.step_machine.proofs.Runs.{leads_on}
 use Rattle.root_ops.proofs.Steps.{IsFewer, take_fewer, a_step_left}
 
 -- ---- what isn't made for want of memory is no Close
@@ -63,7 +63,7 @@ drives_on join below a s t u from mid to first second =
     let both = join s es fs in
     record {
       lines = first.lines ++ second.lines;
-      leads = leads_on below first.lines from mid second.lines to first.leads second.leads;
+      leads = leads_on (calls below) first.lines from mid second.lines to first.leads second.leads;
       legal = subst (IsLegal s) (sym joined) (both.0.1 (first.legal, subst (λ v. IsLegal v fs) (sym first.after) second.legal));
       after = ap (after_events s) joined ∙ both.1 ∙ ap (λ v. after_events v fs) first.after ∙ second.after;
     }

@@ -14,13 +14,13 @@ use Rattle.path_text.specs.Split.{split_of, split_at, before_last, last_part, pa
 use Rattle.path_text.specs.Text.{text_fault, reading_of}
 use Rattle.path_text.proofs.TextLemmas.{reading_few}
 use Rattle.tree_model.specs.declared.answer.Answer.{Answer}
-use Rattle.tree_model.specs.declared.answer.Answer.TheVariants.{Refused}
 use Rattle.tree_model.specs.declared.step.Mode.{Mode}
 use Rattle.handles.specs.declared.owner.Owner.{Owner}
 use Rattle.handles.specs.Objects.{StandingObject}
 use Rattle.walk_plan.specs.declared.goal.Goal.TheVariants.{Follow, NoFollow}
+use Rattle.step_machine.specs.Machine.{taken}
 use Rattle.step_resolver.specs.Asked.{AskedPart}
-use Rattle.step_resolver.specs.Order.{Way, Handle, Line, answered, no_room, not_made, Turn, found, partial, failed}
+use Rattle.step_resolver.specs.Order.{Way, Handle, Line, answered, no_room, not_made, Turn, found, partial, failed, has_room, answer_of}
 use Rattle.step_resolver.specs.Order as walk
 use Rattle.step_resolver.specs.TurnView as walk_view
 use Rattle.step_resolver.specs.View.{way_from}
@@ -40,7 +40,7 @@ use Rattle.root_ops.specs.declared.below.Below.{Below}
 use Rattle.root_ops.specs.declared.op.Op.{Op}
 use Rattle.root_ops.specs.declared.op.Op.TheVariants.{Resolve, ResolveNoFollow, ReadLink, CreateFile, CreateDir, CreateLink, RemoveFile, RemoveDir, Rename, MkdirAll, RemoveAll, Single, Release}
 use Rattle.root_ops.specs.Order as call
-use Rattle.root_ops.specs.Order.{Doing, walking, acting, checking, closing, making, removing, releasing, CallTurn, more, ends, make_way, makes, removing_turn, clear_in, walks, unless_fault, in_directory, between, from_entry, is_single, single, same_owner, releases, lacks, starts, begins, way_of, renaming_of, steps_then, steps_left, Reply, LeadsTo}
+use Rattle.root_ops.specs.Order.{Doing, walking, acting, checking, closing, making, removing, releasing, CallTurn, more, ends, make_way, makes, removing_turn, clear_in, walks, unless_fault, in_directory, between, from_entry, is_single, single, same_owner, releases, lacks, starts, begins, way_of, renaming_of, steps_then, steps_left, Reply, LeadsTo, calls}
 use Rattle.root_ops.specs.declared.call.CallTurn.{CallTurn as Outcome}
 use Rattle.root_ops.specs.TurnView.{turn_view, Keeps, StartsTo, steps_to_come, STEPS_MAX}
 use Rattle.root_ops.specs.StepCount.{is_walking, is_bulk, WalksOrFew, FiveAfterWalks, BulkAfterWalks}
@@ -247,12 +247,8 @@ call_fewer below room doing answer k few = fewer_still below (steps_left below d
 pub lines_few : (below : Below) (k : ℕ) (lines : List Line) (turn end : CallTurn) → IsFewer below (suc k) turn → LeadsTo below turn lines end → length lines ≤ k
 lines_few below k [] turn end few leads = omega arith
 lines_few below zero (line ∷ lines) (more doing) end few leads = absurd (omega (arith, few, a_step_left below doing))
-lines_few below (suc k) (answered step answer ∷ lines) (more doing) end few leads =
-    omega (arith, lines_few below k lines (call.take below true doing answer) end (call_fewer below true doing answer k few) leads.1)
-lines_few below (suc k) (no_room step answer ∷ lines) (more doing) end few leads =
-    omega (arith, lines_few below k lines (call.take below false doing answer) end (call_fewer below false doing answer k few) leads.1)
-lines_few below (suc k) (not_made error ∷ lines) (more doing) end few leads =
-    omega (arith, lines_few below k lines (call.take below true doing (Refused error)) end (call_fewer below true doing (Refused error) k few) leads.1)
+lines_few below (suc k) (line ∷ lines) (more doing) end few leads =
+    omega (arith, lines_few below k lines (taken (calls below) doing line) end (call_fewer below (has_room line) doing (answer_of line) k few) leads.1)
 lines_few below k (line ∷ lines) (ends reply) end few leads = absurd leads
 
 removing_few : (below : Below) (way : Way) (target : List ℕ) (handle : Handle) (names : List (List ℕ)) (lines : List Line) (reply : Reply)

@@ -1,5 +1,5 @@
 -- The walk with which a call begins: its own lines are the first of the call's, and the headline holds of it.
-use Rattle.std.proofs.Common.{◌≡◌, ℕ, Bool, true, false, List, [], ◌∷◌, ◌++◌, Option, None, Result, Ok, refl, sym, ap, ◌∙◌, subst, append-nil}
+use Rattle.std.proofs.Common.{◌≡◌, ℕ, Bool, true, List, [], ◌++◌, Option, None, Result, Ok, refl, sym, ap, ◌∙◌, subst, append-nil}
 use Rattle.path_text.specs.declared.errno.Errno.{Errno}
 use Rattle.path_text.specs.declared.path.Rule.{Rule}
 use Rattle.path_text.specs.declared.path.Rule.TheVariants.{Drop, Refuse}
@@ -7,20 +7,15 @@ use Rattle.path_text.specs.declared.path.Split.{Split}
 use Rattle.path_text.specs.Reading.{Reading}
 use Rattle.path_text.specs.Split.{split_of}
 use Rattle.path_text.specs.Text.{text_fault, reading_of}
-use Rattle.tree_model.specs.declared.answer.Answer.TheVariants.{Refused}
 use Rattle.tree_model.specs.declared.step.Mode.{Mode}
-use Rattle.tree_model.specs.History.{IsLegal}
-use Rattle.tree_model.proofs.HistoryLaws.{IsLegal-front}
 use Rattle.walk_plan.specs.declared.goal.Goal.{Goal}
 use Rattle.walk_plan.specs.declared.goal.Goal.TheVariants.{Follow, NoFollow, Deepest}
 use Rattle.step_resolver.specs.Footprint.{IsEnd}
-use Rattle.step_resolver.specs.Headline.{EveryWalk}
-use Rattle.step_resolver.specs.Order.{Way, Line, answered, no_room, not_made, events_of}
+use Rattle.step_resolver.specs.Order.{Way, Line}
 use Rattle.step_resolver.specs.Order as walk
 use Rattle.step_resolver.specs.View.{way_from}
 use Rattle.bulk_ops.specs.MakeAllOrder as make
 use Rattle.bulk_ops.specs.RemoveAllOrder as remove
-use Rattle.bulk_ops.specs.RemoveAllTells.{walk_part}
 use Rattle.bulk_ops.proofs.RemovingAll.Parts.{WalkEnd, goes_on, walk_fails, walk_finds, walk_stops, walk_end}
 use Rattle.root_ops.specs.declared.aim.Aim.{Aim}
 use Rattle.root_ops.specs.declared.aim.Aim.TheVariants.{Opens, Reads, Changes, WalksOn}
@@ -29,14 +24,18 @@ use Rattle.root_ops.specs.declared.aim.Change.TheVariants as changes
 use Rattle.root_ops.specs.declared.op.Op.{Op}
 use Rattle.root_ops.specs.declared.op.Op.TheVariants.{Resolve, ResolveNoFollow, ReadLink, CreateFile, CreateDir, CreateLink, RemoveFile, RemoveDir, Rename, MkdirAll, RemoveAll, Single, Release}
 use Rattle.root_ops.specs.BulkTells.{bulk_of}
-use Rattle.root_ops.specs.CallHistory.{CallInHistory, actor_of, begin_of, IsCallInHistory, RepliesWith}
+use Rattle.root_ops.specs.CallHistory.{CallInHistory, IsCallInHistory, RepliesWith}
 use Rattle.root_ops.specs.EachCall.{IsDirectoryOf, HasName, WalksFirst, BeginsWithWalk}
 use Rattle.root_ops.specs.Order.{Reply, ends, make_way, makes, removing_turn, clear_in, unless_fault, starts, goal_of, way_of, walked, walks, on_path, on_entry, in_directory, from_entry, between, renaming_of, LeadsTo}
+use Rattle.step_machine.specs.Machine.{HasEnded}
+use Rattle.step_machine.proofs.Split.{runs_split}
+use Rattle.step_resolver.proofs.TurnsTell.{is_machine}
+use Rattle.bulk_ops.proofs.Within.{walk_of_making}
 use Rattle.root_ops.proofs.Bulk.{makes_led, clears_led}
 use Rattle.root_ops.proofs.FirstTurn.{led_from}
-use Rattle.step_resolver.proofs.DrivenWalks.{joined_events}
-use Rattle.bulk_ops.proofs.OwnEvents.{cut}
-use Rattle.root_ops.proofs.Handles.WalkParts.{IsEnded, walk_ends}
+use Rattle.bulk_ops.proofs.WalkParts.{walked_to}
+use Rattle.root_ops.proofs.Handles.BulkHistory.{is_bulk_of}
+use Rattle.root_ops.proofs.Handles.WalkParts.{walk_ends}
 
 -- ---- the walk's own lines
 
@@ -49,48 +48,18 @@ record FirstLines (way : Way) (turn : walk.Turn) (lines : List Line) : Type 0 wh
   pub over : IsEnd end
   pub leads : walk.LeadsTo way turn first end
 
-one_more : (way : Way) (turn onward : walk.Turn) (line : Line) (lines : List Line)
-    → ((first : List Line) (end : walk.Turn) → walk.LeadsTo way onward first end → walk.LeadsTo way turn (line ∷ first) end)
-    → FirstLines way onward lines → FirstLines way turn (line ∷ lines)
-one_more way turn onward line lines leads later = record {
-  first = line ∷ later.first;
-  rest = later.rest;
-  whole = ap (λ ls. line ∷ ls) later.whole;
-  end = later.end;
-  over = later.over;
-  leads = leads later.first later.end later.leads;
-}
-
-at_once : (way : Way) (turn : walk.Turn) (lines : List Line) → IsEnd turn → FirstLines way turn lines
-at_once way turn lines over = record { first = []; rest = lines; whole = refl; end = turn; over = over; leads = refl }
-
 -- a MkdirAll that has come to its end
 abbrev IsMade : make.MakeTurn → Type 0
-IsMade (make.more call) = ⊥
-IsMade (make.made handle names) = Unit {0}
-IsMade (make.failed error) = Unit {0}
+IsMade turn = HasEnded (make.under_way turn)
 
-make_first : (way : Way) (room : Bool) (turn : walk.Turn) (lines : List Line) (end : make.MakeTurn) → IsMade end
-    → make.LeadsTo way (make.after_walk room turn) lines end → FirstLines way turn lines
-make_first way room (walk.found handle names) lines end over leads = at_once way (walk.found handle names) lines tt
-make_first way room (walk.partial handle names rest) lines end over leads = at_once way (walk.partial handle names rest) lines tt
-make_first way room (walk.failed error) lines end over leads = at_once way (walk.failed error) lines tt
-make_first way room (walk.more w) [] end over leads = absurd (subst IsMade (sym leads) over)
-make_first way room (walk.more w) (answered step answer ∷ lines) end over leads =
-    one_more way (walk.more w) (walk.take way true w answer) (answered step answer) lines (λ first to led. (leads.0, led))
-    (make_first way true (walk.take way true w answer) lines end over leads.1)
-make_first way room (walk.more w) (no_room step answer ∷ lines) end over leads =
-    one_more way (walk.more w) (walk.take way false w answer) (no_room step answer) lines (λ first to led. (leads.0, led))
-    (make_first way false (walk.take way false w answer) lines end over leads.1)
-make_first way room (walk.more w) (not_made error ∷ lines) end over leads =
-    one_more way (walk.more w) (walk.take way true w (Refused error)) (not_made error) lines (λ first to led. (leads.0, (leads.1.0, led)))
-    (make_first way true (walk.take way true w (Refused error)) lines end over leads.1.1)
+make_first : (way : Way) (turn : walk.Turn) (lines : List Line) (end : make.MakeTurn) → IsMade end → make.LeadsTo way (make.after_walk true turn) lines end → FirstLines way turn lines
+make_first way turn lines end over leads =
+    let split = runs_split (walk.walks way) (make.calls way) make.after_walk make.walking (is_machine way) (walk_of_making way) true turn lines end over leads in
+    record { first = split.first; rest = split.rest; whole = split.joined; end = split.at; over = split.over; leads = split.led }
 
 -- a RemoveAll that has come to its end
 abbrev IsCleared : remove.Turn → Type 0
-IsCleared (remove.more call) = ⊥
-IsCleared (remove.removed n) = Unit {0}
-IsCleared (remove.failed error) = Unit {0}
+IsCleared turn = HasEnded (remove.under_way turn)
 
 clear_first : (way : Way) (target : List ℕ) (turn : walk.Turn) (lines : List Line) (end : remove.Turn) → IsCleared end
     → WalkEnd way target turn lines end → FirstLines way turn lines
@@ -104,34 +73,14 @@ clear_first way target turn lines end over (walk_stops handle names parts cut') 
 
 -- ---- a call
 
-module _ (every : EveryWalk) (c : CallInHistory) (reply : Reply) (is : IsCallInHistory c) (leads : RepliesWith c reply) where
+module _ (c : CallInHistory) (reply : Reply) (is : IsCallInHistory c) (leads : RepliesWith c reply) where
   abbrev begins_with : (goal : Goal) (path : Reading) → FirstLines (way_from c.below.root goal c.below.flags) (walk.begins (way_from c.below.root goal c.below.flags) path) c.lines
       → BeginsWithWalk c (way_from c.below.root goal c.below.flags) path
-  begins_with goal path of =
-      let a = actor_of c in
-      let way = way_from c.below.root goal c.below.flags in
-      let parts = cut a c.window (events_of a of.first) (events_of a of.rest) (is.own ∙ ap (events_of a) of.whole ∙ joined_events a of.first of.rest) in
-      record {
-        window = parts.before;
-        later = parts.after;
-        windows = parts.whole;
-        lines = of.first;
-        rest = of.rest;
-        all_lines = of.whole;
-        own = parts.own_before;
-        end = of.end;
-        over = of.over;
-        leads = of.leads;
-        headline = every (walk_part (bulk_of c way path) parts.before of.first) of.end
-            (record {
-              tree = is.tree;
-              legal_before = is.legal_before;
-              legal = IsLegal-front (begin_of c) parts.before parts.after (subst (IsLegal (begin_of c)) parts.whole is.legal);
-              own = parts.own_before;
-              root = is.root;
-              root_is_dir = is.root_is_dir;
-            }) of.leads;
-      }
+  begins_with goal path of = record {
+    end = of.end;
+    over = of.over;
+    walked = walked_to (bulk_of c (way_from c.below.root goal c.below.flags) path) (is_bulk_of c goal path is) of.first of.rest of.whole of.end of.leads;
+  }
 
   -- ---- of a bulk call
 
@@ -141,7 +90,7 @@ module _ (every : EveryWalk) (c : CallInHistory) (reply : Reply) (is : IsCallInH
       let begun = make.begins way (reading_of text) in
       let by = makes_led c.below begun c.lines reply
       (led_from c reply (MkdirAll text) true (makes begun) leads same room (ap (λ (why : Option Errno). unless_fault why (makes begun)) fine)) in
-      begins_with Deepest (reading_of text) (make_first way true (walk.begins way (reading_of text)) c.lines by.end (made_too by.end by.is_reply) by.led)
+      begins_with Deepest (reading_of text) (make_first way (walk.begins way (reading_of text)) c.lines by.end (made_too by.end by.is_reply) by.led)
     where
       made_too : (end : make.MakeTurn) → makes end ≡ ends reply → IsMade end
       made_too (make.more call) e = cc (e)
@@ -166,24 +115,18 @@ module _ (every : EveryWalk) (c : CallInHistory) (reply : Reply) (is : IsCallInH
 
   -- ---- of each operation
 
-  over_of : (end : walk.Turn) → IsEnded end → IsEnd end
-  over_of (walk.more w) over = over
-  over_of (walk.found handle names) over = over
-  over_of (walk.partial handle names rest) over = over
-  over_of (walk.failed error) over = over
-
   -- the walk with which it begins, and the call's lines after it
   pub record WalkLed (aim : Aim) (path : Reading) : Type 0 where
     pub begun : BeginsWithWalk c (way_from c.below.root (goal_of aim) c.below.flags) path
     pub room : Bool
-    pub onward : LeadsTo c.below (walked c.below room aim begun.end) begun.rest (ends reply)
+    pub onward : LeadsTo c.below (walked c.below room aim begun.end) begun.walked.rest (ends reply)
 
   by_aim : (op : Op) (aim : Aim) (path : Reading) → c.op ≡ op → c.room ≡ true → starts c.below true op ≡ walks c.below aim path → WalkLed aim path
   by_aim op aim path same room first =
       let parts = walk_ends c.below aim reply c.lines true (walk.begins (way_of c.below aim) path) (led_from c reply op true (walks c.below aim path) leads same room first) in
       record {
         begun = begins_with (goal_of aim) path
-            (record { first = parts.first; rest = parts.rest; whole = parts.whole; end = parts.end; over = over_of parts.end parts.ended; leads = parts.leads });
+            (record { first = parts.first; rest = parts.rest; whole = parts.whole; end = parts.end; over = parts.ended; leads = parts.leads });
         room = parts.room;
         onward = parts.onward;
       }

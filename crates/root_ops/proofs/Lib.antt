@@ -1,5 +1,6 @@
 pub mod Rooms
 pub mod Refusals
+pub mod Within
 pub mod Bulk
 pub mod Texts
 pub mod Steps
@@ -15,3 +16,7 @@ pub mod Resolves
 pub mod BulkReplies
 pub mod DrivenCalls
 pub mod LikeCalls
+pub mod Blind
+pub mod NotRaced
+pub mod VainCalls
+pub mod OwnHandles

@@ -1,7 +1,7 @@
 -- What a call does once its walks are over, in every legal history: which own event makes its change, on what the
 -- walk found, as the step table says at that event's moment; and what a fault's cause is. mknod(2), mkdir(2),
 -- symlink(2), readlink(2), unlink(2), rmdir(2), rename(2), renameat2(2).
-use Rattle.std.specs.Prelude.{◌≡◌, ◌≢◌, ℕ, suc, ◌<◌, ◌≤◌, List, [], ◌++◌, length, true, Some, None, Result, Ok, Err}
+use Rattle.std.specs.Prelude.{◌≡◌, ◌≢◌, ℕ, suc, ◌<◌, ◌≤◌, List, [], length, true, Some, None, Result, Ok, Err}
 use Rattle.path_text.specs.declared.errno.Errno.{Errno}
 use Rattle.path_text.specs.declared.errno.Errno.TheVariants.{NoMemory, TooMany}
 use Rattle.path_text.specs.declared.path.Rule.{Rule}
@@ -12,7 +12,6 @@ use Rattle.path_text.specs.Split.{split_of}
 use Rattle.path_text.specs.Text.{text_fault, reading_of}
 use Rattle.tree_model.specs.declared.answer.Answer.{Answer}
 use Rattle.tree_model.specs.declared.answer.Answer.TheVariants.{Text, Done, Refused}
-use Rattle.tree_model.specs.declared.answer.Event.{Event}
 use Rattle.tree_model.specs.declared.inode.Inode.{Inode}
 use Rattle.tree_model.specs.declared.inode.Object.TheVariants as object
 use Rattle.tree_model.specs.declared.step.Mode.{Mode}
@@ -23,12 +22,11 @@ use Rattle.tree_model.specs.Steps.{held, held_count, is_full}
 use Rattle.walk_plan.specs.declared.goal.Goal.{Goal}
 use Rattle.walk_plan.specs.declared.goal.Goal.TheVariants.{Follow, NoFollow}
 use Rattle.step_resolver.specs.Failures.{TellsWant}
-use Rattle.step_resolver.specs.Headline.{Headline}
-use Rattle.step_resolver.specs.Order.{Handle, Line, events_of, IsWant, found, failed}
+use Rattle.step_resolver.specs.Order.{Handle, IsWant, found, failed}
 use Rattle.step_resolver.specs.Order as walk
 use Rattle.step_resolver.specs.View.{way_from}
-use Rattle.step_resolver.specs.WalkHistory.{WalkInHistory, IsWalkInHistory, begin_of, state_at, timeline, own_events}
-use Rattle.bulk_ops.specs.RemoveAllTells.{event_at, LeavesEntries, AllLeaveEntries, walk_part, rest_part}
+use Rattle.step_resolver.specs.WalkHistory.{WalkInHistory, begin_of, state_at, timeline}
+pub use Rattle.bulk_ops.specs.WalkFirst.{event_at, LeavesEntries, AllLeaveEntries, WalkedTo, after_walk}
 use Rattle.root_ops.specs.declared.aim.Change.{Change}
 use Rattle.root_ops.specs.declared.aim.Change.TheVariants as changes
 use Rattle.root_ops.specs.declared.aim.Renaming.{Renaming}
@@ -39,26 +37,7 @@ use Rattle.root_ops.specs.CallHistory.{CallInHistory, IsCallInHistory, RepliesWi
 use Rattle.root_ops.specs.Meaning.{text_of, no_directory}
 use Rattle.root_ops.specs.Order.{Reply, link_text, done, fault, change_step, rename_step, renaming_of}
 
--- ---- a walk of a call, and what comes after it
-
--- This part of a history begins with a walk on its way along its path, which comes to this end; the headline holds
--- of the walk, and it leaves all entries.
-pub record WalkedTo (w : WalkInHistory) (end : walk.Turn) : Type 0 where
-  pub window : List Event
-  pub later : List Event
-  pub windows : w.window ≡ window ++ later
-  pub lines : List Line
-  pub rest : List Line
-  pub all_lines : w.lines ≡ lines ++ rest
-  pub own_later : own_events w.actor later ≡ events_of w.actor rest
-  pub leads : walk.LeadsTo w.way (walk.begins w.way w.path) lines end
-  pub is_walk : IsWalkInHistory (walk_part w window lines)
-  pub headline : Headline (walk_part w window lines) end
-  pub leaves : AllLeaveEntries (walk_part w window lines)
-
--- what comes after the walk; its moments count from there
-abbrev pub after_walk : {w : WalkInHistory} {end : walk.Turn} → WalkedTo w end → WalkInHistory
-after_walk {w} walked = rest_part w walked.window walked.later walked.rest
+-- ---- a walk of a call
 
 -- a call's window, as that of a walk below the call's root along this path, with the call's flags
 abbrev pub along : CallInHistory → Goal → Reading → WalkInHistory
@@ -195,8 +174,8 @@ ReadTells c text other = ⊥
 
 -- ---- rename
 
--- The old path's walk found a directory; after it the new path's did, with the same flags. At most five steps are
--- asked for after both.
+-- The old path's walk found a directory; after it the new path's did, with the same flags, begun at any moment from
+-- the first one's end to its own first event. At most five steps are asked for after both.
 pub record FindsBoth (c : CallInHistory) (from to : Split) : Type 0 where
   pub old : Handle
   pub old_names : List (List ℕ)
@@ -261,7 +240,7 @@ pub record EntryRenamed (c : CallInHistory) (old new : List ℕ) (mode : Mode) :
 
 -- Why it wasn't: a fault of the old text, or no memory for the first turn, or a fault of the new text, without a
 -- step; the first walk's fault or the second's, or no memory for this one's first turn; or what comes after both.
--- Nothing was changed.
+-- After the second's fault only the old directory is closed. Nothing was changed.
 pub data RenameFault (c : CallInHistory) (old new : List ℕ) (mode : Mode) : Errno → Type 0 where
   rename_at_once : {error : Errno} → EndsAtOnce c old error → RenameFault c old new mode error
   old_nameless : {error : Errno} → IsPath old → split_of (reading_of old) Drop ≡ Err error → c.lines ≡ []
@@ -277,7 +256,7 @@ pub data RenameFault (c : CallInHistory) (old new : List ℕ) (mode : Mode) : Er
   of_second : {error : Errno} (from to : Split) → IsEntry old Drop from → IsEntry new Drop to
       → (dir : Handle) (names : List (List ℕ))
       → (first : WalkedTo (along c Follow from.dir) (found dir names))
-      → (second : WalkedTo (on_path to.dir (after_walk first)) (failed error))
+      → (second : WalkedTo (on_path to.dir (after_walk first)) (failed error)) → length second.rest ≤ 1
       → OneMoreHeld first → AllLeaveEntries (after_walk second) → RenameFault c old new mode error
   no_second : (from to : Split) → IsEntry old Drop from → IsEntry new Drop to → (dir : Handle) (names : List (List ℕ))
       → (first : WalkedTo (along c Follow from.dir) (found dir names)) → TellsWant NoMemory first.lines

@@ -1,6 +1,6 @@
 -- What each call tells, outright, in every legal history: of the walk with which it begins, whose end is the reply
 -- to a resolve, and of a bulk call what it did. openat2(2); mkdir(2), unlink(2), rmdir(2).
-use Rattle.std.specs.Prelude.{◌≡◌, ℕ, ◌⊎◌, List, [], ◌++◌, true, reverse, Ok, Err}
+use Rattle.std.specs.Prelude.{◌≡◌, ℕ, ◌⊎◌, List, [], true, reverse, Ok, Err}
 use Rattle.path_text.specs.declared.errno.Errno.{Errno}
 use Rattle.path_text.specs.declared.path.Rule.{Rule}
 use Rattle.path_text.specs.declared.path.Rule.TheVariants.{Drop, Refuse}
@@ -8,27 +8,25 @@ use Rattle.path_text.specs.declared.path.Split.{Split}
 use Rattle.path_text.specs.Reading.{Reading}
 use Rattle.path_text.specs.Split.{split_of}
 use Rattle.path_text.specs.Text.{reading_of}
-use Rattle.tree_model.specs.declared.answer.Event.{Event}
 use Rattle.walk_plan.specs.declared.goal.Goal.{Goal}
 use Rattle.walk_plan.specs.declared.goal.Goal.TheVariants.{Follow, NoFollow, Deepest}
 use Rattle.step_resolver.specs.Footprint.{IsEnd}
-use Rattle.step_resolver.specs.Headline.{Headline}
-use Rattle.step_resolver.specs.Order.{Way, Line, events_of}
+use Rattle.step_resolver.specs.Order.{Way}
 use Rattle.step_resolver.specs.Order as walk
 use Rattle.step_resolver.specs.TurnView.{standing_handle}
 use Rattle.step_resolver.specs.View.{way_from}
-use Rattle.step_resolver.specs.WalkHistory.{own_events}
 use Rattle.bulk_ops.specs.MakeAllOrder as make
 use Rattle.bulk_ops.specs.MakeAllTells.{MakeTells}
 use Rattle.bulk_ops.specs.RemoveAllOrder as remove
-use Rattle.bulk_ops.specs.RemoveAllTells.{Tells, walk_part}
+use Rattle.bulk_ops.specs.RemoveAllTells.{Tells}
+use Rattle.bulk_ops.specs.WalkFirst.{WalkedTo}
 use Rattle.root_ops.specs.declared.op.Op.{Op}
 use Rattle.root_ops.specs.declared.op.Op.TheVariants.{Resolve, ResolveNoFollow, ReadLink, CreateFile, CreateDir, CreateLink, RemoveFile, RemoveDir, Rename, MkdirAll, RemoveAll, Single, Release}
 use Rattle.root_ops.specs.declared.reply.Reply.{Reply as Told}
 use Rattle.root_ops.specs.declared.reply.Reply.TheVariants.{Opened, Count, Fault}
 use Rattle.root_ops.specs.Acts.{ActTells}
 use Rattle.root_ops.specs.BulkTells.{bulk_of}
-use Rattle.root_ops.specs.CallHistory.{CallInHistory, actor_of, end_of, IsCallInHistory, RepliesWith, HandlesAfter}
+use Rattle.root_ops.specs.CallHistory.{CallInHistory, end_of, IsCallInHistory, RepliesWith, HandlesAfter}
 pub use Rattle.root_ops.specs.CallHistory.{IsPath, EndsAtOnce}
 use Rattle.root_ops.specs.Order.{make_way}
 use Rattle.root_ops.specs.Quiet.{IsQuiet, ClosesWhatIsOpen, OpComesTo, caller_of}
@@ -61,20 +59,12 @@ WalksFirst (RemoveAll text) goal path = IsPath text × ((goal ≡ Follow) × IsD
 WalksFirst (Single step) goal path = ⊥
 WalksFirst (Release standing) goal path = ⊥
 
--- The call begins with a walk on this way along this path, which comes to an end by the first of the call's lines,
--- in the first part of its window; and the headline holds of it.
+-- The call begins with a walk on this way along this path, which comes to an end by the first of the call's lines;
+-- and the headline holds of it.
 pub record BeginsWithWalk (c : CallInHistory) (way : Way) (path : Reading) : Type 0 where
-  pub window : List Event
-  pub later : List Event
-  pub windows : c.window ≡ window ++ later
-  pub lines : List Line
-  pub rest : List Line
-  pub all_lines : c.lines ≡ lines ++ rest
-  pub own : own_events (actor_of c) window ≡ events_of (actor_of c) lines
   pub end : walk.Turn
   pub over : IsEnd end
-  pub leads : walk.LeadsTo way (walk.begins way path) lines end
-  pub headline : Headline (walk_part (bulk_of c way path) window lines) end
+  pub walked : WalkedTo (bulk_of c way path) end
 
 -- ---- the bulk calls
 
@@ -96,13 +86,13 @@ pub record HasNoName (c : CallInHistory) (text : List ℕ) (error : Errno) : Typ
 -- what the reply to a MkdirAll tells; other replies don't come
 abbrev pub MakeAllTells : CallInHistory → List ℕ → Told → Type 0
 MakeAllTells c text (Opened standing) =
-    Makes c (reading_of text) (make.made (standing_handle standing) (reverse standing.names))
+    IsPath text × Makes c (reading_of text) (make.made (standing_handle standing) (reverse standing.names))
 MakeAllTells c text (Fault error) = EndsAtOnce c text error ⊎ Makes c (reading_of text) (make.failed error)
 MakeAllTells c text other = ⊥
 
 -- the same of a RemoveAll
 abbrev pub RemoveAllTells : CallInHistory → List ℕ → Told → Type 0
-RemoveAllTells c text (Count n) = Clears c (reading_of text) (remove.removed n)
+RemoveAllTells c text (Count n) = IsPath text × Clears c (reading_of text) (remove.removed n)
 RemoveAllTells c text (Fault error) =
     EndsAtOnce c text error ⊎ (HasNoName c text error ⊎ Clears c (reading_of text) (remove.failed error))
 RemoveAllTells c text other = ⊥
@@ -115,15 +105,14 @@ BulkTells c other reply = Unit {0}
 -- ---- a resolve
 
 -- the walk with which the call begins comes to this end
-pub record WalksTo (c : CallInHistory) (way : Way) (path : Reading) (end : walk.Turn) : Type 0 where
-  pub begun : BeginsWithWalk c way path
-  pub is_end : begun.end ≡ end
+abbrev pub WalksTo : CallInHistory → Way → Reading → walk.Turn → Type 0
+WalksTo c way path end = WalkedTo (bulk_of c way path) end
 
 -- What was opened is what the walk found, at the names that are told; and a fault is the walk's, or ends the call at
 -- once. Other replies don't come.
 abbrev pub WalkIsReply : CallInHistory → Goal → List ℕ → Told → Type 0
-WalkIsReply c goal text (Opened standing) =
-    WalksTo c (way_from c.below.root goal c.below.flags) (reading_of text)
+WalkIsReply c goal text (Opened standing) = IsPath text
+    × WalksTo c (way_from c.below.root goal c.below.flags) (reading_of text)
     (walk.found (standing_handle standing) (reverse standing.names))
 WalkIsReply c goal text (Fault error) = EndsAtOnce c text error
     ⊎ WalksTo c (way_from c.below.root goal c.below.flags) (reading_of text) (walk.failed error)

@@ -25,4 +25,8 @@ pub mod Acts
 pub mod EachCall
 pub mod Driver
 pub mod FreeHandles
+pub mod Renumbered
 pub mod Renamed
+pub mod Blind
+pub mod VainCalls
+pub mod OwnHandles

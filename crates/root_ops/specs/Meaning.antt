@@ -22,7 +22,8 @@ use Rattle.tree_model.specs.State.{State, object_at, child, is_dir}
 use Rattle.tree_model.specs.Entries.{refuse_if, with_some, refuse_by, makes, makes_link, removes_file, removes_dir, renames}
 use Rattle.tree_model.specs.Steps.{Outcome, outcome, held}
 use Rattle.handles.specs.Objects.{StandingObject}
-use Rattle.step_resolver.specs.Meaning.{Resolution, is_object, is_error, resolution, reading_means, resolved, reading_deepest}
+use Rattle.step_resolver.specs.Meaning.{Resolution, is_object, is_error, resolution, reading_means, resolved}
+use Rattle.step_resolver.specs.Deepest.{reading_deepest}
 use Rattle.bulk_ops.specs.MakeAllQuiet.{MakeMeant, refuses, gives, make_means}
 use Rattle.bulk_ops.specs.RemoveAllQuiet.{cleared, cleared_rows}
 use Rattle.root_ops.specs.declared.below.Below.{Below}

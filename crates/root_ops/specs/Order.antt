@@ -18,11 +18,13 @@ use Rattle.tree_model.specs.declared.answer.Answer.TheVariants as answers
 use Rattle.tree_model.specs.declared.step.Mode.{Mode}
 use Rattle.tree_model.specs.StepWith.{StepWith}
 use Rattle.tree_model.specs.declared.step.StepOf.TheVariants as steps
+use Rattle.step_machine.specs.Machine.{Machine}
+use Rattle.step_machine.specs.Machine as machine
 use Rattle.handles.specs.declared.owner.Owner.{Owner}
 use Rattle.handles.specs.Objects.{StandingObject}
 use Rattle.walk_plan.specs.declared.goal.Goal.{Goal}
 use Rattle.walk_plan.specs.declared.goal.Goal.TheVariants.{Follow, NoFollow, Deepest}
-use Rattle.step_resolver.specs.Order.{Way, Handle, Walking, Turn, found, partial, failed, is_dir_kind, refusal_of, Line, answered, no_room, not_made, IsWant}
+use Rattle.step_resolver.specs.Order.{Way, Handle, Walking, Turn, found, partial, failed, is_dir_kind, refusal_of, Line, IsWant}
 use Rattle.step_resolver.specs.Order as walk
 use Rattle.step_resolver.specs.View.{way_from}
 use Rattle.bulk_ops.specs.MakeAllOrder as make
@@ -343,24 +345,26 @@ is_closing (releasing h) = true
 -- Why a step wasn't made: for want of memory or of room in the book, but no Close for that. A book makes no Close of
 -- a handle that isn't open, so that the Close of a Release may be refused BadHandle without an event.
 abbrev pub IsUnmade : Doing → Errno → Type 0
-IsUnmade (walking walking' aim) error = (IsWant error) × (walk.is_closing walking' ≡ false)
+IsUnmade (walking walking' aim) error = walk.IsUnmade walking' error
 IsUnmade (acting wanted step hs) error = IsWant error
 IsUnmade (checking old new renaming) error = IsWant error
 IsUnmade (closing h hs after) error = ⊥
-IsUnmade (making call) error = (IsWant error) × (make.is_closing call ≡ false)
-IsUnmade (removing call) error = (IsWant error) × (remove.is_closing call ≡ false)
+IsUnmade (making call) error = make.IsUnmade call error
+IsUnmade (removing call) error = remove.IsUnmade call error
 IsUnmade (releasing h) error = error ≡ BadHandle
+
+-- the call that goes on, where it does
+abbrev pub under_way : CallTurn → Option Doing
+under_way (more doing) = Some doing
+under_way (ends reply) = None
+
+-- calls below this root, step by step
+abbrev pub calls : Below → Machine CallTurn Doing
+calls below = record { more = more; under_way = under_way; due = due below; IsUnmade = IsUnmade; take = take below }
 
 -- These lines, one by one, lead from one turn to another.
 abbrev pub LeadsTo : Below → CallTurn → List Line → CallTurn → Type 0
-LeadsTo below turn [] end = turn ≡ end
-LeadsTo below (more doing) (answered step answer ∷ lines) end =
-    (step ≡ due below doing) × LeadsTo below (take below true doing answer) lines end
-LeadsTo below (more doing) (no_room step answer ∷ lines) end =
-    (step ≡ due below doing) × LeadsTo below (take below false doing answer) lines end
-LeadsTo below (more doing) (not_made error ∷ lines) end =
-    (IsUnmade doing error) × LeadsTo below (take below true doing (Refused error)) lines end
-LeadsTo below _ (line ∷ lines) end = ⊥
+LeadsTo below = machine.LeadsTo (calls below)
 
 -- ---- how many steps are left at most
 

@@ -15,88 +15,42 @@ use Rattle.root_ops.specs.declared.op.Request.{Request}
 use Rattle.root_ops.specs.Order.{Reply, Doing, CallTurn}
 use Rattle.root_ops.specs.Order as call
 use Rattle.root_ops.specs.View.{CallView}
+use Rattle.root_ops.specs.Renumbered.{for_handles}
+use Rattle.root_ops.specs.Renumbered as all
 
 -- ---- steps and answers
 
 abbrev pub step_by : (ℕ → ℕ) → StepWith ℕ → StepWith ℕ
-step_by f (steps.Open h n) = steps.Open (f h) n
-step_by f (steps.Dup h) = steps.Dup (f h)
-step_by f (steps.Parent h) = steps.Parent (f h)
-step_by f (steps.ReadLink h) = steps.ReadLink (f h)
-step_by f (steps.NameBelow r h) = steps.NameBelow (f r) (f h)
-step_by f (steps.List h) = steps.List (f h)
-step_by f (steps.Close h) = steps.Close (f h)
-step_by f (steps.MakeDir h n) = steps.MakeDir (f h) n
-step_by f (steps.MakeFile h n) = steps.MakeFile (f h) n
-step_by f (steps.MakeLink h n text) = steps.MakeLink (f h) n text
-step_by f (steps.RemoveFile h n) = steps.RemoveFile (f h) n
-step_by f (steps.RemoveDir h n) = steps.RemoveDir (f h) n
-step_by f (steps.Rename h n k m mode) = steps.Rename (f h) n (f k) m mode
+step_by f = all.step_by (for_handles f)
 
 abbrev pub answer_by : (ℕ → ℕ) → Answer → Answer
-answer_by f (answers.Opened h x kind) = answers.Opened (f h) x kind
-answer_by f (answers.Text text) = answers.Text text
-answer_by f (answers.Names names) = answers.Names names
-answer_by f answers.NotBelow = answers.NotBelow
-answer_by f (answers.Listed names) = answers.Listed names
-answer_by f answers.Done = answers.Done
-answer_by f (answers.Refused error) = answers.Refused error
+answer_by f = all.answer_by (for_handles f)
 
 -- ---- calls
 
 abbrev pub standing_by : (ℕ → ℕ) → StandingObject → StandingObject
-standing_by f standing = record standing { handle = f standing.handle }
+standing_by f = all.standing_by (for_handles f)
 
 abbrev pub reply_by : (ℕ → ℕ) → Reply → Reply
-reply_by f (call.opened handle names) = call.opened (handle_by f handle) names
-reply_by f (call.link_text text) = call.link_text text
-reply_by f call.done = call.done
-reply_by f (call.count n) = call.count n
-reply_by f (call.stepped answer) = call.stepped (answer_by f answer)
-reply_by f (call.kept standing) = call.kept (standing_by f standing)
-reply_by f (call.fault error) = call.fault error
+reply_by f = all.reply_by (for_handles f)
 
 abbrev pub after_by : (ℕ → ℕ) → call.After → call.After
-after_by f (call.gives reply) = call.gives (reply_by f reply)
-after_by f (call.acts wanted step hs) = call.acts wanted (step_by f step) (numbers_by f hs)
+after_by f = all.after_by (for_handles f)
 
 abbrev pub aim_by : (ℕ → ℕ) → Aim → Aim
-aim_by f (aims.Opens goal) = aims.Opens goal
-aim_by f aims.Reads = aims.Reads
-aim_by f (aims.Changes change n) = aims.Changes change n
-aim_by f (aims.WalksOn path renaming) = aims.WalksOn path renaming
-aim_by f (aims.Renames old renaming) = aims.Renames (f old) renaming
+aim_by f = all.aim_by (for_handles f)
 
 abbrev pub doing_by : (ℕ → ℕ) → Doing → Doing
-doing_by f (call.walking w aim) = call.walking (walking_by f w) (aim_by f aim)
-doing_by f (call.acting wanted step hs) = call.acting wanted (step_by f step) (numbers_by f hs)
-doing_by f (call.checking old new renaming) = call.checking (f old) (f new) renaming
-doing_by f (call.closing h hs after) = call.closing (f h) (numbers_by f hs) (after_by f after)
-doing_by f (call.making bulk) = call.making (making_by f bulk)
-doing_by f (call.removing bulk) = call.removing (removing_by f bulk)
-doing_by f (call.releasing h) = call.releasing (f h)
+doing_by f = all.doing_by (for_handles f)
 
 abbrev pub call_turn_by : (ℕ → ℕ) → CallTurn → CallTurn
-call_turn_by f (call.more doing) = call.more (doing_by f doing)
-call_turn_by f (call.ends reply) = call.ends (reply_by f reply)
+call_turn_by f = all.call_turn_by (for_handles f)
 
 abbrev pub below_by : (ℕ → ℕ) → Below → Below
-below_by f below = record below { root = root_by f below.root }
+below_by f = all.below_by (for_handles f)
 
 abbrev pub op_by : (ℕ → ℕ) → Op → Op
-op_by f (ops.Resolve path) = ops.Resolve path
-op_by f (ops.ResolveNoFollow path) = ops.ResolveNoFollow path
-op_by f (ops.ReadLink path) = ops.ReadLink path
-op_by f (ops.CreateFile path) = ops.CreateFile path
-op_by f (ops.CreateDir path) = ops.CreateDir path
-op_by f (ops.CreateLink path text) = ops.CreateLink path text
-op_by f (ops.RemoveFile path) = ops.RemoveFile path
-op_by f (ops.RemoveDir path) = ops.RemoveDir path
-op_by f (ops.Rename old new mode) = ops.Rename old new mode
-op_by f (ops.MkdirAll path) = ops.MkdirAll path
-op_by f (ops.RemoveAll path) = ops.RemoveAll path
-op_by f (ops.Single step) = ops.Single (step_by f step)
-op_by f (ops.Release standing) = ops.Release (standing_by f standing)
+op_by f = all.op_by (for_handles f)
 
 abbrev pub request_by : (ℕ → ℕ) → Request → Request
 request_by f request = record request { op = op_by f request.op }

@@ -10,11 +10,14 @@
 //! `five_steps_after_walks`, `calls_tell`, which says what handles a call's end leaves open, `quiet_calls_mean`,
 //! which says what it comes to where nobody else acts, `calls_act`, which says what the step after the walks does
 //! while others act, and `each_call_tells`, which says these three of one call, of the walk with which it begins
-//! the headline, and of a bulk call what it did. `four_handles_are_enough` says when a call needs no more handles.
+//! the headline, and of a bulk call what it did. `four_handles_are_enough` says when a call needs no more handles, and
+//! `vain_calls_need_changes` what it takes to have call after call end in EAGAIN.
 //!
 //! Requests, calls and answers are also compared but for the numbers of their handles (`is_like`, `like_answers`),
 //! and these are listed one by one (`push_handles`): two that are alike are the same once their handles get the same
-//! numbers, which is the law `like_calls_agree`.
+//! numbers, which is the law `like_calls_agree`. A call looks at no number of a handle or a node, `calls_are_blind`,
+//! and so tells what each call tells by any numbers, `calls_tell_by_any_numbers`. What its own lines open they close,
+//! but for what is told, of no history: `opened_are_closed`.
 #![tactic(auto)]
 
 mod acts_laws;
@@ -40,7 +43,8 @@ pub use below::Below;
 pub use call::{Call, CallTurn};
 pub use driver::run_call;
 pub use laws::{
-    bulk_calls_tell, calls_tell, each_call_tells, five_steps_after_walks, four_handles_are_enough,
+    bulk_calls_tell, calls_are_blind, calls_tell, calls_tell_by_any_numbers, each_call_tells,
+    five_steps_after_walks, four_handles_are_enough, opened_are_closed, vain_calls_need_changes,
 };
 pub use like::{like_answers, like_roots, like_standings, push_answer_handles};
 pub use like_laws::like_calls_agree;

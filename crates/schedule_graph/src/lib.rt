@@ -9,6 +9,8 @@
 mod count;
 mod counting;
 mod graph;
+mod laws;
 
 pub use count::{COUNT_CAP, Count, Counts, Least, is_not_after};
 pub use graph::{Graph, Spot, Way};
+pub use laws::count_cap_is_a_number;

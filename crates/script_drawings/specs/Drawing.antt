@@ -37,12 +37,12 @@ abbrev pub drawn : (closes : Closes) (said : Said) (tree : State) (events : List
 drawn closes said tree events replies run = drawn_of closes run.opened.roots.tree (calls_of said.plans) events replies
 
 abbrev pub form_text : Form → Drawn → List ℕ
-form_text Text picture = text_of picture
+form_text (Text look) picture = text_of look picture
 form_text Svg picture = svg_of picture
 
 -- the rules of a form: as SVG it is one well-formed element of XML
 abbrev pub IsWellFormed : Form → List ℕ → Type 0
-IsWellFormed Text text = ⊤
+IsWellFormed (Text look) text = ⊤
 IsWellFormed Svg text = IsDocument (codes "svg") text
 
 -- the picture of such a run, in this style

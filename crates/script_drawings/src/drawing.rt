@@ -8,7 +8,7 @@ ghost use Rattle.script_drawings.specs.Drawing.{form_text, opened_by, told_of, I
 ghost use Rattle.scripts.specs.Scenario.{said_by, IsPlayable};
 ghost use Rattle.step_text.specs.Output.{Gains};
 
-use drawings::{Closes, Picture, PictureFault, calls_of};
+use drawings::{Closes, Look, Picture, PictureFault, calls_of};
 use path_text::NoMemory;
 use race_core::ActorPlan;
 use script_runs::report_of;
@@ -23,8 +23,8 @@ use tree_model::{Actor, Tree};
 /// How a picture is written.
 #[derive(Clone, Copy, Debug, PartialEq, Eq)]
 pub enum Form {
-    /// As text of at most 100 columns.
-    Text,
+    /// As text that looks so.
+    Text(Look),
     /// As SVG (Scalable Vector Graphics 1.1, W3C).
     Svg,
 }
@@ -87,7 +87,7 @@ fn add_picture(
     ensures well_formed { OnOk result (IsWellFormed form (form_text form picture.now)) }
 {
     match form {
-        Form::Text => picture.text(alloc, out),
+        Form::Text(look) => picture.text(alloc, out, look),
         Form::Svg => picture.svg(alloc, out),
     }
 }

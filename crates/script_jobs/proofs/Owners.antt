@@ -19,43 +19,46 @@ use Rattle.root_ops.specs.View.{IsOwned}
 use Rattle.sessions.specs.Call.{Called, is_of, turned_away}
 use Rattle.sessions.specs.Open.{IsOpened}
 use Rattle.sessions.specs.Service.{ServiceView}
-use Rattle.sessions.specs.Session.{SessionView}
+use Rattle.sessions.specs.Session.{SessionView, begun}
 use Rattle.tree_model.specs.State.{State}
 use Rattle.workers.proofs.Tallies.{replies_to-cons}
 use Rattle.workers.specs.declared.told.Numbered.{Numbered}
 use Rattle.workers.specs.Serve.{joined, replies_to, AllWork, IsServed}
 use Rattle.workers.specs.Work.{Answers, Calls, Works}
-use Rattle.script_jobs.specs.Jobs.{opened_by, opened_in}
+use Rattle.script_jobs.specs.Jobs.{opened_by, opened_in, IsOurs, AreInPlace}
 
--- what the reply opened is an actor's below this number
-abbrev pub IsBelow : ℕ → Reply → Type 0
-IsBelow n reply = (standing : StandingObject) → opened_by reply ≡ Some standing → standing.owner.actor < n
+-- what the reply opened is one of the service's sessions'
+abbrev pub OpensOurs : ServiceView → Reply → Type 0
+OpensOurs service reply = (standing : StandingObject) → opened_by reply ≡ Some standing → IsOurs service standing
 
-abbrev HasActorBelow : ℕ → SessionView → Type 0
-HasActorBelow n session = session.owner.actor < n
+abbrev IsOwner : ServiceView → Owner → Type 0
+IsOwner service owner = (owner.tag ≡ service.tag) × (owner.actor < service.count)
+
+abbrev IsOne : ServiceView → SessionView → Type 0
+IsOne service session = IsOwner service session.owner
 
 -- ---- one reply
 
-owned_below : (n : ℕ) (owner : Owner) (reply : Reply) → owner.actor < n → IsOwned owner reply → IsBelow n reply
-owned_below n owner (Opened standing) below owned other e =
+owned_ours : (service : ServiceView) (owner : Owner) (reply : Reply) → IsOwner service owner → IsOwned owner reply → OpensOurs service reply
+owned_ours service owner (Opened standing) ours owned other e =
     let same : standing ≡ other = same_Some standing other e in
-    let actor : owner.actor ≡ other.owner.actor = ap (λ (o : Owner). o.actor) (sym owned) ∙ ap (λ (s : StandingObject). s.owner.actor) same in
-    omega (arith, below, actor)
-owned_below n owner (Text text) below owned other e = absurd (none-some other e)
-owned_below n owner Done below owned other e = absurd (none-some other e)
-owned_below n owner (Count count) below owned other e = absurd (none-some other e)
-owned_below n owner (Stepped answer) below owned other e = absurd (none-some other e)
-owned_below n owner (Kept standing) below owned other e = absurd (none-some other e)
-owned_below n owner (Fault error) below owned other e = absurd (none-some other e)
+    let its : owner ≡ other.owner = sym owned ∙ ap (λ (s : StandingObject). s.owner) same in
+    subst (IsOwner service) its ours
+owned_ours service owner (Text text) ours owned other e = absurd (none-some other e)
+owned_ours service owner Done ours owned other e = absurd (none-some other e)
+owned_ours service owner (Count count) ours owned other e = absurd (none-some other e)
+owned_ours service owner (Stepped answer) ours owned other e = absurd (none-some other e)
+owned_ours service owner (Kept standing) ours owned other e = absurd (none-some other e)
+owned_ours service owner (Fault error) ours owned other e = absurd (none-some other e)
 
 turned_owned : (owner : Owner) (op : Op) → IsOwned owner (turned_away op)
 turned_owned owner (Release standing) = tt
 turned_owned owner other = tt
 
 -- what was opened is the session's own, and it stays the same session
-record IsOwn (before after : SessionView) (reply : Reply) : Type 0 where
-  owned : IsOwned before.owner reply
-  same : after.owner ≡ before.owner
+pub record IsOwn (before after : SessionView) (reply : Reply) : Type 0 where
+  pub owned : IsOwned before.owner reply
+  pub same : after.owner ≡ before.owner
 
 called_own : (before : SessionView) (request : Request) (after : SessionView) (reply : Reply) → Called before request after reply → IsOwn before after reply
 called_own before request after reply called =
@@ -69,7 +72,7 @@ fault_own : (before after : SessionView) (reply answered : Reply) → IsOwned be
 fault_own before after reply answered owned stays is =
     record { owned = subst (λ (r : Reply). IsOwned before.owner r) (sym is) owned; same = ap (λ (s : SessionView). s.owner) stays }
 
-calls_own : (service : ServiceView) (before : SessionView) (request : Request) (after : SessionView) (reply : Reply) (ours : Bool) → is_of service before ≡ ours
+pub calls_own : (service : ServiceView) (before : SessionView) (request : Request) (after : SessionView) (reply : Reply) (ours : Bool) → is_of service before ≡ ours
     → Calls service before request after reply → IsOwn before after reply
 calls_own service before request after reply true e calls = called_own before request after reply (calls.0 e)
 calls_own service before request after reply false e calls =
@@ -90,26 +93,48 @@ answers_own service before request after reply answers = on (is_release request.
 
 -- ---- all that the workers were told
 
-works_own : (n : ℕ) (service : ServiceView) (jobs : List Request) (before : SessionView) (told : List Numbered) (after : SessionView) → HasActorBelow n before
-    → Works service jobs before told after → All (λ numbered. IsBelow n numbered.reply) told
-works_own n service jobs before [] after below works = All-nil (λ numbered. IsBelow n numbered.reply)
-works_own n service jobs before (numbered ∷ told) after below works =
+works_own : (service : ServiceView) (jobs : List Request) (before : SessionView) (told : List Numbered) (after : SessionView) → IsOne service before
+    → Works service jobs before told after → All (λ numbered. OpensOurs service numbered.reply) told
+works_own service jobs before [] after ours works = All-nil (λ numbered. OpensOurs service numbered.reply)
+works_own service jobs before (numbered ∷ told) after ours works =
     let own = answers_own service before works.1.0.request works.0 numbered.reply works.1.0.answers in
-    let still : HasActorBelow n works.0 = subst (λ (o : Owner). o.actor < n) (sym own.same) below in
-    All-cons (λ numbered. IsBelow n numbered.reply) numbered told (owned_below n before.owner numbered.reply below own.owned)
-    (works_own n service jobs works.0 told after still works.1.1)
+    let still : IsOne service works.0 = subst (IsOwner service) (sym own.same) ours in
+    All-cons (λ numbered. OpensOurs service numbered.reply) numbered told (owned_ours service before.owner numbered.reply ours own.owned)
+    (works_own service jobs works.0 told after still works.1.1)
 
-pub all_own : (n : ℕ) (service : ServiceView) (jobs : List Request) (before : List SessionView) (lists : List (List Numbered)) (after : List SessionView)
-    → All (HasActorBelow n) before → AllWork service jobs before lists after → All (λ numbered. IsBelow n numbered.reply) (joined lists)
-all_own n service jobs [] [] [] below work = All-nil (λ numbered. IsBelow n numbered.reply)
-all_own n service jobs [] [] (a ∷ after) below work = absurd work
-all_own n service jobs [] (told ∷ lists) after below work = absurd work
-all_own n service jobs (b ∷ before) [] after below work = absurd work
-all_own n service jobs (b ∷ before) (told ∷ lists) [] below work = absurd work
-all_own n service jobs (b ∷ before) (told ∷ lists) (a ∷ after) below work =
-    All-append (λ numbered. IsBelow n numbered.reply) told (joined lists)
-    (works_own n service jobs b told a (All-head (HasActorBelow n) b before below) work.0)
-    (all_own n service jobs before lists after (All-tail (HasActorBelow n) b before below) work.1)
+-- and the session stays whose it is
+works_same : (service : ServiceView) (jobs : List Request) (before : SessionView) (told : List Numbered) (after : SessionView) → Works service jobs before told after
+    → after.owner ≡ before.owner
+works_same service jobs before [] after works = ap (λ (s : SessionView). s.owner) works
+works_same service jobs before (numbered ∷ told) after works =
+    works_same service jobs works.0 told after works.1.1
+    ∙ (answers_own service before works.1.0.request works.0 numbered.reply works.1.0.answers).same
+
+pub all_own : (service : ServiceView) (jobs : List Request) (before : List SessionView) (lists : List (List Numbered)) (after : List SessionView)
+    → All (IsOne service) before → AllWork service jobs before lists after → All (λ numbered. OpensOurs service numbered.reply) (joined lists)
+all_own service jobs [] [] [] ours work = All-nil (λ numbered. OpensOurs service numbered.reply)
+all_own service jobs [] [] (a ∷ after) ours work = absurd work
+all_own service jobs [] (told ∷ lists) after ours work = absurd work
+all_own service jobs (b ∷ before) [] after ours work = absurd work
+all_own service jobs (b ∷ before) (told ∷ lists) [] ours work = absurd work
+all_own service jobs (b ∷ before) (told ∷ lists) (a ∷ after) ours work =
+    All-append (λ numbered. OpensOurs service numbered.reply) told (joined lists)
+    (works_own service jobs b told a (All-head (IsOne service) b before ours) work.0)
+    (all_own service jobs before lists after (All-tail (IsOne service) b before ours) work.1)
+
+-- each session that comes back is whose it was in its place
+pub all_same : (service : ServiceView) (jobs : List Request) (before : List SessionView) (lists : List (List Numbered)) (after : List SessionView) (P : ℕ → Owner → Type 0)
+    → AllWork service jobs before lists after → ((i : ℕ) (s : SessionView) → slice_get before i ≡ Some s → P i s.owner)
+    → (i : ℕ) (s : SessionView) → slice_get after i ≡ Some s → P i s.owner
+all_same service jobs [] [] [] P work each i s at = absurd (none-some s at)
+all_same service jobs [] [] (a ∷ after) P work each i s at = absurd work
+all_same service jobs [] (told ∷ lists) after P work each i s at = absurd work
+all_same service jobs (b ∷ before) [] after P work each i s at = absurd work
+all_same service jobs (b ∷ before) (told ∷ lists) [] P work each i s at = absurd work
+all_same service jobs (b ∷ before) (told ∷ lists) (a ∷ after) P work each zero s at =
+    subst (P 0) (sym (works_same service jobs b told a work.0) ∙ ap (λ (x : SessionView). x.owner) (same_Some a s at)) (each 0 b refl)
+all_same service jobs (b ∷ before) (told ∷ lists) (a ∷ after) P work each (suc i) s at =
+    all_same service jobs before lists after (λ k owner. P (suc k) owner) work.1 (λ k x e. each (suc k) x e) i s at
 
 pub as_many : (service : ServiceView) (jobs : List Request) (before : List SessionView) (lists : List (List Numbered)) (after : List SessionView)
     → AllWork service jobs before lists after → length after ≡ length before
@@ -151,9 +176,9 @@ element P [] i x all at = absurd (none-some x at)
 element P (y ∷ told) zero x all at = subst P (same_Some y x at) (All-head P y told all)
 element P (y ∷ told) (suc i) x all at = element P told i x (All-tail P y told all) at
 
-reply_below : (n : ℕ) (service : ServiceView) (jobs : List Request) (before after : List SessionView) (replies : List Reply) → All (HasActorBelow n) before
-    → IsServed service jobs before after replies → (job : ℕ) (r : Reply) → slice_get replies job ≡ Some r → IsBelow n r
-reply_below n service jobs before after replies below served job r at =
+reply_ours : (service : ServiceView) (jobs : List Request) (before after : List SessionView) (replies : List Reply) → All (IsOne service) before
+    → IsServed service jobs before after replies → (job : ℕ) (r : Reply) → slice_get replies job ≡ Some r → OpensOurs service r
+reply_ours service jobs before after replies ours served job r at =
     let within : job < length replies = slice_get_within replies job r at in
     let job_within : job < length jobs = omega (arith, within, served.as_many) in
     let once : replies_to job (joined served.lists) ≡ 1 = served.once job job_within in
@@ -161,20 +186,19 @@ reply_below n service jobs before after replies below served job r at =
     let placed : slice_get replies job ≡ Some found.numbered.reply =
     subst (λ (k : ℕ). slice_get replies k ≡ Some found.numbered.reply) found.job_is (served.in_place found.place found.numbered found.at) in
     let same : found.numbered.reply ≡ r = same_Some found.numbered.reply r (sym placed ∙ at) in
-    subst (IsBelow n) same
-    (element (λ numbered. IsBelow n numbered.reply) (joined served.lists) found.place found.numbered (all_own n service jobs before served.lists after below served.work) found.at)
+    subst (OpensOurs service) same
+    (element (λ numbered. OpensOurs service numbered.reply) (joined served.lists) found.place found.numbered (all_own service jobs before served.lists after ours served.work) found.at)
 
-all_opened : (n : ℕ) (replies : List Reply) → ((job : ℕ) (r : Reply) → slice_get replies job ≡ Some r → IsBelow n r)
-    → All (λ (standing : StandingObject). standing.owner.actor < n) (opened_in replies)
-all_opened n [] each = All-nil (λ (standing : StandingObject). standing.owner.actor < n)
-all_opened n (r ∷ replies) each = on (opened_by r) refl (all_opened n replies (λ job x at. each (suc job) x at))
+all_opened : (service : ServiceView) (replies : List Reply) → ((job : ℕ) (r : Reply) → slice_get replies job ≡ Some r → OpensOurs service r)
+    → All (IsOurs service) (opened_in replies)
+all_opened service [] each = All-nil (IsOurs service)
+all_opened service (r ∷ replies) each = on (opened_by r) refl (all_opened service replies (λ job x at. each (suc job) x at))
   where
-    on : (opened : Option StandingObject) → opened_by r ≡ opened → All (λ (standing : StandingObject). standing.owner.actor < n) (opened_in replies)
-        → All (λ (standing : StandingObject). standing.owner.actor < n) (opened_in (r ∷ replies))
-    on None e rest = subst (λ (o : Option StandingObject). All (λ (standing : StandingObject). standing.owner.actor < n) (cons_option o (opened_in replies))) (sym e) rest
+    on : (opened : Option StandingObject) → opened_by r ≡ opened → All (IsOurs service) (opened_in replies) → All (IsOurs service) (opened_in (r ∷ replies))
+    on None e rest = subst (λ (o : Option StandingObject). All (IsOurs service) (cons_option o (opened_in replies))) (sym e) rest
     on (Some standing) e rest =
-        subst (λ (o : Option StandingObject). All (λ (standing : StandingObject). standing.owner.actor < n) (cons_option o (opened_in replies))) (sym e)
-        (All-cons (λ (standing : StandingObject). standing.owner.actor < n) standing (opened_in replies) (each 0 r refl standing e) rest)
+        subst (λ (o : Option StandingObject). All (IsOurs service) (cons_option o (opened_in replies))) (sym e)
+        (All-cons (IsOurs service) standing (opened_in replies) (each 0 r refl standing e) rest)
 
 -- ---- the sessions of a service
 
@@ -187,27 +211,47 @@ by_place : (P : SessionView → Type 0) (sessions : List SessionView) → ((i : 
 by_place P [] each = All-nil P
 by_place P (s ∷ sessions) each = All-cons P s sessions (each 0 s refl) (by_place P sessions (λ i x at. each (suc i) x at))
 
--- each session's actor is its place, and there are as many sessions as roots
-pub opened_below : (s : State) (workers : ℕ) (root : List (List ℕ)) (tag lines : ℕ) (service : ServiceView) (sessions : List SessionView)
-    → IsOpened s (replicate workers root) tag lines service sessions → All (HasActorBelow (length sessions)) sessions
-opened_below s workers root tag lines service sessions opened =
+-- each session's number is its place, and there are as many sessions as roots
+opened_in_place : (s : State) (workers : ℕ) (root : List (List ℕ)) (tag lines : ℕ) (service : ServiceView) (sessions : List SessionView)
+    → IsOpened s (replicate workers root) tag lines service sessions → AreInPlace service sessions
+opened_in_place s workers root tag lines service sessions opened =
     let many : length sessions ≡ workers = opened.one_each ∙ length-replicate workers root in
-    by_place (HasActorBelow (length sessions)) sessions (λ i x at.
+    record {
+      all = opened.one_each ∙ sym opened.count;
+      each = λ i x at.
+          let within : i < length sessions = slice_get_within sessions i x at in
+          let root_there = get-replicate workers i root (omega (arith, within, many)) in
+          let has = opened.each i root root_there in
+          let same : x ≡ begun (record { tag = tag; actor = i }) has.handle = same_Some x _ (sym at ∙ has.is_new) in
+          ap (λ (v : SessionView). v.owner) same ∙ ap (λ (t : ℕ). owner_of t i) (sym opened.same_tag);
+    }
+  where
+    owner_of : ℕ → ℕ → Owner
+    owner_of t i = record { tag = t; actor = i }
+
+-- they are all of the service
+are_ones : (service : ServiceView) (sessions : List SessionView) → AreInPlace service sessions → All (IsOne service) sessions
+are_ones service sessions placed =
+    by_place (IsOne service) sessions (λ i x at.
     let within : i < length sessions = slice_get_within sessions i x at in
-    let root_there = get-replicate workers i root (omega (arith, within, many)) in
-    let has = opened.each i root root_there in
-    let same : x ≡ _ = same_Some x _ (sym at ∙ has.is_new) in
-    let actor : x.owner.actor ≡ i = ap (λ (v : SessionView). v.owner.actor) same in
-    omega (arith, within, actor))
+    let owner = placed.each i x at in
+    subst (IsOwner service) (sym owner) (refl, omega (arith, within, placed.all)))
 
 -- ---- the whole
+
+pub served_in_place : (s : State) (workers : ℕ) (root : List (List ℕ)) (tag lines : ℕ) (service : ServiceView) (jobs : List Request) (before after : List SessionView) (replies : List Reply)
+    → IsOpened s (replicate workers root) tag lines service before → IsServed service jobs before after replies → AreInPlace service after
+served_in_place s workers root tag lines service jobs before after replies opened served =
+    let placed = opened_in_place s workers root tag lines service before opened in
+    record {
+      all = as_many service jobs before served.lists after served.work ∙ placed.all;
+      each = all_same service jobs before served.lists after (λ i owner. owner ≡ record { tag = service.tag; actor = i }) served.work placed.each;
+    }
 
 -- what the replies opened can be released by the sessions that come back
 pub can_be_released : (s : State) (workers : ℕ) (root : List (List ℕ)) (tag lines : ℕ) (service : ServiceView) (jobs : List Request) (before after : List SessionView) (replies : List Reply)
     → IsOpened s (replicate workers root) tag lines service before → IsServed service jobs before after replies
-    → All (λ (standing : StandingObject). standing.owner.actor < length after) (opened_in replies)
+    → All (IsOurs service) (opened_in replies)
 can_be_released s workers root tag lines service jobs before after replies opened served =
-    let many : length after ≡ length before = as_many service jobs before served.lists after served.work in
-    subst (λ (n : ℕ). All (λ (standing : StandingObject). standing.owner.actor < n) (opened_in replies)) (sym many)
-    (all_opened (length before) replies
-    (reply_below (length before) service jobs before after replies (opened_below s workers root tag lines service before opened) served))
+    all_opened service replies
+    (reply_ours service jobs before after replies (are_ones service before (opened_in_place s workers root tag lines service before opened)) served)

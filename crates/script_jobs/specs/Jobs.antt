@@ -1,6 +1,6 @@
 -- What `inroot run` writes: how each job of the script ended, as workers served them, and how many events the closed
 -- service has.
-use Rattle.std.specs.Prelude.{⊤, ◌≡◌, ◌≢◌, ◌<◌, ℕ, List, [], ◌∷◌, ◌++◌, length, map, replicate, slice_get, slice_set, codes, decimal, false, Option, Some, None, Result, Err, MatchResult, IsOkAnd, IfSome}
+use Rattle.std.specs.Prelude.{⊤, ◌≡◌, ◌≢◌, ◌<◌, ◌⊎◌, ℕ, List, [], ◌∷◌, ◌++◌, length, map, replicate, slice_get, slice_set, codes, decimal, false, Option, Some, None, Result, Err, MatchResult, IsOkAnd, IfSome}
 use Rattle.std.specs.List.{filter_map}
 use Rattle.std.specs.Io.KnownBytes.{Keeps}
 use Rattle.path_text.specs.declared.errno.Errno.TheVariants.{Invalid}
@@ -20,7 +20,7 @@ use Rattle.sessions.specs.declared.open.OpenCause.TheVariants as opening
 use Rattle.sessions.specs.Close.{StoppedView, IsClosable, IsClosed, IsCause}
 use Rattle.sessions.specs.Open.{opening_cause, IsOpened}
 use Rattle.sessions.specs.Service.{ServiceView}
-use Rattle.sessions.specs.Session.{SessionView}
+use Rattle.sessions.specs.Session.{SessionView, leaves_open}
 use Rattle.tree_model.specs.declared.answer.Event.{Event}
 use Rattle.tree_model.specs.State.{State}
 use Rattle.workers.specs.declared.serving.ServeCause.{ServeCause}
@@ -78,7 +78,22 @@ opened_in replies = filter_map opened_by replies
 abbrev pub release_of : StandingObject → Request
 release_of standing = record { op = Release standing; flags = record { beneath = false; no_links = false } }
 
--- the session that opened the object is called to release it, and the others stay
+-- the object is that of a session of the service
+abbrev pub IsOurs : ServiceView → StandingObject → Type 0
+IsOurs service standing = (standing.owner.tag ≡ service.tag) × (standing.owner.actor < service.count)
+
+-- these are the service's sessions, each in the place of its number
+pub record AreInPlace (service : ServiceView) (sessions : List SessionView) : Type 0 where
+  pub all : length sessions ≡ service.count
+  pub each : (i : ℕ) (session : SessionView) → slice_get sessions i ≡ Some session
+      → session.owner ≡ record { tag = service.tag; actor = i }
+
+-- the Release was made, and the handle closed; or by the session's own log it was closed before
+abbrev pub IsClosedOnce : SessionView → StandingObject → Reply → Type 0
+IsClosedOnce session standing told =
+    (told ≡ reply.Done) ⊎ (leaves_open session.root session.log standing.handle ≡ false)
+
+-- the session that opened the object is called to release it, which closes it, and the others stay
 pub record IsReleased (service : ServiceView) (standing : StandingObject)
     (before after : List SessionView) : Type 0 where
   pub session : SessionView
@@ -86,6 +101,7 @@ pub record IsReleased (service : ServiceView) (standing : StandingObject)
   pub called : SessionView
   pub told : Reply
   pub call : Calls service session (release_of standing) called told
+  pub closed : IsClosedOnce session standing told
   pub after_it : after ≡ slice_set before standing.owner.actor called
 
 -- one object after another

@@ -7,7 +7,7 @@ ghost use Rattle.scripts.specs.declared.calls.Purpose.TheVariants.{Jobs as JobsP
 ghost use Rattle.scripts.specs.declared.fault.RunFault.TheVariants.{NoMemory as OutOfMemory};
 ghost use Rattle.script_jobs.specs.declared.jobs.JobsFault.TheVariants as jobs_fault;
 ghost use Rattle.scripts.specs.Calls.{is_job};
-ghost use Rattle.script_jobs.specs.Jobs.{outcome_of, opened_by, opened_in, closed_line, told_of_opening, told_of_serving, told_of_closing, CanRefuse, CanUnserve, IsUnserved, IsBegun, IsReleased, AreReleased, Closes, RefusesToClose, IsJobsText, IsNoService, IsJobs};
+ghost use Rattle.script_jobs.specs.Jobs.{outcome_of, opened_by, opened_in, closed_line, told_of_opening, told_of_serving, told_of_closing, CanRefuse, CanUnserve, IsUnserved, IsBegun, IsOurs, AreInPlace, IsReleased, AreReleased, Closes, RefusesToClose, IsJobsText, IsNoService, IsJobs};
 ghost use Rattle.scripts.specs.Scenario.{first_root, first_calls, said_by, IsPlayable, IsFitFor};
 
 use event_log::EventLog;
@@ -266,7 +266,7 @@ fn outcomes_of(alloc: Global, replies: Vec<Reply>) -> Result<(Outcomes, Vec<Stan
     Ok((outcomes, opened))
 }
 
-/// Releases an object through the session that opened it.
+/// Releases an object through the session that opened it. The session closes it, unless by its own log it is closed.
 fn release<R: Wait>(
     rt: &R,
     alloc: Global,
@@ -274,7 +274,8 @@ fn release<R: Wait>(
     sessions: &mut [Session],
     standing: Standing,
 )
-    requires { standing.owner.actor < length sessions.old }
+    requires in_place { AreInPlace service.now sessions.old }
+    requires ours { IsOurs service.now standing }
     ensures { IsReleased service.now standing sessions.old sessions.new }
 {
     let at = standing.owner().actor.number() as usize;
@@ -291,7 +292,8 @@ fn release_all<R: Wait>(
     sessions: &mut [Session],
     opened: Vec<Standing>,
 )
-    requires { All (λ standing. standing.owner.actor < length sessions.old) opened.items }
+    requires in_place { AreInPlace service.now sessions.old }
+    requires ours { All (IsOurs service.now) opened.items }
     ensures { AreReleased service.now opened.items sessions.old sessions.new }
 {
     for standing in opened {

@@ -1,4 +1,6 @@
 //! Laws of the definition of a script, each the contract of a function without a body.
+ghost use Rattle.std.specs.Prelude.{◌≡◌};
+ghost use Rattle.scripts.specs.declared.input.TheConstants.{READS_MAX};
 ghost use Rattle.scripts.specs.CallFaultLaws.{EachRefusalIsTold};
 ghost use Rattle.scripts.specs.TreeLaws.{FirstRefusedIsTold};
 
@@ -12,4 +14,9 @@ pub fn first_refused_entry_is_told()
 /// wrong.
 pub fn each_refusal_is_told()
     ensures { EachRefusalIsTold }
+{}
+
+/// A script is read by at most 2,097,152 reads.
+pub fn reads_limit_is_a_number()
+    ensures { READS_MAX ≡ 2097152 }
 {}

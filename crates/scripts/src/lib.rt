@@ -34,7 +34,7 @@ pub use detail::Detail;
 pub use fault::{Cause, JsonFault, Loose, RunFault, ScriptFault};
 pub use input::{READS_MAX, SCRIPT_MAX, read_script, value_of};
 pub use keys::Keys;
-pub use laws::{each_refusal_is_told, first_refused_entry_is_told};
+pub use laws::{each_refusal_is_told, first_refused_entry_is_told, reads_limit_is_a_number};
 pub use scenario::{LINES_MAX, Scenario, read_as, read_scenario, read_scene};
 pub use schedule::TURNS_MAX;
 pub use script::{OpenedScript, open_script};

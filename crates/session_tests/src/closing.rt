@@ -1,5 +1,7 @@
 //! Sessions that aren't a service's own, which it turns away, and which don't close it.
-use crate::calling::{Base, events_closed, is_told, opened, opens_and_releases};
+use crate::calling::{
+    Base, ask, events_closed, held, is_told, opened, opens_and_releases, reads, release,
+};
 use sessions::{CloseCause, CloseRefusal, Closed, NoGate, Service, Session, Stopped};
 use std::alloc::Global;
 use std::mem;
@@ -288,4 +290,43 @@ fn strangers_are_turned_away(rt: HostRuntime) {
             && has_no_stranger::<SlabTree, _>(&rt, alloc, paths, tag);
     }
     assert!(rt; told);
+}
+
+// The replies to three Releases of one handle: of a session with this tag of another service, and then of the session
+// that opened it, twice. The service closes, since its book has the one Close.
+fn releases_thrice<T: Base, R: Wait>(
+    rt: &R,
+    alloc: Global,
+    service: &Service<T>,
+    session: &mut Session,
+    twin: &mut Session,
+) -> Option<bool> {
+    let opened = held(ask(rt, alloc, service, session, &NoGate, "a"))?;
+    let (second, third) = (opened.copy(alloc).ok()?, opened.copy(alloc).ok()?);
+    let first = twin.call(rt, alloc, service, &NoGate, release(opened));
+    let own = session.call(rt, alloc, service, &NoGate, release(second));
+    let again = session.call(rt, alloc, service, &NoGate, release(third));
+    let are_done = reads(alloc, &first, "done\n") && reads(alloc, &own, "done\n");
+    Some(are_done && reads(alloc, &again, "fault EBADF\n"))
+}
+
+fn release_is_made<T: Base, R: Wait>(rt: &R, alloc: Global) -> bool {
+    let Some((service, mut sessions)) = opened::<T>(alloc, &["/c"], 1, 99) else {
+        return false;
+    };
+    let mut others = sessions_of::<T>(alloc, &["/c"], 1, 99);
+    let told = match (sessions.first_mut(), others.first_mut()) {
+        (Some(session), Some(twin)) => releases_thrice(rt, alloc, &service, session, twin),
+        _ => None,
+    };
+    drop(others);
+    events_closed(service.stop().close(sessions)).is_some() && told == Some(true)
+}
+
+#[test]
+fn releases_are_made(rt: HostRuntime) {
+    let alloc = rt.alloc();
+    let are_made = release_is_made::<ListTree, _>(&rt, alloc)
+        && release_is_made::<SlabTree, _>(&rt, alloc);
+    assert!(rt; are_made);
 }

@@ -9,14 +9,17 @@ use tree_slab::SlabTree;
 
 const MANY: [&str; 65] = ["/c"; 65];
 
+const MOST: [&str; 64] = ["/c"; 64];
+
 /// Why a service isn't opened, and how many handles actor 0 has in the tree that comes back.
 type Refused = Option<(OpenCause, usize)>;
 
 // Roots, how many lines the book is to have, and why it is refused.
-const OPENINGS: [(&[&str], u32, Refused); 6] = [
+const OPENINGS: [(&[&str], u32, Refused); 7] = [
     (&["/c", "/none"], 9, Some((OpenCause::RootNotFound(1), 0))),
     (&["/c/abs"], 9, Some((OpenCause::RootNotDir(0), 0))),
     (&MANY, 99, Some((OpenCause::TooManySessions, 0))),
+    (&MOST, 98, None),
     (&["/c"], 1_000_001, Some((OpenCause::Invalid, 0))),
     (&["/c", "/"], 1, Some((OpenCause::BookFull, 0))),
     (&["/c", "/"], 2, None),

@@ -7,21 +7,21 @@ use Rattle.tree_model.specs.declared.answer.Answer.TheVariants.{Done, Refused}
 use Rattle.tree_model.specs.declared.answer.Event.{Event}
 use Rattle.tree_model.specs.declared.step.StepOf.TheVariants.{Close}
 use Rattle.step_resolver.specs.Order.{answered, no_room, not_made, events_of}
-use Rattle.step_resolver.specs.Order as walk
 use Rattle.root_ops.specs.declared.below.Below.{Below}
 use Rattle.handles.specs.Objects.{StandingObject}
 use Rattle.root_ops.specs.declared.op.Op.{Op}
 use Rattle.root_ops.specs.declared.op.Op.TheVariants.{Release, Resolve}
-use Rattle.root_ops.specs.Order.{kept, same_owner, starts, Doing, releasing, CallTurn, more, ends, due, take, IsUnmade}
+use Rattle.root_ops.specs.declared.aim.Wanted.TheVariants as wants
+use Rattle.root_ops.specs.Order.{kept, same_owner, starts, Doing, releasing, CallTurn, more, ends, due, reply_to, take, calls, IsUnmade}
 use Rattle.root_ops.specs.declared.op.Request.{Request as RequestTo}
 use Rattle.root_ops.specs.declared.reply.Reply.{Reply as Told}
 use Rattle.root_ops.specs.TurnView.{below_of, StartsTo, TakesTo}
 use Rattle.root_ops.specs.View.{CallView, reply_view, IsOwned}
 use Rattle.step_resolver.proofs.DrivenWalks.{joined_events}
 use Rattle.root_ops.proofs.Refusals.{refusal_needs_no_room}
-use Rattle.root_ops.proofs.FirstTurn.{leads_on}
-use Rattle.sessions.specs.Session.{SessionView}
-use Rattle.sessions.specs.Call.{logs, logs_step, actor_of, root_of, released_by, IsAnswer, Leads, LeadsFirst, Made}
+use Rattle.step_machine.proofs.Runs.{leads_on}
+use Rattle.sessions.specs.Session.{SessionView, leaves_open}
+use Rattle.sessions.specs.Call.{logs, logs_step, actor_of, root_of, released_by, IsAnswer, Leads, LeadsFirst, Made, EndsRelease}
 
 -- ---- step by step
 
@@ -63,7 +63,7 @@ led_on below first second third from mid to one two =
     let later = subst (λ (a : ℕ). third ≡ logs second (events_of a two.lines)) same_actor two.logged in
     record {
       lines = one.lines ++ two.lines;
-      leads = leads_on below one.lines from mid two.lines to one.leads two.leads;
+      leads = leads_on (calls below) one.lines from mid two.lines to one.leads two.leads;
       logged = logged_on first second third (events_of (actor_of first) one.lines) (events_of (actor_of first) two.lines) one.logged later
           ∙ ap (logs first) (sym (joined_events (actor_of first) one.lines two.lines));
     }
@@ -83,14 +83,29 @@ taken_on below first second third from to old new answer same still one is taken
 
 -- what was to be released was closed, or wasn't open
 pub gives_back : (below : Below) (old new : SessionView) (doing : Doing) (h : ℕ) (answer : Answer) (to : CallTurn) → doing ≡ releasing h
-    → ((new ≡ logs_step old (Close h) Done) × (answer ≡ Done)) ⊎ ((new ≡ old) × (answer ≡ Refused BadHandle)) → TakesTo below doing answer to
+    → ((new ≡ logs_step old (Close h) Done) × (answer ≡ Done)) ⊎ ((new ≡ old) × (answer ≡ Refused BadHandle) × (leaves_open old.root old.log h ≡ false)) → TakesTo below doing answer to
     → Leads below old (more doing) new to
 gives_back below old new doing h answer to is_release told taken =
     advanced below old new doing answer to (subst (λ (d : Doing). IsAnswer below d old new answer) (sym is_release) (on told)) taken
   where
-    on : ((new ≡ logs_step old (Close h) Done) × (answer ≡ Done)) ⊎ ((new ≡ old) × (answer ≡ Refused BadHandle)) → IsAnswer below (releasing h) old new answer
+    on : ((new ≡ logs_step old (Close h) Done) × (answer ≡ Done)) ⊎ ((new ≡ old) × (answer ≡ Refused BadHandle) × (leaves_open old.root old.log h ≡ false)) → IsAnswer below (releasing h) old new answer
     on (inl is) = inl (is.0 ∙ ap (logs_step old (Close h)) (sym is.1))
     on (inr is) = inr (BadHandle, (refl, (is.1, is.0)))
+
+-- and so a Release replies
+pub release_ends : (below : Below) (old new : SessionView) (doing : Doing) (h : ℕ) (answer : Answer) (to : CallTurn) (standing : StandingObject) → doing ≡ releasing h → standing.handle ≡ h
+    → ((new ≡ logs_step old (Close h) Done) × (answer ≡ Done)) ⊎ ((new ≡ old) × (answer ≡ Refused BadHandle) × (leaves_open old.root old.log h ≡ false)) → TakesTo below doing answer to
+    → EndsRelease old standing to
+release_ends below old new doing h answer to standing is_release same told taken =
+    let turn : to ≡ ends (reply_to wants.Done answer) = taken.1 ∙ ap (λ (d : Doing). take below taken.0 d answer) is_release in
+    subst (EndsRelease old standing) (sym turn) (on told)
+  where
+    on : ((new ≡ logs_step old (Close h) Done) × (answer ≡ Done)) ⊎ ((new ≡ old) × (answer ≡ Refused BadHandle) × (leaves_open old.root old.log h ≡ false))
+        → EndsRelease old standing (ends (reply_to wants.Done answer))
+    on (inl is) = subst (λ (v : Answer). EndsRelease old standing (ends (reply_to wants.Done v))) (sym is.1) tt
+    on (inr is) =
+        subst (λ (v : Answer). EndsRelease old standing (ends (reply_to wants.Done v))) (sym is.1)
+        (refl, ap (leaves_open old.root old.log) same ∙ is.2)
 
 -- ---- the whole call
 
@@ -108,6 +123,12 @@ pub is_releasing : (below : Below) (op : Op) (h : ℕ) (doing : Doing) → relea
 is_releasing below (Release standing) h doing is begun = begins_releasing below begun.0 standing doing begun.1 ∙ cc (is)
 is_releasing below (Resolve path) h doing is begun = cc (is)
 is_releasing below op h doing is begun = cc (is)
+
+-- what is to be released is the handle with which it begins
+pub releases_handle : (op : Op) (standing : StandingObject) (h : ℕ) → op ≡ Release standing → released_by op ≡ Some h → standing.handle ≡ h
+releases_handle op standing h is_op is =
+    let same : Some standing.handle ≡ Some h = subst (λ (o : Op). released_by o ≡ Some h) is_op is in
+    cc (same)
 
 pub first_nowhere : (below : Below) (op : Op) (session : SessionView) (turn : CallTurn) → StartsTo below op turn → LeadsFirst below op session session turn
 first_nowhere below op session turn begun = record {

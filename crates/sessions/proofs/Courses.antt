@@ -12,8 +12,7 @@ use Rattle.step_resolver.specs.WalkHistory.{own_events}
 use Rattle.root_ops.specs.EachCall.{EachCallTells as CallsOfRootsTell}
 use Rattle.root_ops.specs.declared.op.Request.{Request}
 use Rattle.root_ops.specs.declared.reply.Reply.{Reply as Told}
-use Rattle.race_core.specs.OwnHistory.{NoneCloses, IsHistory}
-use Rattle.sessions.specs.declared.open.OpenCause.{OpenCause}
+use Rattle.race_core.specs.OwnHistory.{IsHistory}
 use Rattle.sessions.specs.Call.{root_of, Called}
 use Rattle.sessions.specs.Course.{OneCall, CallsLead, Course, IsRooted, RootsStand, ServicesTell}
 use Rattle.sessions.specs.Open.{granted, after_grant, HasRoot}

@@ -1,11 +1,12 @@
 -- A call of a session: what it is answered at each step, and what it adds to the session's log.
 use Rattle.std.specs.Prelude.{◌≡◌, ℕ, ◌⊎◌, ◌==◌, ◌&&◌, ◌||◌, ◌++◌, List, [], ◌∷◌, Bool, true, false, nat_lt, Option, Some, None}
 use Rattle.path_text.specs.declared.errno.Errno.{Errno}
-use Rattle.path_text.specs.declared.errno.Errno.TheVariants.{BookFull, Invalid}
+use Rattle.path_text.specs.declared.errno.Errno.TheVariants.{BadHandle, BookFull, Invalid}
 use Rattle.tree_model.specs.declared.answer.Answer.{Answer}
 use Rattle.tree_model.specs.declared.answer.Answer.TheVariants.{Refused}
 use Rattle.tree_model.specs.declared.answer.Event.{Event}
 use Rattle.tree_model.specs.StepWith.{StepWith}
+use Rattle.handles.specs.Objects.{StandingObject}
 use Rattle.step_resolver.specs.declared.walk.Root.{Root}
 use Rattle.step_resolver.specs.Order.{Line, events_of}
 use Rattle.root_ops.specs.declared.below.Below.{Below}
@@ -14,10 +15,10 @@ use Rattle.root_ops.specs.declared.op.Op.TheVariants.{Release}
 use Rattle.root_ops.specs.declared.op.Request.{Request}
 use Rattle.root_ops.specs.declared.reply.Reply.{Reply as Told}
 use Rattle.root_ops.specs.declared.reply.Reply.TheVariants.{Fault, Kept}
-use Rattle.root_ops.specs.Order.{Doing, CallTurn, ends, due, starts, IsUnmade, LeadsTo}
+use Rattle.root_ops.specs.Order.{Reply, done, kept, fault, Doing, CallTurn, more, ends, same_owner, due, starts, IsUnmade, LeadsTo}
 use Rattle.root_ops.specs.TurnView.{below_of}
 use Rattle.root_ops.specs.View.{reply_view, IsOwned}
-use Rattle.sessions.specs.Session.{SessionView}
+use Rattle.sessions.specs.Session.{SessionView, leaves_open}
 use Rattle.sessions.specs.Service.{ServiceView}
 
 -- the session with these events more in its log
@@ -76,11 +77,28 @@ pub record Made (before : SessionView) (request : Request) (after : SessionView)
   pub logged : after ≡ logs before (events_of (actor_of before) lines)
   pub owned : IsOwned before.owner reply
 
+-- What the reply to a Release tells; other replies don't come. Another owner's alone is handed back. It fails only
+-- where by the session's own log the handle isn't open (close(2), EBADF).
+abbrev pub ReleaseTells : SessionView → StandingObject → Reply → Type 0
+ReleaseTells session standing (kept other) =
+    (same_owner standing.owner session.owner ≡ false) × (other ≡ standing)
+ReleaseTells session standing done = Unit {0}
+ReleaseTells session standing (fault error) =
+    (error ≡ BadHandle) × (leaves_open session.root session.log standing.handle ≡ false)
+ReleaseTells session standing other = ⊥
+
+-- the turn is the end of a Release, which so replies
+abbrev pub EndsRelease : SessionView → StandingObject → CallTurn → Type 0
+EndsRelease session standing (ends reply) = ReleaseTells session standing reply
+EndsRelease session standing (more doing) = ⊥
+
 -- A call: its events are what the session's log has more, and the session is marked where the book was full.
 pub record Called (before : SessionView) (request : Request) (after : SessionView) (reply : Told) : Type 0 where
   pub between : SessionView
   pub made : Made before request between reply
   pub marked : after ≡ marks between reply
+  pub released : (standing : StandingObject) → request.op ≡ Release standing
+      → ReleaseTells before standing (reply_view reply)
 
 -- the handle that is to be released
 abbrev pub released_by : Op → Option ℕ

@@ -63,7 +63,7 @@ ServicesTell = (s opening : State) (roots : List (List (List ℕ))) (events : Li
     (first before after last : SessionView) (earlier later : List OneCall) (request : Request) (reply : Told)
     → IsState s → slice_get roots i ≡ Some names → slice_get course.first i ≡ Some first
     → slice_get course.last p ≡ Some last
-    → CallsLead first earlier before → Called before request after reply → CallsLead after later last
+    → CallsLead first earlier before → (called : Called before request after reply) → CallsLead after later last
     → NoneCloses before.root before.log
     → (node : ℕ) × ((directory_at s.nodes TOP names ≡ Ok node)
-    × CallTells opening events before after request node reply)
+    × CallTells opening events before request node called.made.room called.made.lines reply)

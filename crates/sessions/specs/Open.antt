@@ -1,8 +1,7 @@
 -- Opening a service: which handles are granted, and why it is refused.
-use Rattle.std.specs.Prelude.{◌≡◌, ℕ, suc, ◌+◌, ◌<◌, List, [], ◌∷◌, length, slice_get, nat_lt, if◌then◌else◌, Option, Some, None, Result, Ok, Err}
+use Rattle.std.specs.Prelude.{◌≡◌, ℕ, suc, ◌<◌, List, [], ◌∷◌, length, slice_get, nat_lt, if◌then◌else◌, Option, Some, None, Result, Ok, Err}
 use Rattle.path_text.specs.declared.errno.Errno.{Errno}
 use Rattle.path_text.specs.declared.errno.Errno.TheVariants as errors
-use Rattle.handles.specs.declared.owner.Owner.{Owner}
 use Rattle.race_core.specs.declared.book.TheConstants.{LINES_MAX}
 use Rattle.tree_model.specs.State.{State, TOP}
 use Rattle.tree_model.specs.Steps.{held, grants, directory_at}

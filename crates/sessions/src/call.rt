@@ -6,10 +6,13 @@ ghost use Rattle.tree_model.specs.StepLaws.{opened_count};
 ghost use Rattle.tree_model.specs.declared.answer.Answer.TheVariants.{Done as DoneAnswer, Refused as RefusedAnswer};
 ghost use Rattle.tree_model.specs.declared.step.StepOf.TheVariants.{Close as CloseStep};
 ghost use Rattle.path_text.specs.declared.errno.Errno.TheVariants.{BadHandle as NoHandle};
+ghost use Rattle.handles.specs.Objects.{StandingObject};
+ghost use Rattle.root_ops.specs.declared.op.Op.TheVariants.{Release as ReleaseOp};
 ghost use Rattle.root_ops.specs.Order.{more, ends, releasing, steps_left};
 ghost use Rattle.root_ops.specs.TurnView.{turn_view, below_of, Keeps, steps_to_come};
 ghost use Rattle.root_ops.specs.View.{reply_view, IsOwned};
-ghost use Rattle.sessions.specs.Call.{logs_step, root_of, IsAnswer, Leads, LeadsFirst, Made, Called, is_of, is_book_full, released_by, turned_away};
+ghost use Rattle.sessions.specs.Call.{logs_step, root_of, IsAnswer, Leads, LeadsFirst, Made, Called, ReleaseTells, EndsRelease, is_of, is_book_full, released_by, turned_away};
+ghost use Rattle.sessions.specs.Session.{leaves_open};
 
 use crate::gate::{Gate, Pause};
 use crate::service::Service;
@@ -126,8 +129,35 @@ impl Session {
         self.open_handles = self.open_handles.saturating_sub(1);
     }
 
-    // Closes what is to be released in one lock hold, and logs it: the book has it and the log, or neither, and
-    // BadHandle, where it isn't open.
+    // Closes a handle in one lock hold, and logs it, in the book and in the log; or in neither, and false, where the
+    // book has it not open, or the log no room, since it leaves no handle open.
+    fn close_open<T: Tree, R: Wait>(
+        &mut self,
+        rt: &R,
+        alloc: Global,
+        service: &Service<T>,
+        handle: HandleNo,
+    ) -> bool
+        ensures closed { result ≡ true → self.new ≡ logs_step self.old (CloseStep handle) DoneAnswer }
+        ensures left { result ≡ false → self.new ≡ self.old }
+    {
+        if self.open_handles == 0 {
+            return false;
+        }
+        let actor = self.owner.actor;
+        let closed = service
+            .book
+            .lock(rt)
+            .release(alloc, actor, handle, &mut self.log);
+        if !closed {
+            return false;
+        }
+        self.open_handles -= 1;
+        true
+    }
+
+    // Closes what is to be released, and logs it. BadHandle, and no step, only where the handle isn't open by the log
+    // either. One that is open by the log and not by the book is closed as any other, which `Stopped::close` tells.
     fn release<T: Tree, R: Wait>(
         &mut self,
         rt: &R,
@@ -136,20 +166,16 @@ impl Session {
         handle: HandleNo,
     ) -> Answer
         ensures { ((self.new ≡ logs_step self.old (CloseStep handle) DoneAnswer) × (result ≡ DoneAnswer))
-            ⊎ ((self.new ≡ self.old) × (result ≡ RefusedAnswer NoHandle)) }
+            ⊎ ((self.new ≡ self.old) × (result ≡ RefusedAnswer NoHandle)
+            × (leaves_open self.old.root self.old.log handle ≡ false)) }
     {
-        if self.open_handles == 0 {
+        if self.close_open(rt, alloc, service, handle) {
+            return Answer::Done;
+        }
+        if !self.log.leaves_open(handle, self.root == handle) {
             return Answer::Refused(Errno::BadHandle);
         }
-        let actor = self.owner.actor;
-        let released = service
-            .book
-            .lock(rt)
-            .release(alloc, actor, handle, &mut self.log);
-        if !released {
-            return Answer::Refused(Errno::BadHandle);
-        }
-        self.open_handles -= 1;
+        self.close(rt, alloc, service, handle);
         Answer::Done
     }
 
@@ -209,6 +235,8 @@ impl Session {
         requires { call.doing ≡ releasing handle }
         ensures led { Leads call.below self.old (more call.doing) self.new (turn_view result) }
         ensures kept { Keeps call.below result }
+        ensures released { (standing : StandingObject) → standing.handle ≡ handle
+            → EndsRelease self.old standing (turn_view result) }
     {
         let answer = self.release(rt, alloc, service, handle);
         call.take(alloc, answer)
@@ -254,7 +282,8 @@ impl Session {
     /// The reply is Invalid (EINVAL) if the session has another tag than the service, or a number that the service
     /// hasn't. A Release then hands back what it holds, and nothing is logged. Errors otherwise: those of
     /// `Call::start` and `Call::take`; BookFull (ENOSPC) where the book had no line for a step; NoMemory. A step
-    /// that is so answered changed nothing and isn't logged.
+    /// that is so answered changed nothing and isn't logged. A Release of this owner's is made: BadHandle (EBADF) comes
+    /// only where by the session's own log the handle isn't open, as after another Release of it.
     pub fn call<T: Tree, R: Wait, G: Gate>(
         &mut self,
         rt: &R,
@@ -290,6 +319,8 @@ impl Session {
         ensures led { LeadsFirst (below_of (root_of self.old) request.flags) request.op self.old
             self.new (turn_view result) }
         ensures kept { Keeps (below_of (root_of self.old) request.flags) result }
+        ensures released { (standing : StandingObject) → request.op ≡ ReleaseOp standing
+            → EndsRelease self.old standing (turn_view result) }
     {
         let released = released_by(&request.op);
         match (Call::start(alloc, request, self.root()), released) {
@@ -316,7 +347,9 @@ impl Session {
         number: u64,
         request: Request,
     ) -> Reply
-        ensures { Made self.old request self.new result }
+        ensures made { Made self.old request self.new result }
+        ensures released { (standing : StandingObject) → request.op ≡ ReleaseOp standing
+            → ReleaseTells self.old standing (reply_view result) }
     {
         match self.first_turn(rt, alloc, service, gate, number, request) {
             CallTurn::More(call) => self.drive(rt, alloc, service, gate, number, call),

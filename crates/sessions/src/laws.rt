@@ -1,9 +1,11 @@
 //! What the calls of sessions tell in a closed history: laws, each the contract of a function without a body.
+ghost use Rattle.std.specs.Prelude.{◌≡◌};
 ghost use Rattle.sessions.specs.Course.{RootsStand, ServicesTell};
 ghost use Rattle.sessions.specs.EachCall.{EachCallTells};
-ghost use Rattle.sessions.specs.Threads.{CallsStandInOrder, WalksInThreads, CallsInThreads, ResolvesInThreads};
+ghost use Rattle.sessions.specs.declared.open.TheConstants.{SESSIONS_MAX};
+ghost use Rattle.sessions.specs.Threads.{CallsStandInOrder, WalksInThreads};
 
-use root_ops::{calls_tell, each_call_tells, quiet_calls_mean};
+use root_ops::each_call_tells;
 use step_resolver::headline;
 
 /// What a session logged by a call stands in the history after all that it had logged before, and before all that it
@@ -15,38 +17,21 @@ pub fn calls_stand_in_order()
 /// The headline for threads: each walk inside each call of each session tells, in the history that a closed service
 /// gives, what a walk among others tells: what was found was reached part by part at rising own moments, and stood
 /// under the root at its names at the last check; each failure was true; and where no entry that the walk reads is
-/// changed by others meanwhile, the end is what the path means. The root's handle isn't released before.
+/// changed by others meanwhile, the end is what the path means. So it is in each window that has just the walk's own
+/// events, the shortest too. The root's handle isn't released before.
 pub fn walks_tell_in_threads()
     ensures { WalksInThreads }
 {
     headline();
 }
 
-/// In each window of a closed history that has just one call's own events: after a fault the actor's open handles are
-/// those from before, after Opened these and one more, and so on by the law `calls_tell`; and where no other session's
-/// event falls in the window, the reply and the nodes after it are those of the operation done whole.
-pub fn calls_tell_in_threads()
-    ensures { CallsInThreads }
-{
-    calls_tell();
-    quiet_calls_mean();
-}
-
-/// One session's Resolve, outright: what was opened was reached by its path's parts at rising moments of the call
-/// and stood under the root at the names passed at its last check; a fault is the text's, or want of memory, or was
-/// true at moments of the call; and where no entry that the path reads is changed by another session meanwhile, the
-/// object or the error is what the path means (openat2(2), RESOLVE_IN_ROOT).
-pub fn resolve_tells_in_threads()
-    ensures { ResolvesInThreads }
-{
-    each_call_tells();
-}
-
-/// One session's call, outright: its place in the closed history; which handles it leaves open; where no other
-/// session's event falls in its window, that the reply and the nodes after it are those of the operation done whole.
-/// Whoever acts meanwhile: of the walk with which it begins the headline; of the step after its walks which own
-/// event it is, on what they found, and why it was refused; of a MkdirAll and a RemoveAll which entries it made or
-/// took away and why it failed (mkdir(2), unlink(2), rmdir(2)).
+/// One session's call, outright: it has a window in the closed history, and in each that begins after what the session
+/// had logged before and has just the call's own events of it, the call tells what it tells in any history. Which
+/// handles it leaves open; where no other session's event falls in the window, that the reply and the nodes after it
+/// are those of the operation done whole, also of a Release. Whoever acts meanwhile: of the walk with which it begins
+/// the headline, and of a Resolve or ResolveNoFollow that this walk's end is the reply (openat2(2), RESOLVE_IN_ROOT);
+/// of the step after its walks which own event it is, on what they found, and why it was refused; of a MkdirAll and a
+/// RemoveAll which entries it made or took away and why it failed (mkdir(2), unlink(2), rmdir(2)).
 pub fn each_call_tells_in_threads()
     ensures { EachCallTells }
 {
@@ -63,3 +48,8 @@ pub fn services_tell()
 {
     each_call_tells();
 }
+
+/// A service has at most 64 sessions.
+pub fn sessions_limit_is_a_number()
+    ensures { SESSIONS_MAX ≡ 64 }
+{}

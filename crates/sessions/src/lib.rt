@@ -19,8 +19,8 @@ mod shared;
 pub use close::{CloseCause, CloseRefusal, Closed, Stopped};
 pub use gate::{Gate, NoGate, Pause};
 pub use laws::{
-    calls_stand_in_order, calls_tell_in_threads, each_call_tells_in_threads,
-    resolve_tells_in_threads, services_tell, walks_tell_in_threads,
+    calls_stand_in_order, each_call_tells_in_threads, services_tell, sessions_limit_is_a_number,
+    walks_tell_in_threads,
 };
 pub use open::{OpenCause, OpenRefusal, SESSIONS_MAX};
 pub use service::Service;

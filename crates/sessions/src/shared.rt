@@ -1,5 +1,6 @@
 //! The book that sessions share under the lock, and the log that each of them has of its own.
 ghost use Rattle.std.specs.Prelude.{◌≡◌, ◌<◌, ◌≤◌, ◌++◌, [], ◌∷◌, suc, length, true, false, Err, MatchResult, MatchOption, OnOk};
+ghost use Rattle.event_log.specs.Handles.{open_after};
 ghost use Rattle.event_log.specs.Records.{event_with};
 ghost use Rattle.race_core.specs.Book.{is_close, refusal, answer_now, booked};
 ghost use Rattle.sessions.specs.Shared.{closes};
@@ -51,6 +52,13 @@ impl OwnLog {
         ensures { result ≡ length self.now.events }
     {
         self.log.len()
+    }
+
+    /// Whether a handle is open after all events, where `was` says whether it was open before the first.
+    pub(crate) fn leaves_open(&self, handle: HandleNo, was: bool) -> bool
+        ensures { result ≡ open_after handle was self.now.events }
+    {
+        self.log.leaves_open(handle, was)
     }
 
     /// The events.

@@ -22,14 +22,15 @@ use Rattle.handles.specs.declared.owner.Owner.{Owner}
 use Rattle.handles.specs.Objects.{StandingObject}
 use Rattle.walk_plan.specs.declared.goal.Goal.{Goal}
 use Rattle.step_resolver.specs.Asked.{asked, follows, is_deepest}
-use Rattle.step_resolver.specs.Meaning.{Ground, Meant, object, fails, reading_means, Deep, whole, up_to, none, reading_deepest}
-use Rattle.step_resolver.specs.Order.{Way, Walking, Turn, more, found, partial, failed, begins, for_walk, due, Line, answered, no_room, not_made, events_of, LeadsTo, steps_left_at}
+use Rattle.step_resolver.specs.Meaning.{Ground, Meant, object, fails, reading_means}
+use Rattle.step_resolver.specs.Order.{Way, Walking, Turn, more, found, partial, failed, begins, for_walk, due, walks, Line, answered, no_room, not_made, events_of, LeadsTo, steps_left_at}
 use Rattle.step_resolver.specs.Order.{take as takes}
 use Rattle.step_resolver.specs.Failures.{TellsTooMany, TellsWant, TellsError}
-use Rattle.step_resolver.specs.Footprint.{is_want, is_for_want, IsMeant, IsMeantDeep, IsEnd}
+use Rattle.step_resolver.specs.Footprint.{is_want, is_for_want, IsMeant, IsEnd}
 use Rattle.step_resolver.specs.Headline.{IsNewHandle, WalksTell}
 use Rattle.step_resolver.specs.WalkHistory.{WalkInHistory, IsWalkInHistory, own_events}
 use Rattle.step_resolver.specs.FootprintLaws.{QuietWalksMean, IsQuiet, IsQuietEnd}
+use Rattle.step_resolver.specs.Deepest.{Deep, whole, up_to, none, reading_deepest, IsMeantDeep}
 use Rattle.step_resolver.specs.TurnsTell.{first_lines}
 use Rattle.step_resolver.specs.View.{WalkView}
 use Rattle.step_resolver.specs.TurnView.{turn_view, Keeps, standing_handle, steps_to_come, STEPS_MAX, StartsTo, TakesTo}
@@ -40,7 +41,8 @@ use Rattle.step_resolver.specs.declared.driver.Resolved.TheVariants.{Found, Part
 use Rattle.step_resolver.specs.Driver.{IsReady, IsAnswer, IsWithoutBook, Drives, IsObject, Resolves, ResolvesDeep, ResolvesFor, standing_of, LeavesOwn, LeavesHandles, opened_count, LeavesRoom, IsOwned}
 use Rattle.step_resolver.proofs.Underway.HandleCount.{same_count, one_more}
 use Rattle.step_resolver.proofs.FirstTurns.{first_lines_lead}
-use Rattle.step_resolver.proofs.TurnsTell.{leads_on, line_leads}
+use Rattle.step_machine.proofs.Runs.{leads_on}
+use Rattle.step_resolver.proofs.TurnsTell.{line_leads}
 use Rattle.step_resolver.proofs.WalkSteps.{FewerThan, a_step_left, begins_few}
 use Rattle.step_resolver.proofs.Ends.EntriesLeftAlone.{due_tells}
 use Rattle.step_resolver.proofs.Ends.DeepestMeaning.{follows_deepest}
@@ -81,7 +83,7 @@ module _ (leave : NodesAreLeft) (way : Way) (a : ℕ) (s t : State) (walking : W
   advanced (inl is) taken = made taken.0 taken.1 is.0 is.1
   advanced (inr is) taken = record {
     lines = not_made NoMemory ∷ [];
-    leads = line_leads way taken.0 walking answer to (not_made NoMemory) taken.1 (inl refl, is.2, is.0);
+    leads = line_leads way taken.0 walking answer to (not_made NoMemory) taken.1 ((inl refl, is.2), is.0);
     legal = tt;
     after = sym is.1;
     nodes = ap (λ (u : State). u.nodes) is.1;
@@ -123,7 +125,7 @@ drives_on join way a s t u from mid to first second =
     let fewer = second.fewer in
     record {
       lines = first.lines ++ second.lines;
-      leads = leads_on way first.lines from mid second.lines to first.leads second.leads;
+      leads = leads_on (walks way) first.lines from mid second.lines to first.leads second.leads;
       legal = subst (IsLegal s) (sym joined) (both.0.1 (first.legal, subst (λ v. IsLegal v fs) (sym first.after) second.legal));
       after = ap (after_events s) joined ∙ both.1 ∙ ap (λ v. after_events v fs) first.after ∙ second.after;
       nodes = second.nodes ∙ first.nodes;

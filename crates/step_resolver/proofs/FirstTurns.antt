@@ -70,7 +70,7 @@ module _ (way : Way) where
 
   lines_lead : (room : Bool) (turn : Turn) → IsFirst turn → LeadsTo way turn (first_lines room turn) (for_walk room turn)
   lines_lead true turn first = refl
-  lines_lead false (more walk) first = (inl refl, (no_closing walk first, fails_for_want true walk first))
+  lines_lead false (more walk) first = ((inl refl, no_closing walk first), fails_for_want true walk first)
   lines_lead false (found handle names) first = refl
   lines_lead false (partial handle names rest) first = refl
   lines_lead false (failed error) first = refl

@@ -10,3 +10,4 @@ pub mod FirstTurns
 pub mod DrivenWalks
 pub mod Renumbered
 pub mod LikeWalks
+pub mod Changes

@@ -17,7 +17,8 @@ use Rattle.handles.specs.declared.owner.Owner.{Owner}
 use Rattle.handles.specs.Objects.{StandingObject}
 use Rattle.walk_plan.specs.declared.goal.Goal.{Goal}
 use Rattle.step_resolver.specs.Asked.{asked, follows, is_deepest}
-use Rattle.step_resolver.specs.Meaning.{Ground, Meant, object, fails, reading_means, Deep, whole, up_to, none, reading_deepest}
+use Rattle.step_resolver.specs.Meaning.{Ground, Meant, object, fails, reading_means}
+use Rattle.step_resolver.specs.Deepest.{Deep, whole, up_to, none, reading_deepest}
 use Rattle.step_resolver.specs.TurnView.{STEPS_MAX}
 use Rattle.step_resolver.specs.Order.{Way, Walking, Turn, due, is_closing, Line, answered, no_room, not_made, events_of, LeadsTo, steps_left_at}
 use Rattle.step_resolver.specs.declared.driver.Resolved.{Resolved}

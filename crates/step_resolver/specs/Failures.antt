@@ -1,39 +1,27 @@
 -- What each failure of a walk tells of the tree, while others change it. path_resolution(7); openat2(2).
-use Rattle.std.specs.Prelude.{◌≡◌, ℕ, suc, ◌≤◌, ◌⊎◌, List, [], ◌∷◌, ◌++◌, Bool, true, false, Some, None, slice_get}
+use Rattle.std.specs.Prelude.{◌≡◌, ℕ, suc, ◌≤◌, ◌⊎◌, List, [], ◌∷◌, Bool, true, false, Some, None, slice_get}
 use Rattle.path_text.specs.declared.errno.Errno.{Errno}
 use Rattle.path_text.specs.declared.errno.Errno.TheVariants.{NotFound, BadHandle, Raced, NoMemory, Busy, Exists, CrossRoot, NotDir, IsDir, Invalid, TooMany, BookFull, TooLong, NotEmpty, Loop}
-use Rattle.path_text.specs.Text.{parts_of, begins_with_slash}
+use Rattle.path_text.specs.Text.{begins_with_slash}
 use Rattle.tree_model.specs.declared.answer.Answer.TheVariants.{Refused}
 use Rattle.tree_model.specs.declared.inode.Object.{Object}
 use Rattle.tree_model.specs.declared.inode.Object.TheVariants.{Link}
 use Rattle.tree_model.specs.StepWith.{StepWith}
 use Rattle.tree_model.specs.State.{Stands, child, parent, is_directory}
-use Rattle.tree_model.specs.Steps.{held, held_count, is_full, outcome}
-use Rattle.step_resolver.specs.Asked.{AskedPart, Up, Named, followed, is_deepest}
+use Rattle.tree_model.specs.Steps.{held_count, is_full, outcome}
+use Rattle.step_resolver.specs.Asked.{AskedPart, Up, Named, is_deepest}
 use Rattle.step_resolver.specs.Meaning.{is_too_long}
-use Rattle.step_resolver.specs.Trail.{Spot, Trail, IsOwnFrom, IsLinkAt, from_text}
+use Rattle.step_resolver.specs.Trail.{Spot, Trail, IsOwnFrom}
 use Rattle.step_resolver.specs.Order.{Line, answered, no_room, not_made}
-use Rattle.step_resolver.specs.WalkHistory.{WalkInHistory, begin_of, end_of, state_at, timeline, parts_of_walk, start, IsTrailTo}
+use Rattle.step_resolver.specs.WalkHistory.{WalkInHistory, begin_of, state_at, timeline, parts_of_walk, start, IsTrailTo}
+pub use Rattle.step_resolver.specs.Moments.{IsDirectory, DidNotStandAt, IsMissingAt, HandlesStay}
+pub use Rattle.step_resolver.specs.Deepest.{IsWithinLink, TellsRacedDeepest}
 
 -- ---- where a walk stops
 
 -- the parts before this one were passed
 abbrev pub IsStopAt : WalkInHistory → Spot → AskedPart → Type 0
 IsStopAt w to next = Trail (timeline w) (parts_of_walk w) (start w) to (Some next)
-
-abbrev pub IsDirectory : WalkInHistory → ℕ → Type 0
-IsDirectory w x = is_directory ((timeline w).object_of x) ≡ true
-
--- at that event it didn't
-pub record DidNotStandAt (w : WalkInHistory) (to : Spot) (m v : ℕ) : Type 0 where
-  pub at : IsOwnFrom (timeline w) m v
-  pub astray : Stands ((timeline w).nodes_at v) w.root to.node to.names → ⊥
-
--- at the walk's own event v the spot, a directory, had no entry of that name
-pub record IsMissingAt (w : WalkInHistory) (to : Spot) (n : List ℕ) (v : ℕ) : Type 0 where
-  pub dir : IsDirectory w to.node
-  pub at : IsOwnFrom (timeline w) to.moment v
-  pub missing : child ((timeline w).nodes_at v) to.node n ≡ None
 
 -- at the walk's own event v that entry, of a directory, was a link with that text
 pub record IsLinkThere (w : WalkInHistory) (to : Spot) (n text : List ℕ) (v : ℕ) : Type 0 where
@@ -43,25 +31,6 @@ pub record IsLinkThere (w : WalkInHistory) (to : Spot) (n text : List ℕ) (v : 
   pub link : ℕ
   pub child : child ((timeline w).nodes_at v) to.node n ≡ Some link
   pub is_link : (timeline w).object_of link ≡ Some (Link text)
-
--- The stop before this part is within the text of a link, which was at one of the caller's own parts.
-pub record IsWithinLink (w : WalkInHistory) (to : Spot) (next : AskedPart) : Type 0 where
-  pub front : List AskedPart
-  pub name : List ℕ
-  pub rest : List AskedPart
-  pub parts : parts_of_walk w ≡ front ++ Named true name ∷ rest
-  pub mid : Spot
-  pub trail : IsTrailTo w front mid
-  pub when : ℕ
-  pub text : List ℕ
-  pub left : ℕ
-  pub link : IsLinkAt (timeline w) mid name when text left
-  pub stop : Trail (timeline w) (followed (parts_of text))
-      (from_text (timeline w) mid text left (suc when)) to (Some next)
-
--- the actor's open handles are those from before
-abbrev pub HandlesStay : WalkInHistory → Type 0
-HandlesStay w = (h : ℕ) → held (end_of w) w.actor h ≡ held (begin_of w) w.actor h
 
 -- ---- each error
 
@@ -147,21 +116,6 @@ pub record TellsRacedEnd (w : WalkInHistory) : Type 0 where
   pub trail : IsTrailTo w (parts_of_walk w) to
   pub when : ℕ
   pub astray : DidNotStandAt w to to.moment when
-
--- or, for the deepest directory, all parts before a missing one of the caller's own were
-pub record TellsRacedDeepest (w : WalkInHistory) : Type 0 where
-  pub goal : is_deepest w.way.goal ≡ true
-  pub front : List AskedPart
-  pub follow : Bool
-  pub name : List ℕ
-  pub rest : List AskedPart
-  pub parts : parts_of_walk w ≡ front ++ Named follow name ∷ rest
-  pub to : Spot
-  pub trail : IsTrailTo w front to
-  pub first : ℕ
-  pub missing : IsMissingAt w to name first
-  pub when : ℕ
-  pub astray : DidNotStandAt w to (suc first) when
 
 -- a step that was made and refused for want of handles
 abbrev pub IsRefusal : StepWith ℕ → Line → Type 0

@@ -5,8 +5,9 @@ use Rattle.path_text.specs.declared.errno.Errno.TheVariants.{NoMemory, TooMany, 
 use Rattle.tree_model.specs.declared.answer.Event.{Event}
 use Rattle.tree_model.specs.State.{child}
 use Rattle.tree_model.specs.declared.inode.Place.{Place}
-use Rattle.step_resolver.specs.Meaning.{Ground, Meant, object, fails, Deep, whole, up_to, none}
-use Rattle.step_resolver.specs.Order.{Turn, more, found, partial, failed}
+use Rattle.step_resolver.specs.Meaning.{Ground, Meant, object, fails}
+use Rattle.step_machine.specs.Machine.{HasEnded}
+use Rattle.step_resolver.specs.Order.{Turn, under_way, found, partial, failed}
 use Rattle.step_resolver.specs.WalkHistory.{WalkInHistory, begin_of, timeline}
 
 -- no event of another in the window changes what stands at that entry
@@ -40,15 +41,6 @@ IsMeant (object x b reads) (found handle names) = handle.node ≡ x
 IsMeant (fails error reads) (failed told) = told ≡ error
 IsMeant _ _ = ⊥
 
-abbrev pub IsMeantDeep : Deep → Turn → Type 0
-IsMeantDeep (whole x b reads) (found handle names) = handle.node ≡ x
-IsMeantDeep (up_to x b rest reads) (partial handle names told) = (handle.node ≡ x) × (told ≡ rest)
-IsMeantDeep (none error reads) (failed told) = told ≡ error
-IsMeantDeep _ _ = ⊥
-
 -- the walk is over
 abbrev pub IsEnd : Turn → Type 0
-IsEnd (more walk) = ⊥
-IsEnd (found handle names) = Unit {0}
-IsEnd (partial handle names rest) = Unit {0}
-IsEnd (failed error) = Unit {0}
+IsEnd turn = HasEnded (under_way turn)

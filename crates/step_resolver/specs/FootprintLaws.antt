@@ -6,10 +6,11 @@ use Rattle.tree_model.specs.declared.answer.Event.{Event}
 use Rattle.tree_model.specs.State.{child, Stands}
 use Rattle.tree_model.specs.declared.inode.Place.{Place}
 use Rattle.step_resolver.specs.Asked.{follows, is_deepest}
-use Rattle.step_resolver.specs.Meaning.{reads_of, reading_means, reading_deepest}
+use Rattle.step_resolver.specs.Meaning.{reads_of, reading_means}
 use Rattle.step_resolver.specs.Order.{Turn, more, found, partial, failed, begins, LeadsTo}
 use Rattle.step_resolver.specs.WalkHistory.{WalkInHistory, IsWalkInHistory, begin_of, end_of, timeline}
-use Rattle.step_resolver.specs.Footprint.{ground, IsEnd, is_for_want, IsMeant, IsMeantDeep}
+use Rattle.step_resolver.specs.Footprint.{ground, IsEnd, is_for_want, IsMeant}
+use Rattle.step_resolver.specs.Deepest.{reading_deepest, IsMeantDeep}
 use Rattle.step_resolver.specs.Headline.{Means, MeansDeepest}
 
 -- Where no event of another in the window changes an entry that the path reads in the tree as the window begins, the

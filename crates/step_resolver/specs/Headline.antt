@@ -16,36 +16,23 @@
 -- its object or error is what in-root resolution of the whole path means.
 --     its conclusion `IsMeant`, of the meaning in that tree (`Meaning.reading_means`).
 --
--- For the deepest directory that stands there, the same is `OpensDeepest` and `MeansDeepest`. What each failure
--- tells is in `Failures`. path_resolution(7); openat2(2).
-use Rattle.std.specs.Prelude.{◌≡◌, ◌≢◌, ℕ, ◌<◌, List, ◌∷◌, ◌++◌, Bool, true, false, Some, None}
+-- No walk makes, removes or renames an entry: `leaves`. What each failure tells is in `Failures`. For a walk that is
+-- after the deepest directory that stands there, `Deepest` has the same; it tells nothing of any other walk.
+-- path_resolution(7); openat2(2).
+use Rattle.std.specs.Prelude.{◌≡◌, ℕ, List, false}
 use Rattle.path_text.specs.declared.errno.Errno.{Errno}
-use Rattle.tree_model.specs.declared.inode.Object.{Object}
-use Rattle.tree_model.specs.State.{Stands}
-use Rattle.tree_model.specs.Steps.{held, kind_of}
-use Rattle.step_resolver.specs.Asked.{AskedPart, Named, follows, is_deepest}
-use Rattle.step_resolver.specs.Meaning.{Meant, Deep, is_too_long, reading_means, reads_of, reading_deepest, deep_reads}
-use Rattle.step_resolver.specs.Trail.{Spot, IsOwnFrom}
+use Rattle.step_resolver.specs.Asked.{follows, is_deepest}
+use Rattle.step_resolver.specs.Meaning.{Meant, reading_means, reads_of}
+use Rattle.step_resolver.specs.Trail.{Spot}
 use Rattle.step_resolver.specs.Order.{Handle, Turn, more, found, partial, failed, begins, LeadsTo}
-use Rattle.step_resolver.specs.WalkHistory.{WalkInHistory, IsWalkInHistory, begin_of, end_of, timeline, parts_of_walk, IsTrailTo}
-use Rattle.step_resolver.specs.Failures.{IsMissingAt, HandlesStay, TellsError}
-use Rattle.step_resolver.specs.Footprint.{ground, AllLeftAlone, is_for_want, IsMeant, IsMeantDeep, IsEnd}
+use Rattle.step_resolver.specs.WalkHistory.{WalkInHistory, IsWalkInHistory, parts_of_walk, IsTrailTo}
+pub use Rattle.step_resolver.specs.Moments.{StoodAt, IsNewHandle}
+use Rattle.step_resolver.specs.Moments.{HandlesStay, AllLeaveEntries}
+use Rattle.step_resolver.specs.Failures.{TellsError}
+use Rattle.step_resolver.specs.Footprint.{ground, AllLeftAlone, is_for_want, IsMeant, IsEnd}
+pub use Rattle.step_resolver.specs.Deepest.{OpensDeepest, MeansDeepest}
 
 -- ---- what is opened
-
--- at the walk's own event v, after all that led to the spot, it stood under the root at the names passed
-pub record StoodAt (w : WalkInHistory) (to : Spot) (v : ℕ) : Type 0 where
-  pub at : IsOwnFrom (timeline w) to.moment v
-  pub stands : Stands ((timeline w).nodes_at v) w.root to.node to.names
-
--- a handle is open and names its node, of that kind; beside it the actor's open handles are those from before
-pub record IsNewHandle (w : WalkInHistory) (handle : Handle) : Type 0 where
-  pub is_open : held (end_of w) w.actor handle.number ≡ Some handle.node
-  pub fresh : held (begin_of w) w.actor handle.number ≡ None
-  pub others : (h : ℕ) → h ≢ handle.number → held (end_of w) w.actor h ≡ held (begin_of w) w.actor h
-  pub what : Object
-  pub is_what : (timeline w).object_of handle.node ≡ Some what
-  pub kind : kind_of what ≡ handle.kind
 
 -- All parts were passed, and afterwards the object, which is open, stood under the root at the names passed.
 pub record Opens (w : WalkInHistory) (handle : Handle) (names : List (List ℕ)) : Type 0 where
@@ -68,37 +55,6 @@ abbrev pub Means : WalkInHistory → Turn → Type 0
 Means w end = IsEnd end → is_deepest w.way.goal ≡ false → is_for_want end ≡ false
     → AllLeftAlone w (reads_of (whole_meaning w)) → IsMeant (whole_meaning w) end
 
--- ---- the deepest directory
-
--- The same for the parts before the rest, whose first name was missing in between.
-pub record OpensDeepest (w : WalkInHistory) (handle : Handle) (names : List (List ℕ))
-    (rest : List AskedPart) : Type 0 where
-  pub goal : is_deepest w.way.goal ≡ true
-  pub front : List AskedPart
-  pub parts : parts_of_walk w ≡ front ++ rest
-  pub to : Spot
-  pub trail : IsTrailTo w front to
-  pub node : to.node ≡ handle.node
-  pub passed : to.names ≡ names
-  pub follow : Bool
-  pub name : List ℕ
-  pub others : List AskedPart
-  pub begins_with : rest ≡ Named follow name ∷ others
-  pub short : is_too_long name ≡ false
-  pub first : ℕ
-  pub missing : IsMissingAt w to name first
-  pub when : ℕ
-  pub stood : StoodAt w to when
-  pub after : first < when
-  pub new : IsNewHandle w handle
-
-abbrev pub deepest_meaning : WalkInHistory → Deep
-deepest_meaning w = reading_deepest (ground w) w.path
-
-abbrev pub MeansDeepest : WalkInHistory → Turn → Type 0
-MeansDeepest w end = IsEnd end → is_deepest w.way.goal ≡ true → is_for_want end ≡ false
-    → AllLeftAlone w (deep_reads (deepest_meaning w)) → IsMeantDeep (deepest_meaning w) end
-
 -- ---- the whole
 
 -- a failure was true once, and what the walk had opened is closed
@@ -116,6 +72,7 @@ Tells w (failed error) = TellsFailed w error
 pub record Headline (w : WalkInHistory) (end : Turn) : Type 0 where
   pub tells : Tells w end
   pub means : Means w end
+  pub leaves : AllLeaveEntries w
   pub deepest : MeansDeepest w end
 
 -- Each walk in each legal history ends so: where the lines that it was told lead it to this end.

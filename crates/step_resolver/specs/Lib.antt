@@ -19,8 +19,11 @@ pub mod Meaning
 pub mod Trail
 pub mod Order
 pub mod WalkHistory
-pub mod Failures
+pub mod Moments
 pub mod Footprint
+pub mod Deepest
+pub mod Failures
+pub mod Changes
 pub mod Headline
 pub mod MeaningLaws
 pub mod TrailLaws
@@ -34,5 +37,6 @@ pub mod TurnView
 pub mod TurnsTell
 pub mod Plain
 pub mod Driver
+pub mod Renumbered
 pub mod Renamed
 pub mod Like

@@ -1,7 +1,7 @@
 -- What a path means in one tree: the end of the whole path, and the entries that it reads on the way.
 -- path_resolution(7); POSIX.1, 4.16 Pathname Resolution; openat2(2), RESOLVE_IN_ROOT, RESOLVE_BENEATH,
 -- RESOLVE_NO_SYMLINKS.
-use Rattle.std.specs.Prelude.{ℕ, zero, suc, ◌==◌, ◌&&◌, List, [], ◌∷◌, ◌++◌, Bool, true, false, not, if◌then◌else◌, nat_lt, length, Option, Some, None, is_none}
+use Rattle.std.specs.Prelude.{ℕ, zero, suc, ◌==◌, List, [], ◌∷◌, ◌++◌, Bool, true, false, if◌then◌else◌, nat_lt, length, Option, Some, None}
 use Rattle.path_text.specs.declared.errno.Errno.{Errno}
 use Rattle.path_text.specs.declared.errno.Errno.TheVariants.{NotFound, CrossRoot, NotDir, TooLong, Loop}
 use Rattle.path_text.specs.declared.flags.Flags.{Flags}
@@ -130,51 +130,3 @@ resolution (fails error reads) = is_error error
 abbrev pub reads_of : Meant → List Place
 reads_of (object d b reads) = reads
 reads_of (fails error reads) = reads
-
--- ---- the deepest directory that stands there
-
--- all of the parts; or the directory in which the first of the rest is missing; or an error
-pub data Deep : Type 0 where
-  whole : ℕ → ℕ → List Place → Deep
-  up_to : ℕ → ℕ → List AskedPart → List Place → Deep
-  none : Errno → List Place → Deep
-
--- the part is a name of good length that the directory doesn't have
-abbrev pub is_missing : Ground → ℕ → AskedPart → Bool
-is_missing g d Cur = false
-is_missing g d Up = false
-is_missing g d (Named follow n) = is_dir g.nodes d && not (is_too_long n) && is_none (child g.nodes d n)
-
--- the entry that a part reads in a directory
-abbrev pub entries_of : ℕ → AskedPart → List Place
-entries_of d Cur = []
-entries_of d Up = []
-entries_of d (Named follow n) = record { parent = d; name = n } ∷ []
-
-abbrev pub deep_after : List Place → Deep → Deep
-deep_after entries (whole d b reads) = whole d b (entries ++ reads)
-deep_after entries (up_to d b rest reads) = up_to d b rest (entries ++ reads)
-deep_after entries (none error reads) = none error (entries ++ reads)
-
-abbrev pub and_then_deep : Meant → (ℕ → ℕ → Deep) → Deep
-and_then_deep (object d b reads) onward = deep_after reads (onward d b)
-and_then_deep (fails error reads) onward = none error reads
-
--- the caller's own parts one by one, up to the first that is missing; what is missing within a link's text is an error
-abbrev pub deepest : ℕ → Ground → ℕ → List AskedPart → ℕ → Deep
-deepest nested g d [] b = whole d b []
-deepest nested g d (p ∷ ps) b =
-    if is_missing g d p then up_to d b (p ∷ ps) (entries_of d p)
-    else and_then_deep (means nested g d (p ∷ []) b) (λ e c. deepest nested g e ps c)
-
-abbrev pub path_deepest : Ground → List AskedPart → Deep
-path_deepest g ps = deepest LINKS_MAX g g.root ps LINKS_MAX
-
-abbrev pub reading_deepest : Ground → Reading → Deep
-reading_deepest g reading =
-    if leads_out reading.absolute g.flags then none CrossRoot [] else path_deepest g (asked true reading.parts)
-
-abbrev pub deep_reads : Deep → List Place
-deep_reads (whole d b reads) = reads
-deep_reads (up_to d b rest reads) = reads
-deep_reads (none error reads) = reads

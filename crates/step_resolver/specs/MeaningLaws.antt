@@ -9,7 +9,8 @@ use Rattle.tree_model.specs.Trees.{IsTree}
 use Rattle.tree_model.specs.declared.inode.Place.{Place}
 use Rattle.walk_plan.specs.Plan.{leads_out}
 use Rattle.step_resolver.specs.Asked.{AskedPart, Named, followed}
-use Rattle.step_resolver.specs.Meaning.{Ground, Meant, object, fails, after_reads, and_then, is_too_long, from_of, above_of, means, Deep, whole, up_to, none, is_missing, entries_of, deepest}
+use Rattle.step_resolver.specs.Meaning.{Ground, Meant, object, fails, after_reads, and_then, is_too_long, from_of, above_of, means}
+use Rattle.step_resolver.specs.Deepest.{Deep, whole, up_to, none, is_missing, entries_of, deepest}
 
 -- over appended parts it is the meaning of the first, then of the second from there, with what both read
 abbrev pub AppendedPartsMean : Type 0

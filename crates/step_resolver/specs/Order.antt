@@ -1,9 +1,9 @@
 -- The order of a walk's steps: which step is due, and what its answer makes of the walk.
 -- It opens one part at a time without following links (openat2(2) with O_PATH and O_NOFOLLOW), opens first and closes
 -- after, and asks for the names of what it holds after each `..` that moves and at the end.
-use Rattle.std.specs.Prelude.{◌≡◌, ℕ, zero, suc, ◌+◌, ◌*◌, ◌&&◌, ◌⊎◌, List, [], ◌∷◌, ◌++◌, Bool, true, false, if◌then◌else◌, length, reverse, Option, Some, None}
+use Rattle.std.specs.Prelude.{◌≡◌, ℕ, zero, suc, ◌+◌, ◌*◌, ◌&&◌, List, [], ◌∷◌, ◌++◌, Bool, true, false, if◌then◌else◌, length, reverse, Option, Some, None}
 use Rattle.path_text.specs.declared.errno.Errno.{Errno}
-use Rattle.path_text.specs.declared.errno.Errno.TheVariants.{NotFound, BadHandle, Raced, NoMemory, CrossRoot, NotDir, BookFull, TooLong, Loop}
+use Rattle.path_text.specs.declared.errno.Errno.TheVariants.{NotFound, BadHandle, Raced, NoMemory, CrossRoot, NotDir, TooLong, Loop}
 use Rattle.path_text.specs.declared.flags.Flags.{Flags}
 use Rattle.path_text.specs.declared.path.TheConstants.{PARTS_MAX}
 use Rattle.path_text.specs.Names.{same_names}
@@ -11,11 +11,13 @@ use Rattle.path_text.specs.Reading.{Reading}
 use Rattle.path_text.specs.Text.{text_fault, parts_of, begins_with_slash}
 use Rattle.tree_model.specs.declared.answer.Answer.{Answer}
 use Rattle.tree_model.specs.declared.answer.Answer.TheVariants.{Opened, Text, Names, NotBelow, Refused}
-use Rattle.tree_model.specs.declared.answer.Event.{Event}
 use Rattle.tree_model.specs.declared.step.Kind.{Kind}
 use Rattle.tree_model.specs.declared.step.Kind.TheVariants as kind
 use Rattle.tree_model.specs.StepWith.{StepWith}
 use Rattle.tree_model.specs.declared.step.StepOf.TheVariants.{Open, Dup, Parent, ReadLink, NameBelow, Close}
+use Rattle.step_machine.specs.Machine.{Machine}
+use Rattle.step_machine.specs.Machine as machine
+pub use Rattle.step_machine.specs.Told.{Line, answered, no_room, not_made, has_room, answer_of, events_of, IsWant}
 use Rattle.walk_plan.specs.declared.goal.Goal.{Goal}
 use Rattle.walk_plan.specs.Plan.{leads_out}
 use Rattle.step_resolver.specs.Asked.{AskedPart, Cur, Up, Named, asked, followed, follows, is_deepest}
@@ -293,34 +295,24 @@ is_closing (closing h hs after) = true
 
 -- ---- a walk's lines
 
--- What a walk was told: a step with its answer; a step with its answer, whose use found no memory; or a step that
--- wasn't made, for want of memory or of room in the book.
-pub data Line : Type 0 where
-  answered : StepWith ℕ → Answer → Line
-  no_room : StepWith ℕ → Answer → Line
-  not_made : Errno → Line
+-- the walk that goes on, where it does
+abbrev pub under_way : Turn → Option Walking
+under_way (more walk) = Some walk
+under_way (found handle names) = None
+under_way (partial handle names rest) = None
+under_way (failed error) = None
 
--- the events that an actor's lines are
-abbrev pub events_of : ℕ → List Line → List Event
-events_of a [] = []
-events_of a (answered step answer ∷ lines) = record { actor = a; step = step; answer = answer } ∷ events_of a lines
-events_of a (no_room step answer ∷ lines) = record { actor = a; step = step; answer = answer } ∷ events_of a lines
-events_of a (not_made error ∷ lines) = events_of a lines
+-- why a step wasn't made: for want of memory or of room in the book, but no Close for that
+abbrev pub IsUnmade : Walking → Errno → Type 0
+IsUnmade walk error = IsWant error × (is_closing walk ≡ false)
 
--- why a step can't be made at all
-abbrev pub IsWant : Errno → Type 0
-IsWant error = (error ≡ NoMemory) ⊎ (error ≡ BookFull)
+-- walks on this way, step by step
+abbrev pub walks : Way → Machine Turn Walking
+walks way = record { more = more; under_way = under_way; due = due way; IsUnmade = IsUnmade; take = take way }
 
--- These lines, one by one, lead from one turn to another. A Close is always made.
+-- These lines, one by one, lead from one turn to another.
 abbrev pub LeadsTo : Way → Turn → List Line → Turn → Type 0
-LeadsTo way turn [] end = turn ≡ end
-LeadsTo way (more walk) (answered step answer ∷ lines) end =
-    (step ≡ due way walk) × LeadsTo way (take way true walk answer) lines end
-LeadsTo way (more walk) (no_room step answer ∷ lines) end =
-    (step ≡ due way walk) × LeadsTo way (take way false walk answer) lines end
-LeadsTo way (more walk) (not_made error ∷ lines) end =
-    (IsWant error) × ((is_closing walk ≡ false) × LeadsTo way (take way true walk (Refused error)) lines end)
-LeadsTo way _ (line ∷ lines) end = ⊥
+LeadsTo way = machine.LeadsTo (walks way)
 
 -- ---- how many steps are left at most
 

@@ -1,8 +1,9 @@
 -- What a walk's own steps leave as it was: statements of laws.
-use Rattle.std.specs.Prelude.{◌≡◌, ℕ, suc, true, false}
+use Rattle.std.specs.Prelude.{◌≡◌, false}
 use Rattle.tree_model.specs.StepLaws.{is_on_entries}
 use Rattle.step_resolver.specs.Order.{Way, Walking, Turn, begins, due, LeadsTo}
-use Rattle.step_resolver.specs.WalkHistory.{WalkInHistory, IsWalkInHistory, timeline}
+use Rattle.step_resolver.specs.WalkHistory.{WalkInHistory, IsWalkInHistory}
+use Rattle.step_resolver.specs.Moments.{AllLeaveEntries}
 
 -- no step that is due makes, removes or renames an entry
 abbrev pub DueStepsLeaveEntries : Type 0
@@ -12,4 +13,4 @@ DueStepsLeaveEntries = (way : Way) (walk : Walking) → is_on_entries (due way w
 abbrev pub OwnEventsLeaveNodes : Type 0
 OwnEventsLeaveNodes =
     (w : WalkInHistory) (end : Turn) → IsWalkInHistory w → LeadsTo w.way (begins w.way w.path) w.lines end
-    → (t : ℕ) → (timeline w).is_own t ≡ true → (timeline w).nodes_at (suc t) ≡ (timeline w).nodes_at t
+    → AllLeaveEntries w

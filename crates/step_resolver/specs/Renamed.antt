@@ -2,43 +2,32 @@
 use Rattle.std.specs.Prelude.{◌≡◌, ℕ, List, [], ◌∷◌, ◌++◌}
 use Rattle.step_resolver.specs.declared.walk.Root.{Root}
 use Rattle.step_resolver.specs.Order.{Way, Handle, Position, root_itself, holds, After, gives, onward, judges, Walking, opening, reading, rising, judging, duping, ending, closing, Turn, more, found, partial, failed, handles_of}
+use Rattle.step_resolver.specs.Renumbered.{for_handles}
+use Rattle.step_resolver.specs.Renumbered as all
 
 abbrev pub numbers_by : (ℕ → ℕ) → List ℕ → List ℕ
-numbers_by f [] = []
-numbers_by f (h ∷ hs) = f h ∷ numbers_by f hs
+numbers_by f = all.numbers_by (for_handles f)
 
 abbrev pub root_by : (ℕ → ℕ) → Root → Root
-root_by f root = record root { handle = f root.handle }
+root_by f = all.root_by (for_handles f)
 
 abbrev pub way_by : (ℕ → ℕ) → Way → Way
-way_by f way = record way { root = f way.root }
+way_by f = all.way_by (for_handles f)
 
 abbrev pub handle_by : (ℕ → ℕ) → Handle → Handle
-handle_by f handle = record handle { number = f handle.number }
+handle_by f = all.handle_by (for_handles f)
 
 abbrev pub position_by : (ℕ → ℕ) → Position → Position
-position_by f root_itself = root_itself
-position_by f (holds handle names) = holds (handle_by f handle) names
+position_by f = all.position_by (for_handles f)
 
 abbrev pub walk_after_by : (ℕ → ℕ) → After → After
-walk_after_by f (gives error) = gives error
-walk_after_by f (onward position rest) = onward (position_by f position) rest
-walk_after_by f (judges handle names rest) = judges (handle_by f handle) names rest
+walk_after_by f = all.walk_after_by (for_handles f)
 
 abbrev pub walking_by : (ℕ → ℕ) → Walking → Walking
-walking_by f (opening position own follow n rest) = opening (position_by f position) own follow n rest
-walking_by f (reading position link rest) = reading (position_by f position) (handle_by f link) rest
-walking_by f (rising handle names rest) = rising (handle_by f handle) names rest
-walking_by f (judging handle names rest) = judging (handle_by f handle) names rest
-walking_by f (duping rest) = duping rest
-walking_by f (ending handle names rest) = ending (handle_by f handle) names rest
-walking_by f (closing h hs after) = closing (f h) (numbers_by f hs) (walk_after_by f after)
+walking_by f = all.walking_by (for_handles f)
 
 abbrev pub walk_turn_by : (ℕ → ℕ) → Turn → Turn
-walk_turn_by f (more w) = more (walking_by f w)
-walk_turn_by f (found handle names) = found (handle_by f handle) names
-walk_turn_by f (partial handle names rest) = partial (handle_by f handle) names rest
-walk_turn_by f (failed error) = failed error
+walk_turn_by f = all.walk_turn_by (for_handles f)
 
 -- ---- the handles themselves, one by one
 

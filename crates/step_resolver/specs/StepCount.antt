@@ -1,10 +1,11 @@
 -- How many steps a walk makes, by the parts that it passes: the statement of the law.
-use Rattle.std.specs.Prelude.{ℕ, suc, ◌+◌, ◌-◌, ◌*◌, ◌≤◌, List, [], ◌∷◌, length, true, false, Option, Some, None}
+use Rattle.std.specs.Prelude.{ℕ, suc, ◌+◌, ◌-◌, ◌*◌, ◌≤◌, List, [], ◌∷◌, length, Option, Some, None}
 use Rattle.path_text.specs.Reading.{Reading}
 use Rattle.path_text.specs.Text.{parts_of}
 use Rattle.tree_model.specs.declared.answer.Answer.{Answer}
-use Rattle.tree_model.specs.declared.answer.Answer.TheVariants.{Text, Refused}
-use Rattle.step_resolver.specs.Order.{Way, Todo, todo, After, gives, onward, judges, Walking, opening, reading, rising, judging, duping, ending, closing, Turn, more, found, partial, failed, begins, take, Line, answered, no_room, not_made, LeadsTo}
+use Rattle.tree_model.specs.declared.answer.Answer.TheVariants.{Text}
+use Rattle.step_machine.specs.Machine.{taken}
+use Rattle.step_resolver.specs.Order.{Way, Todo, todo, After, gives, onward, judges, Walking, opening, reading, rising, judging, duping, ending, closing, Turn, more, found, partial, failed, begins, Line, LeadsTo, walks, answer_of}
 
 abbrev pub parts_in : Todo → ℕ
 parts_in (todo inner own b) = length inner + length own
@@ -51,13 +52,8 @@ passed_by walk answer next = passed_from (to_come walk) (brought walk answer) (t
 -- the parts passed while these lines lead on
 abbrev pub parts_passed : Way → Turn → List Line → ℕ
 parts_passed way turn [] = 0
-parts_passed way (more walk) (answered step answer ∷ lines) =
-    passed_by walk answer (take way true walk answer) + parts_passed way (take way true walk answer) lines
-parts_passed way (more walk) (no_room step answer ∷ lines) =
-    passed_by walk answer (take way false walk answer) + parts_passed way (take way false walk answer) lines
-parts_passed way (more walk) (not_made error ∷ lines) =
-    passed_by walk (Refused error) (take way true walk (Refused error))
-    + parts_passed way (take way true walk (Refused error)) lines
+parts_passed way (more walk) (line ∷ lines) =
+    passed_by walk (answer_of line) (taken (walks way) walk line) + parts_passed way (taken (walks way) walk line) lines
 parts_passed way _ (line ∷ lines) = 0
 
 -- the parts that a walk along a path passed, of the caller's and of links' texts, those that need no step among them

@@ -1,5 +1,6 @@
 //! What a walk ends with where the entries that its path reads are left alone: laws, each the contract of a
 //! function without a body.
+ghost use Rattle.step_resolver.specs.Changes.{RacedWalksNeedAChange};
 ghost use Rattle.step_resolver.specs.FootprintLaws.{QuietWalksMean, RacedTellsOfChange, WalksMean};
 
 /// For every interleaving of actors' single steps, where no other actor changes an entry that the path reads in
@@ -21,4 +22,9 @@ pub fn quiet_walks_mean()
 /// stands at an entry that the path reads in the tree as the window begins.
 pub fn raced_tells_of_change()
     ensures { RacedTellsOfChange }
+{}
+
+/// So it met a step of another in its window that made, removed or renamed an entry.
+pub fn raced_walks_need_a_change()
+    ensures { RacedWalksNeedAChange }
 {}

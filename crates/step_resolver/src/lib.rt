@@ -22,7 +22,9 @@ mod walk;
 
 pub use answers::{check_refusal, refusal_of};
 pub use driver::{Resolved, advance, resolve};
-pub use footprint_laws::{quiet_walks_mean, raced_tells_of_change, walks_mean};
+pub use footprint_laws::{
+    quiet_walks_mean, raced_tells_of_change, raced_walks_need_a_change, walks_mean,
+};
 pub use laws::{
     headline, like_walks_agree, own_steps_leave_entries, steps_by_parts_passed, walks_tell,
     worked_race,

@@ -29,7 +29,7 @@ mod telling;
 pub use asked::{OptionFault, Options};
 pub use counts::COUNT_MAX;
 pub use fault::ExploreFault;
-pub use laws::replies_have_heads;
+pub use laws::{count_limit_is_a_number, replies_have_heads};
 pub use merging::{MergeFault, merge};
 pub use part::Part;
 pub use property::{Property, Rule, read_property};

@@ -1,11 +1,11 @@
 //! Logs of each step with each answer, there and back.
 use super::rows::{ANSWERS, STEPS, answer_of, step_of};
 use event_log::EventLog;
-use path_text::{Errno, NoMemory};
+use path_text::{Errno, LentBytes, Name, NoMemory};
 use std::alloc::Global;
 use std::test::Fail;
 use step_text::Output;
-use tree_model::{Actor, Answer, Event, HandleNo};
+use tree_model::{Actor, Answer, Event, HandleNo, StepOf};
 
 /// Each step with each answer.
 const COUNT: usize = STEPS.len() * ANSWERS.len();
@@ -142,5 +142,61 @@ fn closes(alloc: Global) -> Result<bool, Errno> {
 #[test]
 fn adds_a_close(rt: HostRuntime) -> Result<(), Fail> {
     assert!(rt; closes(rt.alloc())?);
+    Ok(())
+}
+
+/// Steps with their answers, and whether after each of them handle 5 is open, and handle 6, which was open before.
+const LEFT: [(&str, &str, bool, bool); 6] = [
+    ("open 0 a", "opened", true, true),
+    ("close 5", "refused", true, true),
+    ("close 6", "done", true, false),
+    ("close 5", "done", false, false),
+    ("remove_file 0 a", "done", false, false),
+    ("dup 0", "opened", true, false),
+];
+
+fn leaves_open(alloc: Global) -> Result<bool, Errno> {
+    let mut log = EventLog::new(alloc);
+    for (line, word, five, six) in &LEFT {
+        let step = step_of(alloc, line)?;
+        let answer = answer_of(alloc, word, "")?;
+        log.push(Actor::new(0), &step.lend(), &answer)?;
+        let is_five = log.leaves_open(HandleNo::new(5), false);
+        let is_six = log.leaves_open(HandleNo::new(6), true);
+        if is_five != *five || is_six != *six {
+            return Ok(false);
+        }
+    }
+    Ok(true)
+}
+
+#[test]
+fn tells_open_handles(rt: HostRuntime) -> Result<(), Fail> {
+    assert!(rt; leaves_open(rt.alloc())?);
+    Ok(())
+}
+
+/// So many texts of the longest length that their bytes are more than 32 MiB.
+const MANY: usize = 8_200;
+
+/// Whether a log takes them all while there is memory, and the last is read where it lies.
+fn takes_many_texts(alloc: Global) -> Result<bool, Errno> {
+    let name = Name::new(alloc, b"l")?;
+    let text = Vec::from_elem(alloc, b'x', 4_095)?;
+    let step = StepOf::MakeLink(HandleNo::new(0), name.lend(), LentBytes::of(&text));
+    let mut log = EventLog::new(alloc);
+    for _ in 0..MANY {
+        log.push(Actor::new(0), &step, &Answer::Done)?;
+    }
+    log.push(Actor::new(1), &step, &Answer::Done)?;
+    if log.len() != MANY + 1 {
+        return Ok(false);
+    }
+    Ok(log.is(MANY, Actor::new(1), &step, &Answer::Done) && !log.same_at(0, &log, MANY))
+}
+
+#[test]
+fn takes_texts_while_there_is_memory(rt: HostRuntime) -> Result<(), Fail> {
+    assert!(rt; takes_many_texts(rt.alloc())?);
     Ok(())
 }

@@ -1,64 +1,53 @@
 -- An entry is added in the directory to which its names but the last lead, and entries one after another.
-use Rattle.std.proofs.Common.{◌≡◌, ℕ, zero, suc, take, ◌+◌, ◌-◌, ◌<◌, Bool, List, [], ◌∷◌, ◌++◌, length, get_or, drop, true, false, not, Option, Some, None, Result, Ok, Err, refl, sym, ap, ◌∙◌, arith}
+use Rattle.std.proofs.Common.{◌≡◌, ℕ, zero, suc, take, ◌+◌, ◌-◌, ◌<◌, List, [], ◌∷◌, ◌++◌, length, get_or, drop, Option, Some, None, Result, Ok, Err, refl, sym, ap, ◌∙◌, arith}
 use Rattle.std.specs.Prelude.{slice_get}
 use Rattle.std.proofs.lemmas.List.{drop_more, take_more}
 use Rattle.std.proofs.lemmas.Option.{slice_get-get_or, same_Some}
 use Rattle.path_text.specs.declared.errno.Errno.{Errno}
-use Rattle.path_text.specs.declared.errno.Errno.TheVariants.{NotFound, NotDir}
+use Rattle.path_text.specs.declared.errno.Errno.TheVariants.{NotFound}
 use Rattle.tree_model.specs.declared.inode.Inode.{Inode}
 use Rattle.tree_model.specs.declared.inode.Object.{Object}
-use Rattle.tree_model.specs.State.{TOP, child, is_dir}
-use Rattle.tree_model.specs.Steps.{directory_at}
-use Rattle.tree_model.specs.Entries.{refuse_if, with_some, makes}
-use Rattle.tree_list.specs.Build.{new_fault, object_of, way, makes_at, adds, adds_all, with_added}
+use Rattle.tree_model.specs.State.{TOP, child}
+use Rattle.tree_model.specs.Entries.{with_some, makes}
+use Rattle.tree_list.specs.Build.{new_fault, object_of, node_at, way, makes_at, adds, adds_all, with_added}
 use Rattle.tree_list.specs.declared.build.Entry.{Entry}
 use Rattle.tree_list.specs.declared.build.BuildFault.{BuildFault}
 
--- what is done in a directory that was found, or why none was
-abbrev in_found : Result ℕ Errno → (ℕ → Result (List Inode) Errno) → Result (List Inode) Errno
-in_found (Err error) f = Err error
-in_found (Ok d) f = f d
+-- the same below the node of the next name
+found_below : (o : Option ℕ) (g : ℕ → Option ℕ) (f h : ℕ → Result (List Inode) Errno) → ((c : ℕ) → h c ≡ with_some (g c) (Err NotFound) f)
+    → with_some o (Err NotFound) h ≡ with_some (with_some o None g) (Err NotFound) f
+found_below None g f h e = refl
+found_below (Some c) g f h e = e c
 
-refused_once : (b : Bool) (x : ℕ) (r : Result (List Inode) Errno) (f : ℕ → Result (List Inode) Errno) → f x ≡ refuse_if b (Err NotDir) r
-    → f x ≡ in_found (refuse_if b (Err NotDir) (Ok x)) f
-refused_once true x r f e = e
-refused_once false x r f e = refl
-
-found_below : (b : Bool) (o : Option ℕ) (g : ℕ → Result ℕ Errno) (f h : ℕ → Result (List Inode) Errno) → ((c : ℕ) → h c ≡ in_found (g c) f)
-    → refuse_if b (Err NotDir) (with_some o (Err NotFound) h) ≡ in_found (refuse_if b (Err NotDir) (with_some o (Err NotFound) g)) f
-found_below true o g f h e = refl
-found_below false None g f h e = refl
-found_below false (Some c) g f h e = e c
-
--- a node is made in the directory to which the names but the last lead
+-- a node is made below the node to which the names but the last lead
 makes_at-in : (nodes : List Inode) (x : ℕ) (names : List (List ℕ)) (last : ℕ) (n : List ℕ) (what : Object) → length names ≡ last + 1 → slice_get names last ≡ Some n
-    → makes_at nodes x names what ≡ in_found (directory_at nodes x (take last names)) (λ d. makes nodes d n what)
+    → makes_at nodes x names what ≡ with_some (node_at nodes x (take last names)) (Err NotFound) (λ d. makes nodes d n what)
 makes_at-in nodes x [] last n what count is = absurd (omega arith)
 makes_at-in nodes x (m ∷ []) zero n what count is =
     let same : m ≡ n = cc (is) in
-    ap (λ name. makes nodes x name what) same ∙ refused_once (not (is_dir nodes x)) x _ (λ d. makes nodes d n what) refl
+    ap (λ name. makes nodes x name what) same
 makes_at-in nodes x (m ∷ []) (suc last) n what count is = absurd (omega arith)
 makes_at-in nodes x (m ∷ k ∷ names) zero n what count is = absurd (omega arith)
 makes_at-in nodes x (m ∷ k ∷ names) (suc last) n what count is =
-    found_below (not (is_dir nodes x)) (child nodes x m) (λ c. directory_at nodes c (take last (k ∷ names))) (λ d. makes nodes d n what) (λ c. makes_at nodes c (k ∷ names) what)
+    found_below (child nodes x m) (λ c. node_at nodes c (take last (k ∷ names))) (λ d. makes nodes d n what) (λ c. makes_at nodes c (k ∷ names) what)
     (λ c. makes_at-in nodes c (k ∷ names) last n what (omega arith) is)
 
 module _ (nodes : List Inode) (entry : Entry) (last : ℕ) (n : List ℕ) (fits : new_fault entry.what ≡ None) (count : length entry.at ≡ last + 1) (is : slice_get entry.at last ≡ Some n) where
-  adds-in : adds nodes entry ≡ in_found (directory_at nodes TOP (way entry.at)) (λ d. makes nodes d n (object_of entry.what))
+  adds-in : adds nodes entry ≡ with_some (node_at nodes TOP (way entry.at)) (Err NotFound) (λ d. makes nodes d n (object_of entry.what))
   adds-in =
       let whole : length entry.at - 1 ≡ last = omega arith in
       rw (fits, whole) (makes_at-in nodes TOP entry.at last n (object_of entry.what) count is)
 
-  pub adds_found : (dir : ℕ) → directory_at nodes TOP (way entry.at) ≡ Ok dir → adds nodes entry ≡ makes nodes dir n (object_of entry.what)
-  adds_found dir found = adds-in ∙ ap (λ r. in_found r (λ d. makes nodes d n (object_of entry.what))) found
+  pub adds_found : (parent : ℕ) → node_at nodes TOP (way entry.at) ≡ Some parent → adds nodes entry ≡ makes nodes parent n (object_of entry.what)
+  adds_found parent found = adds-in ∙ ap (λ o. with_some o (Err NotFound) (λ d. makes nodes d n (object_of entry.what))) found
 
-  adds_in_none : (error : Errno) → directory_at nodes TOP (way entry.at) ≡ Err error → adds nodes entry ≡ Err error
-  adds_in_none error none = adds-in ∙ ap (λ r. in_found r (λ d. makes nodes d n (object_of entry.what))) none
+  adds_in_none : node_at nodes TOP (way entry.at) ≡ None → adds nodes entry ≡ Err NotFound
+  adds_in_none none = adds-in ∙ ap (λ o. with_some o (Err NotFound) (λ d. makes nodes d n (object_of entry.what))) none
 
-pub adds_not_found : (nodes : List Inode) (entry : Entry) (last : ℕ) (error : Errno) → new_fault entry.what ≡ None → length entry.at ≡ last + 1
-    → directory_at nodes TOP (way entry.at) ≡ Err error → adds nodes entry ≡ Err error
-adds_not_found nodes entry last error fits count none =
-    adds_in_none nodes entry last (get_or entry.at last []) fits count (slice_get-get_or entry.at last [] (omega arith)) error none
+pub adds_not_found : (nodes : List Inode) (entry : Entry) (last : ℕ) → new_fault entry.what ≡ None → length entry.at ≡ last + 1
+    → node_at nodes TOP (way entry.at) ≡ None → adds nodes entry ≡ Err NotFound
+adds_not_found nodes entry last fits count none =
+    adds_in_none nodes entry last (get_or entry.at last []) fits count (slice_get-get_or entry.at last [] (omega arith)) none
 
 -- one entry on
 pub adds_all_more : (i : ℕ) (nodes added : List Inode) (entries : List Entry) (entry : Entry) → i < length entries → entry ≡ get_or entries i entry → adds nodes entry ≡ Ok added → adds_all i nodes (drop i entries) ≡ adds_all (i + 1) added (drop (i + 1) entries)

@@ -1,15 +1,15 @@
 -- A tree that is built of entries is a tree, and each entry stands in it at its names.
-use Rattle.std.proofs.Common.{◌≡◌, ℕ, zero, suc, List, [], ◌∷◌, not, Some, None, Result, Ok, Err, refl, sym, ap, ◌∙◌, subst, arith}
+use Rattle.std.proofs.Common.{◌≡◌, ℕ, zero, suc, List, [], ◌∷◌, Some, None, Result, Ok, Err, refl, sym, ap, ◌∙◌, subst, arith}
 use Rattle.std.specs.Prelude.{slice_get}
 use Rattle.path_text.specs.declared.errno.Errno.{Errno}
 use Rattle.tree_model.specs.declared.inode.Inode.{Inode}
 use Rattle.tree_model.specs.declared.inode.Object.{Object}
 use Rattle.tree_model.specs.declared.inode.Object.TheVariants as object
 use Rattle.tree_model.specs.declared.inode.Place.{Place}
-use Rattle.tree_model.specs.State.{State, TOP, object_at, place_at, child, is_dir}
+use Rattle.tree_model.specs.State.{State, TOP, object_at, place_at, child}
 use Rattle.tree_model.specs.Entries.{refuse_by, makes}
 use Rattle.tree_model.specs.Trees.{IsTree, IsState}
-use Rattle.tree_model.proofs.Refusals.{refuse_if-both, with_some-both, refuse_by-both}
+use Rattle.tree_model.proofs.Refusals.{with_some-both, refuse_by-both}
 use Rattle.tree_model.proofs.Changed.{Changed, Grows, Grows-refl, Grows-trans, Changed-grows, IfDone, Changed-tree, MakeDir-changed, MakeFile-changed, MakeLink-changed}
 use Rattle.tree_list.specs.Build.{top_alone, object_of, new_fault, makes_at, adds, with_added, adds_all, built, with_nodes, IsBuilt}
 use Rattle.tree_list.specs.declared.build.New.{New}
@@ -29,8 +29,7 @@ makes_at-changed : (nodes : List Inode) (x : ℕ) (names : List (List ℕ)) (wha
 makes_at-changed nodes x [] what e = tt
 makes_at-changed nodes x (n ∷ []) what e = makes-changed nodes x n what e
 makes_at-changed nodes x (n ∷ m ∷ names) what e =
-    refuse_if-both (IfDone (Changed nodes)) (not (is_dir nodes x)) _ _ tt (λ _.
-    with_some-both (IfDone (Changed nodes)) (child nodes x n) _ _ tt (λ c _. makes_at-changed nodes c (m ∷ names) what e))
+    with_some-both (IfDone (Changed nodes)) (child nodes x n) _ _ tt (λ c _. makes_at-changed nodes c (m ∷ names) what e)
 
 adds-changed : (nodes : List Inode) (entry : Entry) → IfDone (Changed nodes) (adds nodes entry)
 adds-changed nodes entry =

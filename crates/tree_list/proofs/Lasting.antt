@@ -1,19 +1,16 @@
--- A directory that names lead to is led to by them for good while entries are added.
-use Rattle.std.proofs.Common.{◌≡◌, ℕ, zero, suc, Bool, true, false, not, List, [], ◌∷◌, ◌++◌, length, Option, Some, None, Result, Ok, Err, refl, sym, subst, cond}
+-- A node that names lead to is led to by them for good while entries are added.
+use Rattle.std.proofs.Common.{◌≡◌, ℕ, suc, Bool, true, false, not, List, [], ◌∷◌, ◌++◌, length, Option, Some, None, Ok, Err, refl, sym, subst, cond}
 use Rattle.std.specs.Prelude.{is_some, nat_le}
 use Rattle.std.proofs.lemmas.Option.{none-some}
-use Rattle.std.proofs.lemmas.Bool.{false≢true}
-use Rattle.path_text.specs.declared.errno.Errno.{Errno}
 use Rattle.path_text.specs.declared.errno.Errno.TheVariants.{NotFound, Exists, NotDir, TooMany}
 use Rattle.tree_model.specs.declared.inode.Inode.{Inode}
 use Rattle.tree_model.specs.declared.inode.Object.{Object}
 use Rattle.tree_model.specs.declared.tree.TheConstants.{NUMBERS_MAX}
 use Rattle.tree_model.specs.State.{TOP, child, child_from, is_at, is_dir, is_gone}
-use Rattle.tree_model.specs.Steps.{directory_at}
-use Rattle.tree_model.specs.Entries.{refuse_if, with_some, makes}
+use Rattle.tree_model.specs.Entries.{with_some, makes}
 use Rattle.tree_model.proofs.Refusals.{refuse_if-both}
 use Rattle.tree_model.proofs.Changed.{IfDone}
-use Rattle.tree_list.specs.Build.{way, StandsIn}
+use Rattle.tree_list.specs.Build.{node_at, way, StandsIn}
 use Rattle.tree_list.proofs.Built.{done}
 
 still_found : (b : Bool) (k : ℕ) (o p : Option ℕ) (c : ℕ) → (o ≡ Some c → p ≡ Some c) → cond b (Some k) o ≡ Some c → cond b (Some k) p ≡ Some c
@@ -26,29 +23,18 @@ child_from-append k (inode ∷ nodes) more d n c e =
     still_found (is_at d n inode.place) k (child_from (suc k) nodes d n) (child_from (suc k) (nodes ++ more) d n) c
     (λ later. child_from-append (suc k) nodes more d n c later) e
 
-is_dir-append : (nodes more : List Inode) (x : ℕ) → is_dir nodes x ≡ true → is_dir (nodes ++ more) x ≡ true
-is_dir-append [] more x e = absurd (false≢true e)
-is_dir-append (inode ∷ nodes) more zero e = e
-is_dir-append (inode ∷ nodes) more (suc x) e = is_dir-append nodes more x e
-
-not_refused : (b : Bool) (r : Result ℕ Errno) (d : ℕ) → refuse_if (not b) (Err NotDir) r ≡ Ok d → (b ≡ true) × (r ≡ Ok d)
-not_refused true r d e = (refl, e)
-not_refused false r d e = absurd (cc (e))
-
 -- the same below the next name
 below : (nodes more : List Inode) (x : ℕ) (n : List ℕ) (names : List (List ℕ)) (d : ℕ) (o : Option ℕ) → child nodes x n ≡ o
-    → ((c : ℕ) → directory_at nodes c names ≡ Ok d → directory_at (nodes ++ more) c names ≡ Ok d)
-    → with_some o (Err NotFound) (λ c. directory_at nodes c names) ≡ Ok d
-    → with_some (child (nodes ++ more) x n) (Err NotFound) (λ c. directory_at (nodes ++ more) c names) ≡ Ok d
-below nodes more x n names d None q later e = absurd (cc (e))
+    → ((c : ℕ) → node_at nodes c names ≡ Some d → node_at (nodes ++ more) c names ≡ Some d)
+    → with_some o None (λ c. node_at nodes c names) ≡ Some d
+    → with_some (child (nodes ++ more) x n) None (λ c. node_at (nodes ++ more) c names) ≡ Some d
+below nodes more x n names d None q later e = absurd (none-some d e)
 below nodes more x n names d (Some c) q later e = rw (child_from-append 0 nodes more x n c q) (later c e)
 
-directory_at-append : (nodes more : List Inode) (x : ℕ) (names : List (List ℕ)) (d : ℕ) → directory_at nodes x names ≡ Ok d → directory_at (nodes ++ more) x names ≡ Ok d
-directory_at-append nodes more x [] d e =
-    let on = not_refused (is_dir nodes x) (Ok x) d e in rw (is_dir-append nodes more x on.0) on.1
-directory_at-append nodes more x (n ∷ names) d e =
-    let on = not_refused (is_dir nodes x) _ d e in
-    rw (is_dir-append nodes more x on.0) (below nodes more x n names d (child nodes x n) refl (λ c. directory_at-append nodes more c names d) on.1)
+node_at-append : (nodes more : List Inode) (x : ℕ) (names : List (List ℕ)) (d : ℕ) → node_at nodes x names ≡ Some d → node_at (nodes ++ more) x names ≡ Some d
+node_at-append nodes more x [] d e = e
+node_at-append nodes more x (n ∷ names) d e =
+    below nodes more x n names d (child nodes x n) refl (λ c. node_at-append nodes more c names d) e
 
 -- nodes with more of them at the end
 abbrev IsLonger : List Inode → List Inode → Type 0
@@ -64,4 +50,4 @@ makes-longer nodes d n object =
 pub stands_in-lasts : (nodes new : List Inode) (names : List (List ℕ)) (dir d : ℕ) (n : List ℕ) (object : Object) → StandsIn nodes names dir → makes nodes d n object ≡ Ok new → StandsIn new names dir
 stands_in-lasts nodes new names dir d n object stands made =
     let longer = done (IsLonger nodes) (makes nodes d n object) new made (makes-longer nodes d n object) in
-    subst (λ all. StandsIn all names dir) (sym longer.1) (directory_at-append nodes longer.0 TOP (way names) dir stands)
+    subst (λ all. StandsIn all names dir) (sym longer.1) (node_at-append nodes longer.0 TOP (way names) dir stands)

@@ -58,11 +58,10 @@ makes_at-added : (nodes : List Inode) → IsTree nodes → (x : ℕ) (p : List (
 makes_at-added nodes tree x p s [] object = tt
 makes_at-added nodes tree x p s (n ∷ []) object = makes-added nodes tree x p s n object
 makes_at-added nodes tree x p s (n ∷ m ∷ names) object =
-    refuse_if-both (IfDone (IsAdded nodes object (reverse_aux (m ∷ names) (n ∷ p)))) (not (is_dir nodes x)) _ _ tt (λ _.
     with_some-both (IfDone (IsAdded nodes object (reverse_aux (m ∷ names) (n ∷ p)))) (child nodes x n) _ _ tt (λ c e.
     let stands_there = place_at-child nodes x n c e in
     let below_top : c ≢ TOP = λ at_top. absurd (cc (tree.top_is_free, stands_there, at_top)) in
-    makes_at-added nodes tree c (n ∷ p) (below_top, (x, (stands_there, s))) (m ∷ names) object))
+    makes_at-added nodes tree c (n ∷ p) (below_top, (x, (stands_there, s))) (m ∷ names) object)
 
 adds-added : (nodes new : List Inode) (entry : Entry) → IsTree nodes → adds nodes entry ≡ Ok new → IsAdded nodes (object_of entry.what) (reverse entry.at) new
 adds-added nodes new entry tree e =

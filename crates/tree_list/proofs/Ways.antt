@@ -6,6 +6,7 @@ use Rattle.path_text.specs.declared.errno.Errno.TheVariants.{NotFound, NotDir}
 use Rattle.tree_model.specs.declared.inode.Inode.{Inode}
 use Rattle.tree_model.specs.State.{child, is_dir}
 use Rattle.tree_model.specs.Steps.{directory_at}
+use Rattle.tree_list.specs.Build.{node_at}
 
 pub drop_from_get : {A : Type 0} (xs : List A) (i : ℕ) (x : A) → slice_get xs i ≡ Some x → drop i xs ≡ x ∷ drop (i + 1) xs
 drop_from_get [] i x is = cc
@@ -22,6 +23,12 @@ directory_at_missing nodes x names i n is dir none = rw (drop_from_get names i n
 
 pub directory_at_enters : (nodes : List Inode) (x c : ℕ) (names : List (List ℕ)) (i : ℕ) (n : List ℕ) → slice_get names i ≡ Some n → is_dir nodes x ≡ true → child nodes x n ≡ Some c → directory_at nodes x (drop i names) ≡ directory_at nodes c (drop (i + 1) names)
 directory_at_enters nodes x c names i n is dir found = rw (drop_from_get names i n is, dir, found) refl
+
+pub node_at_missing : (nodes : List Inode) (x : ℕ) (names : List (List ℕ)) (i : ℕ) (n : List ℕ) → slice_get names i ≡ Some n → child nodes x n ≡ None → node_at nodes x (drop i names) ≡ None
+node_at_missing nodes x names i n is none = rw (drop_from_get names i n is, none) refl
+
+pub node_at_enters : (nodes : List Inode) (x c : ℕ) (names : List (List ℕ)) (i : ℕ) (n : List ℕ) → slice_get names i ≡ Some n → child nodes x n ≡ Some c → node_at nodes x (drop i names) ≡ node_at nodes c (drop (i + 1) names)
+node_at_enters nodes x c names i n is found = rw (drop_from_get names i n is, found) refl
 
 -- the names before a place
 pub slice_get-take : {A : Type 0} (n : ℕ) (xs : List A) (i : ℕ) → i < n → slice_get (take n xs) i ≡ slice_get xs i

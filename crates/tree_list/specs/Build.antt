@@ -1,14 +1,13 @@
 -- A tree built of a list of entries, each made at its names below the top, in their order.
-use Rattle.std.specs.Prelude.{◌≡◌, ◌≤◌, ◌-◌, ℕ, suc, List, [], ◌∷◌, not, length, take, reverse, slice_get, Option, None, Result, Ok, Err, IsOk, ◌⊎◌, Some}
+use Rattle.std.specs.Prelude.{◌≡◌, ◌≤◌, ◌-◌, ℕ, suc, List, [], ◌∷◌, length, take, reverse, slice_get, Option, None, Result, Ok, Err, IsOk, ◌⊎◌, Some}
 use Rattle.path_text.specs.declared.errno.Errno.{Errno}
-use Rattle.path_text.specs.declared.errno.Errno.TheVariants.{NotFound, NoMemory, Exists, NotDir}
+use Rattle.path_text.specs.declared.errno.Errno.TheVariants.{NotFound, NoMemory, Exists}
 use Rattle.path_text.specs.Text.{text_fault}
 use Rattle.tree_model.specs.declared.inode.Inode.{Inode}
 use Rattle.tree_model.specs.declared.inode.Object.{Object}
 use Rattle.tree_model.specs.declared.inode.Object.TheVariants as object
-use Rattle.tree_model.specs.State.{State, TOP, object_at, child, is_dir, Stands}
-use Rattle.tree_model.specs.Steps.{directory_at}
-use Rattle.tree_model.specs.Entries.{refuse_if, with_some, refuse_by, makes}
+use Rattle.tree_model.specs.State.{State, TOP, object_at, child, Stands}
+use Rattle.tree_model.specs.Entries.{with_some, refuse_by, makes}
 use Rattle.tree_list.specs.declared.build.New.{New}
 use Rattle.tree_list.specs.declared.build.New.TheVariants.{Dir, File, Link}
 use Rattle.tree_list.specs.declared.build.Entry.{Entry}
@@ -30,21 +29,26 @@ new_fault Dir = None
 new_fault File = None
 new_fault (Link text) = text_fault text
 
--- a new node at these names below x, no link followed; there is no entry without a name but the top
+-- A new node at these names below x, no link followed. Where its parent is missing, at whatever depth, it is NotFound;
+-- there is no entry without a name but the top.
 abbrev pub makes_at : List Inode → ℕ → List (List ℕ) → Object → Result (List Inode) Errno
 makes_at nodes x [] what = Err Exists
 makes_at nodes x (n ∷ []) what = makes nodes x n what
 makes_at nodes x (n ∷ m ∷ names) what =
-    refuse_if (not (is_dir nodes x)) (Err NotDir)
-    (with_some (child nodes x n) (Err NotFound) (λ c. makes_at nodes c (m ∷ names) what))
+    with_some (child nodes x n) (Err NotFound) (λ c. makes_at nodes c (m ∷ names) what)
+
+-- the node at these names below x, if one is there
+abbrev pub node_at : List Inode → ℕ → List (List ℕ) → Option ℕ
+node_at nodes x [] = Some x
+node_at nodes x (n ∷ names) = with_some (child nodes x n) None (λ c. node_at nodes c names)
 
 -- the names but the last, by which the last is reached
 abbrev pub way : List (List ℕ) → List (List ℕ)
 way names = take (length names - 1) names
 
--- the directory in which an entry at these names stands, or is to stand
+-- the node below which an entry at these names stands, or is to stand
 abbrev pub StandsIn : List Inode → List (List ℕ) → ℕ → Type 0
-StandsIn nodes names dir = directory_at nodes TOP (way names) ≡ Ok dir
+StandsIn nodes names parent = node_at nodes TOP (way names) ≡ Some parent
 
 -- the nodes with an entry
 abbrev pub adds : List Inode → Entry → Result (List Inode) Errno

@@ -1,8 +1,7 @@
 //! Adds the entries of a list to nodes, however these are kept, and builds a tree of such a list.
 ghost use Rattle.std.specs.Prelude.{◌≡◌, ◌↔◌, IsTrue, MatchResult, Ok, IfSome, IfErr, IfOk, OnOk};
 ghost use Rattle.tree_model.specs.State.{TOP};
-ghost use Rattle.tree_model.specs.Steps.{directory_at};
-ghost use Rattle.tree_list.specs.Build.{new_fault, object_of, way, adds, adds_all, built, StandsIn, IsFaultFrom, IsFaultOf};
+ghost use Rattle.tree_list.specs.Build.{new_fault, object_of, node_at, way, adds, adds_all, built, StandsIn, IsFaultFrom, IsFaultOf};
 ghost use Rattle.tree_list.specs.Changes.{IsTry};
 
 use crate::growing::GrowingNodes;
@@ -73,44 +72,38 @@ fn are_together(names: &Names, others: &Names) -> bool
     true
 }
 
-// The directory of an entry at these names, found from the top.
-fn directory_of<N: GrowingNodes>(nodes: &N, names: &Names) -> Result<Node, Errno>
-    ensures { result ≡ directory_at (N.inodes nodes.now) TOP (way names.now) }
+// The parent of an entry at these names, found from the top.
+fn parent_of<N: GrowingNodes>(nodes: &N, names: &Names) -> Option<Node>
+    ensures { result ≡ node_at (N.inodes nodes.now) TOP (way names.now) }
 {
-    let mut dir = top();
+    let mut parent = top();
     for step in 0..names.len().saturating_sub(1) {
-        if !nodes.is_dir(dir) {
-            return Err(Errno::NotDir);
-        }
-        let Some(next) = nodes.node_at(dir, &names.lend(step)) else {
-            return Err(Errno::NotFound);
+        let Some(next) = nodes.node_at(parent, &names.lend(step)) else {
+            return None;
         };
-        dir = next;
+        parent = next;
     }
-    if !nodes.is_dir(dir) {
-        return Err(Errno::NotDir);
-    }
-    Ok(dir)
+    Some(parent)
 }
 
-// The same, where another entry's names are given, and its directory if that is known. Entries mostly follow others of
+// The same, where another entry's names are given, and its parent if that is known. Entries mostly follow others of
 // their directory, which is then not looked up again.
-fn directory_near<N: GrowingNodes>(
+fn parent_near<N: GrowingNodes>(
     nodes: &N,
     before: &Names,
     known: Option<Node>,
     names: &Names,
-) -> Result<Node, Errno>
+) -> Option<Node>
     requires { IfSome known (StandsIn (N.inodes nodes.now) before.now) }
-    ensures { result ≡ directory_at (N.inodes nodes.now) TOP (way names.now) }
+    ensures { result ≡ node_at (N.inodes nodes.now) TOP (way names.now) }
 {
     match known {
-        Some(dir) if are_together(before, names) => Ok(dir),
-        _ => directory_of(nodes, names),
+        Some(parent) if are_together(before, names) => Some(parent),
+        _ => parent_of(nodes, names),
     }
 }
 
-// Adds an entry, and tells in which directory. The names of another are given, and its directory if that is known.
+// Adds an entry, and gives its parent. The names of another are given, and its parent if that is known.
 fn add<N: GrowingNodes>(
     nodes: &mut N,
     alloc: Global,
@@ -120,7 +113,7 @@ fn add<N: GrowingNodes>(
 ) -> Result<Node, Errno>
     requires { IfSome known (StandsIn (N.inodes nodes.old) before.now) }
     ensures added { IsTry (N.inodes nodes.old) (N.inodes nodes.new) (adds (N.inodes nodes.old) entry.now) result }
-    ensures dir { IfOk result (StandsIn (N.inodes nodes.new) entry.now.at) }
+    ensures parent { IfOk result (StandsIn (N.inodes nodes.new) entry.now.at) }
 {
     if let Some(fault) = new_fault(&entry.what) {
         return Err(fault);
@@ -129,13 +122,15 @@ fn add<N: GrowingNodes>(
         return Err(Errno::Exists);
     };
     let object = object_of(alloc, &entry.what)?;
-    let dir = directory_near(nodes, before, known, &entry.at)?;
+    let Some(parent) = parent_near(nodes, before, known, &entry.at) else {
+        return Err(Errno::NotFound);
+    };
     let at = Place {
-        parent: dir,
+        parent,
         name: entry.at.to_name(alloc, last)?,
     };
     nodes.grow(alloc, at, object)??;
-    Ok(dir)
+    Ok(parent)
 }
 
 /// Adds these entries to the nodes, each at its names below the top, in the order of the list: entry k is the node of
@@ -152,12 +147,12 @@ pub fn add_all<N: GrowingNodes>(
     ensures ok { OnOk result (adds_all 0 (N.inodes nodes.old) entries.now ≡ Ok (N.inodes nodes.new)) }
     ensures err { IfErr result (IsFaultFrom (N.inodes nodes.old) entries.now) }
 {
-    // The directory of the entry before, once there is one.
+    // The parent of the entry before, once there is one.
     let mut known = None;
     for (at, entry) in entries.iter().enumerate() {
         let before = &entries[at.saturating_sub(1)].at;
         match add(nodes, alloc, before, known, entry) {
-            Ok(dir) => known = Some(dir),
+            Ok(parent) => known = Some(parent),
             Err(cause) => return Err(BuildFault { at, cause }),
         }
     }

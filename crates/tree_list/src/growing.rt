@@ -1,7 +1,7 @@
 //! Nodes to which entries are added one by one.
 ghost use Rattle.std.specs.Prelude.{◌≡◌, List};
 ghost use Rattle.tree_model.specs.declared.inode.Inode.{Inode};
-ghost use Rattle.tree_model.specs.State.{child, is_dir};
+ghost use Rattle.tree_model.specs.State.{child};
 ghost use Rattle.tree_model.specs.Entries.{makes};
 ghost use Rattle.tree_model.specs.Trees.{HasPathText};
 ghost use Rattle.tree_list.specs.Changes.{IsGrowth};
@@ -15,11 +15,7 @@ pub trait GrowingNodes {
     /// The nodes by their numbers.
     ghost inodes: { Self → List Inode };
 
-    /// Whether a node is a directory.
-    fn is_dir(&self, x: Node) -> bool
-        ensures { result ≡ is_dir (inodes self.now) x };
-
-    /// The node at the entry of that name in a directory.
+    /// The node at the entry of that name in a directory; there is none in what isn't one.
     fn node_at(&self, parent: Node, name: &LentName<'_>) -> Option<Node>
         ensures { result ≡ child (inodes self.now) parent name.now };
 

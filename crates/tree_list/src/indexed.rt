@@ -79,10 +79,6 @@ impl IndexedNodes {
 impl GrowingNodes for IndexedNodes {
     ghost inodes = { λ nodes. nodes };
 
-    fn is_dir(&self, x: Node) -> bool {
-        is_dir(&self.nodes, x)
-    }
-
     fn node_at(&self, parent: Node, name: &LentName<'_>) -> Option<Node> {
         node_in(&self.index, parent, name.bytes())
     }

@@ -54,10 +54,9 @@ impl ListTree {
     /// entry k is node k + 1. No handle is open.
     ///
     /// The fault has the place of the first entry that is refused, and its error, the first of these: those of
-    /// its link text as a path text (symlink(2)); at each name but the last, NotDir where it is looked up in
-    /// what is no directory, NotFound where there is no such entry; NotDir where the last is; Exists where there
-    /// is such an entry already, and for no names; TooMany past the last number. NoMemory comes with the place
-    /// of the entry for which there was no room.
+    /// its link text as a path text (symlink(2)); NotFound where its parent is missing, below a file or a link too;
+    /// NotDir where its parent is no directory; Exists where there is such an entry already, and for no names;
+    /// TooMany past the last number. NoMemory comes with the place of the entry for which there was no room.
     pub fn from_entries(alloc: Global, entries: &[Entry]) -> Result<ListTree, BuildFault>
         ensures built { MatchResult result (λ tree. IsBuilt entries.now tree) (λ fault. IsFaultOf entries.now fault) }
         ensures tree { IfOk result IsState }

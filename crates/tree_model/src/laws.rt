@@ -1,4 +1,6 @@
 //! What holds of every tree and every step: laws, each the contract of a function without a body.
+ghost use Rattle.std.specs.Prelude.{◌≡◌};
+ghost use Rattle.tree_model.specs.declared.tree.TheConstants.{HANDLES_MAX, NUMBERS_MAX};
 ghost use Rattle.tree_model.specs.BaseLaws.{BaseIsTree, BaseOpens, BasePlaces, BaseEntries, BaseGone, BaseRenames, BaseRenamed};
 ghost use Rattle.tree_model.specs.HistoryLaws.{LegalAtEachMoment, EventsLeadOn, TreesBeginAndEnd, LegalHistoriesJoin, LegalGoesOn, LegalWhenCut, HistoriesKeepTrees, ObjectsStayForGood, NumbersGrowByEvents, HandlesStayAmongOthers};
 ghost use Rattle.tree_model.specs.PlaceLaws.{ChildStandsAtEntry, GoneNodesAreEmpty, EntriesStand, GoneNodesAreParentless, LookupsLeadToNodes, NotFoundIsMissing, StandsAtOneWay, NamesBelowAreStanding, NameBelowIsStanding, ListedAreEntries, ListedOnce};
@@ -119,4 +121,11 @@ pub fn base_tree_answers()
     ensures gone { BaseGone }
     ensures renames { BaseRenames }
     ensures renamed { BaseRenamed }
+{}
+
+/// The limits of a tree, as numbers: an actor has at most 1,024 handles open (getrlimit(2), RLIMIT_NOFILE), and a tree
+/// numbers at most 2^48 nodes and as many handles.
+pub fn tree_limits_are_numbers()
+    ensures handles { HANDLES_MAX ≡ 1024 }
+    ensures numbers { NUMBERS_MAX ≡ 281474976710656 }
 {}

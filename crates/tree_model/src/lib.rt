@@ -21,7 +21,7 @@ pub use laws::{
     base_tree_answers, entries_lead_to_nodes, gone_nodes_have_no_entries, handles_are_counted,
     handles_stay, histories_are_step_by_step, histories_keep_trees, legal_histories_join,
     listed_in_order, lookups_lead_to_nodes, name_below_is_standing, numbers_stay, rows_are_entries,
-    steps_keep_trees, steps_leave_the_rest,
+    steps_keep_trees, steps_leave_the_rest, tree_limits_are_numbers,
 };
 pub use nodes::{child, has_entries, is_dir, is_gone, object_at, parent, place_at, top};
 pub use number::{Actor, HandleNo, Node};

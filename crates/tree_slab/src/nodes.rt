@@ -411,10 +411,6 @@ impl Nodes {
 impl GrowingNodes for Nodes {
     ghost inodes = { λ nodes. nodes };
 
-    fn is_dir(&self, x: Node) -> bool {
-        is_dir(self.as_slice(), x)
-    }
-
     // While entries are added none is noted.
     fn node_at(&self, parent: Node, name: &LentName<'_>) -> Option<Node> {
         self.directories.mapped(parent, name)

@@ -9,13 +9,15 @@ use tree_model::{Actor, Tree, same_nodes};
 use tree_slab::SlabTree;
 
 /// Two entries, the place of the first that is refused, and why.
-const REFUSED: [(&str, &str, &str, &str, usize, &str); 10] = [
+const REFUSED: [(&str, &str, &str, &str, usize, &str); 12] = [
     ("/c", "dir", "/", "dir", 1, "EEXIST"),
     ("/x/y", "dir", "/c", "dir", 0, "ENOENT"),
     ("/c", "dir", "/c/x/y", "file", 1, "ENOENT"),
     ("/f", "file", "/f/x", "dir", 1, "ENOTDIR"),
-    ("/f", "file", "/f/x/y", "dir", 1, "ENOTDIR"),
+    ("/f", "file", "/f/x/y", "dir", 1, "ENOENT"),
+    ("/f", "file", "/f/x/y/z", "dir", 1, "ENOENT"),
     ("/l", "c", "/l/x", "dir", 1, "ENOTDIR"),
+    ("/l", "c", "/l/x/y", "dir", 1, "ENOENT"),
     ("/c", "dir", "/c", "file", 1, "EEXIST"),
     ("/l", "", "/", "dir", 0, "ENOENT"),
     ("/c", "dir", "/", "", 1, "ENOENT"),

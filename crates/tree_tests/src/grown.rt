@@ -17,10 +17,6 @@ pub struct Listed {
 impl GrowingNodes for Listed {
     ghost inodes = { λ listed. listed.nodes.items };
 
-    fn is_dir(&self, x: Node) -> bool {
-        is_dir(&self.nodes, x)
-    }
-
     fn node_at(&self, parent: Node, name: &LentName<'_>) -> Option<Node> {
         child(&self.nodes, parent, name.bytes())
     }

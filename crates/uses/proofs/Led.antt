@@ -16,7 +16,7 @@ use Rattle.tree_model.specs.Trees.{IsState}
 use Rattle.handles.specs.declared.owner.Owner.{Owner}
 use Rattle.tree_model.specs.History.{IsLegal, after_events}
 use Rattle.tree_model.specs.HistoryLaws.{LegalHistoriesJoin}
-use Rattle.step_resolver.specs.Order.{Way, Walking, Turn, more, found, partial, failed, begins, starts, due, Line, answered, no_room, not_made, events_of, LeadsTo}
+use Rattle.step_resolver.specs.Order.{Way, Walking, Turn, more, found, partial, failed, begins, starts, due, walks, Line, answered, no_room, not_made, events_of, LeadsTo}
 use Rattle.step_resolver.specs.Order.{take as takes}
 use Rattle.step_resolver.specs.WalkHistory.{WalkInHistory, IsWalkInHistory, own_events}
 use Rattle.step_resolver.specs.Headline.{EveryWalk}
@@ -30,7 +30,8 @@ use Rattle.step_resolver.specs.declared.driver.Resolved.TheVariants.{Found, Part
 use Rattle.walk_plan.specs.declared.goal.Goal.{Goal}
 use Rattle.step_resolver.specs.Driver.{IsAnswer, IsOwned}
 use Rattle.step_resolver.proofs.FirstTurns.{first_lines_lead}
-use Rattle.step_resolver.proofs.TurnsTell.{leads_on, line_leads}
+use Rattle.step_machine.proofs.Runs.{leads_on}
+use Rattle.step_resolver.proofs.TurnsTell.{line_leads}
 use Rattle.step_resolver.proofs.DrivenWalks.{all_own, joined_events, turn_of, owned_by}
 use Rattle.uses.specs.AmongOthers.{ByOthers, MayStep, IsLineOn, ActedBefore, TellsAmong, end_of}
 
@@ -75,7 +76,7 @@ module _ (O : Type 0) (acts : O → State → O → State → Type 0) (way : Way
         own = filter-append (λ event. event.actor == a) first.window second.window
             ∙ ap (λ es. es ++ own_events a second.window) first.own ∙ ap (λ es. events_of a first.lines ++ es) second.own
             ∙ sym (joined_events a first.lines second.lines);
-        leads = leads_on way first.lines from mid second.lines to first.leads second.leads;
+        leads = leads_on (walks way) first.lines from mid second.lines to first.leads second.leads;
         acted = acted_on o s first.lines p t second.lines q u first.acted second.acted;
       }
 
@@ -110,7 +111,7 @@ module _ (O : Type 0) (acts : O → State → O → State → Type 0) (way : Way
     line = not_made NoMemory;
     legal = tt;
     after = sym is.1;
-    leads = line_leads way taken.0 walking answer to (not_made NoMemory) taken.1 (inl refl, is.2, is.0);
+    leads = line_leads way taken.0 walking answer to (not_made NoMemory) taken.1 ((inl refl, is.2), is.0);
     on = (refl, is.1);
   }
 
@@ -195,7 +196,7 @@ told_among every O acts way path a r o s p t end room tree root directory led =
       from = refl;
       to = led.after;
       acted = record { room = room; others = led.lines; are = refl; acted = led.acted };
-      headline = every walked end is_walked (leads_on way first (begins way path) (starts way room path) led.lines end (first_lines_lead way room path) led.leads);
+      headline = every walked end is_walked (leads_on (walks way) first (begins way path) (starts way room path) led.lines end (first_lines_lead way room path) led.leads);
     }
 
 -- what holds of a walk's end, as its result

@@ -173,10 +173,10 @@ module _ {w : WalkInHistory} (lived : Lived w) where
       (take_good lived false (λ e. wants NoMemory (inl refl) (inl refl)) now happens.0 walk good answer is (λ e. mets (due w.way walk) (inl (leads.0, e))))
       happens.1.1 leads.1 (λ error is want. wants error is (inr want)) (λ s m. mets s (inr m))))
   lines_ahead (not_made error ∷ lines) now (more walk) end tells plan good happens leads wants mets =
-      not_made_ahead w end (parts_read lines) now (length lines) error leads.0 walk leads.1.0
+      not_made_ahead w end (parts_read lines) now (length lines) error leads.0.0 walk leads.0.1
       (lines_ahead lines now (take w.way true walk (Refused error)) end tells plan
-      (not_made_good lived now error leads.0 (wants error leads.0 (inl refl)) walk leads.1.0 good)
-      happens leads.1.1 (λ cause is want. wants cause is (inr want)) (λ s m. mets s (inr m)))
+      (not_made_good lived now error leads.0.0 (wants error leads.0.0 (inl refl)) walk leads.0.1 good)
+      happens leads.1 (λ cause is want. wants cause is (inr want)) (λ s m. mets s (inr m)))
   lines_ahead (line ∷ lines) now (found handle names) end tells plan good happens leads wants mets = absurd leads
   lines_ahead (line ∷ lines) now (partial handle names rest) end tells plan good happens leads wants mets = absurd leads
   lines_ahead (line ∷ lines) now (failed error) end tells plan good happens leads wants mets = absurd leads

@@ -7,3 +7,4 @@ mod AfterReadLink
 mod AfterParent
 mod AtEnds
 mod EveryWalk
+mod Retries

@@ -12,7 +12,7 @@ use Rattle.tree_model.specs.declared.answer.Answer.TheVariants.{Opened, Text, Na
 use Rattle.walk_plan.specs.Plan.{leads_out}
 use Rattle.step_resolver.specs.Asked.{AskedPart, Cur, Up, Named, ask, asked, followed, follows, is_deepest}
 use Rattle.step_resolver.specs.Meaning.{LINKS_MAX, is_too_long}
-use Rattle.step_resolver.specs.Order.{Way, Handle, Position, root_itself, holds, Todo, todo, After, gives, onward, judges, Walking, opening, reading, rising, judging, duping, ending, closing, Turn, more, found, partial, failed, handles_of, is_dir_position, is_followed, gives_up, at_end, in_directory, on_part, on_own, on_parts, goes_on, begins, closes, refusal_of, with_room, follows_link, enters, refused_open, from_link, read_text, end_of, judged, refused_rise, take, due, Line, answered, no_room, not_made, LeadsTo}
+use Rattle.step_resolver.specs.Order.{Way, Handle, Position, root_itself, holds, Todo, todo, After, gives, onward, judges, Walking, opening, reading, rising, judging, duping, ending, closing, Turn, more, found, partial, failed, handles_of, is_dir_position, is_followed, gives_up, at_end, in_directory, on_part, on_own, on_parts, goes_on, begins, closes, refusal_of, with_room, follows_link, enters, refused_open, from_link, read_text, end_of, judged, refused_rise, take, due, Line, answered, no_room, not_made, LeadsTo, has_room, answer_of}
 use Rattle.step_resolver.specs.StepCount.{parts_in, to_come, to_come_at, brought, passed, passed_from, passed_by, parts_passed, walk_passed}
 use Rattle.step_resolver.proofs.WalkSteps.{asked_length}
 use Rattle.walk_laws.specs.TrailSteps.{parts_told_by, parts_read}
@@ -210,12 +210,8 @@ module _ (way : Way) where
   -- a walk that only closes and fails opens nothing
   opens_nothing : (lines : List Line) (turn end : Turn) → to_come_at turn ≡ None → LeadsTo way turn lines end → IsSuccess end → ⊥
   opens_nothing [] turn end none leads success = no_success end (subst (λ t. to_come_at t ≡ None) leads none) success
-  opens_nothing (answered step answer ∷ lines) (more walk) end none leads success =
-      opens_nothing lines (take way true walk answer) end (take_fails true walk answer none) leads.1 success
-  opens_nothing (no_room step answer ∷ lines) (more walk) end none leads success =
-      opens_nothing lines (take way false walk answer) end (take_fails false walk answer none) leads.1 success
-  opens_nothing (not_made error ∷ lines) (more walk) end none leads success =
-      opens_nothing lines (take way true walk (Refused error)) end (take_fails true walk (Refused error) none) leads.1.1 success
+  opens_nothing (line ∷ lines) (more walk) end none leads success =
+      opens_nothing lines (take way (has_room line) walk (answer_of line)) end (take_fails (has_room line) walk (answer_of line) none) leads.1 success
   opens_nothing (line ∷ lines) (found handle names) end none leads success = absurd leads
   opens_nothing (line ∷ lines) (partial handle names rest) end none leads success = absurd leads
   opens_nothing (line ∷ lines) (failed error) end none leads success = absurd leads
@@ -247,8 +243,8 @@ module _ (way : Way) where
       (λ left e. taken_off lines (take way false walk answer) end left e leads.1 success)
       ∙ ap (λ k. came + (k + parts_read lines)) (sym (ap (λ s. parts_told_by s answer) leads.0 ∙ told_is_brought walk answer))
   taken_off (not_made error ∷ lines) (more walk) end came comes leads success =
-      line_takes walk (Refused error) (take way true walk (Refused error)) lines end came comes (take_keeps true walk (Refused error)) leads.1.1 success
-      (λ left e. taken_off lines (take way true walk (Refused error)) end left e leads.1.1 success)
+      line_takes walk (Refused error) (take way true walk (Refused error)) lines end came comes (take_keeps true walk (Refused error)) leads.1 success
+      (λ left e. taken_off lines (take way true walk (Refused error)) end left e leads.1 success)
       ∙ none_brought came (brought walk (Refused error)) (parts_read lines) (refused_brings_none walk error)
   taken_off (line ∷ lines) (found handle names) end came comes leads success = absurd leads
   taken_off (line ∷ lines) (partial handle names rest) end came comes leads success = absurd leads

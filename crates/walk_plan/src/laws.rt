@@ -32,3 +32,8 @@ pub fn plans_keep_their_limits()
     ensures through { (p : PlanState) (text : List ℕ) → IsPlan p → through_fault p text ≡ None
         → IsPlan (through p text) }
 {}
+
+/// A path leads through at most 40 links (path_resolution(7), MAXSYMLINKS of Linux).
+pub fn link_limit_is_a_number()
+    ensures { LINKS_MAX ≡ 40 }
+{}

@@ -11,5 +11,5 @@ mod laws;
 mod plan;
 
 pub use goal::Goal;
-pub use laws::{fewer_parts_are_left, plans_keep_their_limits};
+pub use laws::{fewer_parts_are_left, link_limit_is_a_number, plans_keep_their_limits};
 pub use plan::{LINKS_MAX, Plan};

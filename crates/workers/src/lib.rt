@@ -6,11 +6,13 @@
 //! `Session::call`.
 #![tactic(auto)]
 
+mod laws;
 mod room;
 mod serving;
 mod tally;
 mod told;
 mod worker;
 
+pub use laws::workers_limit_is_a_number;
 pub use serving::{ServeCause, ServeRefusal, Served, WORKERS_MAX, serve};
 pub use told::{Numbered, Told};

@@ -318,7 +318,7 @@ module _ (a : ℕ) (way : Way) (r : ℕ) (base : List Inode) (meant : MakeMeant)
   lines_good (no_room step answer ∷ lines) s (more call) end good leads legal =
       lines_good lines (outcome s a step).after (take way false call answer) end (step_good s false call good step answer leads.0 legal.0) leads.1 legal.1
   lines_good (not_made error ∷ lines) s (more call) end good leads legal =
-      lines_good lines s (take way true call (Refused error)) end (unmade_good s error leads.0 call leads.1.0 good) leads.1.1 legal
+      lines_good lines s (take way true call (Refused error)) end (unmade_good s error leads.0.0 call leads.0.1 good) leads.1 legal
   lines_good (line ∷ lines) s (made handle names) end good leads legal = absurd leads
   lines_good (line ∷ lines) s (failed error) end good leads legal = absurd leads
 

@@ -5,7 +5,6 @@ use Rattle.std.proofs.lemmas.Option.{none-some}
 use Rattle.path_text.specs.declared.errno.Errno.{Errno}
 use Rattle.path_text.specs.declared.errno.Errno.TheVariants.{Raced, CrossRoot, NotDir}
 use Rattle.path_text.specs.Reading.{Reading}
-use Rattle.tree_model.specs.declared.answer.Answer.TheVariants.{Refused}
 use Rattle.tree_model.specs.declared.answer.Event.{Event}
 use Rattle.tree_model.specs.declared.inode.Inode.{Inode}
 use Rattle.tree_model.specs.declared.inode.Object.{Object}
@@ -19,15 +18,19 @@ use Rattle.tree_model.specs.History.{IsLegal, after_event, after_events}
 use Rattle.tree_model.proofs.StepLaws.{nodes_are_left}
 use Rattle.step_resolver.proofs.Ends.EntriesLeftAlone.{AllTell, lines_only_tell}
 use Rattle.tree_model.proofs.HistoryLaws.{legal_histories_join, histories_keep_trees}
+use Rattle.step_machine.proofs.Split.{runs_split}
+use Rattle.step_resolver.proofs.TurnsTell.{is_machine}
+use Rattle.bulk_ops.proofs.Within.{walk_of_making}
 use Rattle.walk_plan.specs.declared.goal.Goal.TheVariants.{Deepest}
 use Rattle.walk_plan.specs.Plan.{leads_out}
 use Rattle.step_resolver.specs.Asked.{AskedPart, Named, asked, is_deepest}
-use Rattle.step_resolver.specs.Meaning.{LINKS_MAX, Ground, Deep, whole, up_to, none, is_missing, reading_deepest, path_deepest}
+use Rattle.step_resolver.specs.Meaning.{LINKS_MAX, Ground}
 use Rattle.step_resolver.specs.MeaningLaws.{IsFrontAndRest}
-use Rattle.step_resolver.specs.Order.{Way, Handle, Line, answered, no_room, not_made, is_dir_kind, events_of}
+use Rattle.step_resolver.specs.Order.{Way, Handle, Line, is_dir_kind, events_of}
 use Rattle.step_resolver.specs.Order as walk
-use Rattle.step_resolver.specs.Footprint.{is_want, IsMeantDeep, IsEnd, is_for_want, ground}
+use Rattle.step_resolver.specs.Footprint.{is_want, IsEnd, is_for_want, ground}
 use Rattle.step_resolver.specs.FootprintLaws.{IsQuietEnd}
+use Rattle.step_resolver.specs.Deepest.{Deep, whole, up_to, none, is_missing, reading_deepest, path_deepest, IsMeantDeep}
 use Rattle.step_resolver.specs.Headline.{Tells, IsNewHandle}
 use Rattle.step_resolver.specs.WalkHistory.{WalkInHistory, IsWalkInHistory, begin_of}
 use Rattle.step_resolver.proofs.DrivenWalks.{joined_events, all_own, by_own}
@@ -35,55 +38,9 @@ use Rattle.bulk_ops.proofs.OwnEvents.{all_own as own_all}
 use Rattle.step_resolver.proofs.Meaning.Deepest.{Missing, missing_parts, deepest_is_front_and_rest}
 use Rattle.step_resolver.proofs.Ends.EveryWalk.{walks_tell}
 use Rattle.step_resolver.proofs.Ends.WalksMean.{quiet_walks_mean}
-use Rattle.bulk_ops.specs.MakeAllOrder.{MakeTurn, made, begins, rest_fault, rest_names, gives_up, goes_down, begins_to_make, after_walk, LeadsTo}
+use Rattle.bulk_ops.specs.MakeAllOrder.{MakeTurn, made, begins, rest_fault, rest_names, gives_up, goes_down, begins_to_make, after_walk, walking, calls, LeadsTo}
 use Rattle.bulk_ops.specs.MakeAllQuiet.{MakeMeant, refuses, gives, chain_of, last_of, rest_means, make_means, IsPartOf, MakingComesTo, IsOver, QuietMakesMean}
 use Rattle.bulk_ops.proofs.MakingAlone.OneAfterAnother.{Ready, Fails, GoodTurn, makes_on}
-
--- ---- the lines of the walk, and the rest
-
--- the walk comes to this end by the first of these lines, and the call to its own by the others
-record Split (way : Way) (turn : walk.Turn) (lines : List Line) (end : MakeTurn) : Type 0 where
-  pub first : List Line
-  pub rest : List Line
-  pub joined : lines ≡ first ++ rest
-  pub walked : walk.Turn
-  pub over : IsEnd walked
-  pub led : walk.LeadsTo way turn first walked
-  pub room : Bool
-  pub onward : LeadsTo way (after_walk room walked) rest end
-
-one_more : (way : Way) (turn onward : walk.Turn) (line : Line) (lines : List Line) (end : MakeTurn)
-    → ((first : List Line) (walked : walk.Turn) → walk.LeadsTo way onward first walked → walk.LeadsTo way turn (line ∷ first) walked)
-    → Split way onward lines end → Split way turn (line ∷ lines) end
-one_more way turn onward line lines end leads split = record {
-  first = line ∷ split.first;
-  rest = split.rest;
-  joined = ap (λ (ls : List Line). line ∷ ls) split.joined;
-  walked = split.walked;
-  over = split.over;
-  led = leads split.first split.walked split.led;
-  room = split.room;
-  onward = split.onward;
-}
-
-split_lines : (way : Way) (room : Bool) (turn : walk.Turn) (lines : List Line) (end : MakeTurn) → IsOver end
-    → LeadsTo way (after_walk room turn) lines end → Split way turn lines end
-split_lines way room (walk.more walker) [] end over leads = absurd (subst IsOver (sym leads) over)
-split_lines way room (walk.more walker) (answered step answer ∷ lines) end over leads =
-    one_more way (walk.more walker) (walk.take way true walker answer) (answered step answer) lines end (λ first walked led. (leads.0, led))
-    (split_lines way true (walk.take way true walker answer) lines end over leads.1)
-split_lines way room (walk.more walker) (no_room step answer ∷ lines) end over leads =
-    one_more way (walk.more walker) (walk.take way false walker answer) (no_room step answer) lines end (λ first walked led. (leads.0, led))
-    (split_lines way false (walk.take way false walker answer) lines end over leads.1)
-split_lines way room (walk.more walker) (not_made error ∷ lines) end over leads =
-    one_more way (walk.more walker) (walk.take way true walker (Refused error)) (not_made error) lines end (λ first walked led. (leads.0, (leads.1.0, led)))
-    (split_lines way true (walk.take way true walker (Refused error)) lines end over leads.1.1)
-split_lines way room (walk.found handle names) lines end over leads =
-    record { first = []; rest = lines; joined = refl; walked = walk.found handle names; over = tt; led = refl; room = room; onward = leads }
-split_lines way room (walk.partial handle names rest) lines end over leads =
-    record { first = []; rest = lines; joined = refl; walked = walk.partial handle names rest; over = tt; led = refl; room = room; onward = leads }
-split_lines way room (walk.failed error) lines end over leads =
-    record { first = []; rest = lines; joined = refl; walked = walk.failed error; over = tt; led = refl; room = room; onward = leads }
 
 -- ---- what the path means
 
@@ -324,13 +281,13 @@ module _ (s : State) (a r : ℕ) (way : Way) (path : Reading) (tree : IsState s)
   alone : (lines : List Line) (end : MakeTurn) → IsOver end → LeadsTo way (begins way path) lines end → IsLegal s (events_of a lines)
       → MakingComesTo s.nodes (after_events s (events_of a lines)).nodes r meant end
   alone lines end over leads legal =
-      let split : Split way (walk.begins way path) lines end = split_lines way true (walk.begins way path) lines end over leads in
+      let split = runs_split (walk.walks way) (calls way) after_walk walking (is_machine way) (walk_of_making way) true (walk.begins way path) lines end over leads in
       let same = ap (events_of a) split.joined ∙ joined_events a split.first split.rest in
       let both = legal_histories_join s (events_of a split.first) (events_of a split.rest) in
       let cut = both.0.0 (subst (IsLegal s) same legal) in
       subst (λ (u : State). MakingComesTo s.nodes u.nodes r meant end) (sym (ap (after_events s) same ∙ both.1))
-      (makes_on a way r s.nodes meant split.rest (after_events s (events_of a split.first)) (after_walk split.room split.walked) end
-      (walked_good split.first cut.0 split.room split.walked split.over split.led) split.onward cut.1 over)
+      (makes_on a way r s.nodes meant split.rest (after_events s (events_of a split.first)) (after_walk split.room_there split.at) end
+      (walked_good split.first cut.0 split.room_there split.at split.over split.led) split.onward cut.1 over)
 
 -- ---- in any window in which no other acts
 

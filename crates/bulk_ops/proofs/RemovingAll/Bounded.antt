@@ -6,10 +6,11 @@ use Rattle.path_text.specs.declared.errno.Errno.TheVariants.{NotFound, NoMemory,
 use Rattle.tree_model.specs.declared.answer.Answer.{Answer}
 use Rattle.tree_model.specs.declared.answer.Answer.TheVariants.{Opened, Listed, Done, Refused}
 use Rattle.tree_model.specs.declared.step.Kind.TheVariants as kind
-use Rattle.step_resolver.specs.Order.{Way, Handle, refusal_of, Line, answered, no_room, not_made}
+use Rattle.step_machine.specs.Machine.{taken}
+use Rattle.step_resolver.specs.Order.{Way, Handle, refusal_of, Line, answered, no_room, not_made, has_room, answer_of}
 use Rattle.step_resolver.specs.Order as walk
 use Rattle.bulk_ops.specs.declared.remove_all.clearing.TheConstants.{CLEARING_STEPS_MAX}
-use Rattle.bulk_ops.specs.RemoveAllOrder.{Level, Stage, removes_file, opens, lists, shuts, leaves, removes_dir, End, fails, removes, Removing, walking, clearing, closing, Turn, more, removed, failed, dirs, before, closes, is_due, next_entry, enters, gives_up, walked, file_removed, opened, listed, dir_removed, take, LeadsTo}
+use Rattle.bulk_ops.specs.RemoveAllOrder.{Level, Stage, removes_file, opens, lists, shuts, leaves, removes_dir, End, fails, removes, Removing, walking, clearing, closing, Turn, more, removed, failed, dirs, before, closes, is_due, next_entry, enters, gives_up, walked, file_removed, opened, listed, dir_removed, take, LeadsTo, calls}
 use Rattle.bulk_ops.specs.RemoveAllTells.{AllClose}
 
 -- so many steps of clearing are to come at most
@@ -89,14 +90,12 @@ all_close (line ∷ lines) (more (walking way target w)) end within leads = absu
 all_close (line ∷ lines) (more (clearing stage level above count left)) end within leads = absurd (not-suc-le-zero within)
 all_close (answered step answer ∷ lines) (more (closing h hs last)) end within leads = ((h, leads.0), all_close lines (closes hs last) end (closes_within 0 hs last) leads.1)
 all_close (no_room step answer ∷ lines) (more (closing h hs last)) end within leads = ((h, leads.0), all_close lines (closes hs last) end (closes_within 0 hs last) leads.1)
-all_close (not_made error ∷ lines) (more (closing h hs last)) end within leads = cc (leads.1.0)
+all_close (not_made error ∷ lines) (more (closing h hs last)) end within leads = cc (leads.0.1)
 
 pub lines_bounded : (k : ℕ) (lines : List Line) (turn end : Turn) → Within k turn → LeadsTo turn lines end → AllClose (drop k lines)
 lines_bounded zero lines turn end within leads = all_close lines turn end within leads
 lines_bounded (suc k) [] turn end within leads = tt
 lines_bounded (suc k) (line ∷ lines) (removed count) end within leads = absurd leads
 lines_bounded (suc k) (line ∷ lines) (failed error) end within leads = absurd leads
-lines_bounded (suc k) (answered step answer ∷ lines) (more call) end within leads = lines_bounded k lines (take true call answer) end (take_within true call answer k within) leads.1
-lines_bounded (suc k) (no_room step answer ∷ lines) (more call) end within leads = lines_bounded k lines (take false call answer) end (take_within false call answer k within) leads.1
-lines_bounded (suc k) (not_made error ∷ lines) (more call) end within leads =
-    lines_bounded k lines (take true call (Refused error)) end (take_within true call (Refused error) k within) leads.1.1
+lines_bounded (suc k) (line ∷ lines) (more call) end within leads =
+    lines_bounded k lines (taken calls call line) end (take_within (has_room line) call (answer_of line) k within) leads.1

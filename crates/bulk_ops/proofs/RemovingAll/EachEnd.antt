@@ -1,36 +1,33 @@
 -- What each end of a call tells, by induction on what the call was told.
-use Rattle.std.specs.Prelude.{◌≡◌, ◌≢◌, ℕ, suc, ◌≤◌, ◌⊎◌, List, [], ◌∷◌, ◌++◌, Bool, true, false, Option, refl}
+use Rattle.std.specs.Prelude.{◌≡◌, ℕ, suc, ◌≤◌, ◌⊎◌, List, [], ◌∷◌, Bool, true, false, Option, refl}
 use Rattle.std.proofs.Common.{sym, ap, subst, ◌∙◌, inl, inr, not-suc-le-zero, zero-add, arith}
 use Rattle.std.proofs.lemmas.Bool.{false≢true}
-use Rattle.std.proofs.lemmas.Option.{none-some}
 use Rattle.path_text.specs.declared.errno.Errno.{Errno}
 use Rattle.path_text.specs.declared.errno.Errno.TheVariants.{NoMemory}
 use Rattle.tree_model.specs.declared.answer.Answer.{Answer}
 use Rattle.tree_model.specs.declared.answer.Answer.TheVariants.{Refused}
 use Rattle.tree_model.specs.declared.step.StepOf.TheVariants.{Close}
-use Rattle.tree_model.specs.State.{State, is_dir}
 use Rattle.tree_model.specs.Steps.{held}
-use Rattle.tree_model.specs.History.{IsLegal, after_events}
-use Rattle.tree_model.proofs.HistoryLaws.{IsLegal-append, IsLegal-front, IsLegal-back, after_events-append}
-use Rattle.tree_model.proofs.StepLaws.{others_handles_stay}
-use Rattle.step_resolver.specs.Order.{Handle, Line, answered, no_room, not_made, events_of, IsWant}
+use Rattle.tree_model.specs.History.{after_events}
+use Rattle.tree_model.proofs.HistoryLaws.{after_events-append}
+use Rattle.step_resolver.specs.Order.{Handle, Line, answered, no_room, not_made, IsWant}
 use Rattle.step_resolver.specs.Order as walk
 use Rattle.step_resolver.specs.Asked.{is_deepest}
 use Rattle.step_resolver.specs.WalkHistory.{WalkInHistory, IsWalkInHistory, begin_of, end_of, timeline}
 use Rattle.step_resolver.specs.Failures.{HandlesStay, TellsWant}
-use Rattle.step_resolver.specs.Headline.{Opens, WalksTell}
+use Rattle.step_resolver.specs.Headline.{Opens}
 use Rattle.step_resolver.proofs.Underway.LegalHistory.{lived}
 use Rattle.step_resolver.proofs.Underway.WalkInvariant.{Lived}
 use Rattle.step_resolver.proofs.Underway.OwnSteps.{own_events_leave_nodes}
-use Rattle.step_resolver.proofs.Ends.EveryWalk.{tree_laws}
-use Rattle.step_resolver.proofs.DrivenWalks.{joined_events}
+use Rattle.step_resolver.proofs.Ends.EveryWalk.{tree_laws, walks_tell}
 use Rattle.bulk_ops.specs.declared.remove_all.clearing.TheConstants.{CLEARING_STEPS_MAX}
 use Rattle.bulk_ops.specs.RemoveAllOrder.{Level, Stage, removes_file, lists, shuts, leaves, removes_dir, fails, removes, Removing, walking, clearing, closing, Turn, more, removed, failed, begins, walked, take, due, is_closing, LeadsTo}
 use Rattle.bulk_ops.specs.RemoveAllOrder as order
-use Rattle.bulk_ops.specs.RemoveAllTells.{removals, one_more_if, is_removal, TakesAway, LeavesEntries, OnlyTakesAway, IsLastOnTarget, IsClose, IsBounded, walk_part, rest_part, Parts, Tells, RemoveAllTells}
+use Rattle.bulk_ops.specs.WalkFirst.{LeavesEntries, walk_part, WalkedTo, after_walk}
+use Rattle.bulk_ops.specs.RemoveAllTells.{removals, one_more_if, is_removal, TakesAway, OnlyTakesAway, IsLastOnTarget, IsClose, IsBounded, Parts, Tells, RemoveAllTells}
 use Rattle.bulk_ops.proofs.RemovingAll.Bounded.{lines_bounded, clearing_begins}
-use Rattle.bulk_ops.proofs.OwnEvents.{Cut, cut}
-use Rattle.bulk_ops.proofs.Happening.{AloneAt, Rests, HappensAlone, before_or_from, lines_happen}
+use Rattle.bulk_ops.proofs.Happening.{AloneAt, Rests, HappensAlone, before_or_from}
+use Rattle.bulk_ops.proofs.WalkParts.{walked_to, happens_after, there, is_held, after_is}
 use Rattle.bulk_ops.proofs.RemovingAll.Underway.{Holds, wants_of_rest, TookAway, LastSoFar, Good, due_good}
 use Rattle.bulk_ops.proofs.RemovingAll.AfterAnswers.{file_good, dir_good, open_good, list_good, close_good, closing_good, not_made_good}
 use Rattle.bulk_ops.proofs.RemovingAll.Parts.{WalkEnd, goes_on, walk_fails, walk_finds, walk_stops, walk_end, walk_removes_none}
@@ -83,7 +80,7 @@ module _ {c : WalkInHistory} (alive : Lived c) (dir : ℕ) (target : List ℕ) (
       (ap (λ s. one_more_if (is_removal s answer) (removals lines)) leads.0) (λ h q. (h, leads.0 ∙ q)))
       happens.1.1 leads.1
   lines_good (not_made error ∷ lines) now (more call) end good happens leads =
-      lines_good lines now (take true call (Refused error)) end (unmade_good now lines error leads.0 call leads.1.0 good) happens leads.1.1
+      lines_good lines now (take true call (Refused error)) end (unmade_good now lines error leads.0.0 call leads.0.1 good) happens leads.1
   lines_good (line ∷ lines) now (removed count) end good happens leads = absurd leads
   lines_good (line ∷ lines) now (failed error) end good happens leads = absurd leads
 
@@ -116,68 +113,31 @@ module _ {c : WalkInHistory} {m : ℕ} {dir : ℕ} {target : List ℕ} (rests : 
 -- ---- the whole
 
 -- the parts of the call, where its walk found the object
-module _ (tell : WalksTell) (w : WalkInHistory) (target : List ℕ) (end : Turn) (is : IsWalkInHistory w) where
-  abbrev Halved : (walk_lines rest : List Line) → Type 0
-  Halved walk_lines rest = Cut w.actor w.window (events_of w.actor walk_lines) (events_of w.actor rest)
-
-  halved : (walk_lines rest : List Line) → w.lines ≡ walk_lines ++ rest → Halved walk_lines rest
-  halved walk_lines rest e = cut w.actor w.window (events_of w.actor walk_lines) (events_of w.actor rest)
-      (is.own ∙ ap (events_of w.actor) e ∙ joined_events w.actor walk_lines rest)
-
-  first_is : (walk_lines rest : List Line) → (h : Halved walk_lines rest) → IsWalkInHistory (walk_part w h.before walk_lines)
-  first_is walk_lines rest h = record {
-    tree = is.tree;
-    legal_before = is.legal_before;
-    legal = IsLegal-front (begin_of w) h.before h.after (subst (IsLegal (begin_of w)) h.whole is.legal);
-    own = h.own_before;
-    root = is.root;
-    root_is_dir = is.root_is_dir;
-  }
-
-  -- where the walk ended, and clearing begins
-  begins_there : (walk_lines rest : List Line) → (h : Halved walk_lines rest)
-      → begin_of (rest_part w h.before h.after rest) ≡ end_of (walk_part w h.before walk_lines)
-  begins_there walk_lines rest h = after_events-append w.opening w.before h.before
-
-  ends_there : (walk_lines rest : List Line) → (h : Halved walk_lines rest) → end_of (rest_part w h.before h.after rest) ≡ end_of w
-  ends_there walk_lines rest h =
-      ap (λ s. after_events s h.after) (begins_there walk_lines rest h)
-      ∙ sym (after_events-append (begin_of w) h.before h.after) ∙ ap (after_events (begin_of w)) (sym h.whole)
-
-  module _ (walk_lines rest : List Line) (h : Halved walk_lines rest) (handle : Handle) (names : List (List ℕ))
-      (opens : Opens (walk_part w h.before walk_lines) handle names) where
+module _ (w : WalkInHistory) (target : List ℕ) (end : Turn) (is : IsWalkInHistory w) where
+  module _ (handle : Handle) (names : List (List ℕ)) (walks : WalkedTo w (walk.found handle names)) where
     abbrev c : WalkInHistory
-    c = rest_part w h.before h.after rest
+    c = after_walk walks
 
     abbrev b : ℕ → Option ℕ
     b k = held (begin_of w) w.actor k
 
-    there : (k : ℕ) → held (begin_of c) w.actor k ≡ held (end_of (walk_part w h.before walk_lines)) w.actor k
-    there k = ap (λ s. held s w.actor k) (begins_there walk_lines rest h)
-
-    root_is_other : w.way.root ≢ handle.number
-    root_is_other e = none-some w.root (sym opens.new.fresh ∙ ap b (sym e) ∙ is.root)
+    abbrev opens : Opens (walk_part w walks.window walks.lines) handle names
+    opens = walks.headline.tells
 
     second_is : IsWalkInHistory c
-    second_is = record {
-      tree = is.tree;
-      legal_before = IsLegal-append w.opening w.before h.before is.legal_before (first_is walk_lines rest h).legal;
-      legal = subst (λ s. IsLegal s h.after) (sym (begins_there walk_lines rest h))
-          (IsLegal-back (begin_of w) h.before h.after (subst (IsLegal (begin_of w)) h.whole is.legal));
-      own = h.own_after;
-      root = there w.way.root ∙ opens.new.others w.way.root root_is_other ∙ is.root;
-      root_is_dir = ap (λ (s : State). is_dir s.nodes w.root) (begins_there walk_lines rest h)
-          ∙ (lived tree_laws (walk_part w h.before walk_lines) (first_is walk_lines rest h)).root_is_dir;
-    }
+    second_is = after_is w is handle (walk.found handle names) walks opens.new
 
-    first_good : Good c handle.node target b 0 rest (walked w.way target (walk.found handle names))
-    first_good = due_good c handle.node target b 0 rest removes_file (record { dir = handle.number; name = target; others = [] }) [] 0 CLEARING_STEPS_MAX (record {
-      at = record { is_open = there handle.number ∙ opens.new.is_open; name = refl; none = refl };
+    there_too : (k : ℕ) → held (begin_of c) w.actor k ≡ held (end_of (walk_part w walks.window walks.lines)) w.actor k
+    there_too = there w is handle (walk.found handle names) walks opens.new
+
+    first_good : Good c handle.node target b 0 walks.rest (walked w.way target (walk.found handle names))
+    first_good = due_good c handle.node target b 0 walks.rest removes_file (record { dir = handle.number; name = target; others = [] }) [] 0 CLEARING_STEPS_MAX (record {
+      at = record { is_open = is_held w is handle (walk.found handle names) walks opens.new; name = refl; none = refl };
       stage_at = tt;
-      holds = record { others = λ k out. there k ∙ opens.new.others k out.0; fresh = (opens.new.fresh, tt) };
+      holds = record { others = λ k out. there_too k ∙ opens.new.others k out.0; fresh = (opens.new.fresh, tt) };
       tally = record {
         took = record { each = λ t le own. absurd (not-suc-le-zero le) };
-        counted = sym (zero-add (removals rest));
+        counted = sym (zero-add (removals walks.rest));
         made = 0;
         rest = refl;
         enough = omega arith;
@@ -185,62 +145,58 @@ module _ (tell : WalksTell) (w : WalkInHistory) (target : List ℕ) (end : Turn)
       };
     })
 
-    ended : LeadsTo (walked w.way target (walk.found handle names)) rest end → EndsGood c handle.node target b end
-    ended leads = lines_good (lived tree_laws c second_is) handle.node target b rest 0 (walked w.way target (walk.found handle names)) end first_good
-        (lines_happen others_handles_stay c second_is.legal second_is.own) leads
+    ended : LeadsTo (walked w.way target (walk.found handle names)) walks.rest end → EndsGood c handle.node target b end
+    ended leads = lines_good (lived tree_laws c second_is) handle.node target b walks.rest 0 (walked w.way target (walk.found handle names)) end first_good
+        (happens_after w is (walk.found handle names) walks) leads
 
-    abbrev parts : w.lines ≡ walk_lines ++ rest → walk.LeadsTo w.way (walk.begins w.way w.path) walk_lines (walk.found handle names) → Parts w
-    parts e walks = record {
-      walk_window = h.before;
-      window = h.after;
-      windows = h.whole;
-      walk_lines = walk_lines;
-      lines = rest;
-      all_lines = e;
-      handle = handle;
-      names = names;
-      walked = walks;
-      is_walk = first_is walk_lines rest h;
-      opens = opens;
-      leaves = own_events_leave_nodes (walk_part w h.before walk_lines) (walk.found handle names) (first_is walk_lines rest h) walks;
-    }
+    abbrev parts : Parts w
+    parts = record { handle = handle; names = names; walked = walks }
 
-    bounded : LeadsTo (walked w.way target (walk.found handle names)) rest end → IsBounded rest
-    bounded leads = lines_bounded CLEARING_STEPS_MAX rest (walked w.way target (walk.found handle names)) end (clearing_begins w.way target handle names) leads
+    bounded : LeadsTo (walked w.way target (walk.found handle names)) walks.rest end → IsBounded walks.rest
+    bounded leads = lines_bounded CLEARING_STEPS_MAX walks.rest (walked w.way target (walk.found handle names)) end (clearing_begins w.way target handle names) leads
+
+    ends_there : end_of c ≡ end_of w
+    ends_there =
+        ap (λ s. after_events s walks.later) (after_events-append w.opening w.before walks.window)
+        ∙ sym (after_events-append (begin_of w) walks.window walks.later) ∙ ap (after_events (begin_of w)) (sym walks.windows)
 
     handles_stay : {m : ℕ} → Rests c m → Holds c b m [] → HandlesStay w
-    handles_stay rests holds k = ap (λ s. held s w.actor k) (sym (ends_there walk_lines rest h)) ∙ rests.kept k ∙ holds.others k tt
+    handles_stay rests holds k = ap (λ s. held s w.actor k) (sym ends_there) ∙ rests.kept k ∙ holds.others k tt
 
-    cleared : w.lines ≡ walk_lines ++ rest → walk.LeadsTo w.way (walk.begins w.way w.path) walk_lines (walk.found handle names) → IsBounded rest → (turn : Turn)
-        → EndsGood c handle.node target b turn → Tells w target turn
-    cleared e walks few (more call) good = tt
-    cleared e walks few (removed count) good = record {
-      parts = parts e walks;
+    cleared : IsBounded walks.rest → (turn : Turn) → EndsGood c handle.node target b turn → Tells w target turn
+    cleared few (more call) good = tt
+    cleared few (removed count) good = record {
+      parts = parts;
       entries = takes_all good.rests good.good.took;
       bounded = few;
-      counted = omega (arith, good.good.counted, ap removals e, walk_removes_none w.way target walk_lines rest (walk.begins w.way w.path) (walk.found handle names) walks);
+      counted = omega (
+        arith,
+        good.good.counted,
+        ap removals walks.all_lines,
+        walk_removes_none w.way target walks.lines walks.rest (walk.begins w.way w.path) (walk.found handle names) walks.leads,
+      );
       last = is_last good.rests good.good.last;
       handles = handles_stay good.rests good.good.holds;
     }
-    cleared e walks few (failed error) good = record {
-      why = inr (record { parts = parts e walks; entries = takes_all good.rests good.good.took; bounded = few; fault = good.good.cause tt });
+    cleared few (failed error) good = record {
+      why = inr (record { parts = parts; entries = takes_all good.rests good.good.took; bounded = few; fault = good.good.cause tt });
       handles = handles_stay good.rests good.good.holds;
     }
 
   told : is_deepest w.way.goal ≡ false → WalkEnd w.way target (walk.begins w.way w.path) w.lines end → Tells w target end
   told shallow (goes_on call e) = subst (Tells w target) (sym e) tt
-  told shallow (walk_fails error leads e) = subst (Tells w target) (sym e) (record {
-    why = inl (record { walked = leads; true_once = (tell w (walk.failed error) is leads).true_once; leaves = own_events_leave_nodes w (walk.failed error) is leads });
-    handles = (tell w (walk.failed error) is leads).handles;
-  })
-  told shallow (walk_finds handle names cut') =
-      let h = halved cut'.walk_lines cut'.rest cut'.all in
-      let opens = tell (walk_part w h.before cut'.walk_lines) (walk.found handle names) (first_is cut'.walk_lines cut'.rest h) cut'.walks in
-      cleared cut'.walk_lines cut'.rest h handle names opens cut'.all cut'.walks (bounded cut'.walk_lines cut'.rest h handle names opens cut'.leads) end (ended cut'.walk_lines cut'.rest h handle names opens cut'.leads)
-  told shallow (walk_stops handle names ps cut') =
-      let h = halved cut'.walk_lines cut'.rest cut'.all in
-      let deepest = tell (walk_part w h.before cut'.walk_lines) (walk.partial handle names ps) (first_is cut'.walk_lines cut'.rest h) cut'.walks in
-      absurd (false≢true (sym shallow ∙ deepest.goal))
+  told shallow (walk_fails error leads e) =
+      let tells = walks_tell w (walk.failed error) is leads in
+      subst (Tells w target) (sym e) (record {
+        why = inl (record { walked = leads; true_once = tells.true_once; leaves = own_events_leave_nodes w (walk.failed error) is leads });
+        handles = tells.handles;
+      })
+  told shallow (walk_finds handle names cut) =
+      let walks = walked_to w is cut.walk_lines cut.rest cut.all (walk.found handle names) cut.walks in
+      cleared handle names walks (bounded handle names walks cut.leads) end (ended handle names walks cut.leads)
+  told shallow (walk_stops handle names ps cut) =
+      let walks = walked_to w is cut.walk_lines cut.rest cut.all (walk.partial handle names ps) cut.walks in
+      absurd (false≢true (sym shallow ∙ walks.headline.tells.goal))
 
-pub every_call_tells : WalksTell → RemoveAllTells
-every_call_tells tell w target end is shallow leads = told tell w target end is shallow (walk_end w.way target w.lines (walk.begins w.way w.path) end leads)
+pub every_call_tells : RemoveAllTells
+every_call_tells w target end is shallow leads = told w target end is shallow (walk_end w.way target w.lines (walk.begins w.way w.path) end leads)

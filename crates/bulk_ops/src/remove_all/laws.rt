@@ -1,5 +1,8 @@
 //! What the end of every call tells, in every history and in a quiet one: laws, each the contract of a function
 //! without a body.
+ghost use Rattle.std.specs.Prelude.{◌≡◌};
+ghost use Rattle.bulk_ops.specs.declared.remove_all.clearing.TheConstants.{CLEARING_STEPS_MAX};
+ghost use Rattle.bulk_ops.specs.RacedCalls.{RacedRemovalsNeedAChange};
 ghost use Rattle.bulk_ops.specs.RemoveAllQuiet.{QuietRemoveAll};
 ghost use Rattle.bulk_ops.specs.RemoveAllTells.{RemoveAllTells};
 
@@ -21,4 +24,15 @@ pub fn remove_all_tells()
 /// or what is no directory.
 pub fn quiet_remove_all()
     ensures { QuietRemoveAll }
+{}
+
+/// A call takes at most 600,000 steps of clearing.
+pub fn clearing_limit_is_a_number()
+    ensures { CLEARING_STEPS_MAX ≡ 600000 }
+{}
+
+/// A call that ends in Raced met a step of another in its window that made, removed or renamed an entry (openat2(2),
+/// EAGAIN).
+pub fn raced_removals_need_a_change()
+    ensures { RacedRemovalsNeedAChange }
 {}

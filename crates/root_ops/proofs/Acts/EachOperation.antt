@@ -15,7 +15,6 @@ use Rattle.tree_model.specs.declared.step.StepOf.TheVariants as steps
 use Rattle.tree_model.specs.Steps.{held}
 use Rattle.walk_plan.specs.declared.goal.Goal.TheVariants.{Follow}
 use Rattle.step_resolver.specs.Failures.{TellsWant}
-use Rattle.step_resolver.specs.Headline.{EveryWalk}
 use Rattle.step_resolver.specs.Order.{Handle, Line, found, failed, events_of}
 use Rattle.step_resolver.specs.Order as walk
 use Rattle.step_resolver.specs.View.{way_from}
@@ -44,7 +43,7 @@ use Rattle.root_ops.proofs.Acts.WalksAndRest.{walked_to, happens_after, one_more
 use Rattle.root_ops.proofs.Acts.OwnStep.{all_leave, shut, ChangeEnds, change_ends, ReadEnds, read_ends, acted}
 use Rattle.root_ops.proofs.Acts.Renames.{RenameEnds, rename_ends}
 
-module _ (every : EveryWalk) (c : CallInHistory) (reply : Reply) (is : IsCallInHistory c) (leads : RepliesWith c reply) where
+module _ (c : CallInHistory) (reply : Reply) (is : IsCallInHistory c) (leads : RepliesWith c reply) where
   -- ---- without a step
 
   ends_now : (op : Op) (room : Bool) (error : Errno) → c.op ≡ op → c.room ≡ room → starts c.below room op ≡ ends (fault error) → (fault error ≡ reply) × (c.lines ≡ [])
@@ -75,7 +74,7 @@ module _ (every : EveryWalk) (c : CallInHistory) (reply : Reply) (is : IsCallInH
       aim = Changes change split.name
 
       abbrev entry_walked : (end : walk.Turn) → walk.LeadsTo (way_of c.below aim) (walk.begins (way_of c.below aim) split.dir) parts.first end → WalkedTo (part_of aim split.dir) end
-      entry_walked end led = walked_to every (part_of aim split.dir) (is_part aim split.dir) parts.first parts.rest parts.whole end led
+      entry_walked end led = walked_to (part_of aim split.dir) (is_part aim split.dir) parts.first parts.rest parts.whole end led
 
       module _ (dir : Handle) (names : List (List ℕ)) (walked : WalkedTo (part_of aim split.dir) (found dir names)) (few : length walked.rest ≤ 5) where
         abbrev directory : FindsDirectory c text rule
@@ -133,7 +132,7 @@ module _ (every : EveryWalk) (c : CallInHistory) (reply : Reply) (is : IsCallInH
     module _ (fine : IsPath text) (parts : Walk Reads (reading_of text)) where
       abbrev read_walked : (end : walk.Turn) → walk.LeadsTo (way_of c.below Reads) (walk.begins (way_of c.below Reads) (reading_of text)) parts.first end
           → WalkedTo (part_of Reads (reading_of text)) end
-      read_walked end led = walked_to every (part_of Reads (reading_of text)) (is_part Reads (reading_of text)) parts.first parts.rest parts.whole end led
+      read_walked end led = walked_to (part_of Reads (reading_of text)) (is_part Reads (reading_of text)) parts.first parts.rest parts.whole end led
 
       module _ (link : Handle) (names : List (List ℕ)) (walked : WalkedTo (part_of Reads (reading_of text)) (found link names)) (few : length walked.rest ≤ 5) where
         abbrev object : FindsLink c text
@@ -238,7 +237,7 @@ module _ (every : EveryWalk) (c : CallInHistory) (reply : Reply) (is : IsCallInH
         module _ (parts : WalkEnds c.below (Renames dir.number ren) reply true (walk.begins (way_of c.below (Renames dir.number ren)) to.dir) first.rest) where
           abbrev second_walked : (end : walk.Turn) → walk.LeadsTo (way_of c.below (Renames dir.number ren)) (walk.begins (way_of c.below (Renames dir.number ren)) to.dir) parts.first end
               → WalkedTo second_part_of end
-          second_walked end led = walked_to every second_part_of second_is parts.first parts.rest parts.whole end led
+          second_walked end led = walked_to second_part_of second_is parts.first parts.rest parts.whole end led
 
           by_second : (end : walk.Turn) → IsEnded end
               → walk.LeadsTo (way_of c.below (Renames dir.number ren)) (walk.begins (way_of c.below (Renames dir.number ren)) to.dir) parts.first end
@@ -250,7 +249,8 @@ module _ (every : EveryWalk) (c : CallInHistory) (reply : Reply) (is : IsCallInH
           by_second (walk.failed error) over led onward =
               let second = second_walked (failed error) led in
               let over = shut (after_walk second) c.below reply parts.rest (dir.number ∷ []) (fault error) 0 (happens_after second_part_of second_is (failed error) second) onward in
-              subst RenameSo over.same (of_second from to old_entry new_entry dir names first second (one_more_held first_part_of first_is dir names first) (all_leave (after_walk second) over.leaves))
+              let few = lines_few c.below 1 parts.rest _ (ends reply) (omega arith) onward in
+              subst RenameSo over.same (of_second from to old_entry new_entry dir names first second few (one_more_held first_part_of first_is dir names first) (all_leave (after_walk second) over.leaves))
 
         same_walked : (turn : walk.Turn) → walked_on dir.number ren turn ≡ walked c.below true (Renames dir.number ren) turn
         same_walked (walk.more w) = refl
@@ -291,7 +291,7 @@ module _ (every : EveryWalk) (c : CallInHistory) (reply : Reply) (is : IsCallInH
       module _ (parts : Walk (WalksOn to.dir ren) from.dir) where
         abbrev first_walked : (end : walk.Turn) → walk.LeadsTo (way_of c.below (WalksOn to.dir ren)) (walk.begins (way_of c.below (WalksOn to.dir ren)) from.dir) parts.first end
             → WalkedTo first_part_of end
-        first_walked end led = walked_to every first_part_of first_is parts.first parts.rest parts.whole end led
+        first_walked end led = walked_to first_part_of first_is parts.first parts.rest parts.whole end led
 
         met_by : (true ≡ false) ⊎ TellsWant NoMemory parts.first → TellsWant NoMemory parts.first
         met_by (inl e) = cc (e)
@@ -373,5 +373,5 @@ module _ (every : EveryWalk) (c : CallInHistory) (reply : Reply) (is : IsCallInH
   act_tells (Single step) same = tt
   act_tells (Release standing) same = tt
 
-pub calls_act : EveryWalk → CallsAct
-calls_act every c reply is leads = act_tells every c reply is leads c.op refl
+pub calls_act : CallsAct
+calls_act c reply is leads = act_tells c reply is leads c.op refl

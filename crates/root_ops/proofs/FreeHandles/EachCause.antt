@@ -22,7 +22,6 @@ use Rattle.tree_model.proofs.HistoryLaws.{after_events-append}
 use Rattle.walk_plan.specs.declared.goal.Goal.{Goal}
 use Rattle.walk_plan.specs.declared.goal.Goal.TheVariants.{Follow, NoFollow}
 use Rattle.step_resolver.specs.Failures.{TellsError, TellsTooMany}
-use Rattle.step_resolver.specs.Headline.{Headline}
 use Rattle.step_resolver.specs.Order.{Handle, Line, IsWant, found, failed}
 use Rattle.step_resolver.specs.Order as walk
 use Rattle.step_resolver.specs.View.{way_from}
@@ -174,7 +173,7 @@ module _ (c : CallInHistory) (free : FourAreFree c) where
   rename_cause old new mode error (new_nameless from entry fine cuts none) same = absurd (split_is_other (reading_of new) Drop (cuts ∙ ap (λ (x : Errno). Err x) same))
   rename_cause old new mode error (of_first from to old_entry new_entry walked all) same =
       walk_failed (along c Follow from.dir) (subst (λ (x : Errno). WalkedTo (along c Follow from.dir) (failed x)) same walked) two_free
-  rename_cause old new mode error (of_second from to old_entry new_entry dir names first second one leaves) same =
+  rename_cause old new mode error (of_second from to old_entry new_entry dir names first second few one leaves) same =
       subst UsedUp (ends_there (along c Follow from.dir) (found dir names) first)
       (walk_failed (on_path to.dir (after_walk first)) (subst (λ (x : Errno). WalkedTo (on_path to.dir (after_walk first)) (failed x)) same second) (omega (arith, free, one)))
   rename_cause old new mode error (no_second from to old_entry new_entry dir names first met leaves) same = cc (same)
@@ -184,9 +183,7 @@ module _ (c : CallInHistory) (free : FourAreFree c) where
 
   walks_cause : (goal : Goal) (path : Reading) → WalksTo c (way_from c.below.root goal c.below.flags) path (failed TooMany) → Used
   walks_cause goal path to =
-      let w = bulk_of c (way_from c.below.root goal c.below.flags) path in
-      let headline = subst (λ (end : walk.Turn). Headline (walk_part w to.begun.window to.begun.lines) end) to.is_end to.begun.headline in
-      to_end w to.begun.window to.begun.later to.begun.windows (walk_numbers (walk_part w to.begun.window to.begun.lines) headline.tells.true_once two_free)
+      walk_failed (bulk_of c (way_from c.below.root goal c.below.flags) path) to two_free
 
   resolve_cause : (goal : Goal) (text : List ℕ) → WalkIsReply c goal text (Fault TooMany) → Used
   resolve_cause goal text (inl over) = at_its_first_turn text over
@@ -196,8 +193,8 @@ module _ (c : CallInHistory) (free : FourAreFree c) where
 
   module _ (w : WalkInHistory) (ends : end_of w ≡ calls.end_of c) (few : held_count (begin_of w) w.actor + 2 ≤ HANDLES_MAX) where
     unbegun_cause : (error : Errno) → UnbegunCause w error → error ≡ TooMany → Used
-    unbegun_cause error (of_walk tells) same = subst UsedUp ends (walk_numbers w (subst (TellsError w) same tells) few)
-    unbegun_cause error (no_directory to what trail is_what none) same = cc (same)
+    unbegun_cause error (of_walk of) same = subst UsedUp ends (walk_numbers w (subst (TellsError w) same of.true_once) few)
+    unbegun_cause error (no_directory handle names walked other) same = cc (same)
     unbegun_cause error (of_rest p e) same = absurd (rest_is_other p.rest (e ∙ ap (λ (x : Errno). Some x) same))
 
     limit_cause : (t : ℕ) → IsAtLimit w t → Used
@@ -207,8 +204,8 @@ module _ (c : CallInHistory) (free : FourAreFree c) where
     making_cause : (p : DeepestAt w) (error : Errno) → MakingCause w p error → error ≡ TooMany → Used
     making_cause p error (for_want want tells) same = absurd (other_want (subst IsWant same want))
     making_cause p error (at_limit t step event told limit) same = limit_cause t limit
-    making_cause p error (gone dir name t at_name is) same = cc (same)
-    making_cause p error (missing dir name t at_name none) same = cc (same)
+    making_cause p error (gone dir name h t at_name was is) same = cc (same)
+    making_cause p error (missing taken) same = cc (same)
     making_cause p error (no_directory_there dir name t x at_name is none) same = cc (same)
     making_cause p error (astray passed to t names down own elsewhere) same = cc (same)
 

@@ -10,7 +10,6 @@ use Rattle.walk_plan.specs.declared.goal.Goal.{Goal}
 use Rattle.walk_plan.specs.declared.goal.Goal.TheVariants.{Follow, Deepest}
 use Rattle.step_resolver.specs.View.{way_from}
 use Rattle.step_resolver.specs.WalkHistory.{IsWalkInHistory}
-use Rattle.step_resolver.proofs.Ends.EveryWalk.{walks_tell}
 use Rattle.bulk_ops.specs.MakeAllOrder as make
 use Rattle.bulk_ops.specs.RemoveAllOrder as remove
 use Rattle.bulk_ops.proofs.MakeAllEnds.{makes_tell}
@@ -45,7 +44,7 @@ clears_so c reply text split is leads same room fine at =
     let begun = remove.begins way split.name split.dir in
     let by = clears_led c.below begun c.lines reply (led_from c reply (RemoveAll text) true (removing_turn begun) leads same room
     (ap (λ (why : Option Errno). unless_fault why (clear_in c.below (split_of (reading_of text) Drop))) fine ∙ ap (λ (s : Result Split Errno). clear_in c.below s) at)) in
-    record { end = by.end; is_reply = by.is_reply; tells = every_call_tells walks_tell (bulk_of c way split.dir) split.name by.end (is_bulk_of c Follow split.dir is) refl by.led }
+    record { end = by.end; is_reply = by.is_reply; tells = every_call_tells (bulk_of c way split.dir) split.name by.end (is_bulk_of c Follow split.dir is) refl by.led }
 
 pub bulk_calls_tell : BulkCallsTell
 bulk_calls_tell = record { made = makes_so; cleared = clears_so }

@@ -31,7 +31,6 @@ use Rattle.step_resolver.specs.View.{way_from}
 use Rattle.step_resolver.specs.WalkHistory.{WalkInHistory, IsWalkInHistory, own_events}
 use Rattle.step_resolver.specs.Headline.{Tells}
 use Rattle.step_resolver.proofs.Underway.StepOutcomes.{IsMore, Close-is_less}
-use Rattle.step_resolver.proofs.Ends.EveryWalk.{walks_tell}
 use Rattle.step_resolver.proofs.Underway.LegalHistory.{nothing_more}
 use Rattle.bulk_ops.specs.MakeAllOrder as make
 use Rattle.bulk_ops.specs.MakeAllTells.{Reach, not_begun, begun, MadeEnd, MakeTells}
@@ -243,7 +242,7 @@ module _ (below : Below) (r : ℕ) (old : State) where
     where
       by : (reach : Reach (bulk_in (make_way below) path window lines)) → MadeEnd (bulk_in (make_way below) path window lines) reach handle names
           → IsMore old below.root.owner.actor (after_events old window) handle.number handle.node
-      by not_begun made = record { is_open = made.0.new.is_open; fresh = made.0.new.fresh; others = made.0.new.others }
+      by not_begun made = record { is_open = made.found.opens.new.is_open; fresh = made.found.opens.new.fresh; others = made.found.opens.new.others }
       by (begun p) made = record { is_open = made.new.is_open; fresh = made.new.fresh; others = made.new.others }
   made_told path window lines (make.failed error) reply is tells =
       subst (Told below.root.owner.actor old (after_events old window)) (same_reply (fault error) reply is) tells.handles
@@ -267,7 +266,7 @@ module _ (below : Below) (r : ℕ) (old : State) where
       let way = way_from below.root Follow below.flags in
       let by = clears_led below (remove.begins way split.name split.dir) lines reply leads in
       cleared_told split.dir window lines split.name by.end reply by.is_reply
-      (every_call_tells walks_tell (bulk_in way split.dir window lines) split.name by.end (is_bulk_in Follow split.dir window lines has legal own) refl by.led)
+      (every_call_tells (bulk_in way split.dir window lines) split.name by.end (is_bulk_in Follow split.dir window lines has legal own) refl by.led)
 
   clears_end : (split : Result Split Errno) → HasRoot below r old → EndsFrom old (clear_in below split)
   clears_end (Err error) has = fault_ends error

@@ -1,36 +1,35 @@
 -- The walks of a call: their lines, up to their ends, and what these leave open.
-use Rattle.std.specs.Prelude.{◌≡◌, ◌⊎◌, ℕ, List, [], ◌∷◌, ◌++◌, length, Bool, true, false, Option, Some, None, refl}
-use Rattle.std.proofs.Common.{sym, ap, subst, ◌∙◌, inl, inr, arith}
+use Rattle.std.specs.Prelude.{◌≡◌, ◌⊎◌, ℕ, List, [], ◌++◌, length, Bool, true, false, Option, Some, None, refl}
+use Rattle.std.proofs.Common.{sym, ap, subst, ◌∙◌, inl, inr, ⊎_elim, arith}
 use Rattle.path_text.specs.declared.errno.Errno.TheVariants.{NoMemory}
 use Rattle.path_text.specs.Reading.{Reading}
-use Rattle.tree_model.specs.declared.answer.Answer.{Answer}
-use Rattle.tree_model.specs.declared.answer.Answer.TheVariants.{Refused}
 use Rattle.tree_model.specs.declared.answer.Event.{Event}
 use Rattle.tree_model.specs.declared.inode.Object.{Object}
-use Rattle.tree_model.specs.StepWith.{StepWith}
 use Rattle.tree_model.specs.State.{State, object_at, is_dir, is_directory}
 use Rattle.tree_model.specs.Steps.{held}
 use Rattle.tree_model.specs.Trees.{IsState}
 use Rattle.tree_model.specs.History.{IsLegal, after_events, tree_at}
 use Rattle.tree_model.proofs.HistoryLaws.{histories_keep_trees, objects_stay_for_good, trees_begin_and_end, legal_histories_join}
 use Rattle.step_resolver.specs.Failures.{TellsWant}
-use Rattle.step_resolver.specs.Order.{Way, Handle, Walking, Turn, more, found, partial, failed, Line, answered, no_room, not_made, events_of, begins, take, for_walk, starts}
+use Rattle.step_resolver.specs.Order.{Way, Handle, Walking, Turn, more, found, partial, failed, Line, events_of, begins, take, for_walk, starts}
 use Rattle.step_resolver.specs.Order as walk
 use Rattle.step_resolver.specs.WalkHistory.{WalkInHistory, own_events}
 use Rattle.step_resolver.specs.Headline.{Tells}
 use Rattle.step_resolver.proofs.Ends.EveryWalk.{walks_tell}
 use Rattle.root_ops.specs.declared.aim.Aim.{Aim}
 use Rattle.root_ops.specs.declared.below.Below.{Below}
-use Rattle.root_ops.specs.Order.{Reply, ends, walked, way_of, LeadsTo}
+use Rattle.root_ops.specs.Order.{Reply, ends, walking, walked, way_of, calls, LeadsTo}
+use Rattle.bulk_ops.proofs.Within.{short_told}
+use Rattle.root_ops.proofs.Within.{walk_of_call}
+use Rattle.step_machine.specs.Machine.{HasEnded}
+use Rattle.step_machine.proofs.Split.{runs_split}
+use Rattle.step_resolver.proofs.TurnsTell.{is_machine}
 use Rattle.step_resolver.proofs.DrivenWalks.{joined_events}
 use Rattle.bulk_ops.proofs.OwnEvents.{cut}
 
 -- not on its way any more
 abbrev pub IsEnded : Turn → Type 0
-IsEnded (more walk) = ⊥
-IsEnded (found handle names) = Unit {0}
-IsEnded (partial handle names rest) = Unit {0}
-IsEnded (failed error) = Unit {0}
+IsEnded turn = HasEnded (walk.under_way turn)
 
 module _ (below : Below) (aim : Aim) (reply : Reply) where
   -- the walk's own lines led it to an end, and the others led on from there
@@ -46,61 +45,20 @@ module _ (below : Below) (aim : Aim) (reply : Reply) where
     pub lacked : room ≡ false → (begun ≡ false) ⊎ TellsWant NoMemory first
     pub onward : LeadsTo below (walked below room aim end) rest (ends reply)
 
-  over : (room : Bool) (turn : Turn) (lines : List Line) → IsEnded turn → LeadsTo below (walked below room aim turn) lines (ends reply) → WalkEnds room turn lines
-  over room turn lines ended leads =
-      record { first = []; rest = lines; end = turn; room = room; whole = refl; leads = refl; ended = ended; lacked = λ e. inl e; onward = leads }
-
-  one_later : (line : Line) (first : List Line) → (true ≡ false) ⊎ TellsWant NoMemory first → TellsWant NoMemory (line ∷ first)
-  one_later line first (inl e) = cc (e)
-  one_later line first (inr met) = inr met
-
-  one_after_want : (step : StepWith ℕ) (answer : Answer) (first : List Line) → (false ≡ false) ⊎ TellsWant NoMemory first → TellsWant NoMemory (no_room step answer ∷ first)
-  one_after_want step answer first (inl e) = inl refl
-  one_after_want step answer first (inr met) = inr met
-
   pub walk_ends : (lines : List Line) (room : Bool) (turn : Turn) → LeadsTo below (walked below room aim turn) lines (ends reply) → WalkEnds room turn lines
-  walk_ends lines room (found handle names) leads = over room (found handle names) lines tt leads
-  walk_ends lines room (partial handle names rest) leads = over room (partial handle names rest) lines tt leads
-  walk_ends lines room (failed error) leads = over room (failed error) lines tt leads
-  walk_ends [] room (more w) leads = cc (leads)
-  walk_ends (answered step answer ∷ lines) room (more w) leads =
-      let later = walk_ends lines true (take (way_of below aim) true w answer) leads.1 in
+  walk_ends lines room turn leads =
+      let way = way_of below aim in
+      let split = runs_split (walk.walks way) (calls below) (λ r. walked below r aim) (λ w. walking w aim) (is_machine way) (walk_of_call below aim) room turn lines (ends reply) tt leads in
       record {
-        first = answered step answer ∷ later.first;
-        rest = later.rest;
-        end = later.end;
-        room = later.room;
-        whole = ap (λ ls. answered step answer ∷ ls) later.whole;
-        leads = (leads.0, later.leads);
-        ended = later.ended;
-        lacked = λ e. inr (one_later (answered step answer) later.first (later.lacked e));
-        onward = later.onward;
-      }
-  walk_ends (no_room step answer ∷ lines) room (more w) leads =
-      let later = walk_ends lines false (take (way_of below aim) false w answer) leads.1 in
-      record {
-        first = no_room step answer ∷ later.first;
-        rest = later.rest;
-        end = later.end;
-        room = later.room;
-        whole = ap (λ ls. no_room step answer ∷ ls) later.whole;
-        leads = (leads.0, later.leads);
-        ended = later.ended;
-        lacked = λ e. inr (one_after_want step answer later.first (later.lacked e));
-        onward = later.onward;
-      }
-  walk_ends (not_made error ∷ lines) room (more w) leads =
-      let later = walk_ends lines true (take (way_of below aim) true w (Refused error)) leads.1 in
-      record {
-        first = not_made error ∷ later.first;
-        rest = later.rest;
-        end = later.end;
-        room = later.room;
-        whole = ap (λ ls. not_made error ∷ ls) later.whole;
-        leads = (leads.0.0, (leads.0.1, later.leads));
-        ended = later.ended;
-        lacked = λ e. inr (one_later (not_made error) later.first (later.lacked e));
-        onward = later.onward;
+        first = split.first;
+        rest = split.rest;
+        end = split.at;
+        room = split.room_there;
+        whole = split.joined;
+        leads = split.led;
+        ended = split.over;
+        lacked = λ e. ⊎_elim (λ begun. inl begun) (λ short. inr (short_told split.first short)) (split.short e);
+        onward = split.onward;
       }
 
 -- ---- the tree as a walk begins

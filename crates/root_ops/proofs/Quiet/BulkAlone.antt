@@ -16,17 +16,17 @@ use Rattle.tree_model.specs.History.{IsLegal, after_events}
 use Rattle.walk_plan.specs.declared.goal.Goal.{Goal}
 use Rattle.walk_plan.specs.declared.goal.Goal.TheVariants.{Follow, Deepest}
 use Rattle.step_resolver.specs.Asked.{AskedPart, Cur, Up, Named}
-use Rattle.step_resolver.specs.Meaning.{resolution, reading_deepest, is_too_long}
-use Rattle.step_resolver.specs.Meaning as meant_path
+use Rattle.step_resolver.specs.Meaning.{resolution, is_too_long}
+use Rattle.step_resolver.specs.Deepest as meant_path
 use Rattle.step_resolver.specs.Order.{Way, Handle, Line, answered, no_room, not_made, events_of}
 use Rattle.step_resolver.specs.Order as walk
 use Rattle.step_resolver.specs.View.{way_from}
 use Rattle.step_resolver.specs.Footprint.{is_want}
+use Rattle.step_resolver.specs.Deepest.{reading_deepest}
 use Rattle.step_resolver.specs.Failures.{TellsError}
 use Rattle.step_resolver.specs.Headline.{IsNewHandle}
 use Rattle.step_resolver.specs.WalkHistory.{WalkInHistory, IsWalkInHistory}
 use Rattle.step_resolver.proofs.DrivenWalks.{all_own, by_own}
-use Rattle.step_resolver.proofs.Ends.EveryWalk.{walks_tell}
 use Rattle.bulk_ops.specs.declared.remove_all.clearing.TheConstants.{CLEARING_STEPS_MAX}
 use Rattle.bulk_ops.specs.MakeAllOrder as make
 use Rattle.bulk_ops.specs.MakeAllOrder.{rest_fault}
@@ -121,7 +121,7 @@ module _ (c : Caller) (has : HasRoot c.tree c.actor c.below.root.handle c.root) 
     meant = make_means c.tree.nodes (reading_deepest (record { nodes = c.tree.nodes; root = c.root; flags = c.below.flags }) path)
 
     new_of : (handle : Handle) (names : List (List ℕ)) (reach : Reach w) → MadeEnd w reach handle names → IsNewHandle w handle
-    new_of handle names not_begun ended = ended.0.new
+    new_of handle names not_begun ended = ended.found.opens.new
     new_of handle names (begun p) ended = ended.new
 
     is_opened : (x : ℕ) (handle : Handle) (names : List (List ℕ)) → IsNewHandle w handle → handle.node ≡ x → Stands end.nodes c.root x names → IsOpened c end x handle names
@@ -134,15 +134,15 @@ module _ (c : Caller) (has : HasRoot c.tree c.actor c.below.root.handle c.root) 
     }
 
     met_unbegun : (error : Errno) → is_want error ≡ true → UnbegunCause w error → MetWant lines error
-    met_unbegun error want (of_walk tells) = met_by lines w refl error want tells
-    met_unbegun error want (no_directory to what trail is no_dir) = absurd (false≢true want)
+    met_unbegun error want (of_walk failed) = met_by lines w refl error want failed.true_once
+    met_unbegun error want (no_directory handle names walked other) = absurd (false≢true want)
     met_unbegun error want (of_rest p is) = absurd (false≢true (sym (rest_no_want p.rest error is) ∙ want))
 
     met_making : (p : DeepestAt w) (error : Errno) → is_want error ≡ true → MakingCause w p error → MetWant lines error
     met_making p error want (for_want is tells) = want_met lines error tells
     met_making p error want (full t step event told limit) = refused_met c.actor lines t step event
-    met_making p error want (gone dir name t at is) = absurd (false≢true want)
-    met_making p error want (missing dir name t at is) = absurd (false≢true want)
+    met_making p error want (gone dir name h t at was is) = absurd (false≢true want)
+    met_making p error want (missing taken) = absurd (false≢true want)
     met_making p error want (not_directory dir name t x at is no_dir) = absurd (false≢true want)
     met_making p error want (astray passed to t names down at is) = absurd (false≢true want)
 
@@ -275,21 +275,21 @@ module _ (c : Caller) (has : HasRoot c.tree c.actor c.below.root.handle c.root) 
 
     -- a want of the clearing's lines is one of the call's
     module _ (parts : Parts v) where
-      within : (error : Errno) → MetWant parts.lines error → MetWant lines error
-      within error met = subst (λ ls. MetWant ls error) (sym parts.all_lines) (met_behind parts.walk_lines parts.lines error met)
+      within : (error : Errno) → MetWant parts.walked.rest error → MetWant lines error
+      within error met = subst (λ ls. MetWant ls error) (sym parts.walked.all_lines) (met_behind parts.walked.lines parts.walked.rest error met)
 
-      longer : CLEARING_STEPS_MAX ≤ length parts.lines → CLEARING_STEPS_MAX ≤ length lines
+      longer : CLEARING_STEPS_MAX ≤ length parts.walked.rest → CLEARING_STEPS_MAX ≤ length lines
       longer enough =
-          let all : length lines ≡ length parts.walk_lines + length parts.lines = ap length parts.all_lines ∙ length-append parts.walk_lines parts.lines in
+          let all : length lines ≡ length parts.walked.lines + length parts.walked.rest = ap length parts.walked.all_lines ∙ length-append parts.walked.lines parts.walked.rest in
           omega (arith, enough, all)
 
       given_up_for : (error : Errno) → is_short error ≡ true → TellsFault (clear_tells.clearing_part v parts) parts.handle.node error → Short error
-      given_up_for NoMemory enough tells = inl (refl, inl (within NoMemory (want_met parts.lines NoMemory tells)))
-      given_up_for BookFull enough tells = inl (refl, inl (within BookFull (want_met parts.lines BookFull tells)))
+      given_up_for NoMemory enough tells = inl (refl, inl (within NoMemory (want_met parts.walked.rest NoMemory tells)))
+      given_up_for BookFull enough tells = inl (refl, inl (within BookFull (want_met parts.walked.rest BookFull tells)))
       given_up_for TooMany enough tells =
           inl (
             refl,
-            inl (within TooMany (refused_met c.actor parts.lines tells.when tells.step
+            inl (within TooMany (refused_met c.actor parts.walked.rest tells.when tells.step
                 (ap (λ es. slice_get es tells.when) (sym (window_is v split.name (is_here Follow split.dir) quiet refl parts)) ∙ tells.event))),
           )
       given_up_for Busy enough tells = inr (refl, longer tells.enough)
@@ -320,7 +320,7 @@ module _ (c : Caller) (has : HasRoot c.tree c.actor c.below.root.handle c.root) 
     cleared_end (remove.failed error) led is =
         subst Clears (same_reply (fault error) reply is)
         (failed_so_then error (is_short error) refl (quiet_remove_all v split.name (remove.failed error) (is_here Follow split.dir) refl led quiet)
-        (every_call_tells walks_tell v split.name (remove.failed error) (is_here Follow split.dir) refl led).why)
+        (every_call_tells v split.name (remove.failed error) (is_here Follow split.dir) refl led).why)
 
     pub clears_alone : LeadsTo c.below (removing_turn (remove.begins way split.name split.dir)) lines (ends reply) → Clears reply
     clears_alone leads = let by = clears_led c.below (remove.begins way split.name split.dir) lines reply leads in cleared_end by.end by.led by.is_reply

@@ -17,7 +17,8 @@ use Rattle.tree_model.proofs.Hanging.{Rooted-not_gone, IsTree-made}
 use Rattle.tree_model.proofs.Standing.{Under-child, not_under, Stands-names_below}
 use Rattle.tree_model.proofs.TreeTests.{none_from}
 use Rattle.step_resolver.specs.Asked.{AskedPart}
-use Rattle.step_resolver.specs.Meaning.{Ground, Deep, whole, up_to, none, is_too_long, reading_deepest}
+use Rattle.step_resolver.specs.Meaning.{Ground, is_too_long}
+use Rattle.step_resolver.specs.Deepest.{Deep, whole, up_to, none, reading_deepest}
 use Rattle.bulk_ops.specs.MakeAllOrder.{rest_fault, rest_names}
 use Rattle.bulk_ops.specs.MakeAllQuiet.{chain_of, last_of, MakeMeant, refuses, gives, make_means, rest_means}
 use Rattle.bulk_ops.specs.RemoveAllQuiet.{is_at_or_below, cleared}

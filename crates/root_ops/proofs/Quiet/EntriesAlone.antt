@@ -30,9 +30,12 @@ use Rattle.root_ops.specs.declared.aim.Wanted.TheVariants as wants
 use Rattle.root_ops.specs.Meaning.{Caller, is_open, has_text, fails, Whole, and_then, directory_of, text_of, tells, changes}
 use Rattle.root_ops.specs.Acts.{change_of}
 use Rattle.root_ops.specs.Meaning as meaning
-use Rattle.root_ops.specs.Order.{Reply, opened, fault, ends, reached, walked, goal_of, held_by, way_of, walks, unless_fault, in_directory, change_step, reply_to, LeadsTo}
+use Rattle.root_ops.specs.Order.{Reply, opened, fault, ends, reached, walking as in_walk, walked, calls, goal_of, held_by, way_of, walks, unless_fault, in_directory, change_step, reply_to, LeadsTo}
 use Rattle.root_ops.specs.Quiet.{MetWant, MetBy, IsReply, IsDone, RanShort, ComesTo}
-use Rattle.root_ops.proofs.Quiet.WalksAlone.{Split, split_lines, Parted, parted, HasRoot, FindsIt, EndsWith, found_by, Walked, walked_alone}
+use Rattle.step_machine.proofs.Split.{runs_split}
+use Rattle.step_resolver.proofs.TurnsTell.{is_machine}
+use Rattle.root_ops.proofs.Within.{walk_of_call, short_met}
+use Rattle.root_ops.proofs.Quiet.WalksAlone.{Parted, parted, HasRoot, FindsIt, EndsWith, found_by, Walked, walked_alone}
 use Rattle.root_ops.proofs.Quiet.StepsAlone.{fails_alone, runs_short, widened, Acts, acts_alone, change_is, is_changed}
 
 -- ---- wants of some of the lines
@@ -92,17 +95,18 @@ module _ (c : Caller) (s : State) (has : HasRoot s c.actor c.below.root.handle c
       → IsLegal s (events_of c.actor lines)
       → ComesTo c (after_events s (events_of c.actor lines)) true lines (whole (found_by s c.root (way_of c.below aim) path)) reply
   walks_then lines leads legal =
-      let split : Split c.below aim true (walk.begins (way_of c.below aim) path) lines reply = split_lines c.below aim true (walk.begins (way_of c.below aim) path) lines reply leads in
+      let split = runs_split (walk.walks (way_of c.below aim)) (calls c.below) (λ r. walked c.below r aim) (λ w. in_walk w aim) (is_machine (way_of c.below aim)) (walk_of_call c.below aim)
+      true (walk.begins (way_of c.below aim) path) lines (ends reply) tt leads in
       let part : Parted s c.actor split.first split.rest lines = parted s c.actor split.first split.rest lines split.joined legal in
       let t : State = after_events s (events_of c.actor split.first) in
-      let w : Walked s t c.actor c.root (way_of c.below aim) path split.first split.end =
-      walked_alone s c.actor c.root (way_of c.below aim) path has plain split.first split.end split.over split.led part.legal in
+      let w : Walked s t c.actor c.root (way_of c.below aim) path split.first split.at =
+      walked_alone s c.actor c.root (way_of c.below aim) path has plain split.first split.at split.over split.led part.legal in
       subst (λ e. ComesTo c e true lines (whole (found_by s c.root (way_of c.below aim) path)) reply) part.after
-      (at_the_end t split.room split.first split.rest lines w.tree w.nodes
+      (at_the_end t split.room_there split.first split.rest lines w.tree w.nodes
       (λ error met. inl (met_within split.first split.rest lines error split.joined (inl met)))
       (λ error met. inl (met_within split.first split.rest lines error split.joined
-      (⊎_elim (λ q. inr q) (λ q. inl (subst (MetWant split.first) (sym q.1) (begun_with_room split.first (split.short q.0)))) met)))
-      part.legal_rest split.end w.comes split.onward)
+      (⊎_elim (λ q. inr q) (λ q. inl (subst (MetWant split.first) (sym q.1) (begun_with_room split.first (⊎_elim (λ e. inl e) (λ short. inr (short_met split.first short)) (split.short q.0))))) met)))
+      part.legal_rest split.at w.comes split.onward)
 
 -- ---- the call's own step
 

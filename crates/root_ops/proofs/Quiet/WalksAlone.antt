@@ -1,12 +1,11 @@
 -- A call's walk, where nobody else acts: the call's lines are those of the walk and the rest, and the walk ends with what its
 -- path means.
-use Rattle.std.proofs.Common.{◌≡◌, ◌≢◌, ◌⊎◌, inl, inr, ⊎_elim, ℕ, List, [], ◌∷◌, ◌++◌, Bool, true, false, Result, Ok, Err, Some, None, refl, sym, ap, ◌∙◌, subst}
+use Rattle.std.proofs.Common.{◌≡◌, ◌≢◌, ◌⊎◌, inl, inr, ℕ, List, [], ◌∷◌, ◌++◌, Bool, true, false, Result, Ok, Err, Some, None, refl, sym, ap, ◌∙◌, subst}
 use Rattle.std.specs.Option.{option_map}
-use Rattle.std.proofs.lemmas.Bool.{false≢true, true≢false}
+use Rattle.std.proofs.lemmas.Bool.{false≢true}
 use Rattle.path_text.specs.declared.errno.Errno.{Errno}
 use Rattle.path_text.specs.declared.errno.Errno.TheVariants.{NoMemory, BookFull, TooMany}
 use Rattle.path_text.specs.Reading.{Reading}
-use Rattle.tree_model.specs.declared.answer.Answer.TheVariants.{Refused}
 use Rattle.tree_model.specs.StepWith.{StepWith}
 use Rattle.tree_model.specs.State.{State, Stands, object_at, is_dir}
 use Rattle.tree_model.specs.Steps.{held, kind_of}
@@ -27,91 +26,8 @@ use Rattle.step_resolver.proofs.Ends.EntriesLeftAlone.{lines_only_tell}
 use Rattle.step_resolver.proofs.Ends.EveryWalk.{walks_tell}
 use Rattle.step_resolver.proofs.Ends.WalksMean.{quiet_walks_mean}
 use Rattle.bulk_ops.proofs.MakingAlone.WalkFirst.{telling_leaves}
-use Rattle.root_ops.specs.declared.aim.Aim.{Aim}
-use Rattle.root_ops.specs.declared.below.Below.{Below}
 use Rattle.root_ops.specs.Meaning as meaning
-use Rattle.root_ops.specs.Quiet.{Meets, MetWant}
-use Rattle.root_ops.specs.Order.{Reply, ends, walked, way_of, LeadsTo}
-
--- ---- the lines of a walk, and the rest
-
--- the walk comes to this end by the first of these lines, and the call to its reply by the others
-pub record Split (below : Below) (aim : Aim) (begun : Bool) (turn : Turn) (lines : List Line) (reply : Reply) : Type 0 where
-  pub first : List Line
-  pub rest : List Line
-  pub joined : lines ≡ first ++ rest
-  pub end : Turn
-  pub over : IsEnd end
-  pub led : walk.LeadsTo (way_of below aim) turn first end
-  pub room : Bool
-  pub short : room ≡ false → (begun ≡ false) ⊎ MetWant first NoMemory
-  pub onward : LeadsTo below (walked below room aim end) rest (ends reply)
-
--- a line more before the walk's
-one_more : (below : Below) (aim : Aim) (begun onward_begun : Bool) (turn onward : Turn) (line : Line) (lines : List Line) (reply : Reply)
-    → ((first : List Line) (end : Turn) → walk.LeadsTo (way_of below aim) onward first end → walk.LeadsTo (way_of below aim) turn (line ∷ first) end)
-    → (onward_begun ≡ false → Meets NoMemory line)
-    → Split below aim onward_begun onward lines reply → Split below aim begun turn (line ∷ lines) reply
-one_more below aim begun onward_begun turn onward line lines reply leads met split = record {
-  first = line ∷ split.first;
-  rest = split.rest;
-  joined = ap (λ ls. line ∷ ls) split.joined;
-  end = split.end;
-  over = split.over;
-  led = leads split.first split.end split.led;
-  room = split.room;
-  short = λ e. inr (⊎_elim (λ q. inl (met q)) (λ q. inr q) (split.short e));
-  onward = split.onward;
-}
-
-pub split_lines : (below : Below) (aim : Aim) (room : Bool) (turn : Turn) (lines : List Line) (reply : Reply)
-    → LeadsTo below (walked below room aim turn) lines (ends reply) → Split below aim room turn lines reply
-split_lines below aim room (more walking) [] reply leads = cc (leads)
-split_lines below aim room (more walking) (answered step answer ∷ lines) reply leads =
-    one_more below aim room true (more walking) (walk.take (way_of below aim) true walking answer) (answered step answer) lines reply
-    (λ first end led. (leads.0, led)) (λ e. absurd (true≢false e))
-    (split_lines below aim true (walk.take (way_of below aim) true walking answer) lines reply leads.1)
-split_lines below aim room (more walking) (no_room step answer ∷ lines) reply leads =
-    one_more below aim room false (more walking) (walk.take (way_of below aim) false walking answer) (no_room step answer) lines reply
-    (λ first end led. (leads.0, led)) (λ e. inl refl)
-    (split_lines below aim false (walk.take (way_of below aim) false walking answer) lines reply leads.1)
-split_lines below aim room (more walking) (not_made error ∷ lines) reply leads =
-    one_more below aim room true (more walking) (walk.take (way_of below aim) true walking (Refused error)) (not_made error) lines reply
-    (λ first end led. (leads.0.0, (leads.0.1, led))) (λ e. absurd (true≢false e))
-    (split_lines below aim true (walk.take (way_of below aim) true walking (Refused error)) lines reply leads.1)
-split_lines below aim room (found handle names) lines reply leads = record {
-  first = [];
-  rest = lines;
-  joined = refl;
-  end = found handle names;
-  over = tt;
-  led = refl;
-  room = room;
-  short = λ e. inl e;
-  onward = leads;
-}
-split_lines below aim room (partial handle names rest) lines reply leads = record {
-  first = [];
-  rest = lines;
-  joined = refl;
-  end = partial handle names rest;
-  over = tt;
-  led = refl;
-  room = room;
-  short = λ e. inl e;
-  onward = leads;
-}
-split_lines below aim room (failed error) lines reply leads = record {
-  first = [];
-  rest = lines;
-  joined = refl;
-  end = failed error;
-  over = tt;
-  led = refl;
-  room = room;
-  short = λ e. inl e;
-  onward = leads;
-}
+use Rattle.root_ops.specs.Quiet.{MetWant}
 
 -- the events of the lines, one part after the other
 pub record Parted (s : State) (a : ℕ) (first rest lines : List Line) : Type 0 where

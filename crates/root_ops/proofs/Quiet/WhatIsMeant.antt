@@ -18,7 +18,8 @@ use Rattle.tree_model.proofs.Changed.{Changed, kept, IfDone, MakeDir-changed, Ma
 use Rattle.tree_model.proofs.Outcomes.{Does, refuses as refuses_it, tells as only_tells_it, opens_on, closes as closes_it, changes_to, does}
 use Rattle.tree_model.proofs.Refusals.{refuse_by-both}
 use Rattle.tree_model.proofs.StepLaws.{telling_changes_nothing}
-use Rattle.step_resolver.specs.Meaning.{Ground, reading_deepest}
+use Rattle.step_resolver.specs.Meaning.{Ground}
+use Rattle.step_resolver.specs.Deepest.{reading_deepest}
 use Rattle.bulk_ops.specs.MakeAllQuiet.{MakeMeant, refuses, gives, make_means}
 use Rattle.bulk_ops.specs.RemoveAllQuiet.{cleared, cleared_rows}
 use Rattle.root_ops.specs.declared.op.Op.{Op}

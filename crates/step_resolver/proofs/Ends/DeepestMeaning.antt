@@ -14,13 +14,14 @@ use Rattle.walk_plan.specs.declared.goal.Goal.{Goal}
 use Rattle.walk_plan.specs.declared.goal.Goal.TheVariants.{Follow, NoFollow, Deepest}
 use Rattle.walk_plan.specs.Plan.{leads_out}
 use Rattle.step_resolver.specs.Asked.{AskedPart, Cur, Up, Named, asked, follows, is_deepest}
-use Rattle.step_resolver.specs.Meaning.{Ground, Meant, object, fails, Deeper, after_reads, and_then, part_means, parts_mean, means, LINKS_MAX, Deep, whole, up_to, none, is_missing, entries_of, deep_after, and_then_deep, deepest, path_deepest, reading_deepest, deep_reads, is_too_long, reads_of}
+use Rattle.step_resolver.specs.Meaning.{Ground, Meant, object, fails, Deeper, after_reads, and_then, part_means, parts_mean, means, LINKS_MAX, is_too_long, reads_of}
 use Rattle.step_resolver.specs.TrailLaws.{Split, passed, stopped}
 use Rattle.step_resolver.specs.Trail.{Spot, Trail, all, before, stay, top, climb, down, through, into, IsLinkAt}
 use Rattle.step_resolver.specs.Order.{Handle, Turn, more, found, partial, failed, root_itself, todo, begins, goes_on, LeadsTo}
 use Rattle.step_resolver.specs.WalkHistory.{WalkInHistory, begin_of, timeline, parts_of_walk, start}
 use Rattle.step_resolver.specs.Failures.{IsMissingAt, IsWithinLink, TellsNotFound, TellsUpFromRoot, TellsAbsoluteLink, TellsRacedUp, TellsRacedEnd, TellsRacedDeepest, TellsError}
-use Rattle.step_resolver.specs.Footprint.{ground, is_for_want, is_want, IsEnd, IsMeantDeep}
+use Rattle.step_resolver.specs.Footprint.{ground, is_for_want, is_want, IsEnd}
+use Rattle.step_resolver.specs.Deepest.{Deep, whole, up_to, none, is_missing, entries_of, deep_after, and_then_deep, deepest, path_deepest, reading_deepest, deep_reads, IsMeantDeep}
 use Rattle.step_resolver.specs.Headline.{Tells, MeansDeepest}
 use Rattle.step_resolver.proofs.Trail.Joined.{split}
 use Rattle.step_resolver.proofs.Meaning.PartsAndLinks.{deeper_at, means_by}

@@ -106,8 +106,8 @@ module _ {w : WalkInHistory} (lived : Lived w) where
       happens.1.1 leads.1 (λ error is want. wants error is (inr want)) (λ s m. mets s (inr m))
   lines_tell (not_made error ∷ lines) now (more walk) end good happens leads wants mets =
       lines_tell lines now (take w.way true walk _) end
-      (not_made_good lived now error leads.0 (wants error leads.0 (inl refl)) walk leads.1.0 good)
-      happens leads.1.1 (λ cause is want. wants cause is (inr want)) (λ s m. mets s (inr m))
+      (not_made_good lived now error leads.0.0 (wants error leads.0.0 (inl refl)) walk leads.0.1 good)
+      happens leads.1 (λ cause is want. wants cause is (inr want)) (λ s m. mets s (inr m))
   lines_tell (line ∷ lines) now (found handle names) end good happens leads wants mets = absurd leads
   lines_tell (line ∷ lines) now (partial handle names rest) end good happens leads wants mets = absurd leads
   lines_tell (line ∷ lines) now (failed error) end good happens leads wants mets = absurd leads

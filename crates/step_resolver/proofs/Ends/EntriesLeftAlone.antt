@@ -38,7 +38,7 @@ lines_only_tell a way (answered step answer ∷ lines) (more walk) end leads =
     (ap is_on_entries leads.0 ∙ due_tells way walk, lines_only_tell a way lines (takes way true walk answer) end leads.1)
 lines_only_tell a way (no_room step answer ∷ lines) (more walk) end leads =
     (ap is_on_entries leads.0 ∙ due_tells way walk, lines_only_tell a way lines (takes way false walk answer) end leads.1)
-lines_only_tell a way (not_made error ∷ lines) (more walk) end leads = lines_only_tell a way lines _ end leads.1.1
+lines_only_tell a way (not_made error ∷ lines) (more walk) end leads = lines_only_tell a way lines _ end leads.1
 lines_only_tell a way (line ∷ lines) (found handle names) end leads = absurd leads
 lines_only_tell a way (line ∷ lines) (partial handle names rest) end leads = absurd leads
 lines_only_tell a way (line ∷ lines) (failed error) end leads = absurd leads

@@ -10,13 +10,14 @@ use Rattle.tree_model.specs.History.{after_event, tree_at}
 use Rattle.tree_model.specs.declared.inode.Place.{Place}
 use Rattle.walk_plan.specs.Plan.{leads_out}
 use Rattle.step_resolver.specs.Asked.{asked, follows, is_deepest}
-use Rattle.step_resolver.specs.Meaning.{Meant, object, fails, LINKS_MAX, path_means, reading_means, reads_of, Deep, whole, up_to, none, path_deepest, reading_deepest}
+use Rattle.step_resolver.specs.Meaning.{Meant, object, fails, LINKS_MAX, path_means, reading_means, reads_of}
 use Rattle.step_resolver.specs.MeaningLaws.{meant_by, is_of_parts}
 use Rattle.step_resolver.specs.Order.{failed}
 use Rattle.step_resolver.specs.WalkHistory.{WalkInHistory, begin_of, parts_of_walk}
-use Rattle.step_resolver.specs.Footprint.{IsLeftAlone, AllLeftAlone, ground, IsMeant, IsMeantDeep}
+use Rattle.step_resolver.specs.Footprint.{IsLeftAlone, AllLeftAlone, ground, IsMeant}
 use Rattle.step_resolver.specs.Headline.{Means, MeansDeepest}
 use Rattle.step_resolver.specs.FootprintLaws.{IsChanged, SomeIsChanged, RacedTellsOfChange}
+use Rattle.step_resolver.specs.Deepest.{Deep, whole, up_to, none, path_deepest, reading_deepest, IsMeantDeep}
 use Rattle.step_resolver.proofs.Meaning.Deepest.{deepest_means_the_same, reads_of-meant_by}
 use Rattle.step_resolver.proofs.Meaning.Errors.{parts_fail_as_paths}
 use Rattle.step_resolver.proofs.Ends.WalksMean.{walks_mean}

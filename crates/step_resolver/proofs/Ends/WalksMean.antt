@@ -4,22 +4,19 @@ use Rattle.tree_model.specs.declared.answer.Event.{Event}
 use Rattle.tree_model.specs.State.{child, Stands}
 use Rattle.tree_model.specs.declared.inode.Place.{Place}
 use Rattle.step_resolver.specs.Order.{Turn, more, found, partial, failed, begins, LeadsTo}
-use Rattle.step_resolver.specs.WalkHistory.{WalkInHistory, begin_of, state_at, own_events, IsWalkInHistory}
+use Rattle.step_resolver.specs.WalkHistory.{WalkInHistory, begin_of, state_at, IsWalkInHistory}
 use Rattle.step_resolver.specs.Footprint.{AllLeftAlone}
 use Rattle.step_resolver.specs.Headline.{EveryWalk, Tells}
 use Rattle.step_resolver.specs.FootprintLaws.{WalksMean, IsQuiet, StandsThere, QuietWalksMean}
 use Rattle.step_resolver.proofs.Underway.LegalHistory.{begins_as_tree, lived, last_moment}
 use Rattle.step_resolver.proofs.Ends.EveryWalk.{tree_laws, walks_tell}
-use Rattle.step_resolver.proofs.Ends.EntriesLeftAlone.{AllTell, lines_only_tell, own_tells, next_moment, past_the_end, steady, root_is_no_child}
+use Rattle.step_resolver.proofs.Ends.EntriesLeftAlone.{own_tells, next_moment, past_the_end, steady, root_is_no_child}
+use Rattle.step_resolver.proofs.Underway.OwnSteps.{only_tell, own_events_leave_nodes}
 use Rattle.step_resolver.proofs.Ends.TrailsAndMeaning.{Fits}
 use Rattle.step_resolver.proofs.Ends.WholeMeaning.{setting, tells_meaning}
 use Rattle.step_resolver.proofs.Ends.DeepestMeaning.{tells_deepest}
 
 module _ (w : WalkInHistory) (end : Turn) (is : IsWalkInHistory w) (leads : LeadsTo w.way (begins w.way w.path) w.lines end) where
-  -- the walk's own events leave the nodes
-  pub only_tell : AllTell (own_events w.actor w.window)
-  only_tell = subst AllTell (sym is.own) (lines_only_tell w.actor w.way w.lines (begins w.way w.path) end leads)
-
   no_root_below : (d : ℕ) (names : List (List ℕ)) (n : List ℕ) → Stands (begin_of w).nodes w.root d names → child (begin_of w).nodes d n ≡ Some w.root → ⊥
   no_root_below d names n = root_is_no_child tree_laws.one_way (begin_of w).nodes (begins_as_tree tree_laws w is).tree w.root d names n
 
@@ -28,7 +25,7 @@ module _ (w : WalkInHistory) (end : Turn) (is : IsWalkInHistory w) (leads : Lead
     objects = λ x object e. (lived tree_laws w is).objects 0 x object e;
     first = refl;
     top_free = λ t. ((lived tree_laws w is).states t).tree.top_is_free;
-    steady = λ e alone t. steady tree_laws.nodes w only_tell e alone t;
+    steady = λ e alone t. steady tree_laws.nodes w (only_tell w end is leads) e alone t;
     no_root_below = no_root_below;
     root_dir = is.root_is_dir;
   }
@@ -40,7 +37,7 @@ module _ (w : WalkInHistory) (end : Turn) (is : IsWalkInHistory w) (leads : Lead
       on : (o : Option Event) → slice_get w.window t ≡ o → (state_at w (suc t)).nodes ≡ (state_at w t).nodes
       on None q = ap (λ s. s.nodes) (past_the_end (begin_of w) w.window t q)
       on (Some event) q = ap (λ s. s.nodes) (next_moment (begin_of w) w.window t event q)
-          ∙ tree_laws.nodes (state_at w t) event.actor event.step (own_tells w.actor w.window only_tell t event q (eq-eqb event.actor w.actor (quiet t event q)))
+          ∙ tree_laws.nodes (state_at w t) event.actor event.step (own_tells w.actor w.window (only_tell w end is leads) t event q (eq-eqb event.actor w.actor (quiet t event q)))
 
 pub walks_mean : WalksMean
 walks_mean w end is leads =
@@ -51,7 +48,7 @@ walks_mean w end is leads =
 pub every_walk : EveryWalk
 every_walk w end is leads =
     let means = walks_mean w end is leads in
-    record { tells = walks_tell w end is leads; means = means.0; deepest = means.1 }
+    record { tells = walks_tell w end is leads; means = means.0; leaves = own_events_leave_nodes w end is leads; deepest = means.1 }
 
 -- where no other acts, each entry is left alone
 quiet_alone : (w : WalkInHistory) → IsQuiet w → (entries : List Place) → AllLeftAlone w entries

@@ -8,8 +8,9 @@ use Rattle.tree_model.specs.State.{child, is_dir}
 use Rattle.tree_model.specs.declared.inode.Place.{Place}
 use Rattle.tree_model.proofs.TreeTests.{none_from}
 use Rattle.step_resolver.specs.Asked.{AskedPart, Cur, Up, Named}
-use Rattle.step_resolver.specs.Meaning.{Ground, Meant, object, fails, after_reads, and_then, is_too_long, Deeper, named, one_part, part_means, parts_mean, means, Deep, whole, up_to, none, is_missing, entries_of, deep_after, and_then_deep, deepest, reads_of, deep_reads}
+use Rattle.step_resolver.specs.Meaning.{Ground, Meant, object, fails, after_reads, and_then, is_too_long, Deeper, named, one_part, part_means, parts_mean, means, reads_of}
 use Rattle.step_resolver.specs.MeaningLaws.{IsFrontAndRest, IsDeepest, DeepestIsFrontAndRest, meant_by, DeepestMeansTheSame}
+use Rattle.step_resolver.specs.Deepest.{Deep, whole, up_to, none, is_missing, entries_of, deep_after, and_then_deep, deepest, deep_reads}
 use Rattle.step_resolver.proofs.Meaning.PartsAndLinks.{and_then-object, deeper_at, means_by}
 
 -- ---- one after another

@@ -6,12 +6,13 @@ use Rattle.path_text.specs.declared.errno.Errno.{Errno}
 use Rattle.path_text.specs.declared.errno.Errno.TheVariants.{NotFound, Raced, NoMemory, CrossRoot, NotDir, TooLong, Loop}
 use Rattle.path_text.specs.Text.{text_fault, parts_of, begins_with_slash}
 use Rattle.tree_model.specs.declared.answer.Answer.{Answer}
-use Rattle.tree_model.specs.declared.answer.Answer.TheVariants.{Opened, Text, Names, NotBelow, Refused}
+use Rattle.tree_model.specs.declared.answer.Answer.TheVariants.{Opened, Text, Names, NotBelow}
+use Rattle.step_machine.specs.Machine.{taken}
 use Rattle.step_resolver.specs.Asked.{AskedPart, Cur, Up, Named, ask, asked, followed, follows, is_deepest}
 use Rattle.step_resolver.specs.Meaning.{LINKS_MAX, is_too_long}
 use Rattle.path_text.specs.Names.{same_names}
 use Rattle.walk_plan.specs.Plan.{leads_out}
-use Rattle.step_resolver.specs.Order.{Way, Handle, Position, root_itself, holds, Todo, todo, After, gives, onward, judges, Walking, opening, reading, rising, judging, duping, ending, closing, Turn, more, found, partial, failed, names_of, handles_of, is_dir_position, is_followed, gives_up, at_end, in_directory, on_part, on_own, on_parts, goes_on, begins, closes, refusal_of, with_room, follows_link, enters, refused_open, from_link, read_text, end_of, judged, refused_rise, take, Line, answered, no_room, not_made, LeadsTo}
+use Rattle.step_resolver.specs.Order.{Way, Handle, Position, root_itself, holds, Todo, todo, After, gives, onward, judges, Walking, opening, reading, rising, judging, duping, ending, closing, Turn, more, found, partial, failed, names_of, handles_of, is_dir_position, is_followed, gives_up, at_end, in_directory, on_part, on_own, on_parts, goes_on, begins, closes, refusal_of, with_room, follows_link, enters, refused_open, from_link, read_text, end_of, judged, refused_rise, take, Line, LeadsTo, walks, has_room, answer_of}
 use Rattle.step_resolver.specs.StepCount.{parts_in, to_come, to_come_at, to_come_after, brought, passed, passed_from, parts_passed, StepsByPartsPassed}
 use Rattle.step_resolver.proofs.WalkSteps.{one_handle}
 
@@ -217,12 +218,8 @@ module _ (way : Way) where
 
   lines_paid : (lines : List Line) (turn end : Turn) → LeadsTo way turn lines end → length lines ≤ spends_at turn + 4 * parts_passed way turn lines
   lines_paid [] turn end leads = omega arith
-  lines_paid (answered step answer ∷ lines) (more walk) end leads =
-      omega (arith, take_pays true walk answer, lines_paid lines (take way true walk answer) end leads.1)
-  lines_paid (no_room step answer ∷ lines) (more walk) end leads =
-      omega (arith, take_pays false walk answer, lines_paid lines (take way false walk answer) end leads.1)
-  lines_paid (not_made error ∷ lines) (more walk) end leads =
-      omega (arith, take_pays true walk (Refused error), lines_paid lines (take way true walk (Refused error)) end leads.1.1)
+  lines_paid (line ∷ lines) (more walk) end leads =
+      omega (arith, take_pays (has_room line) walk (answer_of line), lines_paid lines (taken (walks way) walk line) end leads.1)
   lines_paid (line ∷ lines) (found handle names) end leads = absurd leads
   lines_paid (line ∷ lines) (partial handle names rest) end leads = absurd leads
   lines_paid (line ∷ lines) (failed error) end leads = absurd leads

@@ -1,5 +1,5 @@
 -- The first step of clearing is refused ENOTDIR where the walk's object is no directory, and the call fails.
-use Rattle.std.specs.Prelude.{◌≡◌, ℕ, List, [], ◌∷◌, ◌++◌, true, false, not, Some, None, Ok, Err}
+use Rattle.std.specs.Prelude.{◌≡◌, ℕ, List, [], ◌∷◌, ◌++◌, false, not, Some, None, Ok, Err}
 use Rattle.std.proofs.Common.{ap, subst, ◌∙◌, inl, inr}
 use Rattle.path_text.specs.declared.errno.Errno.{Errno}
 use Rattle.path_text.specs.declared.errno.Errno.TheVariants.{NotFound, BadHandle, NoMemory, BookFull, NotDir, IsDir}
@@ -12,6 +12,7 @@ use Rattle.tree_model.specs.State.{State, child, is_dir, put_at}
 use Rattle.tree_model.specs.Steps.{refused, changes, outcome, held}
 use Rattle.tree_model.specs.Entries.{refuse_if, with_some}
 use Rattle.tree_model.specs.History.{IsLegal}
+use Rattle.step_machine.specs.Machine.{taken}
 use Rattle.step_resolver.specs.Order.{Way, Line, answered, no_room, not_made, IsWant, events_of}
 use Rattle.step_resolver.specs.Order as walk
 use Rattle.bulk_ops.specs.RemoveAllOrder.{Level, removes_file, fails, closing, clearing, Turn, more, removed, failed, walked, file_removed, LeadsTo}
@@ -20,12 +21,8 @@ use Rattle.bulk_ops.specs.RemoveAllOrder.{Level, removes_file, fails, closing, c
 pub after_walk : (way : Way) (target : List ℕ) (lines rest : List Line) (first turn : walk.Turn) (end : Turn) → walk.LeadsTo way first lines turn
     → LeadsTo (walked way target first) (lines ++ rest) end → LeadsTo (walked way target turn) rest end
 after_walk way target [] rest first turn end walks leads = subst (λ t. LeadsTo (walked way target t) rest end) walks leads
-after_walk way target (answered step answer ∷ lines) rest (walk.more w) turn end walks leads =
-    after_walk way target lines rest (walk.take way true w answer) turn end walks.1 leads.1
-after_walk way target (no_room step answer ∷ lines) rest (walk.more w) turn end walks leads =
-    after_walk way target lines rest (walk.take way false w answer) turn end walks.1 leads.1
-after_walk way target (not_made error ∷ lines) rest (walk.more w) turn end walks leads =
-    after_walk way target lines rest (walk.take way true w (Refused error)) turn end walks.1.1 leads.1.1
+after_walk way target (line ∷ lines) rest (walk.more w) turn end walks leads =
+    after_walk way target lines rest (taken (walk.walks way) w line) turn end walks.1 leads.1
 after_walk way target (line ∷ lines) rest (walk.found handle names) turn end walks leads = absurd walks
 after_walk way target (line ∷ lines) rest (walk.partial handle names parts) turn end walks leads = absurd walks
 after_walk way target (line ∷ lines) rest (walk.failed error) turn end walks leads = absurd walks
@@ -40,9 +37,7 @@ closing_fails h error lines count leads = on lines leads
 
     on : (ls : List Line) → LeadsTo (more (closing h [] (fails error))) ls (removed count) → ⊥
     on [] e = cc (e)
-    on (answered step answer ∷ rest) e = over rest e.1
-    on (no_room step answer ∷ rest) e = over rest e.1
-    on (not_made cause ∷ rest) e = over rest e.1.1
+    on (line ∷ rest) e = over rest e.1
 
 file_refused : (s : State) (a h d : ℕ) (n : List ℕ) → held s a h ≡ Some d → is_dir s.nodes d ≡ false → outcome s a (RemoveFile h n) ≡ refused s NotDir
 file_refused s a h d n there none =
@@ -70,7 +65,7 @@ module _ (s : State) (a h d : ℕ) (target : List ℕ) (open_there : held s a h 
   removes_none [] leads legal = cc (leads)
   removes_none (answered step answer ∷ rest) leads legal = on_answer answer rest (told step answer leads.0 legal.0) leads.1
   removes_none (no_room step answer ∷ rest) leads legal = on_answer answer rest (told step answer leads.0 legal.0) leads.1
-  removes_none (not_made error ∷ rest) leads legal = on_want error rest leads.0 leads.1.1
+  removes_none (not_made error ∷ rest) leads legal = on_want error rest leads.0.0 leads.1
 
 -- what follows equal fronts is equal
 abbrev rest_of : List Event → List Event

@@ -20,7 +20,6 @@ use Rattle.step_resolver.specs.Footprint.{IsMeant, is_want}
 use Rattle.step_resolver.specs.FootprintLaws.{IsQuiet}
 use Rattle.step_resolver.specs.FootprintLaws as quiet_walk
 use Rattle.step_resolver.specs.WalkHistory.{WalkInHistory, IsWalkInHistory, begin_of, end_of, state_at, timeline}
-use Rattle.step_resolver.proofs.Ends.EveryWalk.{walks_tell}
 use Rattle.step_resolver.proofs.Ends.WalksMean.{quiet_walks_mean}
 use Rattle.step_resolver.proofs.DrivenWalks.{joined_events}
 use Rattle.bulk_ops.specs.RemoveAllOrder.{Turn, more, removed, failed, walked, begins, LeadsTo}
@@ -59,7 +58,7 @@ fails_so w (fails cause reads) error e is = record { reads = reads; means = e �
 
 module _ (w : WalkInHistory) (target : List ℕ) (is : IsWalkInHistory w) (quiet : IsQuiet w) (shallow : is_deepest w.way.goal ≡ false) (parts : Parts w) where
   abbrev first : WalkInHistory
-  first = walk_part w parts.walk_window parts.walk_lines
+  first = walk_part w parts.walked.window parts.walked.lines
 
   abbrev second : WalkInHistory
   second = clearing_part w parts
@@ -68,63 +67,63 @@ module _ (w : WalkInHistory) (target : List ℕ) (is : IsWalkInHistory w) (quiet
   dir = parts.handle.node
 
   first_quiet : IsQuiet first
-  first_quiet t event e = quiet t event (ap (λ es. slice_get es t) parts.windows ∙ in_front parts.walk_window parts.window t event e)
+  first_quiet t event e = quiet t event (ap (λ es. slice_get es t) parts.walked.windows ∙ in_front parts.walked.window parts.walked.later t event e)
 
   second_quiet : IsQuiet second
   second_quiet t event e =
-      let there = behind parts.walk_window parts.window t event e in
-      quiet there.0 event (ap (λ es. slice_get es there.0) parts.windows ∙ there.1)
+      let there = behind parts.walked.window parts.walked.later t event e in
+      quiet there.0 event (ap (λ es. slice_get es there.0) parts.walked.windows ∙ there.1)
 
   walk_end : quiet_walk.IsQuietEnd first (walk.found parts.handle parts.names)
-  walk_end = quiet_walks_mean first (walk.found parts.handle parts.names) parts.is_walk parts.walked tt first_quiet refl
+  walk_end = quiet_walks_mean first (walk.found parts.handle parts.names) parts.walked.is_walk parts.walked.leads tt first_quiet refl
 
   pub found : IsFoundAt w dir
   found = found_at w (directory_means w) parts.handle parts.names refl (walk_end.means shallow)
 
   begins_there : begin_of second ≡ end_of first
-  begins_there = after_events-append w.opening w.before parts.walk_window
+  begins_there = after_events-append w.opening w.before parts.walked.window
 
   same_nodes_there : (begin_of second).nodes ≡ (begin_of w).nodes
   same_nodes_there = ap (λ s. s.nodes) begins_there ∙ walk_end.nodes
 
   ends_there : end_of second ≡ end_of w
   ends_there =
-      ap (λ s. after_events s parts.window) begins_there
-      ∙ sym (after_events-append (begin_of w) parts.walk_window parts.window) ∙ ap (after_events (begin_of w)) (sym parts.windows)
+      ap (λ s. after_events s parts.walked.later) begins_there
+      ∙ sym (after_events-append (begin_of w) parts.walked.window parts.walked.later) ∙ ap (after_events (begin_of w)) (sym parts.walked.windows)
 
   state : IsState (begin_of second)
-  state = (histories_keep_trees w.opening (w.before ++ parts.walk_window) is.tree).0
+  state = (histories_keep_trees w.opening (w.before ++ parts.walked.window) is.tree).0
 
-  legal : IsLegal (begin_of second) parts.window
-  legal = subst (λ s. IsLegal s parts.window) (sym begins_there)
-      (IsLegal-back (begin_of w) parts.walk_window parts.window (subst (IsLegal (begin_of w)) parts.windows is.legal))
+  legal : IsLegal (begin_of second) parts.walked.later
+  legal = subst (λ s. IsLegal s parts.walked.later) (sym begins_there)
+      (IsLegal-back (begin_of w) parts.walked.window parts.walked.later (subst (IsLegal (begin_of w)) parts.walked.windows is.legal))
 
-  last_nodes : (state_at second (length parts.window)).nodes ≡ (end_of w).nodes
-  last_nodes = ap (λ s. s.nodes) ((trees_begin_and_end (begin_of second) parts.window).1 ∙ ends_there)
+  last_nodes : (state_at second (length parts.walked.later)).nodes ≡ (end_of w).nodes
+  last_nodes = ap (λ s. s.nodes) ((trees_begin_and_end (begin_of second) parts.walked.later).1 ∙ ends_there)
 
   -- all removals are those of clearing
-  removals_there : removals w.lines ≡ removal_events parts.window
+  removals_there : removals w.lines ≡ removal_events parts.walked.later
   removals_there =
       let whole : removal_events w.window ≡ removals w.lines =
       ap removal_events (sym (all_own w.actor w.window quiet) ∙ is.own) ∙ sym (removals-events w.actor w.lines) in
-      let halves : removal_events w.window ≡ removal_events parts.walk_window + removal_events parts.window =
-      ap removal_events parts.windows ∙ removal_events-append parts.walk_window parts.window in
-      let front : removal_events parts.walk_window ≡ removal_events (events_of w.actor parts.walk_lines) =
-      ap removal_events (sym (all_own w.actor parts.walk_window first_quiet) ∙ parts.is_walk.own) in
-      let lines : removals w.lines ≡ removal_events (events_of w.actor parts.walk_lines) + removal_events (events_of w.actor parts.lines) =
-      ap removals parts.all_lines ∙ removals-events w.actor (parts.walk_lines ++ parts.lines)
-      ∙ ap removal_events (joined_events w.actor parts.walk_lines parts.lines)
-      ∙ removal_events-append (events_of w.actor parts.walk_lines) (events_of w.actor parts.lines) in
-      let none : removals w.lines ≡ removal_events (events_of w.actor parts.lines) =
-      ap removals parts.all_lines
-      ∙ walk_removes_none w.way target parts.walk_lines parts.lines (walk.begins w.way w.path) (walk.found parts.handle parts.names) parts.walked
-      ∙ removals-events w.actor parts.lines in
+      let halves : removal_events w.window ≡ removal_events parts.walked.window + removal_events parts.walked.later =
+      ap removal_events parts.walked.windows ∙ removal_events-append parts.walked.window parts.walked.later in
+      let front : removal_events parts.walked.window ≡ removal_events (events_of w.actor parts.walked.lines) =
+      ap removal_events (sym (all_own w.actor parts.walked.window first_quiet) ∙ parts.walked.is_walk.own) in
+      let lines : removals w.lines ≡ removal_events (events_of w.actor parts.walked.lines) + removal_events (events_of w.actor parts.walked.rest) =
+      ap removals parts.walked.all_lines ∙ removals-events w.actor (parts.walked.lines ++ parts.walked.rest)
+      ∙ ap removal_events (joined_events w.actor parts.walked.lines parts.walked.rest)
+      ∙ removal_events-append (events_of w.actor parts.walked.lines) (events_of w.actor parts.walked.rest) in
+      let none : removals w.lines ≡ removal_events (events_of w.actor parts.walked.rest) =
+      ap removals parts.walked.all_lines
+      ∙ walk_removes_none w.way target parts.walked.lines parts.walked.rest (walk.begins w.way w.path) (walk.found parts.handle parts.names) parts.walked.leads
+      ∙ removals-events w.actor parts.walked.rest in
       omega (arith, whole, halves, front, lines, none)
 
   removes_all : OnlyTakesAway second dir target → (last : IsLastOnTarget second dir target)
-      → (state_at second (length parts.window)).nodes ≡ cleared (begin_of second).nodes dir target
+      → (state_at second (length parts.walked.later)).nodes ≡ cleared (begin_of second).nodes dir target
   removes_all only last =
-      cleared_at second state legal second_quiet dir target only last (length parts.window) (slice_get_within parts.window last.when _ last.event)
+      cleared_at second state legal second_quiet dir target only last (length parts.walked.later) (slice_get_within parts.walked.later last.when _ last.event)
 
   -- each node at the end is as it was, or as it is where all is cleared
   pub partly : OnlyTakesAway second dir target → (x : ℕ)
@@ -132,19 +131,19 @@ module _ (w : WalkInHistory) (target : List ℕ) (is : IsWalkInHistory w) (quiet
   partly only x =
       subst (λ ns. (slice_get (end_of w).nodes x ≡ slice_get ns x) ⊎ (slice_get (end_of w).nodes x ≡ slice_get (cleared ns dir target) x)) same_nodes_there
       (subst (λ ns. (slice_get ns x ≡ slice_get (begin_of second).nodes x) ⊎ (slice_get ns x ≡ slice_get (cleared (begin_of second).nodes dir target) x)) last_nodes
-      (partly_cleared second state legal second_quiet dir target only (length parts.window) x))
+      (partly_cleared second state legal second_quiet dir target only (length parts.walked.later) x))
 
   -- what is no directory has nothing to be cleared
   pub nothing_cleared : OnlyTakesAway second dir target → is_dir (begin_of w).nodes dir ≡ false → (end_of w).nodes ≡ (begin_of w).nodes
   nothing_cleared only no_dir =
-      sym last_nodes ∙ none_taken second state legal second_quiet dir target only no_entry (length parts.window) ∙ same_nodes_there
+      sym last_nodes ∙ none_taken second state legal second_quiet dir target only no_entry (length parts.walked.later) ∙ same_nodes_there
     where
       no_entry : (x : ℕ) → place_at (begin_of second).nodes x ≢ Some (entry dir target)
       no_entry x p = false≢true (sym (ap (λ ns. is_dir ns dir) same_nodes_there ∙ no_dir) ∙ state.tree.parents_are_dirs x (entry dir target) p)
 
   rows_fall : OnlyTakesAway second dir target
-      → placed (begin_of second).nodes ≡ removal_events parts.window + placed (state_at second (length parts.window)).nodes
-  rows_fall only = falls (λ t. placed (state_at second t).nodes) parts.window (one_fewer second state legal second_quiet dir target only)
+      → placed (begin_of second).nodes ≡ removal_events parts.walked.later + placed (state_at second (length parts.walked.later)).nodes
+  rows_fall only = falls (λ t. placed (state_at second t).nodes) parts.walked.later (one_fewer second state legal second_quiet dir target only)
 
   abbrev goes : ℕ → Bool
   goes = is_at_or_below (begin_of second).nodes (child (begin_of second).nodes dir target)
@@ -155,26 +154,26 @@ module _ (w : WalkInHistory) (target : List ℕ) (is : IsWalkInHistory w) (quiet
       placed-without goes 0 (begin_of second).nodes
       (λ x j e g. goes_stood second state legal second_quiet dir target only x (ap goes (omega arith) ∙ g))
 
-  pub window_is : parts.window ≡ events_of w.actor parts.lines
-  window_is = same_rest parts.walk_window parts.window (events_of w.actor parts.lines)
-      (sym parts.windows ∙ sym (all_own w.actor w.window quiet) ∙ is.own ∙ ap (events_of w.actor) parts.all_lines
-      ∙ joined_events w.actor parts.walk_lines parts.lines
-      ∙ ap (λ es. es ++ events_of w.actor parts.lines) (sym parts.is_walk.own ∙ all_own w.actor parts.walk_window first_quiet))
+  pub window_is : parts.walked.later ≡ events_of w.actor parts.walked.rest
+  window_is = same_rest parts.walked.window parts.walked.later (events_of w.actor parts.walked.rest)
+      (sym parts.walked.windows ∙ sym (all_own w.actor w.window quiet) ∙ is.own ∙ ap (events_of w.actor) parts.walked.all_lines
+      ∙ joined_events w.actor parts.walked.lines parts.walked.rest
+      ∙ ap (λ es. es ++ events_of w.actor parts.walked.rest) (sym parts.walked.is_walk.own ∙ all_own w.actor parts.walked.window first_quiet))
 
   -- what is no directory is never cleared
   in_directory : (count : ℕ) → LeadsTo (begins w.way target w.path) w.lines (removed count) → is_dir (begin_of w).nodes dir ≡ true
   in_directory count leads = on (is_dir (begin_of second).nodes dir) refl
     where
-      cleared_there : LeadsTo (walked w.way target (walk.found parts.handle parts.names)) parts.lines (removed count)
-      cleared_there = after_walk w.way target parts.walk_lines parts.lines (walk.begins w.way w.path) (walk.found parts.handle parts.names) (removed count) parts.walked
-          (subst (λ ls. LeadsTo (begins w.way target w.path) ls (removed count)) parts.all_lines leads)
+      cleared_there : LeadsTo (walked w.way target (walk.found parts.handle parts.names)) parts.walked.rest (removed count)
+      cleared_there = after_walk w.way target parts.walked.lines parts.walked.rest (walk.begins w.way w.path) (walk.found parts.handle parts.names) (removed count) parts.walked.leads
+          (subst (λ ls. LeadsTo (begins w.way target w.path) ls (removed count)) parts.walked.all_lines leads)
 
       open_there : held (begin_of second) w.actor parts.handle.number ≡ Some dir
-      open_there = ap (λ s. held s w.actor parts.handle.number) begins_there ∙ parts.opens.new.is_open
+      open_there = ap (λ s. held s w.actor parts.handle.number) begins_there ∙ parts.walked.headline.tells.new.is_open
 
       on : (b : Bool) → is_dir (begin_of second).nodes dir ≡ b → is_dir (begin_of w).nodes dir ≡ true
       on true q = ap (λ ns. is_dir ns dir) (sym same_nodes_there) ∙ q
-      on false q = absurd (removes_none (begin_of second) w.actor parts.handle.number dir target open_there q _ count parts.lines cleared_there
+      on false q = absurd (removes_none (begin_of second) w.actor parts.handle.number dir target open_there q _ count parts.walked.rest cleared_there
           (subst (IsLegal (begin_of second)) window_is legal))
 
   removed_so : (count : ℕ) → LeadsTo (begins w.way target w.path) w.lines (removed count) → OnlyTakesAway second dir target → IsLastOnTarget second dir target → count ≡ removals w.lines → QuietRemoved w target count
@@ -182,7 +181,7 @@ module _ (w : WalkInHistory) (target : List ℕ) (is : IsWalkInHistory w) (quiet
       let all = removes_all only last in
       let fall = rows_fall only in
       let clear = rows_cleared only in
-      let same : placed (state_at second (length parts.window)).nodes ≡ placed (cleared (begin_of second).nodes dir target) = ap placed all in
+      let same : placed (state_at second (length parts.walked.later)).nodes ≡ placed (cleared (begin_of second).nodes dir target) = ap placed all in
       let there = removals_there in
       let rows : count ≡ cleared_rows (begin_of second).nodes dir target = omega (arith, fall, clear, same, counted, there) in
       record {
@@ -195,14 +194,14 @@ module _ (w : WalkInHistory) (target : List ℕ) (is : IsWalkInHistory w) (quiet
 
   no_directory : OnlyTakesAway second dir target → is_directory ((timeline second).object_of dir) ≡ false → QuietFailed w NotDir
   no_directory only none = record {
-    nodes = sym last_nodes ∙ none_taken second state legal second_quiet dir target only no_entry (length parts.window) ∙ same_nodes_there;
+    nodes = sym last_nodes ∙ none_taken second state legal second_quiet dir target only no_entry (length parts.walked.later) ∙ same_nodes_there;
     why = inr (record { is_not_dir = refl; dir = dir; found = found; no_dir = ap (λ ns. is_dir ns dir) (sym same_nodes_there) ∙ no_dir });
   }
     where
       no_dir : is_dir (begin_of second).nodes dir ≡ false
       no_dir =
-          ap is_directory (sym (objects second state legal second_quiet dir target only (length parts.window) dir)
-          ∙ ap (λ s. object_at s.nodes dir) (trees_begin_and_end (begin_of second) parts.window).1) ∙ none
+          ap is_directory (sym (objects second state legal second_quiet dir target only (length parts.walked.later) dir)
+          ∙ ap (λ s. object_at s.nodes dir) (trees_begin_and_end (begin_of second) parts.walked.later).1) ∙ none
 
       no_entry : (x : ℕ) → place_at (begin_of second).nodes x ≢ Some (entry dir target)
       no_entry x p = false≢true (sym no_dir ∙ state.tree.parents_are_dirs x (entry dir target) p)
@@ -260,4 +259,4 @@ quietly w target (failed error) is quiet shallow leads tells = on tells.why
     on (inr given) enough = given_up w target is quiet shallow given.parts error given.entries given.fault enough
 
 pub quiet_remove_all : QuietRemoveAll
-quiet_remove_all w target end is shallow leads quiet = quietly w target end is quiet shallow leads (every_call_tells walks_tell w target end is shallow leads)
+quiet_remove_all w target end is shallow leads quiet = quietly w target end is quiet shallow leads (every_call_tells w target end is shallow leads)

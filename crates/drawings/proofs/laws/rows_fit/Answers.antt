@@ -1,4 +1,4 @@
-use Rattle.drawings.proofs.Widths.{rows_fit, marks_fit, heading_fits}
+use Rattle.drawings.proofs.Widths.{rows_fit, marks_fit, heading_fits, legend_fits}
 use Rattle.drawings.proofs.laws.rows_fit.Goals as goal
 
 pub returns-clause-rows : goal.returns-clause-rows
@@ -9,3 +9,6 @@ returns-clause-marks c = marks_fit
 
 pub returns-clause-heading : goal.returns-clause-heading
 returns-clause-heading c = heading_fits
+
+pub returns-clause-legend : goal.returns-clause-legend
+returns-clause-legend c = legend_fits

@@ -5,4 +5,4 @@ use Rattle.drawings.proofs.text.line_rows.Given as goal
 
 -- what is written and what is left to write make the whole
 abbrev pub invariant-loop-line : goal.invariant-loop-line
-invariant-loop-line l = l.out ++ flat_map (line_row l.fn.actors) (drop l.line-index l.lines) ≡ l.fn.out ++ flat_map (line_row l.fn.actors) l.lines
+invariant-loop-line l = l.out ++ flat_map (line_row l.fn.actors l.fn.columns l.fn.colours) (drop l.line-index l.lines) ≡ l.fn.out ++ flat_map (line_row l.fn.actors l.fn.columns l.fn.colours) l.lines

@@ -2,4 +2,4 @@ use Rattle.race_core.proofs.ReportsTell.{calls_in_reports}
 use Rattle.race_core.proofs.world_laws.calls_tell_in_reports.Goals as goal
 
 pub returns : goal.returns
-returns c = calls_in_reports c.calls_tell.ensures c.quiet_calls_mean.ensures c.calls_act.ensures c.bulk_calls_tell.ensures
+returns c = calls_in_reports c.each_call_tells.ensures

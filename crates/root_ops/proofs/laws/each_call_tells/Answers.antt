@@ -9,8 +9,8 @@ pub returns : goal.returns
 returns laws c reply is leads = record {
   handles = laws.calls_tell.ensures c (reply_view reply) is leads;
   quiet = laws.quiet_calls_mean.ensures c (reply_view reply) is leads;
-  walked = λ goal path first room. walks_first laws.headline.ensures c (reply_view reply) is leads c.op goal path refl room first;
+  walked = λ goal path first room. walks_first c (reply_view reply) is leads c.op goal path refl room first;
   acts = laws.calls_act.ensures c (reply_view reply) is leads;
-  resolved = resolve_tells laws.headline.ensures c reply is leads c.op refl;
+  resolved = resolve_tells c reply is leads c.op refl;
   bulk = bulk_tells laws.bulk_calls_tell.ensures c reply is leads c.op refl;
 }

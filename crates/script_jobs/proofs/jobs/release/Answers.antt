@@ -12,4 +12,4 @@ returns g c =
     let asks : release_of standing ≡ request = search rules in
     let actor : standing.owner.actor ≡ c.number-at.result = search rules in
     released c.args.service.now standing c.args.sessions.now c.number-at.result c.index-sessions-at.result c.call-done.new.self request c.call-done.result
-    c.requires actor asks (c.call-done.ensures.called, c.call-done.ensures.stranger)
+    c.requires.in_place c.requires.ours actor asks (c.call-done.ensures.called, c.call-done.ensures.stranger)

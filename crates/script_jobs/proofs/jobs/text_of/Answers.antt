@@ -16,8 +16,10 @@ release_all-requires g c =
     let end = c.in_ok-served.served in
     let served : IsServed at.service at.jobs.items at.sessions.items end.sessions.items end.replies.items =
     subst (λ (js : List Request). IsServed at.service js at.sessions.items end.sessions.items end.replies.items) c.deref.ensures.value c.in_ok-served.ensures in
+    let can =
     can_release c.args.workers said at.service at.sessions.items at.jobs.items end.sessions.items c.as_mut_slice.result.now end.replies.items c.in_ok-outcomes.opened.items
-    c.in_ok-service.ensures.begun served c.in_ok-outcomes.ensures.opened c.as_mut_slice.ensures.value
+    c.in_ok-service.ensures.begun served c.in_ok-outcomes.ensures.opened c.as_mut_slice.ensures.value in
+    record { in_place = can.0; ours = can.1 }
 
 pub returns-in-Err-clause-text : goal.returns-in-Err-clause-text
 returns-in-Err-clause-text g c =

@@ -1,5 +1,4 @@
-use Rattle.std.proofs.Common.{◌≡◌, ◌+◌, ◌<◌, ◌≤◌, length, take, refl, sym, ◌∙◌, subst}
-use Rattle.step_resolver.specs.WalkHistory.{own_events}
+use Rattle.std.proofs.Common.{◌<◌, subst}
 use Rattle.sessions.proofs.Closes.{not_own, is_own, lacks}
 use Rattle.sessions.proofs.close.is_own.Goals as goal
 

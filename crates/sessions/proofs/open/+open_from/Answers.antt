@@ -1,4 +1,4 @@
-use Rattle.std.proofs.Common.{◌≡◌, ◌++◌, ◌∷◌, [], ◌∙◌, ap, sym}
+use Rattle.std.proofs.Common.{◌∙◌, sym}
 use Rattle.sessions.proofs.Opens.{sessions_on, back_on, as_it_is, when_ok}
 use Rattle.sessions.proofs.open.+open_from.Goals as goal
 

@@ -13,5 +13,5 @@ pub loop-at-preserved : goal.loop-at-preserved
 loop-at-preserved g c = (
   sym (adds_all_more c.loop-at.at _ _ c.args.entries.now _ c.loop-at-test.true c.index-entries-at.is c.in-Ok.ensures.added) ∙ c.loop-at.invariant.0,
   adds_all_take_more 0 c.loop-at.at _ _ _ c.args.entries.now _ c.loop-at-test.true c.index-entries-at.is c.in-Ok.ensures.added c.loop-at.invariant.1,
-  λ before is. subst (λ e. StandsIn (g.N.GrowingNodes.inodes c.add.new.nodes) e.at c.in-Ok.dir) (entry_before c.args.entries.now c.loop-at.at _ before c.loop-at-test.true c.index-entries-at.is is) c.in-Ok.ensures.dir,
+  λ before is. subst (λ e. StandsIn (g.N.GrowingNodes.inodes c.add.new.nodes) e.at c.in-Ok.parent) (entry_before c.args.entries.now c.loop-at.at _ before c.loop-at-test.true c.index-entries-at.is is) c.in-Ok.ensures.parent,
 )

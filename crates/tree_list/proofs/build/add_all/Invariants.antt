@@ -3,8 +3,8 @@ use Rattle.tree_list.specs.Build.{adds_all, StandsIn}
 use Rattle.tree_list.specs.declared.build.Entry.{Entry}
 use Rattle.tree_list.proofs.build.add_all.Given as goal
 
--- The entries before this one are added, and with those that are left they make the whole. If a directory is known, the
--- entry before this one stands in it.
+-- The entries before this one are added, and with those that are left they make the whole. If a parent is known, the
+-- entry before this one stands below it.
 abbrev pub invariant-loop-at : goal.invariant-loop-at
 invariant-loop-at g l =
     let inodes = g.N.GrowingNodes.inodes in

@@ -1,6 +1,5 @@
-use Rattle.step_resolver.proofs.Ends.EveryWalk.{walks_tell}
 use Rattle.bulk_ops.proofs.RemovingAll.EachEnd.{every_call_tells}
 use Rattle.bulk_ops.proofs.remove_all.laws.remove_all_tells.Goals as goal
 
 pub returns : goal.returns
-returns c = every_call_tells walks_tell
+returns c = every_call_tells

@@ -10,4 +10,4 @@ pub invariant_of-self : goal.invariant_of-self
 invariant_of-self c =
     (push_log c.self.inside.bytes.items c.self.inside.bytes.items c.self.inside.records.items c.self.inside.records.items c.push_reserved.new.self.items
     c.len.result c.args.actor (Close c.args.handle) Done (step_shape (Close c.args.handle)) (answer_shape Done)
-    c.self.invariant tt tt refl (c.len.ensures ∙ c.self.inside.bytes.ok.0) refl refl (sym (append-nil c.self.inside.bytes.items)) c.self.invariant.short c.push_reserved.ensures.items).0
+    c.self.invariant tt tt refl (c.len.ensures ∙ c.self.inside.bytes.ok.0) refl refl (sym (append-nil c.self.inside.bytes.items)) c.push_reserved.ensures.items).0

@@ -1,4 +1,4 @@
-use Rattle.std.proofs.Common.{◌≡◌, ◌++◌, ◌∙◌, ap, List, length, refl}
+use Rattle.std.proofs.Common.{◌++◌, ◌∙◌, ap, List, length, refl}
 use Rattle.sessions.specs.Open.{first_sessions}
 use Rattle.sessions.specs.Session.{SessionView}
 use Rattle.sessions.proofs.Opens.{opening_none, opened_whole}

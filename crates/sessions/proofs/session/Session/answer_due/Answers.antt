@@ -1,4 +1,4 @@
-use Rattle.std.proofs.Common.{◌≡◌, ◌∙◌, sym, refl, inr, ℕ}
+use Rattle.std.proofs.Common.{◌≡◌, ◌∙◌, refl, inr, ℕ}
 use Rattle.root_ops.specs.Order.{due}
 use Rattle.tree_model.specs.declared.step.StepOf.TheVariants.{Close}
 use Rattle.root_ops.proofs.Refusals.{unmade}

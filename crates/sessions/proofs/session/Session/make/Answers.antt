@@ -1,4 +1,4 @@
-use Rattle.std.proofs.Common.{◌≡◌, ◌≤◌, ◌+◌, suc, arith}
+use Rattle.std.proofs.Common.{◌≤◌, suc, arith}
 use Rattle.sessions.proofs.Logs.{made}
 use Rattle.sessions.proofs.session.Session.make.Goals as goal
 

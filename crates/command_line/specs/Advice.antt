@@ -1,0 +1,37 @@
+-- What is told in the line after a fault: the limit that was met, and what helps.
+use Rattle.std.specs.Prelude.{ℕ, List, [], ◌++◌, nat_lt, if◌then◌else◌, codes, decimal}
+use Rattle.command_line.specs.declared.advice.TheConstants.{STATES_MAX}
+use Rattle.command_line.specs.declared.ending.Fault.{Fault}
+use Rattle.command_line.specs.declared.ending.Fault.TheVariants.{Usage, NotUtf8, Schedule, AskedTurn, AskedTurns, Width, Color, NoRequest, Run, Options, PropertyFails, ExploreActor, ExploreProperty, ExploreStates, ExploreTurns, ExploreBegin, ExploreCuts, Merge, DrawActors, DrawLines, Service}
+use Rattle.scripts.specs.declared.fault.RunFault.TheVariants.{BookFull}
+
+-- more may be asked for, up to a limit
+abbrev pub states_advice : ℕ → List ℕ
+states_advice states =
+    codes "more than " ++ (decimal states ++ (
+    if nat_lt states STATES_MAX then codes " states; --states takes up to 10000000"
+    else codes " states; --cuts and --begin leave fewer"))
+
+abbrev pub turn_advice : ℕ → List ℕ → List ℕ
+turn_advice at words = codes "turn " ++ (decimal at ++ words)
+
+abbrev pub actor_advice : ℕ → List ℕ
+actor_advice actor = codes "--actor " ++ (decimal actor ++ codes " is none of the script's; its first actor is 0")
+
+-- where there is no more to tell it is nothing
+abbrev pub advice_of : Fault → ℕ → List ℕ
+advice_of (AskedTurn at) states = codes "a turn is an actor's number, counted from 0"
+advice_of AskedTurns states = codes "a schedule has at most 100000 turns"
+advice_of (ExploreActor actor) states = actor_advice actor
+advice_of (ExploreProperty place) states =
+    codes "no report of the script has such a line; properties count from 0, those of --never first"
+advice_of ExploreStates states = states_advice states
+advice_of ExploreTurns states = codes "a schedule has more than 100000 turns, and no option takes more"
+advice_of (ExploreBegin at) states =
+    turn_advice at (codes " of --begin, counted from 0, is of an actor who has nothing left to do")
+advice_of (ExploreCuts at) states =
+    turn_advice at (codes " of --begin, counted from 0, makes more cuts than --cuts takes")
+advice_of DrawActors states = codes "a picture has at most 4 actors"
+advice_of DrawLines states = codes "a picture has at most 2000 lines, and its run 2000 events"
+advice_of (Run BookFull) states = codes "\"lines\" is too small: each actor, or each worker of run, has one"
+advice_of other states = []

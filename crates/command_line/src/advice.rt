@@ -1,0 +1,96 @@
+//! What is told in the line after a fault: the limit that was met, and what helps.
+ghost use Rattle.std.specs.Prelude.{◌++◌, decimal};
+ghost use Rattle.step_text.specs.Output.{Gains};
+ghost use Rattle.command_line.specs.Advice.{states_advice, turn_advice, actor_advice, advice_of};
+
+use crate::ending::Fault;
+use path_text::NoMemory;
+use scripts::RunFault;
+use step_text::Output;
+
+/// The most states that may be asked for.
+const STATES_MAX: u64 = 10_000_000;
+
+// Adds a number between two texts.
+fn add_number(out: &mut Output, before: &str, number: u64, after: &str) -> Result<(), NoMemory>
+    ensures { Gains out.old out.new (before.now ++ (decimal number ++ after.now)) result }
+{
+    out.text(before)?;
+    out.number(number)?;
+    out.text(after)
+}
+
+// Adds what is told of a search that may go through so many states.
+fn add_states(out: &mut Output, states: u64) -> Result<(), NoMemory>
+    ensures { Gains out.old out.new (states_advice states) result }
+{
+    if states < STATES_MAX {
+        return add_number(
+            out,
+            "more than ",
+            states,
+            " states; --states takes up to 10000000",
+        );
+    }
+    add_number(
+        out,
+        "more than ",
+        states,
+        " states; --cuts and --begin leave fewer",
+    )
+}
+
+// Adds what is told of a turn of a beginning.
+fn add_turn(out: &mut Output, at: usize, words: &str) -> Result<(), NoMemory>
+    ensures { Gains out.old out.new (turn_advice at words.now) result }
+{
+    add_number(out, "turn ", at as u64, words)
+}
+
+// Adds what is told of an actor who isn't there.
+fn add_actor(out: &mut Output, actor: u32) -> Result<(), NoMemory>
+    ensures { Gains out.old out.new (actor_advice actor) result }
+{
+    let number = u64::from(actor);
+    add_number(
+        out,
+        "--actor ",
+        number,
+        " is none of the script's; its first actor is 0",
+    )
+}
+
+/// Adds what is told in the line after a fault, without the line's end, and nothing where there is no more to tell.
+/// `states` is how many states a search may go through. NoMemory where room was refused.
+pub fn advise(out: &mut Output, fault: Fault, states: u64) -> Result<(), NoMemory>
+    ensures { Gains out.old out.new (advice_of fault states) result }
+{
+    match fault {
+        Fault::AskedTurn(_) => out.text("a turn is an actor's number, counted from 0"),
+        Fault::AskedTurns => out.text("a schedule has at most 100000 turns"),
+        Fault::ExploreActor(actor) => add_actor(out, actor),
+        Fault::ExploreProperty(_) => out.text(
+            "no report of the script has such a line; properties count from 0, those of --never first",
+        ),
+        Fault::ExploreStates => add_states(out, states),
+        Fault::ExploreTurns => {
+            out.text("a schedule has more than 100000 turns, and no option takes more")
+        }
+        Fault::ExploreBegin(at) => add_turn(
+            out,
+            at,
+            " of --begin, counted from 0, is of an actor who has nothing left to do",
+        ),
+        Fault::ExploreCuts(at) => add_turn(
+            out,
+            at,
+            " of --begin, counted from 0, makes more cuts than --cuts takes",
+        ),
+        Fault::DrawActors => out.text("a picture has at most 4 actors"),
+        Fault::DrawLines => out.text("a picture has at most 2000 lines, and its run 2000 events"),
+        Fault::Run(RunFault::BookFull) => {
+            out.text("\"lines\" is too small: each actor, or each worker of run, has one")
+        }
+        _ => Ok(()),
+    }
+}

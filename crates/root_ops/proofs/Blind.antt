@@ -1,0 +1,4 @@
+pub mod Walks
+pub mod Bulk
+pub mod Calls
+pub mod Lines

@@ -1,0 +1,3 @@
+pub mod Machines
+pub mod Runs
+pub mod Split

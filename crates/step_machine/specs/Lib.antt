@@ -1,0 +1,4 @@
+pub mod Told
+pub mod Machine
+pub mod Tells
+pub mod WorkedLookUp
