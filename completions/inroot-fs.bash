@@ -2,15 +2,18 @@
 _inroot_fs_options() {
     local own=
     case $1 in
-    resolve | stat) own='--nofollow' ;;
-    ls | readlink) own='--zero' ;;
+    resolve | stat | chown) own='--nofollow' ;;
+    realpath) own='--nofollow --zero' ;;
+    ls) own='--long --zero' ;;
+    readlink) own='--zero' ;;
     write) own='--mode --append --exclusive' ;;
     mkdir) own='--parents --mode' ;;
+    mknod) own='--mode' ;;
     rm) own='--recursive' ;;
     mv) own='--no-replace --exchange' ;;
     ln) own='--symbolic' ;;
     esac
-    echo "--beneath --no-links --help $own"
+    echo "--beneath --no-links --no-xdev --help $own"
 }
 
 # The names below ROOT that begin with the word. They are asked of inroot-fs itself, so that no link leads out of it.
@@ -31,7 +34,7 @@ _inroot_fs() {
         compopt -o filenames
         mapfile -t COMPREPLY < <(compgen -d -- "$word"; compgen -W '--help --version' -- "$word")
         ;;
-    2) mapfile -t COMPREPLY < <(compgen -W 'resolve cat ls readlink stat write mkdir rm rmdir mv ln' -- "$word") ;;
+    2) mapfile -t COMPREPLY < <(compgen -W 'resolve realpath cat ls readlink stat write mkdir mknod chmod chown rm rmdir mv ln' -- "$word") ;;
     *)
         if [[ $word == -* ]]; then
             mapfile -t COMPREPLY < <(compgen -W "$(_inroot_fs_options "${COMP_WORDS[2]}")" -- "$word")

@@ -7,7 +7,7 @@ _inroot() {
         case ${COMP_WORDS[1]} in
         walk) words='--beneath --no-links --strict --help' ;;
         replay) words='--schedule --strict --help' ;;
-        draw) words='--svg --all --schedule --strict --help' ;;
+        draw) words='--svg --all --width --color --schedule --strict --help' ;;
         run) words='--workers --strict --help' ;;
         explore) words='--actor --cuts --begin --part --merge --states --jobs --outside --never --always --strict --help' ;;
         esac

@@ -13,6 +13,8 @@ complete -c inroot -n '__fish_seen_subcommand_from walk' -l no-links -d 'Follow 
 complete -c inroot -n '__fish_seen_subcommand_from replay draw' -l schedule -x -d 'Take these turns'
 complete -c inroot -n '__fish_seen_subcommand_from draw' -l svg -d 'Draw as SVG'
 complete -c inroot -n '__fish_seen_subcommand_from draw' -l all -d 'Draw each close'
+complete -c inroot -n '__fish_seen_subcommand_from draw' -l width -x -d 'In so many columns'
+complete -c inroot -n '__fish_seen_subcommand_from draw' -l color -x -a 'never auto always' -d 'When to use colours'
 complete -c inroot -n '__fish_seen_subcommand_from run' -l workers -x -a '1 2 3 4 5 6 7 8' -d 'How many threads'
 complete -c inroot -n '__fish_seen_subcommand_from explore' -l actor -x -d 'Print the replies of this actor'
 complete -c inroot -n '__fish_seen_subcommand_from explore' -l cuts -x -d 'Take schedules with at most so many cuts'

@@ -1,7 +1,7 @@
 /*
- * ahead.c: the text of the path that is still to be walked, where each link that was followed is replaced by its
- * text. It is kept beside the proved call, which has its own. What is thought here tells which names may be passed
- * by one system call (runs.c), and what was left where a call failed. It decides nothing that the call tells.
+ * ahead.c: the rest of the path, with the text of each followed link in the link's place. The proved call has its own. The
+ * driver uses this one to pass several names by one system call (runs.c), and to report what was left of the path when a call
+ * failed. No answer depends on it.
  */
 #define _GNU_SOURCE
 #include "driver.h"
@@ -64,7 +64,7 @@ void inroot_ahead_dup(struct inroot_ahead *a)
     a->has_second = false;
 }
 
-/* Where the next name begins that is neither `.` nor `..`, or the end. */
+/* Where the next name begins, past any `.` and `..`; or the end. */
 static inline size_t next_name(const struct inroot_ahead *a)
 {
     size_t at = inroot_ahead_skip(a, a->at);
@@ -116,7 +116,7 @@ void inroot_ahead_put(struct inroot_ahead *a, const char *text, size_t length)
         a->known = false;
         return;
     }
-    /* With its NUL. */
+    /* The NUL moves along. */
     memmove(a->text + length, a->text + a->at, left + 1);
     memcpy(a->text, text, length);
     a->at = 0;

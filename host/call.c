@@ -9,10 +9,10 @@
 #include <time.h>
 #include <unistd.h>
 
-/* inroot.h tells the rule: so many tries, the first of them without a pause. */
+/* The rule of inroot.h: so many tries, and no pause between the first ones. */
 enum { TRIES = INROOT_TRIES, AT_ONCE = 8 };
 
-/* What the reply stands for. */
+/* Turns the reply into what the caller gets. */
 static ssize_t reply_of(struct inroot_driver *d, const struct inroot_told *told)
 {
     switch (told->what) {
@@ -29,7 +29,7 @@ static ssize_t reply_of(struct inroot_driver *d, const struct inroot_told *told)
     }
 }
 
-/* Makes the step that was told. Of a long path nearly all open the next name of a run or close it, without a system call. */
+/* Makes the step. In a long path most steps open or close the next name of a run, which takes no system call. */
 static struct inroot_result make(struct inroot_driver *d, const struct inroot_told *step, const char *room, char *text,
                                  size_t *length)
 {
@@ -49,7 +49,7 @@ static ssize_t converse(struct inroot_driver *d, const struct inroot_asked *numb
     struct inroot_told told;
     struct inroot_kept kept = {0};
     unsigned char *bytes = (unsigned char *)room;
-    /* Apart from the room, which the library writes to while it reads this. */
+    /* Not in the room: the library writes there while it reads this. */
     char text[INROOT_TEXT_MAX + 1];
     inroot_begin(numbers, (const unsigned char *)asked->first, d->first_length, (const unsigned char *)asked->second,
                  d->second_length, &kept, &told, bytes, INROOT_ROOM);
@@ -62,7 +62,8 @@ static ssize_t converse(struct inroot_driver *d, const struct inroot_asked *numb
             .node = result.handle,
             .what = (uint8_t)result.what,
             .kind = (uint8_t)result.kind,
-            .error = (uint8_t)result.error,
+            /* A number that has no byte is one of those that the model doesn't have: the driver keeps it itself. */
+            .error = result.error > UINT8_MAX ? EBADF : (uint8_t)result.error,
         };
         inroot_next(&kept, &answered, (const unsigned char *)(lists ? d->names : text), lists ? d->names_length : length,
                     &told, bytes, INROOT_ROOM);
@@ -79,7 +80,7 @@ static int check_root(int root)
     return S_ISDIR(about.st_mode) ? 0 : -ENOTDIR;
 }
 
-/* Leaves the current directory as it is promised. A thread that may no longer search its root is told so. */
+/* Puts the current directory back to the root, as promised. If the thread may no longer search its root, the call fails. */
 static ssize_t come_home(ssize_t result, bool opens)
 {
     if (chdir("/") == 0)
@@ -108,7 +109,7 @@ static void begin(struct inroot_driver *d, const struct inroot_request *asked)
     inroot_ahead_begin(d);
 }
 
-/* The reply, at once or by a conversation, of which nothing stays open but what is handed out. */
+/* Gets the reply, at once or by a conversation. Nothing stays open but what the caller gets. */
 static ssize_t reply_to(struct inroot_driver *d, int root, const struct inroot_request *asked, char *room)
 {
     struct inroot_asked numbers = {
@@ -120,25 +121,49 @@ static ssize_t reply_to(struct inroot_driver *d, int root, const struct inroot_r
     int fd = inroot_at_once(d, root, &numbers, room);
     if (fd >= 0)
         return fd;
+    int failed = inroot_own_root_check(d, root);
+    if (failed)
+        return failed;
     numbers.root = inroot_handles_begin(d, root);
     ssize_t result = converse(d, &numbers, room);
     inroot_run_drop(d);
     inroot_handles_end(d);
     free(d->names);
-    if (result < 0 && d->made >= 0)
-        close(d->made);
     return result;
+}
+
+/* Whether the call failed because the number of /proc is another file's by now, and has changed nothing yet. */
+static bool lost_proc(const struct inroot_driver *d, ssize_t result)
+{
+    return (result == -ENOSYS || result == -ENOTDIR) && d->removed == 0 && d->proc >= 0 && inroot_proc_is_lost(d->proc);
+}
+
+/* Gets the reply once more by another /proc, if there is one. */
+static ssize_t reply_by_another(struct inroot_driver *d, int root, const struct inroot_request *asked, char *room)
+{
+    bool is_own, moved = d->moved;
+    int proc = inroot_proc_open(true, &is_own);
+    if (proc < 0)
+        return proc;
+    begin(d, asked);
+    d->moved = moved;
+    d->proc = proc;
+    d->proc_is_own = is_own;
+    return reply_to(d, root, asked, room);
 }
 
 ssize_t inroot_once(struct inroot_driver *d, int root, const struct inroot_request *asked, char *room)
 {
     bool jailed = root == INROOT_JAIL;
+    int below = jailed ? INROOT_JAILED : root;
     begin(d, asked);
-    ssize_t result = reply_to(d, jailed ? INROOT_JAILED : root, asked, room);
+    ssize_t result = reply_to(d, below, asked, room);
+    if (lost_proc(d, result))
+        result = reply_by_another(d, below, asked, room);
     inroot_proc_end(d);
     if (d->moved)
         result = come_home(result, opens(asked));
-    /* A step tells of a root that is none. What comes before any step is told after that. */
+    /* If no step was made, nobody has looked at ROOT yet: EBADF and ENOTDIR come before the path's own errors. */
     int bad_root = result < 0 && d->steps == 0 && !jailed ? check_root(root) : 0;
     return bad_root ? bad_root : result;
 }

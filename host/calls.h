@@ -8,6 +8,10 @@
 #include <stdbool.h>
 #include <stddef.h>
 #include <stdint.h>
+#include <sys/types.h>
+
+/* The library's sizes have 64 bits, and so have files: it is there for no other machine. */
+_Static_assert(sizeof(size_t) == 8 && sizeof(off_t) == 8, "64 bits only");
 
 /* A call that goes on, or none. It is left alone between two turns, and never copied. */
 struct inroot_kept {
@@ -70,7 +74,7 @@ void inroot_next(struct inroot_kept *kept, const struct inroot_answered *answere
  * KIND, and stands at PLACE when it is asked for. Then its reply is what was opened. It is true of a resolve, but not of a
  * link that it would follow, and of a call that makes all directories, where they are there; and only where PATH is just
  * the names of PLACE, with a slash between each two and one before the first or none. It takes no memory, changes nothing,
- * and needs no call under way. docs/HOST.md has the argument.
+ * and needs no call under way. docs/HOST-WHY.md has the argument.
  */
 bool inroot_opens_at_once(const struct inroot_asked *asked, const unsigned char *path, size_t path_length, uint8_t kind,
                           const unsigned char *place, size_t place_length);

@@ -24,8 +24,11 @@ struct inroot_identity {
     uint32_t born_part;
 };
 
-/* How a handle's object was come to. */
-enum inroot_way { INROOT_BY_ROOT, INROOT_BY_NAME, INROOT_BY_PARENT };
+/*
+ * How the handle was opened. INROOT_BELOW: by its names from the root, and the kernel saw it below the root in the end. This
+ * answers one question about its place, the one that follows.
+ */
+enum inroot_way { INROOT_BY_ROOT, INROOT_BY_NAME, INROOT_BELOW, INROOT_BY_PARENT };
 
 /*
  * In place of a descriptor: one that was let go and can be opened again; the root of a jail, which needs none; a directory that
@@ -43,10 +46,13 @@ struct inroot_slot {
     struct inroot_identity who;    /* once it was let go */
 };
 
+/* Beside the steps of the proved call: whether /proc tells the root from what is outside. */
+enum { INROOT_STEP_OWN_ROOT = INROOT_STEP_RENAME + 1 };
+
 /* What the last step of a call that makes an entry makes. */
 enum inroot_makes { INROOT_MAKES_NEW, INROOT_MAKES_OPEN, INROOT_MAKES_LINKED };
 
-/* The answer to a step. No answer rests on a node's number, so that the handle's own serves as one. */
+/* The answer to a step. The handle's number doubles as the node's: no answer depends on the latter. */
 struct inroot_result {
     uint64_t handle;
     enum inroot_answer what;
@@ -64,6 +70,7 @@ struct inroot_request {
     int open_flags;                /* by which the new file is opened */
     int object;                    /* a descriptor of what gets another name */
     bool directory;                /* what is opened is of use only where it is one */
+    bool follows;                  /* the text that is read is walked afterwards */
     enum inroot_kind *opened;      /* where the kind of what was opened is told, or NULL */
 };
 
@@ -85,7 +92,14 @@ struct inroot_run {
     int fd, left;
     bool up;
     enum inroot_kind kind;
+    enum inroot_way way;           /* by which the last of them was come to */
     uint64_t at;                   /* the handle from which it goes on */
+};
+
+/* A mount, by its number or by its device. */
+struct inroot_mount {
+    bool is_known, by_number;
+    uint64_t number;
 };
 
 /* The slots that serve a call with few handles. */
@@ -94,10 +108,11 @@ enum { INROOT_FEW = 8 };
 /* A call under way. */
 struct inroot_driver {
     uint64_t steps, removed;
-    bool moved;                    /* the thread's current directory was changed */
+    bool alone, moved;             /* the thread's current directory is its own; and isn't its root */
     bool counts, begun;            /* a tree is removed; and its first entry's turn has come */
     bool busy, too_deep;           /* a step was refused by EBUSY; a directory was not entered for its depth */
     bool proc_is_own;              /* `proc` is closed at the call's end */
+    bool told_apart;               /* the thread's own root directory was seen to be a mount's */
     uint8_t step;                  /* the last one that was told, but for Close, or none */
     int unknown;                   /* an error that no step of the model is refused by */
     uint32_t used, serial;         /* of the slots, so many were taken so far; and the last handle's number above its slot */
@@ -106,6 +121,7 @@ struct inroot_driver {
     uint64_t placed;               /* the handle that was asked about right before, or zero */
     int tried, tried_error;        /* the whole path, of so many names, was tried at once and failed so; or zero */
     size_t name_length;            /* of the name that `step` was about */
+    struct inroot_mount mount;     /* that of the root, where the call stays on it */
     /* What follows isn't cleared as a call begins: it is set then, or where what it belongs to is. */
     const struct inroot_request *asked;
     size_t first_length, second_length;
@@ -130,7 +146,7 @@ struct inroot_driver {
 /* handles.c */
 uint64_t inroot_handles_begin(struct inroot_driver *d, int root);
 void inroot_handles_end(struct inroot_driver *d);
-/* Makes room for more handles, and whether it could. */
+/* Makes room for more handles. Returns whether it could. */
 bool inroot_handles_grow(struct inroot_driver *d);
 /* A handle on what was opened, by its name in DIR or otherwise; there is room. */
 uint64_t inroot_handles_put(struct inroot_driver *d, int fd, enum inroot_kind kind, enum inroot_way way, uint64_t dir);
@@ -139,31 +155,44 @@ int inroot_handles_fd_again(struct inroot_driver *d, uint64_t handle, int *fd);
 struct inroot_result inroot_handles_close(struct inroot_driver *d, uint64_t handle);
 /* A second handle on the root, by the same descriptor. */
 uint64_t inroot_handles_share(struct inroot_driver *d, uint64_t root);
-/* Takes the descriptor out of a handle, for the caller to keep, and tells its kind. Gives it or -errno. */
+/* Takes the descriptor out of a handle, for the caller to keep, and notes its kind. Returns it, or -errno. */
 int inroot_handles_take(struct inroot_driver *d, uint64_t handle);
-/* Lets one directory above this one go, where one can be. */
+/* Closes the descriptor of one directory above this one, if one can be spared. */
 bool inroot_handles_spare(struct inroot_driver *d, uint64_t handle);
 
 /* ahead.c */
 void inroot_ahead_begin(struct inroot_driver *d);
 /* A walk begins at the root, or goes on there. */
 void inroot_ahead_dup(struct inroot_ahead *a);
-/* Whether the next name is this one, and goes to it; and goes behind `..`, where that is next. */
+/* If NAME is the next name of the path, moves to it and returns true. */
 bool inroot_ahead_is(struct inroot_ahead *a, const char *name, size_t length);
+/* Moves past a `..` that comes next. */
 void inroot_ahead_pass_up(struct inroot_ahead *a);
-/* A directory is made: what is behind it isn't there. */
+/* The call makes a directory: the names behind it aren't there yet. */
 void inroot_ahead_make(struct inroot_ahead *a);
-/* Whether the walk doesn't end where it stands: at the root, if that is where it stands. */
+/* Whether a name is left: one to walk, or the entry's own. */
 bool inroot_ahead_has_name(const struct inroot_ahead *a);
 /* Whether the path ends there. */
 bool inroot_ahead_is_end(const struct inroot_ahead *a, size_t at);
-/* Puts a link's text before what is left. */
+/* Puts a link's text in front of the rest of the path. */
 void inroot_ahead_put(struct inroot_ahead *a, const char *text, size_t length);
 /* What is left, and how long it is. */
 size_t inroot_ahead_rest(const struct inroot_ahead *a, const char **rest);
 
+/* below.c */
+/* Whether this thread has openat2(2). */
+bool inroot_has_openat2(void);
+/*
+ * Opens names through no link, from a directory or INROOT_JAILED, by O_PATH and these flags, and by RESOLVE bits: the descriptor,
+ * or -1 with errno.
+ */
+int inroot_look_up(struct inroot_driver *d, int dir, const char *names, uint64_t flags, uint64_t resolve);
+
 /* runs.c */
-/* Passes the whole path from the root where it is several plain names, before any step is made. Whether it could. */
+/*
+ * Passes the whole path from the root where it is plain names, before any step is made. Whether it could, and the kernel saw
+ * what it led to below the root.
+ */
 bool inroot_run_whole(struct inroot_driver *d, int root);
 /* Passes the next name of the path, and names behind it, from this directory, where none are under way. Whether it could. */
 bool inroot_run_begin(struct inroot_driver *d, uint64_t handle);
@@ -178,16 +207,30 @@ void inroot_run_drop(struct inroot_driver *d);
 int inroot_at_once(struct inroot_driver *d, int root, const struct inroot_asked *numbers, char *text);
 
 /* error.c */
-/* Keeps which step is made and the name it is about, in case the call fails: the next turn overwrites the room. */
+/* Keeps the step and its name, in case the call fails: the next turn overwrites the room. */
 void inroot_error_note(struct inroot_driver *d, const struct inroot_told *step, const char *room);
-/* Keeps why a call failed: in this driver; or by itself, where it gives -error. */
+/* Keeps why a call failed: with the step of this driver; or alone, and then returns -error. */
 void inroot_error_of(const struct inroot_driver *d, int error);
 int inroot_error_alone(int error, const char *step, const char *rest);
 
 /* proc.c */
 enum { INROOT_PROC_NAME = 48 };
-/* A /proc that is one, or -ENOSYS; IS_OWN where the caller is to close it. */
-int inroot_proc_open(bool *is_own);
+/* A directory of a proc(5) that the library keeps open, and which one it is: none where the descriptor is INROOT_NONE. */
+struct inroot_own {
+    int fd;
+    uint64_t device, inode;
+};
+/* Takes a descriptor over, by a number above those of the standard files: 0, or -errno and it is closed. */
+int inroot_proc_own(int fd, struct inroot_own *own);
+/* Closes it, where the number is still that directory's, and forgets it. */
+void inroot_proc_close(struct inroot_own *own);
+/*
+ * A /proc that is one, or -errno; IS_CALLERS where the caller is to close it. One that is at hand is any file of a proc(5), or
+ * SURELY the directory that was opened.
+ */
+int inroot_proc_open(bool surely, bool *is_callers);
+/* Whether somebody closed the library's own /proc, so that its number is another file of a proc(5). */
+bool inroot_proc_is_lost(int proc);
 /* The same, for a call. */
 int inroot_proc_for(struct inroot_driver *d);
 void inroot_proc_end(struct inroot_driver *d);
@@ -196,7 +239,7 @@ void inroot_proc_end(struct inroot_driver *d);
 const char *inroot_proc_name(int fd, char room[INROOT_PROC_NAME]);
 /* The error of a system call on such a name: where there is no such link at all, there is no such /proc. */
 int inroot_proc_error(int proc, const char *name, int error);
-/* Sees to it that this thread has one that stays, and gives 0 or -errno; and lets go of what is kept for the thread. */
+/* Gives this thread a /proc that stays open: returns it, or -errno. And closes what the library keeps for the thread. */
 int inroot_proc_stay(void);
 void inroot_proc_leave(void);
 /* Whether what is kept for this thread will be let go of as it ends; and whether a descriptor is of a proc(5). */
@@ -204,14 +247,22 @@ bool inroot_proc_ends(void);
 bool inroot_proc_is(int fd);
 
 /* trust.c */
-/* Keeps the directory of this thread's descriptors in /proc open, where the kernel lets it: 0 or -errno. */
-int inroot_trust_begin(void);
+/* Keeps the directory of this thread's descriptors in this /proc open, and the root, where the kernel lets it: 0 or -errno. */
+int inroot_trust_begin(int proc, int root);
 void inroot_trust_end(void);
-/* It, or INROOT_NONE where none is kept. */
+/* They, or INROOT_NONE where none is kept. */
 int inroot_trust_table(void);
+int inroot_trust_root(void);
 
 /* jail.c */
 bool inroot_is_jailed(void);
+/* In a jail: makes a directory the thread's current one, which other threads no longer share. Returns whether it could. */
+bool inroot_jail_enter(struct inroot_driver *d, int fd);
+/*
+ * The descriptor of a directory as a system call takes it. Of a jail's root that is the one that the thread keeps, or its current
+ * directory, which is made that root. Whether it could.
+ */
+bool inroot_jail_start(struct inroot_driver *d, int *dir);
 
 /* call.c */
 /* A try: one proved call from its beginning to its reply, whose text then lies in the room. */
@@ -224,7 +275,9 @@ ssize_t inroot_call(int root, const struct inroot_request *asked, char *room);
 /* inroot.c */
 /* Whether the root is one to be asked with these flags: 0 or -errno. */
 int inroot_check(int root, int flags);
-/* A call from its first check on. A thread that is cancelled meanwhile goes on to its end. */
+/* Reads the text once, since a program may change it meanwhile. A text that is too long stays too long. */
+void inroot_copy(char text[INROOT_TEXT_MAX + 1], const char *from);
+/* Makes a call, from its first check on. A thread that is cancelled meanwhile finishes the call. */
 ssize_t inroot_run(int root, const struct inroot_request *asked, char *room);
 /* The same of a call whose reply has no text. */
 int inroot_run_alone(int root, const struct inroot_request *asked);
@@ -234,16 +287,32 @@ int inroot_run_alone(int root, const struct inroot_request *asked);
 ssize_t inroot_remove_tree(int root, const struct inroot_request *asked, char *room);
 
 /* place.c */
-/* Where what is open by this descriptor stands below the root, which is INROOT_JAILED in a jail. */
-struct inroot_result inroot_place(struct inroot_driver *d, int root, int fd, enum inroot_kind kind, enum inroot_way way,
-                                  char *text, size_t *length);
+/*
+ * Where what a slot has open stands below the root, which is INROOT_JAILED in a jail. The slot may have another descriptor of it
+ * then: the one that the kernel's look-up below the root gave.
+ */
+struct inroot_result inroot_place(struct inroot_driver *d, int root, struct inroot_slot *slot, char *text, size_t *length);
 struct inroot_result inroot_name_below(struct inroot_driver *d, const struct inroot_told *step, char *text, size_t *length);
+
+/* mount.c */
+/* Returns the descriptor if it is on the mount of the root. Else closes it, and returns -1 with EXDEV. */
+int inroot_mount_stay(struct inroot_driver *d, int fd);
+
+/* own_root.c */
+/*
+ * Without openat2(2): whether /proc tells what is below this root from what isn't. The check comes before any step: 0, or -errno
+ * and the call is left at INROOT_STEP_OWN_ROOT.
+ */
+bool inroot_own_root_tells(struct inroot_driver *d, int proc);
+int inroot_own_root_check(struct inroot_driver *d, int root);
 
 /* listing.c */
 struct inroot_result inroot_list(struct inroot_driver *d, uint64_t handle);
 
 /* steps.c */
 struct inroot_result inroot_refused(struct inroot_driver *d, int error);
+/* Whether somebody removed the directory, as far as the kernel shows it. */
+bool inroot_is_dead(int fd);
 /*
  * Makes a step that is neither a Close nor the Open with which a run goes on. Its names lie in the room. What it reads is
  * written to `text`.
@@ -302,7 +371,7 @@ static inline size_t inroot_ahead_dots(const struct inroot_ahead *a, size_t at)
     return inroot_ahead_ends(a, at + length) ? length : 0;
 }
 
-/* Goes behind the next name, which is so long. */
+/* Moves past the next name, which is so long. */
 static inline void inroot_ahead_pass(struct inroot_ahead *a, size_t length)
 {
     a->at += length;
@@ -317,7 +386,7 @@ static inline bool inroot_run_goes_on(const struct inroot_driver *d, const struc
     return step->what == (d->run.left > 0 ? INROOT_STEP_OPEN : INROOT_STEP_PARENT);
 }
 
-/* Keeps that the next name is opened, which is so long. It stays where it is, but in a Dup or a ReadLink. */
+/* Keeps that the call opens the next name, which is so long. Only a Dup or a ReadLink moves that name. */
 static inline void inroot_error_note_next(struct inroot_driver *d, size_t length)
 {
     d->step = INROOT_STEP_OPEN;

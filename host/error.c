@@ -9,10 +9,10 @@ static _Thread_local struct inroot_error last = {.step = ""};
 
 static const char *const steps[] = {
     "",      "Open",    "Dup",      "Parent",   "ReadLink",   "NameBelow", "List",
-    "Close", "MakeDir", "MakeFile", "MakeLink", "RemoveFile", "RemoveDir", "Rename",
+    "Close", "MakeDir", "MakeFile", "MakeLink", "RemoveFile", "RemoveDir", "Rename", "OwnRoot",
 };
 
-_Static_assert(sizeof steps / sizeof *steps == INROOT_STEP_RENAME + 1, "each step has its name");
+_Static_assert(sizeof steps / sizeof *steps == INROOT_STEP_OWN_ROOT + 1, "each step has its name");
 
 /* As much of it as fits. */
 static void keep(char *to, size_t size, const char *text, size_t length)
@@ -47,7 +47,7 @@ void inroot_error_of(const struct inroot_driver *d, int error)
     bool is_one = d->asked->op != INROOT_ASK_RENAME && d->asked->op != INROOT_ASK_REMOVE_ALL;
     size_t length = inroot_ahead_rest(&d->ahead, &rest);
     last.error = error;
-    last.step = steps[d->step <= INROOT_STEP_RENAME ? d->step : 0];
+    last.step = steps[d->step <= INROOT_STEP_OWN_ROOT ? d->step : 0];
     keep(last.name, sizeof last.name, d->name, d->name_length);
     keep(last.rest, sizeof last.rest, rest, is_one ? length : 0);
 }

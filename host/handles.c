@@ -7,9 +7,11 @@
 
 #include <errno.h>
 #include <fcntl.h>
+#include <linux/magic.h>
 #include <stdlib.h>
 #include <string.h>
 #include <sys/stat.h>
+#include <sys/vfs.h>
 #include <unistd.h>
 
 static int32_t index_of(uint64_t handle)
@@ -72,17 +74,15 @@ bool inroot_handles_grow(struct inroot_driver *d)
     return true;
 }
 
-/* ---- directories that are let go */
+/* ---- directories whose descriptor is let go */
 
-/* Birth tells a directory from one that has its number after it was removed. */
-static bool identify(int fd, struct inroot_identity *who)
+/* The birth tells a directory from a later one with the same number. If it can't be asked, the identity is empty. */
+static void identify(int fd, struct inroot_identity *who)
 {
-    struct stat about;
+    struct stat about = {0};
     memset(who, 0, sizeof *who);
-    if (fstat(fd, &about) != 0)
-        return false;
+    who->inode = fstat(fd, &about) == 0 ? about.st_ino : 0;
     who->device = about.st_dev;
-    who->inode = about.st_ino;
 #ifdef STATX_BTIME
     struct statx more;
     if (statx(fd, "", AT_EMPTY_PATH, STATX_BTIME, &more) == 0 && more.stx_mask & STATX_BTIME) {
@@ -90,21 +90,27 @@ static bool identify(int fd, struct inroot_identity *who)
         who->born_part = more.stx_btime.tv_nsec;
     }
 #endif
-    return true;
 }
 
-static bool is_same(const struct inroot_identity *a, const struct inroot_identity *b)
+/*
+ * Whether what is open now is that directory. On overlayfs it gets another birth as it is copied to the upper layer, by
+ * the first change below it: there the number alone counts.
+ */
+static bool is_same(int fd, const struct inroot_identity *now, const struct inroot_identity *then)
 {
-    return a->device == b->device && a->inode == b->inode && a->born == b->born && a->born_part == b->born_part;
-}
-
-static bool let_go(struct inroot_slot *slot)
-{
-    if (!identify(slot->fd, &slot->who))
+    struct statfs about;
+    if (now->inode == 0 || now->device != then->device || now->inode != then->inode)
         return false;
+    if (now->born == then->born && now->born_part == then->born_part)
+        return true;
+    return fstatfs(fd, &about) == 0 && about.f_type == OVERLAYFS_SUPER_MAGIC;
+}
+
+static void let_go(struct inroot_slot *slot)
+{
+    identify(slot->fd, &slot->who);
     close(slot->fd);
     slot->fd = INROOT_AWAY;
-    return true;
 }
 
 /*
@@ -129,7 +135,9 @@ bool inroot_handles_spare(struct inroot_driver *d, uint64_t handle)
 {
     int count;
     struct inroot_slot *slot = outermost(d, handle, &count);
-    return slot != NULL && let_go(slot);
+    if (slot != NULL)
+        let_go(slot);
+    return slot != NULL;
 }
 
 /*
@@ -152,7 +160,8 @@ static void come_back(struct inroot_driver *d, struct inroot_slot *slot, int32_t
     drop_inner(d);
     if (up < 0)
         return;
-    if (!identify(up, &now) || !is_same(&now, &slot->who)) {
+    identify(up, &now);
+    if (!is_same(up, &now, &slot->who)) {
         close(up);
         return;
     }
@@ -227,16 +236,6 @@ uint64_t inroot_handles_share(struct inroot_driver *d, uint64_t root)
     return handle;
 }
 
-/* A descriptor of the root's directory that shares nothing with the caller's. */
-static int open_shared(int root)
-{
-    int fd;
-    do
-        fd = openat(root, root == INROOT_JAILED ? "/" : ".", O_PATH | O_DIRECTORY | O_CLOEXEC);
-    while (fd < 0 && errno == EINTR);
-    return fd < 0 ? -errno : fd;
-}
-
 int inroot_handles_take(struct inroot_driver *d, uint64_t handle)
 {
     struct inroot_slot *slot = inroot_handles_slot(d, handle);
@@ -244,7 +243,6 @@ int inroot_handles_take(struct inroot_driver *d, uint64_t handle)
     slot->fd = INROOT_NONE;
     if (d->asked->opened != NULL)
         *d->asked->opened = (enum inroot_kind)slot->kind;
-    if (slot->is_shared)
-        return open_shared(fd);
-    return fd >= 0 ? fd : -ENOMEM;
+    /* What a path without a name means was opened anew, so that no caller gets its own descriptor. */
+    return fd >= 0 && !slot->is_shared ? fd : -ENOMEM;
 }

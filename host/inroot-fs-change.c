@@ -5,8 +5,10 @@
 
 #include <errno.h>
 #include <fcntl.h>
+#include <limits.h>
 #include <pthread.h>
 #include <stdio.h>
+#include <string.h>
 #include <sys/stat.h>
 #include <time.h>
 #include <unistd.h>
@@ -53,25 +55,59 @@ static bool is_other(const struct stat *about)
     return !S_ISREG(about->st_mode) && !S_ISDIR(about->st_mode);
 }
 
-/* Opens the file that is written to, which is made where it is missing; O_NONBLOCK, so that no FIFO lets it wait. */
-static enum fs_status open_to_write(const struct fs_call *call, const char *path, int *file)
+/* How often what is there is looked for and made, by turns: once for each link at the end, and for others who come in between. */
+enum { TURNS = 64 };
+
+/* By what was found, and never by its path again: to open a FIFO or a device may wait for others, or change something. */
+static enum fs_status open_found(const struct fs_call *call, const char *path, int found, int *file)
 {
     struct stat about;
-    int flags = O_WRONLY | O_CREAT | O_NONBLOCK | (call->append ? O_APPEND : 0) | (call->exclusive ? O_EXCL : 0);
-    /* To open a device may change it: it is refused before. */
-    if (!call->exclusive && inroot_stat(call->root, path, &about, call->flags) == 0 && is_other(&about))
-        return fs_not_regular(call, path);
-    *file = inroot_openat(call->root, path, flags, call->has_mode ? call->mode : 0666, call->flags);
-    if (*file < 0)
-        return fs_refused(call, path, -*file);
-    /* Somebody may have placed something else there meanwhile. */
-    int error = fstat(*file, &about) != 0 ? errno : is_other(&about) ? EINVAL : 0;
-    if (error == 0 && !call->append && ftruncate(*file, 0) != 0)
-        error = errno;
-    if (error == 0)
-        return FS_DONE;
-    close(*file);
-    return fs_fault(call, path, error);
+    bool is_known = fstat(found, &about) == 0;
+    if (is_known && is_other(&about)) {
+        close(found);
+        return fs_invalid(call, path, "it is no regular file");
+    }
+    *file = is_known ? inroot_reopen(found, O_WRONLY | (call->append ? O_APPEND : O_TRUNC)) : -errno;
+    close(found);
+    return *file < 0 ? fs_refused(call, path, -*file) : FS_DONE;
+}
+
+/* Goes on to the path to which the link at the end of this one leads. Whether it is one, and there is room. */
+static bool follow(const struct fs_call *call, char path[PATH_MAX])
+{
+    char text[PATH_MAX];
+    ssize_t length = inroot_readlink(call->root, path, call->flags, text, sizeof text);
+    const char *slash = strrchr(path, '/');
+    size_t kept = slash == NULL || (length > 0 && text[0] == '/') ? 0 : (size_t)(slash - path) + 1;
+    if (length <= 0 || kept + (size_t)length >= PATH_MAX)
+        return false;
+    memcpy(path + kept, text, (size_t)length);
+    path[kept + (size_t)length] = '\0';
+    return true;
+}
+
+/* Opens the file that is written to; where it is missing, at the end of a link too, it is made, and is nobody else's then. */
+static enum fs_status open_to_write(const struct fs_call *call, const char *given, int *file)
+{
+    char path[PATH_MAX];
+    int error = EAGAIN;
+    const int how = O_WRONLY | O_CREAT | O_EXCL | (call->append ? O_APPEND : 0);
+    if (strlen(given) >= sizeof path)
+        return fs_refused(call, given, ENAMETOOLONG);
+    strcpy(path, given);
+    for (int turn = 0; turn < TURNS && error == EAGAIN; turn++) {
+        int found = call->exclusive ? -ENOENT : inroot_open(call->root, path, call->flags);
+        if (found >= 0)
+            return open_found(call, given, found, file);
+        *file = found == -ENOENT ? inroot_openat(call->root, path, how, call->has_mode ? call->mode : 0666, call->flags) : found;
+        if (*file >= 0)
+            return FS_DONE;
+        if (*file != -EEXIST || call->exclusive)
+            error = -*file;
+        else if (!(call->flags & INROOT_NO_LINKS))
+            follow(call, path);
+    }
+    return fs_refused(call, given, error);
 }
 
 enum fs_status fs_write(const struct fs_call *call)

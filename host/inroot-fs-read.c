@@ -4,12 +4,10 @@
 #include "error_name.h"
 #include "inroot.h"
 
-#include <dirent.h>
 #include <errno.h>
 #include <fcntl.h>
 #include <limits.h>
 #include <stdio.h>
-#include <stdlib.h>
 #include <string.h>
 #include <sys/stat.h>
 #include <unistd.h>
@@ -27,8 +25,8 @@ static const char *kind_of(mode_t mode)
     }
 }
 
-/* Prints what was opened: its kind, and where its link in /proc says that it stands. */
-static enum fs_status tell_object(const struct fs_call *call, int object)
+/* Prints where the link in /proc of what was opened says that it stands, and its kind before. */
+static enum fs_status tell_object(const struct fs_call *call, int object, bool with_kind)
 {
     char link[32], place[PATH_MAX];
     struct stat about;
@@ -36,21 +34,33 @@ static enum fs_status tell_object(const struct fs_call *call, int object)
     ssize_t length = readlink(link, place, sizeof place);
     if (length < 0 || fstat(object, &about) != 0)
         return fs_fault(call, "what was opened can't be told", errno);
-    printf("opened %s ", kind_of(about.st_mode));
+    if (with_kind)
+        printf("opened %s ", kind_of(about.st_mode));
     fs_print_line(call, place, (size_t)length);
     return FS_DONE;
 }
 
-enum fs_status fs_resolve(const struct fs_call *call)
+static enum fs_status find_and_tell(const struct fs_call *call, bool with_kind)
 {
     int object = inroot_open(call->root, call->words[0], call->flags);
     if (object < 0) {
-        printf("fault %s\n", error_name(-object));
-        return FS_DONE;
+        if (with_kind)
+            printf("fault %s\n", error_name(-object));
+        return fs_refused(call, call->words[0], -object);
     }
-    enum fs_status status = tell_object(call, object);
+    enum fs_status status = tell_object(call, object, with_kind);
     close(object);
     return status;
+}
+
+enum fs_status fs_resolve(const struct fs_call *call)
+{
+    return find_and_tell(call, true);
+}
+
+enum fs_status fs_realpath(const struct fs_call *call)
+{
+    return find_and_tell(call, false);
 }
 
 /* Copies a file to standard output. */
@@ -85,7 +95,7 @@ static enum fs_status cat_one(const struct fs_call *call, const char *path)
         : inroot_reopen(found, O_RDONLY);
     close(found);
     if (is_other)
-        return fs_not_regular(call, path);
+        return fs_invalid(call, path, "it is no regular file");
     if (file < 0)
         return fs_refused(call, path, -file);
     enum fs_status status = copy_out(call, path, file);
@@ -103,89 +113,31 @@ enum fs_status fs_cat(const struct fs_call *call)
     return worst;
 }
 
-struct names {
-    char **at;
-    size_t count, room;
-};
-
-static bool add_name(struct names *names, const char *name)
-{
-    if (names->count == names->room) {
-        size_t room = names->room == 0 ? 64 : names->room * 2;
-        char **more = realloc(names->at, room * sizeof *more);
-        if (more == NULL)
-            return false;
-        names->at = more;
-        names->room = room;
-    }
-    char *kept = strdup(name);
-    if (kept == NULL)
-        return false;
-    names->at[names->count++] = kept;
-    return true;
-}
-
-/* Reads all names of a directory but `.` and `..`. Gives 0 or an error. */
-static int read_names(DIR *directory, struct names *names)
-{
-    struct dirent *entry;
-    while (errno = 0, (entry = readdir(directory)) != NULL) {
-        bool is_dots = strcmp(entry->d_name, ".") == 0 || strcmp(entry->d_name, "..") == 0;
-        if (!is_dots && !add_name(names, entry->d_name))
-            return ENOMEM;
-    }
-    return errno;
-}
-
-static int by_bytes(const void *one, const void *other)
-{
-    return strcmp(*(char *const *)one, *(char *const *)other);
-}
-
-static void print_names(const struct fs_call *call, struct names *names)
-{
-    if (names->count != 0)
-        qsort(names->at, names->count, sizeof *names->at, by_bytes);
-    for (size_t at = 0; at < names->count; at++)
-        fs_print_line(call, names->at[at], strlen(names->at[at]));
-}
-
-enum fs_status fs_ls(const struct fs_call *call)
-{
-    struct names names = {0};
-    const char *path = call->words[0] == NULL ? "." : call->words[0];
-    int opened = inroot_openat(call->root, path, O_RDONLY | O_DIRECTORY, 0, call->flags);
-    if (opened < 0)
-        return fs_refused(call, path, -opened);
-    DIR *directory = fdopendir(opened);
-    if (directory == NULL) {
-        int error = errno;
-        close(opened);
-        return fs_fault(call, path, error);
-    }
-    int error = read_names(directory, &names);
-    closedir(directory);
-    if (error == 0)
-        print_names(call, &names);
-    for (size_t at = 0; at < names.count; at++)
-        free(names.at[at]);
-    free(names.at);
-    return error == 0 ? FS_DONE : fs_fault(call, path, error);
-}
-
 enum fs_status fs_readlink(const struct fs_call *call)
 {
     char text[PATH_MAX];
     ssize_t length = inroot_readlink(call->root, call->words[0], call->flags, text, sizeof text);
+    struct stat about;
+    int flags = call->flags | INROOT_NOFOLLOW;
+    if (length == -EINVAL && inroot_stat(call->root, call->words[0], &about, flags) == 0 && !S_ISLNK(about.st_mode))
+        return fs_invalid(call, call->words[0], "it is no link");
     if (length < 0)
         return fs_refused(call, call->words[0], (int)-length);
     fs_print_line(call, text, (size_t)length < sizeof text ? (size_t)length : sizeof text);
     return FS_DONE;
 }
 
+void fs_write_date(time_t time, char date[32])
+{
+    struct tm parts;
+    if (gmtime_r(&time, &parts) == NULL || strftime(date, 32, "%Y-%m-%dT%H:%M:%SZ", &parts) == 0)
+        strcpy(date, "-");
+}
+
 enum fs_status fs_stat(const struct fs_call *call)
 {
     struct stat about;
+    char date[32];
     int error = inroot_stat(call->root, call->words[0], &about, call->flags);
     if (error < 0)
         return fs_refused(call, call->words[0], -error);
@@ -193,6 +145,7 @@ enum fs_status fs_stat(const struct fs_call *call)
            (unsigned long)about.st_uid, (unsigned long)about.st_gid);
     printf("links %lu\nsize %lld\ninode %llu\n", (unsigned long)about.st_nlink, (long long)about.st_size,
            (unsigned long long)about.st_ino);
-    printf("modified %lld.%09ld\n", (long long)about.st_mtim.tv_sec, about.st_mtim.tv_nsec);
+    fs_write_date(about.st_mtim.tv_sec, date);
+    printf("modified %lld.%09ld\ndate %s\n", (long long)about.st_mtim.tv_sec, about.st_mtim.tv_nsec, date);
     return FS_DONE;
 }

@@ -20,12 +20,17 @@ static const char help[] =
     "\n"
     "Commands:\n"
     "  resolve PATH         tell what PATH means: `opened KIND PLACE` or `fault ERROR`\n"
+    "  realpath PATH        print that PLACE alone\n"
     "  cat PATH..           print the contents of files\n"
     "  ls [PATH]            print the names in a directory, sorted\n"
     "  readlink PATH        print the text of a link\n"
     "  stat PATH            print kind, mode, owner, size and times\n"
     "  write PATH           write standard input to a file, which is made or replaced\n"
     "  mkdir PATH           make a directory\n"
+    "  mknod PATH KIND [MAJOR MINOR]\n"
+    "                       make a file (f), a FIFO (p), a socket (s) or a device (c, b)\n"
+    "  chmod MODE PATH      change the mode of a file or a directory, in octal\n"
+    "  chown OWNER PATH     change the owner: UID, UID:GID or :GID, in numbers\n"
     "  rm PATH              remove what is no directory\n"
     "  rmdir PATH           remove an empty directory\n"
     "  mv FROM TO           rename an entry\n"
@@ -35,34 +40,39 @@ static const char help[] =
     "Options of every command:\n"
     "  -b, --beneath        refuse what would lead out of ROOT (RESOLVE_BENEATH)\n"
     "  -L, --no-links       refuse every symbolic link on the way (RESOLVE_NO_SYMLINKS)\n"
+    "  -D, --no-xdev        refuse what is mounted below ROOT (RESOLVE_NO_XDEV)\n"
     "\n"
     "Options of some:\n"
-    "  -P, --nofollow       resolve, stat: of a link at the end, take the link itself\n"
-    "  -z, --zero           ls, readlink: print bytes as they are, and end each with a NUL\n"
-    "  -m, --mode MODE      write, mkdir: of what is made, in octal, less the umask\n"
+    "  -P, --nofollow       resolve, realpath, stat, chown: of a link at the end, take the link itself\n"
+    "  -l, --long           ls: with kind and mode, links, owner, group, size and date\n"
+    "  -z, --zero           ls, readlink, realpath: print bytes as they are, and end each with a NUL\n"
+    "  -m, --mode MODE      write, mkdir, mknod: of what is made, in octal, less the umask\n"
     "  -a, --append         write: at the end of the file\n"
     "  -x, --exclusive      write: refuse a file that is there already\n"
     "  -p, --parents        mkdir: make what is missing on the way, too\n"
-    "  -r, --recursive      rm: with all that is below it, and print how many entries went\n"
+    "  -r, --recursive      rm: with all that is below it, and print how many entries went; that\n"
+    "                       nothing was there is no error\n"
     "  -n, --no-replace     mv: refuse where TO is there already\n"
     "  -X, --exchange       mv: exchange the two entries\n"
     "  -s, --symbolic       ln: a symbolic link\n"
     "\n"
     "  -h, --help, -V, --version\n"
     "\n"
-    "Statuses: 0 it is done; 1 it failed, and standard error says why (of resolve an error is the\n"
-    "answer, and the status 0); 2 a wrong command line; 4 any other fault.\n"
+    "Statuses: 0 it is done; 1 it failed, and standard error says why; 2 a wrong command line; 4 any\n"
+    "other fault.\n"
     "\n"
     "Example:\n"
     "  inroot-fs /srv/box cat etc/passwd\n";
 
 static const struct option long_options[] = {
     {"beneath", no_argument, NULL, 'b'},      {"no-links", no_argument, NULL, 'L'},
+    {"no-xdev", no_argument, NULL, 'D'},
     {"nofollow", no_argument, NULL, 'P'},     {"zero", no_argument, NULL, 'z'},
     {"mode", required_argument, NULL, 'm'},   {"append", no_argument, NULL, 'a'},
     {"exclusive", no_argument, NULL, 'x'},    {"parents", no_argument, NULL, 'p'},
     {"recursive", no_argument, NULL, 'r'},    {"no-replace", no_argument, NULL, 'n'},
     {"exchange", no_argument, NULL, 'X'},     {"symbolic", no_argument, NULL, 's'},
+    {"long", no_argument, NULL, 'l'},
     {"help", no_argument, NULL, 'h'},         {NULL, 0, NULL, 0},
 };
 
@@ -78,12 +88,16 @@ enum { ANY_NUMBER = 1 << 20 };
 
 static const struct command commands[] = {
     {"resolve", 1, 1, "P", fs_resolve},
+    {"realpath", 1, 1, "Pz", fs_realpath},
     {"cat", 1, ANY_NUMBER, "", fs_cat},
-    {"ls", 0, 1, "z", fs_ls},
+    {"ls", 0, 1, "lz", fs_ls},
     {"readlink", 1, 1, "z", fs_readlink},
     {"stat", 1, 1, "P", fs_stat},
     {"write", 1, 1, "max", fs_write},
     {"mkdir", 1, 1, "pm", fs_mkdir},
+    {"mknod", 2, 4, "m", fs_mknod},
+    {"chmod", 2, 2, "", fs_chmod},
+    {"chown", 2, 2, "P", fs_chown},
     {"rm", 1, 1, "r", fs_rm},
     {"rmdir", 1, 1, "", fs_rmdir},
     {"mv", 2, 2, "nX", fs_mv},
@@ -136,11 +150,11 @@ enum fs_status fs_refused(const struct fs_call *call, const char *path, int erro
     return FS_REFUSED;
 }
 
-enum fs_status fs_not_regular(const struct fs_call *call, const char *path)
+enum fs_status fs_invalid(const struct fs_call *call, const char *path, const char *why)
 {
     fprintf(stderr, "inroot-fs: %s '", call->command);
     tell_text(path);
-    fputs("': EINVAL: it is no regular file\n", stderr);
+    fprintf(stderr, "': EINVAL: %s\n", why);
     return FS_REFUSED;
 }
 
@@ -150,8 +164,7 @@ enum fs_status fs_fault(const struct fs_call *call, const char *what, int error)
     return FS_FAULT;
 }
 
-/* Tells what is wrong with the command line, about this word. */
-static enum fs_status wrong_call(const char *what, const char *word)
+enum fs_status fs_wrong_call(const char *what, const char *word)
 {
     fprintf(stderr, "inroot-fs: %s", what);
     if (word != NULL) {
@@ -163,8 +176,7 @@ static enum fs_status wrong_call(const char *what, const char *word)
     return FS_WRONG_CALL;
 }
 
-/* Reads MODE: octal digits, at most 07777. */
-static bool read_mode(const char *text, mode_t *mode)
+bool fs_read_mode(const char *text, mode_t *mode)
 {
     char *end;
     if (*text < '0' || *text > '7')
@@ -179,6 +191,7 @@ static void take_option(struct fs_call *call, int option)
     switch (option) {
     case 'b': call->flags |= INROOT_BENEATH; break;
     case 'L': call->flags |= INROOT_NO_LINKS; break;
+    case 'D': call->flags |= INROOT_NO_XDEV; break;
     case 'P': call->flags |= INROOT_NOFOLLOW; break;
     case 'z': call->zero = true; break;
     case 'a': call->append = true; break;
@@ -186,6 +199,7 @@ static void take_option(struct fs_call *call, int option)
     case 'p': call->parents = true; break;
     case 'r': call->recursive = true; break;
     case 's': call->symbolic = true; break;
+    case 'l': call->in_full = true; break;
     case 'n': call->mode_of_rename = INROOT_NOREPLACE; break;
     case 'X': call->mode_of_rename = INROOT_EXCHANGE; break;
     }
@@ -212,22 +226,22 @@ static enum fs_status read_options(const struct command *command, int count, cha
 {
     int option, earlier = 0;
     opterr = 0;
-    for (optind = 1; (option = getopt_long(count, words, "+:bLPzm:axprnXsh", long_options, NULL)) != -1;) {
+    for (optind = 1; (option = getopt_long(count, words, "+:bLDPzm:axprnXslh", long_options, NULL)) != -1;) {
         if (option == ':')
-            return wrong_call("no value stands after", words[optind - 1]);
+            return fs_wrong_call("no value stands after", words[optind - 1]);
         if (option == '?')
-            return wrong_call("there is no option",
+            return fs_wrong_call("there is no option",
                               optopt != 0 ? (char[]){'-', (char)optopt, '\0'} : words[optind - 1]);
         if (option == 'h')
             exit((int)print_help());
-        if (strchr("bL", option) == NULL && strchr(command->options, option) == NULL) {
+        if (strchr("bLD", option) == NULL && strchr(command->options, option) == NULL) {
             fprintf(stderr, "inroot-fs: %s has no option -%c\ntry 'inroot-fs --help'\n", command->name, option);
             return FS_WRONG_CALL;
         }
-        if (option == 'm' && !read_mode(optarg, &call->mode))
-            return wrong_call("a mode is octal digits, at most 7777, and not", optarg);
+        if (option == 'm' && !fs_read_mode(optarg, &call->mode))
+            return fs_wrong_call("a mode is octal digits, at most 7777, and not", optarg);
         if ((option == 'n' || option == 'X') && earlier != 0 && earlier != option)
-            return wrong_call("--no-replace and --exchange exclude each other", NULL);
+            return fs_wrong_call("--no-replace and --exchange exclude each other", NULL);
         call->has_mode = call->has_mode || option == 'm';
         earlier = option == 'n' || option == 'X' ? option : earlier;
         take_option(call, option);
@@ -249,16 +263,16 @@ static enum fs_status run(int count, char **words)
     struct inroot_root *root;
     const struct command *command = find_command(words[2]);
     if (command == NULL)
-        return wrong_call("there is no command", words[2]);
+        return fs_wrong_call("there is no command", words[2]);
     struct fs_call call = {.command = command->name};
     enum fs_status status = read_options(command, count - 2, words + 2, &call);
     if (status != FS_DONE)
         return status;
     int given = (int)(words + count - call.words);
     if (given < command->least)
-        return wrong_call("an argument is missing to", command->name);
+        return fs_wrong_call("an argument is missing to", command->name);
     if (given > command->most)
-        return wrong_call("there is an argument too many:", call.words[command->most]);
+        return fs_wrong_call("there is an argument too many:", call.words[command->most]);
     int error = inroot_root_open(words[1], 0, &root);
     if (error != 0)
         return fs_fault(&call, "the root can't be opened", -error);
@@ -277,9 +291,9 @@ static enum fs_status run_line(int count, char **words)
         return finish(FS_DONE);
     }
     if (count >= 2 && words[1][0] == '-')
-        return wrong_call("there is no option", words[1]);
+        return fs_wrong_call("there is no option", words[1]);
     if (count < 3)
-        return wrong_call(count < 2 ? "ROOT and COMMAND are missing" : "COMMAND is missing", NULL);
+        return fs_wrong_call(count < 2 ? "ROOT and COMMAND are missing" : "COMMAND is missing", NULL);
     return run(count, words);
 }
 

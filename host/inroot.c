@@ -11,20 +11,32 @@ enum { MODE_BITS = 07777 };
 
 int inroot_check(int root, int flags)
 {
-    if (flags & ~(INROOT_BENEATH | INROOT_NO_LINKS | INROOT_NO_RETRY | INROOT_ONE_BY_ONE))
+    if (flags & ~(INROOT_BENEATH | INROOT_NO_LINKS | INROOT_NO_RETRY | INROOT_ONE_BY_ONE | INROOT_NO_XDEV))
         return -EINVAL;
     return root == INROOT_JAIL ? (inroot_is_jailed() ? 0 : -EBADF) : root < 0 ? -EBADF : 0;
+}
+
+void inroot_copy(char text[INROOT_TEXT_MAX + 1], const char *from)
+{
+    if (memccpy(text, from, 0, INROOT_TEXT_MAX) == NULL)
+        text[INROOT_TEXT_MAX] = 0;
 }
 
 ssize_t inroot_run(int root, const struct inroot_request *asked, char *room)
 {
     int state;
-    int failed = inroot_check(root, asked->flags);
+    char first[INROOT_TEXT_MAX + 1], second[INROOT_TEXT_MAX + 1];
+    struct inroot_request own = *asked;
+    own.first = first;
+    own.second = second;
+    inroot_copy(first, asked->first);
+    inroot_copy(second, asked->second);
+    int failed = inroot_check(root, own.flags);
     if (failed)
-        return inroot_error_alone(-failed, "", asked->first);
+        return inroot_error_alone(-failed, "", first);
     pthread_setcancelstate(PTHREAD_CANCEL_DISABLE, &state);
-    bool removes = asked->op == INROOT_ASK_REMOVE_ALL;
-    ssize_t result = removes ? inroot_remove_tree(root, asked, room) : inroot_call(root, asked, room);
+    bool removes = own.op == INROOT_ASK_REMOVE_ALL;
+    ssize_t result = removes ? inroot_remove_tree(root, &own, room) : inroot_call(root, &own, room);
     pthread_setcancelstate(state, NULL);
     return result;
 }
@@ -52,6 +64,11 @@ static int make(int root, enum inroot_op op, const char *path, mode_t kind, mode
 const char *inroot_version(void)
 {
     return INROOT_VERSION;
+}
+
+int inroot_version_number(void)
+{
+    return INROOT_VERSION_NUMBER;
 }
 
 int inroot_open(int root, const char *path, int flags)

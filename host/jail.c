@@ -27,7 +27,50 @@ void inroot_jail_done(void)
     pthread_setcancelstate(state, NULL);
 }
 
-/* Asked before anything is changed. */
+/* ---- the current directory of a thread in a jail */
+
+/*
+ * Threads that this one made since it moved share its current directory, and may have changed it. From here to the end of the
+ * call it is this thread's own.
+ */
+static bool be_alone(struct inroot_driver *d)
+{
+    char path[2];
+    if (d->alone)
+        return true;
+    if (unshare(CLONE_FS) != 0)
+        return false;
+    d->alone = true;
+    /* No directory but the thread's root has a path of one byte. */
+    d->moved = syscall(SYS_getcwd, path, sizeof path) != sizeof path;
+    return true;
+}
+
+bool inroot_jail_enter(struct inroot_driver *d, int fd)
+{
+    if (!d->alone && unshare(CLONE_FS) != 0)
+        return false;
+    d->alone = d->moved = true;
+    return fchdir(fd) == 0;
+}
+
+bool inroot_jail_start(struct inroot_driver *d, int *dir)
+{
+    int kept = *dir == INROOT_JAILED ? inroot_trust_root() : *dir;
+    if (kept >= 0) {
+        *dir = kept;
+        return true;
+    }
+    if (!be_alone(d) || (d->moved && chdir("/") != 0))
+        return false;
+    d->moved = false;
+    *dir = AT_FDCWD;
+    return true;
+}
+
+/* ---- how it comes there */
+
+/* Asks before anything changes. */
 static bool may_change_root(void)
 {
     struct __user_cap_header_struct head = {.version = _LINUX_CAPABILITY_VERSION_3};
@@ -46,7 +89,7 @@ static int check(int root)
     return may_change_root() ? 0 : -EPERM;
 }
 
-/* The current directory is the thread's own from here on, so that other threads see nothing of the rest. */
+/* unshare(2) first: other threads don't see the current directory change. */
 static int move(int root, int from)
 {
     if (unshare(CLONE_FS) != 0)
@@ -54,19 +97,19 @@ static int move(int root, int from)
     if (fchdir(root) == 0 && chroot(".") == 0)
         return 0;
     int error = errno;
-    /* It was searched to be opened, so that the thread may go back there. */
+    /* The thread may search that directory, since it could open it: so it may go back there. */
     if (fchdir(from) != 0)
         error = errno;
     return -error;
 }
 
-/* The same from where the thread is, which it doesn't leave where that fails. */
+/* Moves the thread. If that fails, the thread stays where it is. */
 static int move_from_here(int root)
 {
     int from = open(".", O_PATH | O_DIRECTORY | O_CLOEXEC);
     if (from < 0)
         return -errno;
-    /* Where the root may not be searched, this fails before anything is changed. */
+    /* If the thread may not search the root, this fails before anything changes. */
     int own = openat(root, ".", O_PATH | O_DIRECTORY | O_CLOEXEC);
     int failed = own < 0 ? -errno : move(own, from);
     if (own >= 0)
@@ -78,10 +121,11 @@ static int move_from_here(int root)
 static int move_below(int root, bool trusts)
 {
     int failed = check(root);
-    if (failed == 0)
-        failed = inroot_proc_stay();
+    int proc = failed ? failed : inroot_proc_stay();
+    if (proc < 0)
+        failed = proc;
     if (failed == 0 && trusts)
-        failed = inroot_trust_begin();
+        failed = inroot_trust_begin(proc, root);
     if (failed == 0)
         failed = move_from_here(root);
     if (failed)

@@ -48,6 +48,7 @@ int inroot_link_fd(int root, int fd, const char *path, int flags)
 int inroot_link(int root, const char *existing, const char *path, int flags)
 {
     int state;
+    char text[INROOT_TEXT_MAX + 1];
     bool follows = flags & INROOT_FOLLOW;
     const struct inroot_request asked = {
         .op = follows ? INROOT_ASK_RESOLVE : INROOT_ASK_RESOLVE_NOFOLLOW,
@@ -55,11 +56,13 @@ int inroot_link(int root, const char *existing, const char *path, int flags)
         .first = existing,
         .second = "",
     };
+    /* Of both paths the text as the call began counts. */
+    inroot_copy(text, path);
     pthread_setcancelstate(PTHREAD_CANCEL_DISABLE, &state);
     int fd = inroot_run_alone(root, &asked);
     int result = fd;
     if (fd >= 0) {
-        result = link_object(root, fd, path, asked.flags);
+        result = link_object(root, fd, text, asked.flags);
         close(fd);
     }
     pthread_setcancelstate(state, NULL);

@@ -21,7 +21,7 @@ enum {
     FEW_RECORDS = 4096,
 };
 
-/* What getdents64(2) gives for each entry. */
+/* An entry as getdents64(2) writes it. */
 struct record {
     uint64_t inode;
     int64_t offset;
@@ -113,14 +113,14 @@ static int keep_sorted(struct inroot_driver *d, const struct part *part)
     return 0;
 }
 
-/* A fourth of what is left, so that each level of a tree has its part. */
+/* Takes a fourth of what is left, so that each level of a tree gets its part. */
 static size_t size_of_part(const struct inroot_driver *d)
 {
     size_t size = d->listed < ALL_NAMES ? (ALL_NAMES - d->listed) / 4 : 0;
     return size < LEAST_PART ? LEAST_PART : size > MOST_PART ? MOST_PART : size;
 }
 
-/* Opens the directory for reading; where no descriptor is left, one above it is let go. */
+/* Opens the directory for reading. If no descriptor is left, spares one of a directory above. */
 static int open_to_read(struct inroot_driver *d, uint64_t handle, int fd)
 {
     int dir;
@@ -134,9 +134,7 @@ struct inroot_result inroot_list(struct inroot_driver *d, uint64_t handle)
 {
     int fd;
     int error = inroot_handles_fd(d, handle, &fd);
-    if (error)
-        return inroot_refused(d, error);
-    int dir = open_to_read(d, handle, fd);
+    int dir = error ? -error : open_to_read(d, handle, fd);
     if (dir < 0)
         return inroot_refused(d, -dir);
     struct part part = {.size = size_of_part(d)};

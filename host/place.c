@@ -1,9 +1,14 @@
-/* place.c: at which names an object stands below the root, by the kernel's own words (docs/HOST.md says what they are worth). */
+/*
+ * place.c: at which names an object stands below the root, by two witnesses: the path that getcwd(2) or a link in /proc tells,
+ * and the kernel's own look-up of just these names from the root (docs/HOST-WHY.md says what they are worth). An object that was
+ * opened by such a look-up has been seen by that one already.
+ */
 #define _GNU_SOURCE
 #include "driver.h"
+#include "openat2.h"
 
 #include <errno.h>
-#include <sched.h>
+#include <fcntl.h>
 #include <string.h>
 #include <sys/stat.h>
 #include <sys/syscall.h>
@@ -14,38 +19,115 @@ static struct inroot_result names(void)
     return (struct inroot_result){.what = INROOT_ANSWER_NAMES};
 }
 
-/*
- * Whether the kernel wrote ' (deleted)' behind the path of what is gone. Removal is for good: a directory that has a link
- * afterwards is called so. Of what may have several links nothing can be known.
- */
-static bool is_gone(int fd)
+/* ---- the second witness */
+
+/* Which object it is, while it is open; by which mount, where the kernel tells that; and how many names it has. */
+struct which {
+    uint64_t device, inode, mount, links;
+};
+
+/* Nothing is asked of a server. A filter may refuse statx(2). */
+static bool find_which(int fd, struct which *which)
 {
     struct stat about;
-    return fstat(fd, &about) != 0 || !S_ISDIR(about.st_mode) || about.st_nlink == 0;
+#ifdef STATX_MNT_ID
+    struct statx more;
+    if (statx(fd, "", AT_EMPTY_PATH | AT_STATX_DONT_SYNC, STATX_INO | STATX_NLINK | STATX_MNT_ID, &more) == 0) {
+        *which = (struct which){
+            .device = (uint64_t)more.stx_dev_major << 32 | more.stx_dev_minor,
+            .inode = more.stx_ino,
+            .mount = more.stx_mnt_id,
+            .links = more.stx_nlink,
+        };
+        return true;
+    }
+#endif
+    if (fstat(fd, &about) != 0)
+        return false;
+    *which = (struct which){.device = about.st_dev, .inode = about.st_ino, .links = about.st_nlink};
+    return true;
 }
 
-/* The path of a descriptor's link, which has this name in a directory of /proc; 0 for what is gone, or -1 with errno. */
-static ssize_t read_link(int dir, const char *name, int fd, char *text)
+/* Where the root was mounted over itself since it was opened, `..` leads to it by that mount. */
+static bool is_same(int fd, int other, bool is_root, uint64_t *links)
 {
-    static const char deleted[] = " (deleted)";
+    struct which a, b;
+    if (!find_which(fd, &a) || !find_which(other, &b))
+        return false;
+    *links = b.links;
+    return a.device == b.device && a.inode == b.inode && (is_root || a.mount == b.mount);
+}
+
+/* Whether the look-up failed for its names: others have moved or changed something. */
+static bool is_elsewhere(int error)
+{
+    return error == ENOENT || error == ENOTDIR || error == ELOOP || error == EXDEV || error == EACCES || error == EAGAIN;
+}
+
+/*
+ * Whether the kernel's look-up from the root, by the names of a text that begins with a slash, comes to this object. The call
+ * goes on with what was found there, so that no step rests on the numbers that were compared. How many names it has is told.
+ * -1 with errno where that can't be asked.
+ */
+static int agrees(struct inroot_driver *d, int root, struct inroot_slot *slot, const char *text, uint64_t *links)
+{
+    bool is_root = text[1] == 0;
+    int found = inroot_look_up(d, root, is_root ? "." : text + 1, O_NOFOLLOW, RESOLVE_BENEATH);
+    if (found < 0)
+        return is_elsewhere(errno) ? 0 : -1;
+    bool same = is_same(slot->fd, found, is_root, links);
+    close(same ? slot->fd : found);
+    if (same)
+        slot->fd = found;
+    if (same && is_root)
+        slot->way = INROOT_BY_ROOT;
+    return same;
+}
+
+/* ---- the first witness: links in /proc */
+
+static const char deleted[] = " (deleted)";
+
+/* Whether the text ends as the kernel writes of what is gone. A name may end so, too. */
+static bool ends_as_gone(const char *text, size_t length)
+{
     const size_t tail = sizeof deleted - 1;
+    return length >= tail && memcmp(text + length - tail, deleted, tail) == 0;
+}
+
+/* The path of a link that has this name in a directory of /proc, with a NUL, or -1 with errno. */
+static ssize_t read_link(int dir, const char *name, char text[INROOT_TEXT_MAX])
+{
     ssize_t length = readlinkat(dir, name, text, INROOT_TEXT_MAX);
-    if (length < 0 && errno == ENOENT)
-        errno = ENOSYS;
     if (length == INROOT_TEXT_MAX) {
         errno = ENAMETOOLONG;
         return -1;
     }
-    if (length >= (ssize_t)tail && memcmp(text + length - tail, deleted, tail) == 0 && is_gone(fd))
-        return 0;
+    if (length < 0 && errno == ENOENT)
+        errno = ENOSYS;
+    if (length >= 0)
+        text[length] = 0;
     return length;
 }
 
-/* The same by /proc itself. It is this thread's descriptor, whichever thread of which process this is by now. */
+/* The same of a descriptor, by /proc itself. It is this thread's, whichever thread of which process this is by now. */
 static ssize_t link_of(int proc, int fd, char *text)
 {
     char written[INROOT_PROC_NAME];
-    return read_link(proc, inroot_proc_name(fd, written), fd, text);
+    return read_link(proc, inroot_proc_name(fd, written), text);
+}
+
+/* By the table that this thread keeps open, or -1. One that doesn't have the link was closed, and is forgotten. */
+static ssize_t link_in_table(int fd, char *text)
+{
+    char written[INROOT_PROC_NAME];
+    int table = inroot_trust_table();
+    if (table < 0)
+        return -1;
+    ssize_t length = read_link(table, inroot_proc_name(fd, written) + sizeof INROOT_PROC_TABLE - 1, text);
+    if (length < 0 && errno != ENAMETOOLONG)
+        inroot_trust_end();
+    return length;
 }
 
 /* Cuts off the root's path. The top's own path is a slash, and that of any other directory ends in none. */
@@ -56,95 +138,163 @@ static size_t cut_root(char *text, size_t length, size_t root)
     memmove(text, text + cut, length);
     if (length == 0)
         text[length++] = '/';
+    text[length] = 0;
     return length;
 }
 
-/* Three moments: the path of the root, of the object, and of the root again. */
-static struct inroot_result by_links(struct inroot_driver *d, int root, int fd, char *text, size_t *length)
+/* Whether the root has this path still. -1 with errno where its links tell nothing. */
+static int stays(struct inroot_driver *d, int proc, int root, const char *path, size_t length)
 {
-    char first[INROOT_TEXT_MAX], again[INROOT_TEXT_MAX];
-    int proc = inroot_proc_for(d);
-    if (proc < 0)
-        return inroot_refused(d, -proc);
-    ssize_t before = link_of(proc, root, first);
-    ssize_t path = before < 0 ? before : link_of(proc, fd, text);
-    ssize_t after = path < 0 ? path : link_of(proc, root, again);
-    if (after < 0)
-        return inroot_refused(d, errno);
-    if (before == 0 || before != after || path < before)
-        return names();
-    size_t root_length = (size_t)before;
-    if (memcmp(first, again, root_length) == 0 && memcmp(first, text, root_length) == 0)
-        *length = cut_root(text, (size_t)path, root_length);
-    return names();
-}
-
-/* By the table that this thread keeps open, or -1. One that doesn't have the link was closed, and is forgotten. */
-static ssize_t link_in_table(int fd, char *text)
-{
-    char written[INROOT_PROC_NAME];
-    int table = inroot_trust_table();
-    if (table < 0)
+    char again[INROOT_TEXT_MAX];
+    if (!inroot_own_root_tells(d, proc)) {
+        errno = EOPNOTSUPP;
         return -1;
-    ssize_t length = read_link(table, inroot_proc_name(fd, written) + sizeof INROOT_PROC_TABLE - 1, fd, text);
-    if (length < 0 && errno != ENAMETOOLONG)
-        inroot_trust_end();
-    return length;
-}
-
-/* In a thread whose root it is: the link's path of what is inside begins there. That of what is outside begins at the top. */
-static struct inroot_result by_link(struct inroot_driver *d, int fd, char *text, size_t *length)
-{
-    ssize_t got = link_in_table(fd, text);
-    if (got < 0) {
-        int proc = inroot_proc_for(d);
-        if (proc < 0)
-            return inroot_refused(d, -proc);
-        got = link_of(proc, fd, text);
     }
-    if (got < 0)
-        return inroot_refused(d, errno);
-    *length = (size_t)got;
-    return names();
+    ssize_t after = link_of(proc, root, again);
+    return after < 0 ? -1 : (size_t)after == length && memcmp(path, again, length) == 0;
 }
 
 /*
- * Goes to the directory. A thread that this one made since it was moved shares its current directory, which is to be this
- * thread's own while it is asked for.
+ * The path below a root that is given by its descriptor: 0 where it has none, or -1 with errno. Where there is no second witness
+ * the root's path is read before the object's and after it.
  */
-static int go_to(struct inroot_driver *d, int fd)
+static ssize_t path_by_links(struct inroot_driver *d, int root, int fd, char *text)
 {
-    if (!d->moved && unshare(CLONE_FS) != 0)
+    char above[INROOT_TEXT_MAX];
+    int proc = inroot_proc_for(d);
+    if (proc < 0) {
+        errno = -proc;
         return -1;
-    if (fchdir(fd) != 0)
+    }
+    ssize_t before = link_of(proc, root, above);
+    ssize_t path = before < 0 ? before : link_of(proc, fd, text);
+    if (path < 0)
         return -1;
-    d->moved = true;
-    return 0;
+    int same = inroot_has_openat2() ? 1 : stays(d, proc, root, above, (size_t)before);
+    if (same < 0)
+        return -1;
+    if (!same || before == 0 || path < before || memcmp(above, text, (size_t)before) != 0)
+        return 0;
+    return (ssize_t)cut_root(text, (size_t)path, (size_t)before);
 }
 
-/* One answer of the kernel for a directory: its path begins with '(unreachable)' outside, and what is gone has none. */
-static struct inroot_result by_directory(struct inroot_driver *d, int fd, enum inroot_way way, char *text, size_t *length)
+/* In a thread whose root it is: the link's path of what is inside begins there. That of what is outside begins at the top. */
+static ssize_t path_of(struct inroot_driver *d, int fd, char *text)
 {
-    if (go_to(d, fd) != 0) {
+    ssize_t length = link_in_table(fd, text);
+    if (length >= 0)
+        return length;
+    int proc = inroot_proc_for(d);
+    if (proc >= 0)
+        return link_of(proc, fd, text);
+    errno = -proc;
+    return -1;
+}
+
+/*
+ * Whether what the text says holds where the thread has no openat2(2). What is gone is called so: a directory that isn't dead has
+ * that name, and of what may have several links nothing can be known.
+ */
+static bool holds_alone(const struct inroot_slot *slot, const char *text, size_t length)
+{
+    return !ends_as_gone(text, length) || (slot->kind == INROOT_KIND_DIR && !inroot_is_dead(slot->fd));
+}
+
+/* From the last slash on, where there is one. */
+static const char *last_part(const char *text)
+{
+    const char *slash = strrchr(text, '/');
+    return slash == NULL ? text : slash;
+}
+
+/*
+ * Whether what the look-up found wasn't gone by then: the kernel may find what is removed before it looks where that is. So its
+ * link is read once more. A directory that has a name isn't gone, but for overlayfs; and a dead one leads nowhere.
+ */
+static int stays_named(struct inroot_driver *d, const struct inroot_slot *slot, const char *text, uint64_t links)
+{
+    char again[INROOT_TEXT_MAX];
+    if (slot->kind == INROOT_KIND_DIR && links > 0)
+        return 1;
+    ssize_t now = path_of(d, slot->fd, again);
+    return now < 0 ? -1 : !ends_as_gone(again, (size_t)now) || strcmp(last_part(again), last_part(text)) == 0;
+}
+
+/* Whether the second witness says the same as this text, where there is one and it hasn't spoken yet; -1 with errno. */
+static int is_confirmed(struct inroot_driver *d, int root, struct inroot_slot *slot, const char *text, size_t length)
+{
+    if (!inroot_has_openat2())
+        return holds_alone(slot, text, length);
+    if (slot->way == INROOT_BELOW)
+        return 1;
+    uint64_t links = 0;
+    int agreed = agrees(d, root, slot, text, &links);
+    return agreed > 0 ? stays_named(d, slot, text, links) : agreed;
+}
+
+/* The path below the root by both witnesses, where /proc is the first: 0 where it has none, or -1 with errno. */
+static ssize_t confirmed_path(struct inroot_driver *d, int root, struct inroot_slot *slot, char *text)
+{
+    ssize_t told = root == INROOT_JAILED ? path_of(d, slot->fd, text) : path_by_links(d, root, slot->fd, text);
+    if (told < 0)
+        return -1;
+    if (told == 0 || text[0] != '/')
+        return 0;
+    int confirmed = is_confirmed(d, root, slot, text, (size_t)told);
+    return confirmed > 0 ? told : confirmed;
+}
+
+static struct inroot_result by_text(struct inroot_driver *d, int root, struct inroot_slot *slot, char *text, size_t *length)
+{
+    bool has_second = inroot_has_openat2();
+    ssize_t told = confirmed_path(d, root, slot, text);
+    /* A filter has refused the look-up just now: without it other questions are asked. */
+    if (told < 0 && has_second && !inroot_has_openat2())
+        told = confirmed_path(d, root, slot, text);
+    if (told < 0)
+        return inroot_refused(d, errno);
+    *length = (size_t)told;
+    return names();
+}
+
+/* ---- the first witness: getcwd(2) */
+
+/*
+ * In a jail one answer of the kernel tells all of a directory: its path begins with '(unreachable)' outside, and what is gone has
+ * none. But the kernel looks whether it is gone before it takes the names. So that is asked again, for removal is for good;
+ * not of what was seen below the root before.
+ */
+static struct inroot_result by_directory(struct inroot_driver *d, struct inroot_slot *slot, char *text, size_t *length)
+{
+    char none[1];
+    if (!inroot_jail_enter(d, slot->fd)) {
         /* A directory that may not be searched can be where a path ends, and leads nowhere. */
-        if (errno == EACCES && way == INROOT_BY_NAME)
-            return by_link(d, fd, text, length);
+        if (errno == EACCES && slot->way != INROOT_BY_PARENT)
+            return by_text(d, INROOT_JAILED, slot, text, length);
         return inroot_refused(d, errno);
     }
     long got = syscall(SYS_getcwd, text, (size_t)INROOT_TEXT_MAX);
     if (got < 0)
         return errno == ENOENT ? names() : inroot_refused(d, errno);
+    if (slot->way != INROOT_BELOW && syscall(SYS_getcwd, none, sizeof none) < 0 && errno == ENOENT)
+        return names();
     *length = (size_t)got - 1;
+    if (*length == 1)
+        slot->way = INROOT_BY_ROOT;
     return names();
 }
 
-struct inroot_result inroot_place(struct inroot_driver *d, int root, int fd, enum inroot_kind kind, enum inroot_way way,
-                                  char *text, size_t *length)
+/* ---- */
+
+struct inroot_result inroot_place(struct inroot_driver *d, int root, struct inroot_slot *slot, char *text, size_t *length)
 {
     *length = 0;
-    if (root != INROOT_JAILED)
-        return by_links(d, root, fd, text, length);
-    return kind == INROOT_KIND_DIR ? by_directory(d, fd, way, text, length) : by_link(d, fd, text, length);
+    struct inroot_result result = root == INROOT_JAILED && slot->kind == INROOT_KIND_DIR
+                                      ? by_directory(d, slot, text, length)
+                                      : by_text(d, root, slot, text, length);
+    if (slot->way == INROOT_BELOW)
+        slot->way = INROOT_BY_NAME;
+    return result;
 }
 
 struct inroot_result inroot_name_below(struct inroot_driver *d, const struct inroot_told *step, char *text, size_t *length)
@@ -153,7 +303,7 @@ struct inroot_result inroot_name_below(struct inroot_driver *d, const struct inr
     int lost = inroot_handles_fd(d, step->handle, &fd);
     if (lost)
         return inroot_refused(d, lost);
-    const struct inroot_slot *slot = inroot_handles_slot(d, step->handle);
+    struct inroot_slot *slot = inroot_handles_slot(d, step->handle);
     *length = 0;
     /* The root's own second handle: it stands below itself at no names, wherever it is. */
     if (slot->way == INROOT_BY_ROOT) {
@@ -161,7 +311,5 @@ struct inroot_result inroot_name_below(struct inroot_driver *d, const struct inr
         return names();
     }
     lost = inroot_handles_fd(d, step->other, &root);
-    if (lost)
-        return inroot_refused(d, lost);
-    return inroot_place(d, root, fd, (enum inroot_kind)slot->kind, (enum inroot_way)slot->way, text, length);
+    return lost ? inroot_refused(d, lost) : inroot_place(d, root, slot, text, length);
 }

@@ -1,7 +1,8 @@
 /*
- * proc.c: the /proc of this program, in which the kernel tells the path of a descriptor. It is opened once for the program,
- * and before each use it is seen to be a proc(5) still, since its number may have been closed, or be another file's in a
- * table of descriptors of a thread's own.
+ * proc.c: the /proc of this program, in which the kernel tells the path of a descriptor. It is opened once for the
+ * program, and before each use it is seen to be a proc(5) still, since its number may have been closed, or be another
+ * file's in a table of descriptors of a thread's own. In another file of a proc(5) the names that are asked for
+ * aren't there: then the library looks whether it is the one that it opened, and does without.
  */
 #define _GNU_SOURCE
 #include "driver.h"
@@ -12,14 +13,19 @@
 #include <pthread.h>
 #include <stdatomic.h>
 #include <string.h>
+#include <sys/stat.h>
 #include <sys/vfs.h>
 #include <unistd.h>
 
 /* The program's; and that of a thread whose table of descriptors has not the program's one, and which can open none later. */
 static atomic_int kept = INROOT_NONE;
-static _Thread_local int of_thread = INROOT_NONE;
+static _Atomic uint64_t kept_device, kept_inode;
+static _Thread_local struct inroot_own of_thread = {.fd = INROOT_NONE};
 
-/* By which a thread's own is closed as it ends. */
+/* In place of a descriptor, while another thread writes its device and inode. */
+enum { CLAIMED = -5 };
+
+/* Its destructor closes what a thread keeps, as the thread ends. */
 static pthread_once_t key_once = PTHREAD_ONCE_INIT;
 static pthread_key_t key;
 static bool has_key;
@@ -30,50 +36,99 @@ bool inroot_proc_is(int fd)
     return fd >= 0 && fstatfs(fd, &about) == 0 && about.f_type == PROC_SUPER_MAGIC;
 }
 
-/* /proc as what it is, or -errno. */
-static int open_proc(void)
+int inroot_proc_own(int fd, struct inroot_own *own)
+{
+    struct stat about;
+    /* A program that began without its standard files may give those numbers to others, whatever stands there. */
+    int above = fd > STDERR_FILENO ? fd : fcntl(fd, F_DUPFD_CLOEXEC, STDERR_FILENO + 1);
+    if (above != fd)
+        close(fd);
+    if (above < 0 || fstat(above, &about) != 0) {
+        close(above);
+        return -EMFILE;
+    }
+    *own = (struct inroot_own){.fd = above, .device = about.st_dev, .inode = about.st_ino};
+    return 0;
+}
+
+/* A child of fork(2), or the program, may have closed what it didn't open, so that the number is another file's. */
+static bool is_own(const struct inroot_own *own)
+{
+    struct stat about;
+    return inroot_proc_is(own->fd) && fstat(own->fd, &about) == 0 && about.st_dev == own->device &&
+           about.st_ino == own->inode;
+}
+
+void inroot_proc_close(struct inroot_own *own)
+{
+    if (is_own(own))
+        close(own->fd);
+    own->fd = INROOT_NONE;
+}
+
+/* Opens /proc, if it is a proc(5): 0 or -errno. */
+static int open_proc(struct inroot_own *own)
 {
     int fd = open("/proc", O_PATH | O_DIRECTORY | O_NOFOLLOW | O_CLOEXEC);
     if (fd < 0)
         return errno == EMFILE || errno == ENFILE || errno == ENOMEM ? -errno : -ENOSYS;
     if (inroot_proc_is(fd))
-        return fd;
+        return inroot_proc_own(fd, own);
     close(fd);
     return -ENOSYS;
 }
 
-/* Makes it the program's, where there is none. */
-static bool keep(int fd)
+/* Makes it the program's, if the program has none yet. */
+static bool keep(const struct inroot_own *own)
 {
     int none = INROOT_NONE;
-    return atomic_compare_exchange_strong(&kept, &none, fd);
+    if (!atomic_compare_exchange_strong(&kept, &none, CLAIMED))
+        return false;
+    kept_device = own->device;
+    kept_inode = own->inode;
+    atomic_store(&kept, own->fd);
+    return true;
 }
 
-/* One that is there already, or INROOT_NONE. */
-static int at_hand(void)
+/* Whether it is the program's, and the number is still that of the directory that was opened. */
+static bool is_kept(int fd)
+{
+    const struct inroot_own own = {.fd = fd, .device = kept_device, .inode = kept_inode};
+    return is_own(&own);
+}
+
+bool inroot_proc_is_lost(int proc)
+{
+    return proc == atomic_load(&kept) && !is_kept(proc);
+}
+
+/* One that is there already, or INROOT_NONE: of a proc(5), or surely the one that was opened. */
+static int at_hand(bool surely)
 {
     int fd = atomic_load(&kept);
-    if (inroot_proc_is(fd))
+    if (surely ? is_kept(fd) : inroot_proc_is(fd))
         return fd;
-    return inroot_proc_is(of_thread) ? of_thread : INROOT_NONE;
+    return (surely ? is_own(&of_thread) : inroot_proc_is(of_thread.fd)) ? of_thread.fd : INROOT_NONE;
 }
 
-int inroot_proc_open(bool *is_own)
+int inroot_proc_open(bool surely, bool *is_callers)
 {
-    int fd = at_hand();
-    *is_own = false;
+    struct inroot_own own;
+    int fd = at_hand(surely);
+    *is_callers = false;
     if (fd >= 0)
         return fd;
-    /* Below the root of a jail what is called /proc is anybody's. */
-    fd = inroot_is_jailed() ? -ENOSYS : open_proc();
-    if (fd >= 0)
-        *is_own = !keep(fd);
-    return fd;
+    /* Below the root of a jail anybody may have made what is called /proc. */
+    int failed = inroot_is_jailed() ? -ENOSYS : open_proc(&own);
+    if (failed)
+        return failed;
+    *is_callers = !keep(&own);
+    return own.fd;
 }
 
 int inroot_proc_for(struct inroot_driver *d)
 {
-    int fd = d->proc >= 0 ? d->proc : inroot_proc_open(&d->proc_is_own);
+    int fd = d->proc >= 0 ? d->proc : inroot_proc_open(false, &d->proc_is_own);
     if (fd >= 0)
         d->proc = fd;
     return fd;
@@ -118,7 +173,7 @@ static void make_key(void)
     has_key = pthread_key_create(&key, end_thread) == 0;
 }
 
-/* A library that is unloaded leaves no function behind for a thread to call. */
+/* After dlclose(3) the destructor is gone: no thread may call it. */
 __attribute__((destructor)) static void drop_key(void)
 {
     if (has_key)
@@ -133,42 +188,42 @@ bool inroot_proc_ends(void)
 
 int inroot_proc_stay(void)
 {
-    if (at_hand() >= 0)
-        return 0;
-    int fd = open_proc();
-    if (fd < 0 || keep(fd))
-        return fd < 0 ? fd : 0;
+    struct inroot_own own;
+    int fd = at_hand(true);
+    int failed = fd >= 0 ? 0 : open_proc(&own);
+    if (failed || fd >= 0)
+        return failed ? failed : fd;
+    if (keep(&own))
+        return own.fd;
     if (!inroot_proc_ends()) {
-        close(fd);
+        close(own.fd);
         return -ENOMEM;
     }
-    of_thread = fd;
-    return 0;
+    of_thread = own;
+    return own.fd;
 }
 
 void inroot_proc_leave(void)
 {
     inroot_trust_end();
-    if (inroot_proc_is(of_thread))
-        close(of_thread);
-    of_thread = INROOT_NONE;
+    inroot_proc_close(&of_thread);
 }
 
 /* ---- what a program hands in */
 
 static int take_over(int proc)
 {
+    struct inroot_own own;
     struct statfs about;
     if (fstatfs(proc, &about) != 0)
         return -errno;
     if (!inroot_proc_is(proc))
         return -EINVAL;
     int fd = openat(proc, ".", O_PATH | O_DIRECTORY | O_CLOEXEC);
-    if (fd < 0)
-        return -errno;
-    if (keep(fd))
-        return 0;
-    close(fd);
+    int failed = fd < 0 ? -errno : inroot_proc_own(fd, &own);
+    if (failed || keep(&own))
+        return failed;
+    close(own.fd);
     return -EBUSY;
 }
 

@@ -12,14 +12,18 @@ struct inroot_root {
     int fd;
 };
 
-/* Whether there is a /proc to ask, which stays open then: 0 or -errno. */
+/*
+ * Whether there is a /proc to ask, which stays open then: 0 or -errno. The link is read, since faccessat(2) takes no
+ * flags before Linux 5.8, and filters refuse faccessat2(2).
+ */
 static int has_proc(void)
 {
     bool is_own;
-    int proc = inroot_proc_open(&is_own);
+    char text[1];
+    int proc = inroot_proc_open(true, &is_own);
     if (proc < 0)
         return proc;
-    bool has_threads = faccessat(proc, "thread-self", F_OK, AT_SYMLINK_NOFOLLOW) == 0;
+    bool has_threads = readlinkat(proc, "thread-self", text, sizeof text) >= 0;
     if (is_own)
         close(proc);
     return has_threads ? 0 : -ENOSYS;

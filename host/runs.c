@@ -2,7 +2,7 @@
  * runs.c: names of a path that follow one another are passed by one openat2(2), which follows no link. Where it
  * succeeds, each of them stood in the one before it, at moments in their order; so the single opens that the proved
  * call asks for one after another are answered by it. All but the last are told as directories without a
- * descriptor. docs/HOST.md has the argument.
+ * descriptor. docs/HOST-WHY.md has the argument.
  */
 #define _GNU_SOURCE
 #include "driver.h"
@@ -12,11 +12,7 @@
 #include <fcntl.h>
 #include <string.h>
 #include <sys/stat.h>
-#include <sys/syscall.h>
 #include <unistd.h>
-
-/* This thread has no openat2(2): the kernel is an old one, or a filter refuses it. */
-static _Thread_local bool has_none;
 
 /* Names as one text, and where they end in what is left of the path. `..` may follow on the last. */
 struct spelled {
@@ -63,13 +59,11 @@ static size_t append_names(const struct inroot_ahead *a, size_t from, int most, 
 }
 
 /* At most so many names from the next one on, over any `.` between them. */
-static void spell(const struct inroot_ahead *a, int most, bool from_root, struct spelled *run)
+static void spell(const struct inroot_ahead *a, int most, struct spelled *run)
 {
     run->count = 0;
     run->up = false;
     run->used = run->ends = 0;
-    if (from_root)
-        run->text[run->used++] = '/';
     for (size_t at = inroot_ahead_skip(a, a->at); at < a->until && run->count < most; at = inroot_ahead_skip(a, at)) {
         size_t dots = inroot_ahead_dots(a, at);
         if (dots == 2) {
@@ -100,17 +94,15 @@ static uint64_t flags_of(const struct inroot_ahead *a, const struct spelled *run
     return a->link_may_end ? O_NOFOLLOW : 0;
 }
 
-static int open_run(int dir, const struct spelled *run, uint64_t flags)
+/*
+ * How what these names lead to from a handle is come to. Where they are the rest of the walk, from the root, its place is asked
+ * for next, so that the kernel is to see it below the root.
+ */
+static enum inroot_way way_of(struct inroot_driver *d, uint64_t handle, const struct spelled *run)
 {
-    const struct open_how how = {
-        .flags = flags | O_PATH | O_CLOEXEC,
-        .resolve = RESOLVE_NO_SYMLINKS | RESOLVE_NO_MAGICLINKS,
-    };
-    int fd;
-    do
-        fd = (int)syscall(SYS_openat2, dir, run->text, &how, sizeof how);
-    while (fd < 0 && errno == EINTR);
-    return fd;
+    const struct inroot_ahead *a = &d->ahead;
+    bool is_rest = !run->up && inroot_ahead_skip(a, run->ends) == a->until;
+    return is_rest && inroot_handles_slot(d, handle)->way == INROOT_BY_ROOT ? INROOT_BELOW : INROOT_BY_NAME;
 }
 
 /* What kind of object was opened, where the kernel was not asked for a directory. */
@@ -128,15 +120,16 @@ static bool find_kind(struct inroot_run *run, uint64_t flags, bool up)
 }
 
 /* Whether these names were passed. */
-static bool pass(struct inroot_driver *d, uint64_t handle, int dir, const struct spelled *spelled)
+static bool pass(struct inroot_driver *d, uint64_t handle, int dir, const struct spelled *spelled, enum inroot_way way)
 {
     uint64_t flags = flags_of(&d->ahead, spelled);
-    d->run.fd = open_run(dir, spelled, flags);
-    if (d->run.fd < 0) {
-        has_none = errno == ENOSYS || errno == EPERM;
+    const bool stays = d->asked->flags & INROOT_NO_XDEV;
+    const uint64_t resolve = (way == INROOT_BELOW ? RESOLVE_BENEATH : 0) | (stays ? RESOLVE_NO_XDEV : 0);
+    d->run.fd = inroot_look_up(d, dir, spelled->text, flags, resolve);
+    if (d->run.fd < 0)
         return false;
-    }
     d->run.at = handle;
+    d->run.way = way;
     d->run.left = spelled->count;
     d->run.up = spelled->up;
     if (find_kind(&d->run, flags, spelled->up))
@@ -171,40 +164,38 @@ static int most_of(struct inroot_driver *d)
 }
 
 /* Passes as many names as it can, and whether there were any. */
-static bool begin(struct inroot_driver *d, uint64_t handle, int dir, bool from_root)
+static bool begin(struct inroot_driver *d, uint64_t handle, int dir)
 {
     struct spelled spelled;
     struct inroot_ahead *a = &d->ahead;
     int most = most_of(d);
     while (most > 0) {
-        spell(a, most, from_root, &spelled);
+        spell(a, most, &spelled);
         if (spelled.count < 2 && !spelled.up)
             return false;
-        if (pass(d, handle, dir, &spelled))
+        if (pass(d, handle, dir, &spelled, way_of(d, handle, &spelled)))
             return true;
-        most = has_none ? 0 : fewer(a, spelled.count, errno);
+        most = fewer(a, spelled.count, errno);
     }
     return false;
 }
 
-/* Whether these are several names that are the whole path, but for a slash before the first. */
-static bool is_whole(const struct inroot_ahead *a, const struct spelled *run, bool from_root)
+/* Whether these are the whole path, but for a slash before the first. */
+static bool is_whole(const struct inroot_ahead *a, const struct spelled *run)
 {
     size_t slash = a->text[0] == '/' ? 1 : 0;
-    size_t names = run->used - (from_root ? 1 : 0);
-    return run->count > 1 && !run->up && run->ends == a->end && slash + names == a->end;
+    return run->count > 0 && !run->up && run->ends == a->end && slash + run->used == a->end;
 }
 
 bool inroot_run_whole(struct inroot_driver *d, int root)
 {
     struct spelled spelled;
-    bool from_root = root == INROOT_JAILED;
-    if (d->asked->flags & INROOT_ONE_BY_ONE || has_none || !d->ahead.known)
+    if (d->asked->flags & INROOT_ONE_BY_ONE || !d->ahead.known)
         return false;
-    spell(&d->ahead, INROOT_TEXT_MAX, from_root, &spelled);
-    if (!is_whole(&d->ahead, &spelled, from_root))
+    spell(&d->ahead, INROOT_TEXT_MAX, &spelled);
+    if (!is_whole(&d->ahead, &spelled))
         return false;
-    if (pass(d, 0, from_root ? AT_FDCWD : root, &spelled))
+    if (pass(d, 0, root, &spelled, INROOT_BELOW))
         return true;
     d->tried_error = errno;
     d->tried = spelled.count;
@@ -214,11 +205,10 @@ bool inroot_run_whole(struct inroot_driver *d, int root)
 bool inroot_run_begin(struct inroot_driver *d, uint64_t handle)
 {
     int dir;
-    bool is_single = d->asked->flags & INROOT_ONE_BY_ONE || d->ahead.makes || has_none;
+    bool is_single = d->asked->flags & INROOT_ONE_BY_ONE || d->ahead.makes || !inroot_has_openat2();
     if (is_single || !inroot_handles_reserve(d) || inroot_handles_fd(d, handle, &dir) != 0)
         return false;
-    bool from_root = dir == INROOT_JAILED;
-    return begin(d, handle, from_root ? AT_FDCWD : dir, from_root);
+    return begin(d, handle, dir);
 }
 
 /* Tells the next name of the run, which is so long. There is room for its handle. */
@@ -227,13 +217,15 @@ static inline struct inroot_result tell(struct inroot_driver *d, size_t length)
     struct inroot_run *run = &d->run;
     int fd = INROOT_PASSED;
     enum inroot_kind kind = INROOT_KIND_DIR;
+    enum inroot_way way = INROOT_BY_NAME;
     inroot_ahead_pass(&d->ahead, length);
     if (--run->left == 0 && !run->up) {
         fd = run->fd;
         kind = run->kind;
+        way = run->way;
         run->fd = INROOT_NONE;
     }
-    run->at = inroot_handles_put(d, fd, kind, INROOT_BY_NAME, run->at);
+    run->at = inroot_handles_put(d, fd, kind, way, run->at);
     return inroot_opened(run->at, kind);
 }
 

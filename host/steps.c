@@ -1,12 +1,14 @@
-/* steps.c: each step that a proved call asks for, by system calls (docs/HOST.md has the map and what is trusted). */
+/* steps.c: each step that a proved call asks for, by system calls (docs/HOST-WHY.md has the map and what is trusted). */
 #define _GNU_SOURCE
 #include "driver.h"
 
 #include <errno.h>
 #include <fcntl.h>
 #include <string.h>
+#include <linux/magic.h>
 #include <sys/stat.h>
 #include <sys/syscall.h>
+#include <sys/vfs.h>
 #include <unistd.h>
 
 /* ---- answers */
@@ -40,7 +42,7 @@ static struct inroot_result opened(struct inroot_driver *d, int fd, enum inroot_
 
 /* ---- a directory and a name in it */
 
-/* As a system call takes them. The root of a jail is the thread's own, so that a name in it begins with a slash. */
+/* The directory and the name as a system call takes them. The root of a jail is the thread's own: a slash leads there. */
 struct entry {
     int dir;
     const char *name;
@@ -62,14 +64,14 @@ static int find(struct inroot_driver *d, uint64_t handle, const char *name, size
     return error;
 }
 
-/* Opens it as it is. What was interrupted has opened nothing. Where no descriptor is left, a directory above is let go. */
+/* Opens the entry itself. A signal may interrupt openat(2) before it opens anything. If no descriptor is left, spares one. */
 static int open_path(struct inroot_driver *d, uint64_t dir, const struct entry *entry, int flags)
 {
     int fd;
     do
         fd = openat(entry->dir, entry->name, O_PATH | O_NOFOLLOW | O_CLOEXEC | flags);
     while (fd < 0 && (errno == EINTR || ((errno == EMFILE || errno == ENFILE) && inroot_handles_spare(d, dir))));
-    return fd;
+    return inroot_mount_stay(d, fd);
 }
 
 /* ---- steps that open */
@@ -94,7 +96,7 @@ static struct inroot_result leave_here(struct inroot_driver *d, uint64_t dir, co
     return inroot_refused(d, ENOMEM);
 }
 
-/* What is opened as it is; what is neither a directory nor a link is a file. */
+/* Opens an entry of any kind. One that is neither a directory nor a link counts as a file. */
 static struct inroot_result open_any(struct inroot_driver *d, uint64_t dir, const struct entry *entry)
 {
     struct stat about;
@@ -111,8 +113,8 @@ static struct inroot_result open_any(struct inroot_driver *d, uint64_t dir, cons
 }
 
 /*
- * A directory is told by being opened as one. Anything else gives ENOTDIR, a link as well, and is opened by a second call,
- * whose answer alone is the step's.
+ * O_DIRECTORY tells directories apart. Anything else, a link too, fails with ENOTDIR and is opened again without it: that second
+ * answer alone is the step's.
  */
 static struct inroot_result open_name(struct inroot_driver *d, uint64_t dir, const struct entry *entry, bool is_expected)
 {
@@ -128,13 +130,13 @@ static struct inroot_result open_name(struct inroot_driver *d, uint64_t dir, con
     return errno == ENOTDIR ? open_any(d, dir, entry) : inroot_refused(d, errno);
 }
 
-/* Whether a directory is expected by the next name, which is so long: not where the path ends, nor where one was not. */
+/* Whether the next name, which is so long, should be a directory: not the last name, nor one that was none just now. */
 static bool expects_directory(const struct inroot_ahead *a, size_t length)
 {
     return a->bad != 1 && (a->directory || !inroot_ahead_is_end(a, a->at + length));
 }
 
-/* A name alone: the next one of the path, or another. */
+/* Opens one name by itself: the next one of the path, or another. */
 static struct inroot_result open_alone(struct inroot_driver *d, const struct inroot_told *step, const char *name,
                                        bool foreseen)
 {
@@ -149,7 +151,7 @@ static struct inroot_result open_alone(struct inroot_driver *d, const struct inr
     return result;
 }
 
-/* The next name of the path, by a run of names if it can, or alone; or another one. */
+/* Opens the next name of the path, with names behind it if it can; or another name. */
 static struct inroot_result open_next(struct inroot_driver *d, const struct inroot_told *step, const char *name)
 {
     bool foreseen = inroot_ahead_is(&d->ahead, name, step->first);
@@ -185,10 +187,31 @@ static struct inroot_result open_root(struct inroot_driver *d, uint64_t root)
     return fd < 0 ? inroot_refused(d, errno) : opened(d, fd, INROOT_KIND_DIR, INROOT_BY_ROOT, root);
 }
 
-/* The kernel opens the old parent of a removed directory. Removal is for good, so that asking afterwards is enough. */
+/* The kernel lists nothing of a removed directory, not even `.`. Without the right to read it the driver can't ask. */
+static bool reads_as_dead(int fd)
+{
+    char records[512];
+    int dir = openat(fd, ".", O_RDONLY | O_DIRECTORY | O_CLOEXEC);
+    if (dir < 0)
+        return errno == ENOENT;
+    bool is_dead = syscall(SYS_getdents64, dir, records, sizeof records) < 0 && errno == ENOENT;
+    close(dir);
+    return is_dead;
+}
+
+/* A removed directory has no link. On overlayfs one that was in a lower layer keeps some. */
+bool inroot_is_dead(int fd)
+{
+    struct stat about;
+    struct statfs where;
+    if (fstat(fd, &about) != 0 || about.st_nlink == 0)
+        return true;
+    return fstatfs(fd, &where) == 0 && where.f_type == OVERLAYFS_SUPER_MAGIC && reads_as_dead(fd);
+}
+
+/* The kernel opens the old parent of a removed directory. Removal is for good, so it is enough to ask afterwards. */
 static struct inroot_result open_parent(struct inroot_driver *d, uint64_t handle)
 {
-    struct stat child;
     struct entry above;
     int error = find(d, handle, "..", 2, &above);
     if (error)
@@ -199,14 +222,14 @@ static struct inroot_result open_parent(struct inroot_driver *d, uint64_t handle
     if (up < 0)
         return inroot_refused(d, errno);
     inroot_ahead_pass_up(&d->ahead);
-    if (fstat(above.dir, &child) != 0 || child.st_nlink == 0) {
+    if (inroot_is_dead(above.dir)) {
         close(up);
         return inroot_refused(d, ENOENT);
     }
     return opened(d, up, INROOT_KIND_DIR, INROOT_BY_PARENT, handle);
 }
 
-/* The directory above the last name of a run, with which it ends. */
+/* Opens the directory above the last name of a run. This ends the run. */
 static struct inroot_result go_up(struct inroot_driver *d, uint64_t child)
 {
     if (!inroot_handles_reserve(d)) {
@@ -219,13 +242,28 @@ static struct inroot_result go_up(struct inroot_driver *d, uint64_t child)
 
 /* ---- other steps */
 
-/* A text as large as the room may be cut off, and is too long in either case. ENOENT is what is no link. */
+/* Of Linux 5.10; the C library's headers don't have it. */
+#ifndef ST_NOSYMFOLLOW
+#define ST_NOSYMFOLLOW 0x2000
+#endif
+
+/* Whether the link is on a mount that follows no link (mount(8), nosymfollow). readlink(2) still works there. */
+static bool is_kept_from_following(const struct inroot_driver *d, int fd)
+{
+    struct statfs about;
+    bool is_asked_for = d->asked->op == INROOT_ASK_READLINK && !d->asked->follows && inroot_ahead_is_end(&d->ahead, d->ahead.at);
+    return !is_asked_for && fstatfs(fd, &about) == 0 && about.f_flags & ST_NOSYMFOLLOW;
+}
+
+/* A text that fills the room may be cut off, and is too long in either case. ENOENT: the object is no link. */
 static struct inroot_result read_link(struct inroot_driver *d, uint64_t handle, char *text, size_t *length)
 {
     int fd;
     int error = inroot_handles_fd(d, handle, &fd);
     if (error)
         return inroot_refused(d, error);
+    if (is_kept_from_following(d, fd))
+        return inroot_refused(d, ELOOP);
     ssize_t got;
     do
         got = readlinkat(fd, "", text, INROOT_TEXT_MAX + 1);
@@ -237,7 +275,7 @@ static struct inroot_result read_link(struct inroot_driver *d, uint64_t handle, 
     return (struct inroot_result){.what = INROOT_ANSWER_TEXT};
 }
 
-/* Gives the object another name. Its link in /proc leads to it, a link as well, which isn't followed then. */
+/* Gives the object another name, through its link in /proc. If the object is a link, linkat(2) doesn't follow it. */
 static struct inroot_result link_object(struct inroot_driver *d, const struct entry *entry)
 {
     char written[INROOT_PROC_NAME];
@@ -288,7 +326,7 @@ static struct inroot_result rename_entry(struct inroot_driver *d, const struct i
     return done_or(d, syscall(SYS_renameat2, old->dir, old->name, new.dir, new.name, (unsigned int)step->detail));
 }
 
-/* A step that changes an entry: a directory's handle, and a name in it. */
+/* Makes a step that changes an entry: of a directory's handle, and a name in it. */
 static struct inroot_result change_entry(struct inroot_driver *d, const struct inroot_told *step, const char *room)
 {
     struct entry entry;

@@ -1,7 +1,8 @@
 /*
  * trust.c: a thread in a jail that keeps the directory of its descriptors in /proc open, and asks that for a link without
- * looking whether it is still the one (INROOT_TRUST_PROC). The program promises that it is. A child of fork(2) has the
- * descriptor as well, and it leads to its parent's table there: such a child finds zeros in a page, and forgets it.
+ * looking whether it is still the one (INROOT_TRUST_PROC); and its root, from which names are looked up. The program promises
+ * that they are. A child of fork(2) has the descriptors as well, and the first leads to its parent's table there: such a child
+ * finds zeros in a page, and forgets both.
  */
 #define _GNU_SOURCE
 #include "driver.h"
@@ -9,6 +10,7 @@
 #include <errno.h>
 #include <fcntl.h>
 #include <sys/mman.h>
+#include <sys/stat.h>
 #include <unistd.h>
 
 /* Of Linux 4.14; the headers may be older. */
@@ -16,16 +18,22 @@
 #define MADV_WIPEONFORK 18
 #endif
 
-static _Thread_local int table = INROOT_NONE;
+static _Thread_local struct inroot_own table = {.fd = INROOT_NONE}, top = {.fd = INROOT_NONE};
 /* A page that is this thread's: it begins with 1 where the table is this thread's, too. */
-static _Thread_local volatile unsigned char *mark;
+static _Thread_local unsigned char *mark;
 
 static size_t page_size(void)
 {
     return (size_t)sysconf(_SC_PAGESIZE);
 }
 
-/* What ran out is told. What the kernel refuses isn't kept, and the calls do without. */
+/* The kernel writes to the page, too: it empties a child's. */
+static bool is_marked(void)
+{
+    return *(const volatile unsigned char *)mark == 1;
+}
+
+/* A shortage is an error. If the kernel refuses for another reason, the thread keeps nothing, and the calls do without. */
 static int told(int error)
 {
     switch (error) {
@@ -38,7 +46,7 @@ static int told(int error)
     }
 }
 
-/* 0 or -errno. Until it is marked, a child is not told from its parent. */
+/* Makes the page: 0 or -errno. Until its first byte is 1, the thread takes itself for a child. */
 static int make_mark(void)
 {
     unsigned char *page = mmap(NULL, page_size(), PROT_READ | PROT_WRITE, MAP_PRIVATE | MAP_ANONYMOUS, -1, 0);
@@ -53,24 +61,33 @@ static int make_mark(void)
     return 0;
 }
 
-/* The directory of this thread's descriptors, or -errno. */
-static int open_table(void)
+/* The directory of this thread's descriptors: 0 or -errno. */
+static int open_table(int proc)
 {
-    bool is_own;
-    int proc = inroot_proc_open(&is_own);
-    if (proc < 0)
-        return proc;
     int fd = openat(proc, INROOT_PROC_TABLE, O_PATH | O_DIRECTORY | O_CLOEXEC);
-    int error = errno;
-    if (is_own)
-        close(proc);
     if (fd < 0 || inroot_proc_is(fd))
-        return fd < 0 ? -error : fd;
+        return fd < 0 ? -errno : inroot_proc_own(fd, &table);
     close(fd);
     return -ENOSYS;
 }
 
-int inroot_trust_begin(void)
+/* The root: 0 or -errno. */
+static int open_top(int root)
+{
+    int fd = openat(root, ".", O_PATH | O_DIRECTORY | O_CLOEXEC);
+    return fd < 0 ? -errno : inroot_proc_own(fd, &top);
+}
+
+/* Closes the root, if the number is still that directory's. */
+static void close_top(void)
+{
+    struct stat about;
+    if (top.fd >= 0 && fstat(top.fd, &about) == 0 && about.st_dev == top.device && about.st_ino == top.inode)
+        close(top.fd);
+    top.fd = INROOT_NONE;
+}
+
+int inroot_trust_begin(int proc, int root)
 {
     int failed = make_mark();
     if (failed)
@@ -79,29 +96,48 @@ int inroot_trust_begin(void)
         inroot_trust_end();
         return -ENOMEM;
     }
-    table = open_table();
-    if (table < 0) {
-        failed = told(-table);
+    failed = open_table(proc);
+    if (failed == 0)
+        failed = open_top(root);
+    if (failed) {
         inroot_trust_end();
-        return failed;
+        return told(-failed);
     }
     *mark = 1;
     return 0;
 }
 
+/* A child of fork(2) has both numbers of its parent, and no mark. What it did with the root's number meanwhile isn't known. */
+static bool is_of_parent(void)
+{
+    return table.fd >= 0 && !is_marked();
+}
+
 void inroot_trust_end(void)
 {
-    if (inroot_proc_is(table))
-        close(table);
-    table = INROOT_NONE;
+    if (is_of_parent())
+        top.fd = INROOT_NONE;
+    inroot_proc_close(&table);
+    close_top();
     if (mark != NULL)
-        munmap((void *)mark, page_size());
+        munmap(mark, page_size());
     mark = NULL;
+}
+
+static void look_at_mark(void)
+{
+    if (is_of_parent())
+        inroot_trust_end();
 }
 
 int inroot_trust_table(void)
 {
-    if (table >= 0 && *mark != 1)
-        inroot_trust_end();
-    return table;
+    look_at_mark();
+    return table.fd;
+}
+
+int inroot_trust_root(void)
+{
+    look_at_mark();
+    return top.fd;
 }

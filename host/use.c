@@ -31,7 +31,7 @@ static bool is_nameless(int how)
     return (how & O_TMPFILE) == O_TMPFILE;
 }
 
-/* Whether what is open may be opened so once more. */
+/* Whether the same object may be opened once more with these flags. */
 static bool reopens(int how)
 {
     if (how & O_PATH)
@@ -69,20 +69,31 @@ static int find(int root, const struct use *use, enum inroot_kind *kind)
     return inroot_run_alone(root, &asked);
 }
 
-static int reopened(int fd, int how)
+/* By one that is at hand, or surely by /proc: the descriptor or -errno; and whether that may be for want of /proc. */
+static int reopened_by(bool surely, int fd, int how, bool *is_lost)
 {
     char written[INROOT_PROC_NAME];
     bool is_own;
-    int proc = inroot_proc_open(&is_own);
+    int proc = inroot_proc_open(surely, &is_own);
+    *is_lost = false;
     if (proc < 0)
         return proc;
     const char *name = inroot_proc_name(fd, written);
     int used = openat(proc, name, how | ALWAYS);
     if (used < 0)
         used = -inroot_proc_error(proc, name, errno);
+    if (used == -ENOSYS || used == -ENOTDIR)
+        *is_lost = inroot_proc_is_lost(proc);
     if (is_own)
         close(proc);
     return used;
+}
+
+static int reopened(int fd, int how)
+{
+    bool is_lost;
+    int used = reopened_by(false, fd, how, &is_lost);
+    return is_lost ? reopened_by(true, fd, how, &is_lost) : used;
 }
 
 /* Whether an object of that kind may be opened so, where opening doesn't tell: 0 or -errno. */
@@ -143,7 +154,7 @@ static ssize_t follow(int root, const struct use *use, char *path)
 {
     char text[INROOT_ROOM];
     const struct inroot_request asked = {
-        .op = INROOT_ASK_READLINK, .flags = use->flags, .first = use->path, .second = "",
+        .op = INROOT_ASK_READLINK, .flags = use->flags, .first = use->path, .second = "", .follows = true,
     };
     ssize_t length = inroot_run(root, &asked, text);
     if (length <= 0)
@@ -164,26 +175,33 @@ static bool in_between(ssize_t followed)
     return followed == -EINVAL || followed == -ENOENT;
 }
 
-/* Opens what is there, or makes it where nothing is, at the end of a link as well, until one or the other holds. */
+/*
+ * Opens what is there, or makes it where nothing is, at the end of a link as well, until one or the other holds.
+ * Where a link isn't to be followed its text isn't read: what came in between is opened as it is, and a link is
+ * refused by that.
+ */
 static int open_or_create(int root, struct use use)
 {
     char path[INROOT_TEXT_MAX];
+    const bool follows = !(use.how & O_NOFOLLOW) && !(use.flags & INROOT_NO_LINKS);
+    bool is_again = false;
     for (int tries = 1, links = 0;;) {
         int fd = open_found(root, &use);
         if (fd != -ENOENT)
             return fd;
+        if (is_again && !inroot_again(tries++, use.flags))
+            return inroot_error_alone(EAGAIN, "MakeFile", use.path);
         fd = create(root, &use);
         if (fd != -EEXIST)
             return fd;
-        ssize_t followed = use.how & O_NOFOLLOW ? -EINVAL : follow(root, &use, path);
+        ssize_t followed = follows ? follow(root, &use, path) : -EINVAL;
         if (followed < 0 && !in_between(followed))
             return (int)followed;
         if (followed > 0 && ++links > LINKS)
             return inroot_error_alone(ELOOP, "ReadLink", use.path);
         if (followed > 0)
             use.path = path;
-        else if (!inroot_again(tries++, use.flags))
-            return inroot_error_alone(EAGAIN, "MakeFile", use.path);
+        is_again = followed < 0;
     }
 }
 
@@ -199,9 +217,11 @@ static int open_by(int root, const struct use *use)
 int inroot_openat(int root, const char *path, int open_flags, mode_t mode, int flags)
 {
     int state;
-    const struct use use = {.path = path, .how = open_flags, .flags = flags, .mode = mode};
+    char text[INROOT_TEXT_MAX + 1];
+    const struct use use = {.path = text, .how = open_flags, .flags = flags, .mode = mode};
+    inroot_copy(text, path);
     if (!opens(open_flags, mode))
-        return inroot_error_alone(EINVAL, "", path);
+        return inroot_error_alone(EINVAL, "", text);
     pthread_setcancelstate(PTHREAD_CANCEL_DISABLE, &state);
     int result = open_by(root, &use);
     pthread_setcancelstate(state, NULL);

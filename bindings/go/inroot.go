@@ -4,7 +4,8 @@
 // link begin at the root, and ".." at the root is the root, whoever renames directories meanwhile. What is promised,
 // and the order of the errors, is that of libinroot(7). Functions are named as those of filepath-securejoin.
 //
-// Nothing is promised where the root itself, or a directory above it, is renamed meanwhile.
+// Where the kernel has no openat2(2), nothing is promised if the root itself, or a directory above it, is renamed
+// meanwhile.
 //
 // The library is found by pkg-config. An error is an *os.PathError (or *os.LinkError of two paths) with a
 // syscall.Errno.

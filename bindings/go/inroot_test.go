@@ -6,6 +6,7 @@ import (
 	"os"
 	"path/filepath"
 	"reflect"
+	"runtime"
 	"strings"
 	"sync/atomic"
 	"syscall"
@@ -153,6 +154,90 @@ func TestFiles(t *testing.T) {
 	_, err = Reopen(link, os.O_RDONLY)
 	fails(t, err, syscall.ELOOP)
 	must(t, link.Close())
+}
+
+func TestUnnamedFiles(t *testing.T) {
+	top, root := tree(t)
+	old := syscall.Umask(0o022)
+	defer syscall.Umask(old)
+	file, err := UnnamedFileInRoot(root, "in", 0o666)
+	must(t, err)
+	defer file.Close()
+	about, err := file.Stat()
+	must(t, err)
+	if about.Mode() != 0o644 {
+		t.Errorf("a file without a name of mode %v", about.Mode())
+	}
+	_, err = file.WriteString("published")
+	must(t, err)
+	must(t, LinkFileInRoot(root, file, "in/whole"))
+	text, err := os.ReadFile(filepath.Join(top, "box/a/b/whole"))
+	must(t, err)
+	if string(text) != "published" {
+		t.Errorf("%q", text)
+	}
+	fails(t, LinkFileInRoot(root, file, "in/whole"), syscall.EEXIST)
+	fails(t, LinkFileInRoot(root, file, "up/whole"), syscall.ENOENT)
+	plain, err := OpenFileInRoot(root, "in/whole", os.O_RDONLY, 0o600)
+	must(t, err)
+	must(t, plain.Close())
+}
+
+func TestFlags(t *testing.T) {
+	top, root := tree(t)
+	_, err := OpenatInRoot(root, "in/f", Beneath)
+	fails(t, err, syscall.EXDEV)
+	_, err = OpenInRoot(filepath.Join(top, "box"), "in/f", NoLinks)
+	fails(t, err, syscall.ELOOP)
+	_, err = OpenFileInRoot(root, "abs", os.O_WRONLY|os.O_CREATE, 0o600, NoLinks, NoRetry)
+	fails(t, err, syscall.ELOOP)
+	fails(t, MkdirInRoot(root, "in/x", 0o755, NoLinks), syscall.ELOOP)
+	fails(t, RenameInRoot(root, "in/f", "g", RenamePlain, NoLinks), syscall.ELOOP)
+	fails(t, LinkInRoot(root, "in/f", "g", Beneath), syscall.EXDEV)
+	_, err = StatInRoot(root, "a", Flags(1<<20))
+	fails(t, err, syscall.EINVAL)
+	for _, flag := range []Flags{0, NoRetry, OneByOne, NoXdev, NoXdev | OneByOne} {
+		_, err = StatInRoot(root, "in/f", flag)
+		must(t, err)
+	}
+	// There is a /proc, which is a mount of its own.
+	whole, err := openRoot("/")
+	must(t, err)
+	defer whole.Close()
+	for _, flag := range []Flags{NoXdev, NoXdev | OneByOne} {
+		_, err = OpenatInRoot(whole, "proc/version", flag)
+		fails(t, err, syscall.EXDEV)
+	}
+	_, err = StatInRoot(whole, "proc/version")
+	must(t, err)
+}
+
+func TestLinksThemselves(t *testing.T) {
+	top, root := tree(t)
+	about, err := LstatInRoot(root, "up")
+	must(t, err)
+	if about.Mode()&os.ModeSymlink == 0 {
+		t.Errorf("up is %v", about.Mode())
+	}
+	must(t, os.Symlink("b/f", filepath.Join(top, "box/a/to")))
+	must(t, LinkFollowedInRoot(root, "a/to", "second"))
+	about, err = LstatInRoot(root, "second")
+	must(t, err)
+	if !about.Mode().IsRegular() {
+		t.Errorf("a second name of %v", about.Mode())
+	}
+}
+
+func TestLastError(t *testing.T) {
+	_, root := tree(t)
+	runtime.LockOSThread()
+	defer runtime.UnlockOSThread()
+	_, err := OpenatInRoot(root, "in/none/x")
+	fails(t, err, syscall.ENOENT)
+	cause, is := LastError()
+	if wanted := (Cause{syscall.ENOENT, "Open", "none", "none/x"}); !is || cause != wanted {
+		t.Errorf("%v, and not %v", cause, wanted)
+	}
 }
 
 func TestRemoving(t *testing.T) {

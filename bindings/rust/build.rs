@@ -19,6 +19,11 @@ fn directories() -> Vec<String> {
     if let Ok(directory) = env::var("INROOT_LIB_DIR") {
         return vec![directory];
     }
+    let named = |name| env::var_os(name).is_some();
+    if env::var_os("HOST") != env::var_os("TARGET") && !named("PKG_CONFIG") && !named("PKG_CONFIG_LIBDIR") {
+        // What this machine's pkg-config finds is a library for this machine.
+        panic!("To build for another machine, set INROOT_LIB_DIR to the directory of its libinroot, or PKG_CONFIG.");
+    }
     let command = env::var_os("PKG_CONFIG").unwrap_or_else(|| "pkg-config".into());
     // A static library is looked for in the directories that are named alone, so those of the system are named too.
     let asked =

@@ -185,7 +185,8 @@ int tar_next(struct tar_reader *reader, struct tar_entry *entry)
     int found;
     while ((found = read_header(reader, &header, &size)) == 1) {
         bool is_pax = header.type == 'x' || header.type == 'g';
-        bool has_contents = is_pax || header.type == '0' || header.type == '\0' || header.type == '7';
+        /* Those of any other type have contents, also of an unknown one: else their bytes would be read as entries. */
+        bool has_contents = header.type < '1' || header.type > '6';
         if (!is_pax && pax.size >= 0)
             size = (uint64_t)pax.size;
         if (size > INT64_MAX)

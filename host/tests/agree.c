@@ -144,7 +144,7 @@ int main(int count, char **words)
     if (count != 3)
         return 2;
     int base = sure(open(words[1], O_PATH | O_DIRECTORY | O_CLOEXEC), words[1]), cases = atoi(words[2]), differ = 0;
-    if (by_kernel(base, ".", 0) == -ENOSYS)
+    if (!has_openat2())
         return NO_OPENAT2;
     if (!may_jail(base))
         return NO_RIGHT;

@@ -1,10 +1,13 @@
 /*
- * between: somebody acts between two system calls of a call: as a link of /proc is about to be read, or a directory to be
- * asked where it stands. To be linked with --wrap=readlinkat and --wrap=syscall.
+ * between: somebody acts between two system calls of a call: as a link of /proc is about to be read, a directory to be
+ * asked where it stands, or the names that were told to be looked up. To be linked with --wrap=readlinkat and
+ * --wrap=syscall.
  *
- * usage: between DIR. Exits 0 where each call tells what was so. 78: no right to change a root, so that a half is left out.
+ * usage: between DIR. Exits 0 where each call tells what was so. 77: no openat2(2) here. 78: no right to change a root, so that a
+ * half is left out.
  */
 #define _GNU_SOURCE
+#include "../openat2.h"
 #include "support.h"
 
 #include <errno.h>
@@ -48,7 +51,9 @@ __attribute__((no_sanitize("address"))) long __wrap_syscall(long number, ...)
     for (int one = 0; one < 5; one++)
         with[one] = va_arg(more, long);
     va_end(more);
-    if (number == SYS_getcwd)
+    /* What has room for an answer asks for one; the other witness opens names as they are. */
+    const struct open_how *how = number == SYS_openat2 ? (const struct open_how *)with[2] : NULL;
+    if (number == SYS_getcwd ? with[1] > 2 : how != NULL && how->resolve & RESOLVE_BENEATH && how->flags & O_NOFOLLOW)
         ask();
     return __real_syscall(number, with[0], with[1], with[2], with[3], with[4]);
 }
@@ -86,15 +91,18 @@ static const struct {
     {"2/f", 1, move_beside, move_back, -EAGAIN, -EAGAIN, -ENOENT, -ENOENT},
     {"2/d/..", 1, move_beside, move_back, -EAGAIN, -EAGAIN, -EAGAIN, -EAGAIN},
     {"2/d", 2, move_beside, move_back, -EAGAIN, 0, -ENOENT, 0},
-    {"2/d", 3, move_beside, move_back, 0, 0, 0, 0},
+    {"2/d", 3, move_beside, move_back, -EAGAIN, 0, 0, 0},
+    {"2/d", 3, move_out, move_in, -EAGAIN, 0, 0, 0},
     {"2/d", 1, move_out, move_in, -EAGAIN, -EAGAIN, -ENOENT, -ENOENT},
     {"2/f", 1, move_file, return_file, -EAGAIN, -EAGAIN, -ENOENT, -ENOENT},
-    {"2/f", 2, move_file, return_file, -EAGAIN, 0, -ENOENT, 0},
+    {"2/f", 2, move_file, return_file, -EAGAIN, -EAGAIN, -ENOENT, 0},
+    {"2/f", 3, move_file, return_file, -EAGAIN, 0, 0, 0},
+    {"2/d", 3, remove_directory, make_directory, -EAGAIN, 0, 0, 0},
     {"2/d", 1, remove_directory, make_directory, -EAGAIN, -EAGAIN, -ENOENT, -ENOENT},
     {"2/f", 1, remove_file, make_file, -EAGAIN, -EAGAIN, -ENOENT, -ENOENT},
     {"2/d", 1, move_root, return_root, 0, 0, 0, 0},
     {"2/d", 2, move_root, return_root, -EAGAIN, 0, 0, 0},
-    {"2/f", 3, move_root, return_root, -EAGAIN, 0, 0, 0},
+    {"2/f", 3, move_root, return_root, 0, 0, 0, 0},
 };
 
 /* One call of a row, whose path stands behind these words. */
@@ -122,9 +130,11 @@ static void each(void)
     for (size_t row = 0; row < sizeof rows / sizeof *rows; row++) {
         int by_steps = is_jail ? rows[row].in_jail : rows[row].by_proc;
         one(row, "", INROOT_ONE_BY_ONE, by_steps);
-        one(row, "./", 0, by_steps);
-        one(row, "", 0, is_jail ? rows[row].at_once_in_jail : rows[row].at_once_by_proc);
-        one(row, "/", 0, is_jail ? rows[row].at_once_in_jail : rows[row].at_once_by_proc);
+        int at_once = is_jail ? rows[row].at_once_in_jail : rows[row].at_once_by_proc;
+        /* Names that are left from the root are passed by one system call, too, so that no look-up is asked for. */
+        one(row, "./", 0, rows[row].questions > (is_jail ? 1 : 2) ? 0 : by_steps);
+        one(row, "", 0, at_once);
+        one(row, "/", 0, at_once);
     }
 }
 
@@ -159,6 +169,8 @@ int main(int count, char **words)
 {
     if (count != 2)
         return 2;
+    if (!has_openat2())
+        return NO_OPENAT2;
     base = sure(open(words[1], O_PATH | O_DIRECTORY | O_CLOEXEC), words[1]);
     sure(mkdirat(base, "box", 0755), "box");
     root = sure(openat(base, "box", O_PATH | O_DIRECTORY | O_CLOEXEC), "box");

@@ -1,7 +1,7 @@
 /*
  * counts: how many system calls a call makes, in a jail, by /proc and in a jail that trusts its descriptor of that,
  * with runs of names and name by name. What is opened is closed by the program, which isn't counted. It is no more than
- * docs/HOST.md has. And how often inroot_openat() tries to create, and what the calls give where openat2(2) is missing
+ * docs/HOST-TESTED.md has. And how often inroot_openat() tries to create, and what the calls give where openat2(2) is missing
  * or fails.
  *
  * usage: counts DIR. Exits 0 where that holds. 77: no openat2(2) here. 78: no right to change a root. To be linked
@@ -19,13 +19,14 @@
 #include <sys/stat.h>
 #include <sys/syscall.h>
 #include <sys/vfs.h>
+#include <time.h>
 
 /* Whoever calls a function of the C library, for the compiler, changes none of these. */
 static volatile unsigned made, created, runs;
 static bool is_taken;
 
-/* The error by which each openat2(2) fails, or 0; and each madvise(2). */
-static int refusal, no_advice;
+/* The error by which each openat2(2) fails, or so many of them, or 0; and each madvise(2). */
+static int refusal, refusals = -1, no_advice;
 
 #define COUNTED(type, name, parameters, arguments)               \
     type __real_##name parameters;                               \
@@ -38,6 +39,9 @@ static int refusal, no_advice;
 
 COUNTED(int, fstat, (int fd, struct stat *about), (fd, about))
 COUNTED(int, fstatfs, (int fd, struct statfs *about), (fd, about))
+#ifdef STATX_INO
+COUNTED(int, statx, (int dir, const char *name, int flags, unsigned what, struct statx *about), (dir, name, flags, what, about))
+#endif
 COUNTED(int, fchdir, (int fd), (fd))
 COUNTED(int, chdir, (const char *path), (path))
 COUNTED(int, unshare, (int what), (what))
@@ -87,7 +91,8 @@ long __wrap_syscall(long number, ...)
     va_end(more);
     made++;
     runs += number == SYS_openat2;
-    if (number == SYS_openat2 && refusal != 0) {
+    if (number == SYS_openat2 && refusal != 0 && refusals != 0) {
+        refusals -= refusals > 0;
         errno = refusal;
         return -1;
     }
@@ -140,21 +145,21 @@ static const struct {
     int (*call)(const char *path, int flags);
     unsigned most[COLUMNS];
 } rows[] = {
-    {"open a/b", "a/b", open_it, {6, 8, 6, 8, 6, 8}},
-    {"open a/b/f, a file", "a/b/f", open_it, {4, 8, 6, 10, 3, 7}},
-    {"open four times b/..", "a/b/../b/../b/../b/..", open_it, {17, 31, 20, 34, 17, 31}},
-    {"open 32 directories", deep, open_it, {6, 68, 6, 68, 6, 68}},
-    {"open 32, O_PATH | O_DIRECTORY", deep, open_directory, {5, 67, 5, 67, 5, 67}},
-    {"open d/l/f, l a link to ../a/b", "d/l/f", open_it, {19, 22, 20, 23, 18, 21}},
-    {"open a/b/none", "a/b/none", open_it, {4, 5, 4, 5, 4, 5}},
-    {"open /a/b/none", "/a/b/none", open_it, {4, 5, 4, 5, 4, 5}},
+    {"open a/b", "a/b", open_it, {7, 9, 5, 11, 7, 9}},
+    {"open a/b/f, a file", "a/b/f", open_it, {6, 15, 5, 14, 5, 14}},
+    {"open four times b/..", "a/b/../b/../b/../b/..", open_it, {22, 39, 32, 50, 22, 39}},
+    {"open 32 directories", deep, open_it, {7, 69, 5, 71, 7, 69}},
+    {"open 32, O_PATH | O_DIRECTORY", deep, open_directory, {6, 68, 4, 70, 6, 68}},
+    {"open d/l/f, l a link to ../a/b", "d/l/f", open_it, {23, 30, 24, 32, 22, 29}},
+    {"open a/b/none", "a/b/none", open_it, {6, 5, 4, 5, 6, 5}},
+    {"open /a/b/none", "/a/b/none", open_it, {6, 5, 4, 5, 6, 5}},
     {"open /a/none beneath", "/a/none", open_beneath, {0, 0, 1, 1, 0, 0}},
-    {"open f, a file", "f", open_it, {4, 4, 6, 6, 3, 3}},
-    {"open l, a link to a/b", "l", open_it, {10, 12, 10, 12, 10, 12}},
-    {"read a/b/f", "a/b/f", read_it, {7, 11, 9, 13, 6, 10}},
-    {"create a/b/new", "a/b/new", create, {7, 9, 7, 9, 7, 9}},
-    {"make n/e/w/s", "n/e/w/s", make_all, {18, 16, 18, 16, 18, 16}},
-    {"make a/b, which is there", "a/b", make_all, {5, 7, 5, 7, 5, 7}},
+    {"open f, a file", "f", open_it, {6, 11, 5, 10, 5, 10}},
+    {"open l, a link to a/b", "l", open_it, {13, 14, 11, 16, 13, 14}},
+    {"read a/b/f", "a/b/f", read_it, {9, 18, 8, 17, 8, 17}},
+    {"create a/b/new", "a/b/new", create, {8, 10, 6, 12, 8, 10}},
+    {"make n/e/w/s", "n/e/w/s", make_all, {20, 17, 21, 19, 20, 17}},
+    {"make a/b, which is there", "a/b", make_all, {6, 8, 4, 10, 6, 8}},
 };
 
 enum { ROWS = sizeof rows / sizeof *rows };
@@ -210,15 +215,34 @@ static void *count_without_advice(void *unused)
     return unused;
 }
 
-/* Where others put an entry in place and take it away each time: so many tries, or one. */
+static long microseconds(void)
+{
+    struct timespec now;
+    clock_gettime(CLOCK_MONOTONIC, &now);
+    return now.tv_sec * 1000000 + now.tv_nsec / 1000;
+}
+
+/*
+ * Where others put an entry in place and take it away each time: so many tries, or one. After the last the call has waited; with
+ * one try it is told at once.
+ */
 static void tries(void)
 {
     is_taken = true;
     created = 0;
-    expect(inroot_openat(at, "a/taken", O_WRONLY | O_CREAT, 0600, INROOT_NO_RETRY) == -EAGAIN, "one try");
-    expect(created == 1, "%u tries, and not one", created);
+    long from = microseconds();
+    for (unsigned one = 1; one <= 100; one++) {
+        expect(inroot_openat(at, "a/taken", O_WRONLY | O_CREAT, 0600, INROOT_NO_RETRY) == -EAGAIN, "one try");
+        expect(created == one, "%u tries, and not %u", created, one);
+    }
+    long one = microseconds() - from;
+    created = 0;
+    from = microseconds();
     expect(inroot_openat(at, "a/taken", O_WRONLY | O_CREAT, 0600, 0) == -EAGAIN, "all tries");
-    expect(created == 1 + INROOT_TRIES, "%u tries, and not all", created - 1);
+    expect(created == INROOT_TRIES, "%u tries, and not all", created);
+    long all = microseconds() - from;
+    expect(all >= 17000, "all tries took %ld microseconds", all);
+    expect(one / 100 < all, "one try took %ld microseconds, and all %ld", one / 100, all);
     expect(inroot_openat(at, "a/taken", O_WRONLY | O_CREAT | O_EXCL, 0600, 0) == -EEXIST, "what is there");
     is_taken = false;
 }
@@ -235,8 +259,37 @@ static void *without_openat2(void *unused)
         expect(inroot_stat(at, "a/b/f/x", &about, 0) == -ENOTDIR, "what is below a file");
         expect(inroot_stat(at, deep, &about, 0) == 0 && S_ISDIR(about.st_mode), "many directories");
     }
-    bool is_missing = refusal == ENOSYS || refusal == EPERM;
-    expect(is_missing ? runs == 1 : runs > 1, "%u runs of names were tried", runs);
+    expect(runs == 1, "openat2(2) was tried %u times", runs);
+    return unused;
+}
+
+/* Where it fails otherwise, runs of names are left out, and what is to be asked for its place isn't opened. */
+static void *failing_openat2(void *unused)
+{
+    struct stat about;
+    runs = 0;
+    for (int turn = 0; turn < 3; turn++) {
+        expect(inroot_stat(at, "a/b/../b/f", &about, 0) == -refusal, "a file");
+        expect(inroot_stat(at, "a/b/none", &about, 0) == -ENOENT, "what isn't there");
+        expect(inroot_stat(at, "a/b/f/x", &about, 0) == -ENOTDIR, "what is below a file");
+        expect(inroot_stat(at, deep, &about, 0) == -refusal, "many directories");
+    }
+    expect(runs > 12, "openat2(2) was tried %u times", runs);
+    return unused;
+}
+
+/* An EPERM that is a file system's own is of one look-up, and not of the system call. */
+static void *refused_once(void *unused)
+{
+    struct stat about;
+    refusals = 1;
+    for (int turn = 0; turn < 3; turn++) {
+        runs = 0;
+        expect(inroot_stat(at, "a/b/f", &about, 0) == 0 && S_ISREG(about.st_mode), "a file");
+        expect(inroot_stat(at, deep, &about, 0) == 0 && S_ISDIR(about.st_mode), "many directories");
+        expect(runs > 1 && refusals == 0, "openat2(2) was tried %u times in turn %d", runs, turn);
+    }
+    refusals = -1;
     return unused;
 }
 
@@ -246,9 +299,14 @@ static void refused_openat2(void)
     for (size_t one = 0; one < sizeof errors / sizeof *errors; one++) {
         pthread_t thread;
         refusal = errors[one];
-        pthread_create(&thread, NULL, without_openat2, NULL);
+        bool is_missing = refusal == ENOSYS || refusal == EPERM;
+        pthread_create(&thread, NULL, is_missing ? without_openat2 : failing_openat2, NULL);
         pthread_join(thread, NULL);
     }
+    pthread_t thread;
+    refusal = EPERM;
+    pthread_create(&thread, NULL, refused_once, NULL);
+    pthread_join(thread, NULL);
     refusal = 0;
 }
 
@@ -267,11 +325,10 @@ static void make_tree(void)
 
 int main(int count, char **words)
 {
-    struct open_how how = {.flags = O_PATH | O_CLOEXEC};
     if (count != 2)
         return 2;
     root = sure(open(words[1], O_PATH | O_DIRECTORY | O_CLOEXEC), words[1]);
-    if (syscall(SYS_openat2, root, ".", &how, sizeof how) < 0)
+    if (!has_openat2())
         return NO_OPENAT2;
     make_tree();
     open_proc();

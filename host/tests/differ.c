@@ -1,7 +1,8 @@
 /*
  * differ: where the calls answer otherwise than openat2(2) on a real file system, as docs/LINUX.md lists it, and the kernel.
  *
- * usage: differ DIR. Exits 0 where both are as listed. 77: no openat2(2) here. 78: no right to mount here.
+ * usage: differ DIR. Exits 0 where both are as listed. 77: no openat2(2) here. 78: no right to mount here,
+ * or to become nobody.
  */
 #define _GNU_SOURCE
 #include "../openat2.h"
@@ -19,7 +20,11 @@ static const char *where;
 static int by_kernel(int root, const char *path, int flags)
 {
     struct open_how how = {.flags = (unsigned)flags, .mode = flags & O_CREAT ? 0600 : 0, .resolve = RESOLVE_IN_ROOT};
-    long fd = syscall(SYS_openat2, root, path, &how, sizeof how);
+    long fd;
+    /* A rename anywhere on the machine may refuse `..`. */
+    do
+        fd = syscall(SYS_openat2, root, path, &how, sizeof how);
+    while (fd < 0 && errno == EAGAIN);
     return fd < 0 ? -errno : (int)fd;
 }
 
@@ -34,12 +39,10 @@ static void both(int root, const char *path, int kernel, int here)
 static void links(void)
 {
     int root = sure(open(where, O_PATH | O_DIRECTORY | O_CLOEXEC), where);
-    if (by_kernel(root, ".", O_PATH) == -ENOSYS)
-        _exit(NO_OPENAT2);
     sure(symlinkat("nowhere", root, "dangling"), "dangling");
     sure(mkdirat(root, "made", 0755), "made");
     sure(mknodat(root, "g (deleted)", S_IFREG | 0600, 0), "g");
-    both(root, "g (deleted)", 0, -EAGAIN);
+    both(root, "g (deleted)", 0, 0);
     both(root, "dangling", -ENOENT, -ENOENT);
     expect(inroot_mkfile(root, "dangling", 0644, 0) == -EEXIST, "a file at a dangling link");
     expect(by_kernel(root, "dangling", O_CREAT | O_EXCL | O_WRONLY) == -EEXIST, "the kernel's O_EXCL at a dangling link");
@@ -50,14 +53,27 @@ static void links(void)
     expect(faccessat(root, "nowhere", F_OK, 0) == 0, "the kernel made nothing through a dangling link");
 }
 
-/* As nobody: the kernel opens a root that may not be searched. */
-static void shut_root(void)
+/* Root may search everything: it becomes nobody. */
+static void be_a_user(void)
+{
+    if (geteuid() == 0 && seteuid(65534) != 0)
+        _exit(NO_RIGHT);
+}
+
+/* The kernel opens a root that may not be searched, but not the `.` of such a directory below it. */
+static void shut_directories(void)
 {
     int root = sure(open(where, O_PATH | O_DIRECTORY | O_CLOEXEC), where);
-    if (geteuid() != 0 || by_kernel(root, ".", O_PATH) == -ENOSYS)
-        return;
+    uid_t user = geteuid();
+    sure(mkdirat(root, "shut", 0), "shut");
+    be_a_user();
+    both(root, "shut", 0, 0);
+    both(root, "shut/", 0, 0);
+    both(root, "shut/.", -EACCES, 0);
+    both(root, "shut/..", -EACCES, -EACCES);
+    sure(seteuid(user), "seteuid");
     sure(chmod(where, 0), where);
-    sure(setresuid(65534, 65534, 65534), "setresuid");
+    be_a_user();
     both(root, "/", 0, -EACCES);
 }
 
@@ -100,10 +116,12 @@ static void deep(void)
 
 int main(int count, char **words)
 {
-    static void (*const parts[])(void) = {links, deep, magic_links, shut_root};
+    static void (*const parts[])(void) = {links, deep, magic_links, shut_directories};
     int skipped = 0;
     if (count != 2)
         return 2;
+    if (!has_openat2())
+        return NO_OPENAT2;
     where = words[1];
     sure(chmod(where, 0755), where);
     for (size_t at = 0; at < sizeof parts / sizeof *parts; at++) {

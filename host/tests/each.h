@@ -6,6 +6,7 @@
 
 #include <errno.h>
 #include <fcntl.h>
+#include <string.h>
 #include <sys/stat.h>
 
 /* Opened once more, for use. */
@@ -63,15 +64,26 @@ static int call(int root, int number)
     case 18: return inroot_stat(root, "a/link/f", &about, 0);
     case 19: return publish(root);
     case 20: return keep_root();
+    case 21: return (int)inroot_remove_all(root, "a/deep", 0);
     default: return (int)inroot_remove_all(root, "a/b", 0);
     }
 }
 
-enum { CALLS = 22 };
+enum { CALLS = 23 };
 
 static bool opens(int number)
 {
     return number < 2 || (number >= 9 && number <= 14);
+}
+
+/* More levels than a call has handles for at first. */
+static void make_deep(int root)
+{
+    char path[64] = "a/deep";
+    for (int level = 0; level < 12; level++) {
+        mkdirat(root, path, 0755);
+        strcat(path, "/d");
+    }
 }
 
 static void restore(int root, int result, int number)
@@ -86,6 +98,7 @@ static void restore(int root, int result, int number)
     unlinkat(root, "a/b/gone", 0);
     unlinkat(root, "a/b/newdir", AT_REMOVEDIR);
     unlinkat(root, "a/newlink", 0);
+    make_deep(root);
     renameat(root, "a/g", root, "a/b/f");
     mknodat(root, "a/b/g", S_IFREG | 0600, 0);
     mkdirat(root, "a/b/e", 0755);

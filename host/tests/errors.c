@@ -2,7 +2,8 @@
  * errors: what a call gives for a bad root before anything else, what it opens, and what the kernel's words for what is
  * removed are taken for; and how often a call is tried.
  *
- * usage: errors DIR. Exits 0 where each is as inroot.h says.
+ * usage: errors DIR. Exits 0 where each is as inroot.h says. 78: no right to become nobody, or to change a root, so that a part
+ * is left out.
  */
 #define _GNU_SOURCE
 #include "support.h"
@@ -11,7 +12,6 @@
 #include <fcntl.h>
 #include <string.h>
 #include <sys/stat.h>
-#include <time.h>
 
 static int base;
 
@@ -55,6 +55,22 @@ static void bad_roots(void)
     close(root);
 }
 
+/* A flag that no call has is refused before anything is asked of the root. */
+static void unknown_flags(void)
+{
+    const unsigned known = INROOT_BENEATH | INROOT_NO_LINKS | INROOT_NOFOLLOW | INROOT_NO_RETRY | INROOT_FOLLOW |
+                           INROOT_ONE_BY_ONE | INROOT_NO_XDEV;
+    for (unsigned bit = 0; bit < 31; bit++) {
+        int flag = (int)(1u << bit);
+        int got = closed(inroot_open(999, "a", flag));
+        bool is_opens = (known & ~(unsigned)INROOT_FOLLOW) >> bit & 1;
+        expect(got == (is_opens ? -EBADF : -EINVAL), "inroot_open() with the flag 2^%u: %d", bit, got);
+        got = inroot_mkdir(999, "a", 0755, flag);
+        bool is_makes = (known & ~(unsigned)(INROOT_FOLLOW | INROOT_NOFOLLOW)) >> bit & 1;
+        expect(got == (is_makes ? -EBADF : -EINVAL), "inroot_mkdir() with the flag 2^%u: %d", bit, got);
+    }
+}
+
 /* What is opened by a path without names is a descriptor of its own, by which nothing can be read. */
 static void opened_alone(void)
 {
@@ -84,7 +100,11 @@ static void deleted_names(void)
     expect(closed(inroot_open(root, "d/..", 0)) == 0, "up to a root that is called so");
     expect(closed(inroot_open(root, "e (deleted)", 0)) == 0, "a directory that is called so");
     expect(inroot_mkdir(root, "e (deleted)/x", 0755, 0) == 0, "in a directory that is called so");
-    expect(closed(inroot_open(root, "g (deleted)", INROOT_NO_RETRY)) == -EAGAIN, "a file that is called so");
+    /* Without openat2(2) such a file can't be told from one that is gone. */
+    int wanted = has_openat2() ? 0 : -EAGAIN;
+    gives(closed(inroot_open(root, "g (deleted)", INROOT_NO_RETRY)), wanted, "a file that is called so");
+    gives(closed(inroot_open(root, "d/../g (deleted)", INROOT_NO_RETRY)), wanted, "the same, by steps");
+    expect(closed(inroot_open(root, "d/../e (deleted)", INROOT_NO_RETRY)) == 0, "a directory that is called so, by steps");
     expect(inroot_remove_all(root, "e (deleted)", 0) == 2, "a tree that is called so");
     /* A root that is gone is below itself still, and has no names below it. */
     int gone = sure(openat(root, "d/f", O_PATH | O_DIRECTORY | O_CLOEXEC), "openat");
@@ -93,24 +113,6 @@ static void deleted_names(void)
     expect(closed(inroot_open(gone, "x", 0)) == -ENOENT, "a name in a root that is gone");
     expect(inroot_mkdir(gone, "x", 0755, 0) == -ENOENT, "a directory in a root that is gone");
     close(gone);
-    close(root);
-}
-
-/* An EAGAIN that comes at every try is told after the last, for which the call has waited; with one try it is told at once. */
-static void tries(void)
-{
-    struct timespec from, middle, to;
-    int root = sure(openat(base, "r (deleted)", O_PATH | O_DIRECTORY | O_CLOEXEC), "openat");
-    clock_gettime(CLOCK_MONOTONIC, &from);
-    for (int at = 0; at < 100; at++)
-        expect(closed(inroot_open(root, "g (deleted)", INROOT_NO_RETRY)) == -EAGAIN, "one try");
-    clock_gettime(CLOCK_MONOTONIC, &middle);
-    expect(closed(inroot_open(root, "g (deleted)", 0)) == -EAGAIN, "all tries");
-    clock_gettime(CLOCK_MONOTONIC, &to);
-    long one = (middle.tv_sec - from.tv_sec) * 1000000 + (middle.tv_nsec - from.tv_nsec) / 1000;
-    long all = (to.tv_sec - middle.tv_sec) * 1000000 + (to.tv_nsec - middle.tv_nsec) / 1000;
-    expect(all >= 17000, "all tries took %ld microseconds", all);
-    expect(one / 100 < all, "one try took %ld microseconds, and all %ld", one / 100, all);
     close(root);
 }
 
@@ -170,16 +172,16 @@ int main(int count, char **words)
     sure(mknodat(base, "open/sub/file", S_IFREG | 0600, 0), "file");
     open_proc();
     int before = open_descriptors();
+    unknown_flags();
     bad_roots();
     opened_alone();
     deleted_names();
-    tries();
-    if (geteuid() == 0) {
+    int skipped = NO_RIGHT;
+    if (may_be_nobody()) {
         apart(shut_by_proc);
-        if (apart(shut_in_jail) == NO_RIGHT || apart(shut_in_trusting_jail) == NO_RIGHT)
-            puts("errors: no right to change a root here");
+        skipped = apart(shut_in_jail) | apart(shut_in_trusting_jail);
     }
     int left = open_descriptors() - before;
     printf("errors: %d not as they are to be, %d descriptors left open\n", wrong, left);
-    return wrong != 0 || left != 0;
+    return wrong != 0 || left != 0 ? 1 : skipped;
 }

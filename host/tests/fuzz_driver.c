@@ -98,6 +98,9 @@ WRAP(ssize_t, readlinkat, (int dir, const char *name, char *text, size_t size), 
 WRAP(int, mkdirat, (int dir, const char *name, mode_t mode), (dir, name, mode))
 WRAP(int, mknodat, (int dir, const char *name, mode_t mode, dev_t dev), (dir, name, mode, dev))
 WRAP(int, symlinkat, (const char *text, int dir, const char *name), (text, dir, name))
+#ifdef STATX_INO
+WRAP(int, statx, (int dir, const char *name, int flags, unsigned what, struct statx *about), (dir, name, flags, what, about))
+#endif
 WRAP(int, unlinkat, (int dir, const char *name, int flags), (dir, name, flags))
 WRAP(int, linkat, (int from, const char *old, int to, const char *new, int flags), (from, old, to, new, flags))
 
@@ -367,8 +370,9 @@ int LLVMFuzzerTestOneInput(const uint8_t *data, size_t size)
     plan.left = size;
     opened_by_call = 0;
     struct jail *jail = &jails[who >= 128];
+    /* In a jail also by the root's descriptor. */
     asked.root = who % 2 && jail->has_jail ? INROOT_JAIL : root;
-    if (asked.root == INROOT_JAIL) {
+    if (who % 4 != 0 && jail->has_jail) {
         sem_post(&jail->handed);
         await(&jail->made);
     } else {

@@ -263,10 +263,8 @@ int main(int count, char **words)
         return 1;
     theirs = fcntl(base, F_DUPFD_CLOEXEC, 0);
     ours = fcntl(base, F_DUPFD_CLOEXEC, 0);
-    int probe = by_kernel(".", O_PATH, 0);
-    if (probe == -ENOSYS)
+    if (!has_openat2())
         return NO_OPENAT2;
-    close(probe);
     umask(022);
     open_proc();
     int before = open_descriptors();

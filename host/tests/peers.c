@@ -5,7 +5,8 @@
  * or `bind` on such a mount.
  *
  * usage: peers DIR SECONDS RACE [storm|overlay|bind]. RACE is rename, delete, exchange, create or all. Exits 0 where nothing that
- * was always outside was found or changed, no descriptor is left, and an unchecked walk was fooled. 78: no right to do so here.
+ * was always outside was found or changed, no descriptor is left, and an unchecked walk was fooled. 78: no right to do so here. 79: that
+ * walk was not fooled.
  */
 #define _GNU_SOURCE
 #include "support.h"
@@ -27,6 +28,8 @@
 
 static int base, root, out;
 static atomic_bool stop, fooled;
+/* Where a control wasn't fooled, though one was there. */
+static bool has_shown = true;
 static atomic_ulong moves;
 static char outside_path[PATH_MAX + 8];
 static struct stat outside[3];
@@ -268,7 +271,7 @@ static void race(const char *name, struct worker *workers, int count, void (*abo
             expect(w->escaped == 0 && w->done > 0, "%s: %s: %lu escaped, %lu done", name, w->name, w->escaped, w->done);
     }
     int left = open_descriptors() - before;
-    expect(fooled || !has_control, "%s: the walk without checks wasn't fooled", name);
+    has_shown = has_shown && (fooled || !has_control);
     expect(left == 0, "%s: %d descriptors left open", name, left);
     expect(is_untouched(), "%s: something outside was changed", name);
     printf("peers: %s: %lu moves, %d descriptors left open\n", name, (unsigned long)moves, left);
@@ -435,5 +438,5 @@ int main(int count, char **words)
         race_of_all(jails, seconds);
     else
         return 2;
-    return wrong != 0;
+    return ending(has_shown);
 }

@@ -122,12 +122,48 @@ static void handed_in(void)
     expect(inroot_reopen(root, O_RDONLY) == -ENOSYS, "a directory once more in a jail whose /proc was closed");
 }
 
+/* Below a jail's root stands a proc(5) that somebody mounted there. It is called /proc, and it isn't the program's. */
+static void of_the_jail(void)
+{
+    char path[PATH_MAX + 16];
+    snprintf(path, sizeof path, "%s/proc", where);
+    sure(mkdir(path, 0755), path);
+    if (unshare(CLONE_NEWNS) != 0 || mount(NULL, "/", NULL, MS_REC | MS_PRIVATE, NULL) != 0 ||
+        mount("none", path, "proc", 0, NULL) != 0)
+        _exit(NO_RIGHT);
+    /* In this mount namespace, where the other one's descriptor doesn't lead. */
+    int here = sure(open(where, O_PATH | O_DIRECTORY | O_CLOEXEC), where);
+    expect(inroot_jail(here) == 0, "a jail with a /proc of its own");
+    expect(inroot_open(INROOT_JAIL, "f", 0) >= 0, "a file in a jail with a /proc of its own");
+    close_proc();
+    expect(inroot_open(INROOT_JAIL, "a", 0) >= 0, "a directory in a jail with a /proc of its own");
+    int fd = inroot_open(INROOT_JAIL, "f", 0);
+    expect(fd == -ENOSYS, "a file by a /proc of the jail's own: %d", fd);
+    fd = inroot_openat(INROOT_JAIL, "a", O_RDONLY, 0, 0);
+    expect(fd == -ENOSYS, "a directory to be read by a /proc of the jail's own: %d", fd);
+    expect(inroot_link(INROOT_JAIL, "f", "g", 0) == -ENOSYS, "a second name by a /proc of the jail's own");
+}
+
 /* Opened while it was one, and covered later: what is open stays what it is. */
 static void covered_later(void)
 {
     expect(inroot_open(root, "f", 0) >= 0, "a file");
     cover(true);
     expect(inroot_open(root, "f", 0) >= 0, "a file by a /proc that was opened before");
+}
+
+/* Something else is mounted on the directory of this thread's descriptors: it is asked nothing. */
+static void table_covered(void)
+{
+    char path[64];
+    if (unshare(CLONE_NEWNS) != 0 || mount(NULL, "/", NULL, MS_REC | MS_PRIVATE, NULL) != 0)
+        _exit(NO_RIGHT);
+    snprintf(path, sizeof path, "/proc/self/task/%d/fd", (int)getpid());
+    /* The kernel may refuse mounts there. */
+    if (mount("none", path, "tmpfs", 0, NULL) != 0)
+        _exit(NO_RIGHT);
+    expect(inroot_jail_with(root, INROOT_TRUST_PROC) == 0, "a jail that trusts whose table is covered");
+    expect(inroot_open(INROOT_JAIL, "f", 0) == -ENOSYS, "a file in a jail that trusts whose table is covered");
 }
 
 /* Below another directory of a proc(5) there is no thread-self. */
@@ -137,14 +173,17 @@ static void not_its_top(void)
     expect(inroot_use_proc(below) == 0, "a directory of /proc");
     no_use("by a directory of /proc");
     expect(inroot_open(root, "f", 0) == -ENOSYS, "a file by a directory of /proc");
-    expect(inroot_jail_with(root, INROOT_TRUST_PROC) == 0, "a jail that trusts by a directory of /proc, which keeps none");
+    int failed = inroot_jail_with(root, INROOT_TRUST_PROC);
+    if (failed == -EPERM)
+        _exit(wrong != 0 ? 1 : NO_RIGHT);
+    expect(failed == 0, "a jail that trusts by a directory of /proc, which keeps none: %d", failed);
     expect(inroot_open(INROOT_JAIL, "f", 0) == -ENOSYS, "a file in a jail that trusts by a directory of /proc");
     expect(inroot_open(INROOT_JAIL, "a", 0) >= 0, "a directory in a jail that trusts by a directory of /proc");
 }
 
 int main(int count, char **words)
 {
-    static void (*const parts[])(void) = {no_proc, forged, handed_in, handed_in_to_trust, covered_later, not_its_top};
+    static void (*const parts[])(void) = {no_proc, forged, handed_in, handed_in_to_trust, covered_later, not_its_top, of_the_jail, table_covered};
     if (count != 2)
         return 2;
     root = sure(open(words[1], O_PATH | O_DIRECTORY | O_CLOEXEC), words[1]);

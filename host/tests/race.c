@@ -3,7 +3,8 @@
  * is an object that was never inside. A walk that doesn't ask where it stands is the control, and must be fooled.
  *
  * usage: race DIR SECONDS [swap]. Exits 0 with no escape of inroot_open() and at least one of the control. With `swap` the
- * root's own directory is exchanged with the one outside and back, too; then the form by /proc claims nothing.
+ * root's own directory is exchanged with the one outside and back, too; then the form by /proc claims nothing. 78: no right to
+ * change a root. 79: the control was not fooled.
  */
 #define _GNU_SOURCE
 #include "../openat2.h"
@@ -191,8 +192,11 @@ int main(int count, char **words)
     }
     int left = open_descriptors() - before;
     printf("race: %lu renames, %d descriptors left open\n", (unsigned long)renames, left);
-    bool failed = !fooled || left != 0;
-    for (int at = 0; at < OURS; at++)
-        failed |= resolvers[at].opened == 0 || (resolvers[at].escaped && (resolvers[at].jailed || !swaps));
-    return failed;
+    gives(left, 0, "descriptors left open");
+    for (int at = 0; at < OURS; at++) {
+        const struct resolver *r = &resolvers[at];
+        expect(r->opened > 0, "%s: nothing was opened", r->name);
+        expect(r->escaped == 0 || (swaps && !r->jailed), "%s: %lu escaped", r->name, r->escaped);
+    }
+    return ending(fooled);
 }

@@ -3,18 +3,21 @@
 #define SUPPORT_H
 
 #include "../inroot.h"
+#include "../openat2.h"
 
+#include <errno.h>
 #include <fcntl.h>
 #include <stdarg.h>
 #include <stdbool.h>
 #include <stdint.h>
 #include <stdio.h>
 #include <stdlib.h>
+#include <sys/syscall.h>
 #include <sys/wait.h>
 #include <unistd.h>
 
-/* How a check ends that the machine doesn't let run: the script tells which. */
-enum { NO_OPENAT2 = 77, NO_RIGHT = 78 };
+/* How a check ends that says nothing here: the machine doesn't let it run, or nothing led its control out. The script names it. */
+enum { NO_OPENAT2 = 77, NO_RIGHT = 78, NOT_FOOLED = 79 };
 
 /* How many times something wasn't as it is to be. */
 static int wrong;
@@ -32,6 +35,35 @@ __attribute__((format(printf, 2, 3), unused)) static void expect(bool holds, con
     putchar('\n');
     fflush(stdout);
     va_end(words);
+}
+
+/* Prints what a call gave where it gave something else than was wanted. */
+__attribute__((format(printf, 3, 4), unused)) static void gives(long got, long wanted, const char *what, ...)
+{
+    char text[8192];
+    va_list words;
+    va_start(words, what);
+    vsnprintf(text, sizeof text, what, words);
+    va_end(words);
+    expect(got == wanted, "%s: %ld, and not %ld", text, got, wanted);
+}
+
+/* Whether this thread has openat2(2), which an older kernel lacks and a filter may refuse. */
+static inline bool has_openat2(void)
+{
+    const struct open_how how = {.flags = O_PATH | O_CLOEXEC};
+    int fd = (int)syscall(SYS_openat2, AT_FDCWD, ".", &how, sizeof how);
+    if (fd >= 0)
+        close(fd);
+    return fd >= 0 || (errno != ENOSYS && errno != EPERM);
+}
+
+/* How a race ends. What is wrong counts first; where its control was not fooled, it has shown nothing. */
+static inline int ending(bool fooled)
+{
+    if (!fooled)
+        puts("the control was not fooled: the race shows nothing");
+    return wrong != 0 ? 1 : fooled ? 0 : NOT_FOOLED;
 }
 
 /* A random number below a bound, from a state of one's own (xorshift64). */
@@ -105,6 +137,12 @@ __attribute__((unused)) static int apart(void (*what)(void))
     else
         wrong += WEXITSTATUS(status);
     return 0;
+}
+
+/* Whether this process may become nobody and root again. In a user namespace there may be no such user. */
+__attribute__((unused)) static bool may_be_nobody(void)
+{
+    return geteuid() == 0 && seteuid(65534) == 0 && seteuid(0) == 0;
 }
 
 /* Whether threads may be given a root of their own here. */

@@ -106,7 +106,7 @@ static int outside;
 /* The numbers that come next are those of the directory `a` in the others' table. */
 static void *with_own_table(void *turn)
 {
-    volatile int *now = turn;
+    atomic_int *now = turn;
     sure(unshare(CLONE_FILES), "unshare");
     *now = 1;
     while (*now == 1)
@@ -121,8 +121,8 @@ static void *with_own_table(void *turn)
 static void own_table(void)
 {
     pthread_t thread;
-    static volatile int turn;
-    pthread_create(&thread, NULL, with_own_table, (void *)&turn);
+    static atomic_int turn;
+    pthread_create(&thread, NULL, with_own_table, &turn);
     while (turn == 0)
         sched_yield();
     fill("a");
@@ -136,7 +136,7 @@ static void own_table(void)
  */
 static void *lied_to(void *turn)
 {
-    volatile int *now = turn;
+    atomic_int *now = turn;
     struct stat one, other;
     sure(unshare(CLONE_FILES), "unshare");
     *now = 1;
@@ -153,9 +153,9 @@ static void *lied_to(void *turn)
 static void own_root(void)
 {
     pthread_t thread;
-    static volatile int turn;
+    static atomic_int turn;
     outside = sure(openat(base, "out", O_PATH | O_DIRECTORY | O_CLOEXEC), "out");
-    pthread_create(&thread, NULL, lied_to, (void *)&turn);
+    pthread_create(&thread, NULL, lied_to, &turn);
     while (turn == 0)
         sched_yield();
     fill("a");
@@ -166,7 +166,7 @@ static void own_root(void)
 /* A private table, then a first call in the others, then a jail. */
 static void *late_jail(void *turn)
 {
-    volatile int *now = turn;
+    atomic_int *now = turn;
     sure(unshare(CLONE_FILES), "unshare");
     *now = 1;
     while (*now == 1)
@@ -181,8 +181,8 @@ static void *late_jail(void *turn)
 static void late(void)
 {
     pthread_t thread;
-    static volatile int turn;
-    pthread_create(&thread, NULL, late_jail, (void *)&turn);
+    static atomic_int turn;
+    pthread_create(&thread, NULL, late_jail, &turn);
     while (turn == 0)
         sched_yield();
     int fd = inroot_open(root, "f", 0);
@@ -284,22 +284,30 @@ static void bad_jails(void)
     expect(is_at("/"), "the current directory after the end of a jail");
 }
 
-/* A thread that a jailed one made shares its current directory, and changes it without end. */
+/* A thread that a jailed one made shares its current directory, and changes it without end: so often until now. */
+static atomic_int wanderings;
+
 static void *wander(void *unused)
 {
     int there = sure(openat(base, "out", O_PATH | O_DIRECTORY | O_CLOEXEC), "out");
-    while (!stop)
+    while (!stop) {
         sure(fchdir(there), "fchdir");
+        wanderings++;
+    }
     return unused;
 }
 
-static void wanderer(void)
+static void wander_by(int flags)
 {
     pthread_t thread;
     int raced = 0;
-    jail_here();
+    stop = false;
+    errno = -inroot_jail_with(root, flags);
+    sure(-errno, "inroot_jail_with");
     pthread_create(&thread, NULL, wander, NULL);
-    for (int at = 0; at < 20000; at++) {
+    wanderings = 0;
+    /* Beside other work the other thread may wait long for its turn. */
+    for (int at = 0; at < 20000 || (wanderings < 20000 && at < 10000000); at++) {
         int fd = inroot_open(INROOT_JAIL, "a/b/..", INROOT_NO_RETRY);
         raced += fd < 0;
         if (fd >= 0)
@@ -308,6 +316,16 @@ static void wanderer(void)
     stop = true;
     pthread_join(thread, NULL);
     expect(raced == 0, "%d calls were answered by another thread's current directory", raced);
+}
+
+static void wanderer(void)
+{
+    wander_by(0);
+}
+
+static void trusting_wanderer(void)
+{
+    wander_by(INROOT_TRUST_PROC);
 }
 
 /* ---- cancelled, ended, interrupted */
@@ -433,7 +451,8 @@ int main(int count, char **words)
     } parts[] = {
         {"fork", forks, true}, {"vfork", vforks, true}, {"own table", own_table, false}, {"own root", own_root, false},
         {"late jail", late, true}, {"main thread ended", main_ends, false}, {"closed behind", closed_behind, false},
-        {"bad jails", bad_jails, true}, {"shared current directory", wanderer, true}, {"cancelled", cancelled, true},
+        {"bad jails", bad_jails, true}, {"shared current directory", wanderer, true}, {"the same that trusts", trusting_wanderer, true},
+        {"cancelled", cancelled, true},
         {"ended", ended, true}, {"signals", storm, false},
     };
     int skipped = 0;

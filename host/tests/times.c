@@ -357,6 +357,15 @@ static void time_all(const char *deep, long files)
         {"name by name in a jail", by_jail_singly, &jail},
         {"name by name by /proc", by_proc_singly, NULL},
     };
+    /* Ways that follow links. */
+    static const struct way followed[] = {
+        {"openat2", by_kernel, NULL},
+        {"in a jail that trusts", by_jail, &trusting},
+        {"in a jail", by_jail, &jail},
+        {"by /proc", by_proc, NULL},
+        {"name by name in a jail", by_jail_singly, &jail},
+        {"name by name by /proc", by_proc_singly, NULL},
+    };
     static const struct way made[] = {
         {"mkdirat(2) from the root", make_by_paths, NULL},
         {"as mkdir -p", make_as_mkdir, NULL},
@@ -364,10 +373,15 @@ static void time_all(const char *deep, long files)
         {"by /proc", make_by_proc, NULL},
     };
     const char *const paths[][2] = {
-        {"a/b", "a/b"}, {"a/b/f", "a/b/f"}, {"four b/..", "a/b/../b/../b/../b/.."}, {"32 directories", deep},
+        {"f", "f"}, {"a/b", "a/b"}, {"a/b/f", "a/b/f"}, {"four b/..", "a/b/../b/../b/../b/.."}, {"32 directories", deep},
+    };
+    static const char *const linked[][2] = {
+        {"l, a link to a/b", "l"}, {"k, a link to a/b/f", "k"}, {"d/l/f, l a link to ../a/b", "d/l/f"},
     };
     for (size_t at = 0; at < sizeof paths / sizeof *paths; at++)
         time_ways(paths[at][0], paths[at][1], found, sizeof found / sizeof *found, NULL);
+    for (size_t at = 0; at < sizeof linked / sizeof *linked; at++)
+        time_ways(linked[at][0], linked[at][1], followed, sizeof followed / sizeof *followed, NULL);
     time_ways("four directories made", "n/e/w/s", made, sizeof made / sizeof *made, remove_made);
     time_removals(files);
 }
@@ -385,10 +399,14 @@ int main(int count, char **words)
     sure(mkdirat(root, "a", 0755), "a");
     sure(mkdirat(root, "a/b", 0755), "a/b");
     sure(mknodat(root, "a/b/f", S_IFREG | 0600, 0), "a/b/f");
+    sure(mknodat(root, "f", S_IFREG | 0600, 0), "f");
+    sure(symlinkat("a/b", root, "l"), "l");
+    sure(symlinkat("a/b/f", root, "k"), "k");
     for (int at = 0; at < DEPTH; at++) {
         strcat(deep, at == 0 ? "d" : "/d");
         sure(mkdirat(root, deep, 0755), deep);
     }
+    sure(symlinkat("../a/b", root, "d/l"), "d/l");
     stay_on_one_processor();
     begin_jail(&jail);
     begin_jail(&trusting);

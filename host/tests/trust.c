@@ -22,7 +22,7 @@
 /* `root` holds the file `a/b/f` and the link `a/l`. */
 static int root, proc;
 
-/* How many descriptors a thread keeps: one, or none where the kernel can't tell a child from its parent. */
+/* How many descriptors a thread keeps: of the table and the root, or none where the kernel can't tell a child from its parent. */
 static int keeps;
 
 static bool is_proc(int fd)
@@ -37,7 +37,7 @@ static void jail_here(void)
     errno = -inroot_jail_with(root, INROOT_TRUST_PROC);
     sure(-errno, "inroot_jail_with");
     keeps = open_descriptors() - before;
-    expect(keeps == 0 || keeps == 1, "a thread keeps %d descriptors", keeps);
+    expect(keeps == 0 || keeps == 2, "a thread keeps %d descriptors", keeps);
 }
 
 static bool is(int fd, const char *path)
@@ -101,16 +101,19 @@ static void in_thread(void *(*what)(void *))
 
 /* ---- fork(2) */
 
-/* The child's descriptors have the numbers that are those of `a` in its parent's table. */
+/*
+ * The child's descriptors have the numbers that are those of `a` in its parent's table. It closes what is the table for sure,
+ * and leaves the root.
+ */
 static void in_child(void)
 {
     int before = open_descriptors();
     look_up("in a child of fork");
-    expect(open_descriptors() == before - keeps, "a child of fork keeps its parent's table");
+    expect(open_descriptors() == before - keeps / 2, "a child of fork keeps its parent's table");
     expect(emptied() <= 0, "a child of fork keeps a page");
     look_up("in a child of fork, once more");
     inroot_jail_done();
-    expect(open_descriptors() == before - keeps, "the end of the jail in a child of fork");
+    expect(open_descriptors() == before - keeps / 2, "the end of the jail in a child of fork");
 }
 
 static void *fork_in_jail(void *unused)
@@ -222,27 +225,87 @@ static void ended(void)
     expect(emptied() <= 0, "%ld kB are left of threads", emptied());
 }
 
-/* The program closes what the thread keeps, which is no harm while nothing else is put in its place. */
-static void *closed_behind(void *unused)
+/*
+ * The program closes what the thread keeps, or one of both, which is no harm while nothing else is put in its place. The thread
+ * forgets both, once it has asked one in vain: its root only openat2(2) asks.
+ */
+static void *close_behind(void *both)
 {
-    int before[64];
+    const bool *closes = both;
+    int before[64], without = open_descriptors(), left = closes[true] || has_openat2() ? 0 : keeps / 2;
     for (int fd = 0; fd < 64; fd++)
         before[fd] = fcntl(fd, F_GETFD);
     jail_here();
     for (int fd = 0; fd < 64; fd++)
-        if (before[fd] < 0 && is_proc(fd))
+        if (before[fd] < 0 && closes[is_proc(fd)])
             close(fd);
-    int left = open_descriptors();
-    look_up("after the table was closed");
-    look_up("after the table was closed, once more");
-    expect(open_descriptors() == left, "descriptors after the table was closed");
-    expect(emptied() <= 0, "a page after the table was closed");
-    return unused;
+    look_up("after it was closed");
+    look_up("after it was closed, once more");
+    gives(open_descriptors() - without, left, "descriptors after it was closed");
+    expect(emptied() <= 0 || left > 0, "a page after it was closed");
+    return NULL;
 }
 
 static void closed(void)
 {
-    in_thread(closed_behind);
+    static bool table[] = {false, true}, top[] = {true, false}, all[] = {true, true};
+    bool *const each[] = {table, top, all};
+    for (int one = 0; one < 3; one++) {
+        pthread_t thread;
+        pthread_create(&thread, NULL, close_behind, each[one]);
+        pthread_join(thread, NULL);
+    }
+}
+
+/*
+ * A child of fork(2) closes all, and its own descriptors get the numbers of what its parent's thread keeps. It makes a call first,
+ * or leaves the jail at once.
+ */
+static void fork_and_close(bool asks)
+{
+    jail_here();
+    look_up("before a fork");
+    int last = sure(dup(root), "dup"), status;
+    pid_t child = sure(fork(), "fork");
+    if (child == 0) {
+        wrong = 0;
+        int there = sure(fcntl(root, F_DUPFD_CLOEXEC, 100), "dup");
+        for (int fd = 3; fd <= last; fd++)
+            if (fd != proc)
+                close(fd);
+        root = there;
+        for (int fd = 3; fd <= last; fd++)
+            expect(fd == proc || openat(there, ".", O_PATH | O_CLOEXEC) == fd, "number %d", fd);
+        /* There is no /proc to ask for a file. */
+        int found = asks ? inroot_open(INROOT_JAIL, "a/../a/b", INROOT_NO_RETRY) : INROOT_JAIL;
+        expect(!asks || is(found, "a/b"), "a directory in a child that closed all: %d", found);
+        inroot_jail_done();
+        for (int fd = 3; fd <= last; fd++)
+            expect(fcntl(fd, F_GETFD) >= 0, "descriptor %d of a child was closed", fd);
+        fflush(stdout);
+        _exit(wrong);
+    }
+    sure(waitpid(child, &status, 0), "waitpid");
+    expect(WIFEXITED(status) && WEXITSTATUS(status) == 0, "a child that closed all: %x", (unsigned)status);
+    close(last);
+}
+
+static void *ask_and_leave(void *unused)
+{
+    fork_and_close(true);
+    return unused;
+}
+
+static void *leave_at_once(void *unused)
+{
+    fork_and_close(false);
+    return unused;
+}
+
+static void closed_by_child(void)
+{
+    in_thread(ask_and_leave);
+    in_thread(leave_at_once);
 }
 
 /* ---- what runs out */
@@ -297,7 +360,7 @@ static void shortages(void)
 
 int main(int count, char **words)
 {
-    static void (*const parts[])(void) = {forks, own_table, ended, closed, shortages};
+    static void (*const parts[])(void) = {forks, own_table, ended, closed, closed_by_child, shortages};
     if (count != 2)
         return 2;
     root = sure(open(words[1], O_PATH | O_DIRECTORY | O_CLOEXEC), words[1]);

@@ -4,7 +4,7 @@
  * linked.
  *
  * usage: use_race DIR SECONDS. Exits 0 where that holds, and a walk without checks was led out. 78: no right to
- * change a root.
+ * change a root. 79: that walk was not led out.
  */
 #define _GNU_SOURCE
 #include "support.h"
@@ -28,7 +28,8 @@ enum { DOINGS = 7 };
 struct worker {
     const char *name;
     bool jailed;
-    unsigned long done[DOINGS], failed, escaped;
+    atomic_ulong done[DOINGS];
+    unsigned long failed, escaped;
     int flags;
 };
 
@@ -155,7 +156,7 @@ static void *walk_unchecked(void *count)
     while (!stop) {
         int fd = openat(root, "x/d/f", O_RDONLY | O_CLOEXEC);
         if (fd >= 0) {
-            *(unsigned long *)count += is_secret(fd);
+            *(atomic_ulong *)count += is_secret(fd);
             close(fd);
         }
     }
@@ -202,11 +203,31 @@ static void begin(const char *dir)
     open_proc();
 }
 
+/* Whether each did each of these once, and the walk without checks was led out. */
+static bool is_met(const struct worker *workers, int count, unsigned long led_out)
+{
+    bool met = led_out > 0;
+    for (int one = 0; one < count * DOINGS; one++)
+        met = met && workers[one / DOINGS].done[one % DOINGS] > 0;
+    return met;
+}
+
+static void judge(struct worker *me)
+{
+    printf("use_race: %s: read %lu, wrote %lu and %lu, named %lu, linked %lu, told %lu, nodes %lu, failed %lu; escaped %lu\n",
+           me->name, (unsigned long)me->done[0], (unsigned long)me->done[1], (unsigned long)me->done[2],
+           (unsigned long)me->done[3], (unsigned long)me->done[4], (unsigned long)me->done[5], (unsigned long)me->done[6],
+           me->failed, me->escaped);
+    expect(me->escaped == 0, "%s: %lu escaped", me->name, me->escaped);
+    for (int which = 0; which < DOINGS; which++)
+        expect(me->done[which] > 0, "%s: doing %d never succeeded", me->name, which);
+}
+
 int main(int count, char **words)
 {
     struct worker workers[] = {{.name = "in a jail", .jailed = true}, {.name = "by /proc"}};
     pthread_t swapper, threads[2], unchecked;
-    unsigned long led_out = 0;
+    atomic_ulong led_out = 0;
     if (count != 3)
         return 2;
     begin(words[1]);
@@ -215,27 +236,25 @@ int main(int count, char **words)
     pthread_create(&unchecked, NULL, walk_unchecked, &led_out);
     for (int one = 0; one < 2; one++)
         pthread_create(&threads[one], NULL, work, &workers[one]);
-    sleep((unsigned)atoi(words[2]));
+    unsigned seconds = (unsigned)atoi(words[2]);
+    sleep(seconds);
+    /* On a machine that has much other work it takes longer until a race is met at all. */
+    for (unsigned more = 0; !is_met(workers, 2, led_out) && more < 20 * seconds; more++)
+        sleep(1);
     stop = true;
     pthread_join(swapper, NULL);
     pthread_join(unchecked, NULL);
     for (int one = 0; one < 2; one++) {
-        struct worker *me = &workers[one];
         pthread_join(threads[one], NULL);
-        printf(
-            "use_race: %s: read %lu, wrote %lu and %lu, named %lu, linked %lu, told %lu, nodes %lu, failed %lu; "
-            "escaped %lu\n",
-            me->name, me->done[0], me->done[1], me->done[2], me->done[3], me->done[4], me->done[5], me->done[6],
-            me->failed, me->escaped);
-        expect(me->escaped == 0, "nothing escapes");
-        for (int which = 0; which < DOINGS; which++)
-            expect(me->done[which] > 0, "doing %d succeeded sometimes", which);
+        judge(&workers[one]);
     }
     int left = open_descriptors() - before;
     bool untouched = is_untouched();
     printf(
         "use_race: %lu swaps, a walk without checks was led out %lu times, what is outside is %s, %d descriptors "
         "left open\n",
-        (unsigned long)swaps, led_out, untouched ? "untouched" : "CHANGED", left);
-    return wrong != 0 || !untouched || left != 0 || led_out == 0;
+        (unsigned long)swaps, (unsigned long)led_out, untouched ? "untouched" : "CHANGED", left);
+    gives(left, 0, "descriptors left open");
+    expect(untouched, "something outside was changed");
+    return ending(led_out > 0);
 }

@@ -56,8 +56,10 @@ long __wrap_syscall(long number, ...)
         with[at] = va_arg(more, long);
     va_end(more);
     long result = __real_syscall(number, with[0], with[1], with[2], with[3], with[4]);
-    tried += number == SYS_openat2;
-    passed += number == SYS_openat2 && result >= 0;
+    /* A run that goes on is of directories. What is looked up below the root for its place, in both ways, may be anything. */
+    bool runs = number == SYS_openat2 && ((const struct open_how *)with[2])->flags & O_DIRECTORY && strcmp((const char *)with[1], ".") != 0;
+    tried += runs;
+    passed += runs && result >= 0;
     return result;
 }
 
@@ -216,15 +218,6 @@ static void run(struct side *side, const char *name, uint64_t seed)
     pthread_join(thread, NULL);
     side->tree = sum_of(side->root, 7);
     close(side->root);
-}
-
-static bool has_openat2(void)
-{
-    struct open_how how = {.flags = O_PATH | O_CLOEXEC};
-    long fd = syscall(SYS_openat2, base, ".", &how, sizeof how);
-    if (fd >= 0)
-        close((int)fd);
-    return fd >= 0;
 }
 
 int main(int count, char **words)

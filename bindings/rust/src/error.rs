@@ -4,9 +4,9 @@ use crate::ffi;
 use std::ffi::{CStr, CString, OsString};
 use std::io;
 use std::mem::MaybeUninit;
-use std::os::fd::{FromRawFd, OwnedFd};
 use std::os::raw::{c_char, c_int};
 use std::os::unix::ffi::{OsStrExt, OsStringExt};
+use std::os::unix::io::{FromRawFd, OwnedFd};
 use std::path::Path;
 
 /// Why a call failed, for whoever wants to print it.

@@ -1,4 +1,4 @@
-//! The calls of inroot.h that the binding makes. Types are those of Linux on x86-64.
+//! The calls of inroot.h that the binding makes. Types are those of 64-bit Linux.
 
 use std::os::raw::{c_char, c_int, c_uint};
 
@@ -9,6 +9,7 @@ pub struct Error {
     pub step: *const c_char,
     pub name: [c_char; 256],
     pub rest: [c_char; 4096],
+    pub _reserved: [u64; 16],
 }
 
 extern "C" {

@@ -36,6 +36,20 @@ macro_rules! joined {
     };
 }
 
+/// The flags that have other numbers on another machine: the one for O_DIRECTORY here is that for O_DIRECT there.
+#[cfg(target_arch = "aarch64")]
+mod machine {
+    pub const O_DIRECTORY: i32 = 0o40000;
+    pub const O_NOFOLLOW: i32 = 0o100000;
+    pub const O_DIRECT: i32 = 0o200000;
+}
+#[cfg(not(target_arch = "aarch64"))]
+mod machine {
+    pub const O_DIRECT: i32 = 0o40000;
+    pub const O_DIRECTORY: i32 = 0o200000;
+    pub const O_NOFOLLOW: i32 = 0o400000;
+}
+
 /// How a file is opened for use: the flags of open(2) that inroot_openat(3) takes.
 #[derive(Clone, Copy, Debug, PartialEq, Eq, Default)]
 pub struct OpenFlags(i32);
@@ -51,14 +65,14 @@ impl OpenFlags {
     pub const O_APPEND: OpenFlags = OpenFlags(0o2000);
     pub const O_NONBLOCK: OpenFlags = OpenFlags(0o4000);
     pub const O_DSYNC: OpenFlags = OpenFlags(0o10000);
-    pub const O_DIRECT: OpenFlags = OpenFlags(0o40000);
-    pub const O_DIRECTORY: OpenFlags = OpenFlags(0o200000);
-    pub const O_NOFOLLOW: OpenFlags = OpenFlags(0o400000);
+    pub const O_DIRECT: OpenFlags = OpenFlags(machine::O_DIRECT);
+    pub const O_DIRECTORY: OpenFlags = OpenFlags(machine::O_DIRECTORY);
+    pub const O_NOFOLLOW: OpenFlags = OpenFlags(machine::O_NOFOLLOW);
     pub const O_NOATIME: OpenFlags = OpenFlags(0o1000000);
     pub const O_CLOEXEC: OpenFlags = OpenFlags(0o2000000);
     pub const O_SYNC: OpenFlags = OpenFlags(0o4010000);
     pub const O_PATH: OpenFlags = OpenFlags(0o10000000);
-    pub const O_TMPFILE: OpenFlags = OpenFlags(0o20200000);
+    pub const O_TMPFILE: OpenFlags = OpenFlags(0o20000000 | machine::O_DIRECTORY);
 }
 
 joined!(OpenFlags);
@@ -72,6 +86,8 @@ impl ResolverFlags {
     pub const BENEATH: ResolverFlags = ResolverFlags(1);
     /// Refuses every symbolic link on the way, with ELOOP.
     pub const NO_SYMLINKS: ResolverFlags = ResolverFlags(2);
+    /// Refuses to leave the mount that the root is on, by a bind mount as well, with EXDEV.
+    pub const NO_XDEV: ResolverFlags = ResolverFlags(128);
     /// Makes one try, where others are in the way.
     pub const NO_RETRY: ResolverFlags = ResolverFlags(8);
     /// Looks up each name by a system call of its own, and not several by one openat2(2).

@@ -4,7 +4,7 @@ use crate::error::opened;
 use crate::{ffi, OpenFlags};
 use std::fs::{File, Metadata};
 use std::io;
-use std::os::fd::{AsFd, AsRawFd, BorrowedFd, OwnedFd};
+use std::os::unix::io::{AsFd, AsRawFd, BorrowedFd, OwnedFd};
 
 /// An object that a path meant below a root, by a descriptor with O_PATH. It stood there at a moment of the call.
 #[derive(Debug)]

@@ -20,11 +20,16 @@
 //! # }
 //! ```
 //!
-//! Types and functions are named as those of libpathrs. Nothing is promised where the root itself, or a directory
-//! above it, is renamed meanwhile.
+//! Types and functions are named as those of libpathrs. Where the kernel has no openat2(2), nothing is promised if the
+//! root itself, or a directory above it, is renamed meanwhile.
 
-#[cfg(not(all(target_os = "linux", target_arch = "x86_64")))]
-compile_error!("libinroot is there for Linux on x86-64 alone");
+#[cfg(not(all(
+    target_os = "linux",
+    target_pointer_width = "64",
+    target_endian = "little",
+    any(target_arch = "x86_64", target_arch = "aarch64")
+)))]
+compile_error!("libinroot is there for 64-bit Linux on x86-64 and arm64 alone");
 
 mod error;
 mod ffi;

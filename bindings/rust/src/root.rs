@@ -5,10 +5,10 @@ use crate::{ffi, Handle, OpenFlags, RenameFlags, ResolverFlags};
 use std::ffi::OsString;
 use std::fs::{File, Metadata, OpenOptions, Permissions};
 use std::io;
-use std::os::fd::{AsFd, AsRawFd, BorrowedFd, OwnedFd};
 use std::os::raw::c_int;
 use std::os::unix::ffi::OsStringExt;
 use std::os::unix::fs::{OpenOptionsExt, PermissionsExt};
+use std::os::unix::io::{AsFd, AsRawFd, BorrowedFd, OwnedFd};
 use std::path::{Path, PathBuf};
 
 const S_IFIFO: u32 = 0o010000;
@@ -208,6 +208,11 @@ impl Root {
     /// What fstat(2) says of the object that the path means.
     pub fn metadata(&self, path: impl AsRef<Path>) -> io::Result<Metadata> {
         self.resolve(path)?.metadata()
+    }
+
+    /// The same, of a link at its end of the link itself.
+    pub fn symlink_metadata(&self, path: impl AsRef<Path>) -> io::Result<Metadata> {
+        self.resolve_nofollow(path)?.metadata()
     }
 }
 

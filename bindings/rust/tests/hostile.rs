@@ -3,8 +3,8 @@
 use inroot::{InodeType, OpenFlags, RenameFlags, ResolverFlags, Root};
 use std::fs::{self, Permissions};
 use std::io::{self, Read, Write};
-use std::os::fd::OwnedFd;
 use std::os::unix::fs::{symlink, FileTypeExt, MetadataExt, PermissionsExt};
+use std::os::unix::io::OwnedFd;
 use std::path::{Path, PathBuf};
 use std::sync::atomic::{AtomicBool, AtomicU32, Ordering};
 
@@ -127,12 +127,28 @@ fn restrictions_are_kept() {
 }
 
 #[test]
+fn a_call_stays_on_its_mount() {
+    // There is a /proc, which is a mount of its own.
+    let whole = Root::open("/").unwrap();
+    assert!(whole.metadata("proc/version").is_ok());
+    for more in [ResolverFlags::default(), ResolverFlags::ONE_BY_ONE] {
+        let stays = whole.try_clone().unwrap().with_resolver_flags(ResolverFlags::NO_XDEV | more);
+        assert_eq!(number(stays.resolve("proc/version")), Some(EXDEV));
+        assert_eq!(number(stays.remove_all("proc/none/x")), Some(EXDEV));
+        let tree = Tree::new();
+        assert_eq!(text(&tree.root().with_resolver_flags(ResolverFlags::NO_XDEV | more), "in/f"), "inside");
+    }
+}
+
+#[test]
 fn links_are_read_and_found_themselves() {
     let tree = Tree::new();
     let root = tree.root();
     assert_eq!(root.readlink("up").unwrap(), Path::new("../outside"));
     assert_eq!(number(root.readlink("a")), Some(EINVAL));
     assert!(root.resolve_nofollow("up").unwrap().metadata().unwrap().file_type().is_symlink());
+    assert!(root.symlink_metadata("up").unwrap().file_type().is_symlink());
+    assert!(root.symlink_metadata("in/f").unwrap().file_type().is_file());
     assert_eq!(number(root.resolve_nofollow("up").unwrap().reopen(OpenFlags::O_RDONLY)), Some(ELOOP));
 }
 

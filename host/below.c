@@ -1,0 +1,72 @@
+/*
+ * below.c: the kernel's own look-up below a directory, openat2(2) through no link. Runs of names are passed by it (runs.c), and
+ * by RESOLVE_BENEATH it is one of the two witnesses for a place (place.c): as it ends, the kernel sees in one moment whether
+ * what it found is below the directory.
+ */
+#define _GNU_SOURCE
+#include "driver.h"
+#include "openat2.h"
+
+#include <errno.h>
+#include <fcntl.h>
+#include <sys/syscall.h>
+#include <unistd.h>
+
+/* Whether this thread has openat2(2). Once it is missing it stays so: the kernel is an old one, or a filter refuses it. */
+enum known { NOT_YET, THERE, MISSING };
+static _Thread_local enum known known;
+
+static int open_once(int dir, const char *names, uint64_t flags, uint64_t resolve)
+{
+    const struct open_how how = {
+        .flags = flags | O_PATH | O_CLOEXEC,
+        .resolve = resolve | RESOLVE_NO_SYMLINKS | RESOLVE_NO_MAGICLINKS,
+    };
+    int fd;
+    do
+        fd = (int)syscall(SYS_openat2, dir, names, &how, sizeof how);
+    while (fd < 0 && errno == EINTR);
+    return fd;
+}
+
+/* A file system may give EPERM of its own. Whoever refuses the system call itself refuses it for any directory. */
+static enum known try_here(void)
+{
+    int fd = open_once(AT_FDCWD, ".", O_DIRECTORY, 0);
+    if (fd >= 0)
+        close(fd);
+    return fd < 0 && (errno == ENOSYS || errno == EPERM) ? MISSING : THERE;
+}
+
+bool inroot_has_openat2(void)
+{
+    if (known == NOT_YET)
+        known = try_here();
+    return known == THERE;
+}
+
+/* Opens as well, and learns from the error whether the system call itself is refused. */
+static int open_here(int dir, const char *names, uint64_t flags, uint64_t resolve)
+{
+    int fd = open_once(dir, names, flags, resolve);
+    int error = errno;
+    known = fd < 0 && (error == ENOSYS || error == EPERM) ? try_here() : THERE;
+    errno = error;
+    return fd;
+}
+
+int inroot_look_up(struct inroot_driver *d, int dir, const char *names, uint64_t flags, uint64_t resolve)
+{
+    for (;;) {
+        int from = dir;
+        if (known == MISSING)
+            errno = ENOSYS;
+        if (known == MISSING || !inroot_jail_start(d, &from))
+            return -1;
+        int fd = open_here(from, names, flags, resolve);
+        if (fd >= 0 || errno != EBADF || dir != INROOT_JAILED || from != inroot_trust_root())
+            return fd;
+        /* The program has closed what the thread keeps, which goes on without. */
+        inroot_trust_end();
+    }
+}

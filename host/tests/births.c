@@ -1,0 +1,80 @@
+/*
+ * births: a directory that was let go while a tree is removed comes back by its device, its inode and its birth. Another one that
+ * has the same number, since it was made after the first was removed, has another birth: it is left alone. To be linked with
+ * --wrap=statx and --wrap=openat.
+ *
+ * usage: births DIR. Exits 0 where that holds.
+ */
+#define _GNU_SOURCE
+#include "support.h"
+
+#include <errno.h>
+#include <fcntl.h>
+#include <string.h>
+#include <sys/stat.h>
+
+enum { LEVELS = 90 };
+
+static int root;
+
+/* Whether directories are told as born later from here on: from when the call goes up for the first time, if it is wanted. */
+static bool is_wanted, has_turned;
+
+int __real_statx(int dir, const char *name, int flags, unsigned mask, struct statx *about);
+int __wrap_statx(int dir, const char *name, int flags, unsigned mask, struct statx *about);
+int __real_openat(int dir, const char *name, int flags, ...);
+int __wrap_openat(int dir, const char *name, int flags, ...);
+
+int __wrap_statx(int dir, const char *name, int flags, unsigned mask, struct statx *about)
+{
+    int result = __real_statx(dir, name, flags, mask, about);
+    if (result == 0 && mask & STATX_BTIME) {
+        about->stx_mask |= STATX_BTIME;
+        about->stx_btime.tv_sec = has_turned ? 2 : 1;
+        about->stx_btime.tv_nsec = 0;
+    }
+    return result;
+}
+
+int __wrap_openat(int dir, const char *name, int flags, ...)
+{
+    va_list more;
+    va_start(more, flags);
+    mode_t mode = flags & (O_CREAT | O_TMPFILE) ? va_arg(more, mode_t) : 0;
+    va_end(more);
+    has_turned = has_turned || (is_wanted && strcmp(name, "..") == 0);
+    return __real_openat(dir, name, flags, mode);
+}
+
+/* Directories within one another, each with a file. */
+static void dig(void)
+{
+    int dir = sure(dup(root), "dup");
+    for (int level = 0; level < LEVELS; level++) {
+        mkdirat(dir, "d", 0755);
+        int below = sure(__real_openat(dir, "d", O_PATH | O_DIRECTORY | O_CLOEXEC), "d");
+        close(dir);
+        dir = below;
+        mknodat(dir, "f", S_IFREG | 0600, 0);
+    }
+    close(dir);
+}
+
+int main(int count, char **words)
+{
+    if (count != 2)
+        return 2;
+    root = sure(open(words[1], O_PATH | O_DIRECTORY | O_CLOEXEC), words[1]);
+    dig();
+    is_wanted = true;
+    ssize_t got = inroot_remove_all(root, "d", INROOT_NO_RETRY);
+    expect(has_turned, "no directory was let go");
+    expect(got == -EAGAIN, "directories that were born later: %zd, and not %d", got, -EAGAIN);
+    expect(faccessat(root, "d/f", F_OK, 0) == 0, "the topmost directory's file was removed");
+    is_wanted = has_turned = false;
+    dig();
+    got = inroot_remove_all(root, "d", INROOT_NO_RETRY);
+    expect(got == 2 * LEVELS, "the same directories: %zd, and not %d", got, 2 * LEVELS);
+    printf("births: %d not as they are to be\n", wrong);
+    return wrong != 0;
+}

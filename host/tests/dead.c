@@ -1,0 +1,142 @@
+/*
+ * dead: a directory is removed after a call has opened it, and before the call asks for the one above: that one isn't opened, as
+ * the kernel opens none of what is gone. On the file system that DIR is on, and on overlayfs, which leaves links to a directory
+ * of a lower layer: of one that is there alone, of one that the upper layer has too, of one that was made above. To be linked
+ * with --wrap=openat.
+ *
+ * usage: dead DIR. Exits 0 where that holds. 78: no right to mount, so that overlayfs is left out, or to change a root.
+ */
+#define _GNU_SOURCE
+#include "support.h"
+
+#include <errno.h>
+#include <limits.h>
+#include <sched.h>
+#include <string.h>
+#include <sys/mount.h>
+#include <sys/stat.h>
+
+static char where[PATH_MAX];
+static int root, at;
+static const char *removed;
+
+int __real_openat(int dir, const char *name, int flags, ...);
+int __wrap_openat(int dir, const char *name, int flags, ...);
+
+/* What creates isn't made here. */
+int __wrap_openat(int dir, const char *name, int flags, ...)
+{
+    if (removed != NULL && strcmp(name, "..") == 0) {
+        sure(unlinkat(root, removed, AT_REMOVEDIR), removed);
+        removed = NULL;
+    }
+    return __real_openat(dir, name, flags);
+}
+
+/* With another try the name isn't there. */
+static void one(const char *what, const char *name)
+{
+    char path[64];
+    snprintf(path, sizeof path, "%s/../f", name);
+    int fd = inroot_open(at, path, INROOT_ONE_BY_ONE);
+    expect(fd >= 0, "%s, %s: what stands", what, name);
+    close(fd);
+    removed = name;
+    fd = inroot_open(at, path, INROOT_ONE_BY_ONE | INROOT_NO_RETRY);
+    expect(fd == -EAGAIN && removed == NULL, "%s, %s: what was above it by one try: %d", what, name, fd);
+    if (fd >= 0)
+        close(fd);
+    removed = NULL;
+    expect(inroot_open(at, path, INROOT_ONE_BY_ONE) == -ENOENT, "%s, %s: by another try", what, name);
+}
+
+static void each(const char *what)
+{
+    static const char *const names[] = {"low", "both", "high"};
+    for (size_t name = 0; name < sizeof names / sizeof *names; name++)
+        one(what, names[name]);
+}
+
+static void by_proc(void)
+{
+    at = root;
+    each("by /proc");
+}
+
+static void in_jail(void)
+{
+    if (inroot_jail(root) != 0)
+        _exit(NO_RIGHT);
+    at = INROOT_JAIL;
+    each("in a jail");
+}
+
+static void make(const char *first, const char *second)
+{
+    char path[2 * PATH_MAX];
+    snprintf(path, sizeof path, "%s/%s%s", where, first, second);
+    sure(mkdir(path, 0755), path);
+}
+
+/* On the file system of DIR, below a directory of this name. */
+static void here(const char *name)
+{
+    char path[2 * PATH_MAX];
+    make(name, "");
+    make(name, "/low");
+    make(name, "/both");
+    make(name, "/high");
+    snprintf(path, sizeof path, "%s/%s", where, name);
+    root = sure(open(path, O_PATH | O_DIRECTORY | O_CLOEXEC), path);
+    sure(mknodat(root, "f", S_IFREG | 0600, 0), "f");
+}
+
+/* A mount for each, of which the layers are made afresh. */
+static void on_overlay(const char *name)
+{
+    char options[8 * PATH_MAX], layers[2 * PATH_MAX], target[3 * PATH_MAX];
+    static const char *const dirs[] = {"/lower", "/upper", "/work", "/mount", "/lower/low", "/lower/both", "/upper/both"};
+    make(name, "");
+    for (size_t one = 0; one < sizeof dirs / sizeof *dirs; one++)
+        make(name, dirs[one]);
+    if (unshare(CLONE_NEWNS) != 0 || mount(NULL, "/", NULL, MS_REC | MS_PRIVATE, NULL) != 0)
+        _exit(NO_RIGHT);
+    snprintf(layers, sizeof layers, "%s/%s", where, name);
+    snprintf(target, sizeof target, "%s/mount", layers);
+    snprintf(options, sizeof options, "lowerdir=%s/lower,upperdir=%s/upper,workdir=%s/work", layers, layers, layers);
+    if (mount("overlay", target, "overlay", 0, options) != 0)
+        _exit(NO_RIGHT);
+    root = sure(open(target, O_PATH | O_DIRECTORY | O_CLOEXEC), target);
+    sure(mkdirat(root, "high", 0755), "high");
+    sure(mknodat(root, "f", S_IFREG | 0600, 0), "f");
+}
+
+static void by_proc_on_overlay(void)
+{
+    on_overlay("one");
+    by_proc();
+}
+
+static void in_jail_on_overlay(void)
+{
+    on_overlay("two");
+    in_jail();
+}
+
+int main(int count, char **words)
+{
+    if (count != 2 || realpath(words[1], where) == NULL)
+        return 2;
+    open_proc();
+    int skipped = apart(by_proc_on_overlay);
+    if (skipped != 0)
+        puts("dead: overlayfs can't be mounted here");
+    else
+        apart(in_jail_on_overlay);
+    here("three");
+    apart(by_proc);
+    here("four");
+    skipped |= apart(in_jail);
+    printf("dead: %d not as they are to be\n", wrong);
+    return wrong != 0 ? 1 : skipped;
+}

@@ -1,0 +1,75 @@
+/*
+ * filters: a filter refuses system calls that newer kernels and C libraries have, by EPERM as sandboxes do or by
+ * ENOSYS as older kernels do. The calls go on.
+ *
+ * usage: filters DIR. Exits 0 where that holds. 78: no right to be filtered here.
+ */
+#define _GNU_SOURCE
+#include "filter.h"
+
+#include <fcntl.h>
+#include <string.h>
+#include <sys/stat.h>
+
+/* The numbers are those of every machine from Linux 5.1 on. */
+enum { OPENAT2 = 437, FACCESSAT2 = 439 };
+
+static int root, error;
+static long refused;
+
+static void is_file(int fd, const char *what)
+{
+    struct stat about, wanted;
+    sure(fstatat(root, "a/f", &wanted, 0), "a/f");
+    expect(fd >= 0 && fstat(fd, &about) == 0 && about.st_ino == wanted.st_ino, "system call %ld by %d, %s: %d", refused,
+           error, what, fd);
+    if (fd >= 0)
+        close(fd);
+}
+
+static void each(int at)
+{
+    static const int flags[] = {0, INROOT_ONE_BY_ONE, INROOT_NO_XDEV, INROOT_NO_XDEV | INROOT_ONE_BY_ONE};
+    for (size_t one = 0; one < sizeof flags / sizeof *flags; one++) {
+        is_file(inroot_open(at, "a/f", flags[one]), "plain names");
+        is_file(inroot_open(at, "a/../l", flags[one]), "a link");
+        is_file(inroot_openat(at, "a/f", O_RDWR, 0, flags[one]), "a file to be used");
+    }
+    expect(inroot_mkdir(at, "a/new", 0755, 0) == 0 && inroot_remove_all(at, "a/new", 0) == 1, "a directory");
+}
+
+static void under_filter(void)
+{
+    struct inroot_root *kept;
+    refuse(refused, error);
+    int failed = inroot_root_open(".", 0, &kept);
+    expect(failed == 0, "system call %ld by %d, a root that is kept: %d", refused, error, failed);
+    if (failed == 0)
+        each(inroot_root_fd(kept));
+    inroot_root_close(kept);
+    /* The filter leaves no right to be gained, but those that are there. */
+    if (inroot_jail(root) == 0)
+        each(INROOT_JAIL);
+}
+
+int main(int count, char **words)
+{
+    static const long calls[] = {FACCESSAT2, SYS_statx, OPENAT2};
+    static const int errors[] = {EPERM, ENOSYS};
+    int skipped = 0;
+    if (count != 2)
+        return 2;
+    root = sure(open(words[1], O_PATH | O_DIRECTORY | O_CLOEXEC), words[1]);
+    sure(fchdir(root), "fchdir");
+    sure(mkdirat(root, "a", 0755), "a");
+    sure(mknodat(root, "a/f", S_IFREG | 0600, 0), "a/f");
+    sure(symlinkat("/a/f", root, "l"), "l");
+    for (size_t at = 0; at < sizeof calls / sizeof *calls; at++)
+        for (size_t by = 0; by < 2; by++) {
+            refused = calls[at];
+            error = errors[by];
+            skipped |= apart(under_filter) == NO_RIGHT;
+        }
+    printf("filters: %d not as they are to be\n", wrong);
+    return wrong != 0 ? 1 : skipped ? NO_RIGHT : 0;
+}

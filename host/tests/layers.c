@@ -1,0 +1,183 @@
+/*
+ * layers: a tree on overlayfs that goes so deep that the call lets directories go and comes back to them. To remove
+ * what is below one copies it from its lower layer, and it has another birth then. Nobody else acts, so one try is
+ * enough. Not so where another directory has come to stand there: that one is left alone.
+ *
+ * usage: layers DIR. Exits 0 where that holds. 78: no right to mount here. To be linked with --wrap=openat.
+ */
+#define _GNU_SOURCE
+#include "support.h"
+
+#include <errno.h>
+#include <fcntl.h>
+#include <limits.h>
+#include <sched.h>
+#include <string.h>
+#include <sys/mount.h>
+#include <sys/stat.h>
+
+enum { LEVELS = 90 };
+
+static char where[PATH_MAX];
+static int root;
+
+/* What is done as the call goes up for the first time; and the error by which it can't go up at all, or 0. */
+static void (*act)(void);
+static int no_way_up;
+
+int __real_openat(int dir, const char *name, int flags, ...);
+int __wrap_openat(int dir, const char *name, int flags, ...);
+
+int __wrap_openat(int dir, const char *name, int flags, ...)
+{
+    va_list more;
+    va_start(more, flags);
+    mode_t mode = flags & (O_CREAT | O_TMPFILE) ? va_arg(more, mode_t) : 0;
+    va_end(more);
+    if (no_way_up && strcmp(name, "..") == 0) {
+        errno = no_way_up;
+        return -1;
+    }
+    if (act != NULL && strcmp(name, "..") == 0) {
+        void (*now)(void) = act;
+        act = NULL;
+        now();
+    }
+    return __real_openat(dir, name, flags, mode);
+}
+
+/* Directories within one another, each with a file, below one that is open; what it gives is open on the last. */
+static int dig(int top, int levels)
+{
+    int dir = sure(dup(top), "dup");
+    for (int level = 0; level < levels; level++) {
+        sure(mkdirat(dir, "d", 0755), "d");
+        int below = sure(__real_openat(dir, "d", O_PATH | O_DIRECTORY | O_CLOEXEC), "d");
+        close(dir);
+        dir = below;
+        sure(mknodat(dir, "f", S_IFREG | 0600, 0), "f");
+    }
+    return dir;
+}
+
+static int below_where(const char *name)
+{
+    char path[2 * PATH_MAX];
+    snprintf(path, sizeof path, "%s/%s", where, name);
+    return sure(open(path, O_PATH | O_DIRECTORY | O_CLOEXEC), path);
+}
+
+/* In the lower layer. */
+static void make_lower(void)
+{
+    int lower = below_where("lower");
+    close(dig(lower, LEVELS));
+    sure(mkdirat(lower, "probe", 0755), "probe");
+    sure(mknodat(lower, "probe/f", S_IFREG | 0600, 0), "probe/f");
+    close(lower);
+}
+
+/* By an upper layer of its own, of which this is the number. In a user namespace it may be no layer to remove in. */
+static void mount_layers(int number, const char *more)
+{
+    char options[4 * PATH_MAX];
+    snprintf(options, sizeof options, "lowerdir=%s/lower,upperdir=%s/upper%d,workdir=%s/work%d%s", where, where, number,
+             where, number, more);
+    if (mount("overlay", "merged", "overlay", 0, options) != 0)
+        _exit(NO_RIGHT);
+    root = below_where("merged");
+    if (unlinkat(root, "probe/f", 0) != 0 || unlinkat(root, "probe", AT_REMOVEDIR) != 0)
+        _exit(NO_RIGHT);
+}
+
+static void go_apart(void)
+{
+    if (unshare(CLONE_NEWNS) != 0 || mount(NULL, "/", NULL, MS_REC | MS_PRIVATE, NULL) != 0)
+        _exit(NO_RIGHT);
+    sure(chdir(where), where);
+}
+
+static void removed(void)
+{
+    ssize_t got = inroot_remove_all(root, "d", INROOT_NO_RETRY);
+    expect(got == 2 * LEVELS, "a tree of a lower layer: %zd", got);
+    expect(faccessat(root, "d", F_OK, AT_SYMLINK_NOFOLLOW) != 0, "a tree of a lower layer is left");
+}
+
+static void on_one_file_system(void)
+{
+    go_apart();
+    mount_layers(1, "");
+    removed();
+}
+
+/* The lower layer is on another one, so that its own numbers aren't those of the overlay. */
+static void on_two(void)
+{
+    go_apart();
+    sure(mount("none", "lower", "tmpfs", 0, NULL), "lower");
+    make_lower();
+    mount_layers(2, ",xino=off");
+    removed();
+}
+
+/* The directory below the topmost is moved into another, which isn't emptied. */
+static void move_away(void)
+{
+    sure(mkdirat(root, "other", 0755), "other");
+    sure(mknodat(root, "other/kept", S_IFREG | 0600, 0), "other/kept");
+    char path[3 * LEVELS] = "d";
+    for (int level = 1; level < LEVELS / 3; level++)
+        strcat(path, "/d");
+    sure(renameat(root, path, root, "other/d"), path);
+}
+
+static void make_plain(void)
+{
+    go_apart();
+    sure(mount("none", "merged", "tmpfs", 0, NULL), "merged");
+    root = below_where("merged");
+    close(dig(root, LEVELS));
+}
+
+/* The error of the system call is that of the call; but what says that others were there makes it begin again. */
+static void refused(void)
+{
+    make_plain();
+    no_way_up = EIO;
+    ssize_t got = inroot_remove_all(root, "d", 0);
+    expect(got == -EIO, "a directory above that can't be opened: %zd", got);
+    no_way_up = ENOENT;
+    got = inroot_remove_all(root, "d", INROOT_NO_RETRY);
+    expect(got == -EAGAIN, "a directory above that is gone: %zd", got);
+    no_way_up = 0;
+    expect(inroot_remove_all(root, "d", INROOT_NO_RETRY) > 0, "the same afterwards");
+}
+
+static void moved_meanwhile(void)
+{
+    make_plain();
+    act = move_away;
+    ssize_t got = inroot_remove_all(root, "d", INROOT_NO_RETRY);
+    expect(act == NULL, "the call didn't go up");
+    expect(got == -EAGAIN, "a tree that was moved: %zd", got);
+    expect(faccessat(root, "other/kept", F_OK, 0) == 0, "what is beside the moved one was removed");
+}
+
+int main(int count, char **words)
+{
+    static const char *const dirs[] = {"lower", "upper1", "work1", "upper2", "work2", "merged"};
+    static void (*const parts[])(void) = {on_one_file_system, on_two, refused, moved_meanwhile};
+    int skipped = 0;
+    if (count != 2)
+        return 2;
+    if (realpath(words[1], where) == NULL || chdir(where) != 0)
+        return 1;
+    for (size_t one = 0; one < sizeof dirs / sizeof *dirs; one++)
+        sure(mkdir(dirs[one], 0755), dirs[one]);
+    make_lower();
+    for (size_t one = 0; one < sizeof parts / sizeof *parts; one++)
+        skipped |= apart(parts[one]) == NO_RIGHT;
+    printf("layers: %d not as they are to be\n", wrong);
+    return wrong != 0 ? 1 : skipped ? NO_RIGHT : 0;
+}

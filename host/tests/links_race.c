@@ -1,0 +1,147 @@
+/*
+ * links_race: a file is opened and made (O_CREAT) in a directory that another thread exchanges for one in which the
+ * name is a link, again and again. Under INROOT_NO_LINKS no file is opened, or made, that a link leads to.
+ *
+ * usage: links_race DIR SECONDS. Exits 0 where that holds, and the same calls without the flag were led there. 78: no
+ * right to change a root. 79: those calls were not led there.
+ */
+#define _GNU_SOURCE
+#include "support.h"
+
+#include <errno.h>
+#include <pthread.h>
+#include <stdatomic.h>
+#include <sys/stat.h>
+#include <sys/syscall.h>
+
+static int root;
+static atomic_bool stop;
+static struct stat elsewhere;
+
+struct worker {
+    const char *name;
+    const char *directory;         /* of its own, so that nobody else makes the link's target */
+    bool jailed;
+    int flags;
+    unsigned long failed;
+    atomic_ulong opened, refused, led, made;
+};
+
+static int made_in(int dir, const char *name)
+{
+    sure(mkdirat(dir, name, 0755), name);
+    return sure(openat(dir, name, O_PATH | O_DIRECTORY | O_CLOEXEC), name);
+}
+
+/*
+ * Exchanges a directory without the name for one in which it is a link, again and again. It sees what was made
+ * through the link, and takes away what the calls made in the other.
+ */
+static void *place(void *self)
+{
+    struct worker *me = self;
+    int dir = sure(openat(root, me->directory, O_PATH | O_DIRECTORY | O_CLOEXEC), me->directory);
+    int plain = made_in(dir, "d"), linked = made_in(dir, "e");
+    for (unsigned turn = 0; !stop; turn++) {
+        if (turn % 8 == 0) {
+            unlinkat(linked, "f", 0);
+            symlinkat(turn % 16 == 0 ? "target" : "/elsewhere", linked, "f");
+        }
+        syscall(SYS_renameat2, dir, "d", dir, "e", INROOT_EXCHANGE);
+        me->made += unlinkat(linked, "target", 0) == 0;
+        unlinkat(plain, "f", 0);
+    }
+    close(plain);
+    close(linked);
+    close(dir);
+    return NULL;
+}
+
+static void *work(void *self)
+{
+    struct worker *me = self;
+    struct stat about;
+    char path[16];
+    int at = root;
+    if (me->jailed) {
+        errno = -inroot_jail(root);
+        sure(-errno, "inroot_jail");
+        at = INROOT_JAIL;
+    }
+    snprintf(path, sizeof path, "%s/d/f", me->directory);
+    for (unsigned turn = 0; !stop; turn++) {
+        int flags = me->flags | (turn % 2 ? INROOT_ONE_BY_ONE : 0) | (turn % 4 < 2 ? INROOT_NO_RETRY : 0);
+        int fd = inroot_openat(at, path, O_RDWR | O_CREAT, 0600, flags);
+        me->opened += fd >= 0;
+        me->refused += fd == -ELOOP;
+        me->failed += fd < 0 && fd != -ELOOP;
+        if (fd < 0)
+            continue;
+        me->led += fstat(fd, &about) == 0 && about.st_ino == elsewhere.st_ino && about.st_dev == elsewhere.st_dev;
+        close(fd);
+    }
+    inroot_jail_done();
+    return NULL;
+}
+
+static bool follows(const struct worker *me)
+{
+    return !(me->flags & INROOT_NO_LINKS);
+}
+
+/* Whether each came to a link: to be led there, or to be refused. */
+static bool is_met(const struct worker *workers, int count)
+{
+    bool met = true;
+    for (int one = 0; one < count; one++)
+        met = met && workers[one].opened > 0 && (follows(&workers[one]) ? workers[one].led : workers[one].refused) > 0;
+    return met;
+}
+
+static void judge(const struct worker *me)
+{
+    printf("links_race: %s: opened %lu, refused %lu, failed %lu; led to a file by a link %lu, made by one %lu\n", me->name,
+           (unsigned long)me->opened, (unsigned long)me->refused, me->failed, (unsigned long)me->led, (unsigned long)me->made);
+    expect(me->opened > 0, "%s: nothing was opened", me->name);
+    expect(follows(me) || (me->led == 0 && me->made == 0), "%s: a link was followed", me->name);
+    expect(follows(me) || me->refused > 0, "%s: no link was refused", me->name);
+}
+
+int main(int count, char **words)
+{
+    struct worker workers[] = {
+        {.name = "by /proc", .directory = "a", .flags = INROOT_NO_LINKS},
+        {.name = "in a jail", .directory = "b", .flags = INROOT_NO_LINKS, .jailed = true},
+        {.name = "without the flag", .directory = "c"},
+    };
+    enum { WORKERS = sizeof workers / sizeof *workers, CONTROL = WORKERS - 1 };
+    pthread_t threads[WORKERS], placers[WORKERS];
+    if (count != 3)
+        return 2;
+    root = sure(open(words[1], O_PATH | O_DIRECTORY | O_CLOEXEC), words[1]);
+    if (!may_jail(root))
+        return NO_RIGHT;
+    sure(mknodat(root, "elsewhere", S_IFREG | 0600, 0), "elsewhere");
+    sure(fstatat(root, "elsewhere", &elsewhere, AT_SYMLINK_NOFOLLOW), "elsewhere");
+    open_proc();
+    int before = open_descriptors();
+    for (int one = 0; one < WORKERS; one++) {
+        sure(mkdirat(root, workers[one].directory, 0755), "mkdirat");
+        pthread_create(&placers[one], NULL, place, &workers[one]);
+        pthread_create(&threads[one], NULL, work, &workers[one]);
+    }
+    unsigned seconds = (unsigned)atoi(words[2]);
+    sleep(seconds);
+    /* On a machine that has much other work it takes longer until a race is met at all. */
+    for (unsigned more = 0; !is_met(workers, WORKERS) && more < 20 * seconds; more++)
+        sleep(1);
+    stop = true;
+    for (int one = 0; one < WORKERS; one++) {
+        pthread_join(threads[one], NULL);
+        pthread_join(placers[one], NULL);
+        judge(&workers[one]);
+    }
+    gives(open_descriptors(), before, "descriptors that are open");
+    printf("links_race: %d not as they are to be\n", wrong);
+    return ending(workers[CONTROL].led > 0);
+}

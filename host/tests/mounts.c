@@ -1,0 +1,426 @@
+/*
+ * mounts: what is mounted below the root, by a bind mount of the same file system, of a file, and of another file
+ * system; also one on which no link is followed (nosymfollow), which the calls keep to. Under INROOT_NO_XDEV no call
+ * goes there, makes, moves or removes anything there: by /proc and in a jail, by runs of names, name by name, and
+ * where openat2(2) is missing. To be linked with --wrap=syscall and --wrap=openat.
+ *
+ * usage: mounts DIR. Exits 0 where each call ends as openat2(2) does with RESOLVE_NO_XDEV, and what is mounted is as
+ * it was. 77: no openat2(2) here. 78: no right to mount here.
+ */
+#define _GNU_SOURCE
+#include "../openat2.h"
+#include "support.h"
+
+#include <errno.h>
+#include <fcntl.h>
+#include <limits.h>
+#include <sched.h>
+#include <string.h>
+#include <sys/mount.h>
+#include <sys/stat.h>
+#include <sys/syscall.h>
+
+enum { FLAGS = INROOT_NO_XDEV | INROOT_NO_RETRY };
+
+/* MS_NOSYMFOLLOW, and where statx(2) tells the mount's number, which the headers may not have. */
+enum { NOSYMFOLLOW = 256, NUMBER_AT = 144 };
+
+static int base, root, at, more_flags;
+static char where[PATH_MAX];
+
+/*
+ * Each openat2(2) is refused, and each statx(2), by which a mount has a number; or each mount's number is 0, as an emulator gives
+ * it; something is mounted as `..` is about to be opened; a link is placed where a file is about to be made.
+ */
+static bool is_old, has_no_numbers, has_zeros, mounts_at_dots, links_at_making;
+
+long __real_syscall(long number, ...);
+long __wrap_syscall(long number, ...);
+int __real_openat(int dir, const char *name, int flags, ...);
+int __wrap_openat(int dir, const char *name, int flags, ...);
+
+static void put(const char *source, const char *target, const char *kind)
+{
+    char from[2 * PATH_MAX], to[2 * PATH_MAX];
+    snprintf(from, sizeof from, "%s/%s", where, source);
+    snprintf(to, sizeof to, "%s/root/%s", where, target);
+    sure(mount(kind == NULL ? from : "none", to, kind, kind == NULL ? MS_BIND : 0, NULL), target);
+}
+
+/* Takes more words than were handed in. */
+__attribute__((no_sanitize("address"))) long __wrap_syscall(long number, ...)
+{
+    long with[5];
+    va_list more;
+    va_start(more, number);
+    for (int one = 0; one < 5; one++)
+        with[one] = va_arg(more, long);
+    va_end(more);
+    if ((is_old && number == SYS_openat2) || (has_no_numbers && number == SYS_statx)) {
+        errno = ENOSYS;
+        return -1;
+    }
+    long result = __real_syscall(number, with[0], with[1], with[2], with[3], with[4]);
+    if (has_zeros && number == SYS_statx && result == 0)
+        memset((char *)with[4] + NUMBER_AT, 0, sizeof(uint64_t));
+    return result;
+}
+
+int __wrap_openat(int dir, const char *name, int flags, ...)
+{
+    va_list more;
+    va_start(more, flags);
+    mode_t mode = flags & (O_CREAT | O_TMPFILE) ? va_arg(more, mode_t) : 0;
+    va_end(more);
+    if (mounts_at_dots && strcmp(name, "..") == 0) {
+        mounts_at_dots = false;
+        put("host", "d", NULL);
+    }
+    if (links_at_making && flags & O_CREAT) {
+        links_at_making = false;
+        sure(symlinkat("none", root, "t/other/new"), "t/other/new");
+    }
+    return __real_openat(dir, name, flags, mode);
+}
+
+static void open_roots(void)
+{
+    base = sure(open(where, O_PATH | O_DIRECTORY | O_CLOEXEC), where);
+    root = sure(openat(base, "root", O_PATH | O_DIRECTORY | O_CLOEXEC), "root");
+}
+
+static void make(const char *path, bool is_file)
+{
+    sure(is_file ? mknodat(root, path, S_IFREG | 0600, 0) : mkdirat(root, path, 0755), path);
+}
+
+static bool is_there(int dir, const char *path)
+{
+    return faccessat(dir, path, F_OK, AT_SYMLINK_NOFOLLOW) == 0;
+}
+
+/* What is mounted has what it had, and nothing else. */
+static void untouched(const char *when)
+{
+    static const char *const made[] = {"host/new", "host/in/new", "host/moved"};
+    struct stat about;
+    bool same = is_there(base, "host/in/deep") && fstatat(base, "host/kept", &about, 0) == 0 && about.st_nlink == 1;
+    for (size_t one = 0; one < sizeof made / sizeof *made; one++)
+        same = same && !is_there(base, made[one]);
+    expect(same && is_there(root, "t/other/x"), "%s: what is mounted was changed", when);
+}
+
+/* ---- what is opened, beside openat2(2) */
+
+static const char *const paths[] = {
+    ".", "t", "t/a", "t/m", "t/m/", "t/m/kept", "t/m/in/deep", "t/m/..", "t/m/../a", "t/m/none", "t/file", "t/other",
+    "t/other/x", "t/a/../m", "t/a/../m/kept", "l", "l/kept", "abs", "abs/in", "t/a/x", "/t/./a/x", "t/none", "t/a/x/y",
+    "up", "t/a/../../../t/a/x", "t/b/same", "proc-like/m",
+};
+
+static int by_the_kernel(const char *path)
+{
+    const struct open_how how = {.flags = O_PATH | O_CLOEXEC, .resolve = RESOLVE_IN_ROOT | RESOLVE_NO_XDEV};
+    int fd;
+    /* It gives EAGAIN of a `..` where somebody renames anything meanwhile, also elsewhere. */
+    do
+        fd = (int)__real_syscall(SYS_openat2, root, path, &how, sizeof how);
+    while (fd < 0 && errno == EAGAIN);
+    return fd < 0 ? -errno : fd;
+}
+
+static void opens(const char *path)
+{
+    struct stat one = {0}, other = {0};
+    int wanted = by_the_kernel(path), got = inroot_open(at, path, FLAGS | more_flags);
+    bool same = wanted < 0 ? got == wanted
+                           : got >= 0 && fstat(got, &one) == 0 && fstat(wanted, &other) == 0 &&
+                                 one.st_ino == other.st_ino && one.st_dev == other.st_dev;
+    expect(same, "%s, flags %d%s: %d, and %d by openat2(2)", path, more_flags, is_old ? ", without openat2(2)" : "", got,
+           wanted);
+    if (wanted >= 0)
+        close(wanted);
+    if (got >= 0)
+        close(got);
+}
+
+/* ---- what is changed */
+
+static void is_refused(int got, int wanted, const char *what)
+{
+    expect(got == wanted, "%s, flags %d: %d", what, more_flags, got);
+}
+
+static void changes(void)
+{
+    struct stat about;
+    char text[8];
+    int flags = FLAGS | more_flags, own = sure(openat(root, "t/a/x", O_PATH | O_CLOEXEC), "t/a/x");
+    is_refused(inroot_mkfile(at, "t/m/new", 0600, flags), -EXDEV, "a file");
+    is_refused(inroot_mkdir(at, "t/m/new", 0700, flags), -EXDEV, "a directory");
+    is_refused(inroot_mkdir(at, "t/m", 0700, flags), -EEXIST, "a directory where something is mounted");
+    is_refused(inroot_mkdir_all(at, "t/m/in/new", 0700, flags), -EXDEV, "directories");
+    is_refused(inroot_mkdir_all(at, "t/m", 0700, flags), -EXDEV, "directories up to a mount");
+    is_refused(inroot_symlink(at, "x", "l/new", flags), -EXDEV, "a link");
+    is_refused(inroot_openat(at, "t/m/new", O_RDWR | O_CREAT, 0600, flags), -EXDEV, "a file that is opened");
+    is_refused(inroot_openat(at, "t/m/new", O_RDWR | O_CREAT | O_EXCL, 0600, flags), -EXDEV, "a new file");
+    is_refused(inroot_openat(at, "t/m", O_RDWR | O_TMPFILE, 0600, flags), -EXDEV, "a file without a name");
+    is_refused(inroot_openat(at, "t/file", O_WRONLY | O_TRUNC, 0, flags), -EXDEV, "a file that is mounted");
+    is_refused(inroot_rename(at, "t/a/x", "t/m/moved", 0, flags), -EXDEV, "a rename to a mount");
+    is_refused(inroot_rename(at, "t/m/kept", "t/a/moved", 0, flags), -EXDEV, "a rename from a mount");
+    is_refused(inroot_rename(at, "t/m/kept", "t/m/moved", 0, flags), -EXDEV, "a rename on a mount");
+    is_refused(inroot_link(at, "t/m/kept", "t/a/moved", flags), -EXDEV, "a second name of what is on a mount");
+    is_refused(inroot_link(at, "t/a/x", "t/m/moved", flags), -EXDEV, "a second name on a mount");
+    is_refused(inroot_link_fd(at, own, "t/m/moved", flags), -EXDEV, "a second name of what is open on a mount");
+    is_refused(inroot_unlink(at, "t/m/kept", flags), -EXDEV, "what is removed");
+    is_refused(inroot_rmdir(at, "t/m/in", flags), -EXDEV, "a directory that is removed");
+    is_refused(inroot_rmdir(at, "t/m", flags), -EBUSY, "a directory on which something is mounted");
+    is_refused(inroot_unlink(at, "t/file", flags), -EBUSY, "a file on which something is mounted");
+    is_refused(inroot_stat(at, "t/m", &about, flags), -EXDEV, "what is told of");
+    is_refused((int)inroot_readlink(at, "t/m/link", flags, text, sizeof text), -EXDEV, "a link that is read");
+    is_refused((int)inroot_remove_all(at, "t/m", flags), -EXDEV, "a tree that is mounted");
+    is_refused((int)inroot_remove_all(at, "t/m/in", flags), -EXDEV, "a tree in what is mounted");
+    is_refused((int)inroot_remove_all(at, "t/file", flags), -EBUSY, "a file that is mounted");
+    close(own);
+    untouched("refused");
+    /* On its own mount all goes as without. */
+    int made = inroot_mkdir_all(at, "t/a/y/z", 0700, flags);
+    expect(made >= 0 && close(made) == 0, "directories on the root's mount: %d", made);
+    expect(inroot_remove_all(at, "t/a/y", flags) == 2, "a tree on the root's mount");
+}
+
+/* In the order of their bytes what stands before a mount goes; nothing that is mounted does. */
+static void removes(const char *tree, const char *before, const char *mounted, const char *after, int wanted)
+{
+    struct inroot_error why = {0};
+    char path[64];
+    ssize_t got = inroot_remove_all(at, tree, FLAGS | more_flags);
+    expect(got == wanted, "%s is removed, flags %d: %zd", tree, more_flags, got);
+    expect(inroot_last_error(&why) == 0 && strcmp(why.name, mounted) == 0, "%s: it is about %s", tree, why.name);
+    snprintf(path, sizeof path, "%s/%s", tree, before);
+    expect(!is_there(root, path), "%s is left", path);
+    snprintf(path, sizeof path, "%s/%s", tree, after);
+    expect(is_there(root, path), "%s is gone", path);
+    untouched(tree);
+}
+
+static void trees(void)
+{
+    put("host", "r/m", NULL);
+    put("host/kept", "s/m", NULL);
+    removes("r", "a", "m", "z", -EXDEV);
+    removes("s", "a", "m", "z", -EBUSY);
+}
+
+/* It is mounted above the walk, so that `..` leads there. */
+static void up(void)
+{
+    mounts_at_dots = true;
+    int fd = inroot_open(at, "d/e/..", FLAGS | INROOT_ONE_BY_ONE);
+    expect(fd == -EXDEV && !mounts_at_dots, "`..` to a mount that came meanwhile: %d", fd);
+}
+
+/* Without the flag what is mounted is emptied, before the directory below it is refused. */
+static void without(void)
+{
+    ssize_t got = inroot_remove_all(at, "t/m", more_flags);
+    expect(got == -EBUSY && !is_there(base, "host/kept") && !is_there(base, "host/in"), "a mounted tree: %zd", got);
+    sure(mkdirat(base, "host/in", 0755), "host/in");
+    sure(mknodat(base, "host/kept", S_IFREG | 0600, 0), "host/kept");
+    sure(mknodat(base, "host/in/deep", S_IFREG | 0600, 0), "host/in/deep");
+}
+
+/* ---- a mount on which no link is followed */
+
+static void not_followed(const char *path, int wanted)
+{
+    for (int way = 0; way < 2; way++) {
+        int fd = inroot_open(at, path, way == 0 ? 0 : INROOT_ONE_BY_ONE);
+        is_refused(fd < 0 ? fd : 0, wanted, path);
+        if (fd >= 0)
+            close(fd);
+    }
+}
+
+static void each_link(void)
+{
+    char text[8];
+    not_followed("t/other/l", -ELOOP);
+    not_followed("t/other/./l", -ELOOP);
+    not_followed("t/other/abs/a/x", -ELOOP);
+    not_followed("to", -ELOOP);
+    not_followed("t/a/../other/x", 0);
+    is_refused(inroot_openat(at, "t/other/l", O_RDWR, 0, 0), -ELOOP, "a file behind a link");
+    is_refused(inroot_openat(at, "t/other/dangling", O_RDWR | O_CREAT, 0600, 0), -ELOOP, "a new file behind a link");
+    links_at_making = true;
+    is_refused(inroot_openat(at, "t/other/new", O_RDWR | O_CREAT, 0600, 0), -ELOOP, "a link came in between");
+    expect(!links_at_making && unlinkat(root, "t/other/new", 0) == 0, "no link came in between");
+    expect(!is_there(root, "t/other/none"), "a file was made behind a link");
+    is_refused(inroot_link(at, "t/other/l", "t/other/second", INROOT_FOLLOW), -ELOOP, "a second name behind a link");
+    is_refused(inroot_mkdir_all(at, "t/other/abs/new", 0700, 0), -ELOOP, "directories behind a link");
+    /* The link itself is there as elsewhere. */
+    is_refused((int)inroot_readlink(at, "t/other/l", 0, text, sizeof text), 1, "a link's text");
+    is_refused((int)inroot_readlink(at, "to", 0, text, sizeof text), 9, "a link's text");
+    is_refused((int)inroot_readlink(at, "t/other/abs/up", 0, text, sizeof text), -ELOOP, "a link behind a link");
+    int fd = inroot_open(at, "t/other/l", INROOT_NOFOLLOW);
+    expect(fd >= 0 && close(fd) == 0, "a link itself: %d", fd);
+}
+
+static void without_links(void)
+{
+    char target[2 * PATH_MAX];
+    if (unshare(CLONE_NEWNS) != 0 || mount(NULL, "/", NULL, MS_REC | MS_PRIVATE, NULL) != 0)
+        _exit(NO_RIGHT);
+    open_roots();
+    snprintf(target, sizeof target, "%s/root/t/other", where);
+    sure(mount("none", target, "tmpfs", NOSYMFOLLOW, NULL), target);
+    make("t/other/x", true);
+    sure(symlinkat("x", root, "t/other/l"), "l");
+    sure(symlinkat("/t", root, "t/other/abs"), "abs");
+    sure(symlinkat("none", root, "t/other/dangling"), "dangling");
+    /* Before Linux 5.10 there are no such mounts. */
+    if (openat(root, "t/other/l", O_PATH | O_CLOEXEC) >= 0)
+        _exit(NO_RIGHT);
+    at = root;
+    each_link();
+    errno = -inroot_jail(root);
+    sure(-errno, "inroot_jail");
+    at = INROOT_JAIL;
+    each_link();
+}
+
+/* ---- */
+
+static void make_tree(void)
+{
+    static const char *const dirs[] = {
+        "t", "t/a", "t/m", "t/other", "t/b", "t/b/same", "d", "d/e", "r", "r/a", "r/m", "r/z", "s",
+    };
+    static const char *const files[] = {"t/a/x", "t/file", "s/a", "s/m", "s/z"};
+    static const char *const of_host[] = {"host", "host/in"};
+    for (size_t one = 0; one < 2; one++)
+        sure(mkdirat(base, of_host[one], 0755), of_host[one]);
+    sure(mknodat(base, "host/kept", S_IFREG | 0600, 0), "host/kept");
+    sure(mknodat(base, "host/in/deep", S_IFREG | 0600, 0), "host/in/deep");
+    for (size_t one = 0; one < sizeof dirs / sizeof *dirs; one++)
+        make(dirs[one], false);
+    for (size_t one = 0; one < sizeof files / sizeof *files; one++)
+        make(files[one], true);
+    sure(symlinkat("t/m", root, "l"), "l");
+    sure(symlinkat("/t/m", root, "abs"), "abs");
+    sure(symlinkat("t/m/../a", root, "up"), "up");
+    sure(symlinkat("t/other/l", root, "to"), "to");
+}
+
+/* In a mount namespace of this process's own, which ends with it. What was opened before stands in another. */
+static void mount_all(void)
+{
+    if (unshare(CLONE_NEWNS) != 0 || mount(NULL, "/", NULL, MS_REC | MS_PRIVATE, NULL) != 0)
+        _exit(NO_RIGHT);
+    open_roots();
+    put("host", "t/m", NULL);
+    put("host/kept", "t/file", NULL);
+    put("root/t/a", "t/b/same", NULL);
+    put("", "t/other", "tmpfs");
+    make("t/other/x", false);
+}
+
+static void each(void)
+{
+    for (int way = 0; way < 2; way++) {
+        more_flags = way == 0 ? 0 : INROOT_ONE_BY_ONE;
+        for (size_t one = 0; one < sizeof paths / sizeof *paths; one++)
+            opens(paths[one]);
+        changes();
+    }
+}
+
+static void by_proc(void)
+{
+    mount_all();
+    at = root;
+    each();
+    without();
+    trees();
+    up();
+}
+
+/* Nothing is mounted once the thread is below its root, since that takes paths from the top. */
+static void in_jail_by(int flags)
+{
+    mount_all();
+    errno = -inroot_jail_with(root, flags);
+    if (errno == EPERM)
+        _exit(NO_RIGHT);
+    sure(-errno, "inroot_jail");
+    at = INROOT_JAIL;
+    each();
+}
+
+static void in_jail(void)
+{
+    in_jail_by(0);
+}
+
+static void in_trusting_jail(void)
+{
+    in_jail_by(INROOT_TRUST_PROC);
+}
+
+/* Then another file system is told from the root's by its device, and a bind mount of the same one isn't seen. */
+static void by_device(void)
+{
+    mount_all();
+    at = root;
+    is_old = true;
+    is_refused(inroot_open(at, "t/other/x", FLAGS), -EXDEV, "another file system");
+    is_refused(inroot_mkdir(at, "t/other/new", 0700, FLAGS), -EXDEV, "a directory on another file system");
+    is_refused((int)inroot_remove_all(at, "t/other", FLAGS), -EXDEV, "a tree of another file system");
+    expect(is_there(root, "t/other/x"), "another file system was changed");
+    int fd = inroot_open(at, "t/m/kept", FLAGS);
+    expect(fd >= 0 && close(fd) == 0, "a bind mount of the same file system: %d", fd);
+}
+
+static void without_numbers(void)
+{
+    has_no_numbers = true;
+    by_device();
+}
+
+static void with_zeros(void)
+{
+    has_zeros = true;
+    by_device();
+}
+
+static void without_openat2(void)
+{
+    is_old = true;
+    by_proc();
+}
+
+int main(int count, char **words)
+{
+    static void (*const parts[])(void) = {
+        by_proc, in_jail, in_trusting_jail, without_openat2, without_numbers, with_zeros, without_links,
+    };
+    static const char *const whole[] = {"r/a", "s/a"};
+    int skipped = 0;
+    if (count != 2)
+        return 2;
+    if (realpath(words[1], where) == NULL || chdir(where) != 0)
+        return 1;
+    sure(mkdir("root", 0755), "root");
+    open_roots();
+    make_tree();
+    if (!has_openat2())
+        return NO_OPENAT2;
+    for (size_t one = 0; one < sizeof parts / sizeof *parts; one++) {
+        skipped |= apart(parts[one]) == NO_RIGHT;
+        for (size_t other = 0; other < 2; other++)
+            if (!is_there(root, whole[other]))
+                make(whole[other], other == 1);
+    }
+    printf("mounts: %d not as they are to be\n", wrong);
+    return wrong != 0 ? 1 : skipped ? NO_RIGHT : 0;
+}

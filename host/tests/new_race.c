@@ -1,0 +1,250 @@
+/*
+ * new_race: a directory is moved out of the root and back, and exchanged for a link that leads out, while paths of plain names
+ * are opened at once, a jail trusts, files are made and published, trees are removed in pieces, and a root that is kept is used
+ * by many threads. What never stood below the root isn't opened, and nothing outside is made or removed.
+ *
+ * usage: new_race DIR SECONDS RACE. RACE is at_once, trust, create, publish, remove or kept. Exits 0 where that holds, and a walk
+ * without a check was led out. 78: no right to change a root. 79: that walk was not led out.
+ */
+#define _GNU_SOURCE
+#include "race.h"
+
+#include <dirent.h>
+#include <limits.h>
+#include <sys/syscall.h>
+
+static int base, out, deep;
+static char where[PATH_MAX];
+
+static const int ways[] = {0, INROOT_ONE_BY_ONE, INROOT_NO_RETRY, INROOT_NO_RETRY | INROOT_ONE_BY_ONE};
+
+/* ---- who is in their way */
+
+static void exchange(int dir, const char *name, int other, const char *with)
+{
+    syscall(SYS_renameat2, dir, name, other, with, INROOT_EXCHANGE);
+}
+
+/* A file that stands in the directory only while that is outside has there the name of one that stands inside. */
+static void move_files(void)
+{
+    renameat(root, "a/b", out, "b");
+    exchange(out, "b/f", out, "secret");
+    linkat(out, "secret", out, "b/g", 0);
+    unlinkat(out, "b/g", 0);
+    exchange(out, "b/f", out, "secret");
+    renameat(out, "b", root, "a/b");
+}
+
+/* By turns: out and back, and for a link that leads out. */
+static void move_directories(void)
+{
+    if (moves % 2 == 0) {
+        renameat(root, "a/b", out, "b");
+        renameat(out, "b", root, "a/b");
+    } else {
+        exchange(root, "a/b", root, "link");
+        exchange(root, "a/b", root, "link");
+    }
+}
+
+/* ---- what workers do */
+
+static int open_plainly(int at, uint64_t *state)
+{
+    static const char *const paths[] = {"a/b/f", "a/b/g", "/a/b/c", "a/b/c/d", "a/b", "/a/b/f", "a"};
+    return inroot_open(at, paths[pick(state, 7)], pick(state, 2) ? INROOT_NO_RETRY : 0);
+}
+
+static const char *const everywhere[] = {
+    "a/b/f", "a/b/c/../f", "l/f", "k/../secret", "a/b/c/../../secret", "a/b/../secret", "l/c/d/../../..", "./a/b/f", "a/b/c/../g",
+};
+enum { EVERYWHERE = sizeof everywhere / sizeof *everywhere };
+
+static int open_any(int at, uint64_t *state)
+{
+    return inroot_open(at, everywhere[pick(state, EVERYWHERE)], ways[pick(state, 4)]);
+}
+
+/* Opened, looked at, and opened to be read. */
+static int use_any(int at, uint64_t *state)
+{
+    struct stat about;
+    const char *path = everywhere[pick(state, EVERYWHERE)];
+    switch (pick(state, 4)) {
+    case 0: return inroot_openat(at, path, O_RDONLY | O_NONBLOCK, 0, ways[pick(state, 4)]);
+    case 1: return inroot_stat(at, path, &about, ways[pick(state, 4)]);
+    default: return open_any(at, state);
+    }
+}
+
+/* Where `..` leads out, the name would be made there; so it would where the link is followed out. None of these makes `a/b`. */
+static const char *const made[] = {"a/b/new", "a/b/c/../new", "a/b/../new", "a/b/c/../../new"};
+
+static int create_any(int at, uint64_t *state)
+{
+    const char *path = made[pick(state, 4)];
+    int flags = ways[pick(state, 4)], fd;
+    ssize_t removed;
+    switch (pick(state, 6)) {
+    case 0: return inroot_mkfile(at, path, 0600, flags);
+    case 1: return inroot_mkdir(at, path, 0700, flags);
+    case 2: return inroot_symlink(at, where, path, flags);
+    case 3: fd = inroot_openat(at, path, O_WRONLY | O_CREAT, 0600, flags); break;
+    case 4: fd = inroot_openat(at, path, O_WRONLY | O_CREAT | O_EXCL, 0600, flags); break;
+    default:
+        removed = inroot_remove_all(at, path, flags);
+        return removed < 0 ? (int)removed : 0;
+    }
+    if (fd >= 0)
+        close(fd);
+    return fd < 0 ? fd : 0;
+}
+
+static int publish_any(int at, uint64_t *state)
+{
+    const char *path = made[pick(state, 4)];
+    int flags = ways[pick(state, 4)];
+    int fd = inroot_openat(at, "a/b/c", O_WRONLY | O_TMPFILE, 0600, flags);
+    int result = fd < 0 ? fd : inroot_link_fd(at, fd, path, flags);
+    if (fd >= 0)
+        close(fd);
+    if (result == 0 || result == -EEXIST)
+        inroot_unlink(at, path, 0);
+    return result;
+}
+
+/* A tree that is deeper than descriptors are held, and wider than one part of a list, in a directory that is moved with it. */
+static void make_deep(const char *name)
+{
+    enum { DEEP = 70, WIDE = 40 };
+    char path[PATH_MAX];
+    snprintf(path, sizeof path, "%s", name);
+    for (int level = 0; level < DEEP; level++) {
+        sure(mkdirat(deep, path, 0700), path);
+        strcat(path, "/a");
+    }
+    for (int file = 0; file < WIDE; file++) {
+        snprintf(path, sizeof path, "%s/a/a/f%d", name, file);
+        sure(mknodat(deep, path, S_IFREG | 0600, 0), path);
+    }
+}
+
+/* Its name is the thread's own. */
+static int remove_tree(int at, uint64_t *state)
+{
+    static const char *const above[] = {"a/b/c", "a/b/c/../c", "a/b/../b/c"};
+    char name[32], path[64];
+    snprintf(name, sizeof name, "t%lx", (unsigned long)pthread_self());
+    if (faccessat(deep, name, F_OK, 0) != 0)
+        make_deep(name);
+    snprintf(path, sizeof path, "%s/%s", above[pick(state, 3)], name);
+    ssize_t removed = inroot_remove_all(at, path, ways[pick(state, 4)]);
+    return removed < 0 ? (int)removed : 0;
+}
+
+static int open_unchecked(int at, uint64_t *state)
+{
+    (void)at;
+    return walk_unchecked(root, everywhere[pick(state, EVERYWHERE)]);
+}
+
+/* ---- the tree */
+
+static void make_tree(void)
+{
+    static const char *const dirs[] = {"box", "box/a", "box/a/b", "box/a/b/c", "box/a/b/c/d", "out", "out/victim", "out/victim/c", "out/c"};
+    for (size_t one = 0; one < sizeof dirs / sizeof *dirs; one++)
+        sure(mkdirat(base, dirs[one], 0755), dirs[one]);
+    root = sure(openat(base, "box", O_PATH | O_DIRECTORY | O_CLOEXEC), "box");
+    out = sure(openat(base, "out", O_PATH | O_DIRECTORY | O_CLOEXEC), "out");
+    deep = sure(openat(root, "a/b/c", O_PATH | O_DIRECTORY | O_CLOEXEC), "c");
+    sure(mknodat(root, "a/b/f", S_IFREG | 0600, 0), "f");
+    sure(mknodat(out, "secret", S_IFREG | 0600, 0), "secret");
+    sure(mknodat(out, "f", S_IFREG | 0600, 0), "out/f");
+    sure(symlinkat("a/b", root, "l"), "l");
+    sure(symlinkat("/a/b/c", root, "k"), "k");
+    strcat(where, "/out");
+    sure(symlinkat(where, root, "link"), "link");
+    static const char *const all[] = {".", "a", "a/b", "a/b/c", "a/b/c/d", "a/b/f", "l", "k", "link"};
+    for (size_t one = 0; one < sizeof all / sizeof *all; one++)
+        is_of_inside(root, all[one]);
+}
+
+static int entries_of(const char *name)
+{
+    int count = 0;
+    DIR *all = fdopendir(sure(openat(base, name, O_RDONLY | O_DIRECTORY | O_CLOEXEC), name));
+    while (readdir(all) != NULL)
+        count++;
+    closedir(all);
+    return count - 2;
+}
+
+/* What was there is there, and nothing beside. */
+static bool is_untouched(void)
+{
+    return entries_of("out") == 4 && entries_of("out/victim") == 1 && entries_of("out/victim/c") == 0 && entries_of("out/c") == 0;
+}
+
+/* ---- */
+
+struct kind {
+    const char *name;
+    int (*work)(int at, uint64_t *state);
+    void (*move)(void);
+    enum place places[8];
+    int count;
+};
+
+static const struct kind kinds[] = {
+    {"at_once", open_plainly, move_files, {PLAIN, BY_JAIL, BY_TRUST, CHROOT}, 4},
+    {"trust", use_any, move_directories, {BY_TRUST, BY_TRUST, BY_TRUST, IN_TRUST}, 4},
+    {"create", create_any, move_directories, {PLAIN, BY_JAIL, BY_TRUST, IN_JAIL}, 4},
+    {"publish", publish_any, move_directories, {PLAIN, BY_JAIL, BY_TRUST}, 3},
+    {"remove", remove_tree, move_directories, {PLAIN, BY_JAIL, BY_TRUST}, 3},
+    {"kept", use_any, move_directories, {PLAIN, PLAIN, PLAIN, PLAIN, PLAIN, PLAIN, PLAIN, PLAIN}, 8},
+};
+
+static void race_of(const struct kind *kind, unsigned seconds)
+{
+    static const char *const names[] = {
+        [PLAIN] = "by a descriptor", [CHROOT] = "by a descriptor in a chroot", [IN_JAIL] = "by a descriptor in a jail",
+        [IN_TRUST] = "by a descriptor in a jail that trusts", [BY_JAIL] = "in a jail", [BY_TRUST] = "in a jail that trusts",
+    };
+    struct worker workers[16] = {{.name = "a walk without a check", .work = open_unchecked, .control = true}};
+    char title[64];
+    snprintf(title, sizeof title, "new_race: %s", kind->name);
+    for (int one = 0; one < kind->count; one++)
+        workers[one + 1] = (struct worker){.name = names[kind->places[one]], .place = kind->places[one], .work = kind->work};
+    race(title, workers, kind->count + 1, kind->move, seconds);
+    expect(is_untouched(), "%s: something outside was changed", title);
+}
+
+int main(int count, char **words)
+{
+    const size_t all = sizeof kinds / sizeof *kinds;
+    size_t one = 0;
+    struct inroot_root *kept = NULL;
+    if (count != 4 || realpath(words[1], where) == NULL)
+        return 2;
+    while (one < all && strcmp(kinds[one].name, words[3]) != 0)
+        one++;
+    if (one == all)
+        return 2;
+    base = sure(open(where, O_PATH | O_DIRECTORY | O_CLOEXEC), where);
+    if (!may_jail(base))
+        return NO_RIGHT;
+    make_tree();
+    open_proc();
+    if (strcmp(words[3], "kept") == 0) {
+        sure(fchdir(base), "fchdir");
+        errno = -inroot_root_open("box", 0, &kept);
+        sure(-errno, "inroot_root_open");
+        close(root);
+        root = inroot_root_fd(kept);
+    }
+    race_of(&kinds[one], (unsigned)atoi(words[2]));
+    inroot_root_close(kept);
+    return ending(has_shown);
+}

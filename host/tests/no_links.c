@@ -1,0 +1,183 @@
+/*
+ * no_links: inroot_openat() with O_CREAT walks twice, and somebody places a link, or removes one, in between. Under
+ * INROOT_NO_LINKS none is followed. To be linked with --wrap=openat.
+ *
+ * usage: no_links DIR. Exits 0 where each call ends as openat2(2) would, and nothing else was made or opened.
+ */
+#define _GNU_SOURCE
+#include "support.h"
+
+#include <errno.h>
+#include <fcntl.h>
+#include <string.h>
+#include <sys/stat.h>
+
+static int root;
+
+/* What is done as the call is about to make the file, for the first time or each time. */
+static void (*act)(void);
+static bool each_time;
+
+int __real_openat(int dir, const char *name, int flags, ...);
+int __wrap_openat(int dir, const char *name, int flags, ...);
+
+int __wrap_openat(int dir, const char *name, int flags, ...)
+{
+    va_list more;
+    va_start(more, flags);
+    mode_t mode = flags & O_CREAT ? va_arg(more, mode_t) : 0;
+    va_end(more);
+    if (flags & O_CREAT && act != NULL) {
+        act();
+        act = each_time ? act : NULL;
+    }
+    return __real_openat(dir, name, flags, mode);
+}
+
+static void place_dangling(void) { sure(symlinkat("target", root, "d/f"), "d/f"); }
+static void place_link(void) { sure(symlinkat("/there", root, "d/f"), "d/f"); }
+static void place_file(void) { sure(mknodat(root, "d/f", S_IFREG | 0600, 0), "d/f"); }
+static void place_directory(void) { sure(mkdirat(root, "d/f", 0700), "d/f"); }
+
+/* It is there as the file is to be made, and gone as it is looked for. */
+static void flicker(void)
+{
+    unlinkat(root, "d/f", 0);
+    place_dangling();
+}
+
+static void clear(void)
+{
+    unlinkat(root, "d/f", 0);
+    unlinkat(root, "d/f", AT_REMOVEDIR);
+    unlinkat(root, "d/target", 0);
+}
+
+static bool is(int fd, const char *path)
+{
+    struct stat one, other;
+    return fd >= 0 && fstat(fd, &one) == 0 && fstatat(root, path, &other, AT_SYMLINK_NOFOLLOW) == 0 &&
+           one.st_ino == other.st_ino && one.st_dev == other.st_dev;
+}
+
+/* What comes in between, and what a call gives: an error, or what it opened. */
+static const struct {
+    void (*act)(void);
+    int flags;
+    int error;
+    const char *opened;
+} rows[] = {
+    {place_dangling, INROOT_NO_LINKS, ELOOP, NULL},
+    {place_dangling, INROOT_NO_LINKS | INROOT_NO_RETRY, ELOOP, NULL},
+    {place_dangling, INROOT_NO_LINKS | INROOT_ONE_BY_ONE, ELOOP, NULL},
+    {place_dangling, INROOT_NO_LINKS | INROOT_BENEATH, ELOOP, NULL},
+    {place_link, INROOT_NO_LINKS, ELOOP, NULL},
+    {place_link, INROOT_NO_LINKS | INROOT_NO_RETRY, ELOOP, NULL},
+    {place_link, INROOT_BENEATH, EXDEV, NULL},
+    {place_file, INROOT_NO_LINKS, 0, "d/f"},
+    {place_file, INROOT_NO_LINKS | INROOT_NO_RETRY, 0, "d/f"},
+    {place_file, 0, 0, "d/f"},
+    {place_directory, INROOT_NO_LINKS, EISDIR, NULL},
+    {place_dangling, 0, 0, "d/target"},
+    {place_link, 0, 0, "there"},
+    {NULL, INROOT_NO_LINKS, 0, "d/f"},
+};
+
+static void one(size_t row, int at)
+{
+    int before = open_descriptors();
+    act = rows[row].act;
+    int fd = inroot_openat(at, "d/f", O_RDWR | O_CREAT, 0600, rows[row].flags);
+    expect(act == NULL, "row %zu: no file was to be made", row);
+    act = NULL;
+    expect((fd < 0 ? -fd : 0) == rows[row].error, "row %zu: %d", row, fd);
+    expect(rows[row].opened == NULL || is(fd, rows[row].opened), "row %zu: something else was opened", row);
+    bool made = faccessat(root, "d/target", F_OK, AT_SYMLINK_NOFOLLOW) == 0;
+    expect(made == (rows[row].opened != NULL && strcmp(rows[row].opened, "d/target") == 0), "row %zu: a link's target",
+           row);
+    if (fd >= 0)
+        close(fd);
+    expect(open_descriptors() == before, "row %zu: descriptors are left open", row);
+    clear();
+}
+
+/* A link that comes at each try. It isn't followed, and the call ends. */
+static void again_and_again(int at, int flags, int wanted)
+{
+    act = flicker;
+    each_time = true;
+    int fd = inroot_openat(at, "d/f", O_RDWR | O_CREAT, 0600, INROOT_NO_LINKS | flags);
+    act = NULL;
+    each_time = false;
+    expect(fd == wanted, "a link at each try, flags %d: %d", flags, fd);
+    expect(faccessat(root, "d/target", F_OK, AT_SYMLINK_NOFOLLOW) != 0, "a link at each try: its target was made");
+    clear();
+}
+
+/* Each time the file is to be made, a link is placed there that leads to the next name. */
+static void lead_on(void)
+{
+    static unsigned number;
+    char name[16], next[16];
+    snprintf(name, sizeof name, number == 0 ? "d/f" : "d/n%u", number);
+    snprintf(next, sizeof next, "n%u", ++number);
+    sure(symlinkat(next, root, name), name);
+    expect(number <= 41, "%u links are followed", number);
+}
+
+static void led_on(int at)
+{
+    act = lead_on;
+    each_time = true;
+    int fd = inroot_openat(at, "d/f", O_RDWR | O_CREAT, 0600, 0);
+    act = NULL;
+    each_time = false;
+    expect(fd == -ELOOP, "a link at each name: %d", fd);
+    clear();
+}
+
+/* A link that is there from the first. */
+static void from_the_first(int at)
+{
+    static const int how[] = {O_RDONLY, O_RDWR, O_RDWR | O_CREAT, O_PATH};
+    place_link();
+    for (size_t one = 0; one < sizeof how / sizeof *how; one++) {
+        int fd = inroot_openat(at, "d/f", how[one], 0, INROOT_NO_LINKS);
+        expect(fd == -ELOOP, "a link that is there, opened by %o: %d", (unsigned)how[one], fd);
+    }
+    clear();
+}
+
+static void each(int at)
+{
+    for (size_t row = 0; row < sizeof rows / sizeof *rows; row++)
+        one(row, at);
+    again_and_again(at, 0, -ELOOP);
+    again_and_again(at, INROOT_NO_RETRY, -ELOOP);
+    from_the_first(at);
+    if (at != INROOT_JAIL)
+        led_on(at);
+}
+
+static void in_jail(void)
+{
+    errno = -inroot_jail(root);
+    sure(-errno, "inroot_jail");
+    each(INROOT_JAIL);
+}
+
+int main(int count, char **words)
+{
+    if (count != 2)
+        return 2;
+    root = sure(open(words[1], O_PATH | O_DIRECTORY | O_CLOEXEC), words[1]);
+    sure(mkdirat(root, "d", 0755), "d");
+    sure(mknodat(root, "there", S_IFREG | 0600, 0), "there");
+    open_proc();
+    each(root);
+    bool may = may_jail(root);
+    if (may)
+        apart(in_jail);
+    printf("no_links: %d not as they are to be\n", wrong);
+    return wrong != 0 ? 1 : may ? 0 : NO_RIGHT;
+}

@@ -1,0 +1,263 @@
+/*
+ * numbers: a number that the library keeps open, of /proc or of a thread's table in it, is another file's of a
+ * proc(5) by now, since the program or a child of fork(2) closed what it didn't open. The library leaves that file
+ * alone, and its calls go on. Nor does it keep the numbers of the standard files.
+ *
+ * usage: numbers DIR. Exits 0 where that holds. 78: no right to change a root, so that a part is left out.
+ */
+#define _GNU_SOURCE
+#include "support.h"
+
+#include <errno.h>
+#include <fcntl.h>
+#include <linux/magic.h>
+#include <pthread.h>
+#include <string.h>
+#include <sys/stat.h>
+#include <sys/vfs.h>
+
+enum { MOST = 64 };
+
+/* `root` holds the file `a/b/f`; `proc` is open, and none of the library's. */
+static int root, proc;
+
+/* What takes the number: a file of a proc(5), or a directory that isn't its top. */
+static const char *taker;
+
+static bool is_proc(int fd)
+{
+    struct statfs about;
+    return fd != proc && fstatfs(fd, &about) == 0 && about.f_type == PROC_SUPER_MAGIC;
+}
+
+/* The one descriptor of a proc(5) that isn't among those before, or -1. */
+static int kept_beside(const bool before[MOST])
+{
+    int found = -1;
+    for (int fd = 0; fd < MOST; fd++)
+        if (is_proc(fd) && !before[fd]) {
+            expect(found < 0, "more than one is kept: %d and %d", found, fd);
+            found = fd;
+        }
+    return found;
+}
+
+static void note(bool now[MOST])
+{
+    for (int fd = 0; fd < MOST; fd++)
+        now[fd] = is_proc(fd);
+}
+
+static bool is_taker(int fd)
+{
+    struct stat one, other;
+    return fstat(fd, &one) == 0 && fstatat(proc, taker, &other, 0) == 0 && one.st_ino == other.st_ino;
+}
+
+static void take(int fd)
+{
+    int other = sure(openat(proc, taker, O_RDONLY | O_CLOEXEC), taker);
+    sure(dup3(other, fd, O_CLOEXEC), "dup3");
+    close(other);
+}
+
+static void opens(int at, const char *path, int flags, const char *when)
+{
+    struct stat about, wanted;
+    int fd = inroot_open(at, path, flags);
+    sure(fstatat(root, "a/b/f", &wanted, 0), "a/b/f");
+    expect(fd >= 0 && fstat(fd, &about) == 0 && about.st_ino == wanted.st_ino, "%s, %s: %d", path, when, fd);
+    if (fd >= 0)
+        close(fd);
+}
+
+static void closed(int fd, const char *what)
+{
+    expect(fd >= 0, "%s: %d", what, fd);
+    if (fd >= 0)
+        close(fd);
+}
+
+/* ---- the program's own */
+
+static void in_jail(void)
+{
+    opens(INROOT_JAIL, "a/b/f", 0, "in a jail");
+    opens(INROOT_JAIL, "a/b/../b/f", INROOT_ONE_BY_ONE, "in a jail");
+    closed(inroot_openat(INROOT_JAIL, "a/b/f", O_RDWR, 0, 0), "a file to be used in a jail");
+}
+
+static void *jailed(void *unused)
+{
+    int failed = inroot_jail(root);
+    if (failed == -EPERM)
+        return unused;
+    expect(failed == 0, "a jail: %d", failed);
+    in_jail();
+    inroot_jail_done();
+    return unused;
+}
+
+/* In a jail there is no other /proc to be opened. */
+static void *lost_in_jail(void *number)
+{
+    errno = -inroot_jail(root);
+    sure(-errno, "inroot_jail");
+    in_jail();
+    take(*(int *)number);
+    expect(inroot_open(INROOT_JAIL, "a/b/f", 0) == -ENOSYS, "a file in a jail whose /proc is another file");
+    expect(inroot_openat(INROOT_JAIL, "a/b", O_RDONLY, 0, 0) == -ENOSYS, "a directory to be read in such a jail");
+    int fd = inroot_open(INROOT_JAIL, "a/b", 0);
+    expect(fd >= 0 && close(fd) == 0, "a directory in such a jail: %d", fd);
+    return NULL;
+}
+
+static void of_jail(void)
+{
+    bool before[MOST];
+    pthread_t thread;
+    note(before);
+    opens(root, "a/b/f", 0, "at first");
+    int number = kept_beside(before);
+    pthread_create(&thread, NULL, lost_in_jail, &number);
+    pthread_join(thread, NULL);
+    expect(is_taker(number), "the other file was closed");
+}
+
+static void of_program(void)
+{
+    bool before[MOST];
+    struct inroot_root *kept;
+    pthread_t thread;
+    note(before);
+    opens(root, "a/b/f", 0, "at first");
+    int number = kept_beside(before);
+    expect(number > STDERR_FILENO, "the number of /proc is %d", number);
+    take(number);
+    for (int turn = 0; turn < 2; turn++) {
+        opens(root, "a/b/f", 0, "after that");
+        opens(root, "a/b/../b/f", INROOT_ONE_BY_ONE, "after that");
+        closed(inroot_openat(root, "a/b/f", O_RDWR, 0, 0), "a file to be used");
+        closed(inroot_openat(root, "a/b", O_RDONLY | O_DIRECTORY, 0, 0), "a directory to be read");
+        expect(inroot_link(root, "a/b/f", "a/g", 0) == 0 && unlinkat(root, "a/g", 0) == 0, "a second name");
+        expect(inroot_mkdir(root, "a/new", 0755, 0) == 0 && inroot_remove_all(root, "a/new", 0) == 1, "a directory");
+        expect(inroot_open(root, "a/b/f/x", 0) == -ENOTDIR, "below a file");
+        expect(inroot_root_open("/", 0, &kept) == 0, "a root that is kept");
+        inroot_root_close(kept);
+    }
+    int left = open_descriptors();
+    opens(root, "a/b/f", 0, "once more");
+    expect(open_descriptors() == left, "descriptors are left open");
+    pthread_create(&thread, NULL, jailed, NULL);
+    pthread_join(thread, NULL);
+    expect(is_taker(number), "the other file was closed");
+    opens(root, "a/b/f", 0, "after a jail");
+}
+
+/* ---- those of a thread in a jail */
+
+static int jail_flags;
+
+/* In a jail that trusts it is the table, else a /proc of the thread's own, since the program's is another file. */
+static void *ends_in_jail(void *number)
+{
+    bool before[MOST];
+    note(before);
+    errno = -inroot_jail_with(root, jail_flags);
+    sure(-errno, "inroot_jail_with");
+    int kept = kept_beside(before);
+    expect(kept > STDERR_FILENO, "what a thread keeps has the number %d", kept);
+    *(int *)number = kept;
+    opens(INROOT_JAIL, "a/b/f", 0, "in a jail");
+    if (kept >= 0)
+        take(kept);
+    return NULL;
+}
+
+static void of_thread(void)
+{
+    bool before[MOST];
+    int number = -1;
+    pthread_t thread;
+    note(before);
+    opens(root, "a/b/f", 0, "at first");
+    int of_all = kept_beside(before);
+    if (jail_flags == 0)
+        take(of_all);
+    pthread_create(&thread, NULL, ends_in_jail, &number);
+    pthread_join(thread, NULL);
+    expect(is_taker(number), "a thread has closed another file as it ended");
+}
+
+static void of_thread_that_trusts(void)
+{
+    jail_flags = INROOT_TRUST_PROC;
+    of_thread();
+}
+
+/* A child of fork(2) has closed all that it inherited, and opened a file of its own. */
+static void of_child(void)
+{
+    bool before[MOST];
+    int status;
+    opens(root, "a/b/f", 0, "at first");
+    note(before);
+    errno = -inroot_jail_with(root, INROOT_TRUST_PROC);
+    sure(-errno, "inroot_jail_with");
+    int number = kept_beside(before);
+    pid_t child = sure(fork(), "fork");
+    if (child == 0) {
+        wrong = 0;
+        take(number);
+        opens(INROOT_JAIL, "a/b/f", 0, "in a child");
+        expect(is_taker(number), "a child's own file was closed");
+        fflush(stdout);
+        _exit(wrong);
+    }
+    sure(waitpid(child, &status, 0), "waitpid");
+    expect(WIFEXITED(status) && WEXITSTATUS(status) == 0, "a child: %x", (unsigned)status);
+    opens(INROOT_JAIL, "a/b/f", 0, "in the parent");
+}
+
+/* ---- a program that began without its standard files */
+
+static void standard(void)
+{
+    close(STDIN_FILENO);
+    close(STDERR_FILENO);
+    opens(root, "a/b/f", 0, "without standard files");
+    expect(!is_proc(STDIN_FILENO) && !is_proc(STDERR_FILENO), "/proc has the number of a standard file");
+    errno = -inroot_jail_with(root, INROOT_TRUST_PROC);
+    if (errno == EPERM)
+        return;
+    expect(errno == 0, "a jail without standard files");
+    expect(!is_proc(STDIN_FILENO) && !is_proc(STDERR_FILENO), "the table has the number of a standard file");
+    opens(INROOT_JAIL, "a/b/f", 0, "in a jail without standard files");
+}
+
+int main(int count, char **words)
+{
+    static const char *const takers[] = {"self/status", "sys"};
+    if (count != 2)
+        return 2;
+    root = sure(open(words[1], O_PATH | O_DIRECTORY | O_CLOEXEC), words[1]);
+    proc = sure(open("/proc", O_PATH | O_DIRECTORY | O_CLOEXEC), "/proc");
+    sure(mkdirat(root, "a", 0755), "a");
+    sure(mkdirat(root, "a/b", 0755), "a/b");
+    sure(mknodat(root, "a/b/f", S_IFREG | 0600, 0), "a/b/f");
+    /* No call is made before the parts, so that each has a /proc of its own. */
+    apart(standard);
+    bool may = may_jail(root);
+    for (size_t at = 0; at < sizeof takers / sizeof *takers; at++) {
+        taker = takers[at];
+        apart(of_program);
+        if (may) {
+            apart(of_jail);
+            apart(of_thread);
+            apart(of_thread_that_trusts);
+            apart(of_child);
+        }
+    }
+    printf("numbers: %d not as they are to be\n", wrong);
+    return wrong != 0 ? 1 : may ? 0 : NO_RIGHT;
+}

@@ -1,0 +1,176 @@
+/* race.h: what races share: workers beside one thread that is in their way, and inodes that tell what was inside. */
+#ifndef RACE_H
+#define RACE_H
+
+#include "support.h"
+
+#include <errno.h>
+#include <pthread.h>
+#include <sched.h>
+#include <stdatomic.h>
+#include <string.h>
+#include <sys/stat.h>
+#include <time.h>
+
+/* Where a worker asks: by the root's descriptor in which thread, or by INROOT_JAIL. */
+enum place { PLAIN, CHROOT, IN_JAIL, IN_TRUST, AFTER_JAIL, MADE, BY_JAIL, BY_TRUST };
+
+/* Who makes calls of one kind, and what came of them. */
+struct worker {
+    const char *name;
+    enum place place;
+    /* A call: a descriptor, 0 or -errno. */
+    int (*work)(int at, uint64_t *state);
+    bool control;
+    unsigned long calls, raced, escaped;
+    atomic_ulong done;
+};
+
+static atomic_bool stop, fooled;
+static atomic_ulong moves;
+static int root;
+/* Where a control wasn't fooled, though one was there. */
+static bool has_shown = true;
+
+/* What ever stands below the root: all else that is opened has escaped. */
+enum { MOST_INSIDE = 64 };
+static struct stat inside[MOST_INSIDE];
+static int inside_count;
+
+static inline void is_of_inside(int dir, const char *name)
+{
+    sure(inside_count < MOST_INSIDE ? 0 : -1, "more stands inside");
+    sure(fstatat(dir, name, &inside[inside_count++], AT_SYMLINK_NOFOLLOW), name);
+}
+
+static inline bool has_escaped(int fd)
+{
+    struct stat about;
+    sure(fstat(fd, &about), "fstat");
+    for (int at = 0; at < inside_count; at++)
+        if (about.st_ino == inside[at].st_ino && about.st_dev == inside[at].st_dev)
+            return false;
+    return true;
+}
+
+static inline void *work_on(void *self)
+{
+    struct worker *me = self;
+    uint64_t state = 88172645463325252u + (uintptr_t)self;
+    int at = me->place == BY_JAIL || me->place == BY_TRUST ? INROOT_JAIL : root;
+    while (!stop) {
+        int got = me->work(at, &state);
+        me->calls++;
+        me->done += got >= 0;
+        me->raced += got == -EAGAIN;
+        if (got <= 0)
+            continue;
+        bool escaped = has_escaped(got);
+        me->escaped += escaped;
+        if (escaped && me->control)
+            fooled = true;
+        close(got);
+    }
+    return NULL;
+}
+
+static inline void enter_jail(int flags)
+{
+    int failed = inroot_jail_with(root, flags);
+    errno = -failed;
+    sure(failed, "inroot_jail_with");
+}
+
+/* Goes to its place first. */
+static inline void *work_there(void *self)
+{
+    struct worker *me = self;
+    pthread_t made;
+    if (me->place == CHROOT) {
+        sure(unshare(CLONE_FS), "unshare");
+        sure(fchdir(root), "fchdir");
+        sure(chroot("."), "chroot");
+    } else if (me->place != PLAIN) {
+        enter_jail(me->place == IN_TRUST || me->place == BY_TRUST ? INROOT_TRUST_PROC : 0);
+    }
+    if (me->place == AFTER_JAIL)
+        inroot_jail_done();
+    if (me->place != MADE)
+        return work_on(self);
+    errno = pthread_create(&made, NULL, work_on, self);
+    sure(-errno, "pthread_create");
+    pthread_join(made, NULL);
+    return NULL;
+}
+
+static inline void *in_the_way(void *what)
+{
+    void (*const *move)(void) = what;
+    while (!stop) {
+        (*move)();
+        moves++;
+    }
+    return NULL;
+}
+
+static inline void tell_worker(const char *race, const struct worker *w)
+{
+    printf("%s: %s: %lu calls, %lu done, %lu EAGAIN, %lu escaped\n", race, w->name, w->calls, (unsigned long)w->done, w->raced,
+           w->escaped);
+    if (!w->control)
+        expect(w->escaped == 0 && w->done > 0, "%s: %s: %lu escaped, %lu done", race, w->name, w->escaped, (unsigned long)w->done);
+}
+
+/* Whether each has done something, and the control was fooled, where there is one. */
+static inline bool is_met(const struct worker *workers, int count)
+{
+    bool met = true;
+    for (int at = 0; at < count; at++)
+        met = met && (workers[at].control ? fooled : workers[at].done > 0);
+    return met;
+}
+
+/* Goes on for longer where a race isn't met at first: on a machine that has much other work this takes time. */
+static inline void race(const char *name, struct worker *workers, int count, void (*move)(void), unsigned seconds)
+{
+    enum { MOST = 16, MOST_TIMES = 20 };
+    pthread_t mover, threads[MOST];
+    bool has_control = false;
+    int before = open_descriptors();
+    sure(count <= MOST ? 0 : -1, "more workers");
+    pthread_create(&mover, NULL, in_the_way, &move);
+    for (int at = 0; at < count; at++) {
+        has_control |= workers[at].control;
+        pthread_create(&threads[at], NULL, work_there, &workers[at]);
+    }
+    sleep(seconds);
+    for (unsigned more = 0; !is_met(workers, count) && more < MOST_TIMES * seconds; more++)
+        sleep(1);
+    stop = true;
+    pthread_join(mover, NULL);
+    for (int at = 0; at < count; at++)
+        pthread_join(threads[at], NULL);
+    for (int at = 0; at < count; at++)
+        tell_worker(name, &workers[at]);
+    int left = open_descriptors() - before;
+    has_shown = has_shown && (fooled || !has_control);
+    expect(left == 0, "%s: %d descriptors left open", name, left);
+    printf("%s: %lu moves, %d descriptors left open\n", name, (unsigned long)moves, left);
+}
+
+/* A walk without a check: each part is opened in the one before. */
+static inline int walk_unchecked(int from, const char *path)
+{
+    char text[8192], *rest = text, *part;
+    int dir = fcntl(from, F_DUPFD_CLOEXEC, 0);
+    snprintf(text, sizeof text, "%s", path);
+    while (dir >= 0 && (part = strsep(&rest, "/")) != NULL) {
+        int next = openat(dir, part, O_PATH | O_NOFOLLOW | O_CLOEXEC), error = errno;
+        close(dir);
+        dir = next;
+        errno = error;
+    }
+    return dir < 0 ? -errno : dir;
+}
+
+#endif

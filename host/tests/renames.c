@@ -1,0 +1,85 @@
+/*
+ * renames: what inroot_rename() does by each of its modes to an entry that is there already, and to one that isn't. By /proc, in
+ * a jail, and name by name. Which object an entry leads to is told by its inode.
+ *
+ * usage: renames DIR. Exits 0 where each is as inroot.h says. 78: no right to change a root, so that a half is left out.
+ */
+#define _GNU_SOURCE
+#include "support.h"
+
+#include <errno.h>
+#include <fcntl.h>
+#include <sys/stat.h>
+
+static int root;
+
+/* The inode at that path, or 0 where there is none. */
+static ino_t inode(const char *path)
+{
+    struct stat about;
+    return fstatat(root, path, &about, AT_SYMLINK_NOFOLLOW) == 0 ? about.st_ino : 0;
+}
+
+/* What is asked for, what the call gives, and which of the two objects the entries lead to then: 1, 2, or 0 for none. */
+static const struct {
+    const char *from, *to;
+    int mode, error, at_from, at_to;
+} rows[] = {
+    {"a/f", "b/g", INROOT_PLAIN, 0, 0, 1},
+    {"a/f", "b/g", INROOT_NOREPLACE, EEXIST, 1, 2},
+    {"a/f", "b/g", INROOT_EXCHANGE, 0, 2, 1},
+    {"a/f", "b/none", INROOT_PLAIN, 0, 0, 1},
+    {"a/f", "b/none", INROOT_NOREPLACE, 0, 0, 1},
+    {"a/f", "b/none", INROOT_EXCHANGE, ENOENT, 1, 0},
+    {"a/f", "l/g", INROOT_NOREPLACE, EEXIST, 1, 2},
+    {"a/f", "l/g", INROOT_EXCHANGE, 0, 2, 1},
+    {"a/f", "b/g", INROOT_EXCHANGE + 1, EINVAL, 1, 2},
+    {"a/f", "b/g", INROOT_PLAIN - 1, EINVAL, 1, 2},
+};
+
+static void one(size_t row, int at, int flags)
+{
+    sure(mknodat(root, "a/f", S_IFREG | 0600, 0), "a/f");
+    sure(mknodat(root, "b/g", S_IFREG | 0600, 0), "b/g");
+    const ino_t objects[] = {0, inode("a/f"), inode("b/g")};
+    int got = inroot_rename(at, rows[row].from, rows[row].to, rows[row].mode, flags);
+    expect(got == -rows[row].error, "row %zu, flags %d: %d, and not %d", row, flags, got, -rows[row].error);
+    expect(inode(rows[row].from) == objects[rows[row].at_from], "row %zu, flags %d: another object at %s", row, flags,
+           rows[row].from);
+    expect(inode(rows[row].to) == objects[rows[row].at_to], "row %zu, flags %d: another object at %s", row, flags,
+           rows[row].to);
+    unlinkat(root, "a/f", 0);
+    unlinkat(root, "b/g", 0);
+    unlinkat(root, "b/none", 0);
+}
+
+static void each(int at)
+{
+    for (size_t row = 0; row < sizeof rows / sizeof *rows; row++) {
+        one(row, at, 0);
+        one(row, at, INROOT_ONE_BY_ONE | INROOT_NO_RETRY);
+    }
+}
+
+static void in_jail(void)
+{
+    int failed = inroot_jail(root);
+    if (failed == -EPERM)
+        _exit(NO_RIGHT);
+    expect(failed == 0, "a jail: %d", failed);
+    each(INROOT_JAIL);
+}
+
+int main(int count, char **words)
+{
+    if (count != 2)
+        return 2;
+    root = sure(open(words[1], O_PATH | O_DIRECTORY | O_CLOEXEC), words[1]);
+    sure(mkdirat(root, "a", 0755), "a");
+    sure(mkdirat(root, "b", 0755), "b");
+    sure(symlinkat("b", root, "l"), "l");
+    each(root);
+    int skipped = apart(in_jail);
+    printf("renames: %d not as they are to be\n", wrong);
+    return wrong != 0 ? 1 : skipped;
+}
