@@ -1,9 +1,9 @@
 # shellcheck shell=bash disable=SC2154
 # The tests of the bindings, and programs over them. checks/library reads this file.
 
-if ! lacks cargo 'bindings/rust is not tested'; then
+if ! lacks cargo bindings/rust; then
     export CARGO_TARGET_DIR=$work/target
-    lacks rustfmt 'the form of bindings/rust is not checked' ||
+    lacks rustfmt 'the form of bindings/rust' ||
         has 'rustfmt' rustfmt --check --edition 2021 --config-path bindings/rust bindings/rust/src/lib.rs \
             bindings/rust/tests/*.rs bindings/rust/build.rs
     has 'the tests of bindings/rust' cargo test -q --offline --locked --manifest-path bindings/rust/Cargo.toml
@@ -26,8 +26,6 @@ fn main() {
     assert_eq!((text.as_str(), root.resolve("abs/secret").is_err()), ("inside\n", true));
 }
 END
-    mkdir "$work/rust/src/bin"
-    of_readme Rust 'use inroot::{OpenFlags, Root};\nfn main() -> Result<(), Box<dyn std::error::Error>> {\n' 'drop(file);\nOk(())\n}\n' >"$work/rust/src/bin/readme.rs"
     for kind in '' 1; do
         [ -z "$kind" ] || export INROOT_STATIC=$kind
         has "a Rust program, static: '$kind'" cargo build -q --offline --manifest-path "$work/rust/Cargo.toml"
@@ -37,11 +35,9 @@ END
         verdict $? "a Rust program has the wrong library, static: '$kind'"
     done
     unset INROOT_STATIC
-    echo text >"$box/a/readme"
-    has "README's lines of Rust run" "$CARGO_TARGET_DIR/debug/readme"
 fi
 has_go=
-if ! lacks go 'bindings/go and the example in Go are not tested'; then
+if ! lacks go 'bindings/go and the example in Go'; then
     export GOFLAGS=-mod=readonly GOWORK=off GOPROXY=off GOTOOLCHAIN=local CGO_ENABLED=1
     # Of its own: the cache keeps what pkg-config said, and doesn't see where the library went.
     export GOCACHE=$work/gocache
@@ -49,12 +45,6 @@ if ! lacks go 'bindings/go and the example in Go are not tested'; then
     verdict $? "gofmt -l: $(gofmt -l bindings/go examples/runtime)"
     has 'go vet of bindings/go' env -C bindings/go go vet ./...
     has 'the tests of bindings/go' env -C bindings/go go test -count=1 ./...
-    mkdir "$work/go"
-    of_readme Go 'package main\nimport (\n"inroot"\n"os"\n)\nfunc main() {\n' 'if err != nil {\npanic(err)\n}\nfile.Close()\n}\n' >"$work/go/main.go"
-    sed "s|^module .*|module readme|; s|=> .*|=> $top/bindings/go|" examples/runtime/unpack-go/go.mod >"$work/go/go.mod"
-    echo text >"$box/a/readme"
-    has "README's lines of Go run" env -C "$work/go" go run .
-    rm -f "$box/a/readme"
     has 'a Go program' env -C examples/runtime/unpack-go go build -o "$work/unpack-go" . && has_go=yes
     cp "$work/unpack-go" "$work/used" && has 'a Go program takes the shared library' is_shared
     if [ -e "$work/static" ]; then

@@ -36,7 +36,7 @@ for name in $(sed -n 's/^[.]Xr \(inroot[a-z_-]*\|libinroot\) \([1357]\).*/\1.\2/
     [ -f "$prefix/share/man/man${name##*.}/$name" ]
     verdict $? "a man page names $name, and there is none"
 done
-if ! lacks mandoc 'the man pages are not checked'; then
+if ! lacks mandoc 'the form of the man pages'; then
     # Which pages of others are installed here is no matter.
     told=$(mandoc -T lint man/*.[1-8] 2>/dev/null | grep -v 'referenced manual not found')
     [ -z "$told" ]
@@ -49,7 +49,7 @@ if [ -x "${INROOT_PROGRAM-}" ]; then
     [ "$told" = "$(sed -n 's/^[.]Dl \(opened .*\)/\1/p' man/inroot-script.5)" ]
     verdict $? "the example of man/inroot-script.5: $told"
 else
-    echo 'library: no program inroot is given (INROOT_PROGRAM): the example of inroot-script(5) was not run'
+    skip 'the example of inroot-script(5)' 'INROOT_PROGRAM names no program'
 fi
 for option in $("$fs" --help | grep -o -- '--[a-z-]*' | sort -u); do
     name=${option#--}
@@ -66,12 +66,12 @@ completed() {
         COMP_WORDS=("$@") COMP_CWORD=$(($# - 1)); _inroot_fs; printf "%s\n" "${COMPREPLY[@]}"' - inroot-fs "$@" |
         LC_ALL=C sort | xargs -d '\n'
 }
-[ "$(completed "$box" r)" = 'readlink resolve rm rmdir' ] && [ "$(completed "$box" cat in/)" = 'in/f in/new' ] &&
+[ "$(completed "$box" r)" = 'readlink realpath resolve rm rmdir' ] && [ "$(completed "$box" cat in/)" = 'in/f in/new' ] &&
     [ "$(completed "$box" cat abs/)" = '' ] && [ "$(completed "$box" rm --r)" = --recursive ]
 verdict $? "bash completes: $(completed "$box" r), $(completed "$box" cat in/), $(completed "$box" cat abs/)"
-lacks zsh 'its completions are not checked' ||
+lacks zsh 'completions for zsh' ||
     has 'completions for zsh' zsh -n completions/_inroot completions/_inroot-fs
-lacks fish 'its completions are not checked' ||
+lacks fish 'completions for fish' ||
     has 'completions for fish' fish -n completions/inroot.fish completions/inroot-fs.fish
 if command -v fish >/dev/null; then
     # What fish completes of the first line, with a comma after each.

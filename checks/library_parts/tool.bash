@@ -6,7 +6,7 @@ fs=$prefix/bin/inroot-fs
 watched_fs=$work/watched-fs
 cc -std=gnu11 -g -fsanitize=address,undefined -fno-sanitize-recover=all -Ihost -o "$watched_fs" host/inroot-fs*.c \
     "$prefix/lib/libinroot.a" -pthread 2>/dev/null || {
-    echo 'library: the compiler has no sanitizers: inroot-fs is run without'
+    skip 'inroot-fs under sanitizers' 'the compiler has none'
     watched_fs=$fs
 }
 # expect STATUS STDOUT STDERR ARGS..: below the box; STDERR is the first line, or empty. Standard input is the case's.
@@ -26,10 +26,13 @@ shown=$(grep -A 1 '^    \$ inroot-fs ' docs/HOST.md | sed "s|/srv/box|$box|g; s/
 verdict $? "docs/HOST.md shows another answer: $shown"
 expect 0 "opened dir $box" '' resolve ../../..
 expect 0 "opened link $box/in" '' resolve --nofollow in
-expect 0 'fault ENOENT' '' resolve up/secret
-expect 0 'fault EXDEV' '' resolve --beneath in/f
-expect 0 'fault ELOOP' '' resolve --no-links in/f
-expect 0 'fault ENOTDIR' '' resolve a/b/f/x
+expect 1 'fault ENOENT' "inroot-fs: resolve 'up/secret': ENOENT: No such file or directory, at 'outside'" resolve up/secret
+expect 1 'fault EXDEV' "inroot-fs: resolve 'in/f': EXDEV: Invalid cross-device link" resolve --beneath in/f
+expect 1 'fault ELOOP' "inroot-fs: resolve 'in/f': ELOOP: Too many levels of symbolic links, at 'in'" resolve --no-links in/f
+expect 1 'fault ENOTDIR' "inroot-fs: resolve 'a/b/f/x': ENOTDIR: Not a directory, at 'f'" resolve a/b/f/x
+expect 0 "$box/a/b/f" '' realpath in/f
+expect 0 "$box/in" '' realpath --nofollow in
+expect 1 '' "inroot-fs: realpath 'none': ENOENT: No such file or directory" realpath none
 expect 0 inside '' cat in/f
 expect 1 inside "inroot-fs: cat 'up/secret': ENOENT: No such file or directory, at 'outside'" cat up/secret in/f
 expect 1 '' "inroot-fs: cat 'a': EISDIR: Is a directory" cat a
@@ -37,7 +40,8 @@ expect 0 $'a\nabs\nin\nup' '' ls
 expect 0 f '' ls in
 expect 1 '' "inroot-fs: ls 'in/f': ENOTDIR: Not a directory" ls in/f
 expect 0 /a/../../a/b '' readlink in
-expect 1 '' "inroot-fs: readlink 'a': EINVAL: Invalid argument" readlink a
+expect 1 '' "inroot-fs: readlink 'a': EINVAL: it is no link" readlink a
+expect 1 '' "inroot-fs: readlink 'none': ENOENT: No such file or directory" readlink none
 expect 0 '' '' mkdir --parents --mode 711 in/x/y
 expect 1 '' "inroot-fs: mkdir 'up/x': ENOENT: No such file or directory, at 'outside'" mkdir --parents up/x
 expect 1 '' "inroot-fs: mkdir 'a': EEXIST: File exists" mkdir a
@@ -57,6 +61,55 @@ verdict $? "inroot-fs stat: $("$fs" "$box" stat in/x/new)"
 mkfifo "$box/fifo"
 expect 1 '' "inroot-fs: cat 'fifo': EINVAL: it is no regular file" cat fifo
 expect 1 '' "inroot-fs: write 'fifo': EINVAL: it is no regular file" write fifo <<<lost
+# Kinds, modes and owners; of a link itself, and of what it means.
+expect 0 '' '' mknod in/x/p p
+expect 0 '' '' mknod -m 640 in/x/s s
+expect 1 '' "inroot-fs: mknod 'in/x/p': EEXIST: File exists, at 'p'" mknod in/x/p f
+expect 2 '' "inroot-fs: a kind is f, p, s, c or b, and not 'd'" mknod in/x/d d
+expect 2 '' 'inroot-fs: MAJOR and MINOR are given for a device, and for nothing else' mknod in/x/d p 1 3
+expect 2 '' "inroot-fs: a device has two numbers, and not '3x'" mknod in/x/d c 1 3x
+[ "$(stat -c '%F %a' "$box/a/b/x/p" "$box/a/b/x/s" | xargs)" = 'fifo 644 socket 640' ]
+verdict $? "inroot-fs mknod made other kinds: $(stat -c '%F %a' "$box/a/b/x/"[ps])"
+ln -s new "$box/a/b/x/last"
+expect 0 '' '' chmod 0604 in/x/last
+expect 0 '' '' chmod 0750 in/x
+expect 1 '' "inroot-fs: chmod 'in/x/p': EINVAL: it is neither a regular file nor a directory" chmod 600 in/x/p
+expect 1 '' "inroot-fs: chmod 'up/secret': ENOENT: No such file or directory, at 'outside'" chmod 600 up/secret
+expect 2 '' "inroot-fs: a mode is octal digits, at most 7777, and not 'u+x'" chmod u+x in/x
+[ "$(stat -c %a "$box/a/b/x" "$box/a/b/x/new" | xargs)" = '750 604' ]
+verdict $? "inroot-fs chmod: $(stat -c %a "$box/a/b/x" "$box/a/b/x/new" | xargs)"
+expect 2 '' "inroot-fs: an owner is UID, UID:GID or :GID, in numbers, and not '5:'" chown 5: in/x
+expect 0 '' '' chown "$(id -u):$(id -g)" in/x/new
+if [ "$(id -u)" -eq 0 ] && chown 7 "$box/a/b/x/new" 2>/dev/null; then
+    expect 0 '' '' chown 5:6 in/x/last
+    expect 0 '' '' chown :9 in/x/last
+    expect 0 '' '' chown --nofollow 8 in/x/last
+    [ "$(stat -c '%u %g' "$box/a/b/x/new" "$box/a/b/x/last" | xargs)" = '5 9 8 0' ]
+    verdict $? "inroot-fs chown: $(stat -c '%u %g' "$box/a/b/x/new" "$box/a/b/x/last" | xargs)"
+    chown 0:0 "$box/a/b/x/new"
+else
+    skip 'inroot-fs chown to another owner' 'only root may'
+fi
+touch -h -d @0 "$box/a/b/x/"*
+entries=$(stat -c '%A %h %u %g %s 1970-01-01T00:00:00Z %n' "$box/a/b/x/"* | sed "s|$box/a/b/x/||; s/ last$/& -> new/")
+[ "$("$fs" "$box" ls -l in/x)" = "$entries" ]
+verdict $? "inroot-fs ls -l: $("$fs" "$box" ls -l in/x)"
+"$fs" "$box" stat in/x/new | grep -qx 'date 1970-01-01T00:00:00Z'
+verdict $? 'inroot-fs stat has no date'
+for name in p s last; do
+    expect 0 '' '' rm "in/x/$name"
+done
+# A file is made at the end of links, by the last one's directory; a loop of links, or one under --no-links, leads to none.
+ln -s ../chain-2 "$box/a/chain-1" && ln -s a/made "$box/chain-2" && ln -s loop "$box/loop"
+expect 1 '' "inroot-fs: write 'a/chain-1': ELOOP: Too many levels of symbolic links" write -L a/chain-1 <<<lost
+expect 0 '' '' write a/chain-1 <<<made
+expect 0 made '' cat a/made
+expect 1 '' "inroot-fs: write 'loop': ELOOP: Too many levels of symbolic links" write loop <<<lost
+rm "$box/a/chain-1" "$box/chain-2" "$box/loop" "$box/a/made"
+# There is a /proc, which is a mount of its own.
+[ "$("$watched_fs" / resolve -D proc/version 2>/dev/null)" = 'fault EXDEV' ] &&
+    [[ $("$watched_fs" / resolve proc/version) == 'opened file '*/version ]]
+verdict $? "inroot-fs / resolve --no-xdev proc/version: $("$watched_fs" / resolve -D proc/version 2>&1)"
 expect 0 '' '' ln -s /a/b/f link
 expect 0 '' '' ln in/f second
 expect 0 '' '' mv --exchange link second
@@ -102,7 +155,7 @@ int unlinkat(int dir, const char *name, int flags)
     return (int)syscall(SYS_unlinkat, dir, name, flags);
 }
 END
-if ! lacks script 'what a terminal is told was not tried'; then
+if ! lacks script 'what a terminal is told'; then
     has 'a slow unlinkat' cc -shared -fPIC -o "$work/slow.so" "$work/slow.c"
     mkdir -p "$box/slow/x"
     told=$(script -qec "env 'LD_PRELOAD=$work/slow.so' '$fs' '$box' rm -r slow" /dev/null </dev/null | tr -d '\r')
