@@ -59,7 +59,7 @@ turns='{"version":1,"tree":[],"actors":[{"root":"/","calls":[]}]}'
 for schedule in '0*100000' '0*99999,0'; do
     has 0 "as many turns as there may be: $schedule" "$program" replay --schedule "$schedule" <<<"$turns" >"$room/out"
 done
-comes_to 'a turn more' 3 '' $'inroot: script: schedule\ninroot: a schedule has at most 100000 turns\n' \
+comes_to 'a turn more' 2 '' $'inroot: --schedule: too many turns\ninroot: a schedule has at most 100000 turns\n' \
     replay --schedule '0*100000,0' <<<"$turns"
 comes_to 'a number of turns that is too large' 2 '' \
     $'inroot: --schedule is I or I*N between commas, I an actor and N 1 to 100000, or - for none\n' replay --schedule '0*100001' <<<"$turns"
@@ -74,9 +74,10 @@ busy() {
     done
     printf '{"version":1,"tree":[],"actors":[%s]}' "${list#,}"
 }
+long=$'inroot: a picture has at most 2000 lines, and its run 2000 events\n'
 has 0 'four actors drawn' refuses '' draw < <(busy 4 0)
-comes_to 'a long run drawn' 4 '' $'inroot: draw: lines\n' draw --svg < <(busy 3 250 500)
-comes_to 'a long run of equal actors drawn' 4 '' $'inroot: draw: lines\n' draw < <(busy 4 251)
+comes_to 'a long run drawn' 4 '' $'inroot: draw: lines\n'"$long" draw --svg < <(busy 3 250 500)
+comes_to 'a long run of equal actors drawn' 4 '' $'inroot: draw: lines\n'"$long" draw < <(busy 4 251)
 
 # As many calls of the first actor are read as reply.
 replies_of() {
@@ -112,20 +113,21 @@ changed() {
 }
 
 # One change of the attack is told at its place.
-while IFS='|' read -r old new told wanted; do
+while IFS='|' read -r old new told wanted entry; do
+    [ -z "$entry" ] || wanted+=$'\n'"inroot: $told: $entry"
     comes_to "changed to $new" 3 '' "inroot: script: $told"$'\ninroot: '"$wanted"$'\n' replay < <(changed "$attack" "$old" "$new")
 done <<'END'
 "version":1|"version":true|version|"version" is 1 or 2
 "version":1|"version":1,"lines":0|lines|"lines" is 1 to 1000000
-"root":"/c"|"root":"/c/abs"|actor 0|ENOTDIR: its root is no directory
-,"path":"a/b/.."||call 0 0|"path" is missing
-"path":"a/b/.."|"way":7|call 0 0|"path" is missing
-"path":"a/b/.."|"path":"a/b/..","as":"root"|call 0 0|"as" is root, or a label that a call before it gives
-"name":"b"|"name":".."|call 1 2|"name" is no name of an entry
-"new":"b"|"new":".."|call 1 2|"new" is no name of an entry
-[1,1,1,1,1,1,0,0,0,1]|[2]|schedule 0|a turn is an actor's number, counted from 0
+"root":"/c"|"root":"/c/abs"|actor 0|ENOTDIR: its root is no directory|"/c/abs"
+,"path":"a/b/.."||call 0 0|"path" is missing|{"op":"resolve"}
+"path":"a/b/.."|"way":7|call 0 0|"path" is missing|{"op":"resolve","way":7}
+"path":"a/b/.."|"path":"a/b/..","as":"root"|call 0 0|"as" is root, or a label that a call before it gives|{"as":"root","op":"resolve","path":"a/b/.."}
+"name":"b"|"name":".."|call 1 2|"name" is no name of an entry|{"name":"..","new":"b","on":"A","op":"step","step":"rename","to":"S"}
+"new":"b"|"new":".."|call 1 2|"new" is no name of an entry|{"name":"b","new":"..","on":"A","op":"step","step":"rename","to":"S"}
+[1,1,1,1,1,1,0,0,0,1]|[2]|schedule 0|a turn is an actor's number, counted from 0|2
 END
-comes_to 'a line for two actors' 4 '' $'inroot: book full\n' replay < <(changed "$attack" '"version":1' '"version":1,"lines":1')
+comes_to 'a line for two actors' 4 '' $'inroot: book full\ninroot: "lines" is too small: each actor, or each worker of run, has one\n' replay < <(changed "$attack" '"version":1' '"version":1,"lines":1')
 
 # Books of few lines: so many events, then the replies, all entries as they stood, and what is held.
 entries=$'row 0 c 1 dir\nrow 0 secret 9 dir\nrow 1 a 2 dir\nrow 1 abs 5 link\nrow 1 dang 8 link
@@ -220,3 +222,37 @@ done <<'END'
 "resolve","path":"dang"|fault ENOENT|-|1
 "resolve","path":"../secret"|fault ENOENT|-|1
 END
+
+# On a terminal, which script(1) makes: the answer never stands behind the progress, which is wiped off first, and a picture
+# has the terminal's width and colours.
+on_terminal() {
+    script -qec "$1" "$room/typed" </dev/null >/dev/null
+}
+escape=$'\e'
+answers_on_a_clean_line() {
+    local began=$SECONDS typed
+    on_terminal "'$program' explore --states 10000000 <timing/searches/two-remove-mkdir.json" || return
+    typed=$(grep -av '^Script ' "$room/typed")
+    if [[ $typed != *$'\rinroot: '* ]] && [ $((SECONDS - began)) -lt 3 ]; then
+        skip 'progress on a terminal' 'the search ended before any was told'
+    else
+        [[ $typed =~ inroot:\ [0-9]+\ of\ at\ most\ 10000000\ states,\ turn\ [0-9]+,\ [0-9]+\ seconds$escape ]] || return
+    fi
+    [[ ${typed##*"$escape"\[K} == 'schedules '* ]] && [[ ${typed%"$escape"\[K*} != *schedules* ]]
+}
+# draws_on_terminal LINE WORDS..: of the picture of an attack, with these words before the program
+draws_on_terminal() {
+    local line=$1
+    shift
+    on_terminal "env -u COLUMNS -u NO_COLOR TERM=xterm $* '$program' draw <examples/attacks/moved-out.json" &&
+        tr -d '\r' <"$room/typed" | grep -qxF -- "$line"
+}
+if ! lacks script 'what is seen on a terminal'; then
+    has 0 'the answer on a terminal' answers_on_a_clean_line
+    has 0 'a failed call on a terminal is yellow' draws_on_terminal "${escape}[33m  resolve a/b/.. = fault EAGAIN${escape}[0m"
+    has 0 'what is opened outside is red on a terminal' \
+        draws_on_terminal "    10 | ${escape}[31mopen .. of /secret/b = dir 9     ${escape}[0m |                                   |"
+    has 0 'no colours' draws_on_terminal '    10 | open .. of /secret/b = dir 9      |                                   |' NO_COLOR=1
+    has 0 'the width of a terminal' draws_on_terminal '       | actor 0                 | actor 1                 |' COLUMNS=60
+    has 0 'closes are said to be left out on a terminal' draws_on_terminal 'closes are left out (--all shows them)'
+fi
