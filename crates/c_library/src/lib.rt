@@ -1,4 +1,4 @@
-//! The functions by which a C program makes calls: a static library of three exports, over `c_protocol`.
+//! The functions by which a C program makes calls: a static library of four exports, over `c_protocol`.
 //!
 //! Each export is the function of that name of `c_protocol`, with its clauses. What a C program owes is said in
 //! `host/calls.h`: a what is kept is empty (zero) before the first call, and is left alone between two turns.
@@ -7,9 +7,11 @@
 ghost use Rattle.std.specs.Prelude.{◌≡◌, IfSome, IsSome};
 ghost use Rattle.root_ops.specs.declared.call.CallTurn.{CallTurn};
 ghost use Rattle.c_protocol.specs.AtOnce.{opens_at_once};
+ghost use Rattle.c_protocol.specs.Refusals.{is_refusal};
+ghost use Rattle.c_protocol.specs.Split.{IsParted};
 ghost use Rattle.c_protocol.specs.Turns.{call_of, IsBegun, IsNext, IsTold};
 
-use c_protocol::{Answered, Asked, Kept, Told};
+use c_protocol::{Answered, Asked, Kept, Parted, Told};
 use std::alloc::Global;
 
 /// Begins a call, and tells its first step or its reply: `c_protocol::begin`.
@@ -53,4 +55,20 @@ pub extern "C" fn inroot_opens_at_once(asked: &Asked, path: &[u8], kind: u8, pla
     ensures { result ≡ opens_at_once asked.now path.now kind place.now }
 {
     c_protocol::opens_at_once(asked, path, kind, place)
+}
+
+/// Where the last name of a path stands in it, or why it has none: `c_protocol::split`.
+#[unsafe(no_mangle)]
+pub extern "C" fn inroot_split(path: &[u8], takes_slash: bool, parted: &mut Parted)
+    ensures { IsParted path.now takes_slash parted.new }
+{
+    *parted = c_protocol::split(path, takes_slash);
+}
+
+/// Whether the step table may refuse a step by an error: `c_protocol::is_refusal`.
+#[unsafe(no_mangle)]
+pub extern "C" fn inroot_is_refusal(what: u8, mode: u8, text: usize, error: u32) -> bool
+    ensures { result ≡ is_refusal what mode text error }
+{
+    c_protocol::is_refusal(what, mode, text, error)
 }

@@ -50,13 +50,13 @@ record Step (below : Below) (doing : Doing) (heard : Heard) (x : Exchange) (next
 
 module _ (below : Below) (doing : Doing) (heard : Heard) (x : Exchange) (next : call.CallTurn) where
   left_out : (room : Bool) (answer : Answer) → next ≡ take below room doing answer → answer ≡ Refused NoMemory → Spells x answer
-      → is_close (due below doing) ≡ false → Step below doing heard x next
-  left_out room answer taken wants spells stays =
+      → IsDueTold (due below doing) heard.told heard.before heard.after → is_close (due below doing) ≡ false → Step below doing heard x next
+  left_out room answer taken wants spells told stays =
       let same : next ≡ take below true doing (Refused NoMemory) =
       taken ∙ ap (take below room doing) wants ∙ refusal_needs_no_room below room doing NoMemory in
       record {
         line = not_made NoMemory;
-        line_of = (refl, (spells.0, sym wants ∙ spells.1));
+        line_of = (refl, ((spells.0, sym wants ∙ spells.1), (due below doing, (told, stays))));
         leads = λ lines end led. (
           unmade below doing NoMemory (inl refl) (closes_nothing (due below doing) stays),
           subst (λ t. LeadsTo below t lines end) same led,
@@ -82,7 +82,7 @@ module _ (below : Below) (doing : Doing) (heard : Heard) (x : Exchange) (next : 
   spelled room answer taken spells told false stays = on (wanting answer)
     where
       on : Wanting answer → Step below doing heard x next
-      on (want is) = left_out room answer taken is spells stays
+      on (want is) = left_out room answer taken is spells told stays
       on (none isnt) = made room answer taken (told, (spells, λ is. absurd (isnt is)))
 
   stepped : (room : Bool) (answer : Answer) → next ≡ take below room doing answer → Spells x answer

@@ -6,3 +6,8 @@ mod Outright
 mod Passing
 mod PassingNames
 mod AtOnce
+mod SplitLemmas
+mod GivingUp
+mod OwnExchanges
+mod SeenBelow
+mod Refusing

@@ -1,6 +1,7 @@
 -- What passes between a C program and the library from a call's beginning to its reply, and the lines that a history
 -- has of it.
 use Rattle.std.specs.Prelude.{◌≡◌, ◌⊎◌, ℕ, List, [], ◌∷◌, Bool, true, false, Option, Some, None}
+use Rattle.path_text.specs.declared.errno.Errno.{Errno}
 use Rattle.path_text.specs.declared.errno.Errno.TheVariants.{NoMemory}
 use Rattle.tree_model.specs.declared.answer.Answer.{Answer}
 use Rattle.tree_model.specs.declared.answer.Answer.TheVariants.{Refused}
@@ -85,12 +86,19 @@ IsMade heard x step answer =
     IsDueTold step heard.told heard.before heard.after
     × (Spells x answer × (answer ≡ Refused NoMemory → is_close step ≡ true))
 
--- The line of an exchange: the step was made; or it counts as not made, for want of memory, which the program says,
--- or which the bytes of its answer found.
+-- The step that had been told is no Close, and counts as not made for want of memory: the program says so, or the bytes
+-- of its answer found none.
+abbrev pub IsLeftOut : Heard → Exchange → Errno → Type 0
+IsLeftOut heard x error =
+    (error ≡ NoMemory)
+    × (Spells x (Refused NoMemory)
+    × ((step : StepWith ℕ) × (IsDueTold step heard.told heard.before heard.after × (is_close step ≡ false))))
+
+-- The line of an exchange: the step was made, or it was left out.
 abbrev pub LineOf : Heard → Exchange → Line → Type 0
 LineOf heard x (answered step answer) = IsMade heard x step answer
 LineOf heard x (no_room step answer) = IsMade heard x step answer
-LineOf heard x (not_made error) = (error ≡ NoMemory) × Spells x (Refused NoMemory)
+LineOf heard x (not_made error) = IsLeftOut heard x error
 
 abbrev pub LinesOf : Heard → List Exchange → List Line → Type 0
 LinesOf heard [] [] = Unit {0}

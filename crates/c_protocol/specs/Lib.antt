@@ -8,4 +8,8 @@ pub mod Numbers
 pub mod Turns
 pub mod History
 pub mod Outright
+pub mod OwnExchanges
+pub mod Refusals
 pub mod AtOnce
+pub mod SeenBelow
+pub mod Split

@@ -2,8 +2,11 @@
 ghost use Rattle.c_protocol.specs.AtOnce.{OpensAtOnceTell};
 ghost use Rattle.c_protocol.specs.History.{ConversationsAreCalls};
 ghost use Rattle.c_protocol.specs.Outright.{ConversationsTell};
+ghost use Rattle.c_protocol.specs.OwnExchanges.{ConversationsClose, UnmadeStepsEndCalls};
+ghost use Rattle.c_protocol.specs.Refusals.{StepsAreRefusedSo};
+ghost use Rattle.c_protocol.specs.SeenBelow.{PlainSeenBelow, ResolvesSeenBelow};
 
-use root_ops::{calls_tell, calls_tell_by_any_numbers, each_call_tells};
+use root_ops::{calls_tell, calls_tell_by_any_numbers, each_call_tells, opened_are_closed};
 
 /// From what `begin` and `next` say alone, up to the turn that keeps nothing: what is told last is the reply of a
 /// call of the operation that was asked for. Each exchange is a line of that call: the step that had been told, with
@@ -43,3 +46,41 @@ pub fn opens_at_once_tell()
 {
     each_call_tells();
 }
+
+/// Of no history, so whatever the program answers, and however many handles that takes: where only an Open, a Dup or
+/// a Parent is answered by a handle, a call tells a Close of each handle as often as it was answered that it was
+/// opened; after a reply that something was opened all but that one, once (openat(2), close(2)).
+pub fn conversations_close()
+    ensures { ConversationsClose }
+{
+    conversations_are_calls();
+    opened_are_closed();
+}
+
+/// Of no history: after a step that wasn't made, which is no Close and is answered by ENOMEM, the call tells nothing
+/// but Closes, and the fault ENOMEM in the end. So it makes no change after that step and opens nothing. A program
+/// answers so where the step table has no word for what a system call gave it, as EACCES, EIO or ENOSPC; then it knows
+/// why the call failed (errno(3)).
+pub fn unmade_steps_end_calls()
+    ensures { UnmadeStepsEndCalls }
+{}
+
+/// A resolve whose last check says that the object is below the root, and not at which names (openat2(2),
+/// RESOLVE_BENEATH): a call that is told the names which it passed, where the history has whatever names as the answer
+/// to that question. What it opens was reached by the path's parts at rising moments, and stood below the root at the
+/// last check, at which names is not said. Where others leave alone the entries that the path reads, it is what the
+/// path means. So it is of each resolve whose last line is the question, and of a path of plain names that is passed at
+/// once.
+pub fn seen_below_tell()
+    ensures resolves { ResolvesSeenBelow }
+    ensures plain { PlainSeenBelow }
+{
+    opens_at_once_tell();
+}
+
+/// The step table refuses a step by no other error than those of `is_refusal`, in any tree: but for a handle that
+/// isn't open or is on no directory, for want of handles or numbers, and for EINVAL, which is a directory's that can't
+/// go into itself (renameat2(2)) or a text's with a NUL.
+pub fn steps_are_refused_so()
+    ensures { StepsAreRefusedSo }
+{}

@@ -1,0 +1,40 @@
+//! Which errors of a system call are a step's own refusals.
+ghost use Rattle.std.specs.Prelude.{◌≡◌};
+ghost use Rattle.c_protocol.specs.Refusals.{is_refusal, make_refused, rename_refused};
+
+fn make_refused(error: u32) -> bool
+    ensures { result ≡ make_refused error }
+{
+    error == 2 || error == 17
+}
+
+fn rename_refused(mode: u8, error: u32) -> bool
+    ensures { result ≡ rename_refused mode error }
+{
+    error == 2
+        || ((mode == 0 && (error == 20 || (error == 21 || error == 39)))
+            || (mode == 1 && error == 17))
+}
+
+/// Whether the step table may refuse a step of this number by this error (errno(3)). A link is made with a text of so
+/// many bytes, and a path has 4,095 at most; a rename is by this mode (renameat2(2)). By `steps_are_refused_so` the
+/// step table refuses a step by no other error, but for what a C program's call doesn't meet or can't know. Of any
+/// other error the program tells that the step wasn't made, by ENOMEM, and by `unmade_steps_end_calls` the call closes
+/// what it has and ends. Takes no memory.
+///
+/// `what` is 1 Open, 3 Parent, 4 ReadLink, 8 MakeDir, 9 MakeFile, 10 MakeLink, 11 RemoveFile, 12 RemoveDir, 13 Rename;
+/// of any other number no error is a refusal.
+pub fn is_refusal(what: u8, mode: u8, text: usize, error: u32) -> bool
+    ensures { result ≡ is_refusal what mode text error }
+{
+    match what {
+        1 | 3 => error == 2,
+        4 => error == 22,
+        8 | 9 => make_refused(error),
+        10 => make_refused(error) || (error == 36 && text > 4095),
+        11 => error == 2 || error == 21,
+        12 => error == 2 || (error == 20 || error == 39),
+        13 => rename_refused(mode, error),
+        _ => false,
+    }
+}
