@@ -9,7 +9,7 @@ _inroot() {
         replay) words='--schedule --strict --help' ;;
         draw) words='--svg --all --width --color --schedule --strict --help' ;;
         run) words='--workers --strict --help' ;;
-        explore) words='--actor --cuts --begin --part --merge --states --jobs --outside --never --always --strict --help' ;;
+        explore) words='--actor --cuts --begin --part --merge --states --jobs --outside --when --never --always --strict --help' ;;
         esac
     fi
     mapfile -t COMPREPLY < <(compgen -W "$words" -- "$word")

@@ -24,6 +24,7 @@ complete -c inroot -n '__fish_seen_subcommand_from explore' -l merge -d 'Print w
 complete -c inroot -n '__fish_seen_subcommand_from explore' -l states -x -d 'Give up past so many states'
 complete -c inroot -n '__fish_seen_subcommand_from explore' -l jobs -x -d 'Search on at most so many threads'
 complete -c inroot -n '__fish_seen_subcommand_from explore' -l outside -d 'Count steps outside of the root'
+complete -c inroot -n '__fish_seen_subcommand_from explore' -l when -x -d 'Take schedules by which a report has this line'
 complete -c inroot -n '__fish_seen_subcommand_from explore' -l never -x -d 'Whether no report has this line'
 complete -c inroot -n '__fish_seen_subcommand_from explore' -l always -x -d 'Whether every report has it'
 complete -c inroot -n '__fish_seen_subcommand_from walk replay draw run explore' -l strict -d 'Refuse what nobody looks at'

@@ -231,7 +231,7 @@ on_terminal() {
 escape=$'\e'
 answers_on_a_clean_line() {
     local began=$SECONDS typed
-    on_terminal "'$program' explore --states 10000000 <timing/searches/two-remove-mkdir.json" || return
+    on_terminal "'$program' explore --states 10000000 <benches/searches/two-remove-mkdir.json" || return
     typed=$(grep -av '^Script ' "$room/typed")
     if [[ $typed != *$'\rinroot: '* ]] && [ $((SECONDS - began)) -lt 3 ]; then
         skip 'progress on a terminal' 'the search ended before any was told'

@@ -24,7 +24,7 @@ advice_of (AskedTurn at) states = codes "a turn is an actor's number, counted fr
 advice_of AskedTurns states = codes "a schedule has at most 100000 turns"
 advice_of (ExploreActor actor) states = actor_advice actor
 advice_of (ExploreProperty place) states =
-    codes "no report of the script has such a line; properties count from 0, those of --never first"
+    codes "no report of the script has such a line; properties count from 0, those of --when first, then those of --never"
 advice_of ExploreStates states = states_advice states
 advice_of ExploreTurns states = codes "a schedule has more than 100000 turns, and no option takes more"
 advice_of (ExploreBegin at) states =

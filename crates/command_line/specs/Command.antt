@@ -70,6 +70,7 @@ pub record IsExploration (matches : ArgMatches) (options : Options) : Type 0 whe
   pub states : option_map (λ text. text.now) options.states ≡ first_value (found_of matches) (codes "states")
   pub jobs : option_map (λ text. text.now) options.jobs ≡ first_value (found_of matches) (codes "jobs")
   pub outside : IsOption matches (codes "outside") options.outside
+  pub when : texts_in options.when.now ≡ texts_given matches (codes "when")
   pub never : texts_in options.never.now ≡ texts_given matches (codes "never")
   pub always : texts_in options.always.now ≡ texts_given matches (codes "always")
 

@@ -70,7 +70,7 @@ pub fn advise(out: &mut Output, fault: Fault, states: u64) -> Result<(), NoMemor
         Fault::AskedTurns => out.text("a schedule has at most 100000 turns"),
         Fault::ExploreActor(actor) => add_actor(out, actor),
         Fault::ExploreProperty(_) => out.text(
-            "no report of the script has such a line; properties count from 0, those of --never first",
+            "no report of the script has such a line; properties count from 0, those of --when first, then those of --never",
         ),
         Fault::ExploreStates => add_states(out, states),
         Fault::ExploreTurns => {

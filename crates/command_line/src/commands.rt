@@ -57,6 +57,8 @@ const JOBS: &str = "jobs";
 
 const OUTSIDE: &str = "outside";
 
+const WHEN: &str = "when";
+
 const NEVER: &str = "never";
 
 const ALWAYS: &str = "always";
@@ -66,7 +68,7 @@ const STRICT: &str = "strict";
 /// What help says of the statuses.
 const STATUSES: &str = "Statuses:
   0  the answer was written, also where it is a fault as 'fault ENOENT'
-  1  a property of explore fails; the answer was written
+  1  a property of explore fails, or no schedule meets --when; the answer was written
   2  a wrong command line
   3  a script that is refused
   4  any other fault
@@ -314,6 +316,13 @@ fn with_properties<'a>(alloc: Global, command: Command<'a>) -> Result<Command<'a
         OUTSIDE,
         "Tell how many steps of each actor acted outside of its root",
     );
+    let when = valued(
+        alloc,
+        WHEN,
+        "TEXT",
+        ArgAction::Append,
+        "Only schedules whose report has a line with TEXT",
+    );
     let never = valued(
         alloc,
         NEVER,
@@ -328,7 +337,7 @@ fn with_properties<'a>(alloc: Global, command: Command<'a>) -> Result<Command<'a
         ArgAction::Append,
         "Tell whether every report has a line with TEXT",
     );
-    command.arg(outside)?.arg(never)?.arg(always)
+    command.arg(outside)?.arg(when)?.arg(never)?.arg(always)
 }
 
 // The command `explore`.
@@ -460,6 +469,7 @@ fn exploration_asked<'m>(matches: &'m ArgMatches<'_>) -> Options<'m>
         states: matches.get_str(STATES),
         jobs: matches.get_str(JOBS),
         outside: matches.get_flag(OUTSIDE),
+        when: texts_of(matches, WHEN),
         never: texts_of(matches, NEVER),
         always: texts_of(matches, ALWAYS),
     }

@@ -133,6 +133,7 @@ fn asks_explored(alloc: Global, words: &[&str], want: Options) -> bool {
         && options.states == want.states
         && options.jobs == want.jobs
         && options.outside == want.outside
+        && options.when == want.when
         && options.never == want.never
         && options.always == want.always
 }
@@ -156,6 +157,8 @@ fn reads_what_is_to_be_explored(rt: HostRuntime) {
         "--jobs",
         "4",
         "--outside",
+        "--when",
+        "row",
         "--always",
         "held 1 1",
     ];
@@ -166,6 +169,7 @@ fn reads_what_is_to_be_explored(rt: HostRuntime) {
         states: Some("7"),
         jobs: Some("4"),
         outside: true,
+        when: &["row"],
         never: &["held 0 2"],
         always: &["held 1 1"],
     };

@@ -3,3 +3,4 @@ mod Replayed
 mod ToldOnes
 mod Unsurveyed
 mod WholeCalls
+mod Sealing

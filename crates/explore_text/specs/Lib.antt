@@ -5,5 +5,6 @@ pub mod Options
 pub mod Part
 pub mod PartText
 pub mod Replayed
+pub mod Seal
 pub mod Surveyed
 pub mod WholeCalls

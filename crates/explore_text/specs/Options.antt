@@ -9,7 +9,7 @@ use Rattle.survey_text.specs.declared.asked.Options.{Options}
 use Rattle.explore_text.specs.declared.options.TheConstants.{CUTS_MAX, STATES_MAX, STATES}
 use Rattle.survey_text.specs.declared.property.Property.{Property}
 use Rattle.survey_text.specs.declared.property.Rule.{Rule}
-use Rattle.survey_text.specs.declared.property.Rule.TheVariants.{Never, Always}
+use Rattle.survey_text.specs.declared.property.Rule.TheVariants.{When, Never, Always}
 use Rattle.explore_text.specs.declared.search.Asked.{Asked}
 use Rattle.explore_text.specs.declared.search.TheConstants.{TURNS_MAX}
 use Rattle.scripts.specs.declared.turns.Turns.{Turns}
@@ -73,9 +73,15 @@ abbrev pub SaysActors : Options → List ℕ → Type 0
 SaysActors options numbers = AllSay (texts_in options.actors.now) numbers
 
 abbrev pub property_texts : Options → List (List ℕ)
-property_texts options = texts_in options.never.now ++ texts_in options.always.now
+property_texts options = texts_in options.when.now ++ (texts_in options.never.now ++ texts_in options.always.now)
 
--- what is asked is what the options say, the properties by `never` before those by `always`
+-- the properties by `when`, then those by `never`, then those by `always`
+abbrev pub properties_asked : Options → List Property
+properties_asked options =
+    properties_by When (texts_in options.when.now)
+    ++ (properties_by Never (texts_in options.never.now) ++ properties_by Always (texts_in options.always.now))
+
+-- what is asked is what the options say
 pub record AreAsked (options : Options) (asked : Asked) : Type 0 where
   pub named : SaysActors options asked.named.items
   pub cuts : SaysCuts options.cuts asked.limits.scope.cuts
@@ -84,8 +90,7 @@ pub record AreAsked (options : Options) (asked : Asked) : Type 0 where
   pub turns : asked.limits.turns ≡ TURNS_MAX
   pub jobs : SaysJobs options.jobs asked.jobs
   pub outside : asked.limits.scope.outside ≡ options.outside
-  pub properties : asked.properties.items
-      ≡ properties_by Never (texts_in options.never.now) ++ properties_by Always (texts_in options.always.now)
+  pub properties : asked.properties.items ≡ properties_asked options
   pub texts : are_properties options.outside (property_texts options) ≡ true
 
 -- ---- which option is refused: the first in this order

@@ -12,7 +12,7 @@ use Rattle.explore_text.specs.declared.search.SurveyFault.{SurveyFault}
 use Rattle.explore_text.specs.declared.search.SurveyFault.TheVariants.{NoSuchActor, NoSuchLine, TooManyStates, TooManyTurns, NotBusy, TooManyCuts, NoMemory}
 use Rattle.survey_text.specs.declared.survey.Told.{Told}
 use Rattle.survey_text.specs.Order.{in_order}
-use Rattle.survey_text.specs.Survey.{survey_text, all_hold}
+use Rattle.survey_text.specs.Conditions.{told_text, told_holds}
 use Rattle.explore_text.specs.Classes.{AreTold}
 use Rattle.survey_text.specs.Tellable.{first_untold}
 
@@ -26,12 +26,13 @@ pub record IsOfThese (asked : Asked) (plans : List ActorPlan) : Type 0 where
   pub properties : first_untold asked.limits.scope.outside plans asked.properties.items ≡ None
 
 -- What is said of each outcome makes the text, in the order of their least lists, and shows whether no property fails.
+-- Where conditions are asked for, only the lists that come to a report with the line of each one count (`Conditions`).
 pub record IsTelling (asked : Asked) (tree : State) (plans : List ActorPlan) (classes : List ClassView)
     (lists states turns : ℕ) (holds : Bool) (text : List ℕ) : Type 0 where
   pub all : List Told
   pub told : AreTold asked.named.items tree (length plans) classes all
-  pub is : text ≡ survey_text lists (Some states) turns (in_order all) asked.properties.items
-  pub judged : holds ≡ all_hold (in_order all) asked.properties.items
+  pub is : text ≡ told_text lists (Some states) turns (in_order all) asked.properties.items
+  pub judged : holds ≡ told_holds (in_order all) asked.properties.items
 
 -- The text of all that is found of the world of this tree and these plans: the outcomes of all full lists of turns
 -- with at most so many cuts that begin with the turns that are asked for, and how many states these lists go through.

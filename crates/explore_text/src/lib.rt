@@ -9,12 +9,14 @@
 mod classes;
 mod json;
 mod laws;
+mod merge;
 mod options;
 mod part;
 mod part_read;
 mod part_text;
 mod parts;
 mod script;
+mod seal;
 mod search;
 mod waiter;
 
@@ -23,9 +25,10 @@ pub use laws::{
     explore_limits_are_numbers, outcomes_without_cuts_are_of_whole_calls,
     written_schedules_lead_there,
 };
+pub use merge::{LINE_BYTES_MAX, MERGED_BYTES_MAX, MERGED_MAX, merge_parts};
 pub use options::{CUTS_MAX, STATES, STATES_MAX, read_asked};
 pub use part::part_of_scene;
-pub use parts::{explore_part, merge_parts};
+pub use parts::explore_part;
 pub use script::explore_script;
 pub use search::{Asked, SurveyFault, TURNS_MAX, survey_scene};
 pub use waiter::Waiter;

@@ -1,8 +1,8 @@
 //! What is asked, by the texts of a command line's options.
-ghost use Rattle.std.specs.Prelude.{◌≡◌, ◌≢◌, ◌≤◌, ◌<◌, ◌++◌, ℕ, true, length, replicate, OnOk, IfOk, MatchOption, MatchResult, decimal};
+ghost use Rattle.std.specs.Prelude.{◌≡◌, ◌≢◌, ◌≤◌, ◌<◌, ◌++◌, ℕ, true, false, length, replicate, OnOk, IfOk, MatchOption, MatchResult, decimal};
 ghost use Rattle.scripts.specs.Turns.{turns_of};
 ghost use Rattle.survey_text.specs.declared.asked.OptionFault.TheVariants as option_fault;
-ghost use Rattle.explore_text.specs.Options.{AllSay, SaysCuts, SaysBegin, IsNoBegin, SaysMost, SaysJobs, IsUnsaid, are_properties, properties_by, AreAsked, IsOptionFault};
+ghost use Rattle.explore_text.specs.Options.{AllSay, SaysCuts, SaysBegin, IsNoBegin, SaysMost, SaysJobs, IsUnsaid, are_properties, properties_by, property_texts, properties_asked, AreAsked, IsOptionFault};
 ghost use Rattle.survey_text.specs.Asked.{texts_in};
 
 use crate::search::{Asked, TURNS_MAX};
@@ -158,12 +158,39 @@ fn add_properties(
     Ok(true)
 }
 
-/// What the texts of options ask for, the properties by `never` before those by `always`.
+// The properties that the options say, if each of their texts says one: those by `when`, those by `never`, those by
+// `always`.
+fn properties_in(alloc: Global, options: &Options) -> Result<Vec<Property>, OptionFault>
+    ensures { MatchResult result
+        (λ properties. (properties.items ≡ properties_asked options.now)
+        × (are_properties options.now.outside (property_texts options.now) ≡ true))
+        (λ fault. fault ≢ option_fault.NoMemory → (fault ≡ option_fault.Text)
+        × (are_properties options.now.outside (property_texts options.now) ≡ false)) }
+{
+    let outside = options.outside;
+    let mut properties = Vec::new(alloc);
+    if add_properties(alloc, &mut properties, outside, Rule::When, options.when)?
+        && add_properties(alloc, &mut properties, outside, Rule::Never, options.never)?
+        && add_properties(
+            alloc,
+            &mut properties,
+            outside,
+            Rule::Always,
+            options.always,
+        )?
+    {
+        return Ok(properties);
+    }
+    Err(OptionFault::Text)
+}
+
+/// What the texts of options ask for: of the properties those by `when` first, then those by `never`, then those by
+/// `always`.
 ///
 /// Errors, in this order: `Actor` where one of `actors` is no number below 2^32; `Cuts` where `cuts` is no number up
 /// to 1,000,000; `States` where `states` is no number from 1 to 10,000,000; `Jobs` where `jobs` is no number from 1 to
-/// 64; `Text` where one of `never` or `always` is no property's (`read_property`); `NoMemory` where room was refused,
-/// whatever else is wrong. Numbers are written in decimal digits, with no zero before them.
+/// 64; `Text` where one of `when`, `never` or `always` is no property's (`read_property`); `NoMemory` where room was
+/// refused, whatever else is wrong. Numbers are written in decimal digits, with no zero before them.
 pub fn read_asked(alloc: Global, options: Options) -> Result<Asked, OptionFault>
     ensures { MatchResult result (AreAsked options.entry) (IsOptionFault options.entry) }
 {
@@ -174,23 +201,10 @@ pub fn read_asked(alloc: Global, options: Options) -> Result<Asked, OptionFault>
     let begin = begin_in(alloc, options.begin)?;
     let states = states_in(options.states)?;
     let jobs = jobs_in(options.jobs)?;
-    let outside = options.outside;
-    let mut properties = Vec::new(alloc);
-    if !add_properties(alloc, &mut properties, outside, Rule::Never, options.never)? {
-        return Err(OptionFault::Text);
-    }
-    if !add_properties(
-        alloc,
-        &mut properties,
-        outside,
-        Rule::Always,
-        options.always,
-    )? {
-        return Err(OptionFault::Text);
-    }
+    let properties = properties_in(alloc, &options)?;
     let scope = Scope {
         cuts,
-        outside,
+        outside: options.outside,
         begin,
     };
     let limits = Limits {

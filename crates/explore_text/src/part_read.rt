@@ -116,9 +116,14 @@ fn all_told(alloc: Global, value: &Value) -> Result<Vec<Told>, PartFault> {
 
 /// The part that a value says.
 pub(crate) fn part(alloc: Global, value: &Value) -> Result<Part, PartFault> {
+    let begin = actors(alloc, under(value, "begin")?)?;
+    let might = lists(alloc, under(value, "might")?)?;
+    if might.len() > begin.len() {
+        return Err(PartFault::Shape);
+    }
     Ok(Part {
-        begin: actors(alloc, under(value, "begin")?)?,
-        might: lists(alloc, under(value, "might")?)?,
+        begin,
+        might,
         lists: number(value, "schedules")?,
         turns: number(value, "turns")?,
         all: all_told(alloc, under(value, "outcomes")?)?,
@@ -127,7 +132,9 @@ pub(crate) fn part(alloc: Global, value: &Value) -> Result<Part, PartFault> {
 
 // The property that a text says after its rule.
 fn property(alloc: Global, text: &str) -> Result<Property, PartFault> {
-    let said = if let Some(text) = text.strip_prefix("never ") {
+    let said = if let Some(text) = text.strip_prefix("when ") {
+        read_property(alloc, true, Rule::When, text)?
+    } else if let Some(text) = text.strip_prefix("never ") {
         read_property(alloc, true, Rule::Never, text)?
     } else if let Some(text) = text.strip_prefix("always ") {
         read_property(alloc, true, Rule::Always, text)?

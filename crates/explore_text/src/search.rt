@@ -28,7 +28,7 @@ pub struct Asked {
     pub limits: Limits,
     /// On how many threads they are gone through; with none on one. It makes no difference to what is told.
     pub jobs: Option<Jobs>,
-    /// Properties of every report, whatever actors are named.
+    /// Which reports count, and properties of each of these, whatever actors are named.
     pub properties: Vec<Property>,
 }
 
@@ -153,7 +153,7 @@ pub(crate) fn told_by(fault: SearchFault) -> SurveyFault
 /// Goes through all full lists of turns of the world of a tree and of plans, those with at most so many cuts that begin
 /// with the turns that are asked for, and says what they come to: how many there are, by how many worlds, how many
 /// turns the longest has, each outcome once with how many lead to it and a schedule for the least of them, and whether
-/// each property holds of every one.
+/// each property holds of every one. Where a property is a condition, only the lists whose report has its line count.
 /// Outcomes are compared with their new nodes numbered anew, so these numbers make no difference between them. The
 /// number of steps that acted outside does, where it is asked for. The number of threads makes none. On the way
 /// `progress` gets the number of worlds so far.

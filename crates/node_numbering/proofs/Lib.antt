@@ -1,2 +1,3 @@
 pub mod Exchanging
 pub mod Moved
+pub mod MeetingLaws

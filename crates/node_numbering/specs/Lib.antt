@@ -1,2 +1,4 @@
 pub mod Exchanges
+pub mod Meeting
 pub mod Renumbered
+pub mod Seen

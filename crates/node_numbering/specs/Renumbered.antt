@@ -62,3 +62,9 @@ pub record IsRenumbered (n : ℕ) (nodes : List Inode) (replies : List (List Out
   pub renumbering : IsRenumbering n f
   pub nodes_on : AreNodesOn f nodes others
   pub replies_on : renumbered ≡ replies_on f replies
+
+-- Nodes and replies are what others were, by these numbers.
+pub record AreByNumbers (f : ℕ → ℕ) (nodes : List Inode) (replies : List (List Outcome)) (others : List Inode)
+    (renumbered : List (List Outcome)) : Type 0 where
+  pub nodes_on : AreNodesOn f nodes others
+  pub replies_on : renumbered ≡ replies_on f replies

@@ -1,6 +1,7 @@
 //! An outcome whose new nodes are numbered anew.
 ghost use Rattle.std.specs.Prelude.{IfOk};
-ghost use Rattle.node_numbering.specs.Renumbered.{IsRenumbered};
+ghost use Rattle.node_numbering.specs.Meeting.{numbers};
+ghost use Rattle.node_numbering.specs.Renumbered.{IsRenumbered, AreByNumbers};
 
 use crate::copies::{nodes_on, replies_on};
 use crate::meeting::exchanges;
@@ -31,7 +32,9 @@ pub fn renumber(
     nodes: &[Inode],
     replies: &[Outcomes],
 ) -> Result<Renumbered, NoMemory>
-    ensures { IfOk result (λ r. IsRenumbered known nodes.now replies.now r.nodes.items r.replies.items) }
+    ensures alike { IfOk result (λ r. IsRenumbered known nodes.now replies.now r.nodes.items r.replies.items) }
+    ensures met { IfOk result (λ r. AreByNumbers (numbers known named.now nodes.now replies.now) nodes.now replies.now
+        r.nodes.items r.replies.items) }
 {
     let exchanges = exchanges(alloc, known, named, nodes, replies)?;
     let nodes = nodes_on(alloc, &exchanges, nodes)?;

@@ -230,6 +230,37 @@ fn lines_that_make_no_whole_are_refused(rt: HostRuntime) {
     assert_eq!(rt; first_wrong(rt.alloc(), &rt), None);
 }
 
+/// Whether lines of which these bits of that byte are changed are refused as none that were written, or as changed, and
+/// nothing is written.
+fn is_refused(alloc: Global, lines: &[u8], at: usize, bits: u8) -> Option<bool> {
+    let mut text = lines.to_vec(alloc).ok()?;
+    let byte = text.get_mut(at)?;
+    *byte ^= bits;
+    let mut reader = text.as_slice();
+    let mut written: Vec<u8> = Vec::new(alloc);
+    Some(match merge_parts(alloc, &mut reader, &mut written) {
+        Err(MergeFault::NotAPart(_) | MergeFault::Spoilt(_)) => written.is_empty(),
+        _ => false,
+    })
+}
+
+/// The place of the first byte of two parts' lines of which a bit may be changed: of each byte another bit.
+fn first_taken<R: Threads + Sync>(alloc: Global, threads: &R) -> Option<usize> {
+    let lines = lines_of(alloc, threads, &[LINE_1, LINE_0])?;
+    for (at, _) in lines.iter().enumerate() {
+        if is_refused(alloc, &lines, at, 1 << (at % 8)) != Some(true) {
+            return Some(at);
+        }
+    }
+    None
+}
+
+#[test]
+fn a_changed_bit_of_each_byte_is_seen(rt: HostRuntime) {
+    assert!(rt; lines_of(rt.alloc(), &rt, &[LINE_1, LINE_0]).is_some());
+    assert_eq!(rt; first_taken(rt.alloc(), &rt), None);
+}
+
 /// A script, what is asked of it, the most states, and why no part is told.
 type Untold = (&'static str, Question, u64, ExploreFault);
 

@@ -11,6 +11,7 @@ const NONE: Options<'static> = Options {
     states: None,
     jobs: None,
     outside: false,
+    when: &[],
     never: &[],
     always: &[],
 };
@@ -22,6 +23,7 @@ const ALL: Options<'static> = Options {
     states: Some("1"),
     jobs: Some("64"),
     outside: true,
+    when: &["outside 1 0"],
     never: &["outside 0 1"],
     always: &["held 1 1", "row"],
 };
@@ -29,8 +31,8 @@ const ALL: Options<'static> = Options {
 fn reads_all(alloc: Global) -> Result<bool, OptionFault> {
     let asked = read_asked(alloc, ALL)?;
     let rules = match asked.properties.as_slice() {
-        [first, second, third] => [first.rule, second.rule, third.rule],
-        _ => [Rule::Never, Rule::Never, Rule::Never],
+        [first, second, third, fourth] => [first.rule, second.rule, third.rule, fourth.rule],
+        _ => [Rule::Never, Rule::Never, Rule::Never, Rule::Never],
     };
     Ok(
         asked.named.as_slice() == [1, 0].as_slice()
@@ -39,7 +41,7 @@ fn reads_all(alloc: Global) -> Result<bool, OptionFault> {
             && asked.limits.states == 1
             && asked.jobs == Jobs::new(64)
             && asked.limits.scope.outside
-            && rules == [Rule::Never, Rule::Always, Rule::Always],
+            && rules == [Rule::When, Rule::Never, Rule::Always, Rule::Always],
     )
 }
 

@@ -113,6 +113,7 @@ pub fn asked_of(
     begin: &'static str,
 ) -> Option<Asked> {
     let (actors, cuts, outside, never, always) = question;
+    let when: &'static [&'static str] = &[];
     let options = Options {
         actors: *actors,
         cuts: *cuts,
@@ -120,6 +121,7 @@ pub fn asked_of(
         states: None,
         jobs: Some(jobs),
         outside: *outside,
+        when,
         never: *never,
         always: *always,
     };

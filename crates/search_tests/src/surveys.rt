@@ -70,6 +70,49 @@ fn survey_of(alloc: Global) -> Result<(Output, bool), NoMemory> {
     Ok((survey.text, survey.holds))
 }
 
+/// The same where the outcomes that are faults alone count.
+const CHOSEN: &str = "schedules 4
+states 9
+turns 2
+outcomes 2
+outcome 0 schedules 2 cuts 0 schedule -
+reply 0 0 fault ENOENT
+outcome 1 schedules 2 cuts 1 schedule -
+reply 0 0 fault EAGAIN
+when reply 0 0 fault = 4 of 6
+never reply 0 0 done = holds
+";
+
+/// Where none counts.
+const UNMET: &str = "schedules 0
+states 9
+turns 2
+outcomes 0
+when reply 0 0 text = 0 of 6
+never reply 0 0 done = holds
+";
+
+/// Whether that is told where this condition is asked for, and whether all holds.
+fn is_chosen(alloc: Global, condition: &str, wanted: &str, holds: bool) -> Result<bool, NoMemory> {
+    let mut all = Vec::new(alloc);
+    for least in LEAST.iter() {
+        all.push(told_of(alloc, least)?)?;
+    }
+    let mut properties = Vec::new(alloc);
+    properties.push(property_of(alloc, Rule::When, condition)?)?;
+    properties.push(property_of(alloc, Rule::Never, "reply 0 0 done")?)?;
+    let survey = told_in_order(alloc, 6, Some(9), 2, all, &properties)?;
+    Ok(survey.text.as_slice() == wanted.as_bytes() && survey.holds == holds)
+}
+
+#[test]
+fn conditions_choose_outcomes(rt: HostRuntime) -> Result<(), Fail> {
+    let alloc = rt.alloc();
+    assert!(rt; is_chosen(alloc, "reply 0 0 fault", CHOSEN, true)?);
+    assert!(rt; is_chosen(alloc, "reply 0 0 text", UNMET, false)?);
+    Ok(())
+}
+
 fn is_in_order(alloc: Global) -> Result<bool, NoMemory> {
     let (text, holds) = survey_of(alloc)?;
     Ok(text.as_slice().starts_with(SURVEY.as_bytes()) && !holds)
@@ -145,7 +188,7 @@ fn lines_that_no_report_has_are_found(rt: HostRuntime) -> Result<(), Fail> {
 #[test]
 fn rules_are_words(rt: HostRuntime) {
     assert_eq!(rt;
-        (Rule::Never.word(), Rule::Always.word()),
-        ("never ", "always ")
+        (Rule::When.word(), Rule::Never.word(), Rule::Always.word()),
+        ("when ", "never ", "always ")
     );
 }

@@ -1,6 +1,6 @@
 mod Tails
 mod NewOnes
-mod Pieces
+pub mod Pieces
 mod Ordered
 mod Sums
 mod Heads

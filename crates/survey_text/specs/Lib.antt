@@ -1,5 +1,6 @@
 pub mod Asked
 pub mod Changes
+pub mod Conditions
 pub mod Counts
 pub mod Looks
 pub mod Merge

@@ -9,7 +9,7 @@ use Rattle.survey_text.specs.declared.part.Part.{Part}
 use Rattle.survey_text.specs.declared.property.Property.{Property}
 use Rattle.survey_text.specs.declared.survey.Told.{Told}
 use Rattle.survey_text.specs.Order.{in_order}
-use Rattle.survey_text.specs.Survey.{survey_text, all_hold}
+use Rattle.survey_text.specs.Conditions.{told_text, told_holds}
 use Rattle.survey_text.specs.Tellable.{any_numbered}
 
 -- ---- parts that are all
@@ -65,8 +65,8 @@ all_of parts = flat_map (λ part. part.all.items) parts
 
 -- the text of all outcomes of all parts in the order of their least lists, and whether no property fails
 pub record IsJoined (parts : List Part) (properties : List Property) (holds : Bool) (text : List ℕ) : Type 0 where
-  pub is : text ≡ survey_text (all_lists parts) None (longest parts) (in_order (all_of parts)) properties
-  pub judged : holds ≡ all_hold (in_order (all_of parts)) properties
+  pub is : text ≡ told_text (all_lists parts) None (longest parts) (in_order (all_of parts)) properties
+  pub judged : holds ≡ told_holds (in_order (all_of parts)) properties
 
 -- that of parts which are apart, and are all
 pub record IsWhole (parts : List Part) (properties : List Property) (holds : Bool) (text : List ℕ) : Type 0 where

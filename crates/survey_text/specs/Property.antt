@@ -1,11 +1,12 @@
--- Properties of reports: a line that no report may have, or that every report must have.
-use Rattle.std.specs.Prelude.{ℕ, ◌-◌, ◌==◌, ◌||◌, ◌&&◌, not, List, Bool, false, length, slice_get, nat_eq, nat_le, codes, Option, Some, None}
+-- Properties of reports: a line that no report may have, or that every report must have; and conditions, a line that a
+-- report must have so that it counts.
+use Rattle.std.specs.Prelude.{ℕ, ◌-◌, ◌==◌, ◌||◌, ◌&&◌, not, List, Bool, true, false, length, slice_get, nat_eq, nat_le, codes, Option, Some, None}
 use Rattle.std.specs.List.{list_any, list_all, slice_split, starts_with}
 use Rattle.path_text.specs.Name.{same_bytes}
 use Rattle.step_text.specs.Words.{BLANK}
 use Rattle.survey_text.specs.declared.property.Property.{Property}
 use Rattle.survey_text.specs.declared.property.Rule.{Rule}
-use Rattle.survey_text.specs.declared.property.Rule.TheVariants.{Never, Always}
+use Rattle.survey_text.specs.declared.property.Rule.TheVariants.{When, Never, Always}
 
 abbrev pub NEWLINE : ℕ
 NEWLINE = 10
@@ -22,8 +23,18 @@ tells text line = same_bytes line text || (starts_with nat_eq line text && is_bl
 abbrev pub has : List ℕ → List ℕ → Bool
 has text lines = list_any (tells text) (slice_split (λ b. b == NEWLINE) lines)
 
+-- it says which reports count
+abbrev pub is_when : Rule → Bool
+is_when When = true
+is_when Never = false
+is_when Always = false
+
+abbrev pub is_condition : Property → Bool
+is_condition property = is_when property.rule
+
 -- a report has a line that none may have, or lacks one that each must have
 abbrev pub fails_by : Rule → Bool → Bool
+fails_by When found = not found
 fails_by Never found = found
 fails_by Always found = not found
 
@@ -52,5 +63,6 @@ is_property outside text =
     names_a_line outside text && not (ends_in_blank text) && list_all is_printed text
 
 abbrev pub rule_word : Rule → List ℕ
+rule_word When = codes "when "
 rule_word Never = codes "never "
 rule_word Always = codes "always "

@@ -1,5 +1,5 @@
 -- The text of what a search found.
-use Rattle.std.specs.Prelude.{ℕ, List, [], ◌∷◌, ◌++◌, Bool, not, length, min, sum_by, find, if◌then◌else◌, is_none, codes, decimal, Option, Some, None}
+use Rattle.std.specs.Prelude.{ℕ, List, [], ◌∷◌, ◌++◌, Bool, not, length, min, nat_lt, sum_by, find, if◌then◌else◌, is_none, codes, decimal, Option, Some, None}
 use Rattle.std.specs.List.{flat_map, list_all, list_any}
 use Rattle.path_text.specs.Name.{same_bytes}
 use Rattle.report_text.specs.Report.{numbered}
@@ -7,7 +7,7 @@ use Rattle.survey_text.specs.declared.property.Property.{Property}
 use Rattle.survey_text.specs.declared.counts.TheConstants.{COUNT_MAX}
 use Rattle.survey_text.specs.declared.survey.Told.{Told}
 use Rattle.survey_text.specs.Counts.{count_words}
-use Rattle.survey_text.specs.Property.{fails, rule_word}
+use Rattle.survey_text.specs.Property.{fails, is_condition, rule_word}
 
 -- ---- blocks: outcomes that look the same are one
 
@@ -65,17 +65,23 @@ status_words all property None = codes "holds\n"
 status_words all property (Some told) =
     (codes "fails " ++ count_words (lists_breaking all property)) ++ witness_words told
 
+-- its line; a condition has its own
 abbrev pub property_text : List Told → Property → List ℕ
 property_text all property =
-    rule_word property.rule
-    ++ (property.text ++ (codes " = " ++ status_words all property (find (breaks property) all)))
+    if is_condition property then []
+    else (rule_word property.rule
+    ++ (property.text ++ (codes " = " ++ status_words all property (find (breaks property) all))))
 
 abbrev pub properties_text : List Told → List Property → List ℕ
 properties_text all properties = flat_map (property_text all) properties
 
--- no outcome breaks one
+-- no outcome breaks it; or, of a condition, there is some outcome
+abbrev pub holds : List Told → Property → Bool
+holds all property =
+    if is_condition property then nat_lt 0 (length all) else is_none (find (breaks property) all)
+
 abbrev pub all_hold : List Told → List Property → Bool
-all_hold all properties = list_all (λ property. is_none (find (breaks property) all)) properties
+all_hold all properties = list_all (holds all) properties
 
 -- ---- the whole
 
@@ -91,7 +97,8 @@ numbers_text lists states longest outcomes =
     ++ (states_words states ++ ((codes "\nturns " ++ decimal longest)
     ++ ((codes "\noutcomes " ++ decimal outcomes) ++ codes "\n")))
 
--- these, then a block for each that looks new, then each property
-abbrev pub survey_text : ℕ → Option ℕ → ℕ → List Told → List Property → List ℕ
-survey_text lists states longest all properties =
-    numbers_text lists states longest (length (new_ones all)) ++ (blocks_text all ++ properties_text all properties)
+-- these, then a block for each that looks new, then the lines of conditions, then each property
+abbrev pub survey_text : ℕ → Option ℕ → ℕ → List Told → List ℕ → List Property → List ℕ
+survey_text lists states longest all conditions properties =
+    numbers_text lists states longest (length (new_ones all))
+    ++ (blocks_text all ++ (conditions ++ properties_text all properties))

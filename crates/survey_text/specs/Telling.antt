@@ -1,7 +1,8 @@
 -- What the text says of an outcome.
 use Rattle.std.specs.Prelude.{◌≡◌, ℕ, List, length}
 use Rattle.race_core.specs.declared.report.Outcome.{Outcome}
-use Rattle.node_numbering.specs.Renumbered.{IsRenumbered}
+use Rattle.node_numbering.specs.Meeting.{numbers}
+use Rattle.node_numbering.specs.Renumbered.{IsRenumbered, AreByNumbers}
 use Rattle.tree_model.specs.declared.inode.Inode.{Inode}
 use Rattle.tree_model.specs.State.{State}
 use Rattle.survey_text.specs.declared.survey.Told.{Told}
@@ -9,12 +10,14 @@ use Rattle.survey_text.specs.Outcome.{outcome_lines, report_lines}
 use Rattle.survey_text.specs.Schedule.{schedule_words}
 
 -- It is what is printed of these replies and this tree by other numbers of the nodes that the opening tree doesn't
--- have.
+-- have: those by the order in which they are met.
 pub record IsLook (named : List ℕ) (opening : State) (actors : ℕ) (replies : List (List Outcome)) (tree : State)
     (outside look : List ℕ) : Type 0 where
   pub nodes : List Inode
   pub renumbered : List (List Outcome)
   pub by_numbers : IsRenumbered (length opening.nodes) tree.nodes replies nodes renumbered
+  pub as_met :
+      AreByNumbers (numbers (length opening.nodes) named tree.nodes replies) tree.nodes replies nodes renumbered
   pub is : look ≡ outcome_lines named opening renumbered
       (record { nodes = nodes; handles = tree.handles }) outside actors
 

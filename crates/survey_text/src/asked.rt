@@ -14,6 +14,7 @@ pub struct Options<'a> {
     pub states: Option<&'a str>,
     pub jobs: Option<&'a str>,
     pub outside: bool,
+    pub when: &'a [&'a str],
     pub never: &'a [&'a str],
     pub always: &'a [&'a str],
 }
@@ -31,7 +32,7 @@ pub enum OptionFault {
     States,
     #[error("--jobs is a number from 1 to 64")]
     Jobs,
-    #[error("--never and --always take a line's beginning: reply, row or held, or outside with --outside, and words after it")]
+    #[error("--when, --never and --always take a line's beginning: reply, row or held, or outside with --outside, and words after it")]
     Text,
     /// Room was refused.
     #[error("no memory")]

@@ -3,7 +3,8 @@
 //! A *full list* of turns is one after which no actor has anything left to do. Whoever goes through them knows of each
 //! outcome how many full lists lead to it, the least of them, and its report. `told_of` is what is told of one, and
 //! `survey_text` the text of all: a block for each outcome, with a schedule that leads to it, and then whether each
-//! property that was asked for holds of every one. `merge` makes one text of the outcomes of several beginnings.
+//! property that was asked for holds of every one. Where conditions are asked for, only the lists whose report has the
+//! line of each one count (`conditions.rt`). `merge` makes one text of the outcomes of several beginnings.
 //!
 //! `explore_text` uses these contracts for what a search finds. `command_line` uses the types alone: the options of
 //! `explore`, and its faults.
@@ -11,6 +12,7 @@
 
 mod asked;
 mod changes;
+mod conditions;
 mod counts;
 mod fault;
 mod laws;

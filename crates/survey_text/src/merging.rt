@@ -21,6 +21,18 @@ pub enum MergeFault {
     /// It is no part.
     #[error("part {0} is none")]
     NotAPart(usize),
+    /// It ends with a digest that isn't its own: a byte of it was changed.
+    #[error("part {0} isn't as it was written")]
+    Spoilt(usize),
+    /// Its line has more bytes than are read.
+    #[error("part {0} is longer than 16777216 bytes")]
+    LineTooLong(usize),
+    /// There are more than are read.
+    #[error("there are more than 65536 parts")]
+    TooMany,
+    /// All lines together have more bytes than are read.
+    #[error("parts are longer than 268435456 bytes")]
+    TooLong,
     /// It answers another question than the first.
     #[error("part {0} is of another question than part 0")]
     OtherQuestion(usize),
@@ -226,7 +238,7 @@ fn joined(alloc: Global, parts: Vec<Part>, properties: &[Property]) -> Result<Su
 {
     let (lists, turns) = (all_lists(&parts), longest(&parts));
     let ordered = all_in_order(alloc, parts)?;
-    told_ordered(alloc, lists, None, turns, &ordered, properties)
+    told_ordered(alloc, lists, None, turns, ordered, properties)
 }
 
 /// The text of all schedules, made of parts of them, and whether no property fails.

@@ -1,7 +1,7 @@
 //! Properties of reports: a line that no report may have, or that every report must have.
 ghost use Rattle.std.specs.Prelude.{◌≡◌, IfOk, MatchOption, false, true, slice_get};
 ghost use Rattle.std.specs.List.{list_all};
-ghost use Rattle.survey_text.specs.Property.{is_blank, tells, has, fails, names_a_line, ends_in_blank, is_printed, is_property, rule_word};
+ghost use Rattle.survey_text.specs.Property.{is_blank, tells, has, is_condition, fails, names_a_line, ends_in_blank, is_printed, is_property, rule_word};
 
 use path_text::{Bytes, NoMemory};
 use std::alloc::Global;
@@ -9,9 +9,11 @@ use std::alloc::Global;
 /// What a property says of its text.
 #[derive(Clone, Copy, Debug, PartialEq, Eq)]
 pub enum Rule {
-    /// No report has it.
+    /// Only the reports that have it count.
+    When,
+    /// No report that counts has it.
     Never,
-    /// Every report has it.
+    /// Every report that counts has it.
     Always,
 }
 
@@ -115,6 +117,7 @@ impl Rule {
         ensures { result.now ≡ rule_word self }
     {
         match self {
+            Rule::When => "when ",
             Rule::Never => "never ",
             Rule::Always => "always ",
         }
@@ -122,6 +125,16 @@ impl Rule {
 }
 
 impl Property {
+    /// Whether it says which reports count.
+    pub(crate) fn is_condition(&self) -> bool
+        ensures { result ≡ is_condition self.now }
+    {
+        match self.rule {
+            Rule::When => true,
+            Rule::Never | Rule::Always => false,
+        }
+    }
+
     /// Whether a report with these lines breaks the rule.
     pub(crate) fn fails(&self, lines: &[u8]) -> bool
         ensures { result ≡ fails self.now lines.now }
@@ -129,7 +142,7 @@ impl Property {
         let found = has(self.text.as_slice(), lines);
         match self.rule {
             Rule::Never => found,
-            Rule::Always => !found,
+            Rule::When | Rule::Always => !found,
         }
     }
 }

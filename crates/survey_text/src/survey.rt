@@ -3,7 +3,7 @@ ghost use Rattle.std.specs.Prelude.{◌≡◌, find};
 ghost use Rattle.std.specs.Option.{option_copied};
 ghost use Rattle.step_text.specs.Output.{Gains};
 ghost use Rattle.survey_text.specs.Looks.{AreSums};
-ghost use Rattle.survey_text.specs.Survey.{lists_breaking, breaks, witness_words, states_words, numbers_text, block_words, blocks_text, property_text, properties_text, all_hold, survey_text};
+ghost use Rattle.survey_text.specs.Survey.{lists_breaking, breaks, witness_words, states_words, numbers_text, block_words, blocks_text, property_text, properties_text, holds, all_hold, survey_text};
 
 use crate::counts::{counted, plus};
 use crate::looks::sums_of;
@@ -126,10 +126,13 @@ fn lists_breaking(all: &[Told], property: &Property) -> u64
     lists
 }
 
-// Adds a property's line.
+// Adds a property's line. A condition has its own.
 fn property_line(out: &mut Output, all: &[Told], property: &Property) -> Result<(), NoMemory>
     ensures { Gains out.old out.new (property_text all.now property.now) result }
 {
+    if property.is_condition() {
+        return Ok(());
+    }
     out.text(property.rule.word())?;
     out.bytes(property.text.as_slice())?;
     out.text(" = ")?;
@@ -150,12 +153,22 @@ fn property_lines(out: &mut Output, all: &[Told], properties: &[Property]) -> Re
     Ok(())
 }
 
-/// Whether no outcome breaks one of these properties.
+// Whether a property holds of these outcomes: none breaks it, or, of a condition, there are some.
+fn holds(all: &[Told], property: &Property) -> bool
+    ensures { result ≡ holds all.now property.now }
+{
+    if property.is_condition() {
+        return !all.is_empty();
+    }
+    first_breaking(all, property).is_none()
+}
+
+/// Whether no outcome breaks one of these properties, and, where one is a condition, there are outcomes.
 pub fn all_hold(all: &[Told], properties: &[Property]) -> bool
     ensures { result ≡ all_hold all.now properties.now }
 {
     for property in properties {
-        if first_breaking(all, property).is_some() {
+        if !holds(all, property) {
             return false;
         }
     }
@@ -164,8 +177,8 @@ pub fn all_hold(all: &[Told], properties: &[Property]) -> bool
 
 /// Adds the text of outcomes, which come in the order of their least lists, where there are so many lists, by so many
 /// worlds if they were found by a search, and the longest has so many turns: these numbers, how many outcomes look
-/// different, a block for each of these, and the line of each property. NoMemory where room was refused, and a part of
-/// the text may have been added then.
+/// different, a block for each of these, the lines of conditions, which are given, and the line of each property.
+/// NoMemory where room was refused, and a part of the text may have been added then.
 pub fn survey_text(
     alloc: Global,
     out: &mut Output,
@@ -173,12 +186,15 @@ pub fn survey_text(
     states: Option<u64>,
     longest: u64,
     all: &[Told],
+    conditions: &[u8],
     properties: &[Property],
 ) -> Result<(), NoMemory>
-    ensures { Gains out.old out.new (survey_text lists states longest all.now properties.now) result }
+    ensures { Gains out.old out.new
+        (survey_text lists states longest all.now conditions.now properties.now) result }
 {
     let mut sums = sums_of(alloc, all)?;
     numbers(out, lists, states, longest, sums.len() as u64)?;
     blocks(out, &mut sums, all)?;
+    out.bytes(conditions)?;
     property_lines(out, all, properties)
 }
