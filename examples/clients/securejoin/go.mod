@@ -1,0 +1,7 @@
+module github.com/cyphar/filepath-securejoin
+
+go 1.19
+
+require gimowheta.example/inroot v0.0.0
+
+replace gimowheta.example/inroot => ../../../bindings/go
