@@ -26,7 +26,7 @@ static bool walks_whole(enum inroot_op op)
 
 static void take(struct inroot_ahead *a, const char *path, size_t length)
 {
-    a->at = a->end = a->until = 0;
+    a->at = a->end = a->until = a->walked = 0;
     a->bad = 0;
     a->known = length < INROOT_TEXT_MAX;
     if (!a->known)
@@ -43,11 +43,19 @@ void inroot_ahead_begin(struct inroot_driver *d)
     a->whole = walks_whole(asked->op);
     a->directory = asked->op == INROOT_ASK_MKDIR_ALL || asked->directory;
     a->link_may_end = asked->op == INROOT_ASK_RESOLVE_NOFOLLOW || asked->op == INROOT_ASK_READLINK;
-    a->begun = a->from_top = a->makes = false;
-    a->has_second = asked->op == INROOT_ASK_RENAME && d->second_length < sizeof a->second;
-    if (a->has_second)
-        memcpy(a->second, asked->second, d->second_length + 1);
+    a->begun = a->from_top = a->makes = a->met_link = false;
+    a->has_second = asked->op == INROOT_ASK_RENAME;
+    a->second = asked->second;
     take(a, asked->first, d->first_length);
+}
+
+void inroot_ahead_second(struct inroot_ahead *a)
+{
+    if (a->has_second)
+        take(a, a->second, strlen(a->second));
+    else
+        a->known = false;
+    a->has_second = false;
 }
 
 void inroot_ahead_dup(struct inroot_ahead *a)
@@ -55,13 +63,8 @@ void inroot_ahead_dup(struct inroot_ahead *a)
     bool walks_again = a->begun && !a->from_top;
     a->begun = true;
     a->from_top = false;
-    if (!walks_again)
-        return;
-    if (a->has_second)
-        take(a, a->second, strlen(a->second));
-    else
-        a->known = false;
-    a->has_second = false;
+    if (walks_again)
+        inroot_ahead_second(a);
 }
 
 /* Where the next name begins, past any `.` and `..`; or the end. */
@@ -76,6 +79,11 @@ static inline size_t next_name(const struct inroot_ahead *a)
 bool inroot_ahead_has_name(const struct inroot_ahead *a)
 {
     return a->known && (!a->whole || next_name(a) < a->until);
+}
+
+bool inroot_ahead_is_done(const struct inroot_ahead *a)
+{
+    return a->known && next_name(a) >= a->until;
 }
 
 bool inroot_ahead_is(struct inroot_ahead *a, const char *name, size_t length)
@@ -107,6 +115,22 @@ void inroot_ahead_make(struct inroot_ahead *a)
     a->bad = 0;
 }
 
+/* Keeps what was passed before a link, whose name was passed last: the text takes its place. */
+static void keep_way(struct inroot_ahead *a)
+{
+    size_t passed = a->at;
+    while (passed > 0 && a->text[passed - 1] != '/')
+        passed--;
+    if (a->from_top) {
+        a->walked = 0;
+    } else if (a->walked + passed >= sizeof a->way) {
+        a->walked = sizeof a->way;
+    } else {
+        memcpy(a->way + a->walked, a->text, passed);
+        a->walked += passed;
+    }
+}
+
 void inroot_ahead_put(struct inroot_ahead *a, const char *text, size_t length)
 {
     size_t left = a->end - a->at, until = a->until > a->at ? a->until - a->at : 0;
@@ -116,12 +140,46 @@ void inroot_ahead_put(struct inroot_ahead *a, const char *text, size_t length)
         a->known = false;
         return;
     }
+    keep_way(a);
     /* The NUL moves along. */
     memmove(a->text + length, a->text + a->at, left + 1);
     memcpy(a->text, text, length);
     a->at = 0;
     a->end = length + left;
     a->until = length + until;
+}
+
+/* Goes on by the parts of a text, from names of which so many bytes are there. Gives how many there are then. */
+static size_t go_along(char to[PATH_MAX], size_t used, const char *text, size_t length)
+{
+    for (size_t at = 0, end; at < length; at = end + 1) {
+        const char *slash = memchr(text + at, '/', length - at);
+        end = slash == NULL ? length : (size_t)(slash - text);
+        size_t part = end - at;
+        if (part == 0 || (part == 1 && text[at] == '.'))
+            continue;
+        if (part == 2 && memcmp(text + at, "..", 2) == 0) {
+            while (used > 0 && to[--used] != '/') {
+            }
+        } else if (used + part + 1 < PATH_MAX) {
+            to[used] = '/';
+            memcpy(to + used + 1, text + at, part);
+            used += part + 1;
+        } else {
+            return PATH_MAX;
+        }
+    }
+    return used;
+}
+
+void inroot_ahead_way(const struct inroot_ahead *a, char to[PATH_MAX])
+{
+    size_t used = a->known && a->walked < sizeof a->way ? go_along(to, 0, a->way, a->walked) : PATH_MAX;
+    if (used < PATH_MAX)
+        used = go_along(to, used, a->text, a->at);
+    if (used == 0)
+        to[used++] = '/';
+    to[used < PATH_MAX ? used : 0] = 0;
 }
 
 bool inroot_ahead_is_end(const struct inroot_ahead *a, size_t at)

@@ -3,7 +3,10 @@
  * library says that a call with these answers to its steps would reply so, the driver takes no turn. docs/HOST-WHY.md has the
  * argument.
  */
+#define _GNU_SOURCE
 #include "driver.h"
+
+#include <string.h>
 
 /* Whether the call may be such a one. The proved call refuses a path that leads out by its first byte before any step. */
 static bool may_open(const struct inroot_request *asked)
@@ -14,16 +17,35 @@ static bool may_open(const struct inroot_request *asked)
     return opens && !leads_out;
 }
 
-/* Whether the object that was opened is the reply, by where it stands. */
-static bool is_reply(struct inroot_driver *d, int root, const struct inroot_asked *numbers, char *text)
+/* The path as a place, which it is where it is plain names: a slash before each. Gives how long that is. */
+static size_t as_place(const struct inroot_driver *d, char *text)
+{
+    size_t slash = d->asked->first[0] == '/' ? 0 : 1;
+    text[0] = '/';
+    memcpy(text + slash, d->asked->first, d->first_length);
+    return slash + d->first_length;
+}
+
+/* Where it stands: as the kernel has seen it, below the root. Or at which names, too. Whether that could be told. */
+static bool find_place(struct inroot_driver *d, int root, char *text, size_t *length)
 {
     struct inroot_run *run = &d->run;
     struct inroot_slot found = {.fd = run->fd, .kind = (uint8_t)run->kind, .way = (uint8_t)run->way};
-    size_t length;
-    struct inroot_result place = inroot_place(d, root, &found, text, &length);
+    if (d->below) {
+        *length = as_place(d, text);
+        return true;
+    }
+    struct inroot_result place = inroot_find_place(d, root, &found, text, length);
     run->fd = found.fd;
-    return place.what == INROOT_ANSWER_NAMES &&
-           inroot_opens_at_once(numbers, (const unsigned char *)d->asked->first, d->first_length, (uint8_t)run->kind,
+    return place.what == INROOT_ANSWER_NAMES;
+}
+
+/* Whether the object that was opened is the reply, by where it stands. */
+static bool is_reply(struct inroot_driver *d, int root, const struct inroot_asked *numbers, char *text)
+{
+    size_t length;
+    return find_place(d, root, text, &length) &&
+           inroot_opens_at_once(numbers, (const unsigned char *)d->asked->first, d->first_length, (uint8_t)d->run.kind,
                                 (const unsigned char *)text, length);
 }
 
@@ -34,8 +56,7 @@ int inroot_at_once(struct inroot_driver *d, int root, const struct inroot_asked 
     if (!is_reply(d, root, numbers, text)) {
         /* The steps decide: the caller sees nothing of what was found here. */
         inroot_run_drop(d);
-        d->busy = false;
-        d->unknown = 0;
+        d->unmade = 0;
         return INROOT_NONE;
     }
     int fd = d->run.fd;

@@ -12,6 +12,18 @@
 /* The rule of inroot.h: so many tries, and no pause between the first ones. */
 enum { TRIES = INROOT_TRIES, AT_ONCE = 8 };
 
+/* What a call gives that changed an entry: what it made, where that is asked for. Nothing is made once more. */
+static int done(struct inroot_driver *d)
+{
+    if (d->asked->makes != INROOT_MAKES_OPEN && !d->asked->gives)
+        return 0;
+    if (d->made < 0)
+        return d->lost ? -EAGAIN : -d->unopened;
+    int made = d->made;
+    d->made = INROOT_NONE;
+    return made;
+}
+
 /* Turns the reply into what the caller gets. */
 static ssize_t reply_of(struct inroot_driver *d, const struct inroot_told *told)
 {
@@ -21,11 +33,12 @@ static ssize_t reply_of(struct inroot_driver *d, const struct inroot_told *told)
     case INROOT_REPLY_TEXT:
         return told->whole ? (ssize_t)told->first : -ENOMEM;
     case INROOT_REPLY_DONE:
-        return d->asked->makes == INROOT_MAKES_OPEN ? d->made : 0;
+        return done(d);
     case INROOT_REPLY_COUNT:
         return (ssize_t)told->handle;
     default:
-        return told->detail == EBADF && d->unknown ? -d->unknown : -told->detail;
+        /* After a step that wasn't made the call fails for want of memory, and for no other reason. */
+        return told->detail == ENOMEM && d->unmade ? -d->unmade : -told->detail;
     }
 }
 
@@ -37,6 +50,11 @@ static struct inroot_result make(struct inroot_driver *d, const struct inroot_to
     d->steps++;
     if (step->what == INROOT_STEP_CLOSE)
         return inroot_handles_close(d, step->handle);
+    if (d->from.second && inroot_from_is_second(d, step)) {
+        int error = inroot_from_again(d, step->handle, text);
+        if (error)
+            return inroot_refused(d, error);
+    }
     if (step->what == INROOT_STEP_OPEN && inroot_run_goes_on(d, step))
         return inroot_run_next(d, step, room);
     return inroot_make(d, step, room, text, length);
@@ -61,9 +79,8 @@ static ssize_t converse(struct inroot_driver *d, const struct inroot_asked *numb
             .handle = result.handle,
             .node = result.handle,
             .what = (uint8_t)result.what,
-            .kind = (uint8_t)result.kind,
-            /* A number that has no byte is one of those that the model doesn't have: the driver keeps it itself. */
-            .error = result.error > UINT8_MAX ? EBADF : (uint8_t)result.error,
+            .kind = result.kind,
+            .error = result.error,
         };
         inroot_next(&kept, &answered, (const unsigned char *)(lists ? d->names : text), lists ? d->names_length : length,
                     &told, bytes, INROOT_ROOM);
@@ -80,6 +97,15 @@ static int check_root(int root)
     return S_ISDIR(about.st_mode) ? 0 : -ENOTDIR;
 }
 
+int inroot_error_behind(int root, int error, const char *path)
+{
+    int dir, failed = 0;
+    inroot_at_find(root, &root, &dir);
+    if (root != INROOT_JAIL)
+        failed = check_root(root);
+    return inroot_error_alone(failed ? -failed : error, "", path);
+}
+
 /* Puts the current directory back to the root, as promised. If the thread may no longer search its root, the call fails. */
 static ssize_t come_home(ssize_t result, bool opens)
 {
@@ -93,8 +119,10 @@ static ssize_t come_home(ssize_t result, bool opens)
 
 static bool opens(const struct inroot_request *asked)
 {
+    if (asked->places)
+        return false;
     return asked->op == INROOT_ASK_RESOLVE || asked->op == INROOT_ASK_RESOLVE_NOFOLLOW || asked->op == INROOT_ASK_MKDIR_ALL ||
-           asked->makes == INROOT_MAKES_OPEN;
+           asked->makes == INROOT_MAKES_OPEN || asked->gives;
 }
 
 static void begin(struct inroot_driver *d, const struct inroot_request *asked)
@@ -104,7 +132,10 @@ static void begin(struct inroot_driver *d, const struct inroot_request *asked)
     d->first_length = strlen(asked->first);
     d->second_length = strlen(asked->second);
     d->counts = asked->op == INROOT_ASK_REMOVE_ALL;
-    d->proc = d->deepest = d->made = d->run.fd = INROOT_NONE;
+    d->below = asked->flags & INROOT_BELOW;
+    d->proc = d->deepest = d->made = d->run.fd = d->from.fd = d->from.dir = INROOT_NONE;
+    d->from.first = d->from.second = false;
+    d->from.told = 0;
     d->name = d->step_name;
     inroot_ahead_begin(d);
 }
@@ -118,18 +149,49 @@ static ssize_t reply_to(struct inroot_driver *d, int root, const struct inroot_r
         .beneath = asked->flags & INROOT_BENEATH,
         .no_links = asked->flags & INROOT_NO_LINKS,
     };
-    int fd = inroot_at_once(d, root, &numbers, room);
+    d->root = root;
+    int fd = d->from.dir < 0 ? inroot_at_once(d, root, &numbers, room) : INROOT_NONE;
     if (fd >= 0)
         return fd;
     int failed = inroot_own_root_check(d, root);
     if (failed)
         return failed;
     numbers.root = inroot_handles_begin(d, root);
-    ssize_t result = converse(d, &numbers, room);
+    failed = inroot_from_begin(d, numbers.root);
+    ssize_t result = failed ? -failed : converse(d, &numbers, room);
     inroot_run_drop(d);
     inroot_handles_end(d);
+    if (d->made >= 0)
+        close(d->made);
+    d->made = INROOT_NONE;
     free(d->names);
     return result;
+}
+
+/* The same of a call that begins at a directory below the root, whose names come before its own paths. */
+static ssize_t reply_from(struct inroot_driver *d, int root, int dir, const struct inroot_request *asked, char *room)
+{
+    struct inroot_joined *joined = malloc(sizeof *joined);
+    ssize_t result = joined == NULL ? -ENOMEM : inroot_from_join(d, root, dir, asked, joined);
+    if (result == 0) {
+        d->asked = &joined->request;
+        d->first_length = strlen(joined->first);
+        d->second_length = strlen(joined->second);
+        inroot_ahead_begin(d);
+        result = reply_to(d, root, &joined->request, room);
+    }
+    inroot_from_end(d);
+    d->asked = asked;
+    free(joined);
+    return result;
+}
+
+/* Gets what the request asks for. */
+static ssize_t get(struct inroot_driver *d, int root, int dir, const struct inroot_request *asked, char *room)
+{
+    if (asked->places)
+        return inroot_stands(d, root, room);
+    return dir < 0 ? reply_to(d, root, asked, room) : reply_from(d, root, dir, asked, room);
 }
 
 /* Whether the call failed because the number of /proc is another file's by now, and has changed nothing yet. */
@@ -139,7 +201,7 @@ static bool lost_proc(const struct inroot_driver *d, ssize_t result)
 }
 
 /* Gets the reply once more by another /proc, if there is one. */
-static ssize_t reply_by_another(struct inroot_driver *d, int root, const struct inroot_request *asked, char *room)
+static ssize_t get_by_another(struct inroot_driver *d, int root, int dir, const struct inroot_request *asked, char *room)
 {
     bool is_own, moved = d->moved;
     int proc = inroot_proc_open(true, &is_own);
@@ -149,17 +211,21 @@ static ssize_t reply_by_another(struct inroot_driver *d, int root, const struct 
     d->moved = moved;
     d->proc = proc;
     d->proc_is_own = is_own;
-    return reply_to(d, root, asked, room);
+    return get(d, root, dir, asked, room);
 }
 
 ssize_t inroot_once(struct inroot_driver *d, int root, const struct inroot_request *asked, char *room)
 {
+    int dir = INROOT_NONE;
+    inroot_at_find(root, &root, &dir);
+    if (asked->from > 0)
+        dir = asked->from - 1;
     bool jailed = root == INROOT_JAIL;
     int below = jailed ? INROOT_JAILED : root;
     begin(d, asked);
-    ssize_t result = reply_to(d, below, asked, room);
+    ssize_t result = get(d, below, dir, asked, room);
     if (lost_proc(d, result))
-        result = reply_by_another(d, below, asked, room);
+        result = get_by_another(d, below, dir, asked, room);
     inroot_proc_end(d);
     if (d->moved)
         result = come_home(result, opens(asked));
@@ -186,7 +252,7 @@ ssize_t inroot_call(int root, const struct inroot_request *asked, char *room)
     struct inroot_driver d;
     for (int tries = 1;; tries++) {
         ssize_t result = inroot_once(&d, root, asked, room);
-        if (result == -EAGAIN && inroot_again(tries, asked->flags))
+        if (result == -EAGAIN && !d.lost && inroot_again(tries, asked->flags))
             continue;
         if (result < 0)
             inroot_error_of(&d, (int)-result);

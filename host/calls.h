@@ -1,5 +1,5 @@
 /*
- * calls.h: the proved library's three functions, and what passes between it and a driver. The numbers and bytes are those
+ * calls.h: the proved library's five functions, and what passes between it and a driver. The numbers and bytes are those
  * of crates/c_protocol, whose contracts say what they stand for. A program that makes calls includes inroot.h, and not this.
  */
 #ifndef INROOT_CALLS_H
@@ -36,6 +36,7 @@ enum inroot_answer {
 
 enum inroot_kind { INROOT_KIND_DIR = 1, INROOT_KIND_FILE, INROOT_KIND_LINK };
 
+/* Where a step is refused the error is one that the step table has for it, or ENOMEM: then the step wasn't made. */
 struct inroot_answered {
     uint64_t handle, node;
     uint8_t what, kind, error;
@@ -78,5 +79,25 @@ void inroot_next(struct inroot_kept *kept, const struct inroot_answered *answere
  */
 bool inroot_opens_at_once(const struct inroot_asked *asked, const unsigned char *path, size_t path_length, uint8_t kind,
                           const unsigned char *place, size_t place_length);
+
+/* Where a path's last name stands in it, of so many bytes; or the error's number, and zeros. */
+struct inroot_parted {
+    size_t name, length;
+    bool slash;
+    uint8_t error;
+};
+
+/*
+ * Takes a path apart as the calls on one entry do: what comes before the name is the path of its directory, which is empty
+ * where that is the one that the path begins at. A slash at the end is taken away, or refused by ENOTDIR. It takes no memory,
+ * and needs no call under way.
+ */
+void inroot_split(const unsigned char *path, size_t path_length, bool takes_slash, struct inroot_parted *parted);
+
+/*
+ * Whether the step table may refuse a step by an error. WHAT is the step, MODE that of a rename, TEXT how long the text of a
+ * link is that is made. An error that is none is told as ENOMEM, that is as a step that wasn't made.
+ */
+bool inroot_is_refusal(uint8_t what, uint8_t mode, size_t text, uint32_t error);
 
 #endif

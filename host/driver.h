@@ -14,8 +14,11 @@
 /* A path and a NUL; what a step or a reply can lay out: two texts, or a name and a text. */
 enum { INROOT_TEXT_MAX = PATH_MAX, INROOT_ROOM = 2 * PATH_MAX + 2 * (NAME_MAX + 1) };
 
-/* How many descriptors a call that removes a tree holds at most, and how deep one of the proved calls goes. */
-enum { INROOT_HELD_MAX = 32, INROOT_DEPTH_MAX = 16384 };
+/*
+ * How many descriptors a call that removes a tree holds at most, and how deep one of the proved calls goes: with the root's and the
+ * walk's it then has the 1,024 handles of the step table.
+ */
+enum { INROOT_HELD_MAX = 32, INROOT_DEPTH_MAX = 1022 };
 
 /* Which object a directory is, where no descriptor pins it; its birth is zero where the file system keeps none. */
 struct inroot_identity {
@@ -25,10 +28,10 @@ struct inroot_identity {
 };
 
 /*
- * How the handle was opened. INROOT_BELOW: by its names from the root, and the kernel saw it below the root in the end. This
+ * How the handle was opened. INROOT_SEEN_BELOW: by its names from the root, and the kernel saw it below the root in the end. This
  * answers one question about its place, the one that follows.
  */
-enum inroot_way { INROOT_BY_ROOT, INROOT_BY_NAME, INROOT_BELOW, INROOT_BY_PARENT };
+enum inroot_way { INROOT_BY_ROOT, INROOT_BY_NAME, INROOT_SEEN_BELOW, INROOT_BY_PARENT };
 
 /*
  * In place of a descriptor: one that was let go and can be opened again; the root of a jail, which needs none; a directory that
@@ -46,8 +49,8 @@ struct inroot_slot {
     struct inroot_identity who;    /* once it was let go */
 };
 
-/* Beside the steps of the proved call: whether /proc tells the root from what is outside. */
-enum { INROOT_STEP_OWN_ROOT = INROOT_STEP_RENAME + 1 };
+/* Beside the steps of the proved call: whether /proc tells the root from what is outside; what was made is opened. */
+enum { INROOT_STEP_OWN_ROOT = INROOT_STEP_RENAME + 1, INROOT_STEP_GIVE };
 
 /* What the last step of a call that makes an entry makes. */
 enum inroot_makes { INROOT_MAKES_NEW, INROOT_MAKES_OPEN, INROOT_MAKES_LINKED };
@@ -56,7 +59,7 @@ enum inroot_makes { INROOT_MAKES_NEW, INROOT_MAKES_OPEN, INROOT_MAKES_LINKED };
 struct inroot_result {
     uint64_t handle;
     enum inroot_answer what;
-    uint16_t kind, error;
+    uint8_t kind, error;
 };
 
 /* What is asked for: an operation, and its texts; and what the proved call knows nothing of. */
@@ -71,6 +74,10 @@ struct inroot_request {
     int object;                    /* a descriptor of what gets another name */
     bool directory;                /* what is opened is of use only where it is one */
     bool follows;                  /* the text that is read is walked afterwards */
+    bool gives;                    /* what is made is opened by its name, and handed out */
+    bool places;                   /* nothing is walked: where `object` stands is asked */
+    int from;                      /* a directory below the root at which paths begin, plus one; or zero */
+    bool whiteout;                 /* a rename leaves one behind */
     enum inroot_kind *opened;      /* where the kind of what was opened is told, or NULL */
 };
 
@@ -81,25 +88,40 @@ struct inroot_ahead {
     bool begun, from_top;          /* the first walk is under way; a link's text begins with a slash */
     bool makes;                    /* what is left is being made */
     int bad;                       /* so many names were not passed by one system call, where it isn't zero */
+    bool met_link;                 /* since one of them is a link */
     bool has_second;               /* another walk is to come, of a path of its own */
     size_t at, end, until;
+    size_t walked;                 /* of `way`; more than that has where it doesn't fit */
+    char way[PATH_MAX];            /* what was passed before the text, up to the link whose text stands there */
     /* With a NUL at the end. It stays where it is but in a Dup or a ReadLink. */
-    char text[2 * PATH_MAX + 1], second[PATH_MAX];
+    char text[2 * PATH_MAX + 1];
+    const char *second;            /* the request's own */
 };
 
 /* Names that one system call passed: its descriptor, of the last of them or of the directory above, and what is to be told. */
 struct inroot_run {
     int fd, left;
-    bool up;
+    bool up, placed;               /* it was just seen at the names of `from` */
     enum inroot_kind kind;
     enum inroot_way way;           /* by which the last of them was come to */
     uint64_t at;                   /* the handle from which it goes on */
+    size_t passed;                 /* how long the names are that the walk stands at behind it, or zero */
 };
 
 /* A mount, by its number or by its device. */
 struct inroot_mount {
     bool is_known, by_number;
     uint64_t number;
+};
+
+/* A directory below the root at which the call's paths begin. */
+struct inroot_from {
+    int dir;                       /* the caller's descriptor of it, or INROOT_NONE */
+    int fd;                        /* one that was opened at its names, or INROOT_NONE */
+    int names;                     /* how many these are */
+    bool first, second;            /* which of the paths begin with them, and are still to be walked */
+    const char *place;             /* the names, with a slash before each */
+    uint64_t told;                 /* the handle that was just seen to stand there, or zero */
 };
 
 /* The slots that serve a call with few handles. */
@@ -110,11 +132,13 @@ struct inroot_driver {
     uint64_t steps, removed;
     bool alone, moved;             /* the thread's current directory is its own; and isn't its root */
     bool counts, begun;            /* a tree is removed; and its first entry's turn has come */
-    bool busy, too_deep;           /* a step was refused by EBUSY; a directory was not entered for its depth */
+    bool too_deep;                 /* a directory was not entered for its depth */
     bool proc_is_own;              /* `proc` is closed at the call's end */
     bool told_apart;               /* the thread's own root directory was seen to be a mount's */
+    bool lost;                     /* an entry was made, and another or none stands at its name by now */
+    int unopened;                  /* why what was made could not be opened, or zero */
     uint8_t step;                  /* the last one that was told, but for Close, or none */
-    int unknown;                   /* an error that no step of the model is refused by */
+    int unmade;                    /* why a step wasn't made, where one wasn't: the call ends by this */
     uint32_t used, serial;         /* of the slots, so many were taken so far; and the last handle's number above its slot */
     char *names;                   /* those of the directory that was listed last */
     size_t listed;                 /* bytes of names that the call holds */
@@ -122,12 +146,17 @@ struct inroot_driver {
     int tried, tried_error;        /* the whole path, of so many names, was tried at once and failed so; or zero */
     size_t name_length;            /* of the name that `step` was about */
     struct inroot_mount mount;     /* that of the root, where the call stays on it */
+    bool below;                    /* the last check is the kernel's alone (INROOT_BELOW) */
+    uint64_t passed_handle;        /* the handle that stands at the names in `passed`, or zero, and how long they are */
+    size_t passed_length;
+    uint64_t link, link_dir;       /* a link that was read by its name in that directory, or zero, and how long its text is */
+    size_t link_length;
     /* What follows isn't cleared as a call begins: it is set then, or where what it belongs to is. */
     const struct inroot_request *asked;
     size_t first_length, second_length;
     const char *name;              /* what `step` was about, in `ahead` where that foresaw it, or in `step_name` */
     int proc;                      /* the /proc that was found to be one, or none yet */
-    int made;                      /* the file that was made and opened, or none */
+    int made;                      /* what was made and opened, or none */
     int deepest;                   /* where too_deep: the directory, and the entry in it */
     struct inroot_slot *slots;
     uint32_t room;
@@ -136,10 +165,16 @@ struct inroot_driver {
     int32_t inner_above;
     size_t names_length, placed_length;
     struct inroot_run run;
+    struct inroot_from from;
     char deepest_name[NAME_MAX + 1], step_name[NAME_MAX + 1];
+    int root;                      /* the descriptor, or INROOT_JAILED */
+    char passed[3072];             /* longer ones aren't known, which costs time alone */
     struct inroot_slot few[INROOT_FEW];
     struct inroot_ahead ahead;
 };
+
+/* Of Linux 5.10; the C library's headers don't have it. */
+enum { INROOT_NOSYMFOLLOW = 0x2000 };
 
 #pragma GCC visibility push(hidden)
 
@@ -164,6 +199,10 @@ bool inroot_handles_spare(struct inroot_driver *d, uint64_t handle);
 void inroot_ahead_begin(struct inroot_driver *d);
 /* A walk begins at the root, or goes on there. */
 void inroot_ahead_dup(struct inroot_ahead *a);
+/* The second walk begins, of a path of its own. */
+void inroot_ahead_second(struct inroot_ahead *a);
+/* Whether the first walk has passed all its names. */
+bool inroot_ahead_is_done(const struct inroot_ahead *a);
 /* If NAME is the next name of the path, moves to it and returns true. */
 bool inroot_ahead_is(struct inroot_ahead *a, const char *name, size_t length);
 /* Moves past a `..` that comes next. */
@@ -176,8 +215,35 @@ bool inroot_ahead_has_name(const struct inroot_ahead *a);
 bool inroot_ahead_is_end(const struct inroot_ahead *a, size_t at);
 /* Puts a link's text in front of the rest of the path. */
 void inroot_ahead_put(struct inroot_ahead *a, const char *text, size_t length);
+/* By which names below the root the walk has come here, with a slash before each: or nothing, where that isn't known. */
+void inroot_ahead_way(const struct inroot_ahead *a, char to[PATH_MAX]);
 /* What is left, and how long it is. */
 size_t inroot_ahead_rest(const struct inroot_ahead *a, const char **rest);
+
+/* passed.c */
+/* How long the names are, a slash before each, at which a handle stands below the root; or -1, where they aren't known. */
+ssize_t inroot_passed_base(struct inroot_driver *d, uint64_t handle);
+/* Writes names behind those of a handle. Gives how long all are then, or zero. */
+size_t inroot_passed_put(struct inroot_driver *d, uint64_t from, const char *names, size_t length);
+/* The walk stands at so much of them now, by this handle; zero where it isn't known. */
+void inroot_passed_end(struct inroot_driver *d, uint64_t handle, size_t length);
+/* How long they are without the last of them. */
+size_t inroot_passed_above(const struct inroot_driver *d, size_t length);
+/* Those of a handle, with a NUL; or NULL. */
+const char *inroot_passed_names(struct inroot_driver *d, uint64_t handle, size_t *length);
+
+/* hints.c */
+/* Which of these names, from a handle on, was a link last: the first has the number 0. Or -1. Before any step the handle is 0. */
+int inroot_hints_first(struct inroot_driver *d, uint64_t handle, const char *names, size_t length);
+/* A name in a handle's directory is a link, or is none. */
+void inroot_hints_tell(struct inroot_driver *d, uint64_t handle, const char *name, size_t length, bool is_link);
+
+/* followed.c */
+/* Opens the next name as a link, and reads it, where it is likely to be one; it can't be passed with others. Whether it could. */
+bool inroot_followed_open(struct inroot_driver *d, const struct inroot_told *step, const char *name, char *text, bool is_alone,
+                          struct inroot_result *result);
+/* Whether that link is on a mount that follows no link. */
+bool inroot_followed_is_kept(struct inroot_driver *d);
 
 /* below.c */
 /* Whether this thread has openat2(2). */
@@ -229,6 +295,8 @@ void inroot_proc_close(struct inroot_own *own);
  * SURELY the directory that was opened.
  */
 int inroot_proc_open(bool surely, bool *is_callers);
+/* Whether the program has one already. */
+bool inroot_proc_is_kept(void);
 /* Whether somebody closed the library's own /proc, so that its number is another file of a proc(5). */
 bool inroot_proc_is_lost(int proc);
 /* The same, for a call. */
@@ -245,6 +313,12 @@ void inroot_proc_leave(void);
 /* Whether what is kept for this thread will be let go of as it ends; and whether a descriptor is of a proc(5). */
 bool inroot_proc_ends(void);
 bool inroot_proc_is(int fd);
+
+/* by_proc.c */
+/* What is done by an object's name in a /proc: what that gave, or -1 with errno. */
+typedef ssize_t inroot_act(int proc, const char *name, void *what);
+/* Does it to what a descriptor is open on. Gives what that gave, or -errno: -EBADF, -ENOSYS where there is no /proc. */
+ssize_t inroot_by_proc(int fd, inroot_act *act, void *what);
 
 /* trust.c */
 /* Keeps the directory of this thread's descriptors in this /proc open, and the root, where the kernel lets it: 0 or -errno. */
@@ -275,24 +349,87 @@ ssize_t inroot_call(int root, const struct inroot_request *asked, char *room);
 /* inroot.c */
 /* Whether the root is one to be asked with these flags: 0 or -errno. */
 int inroot_check(int root, int flags);
+/* An error that comes behind those of ROOT, where this is a directory: -errno, which is told. */
+int inroot_error_behind(int root, int error, const char *path);
 /* Reads the text once, since a program may change it meanwhile. A text that is too long stays too long. */
 void inroot_copy(char text[INROOT_TEXT_MAX + 1], const char *from);
 /* Makes a call, from its first check on. A thread that is cancelled meanwhile finishes the call. */
-ssize_t inroot_run(int root, const struct inroot_request *asked, char *room);
+ssize_t inroot_carry_out(int root, const struct inroot_request *asked, char *room);
 /* The same of a call whose reply has no text. */
-int inroot_run_alone(int root, const struct inroot_request *asked);
+int inroot_carry_out_alone(int root, const struct inroot_request *asked);
 
 /* remove.c */
 /* The same of a tree. Gives how many entries were removed, or -errno. */
 ssize_t inroot_remove_tree(int root, const struct inroot_request *asked, char *room);
 
+/* root.c */
+/* What is kept of a root by inroot_root_open(), or NULL: not in a child of fork(2). */
+struct inroot_kept_root {
+    int flags;
+    int table;                     /* the directory of the descriptors in /proc, or INROOT_NONE */
+    size_t length;                 /* of the root's path, or zero */
+    char path[INROOT_TEXT_MAX];
+};
+const struct inroot_kept_root *inroot_root_kept(int root);
+
 /* place.c */
+/* Whether what stands by a name in a directory is what is open, by the same mount; and what kind that is. */
+bool inroot_is_entry(int dir, const char *name, int fd, enum inroot_kind *kind);
+/*
+ * Whether a look-up from the root, by names with a slash before each, comes to what the slot has open, which goes on with what was
+ * found there.
+ */
+bool inroot_look_first(struct inroot_driver *d, int root, struct inroot_slot *slot, const char *text);
 /*
  * Where what a slot has open stands below the root, which is INROOT_JAILED in a jail. The slot may have another descriptor of it
  * then: the one that the kernel's look-up below the root gave.
  */
-struct inroot_result inroot_place(struct inroot_driver *d, int root, struct inroot_slot *slot, char *text, size_t *length);
+struct inroot_result inroot_find_place(struct inroot_driver *d, int root, struct inroot_slot *slot, char *text,
+                                       size_t *length);
 struct inroot_result inroot_name_below(struct inroot_driver *d, const struct inroot_told *step, char *text, size_t *length);
+
+/* stands.c */
+/* Where the request's object stands below the root: the length of the text in the room, or -errno; -EAGAIN: it doesn't. */
+ssize_t inroot_stands(struct inroot_driver *d, int root, char *room);
+
+/* at.c */
+/* Whether it stands for a root and a directory below it, which are given then. */
+bool inroot_at_find(int at, int *root, int *dir);
+
+/* from.c */
+/* Texts of a call that begins at a directory below the root. */
+struct inroot_joined {
+    struct inroot_request request;
+    char place[INROOT_TEXT_MAX + 1], first[INROOT_TEXT_MAX + 1], second[INROOT_TEXT_MAX + 1];
+};
+/* Asks where the directory stands, and puts its names before the paths: 0 or -errno. */
+int inroot_from_join(struct inroot_driver *d, int root, int dir, const struct inroot_request *asked,
+                     struct inroot_joined *joined);
+/* The first walk, from this handle of the root, begins with the directory that was opened at these names: 0 or an error. */
+int inroot_from_begin(struct inroot_driver *d, uint64_t root);
+/* Whether a step begins the second walk of a rename. Then it is asked anew where the directory stands: 0 or an error. */
+bool inroot_from_is_second(const struct inroot_driver *d, const struct inroot_told *step);
+int inroot_from_again(struct inroot_driver *d, uint64_t root, char *text);
+void inroot_from_end(struct inroot_driver *d);
+/* Whether the handle's place was told right before, and nothing was asked since: then tells it again. */
+bool inroot_from_tells(struct inroot_driver *d, uint64_t handle, char *text, size_t *length);
+
+/* give.c */
+/* Opens what was just made in this directory, and sees that it is that. It is kept for the reply, or why it isn't. */
+void inroot_give(struct inroot_driver *d, int dir, const char *name, const char *text);
+/* A new file of the request's mode, which can be told from all others: 0 or an error's number. */
+int inroot_give_file(struct inroot_driver *d, int dir, const char *name);
+
+/* magic.c */
+/*
+ * Whether the call refuses the link that was opened by this name in a directory, or INROOT_JAILED, as a magic one. One that
+ * is asked for itself isn't followed. LENGTH is that of the path's next name, which it has, or zero.
+ */
+bool inroot_magic_refused(struct inroot_driver *d, int dir, const char *name, int fd, size_t length);
+
+/* partial.c */
+/* Opens as much of a text as is there, and gives where the rest begins: a descriptor or -errno. */
+int inroot_partial(int root, int from, char *text, int flags, bool follows, size_t *rest);
 
 /* mount.c */
 /* Returns the descriptor if it is on the mount of the root. Else closes it, and returns -1 with EXDEV. */
@@ -309,8 +446,12 @@ int inroot_own_root_check(struct inroot_driver *d, int root);
 /* listing.c */
 struct inroot_result inroot_list(struct inroot_driver *d, uint64_t handle);
 
-/* steps.c */
+/* refused.c */
+/* The step that was told last is refused by the error, where the step table has it; or it wasn't made. */
 struct inroot_result inroot_refused(struct inroot_driver *d, int error);
+struct inroot_result inroot_unmade(struct inroot_driver *d, int error);
+
+/* steps.c */
 /* Whether somebody removed the directory, as far as the kernel shows it. */
 bool inroot_is_dead(int fd);
 /*
@@ -327,7 +468,7 @@ struct inroot_result inroot_make(struct inroot_driver *d, const struct inroot_to
 /* What was opened, whose kind is known. */
 static inline struct inroot_result inroot_opened(uint64_t handle, enum inroot_kind kind)
 {
-    return (struct inroot_result){.what = INROOT_ANSWER_OPENED, .handle = handle, .kind = (uint16_t)kind};
+    return (struct inroot_result){.what = INROOT_ANSWER_OPENED, .handle = handle, .kind = (uint8_t)kind};
 }
 
 static inline struct inroot_slot *inroot_handles_slot(struct inroot_driver *d, uint64_t handle)

@@ -5,14 +5,16 @@
 #include <errno.h>
 #include <string.h>
 
-static _Thread_local struct inroot_error last = {.step = ""};
+static _Thread_local struct inroot_error last = {.step = "", .at = ""};
+static _Thread_local char at[PATH_MAX];
 
 static const char *const steps[] = {
     "",      "Open",    "Dup",      "Parent",   "ReadLink",   "NameBelow", "List",
     "Close", "MakeDir", "MakeFile", "MakeLink", "RemoveFile", "RemoveDir", "Rename", "OwnRoot",
+    "Give",
 };
 
-_Static_assert(sizeof steps / sizeof *steps == INROOT_STEP_OWN_ROOT + 1, "each step has its name");
+_Static_assert(sizeof steps / sizeof *steps == INROOT_STEP_GIVE + 1, "each step has its name");
 
 /* As much of it as fits. */
 static void keep(char *to, size_t size, const char *text, size_t length)
@@ -26,6 +28,7 @@ int inroot_error_alone(int error, const char *step, const char *rest)
 {
     last.error = error;
     last.step = step;
+    last.at = "";
     last.name[0] = 0;
     keep(last.rest, sizeof last.rest, rest, strlen(rest));
     return -error;
@@ -47,7 +50,11 @@ void inroot_error_of(const struct inroot_driver *d, int error)
     bool is_one = d->asked->op != INROOT_ASK_RENAME && d->asked->op != INROOT_ASK_REMOVE_ALL;
     size_t length = inroot_ahead_rest(&d->ahead, &rest);
     last.error = error;
-    last.step = steps[d->step <= INROOT_STEP_OWN_ROOT ? d->step : 0];
+    last.step = steps[d->step <= INROOT_STEP_GIVE ? d->step : 0];
+    last.at = at;
+    at[0] = 0;
+    if (is_one && d->step != 0)
+        inroot_ahead_way(&d->ahead, at);
     keep(last.name, sizeof last.name, d->name, d->name_length);
     keep(last.rest, sizeof last.rest, rest, is_one ? length : 0);
 }

@@ -1,9 +1,9 @@
-/* heap.c: the memory of the proved library, from malloc(3), realloc(3) and free(3). */
+/* heap.c: where the proved library takes its memory from: malloc(3), realloc(3) and free(3). */
 #include <stdbool.h>
 #include <stddef.h>
 #include <stdlib.h>
 
-/* Whether there is memory, and where. Where there is none, the place is one that nobody reads or writes. */
+/* What came of a request. If there was no memory, the place is a byte that nobody reads or writes, and not NULL. */
 struct tried {
     bool ok;
     void *place;
@@ -20,13 +20,16 @@ static struct tried answer(void *block)
     return (struct tried){.ok = block != NULL, .place = block != NULL ? block : &nothing};
 }
 
-/* Alignments are 16 at most, which malloc(3) keeps to. A block of no bytes is one of its own, too. */
+/*
+ * The library asks for alignments of at most 16, which malloc(3) gives. Each block of no bytes must have a place of its own, so
+ * malloc(3) is asked for some.
+ */
 struct tried rattle_alloc(size_t size, size_t align)
 {
     return answer(malloc(size != 0 ? size : align));
 }
 
-/* All bytes are kept that both sizes have; the library asks for fewer of them. */
+/* KEPT says how many bytes the library needs kept. realloc(3) keeps all that both sizes have, which are no fewer. */
 struct tried rattle_realloc(void *block, size_t kept, size_t size, size_t align)
 {
     (void)kept;

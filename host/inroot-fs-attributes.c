@@ -1,4 +1,4 @@
-/* inroot-fs-attributes.c: the commands of inroot-fs that change modes and owners, and make what is no directory. */
+/* inroot-fs-attributes.c: the commands of inroot-fs that change modes and owners, and make non-directories. */
 #define _GNU_SOURCE
 #include "inroot-fs.h"
 #include "inroot.h"
@@ -13,32 +13,6 @@
 #include <sys/sysmacros.h>
 #include <unistd.h>
 
-/*
- * Opens what was found for use, by itself and never by its path again. A file that may not be read may be written.
- * Gives a descriptor or -errno.
- */
-static int open_found(int found, mode_t kind)
-{
-    int file = inroot_reopen(found, O_RDONLY);
-    return file == -EACCES && S_ISREG(kind) ? inroot_reopen(found, O_WRONLY) : file;
-}
-
-/* A descriptor that only names its object can't change its mode (fchmod(2)): the object is opened for use. */
-static enum fs_status change_mode(const struct fs_call *call, const char *path, int found, mode_t mode)
-{
-    struct stat about;
-    if (fstat(found, &about) != 0)
-        return fs_fault(call, path, errno);
-    if (!S_ISREG(about.st_mode) && !S_ISDIR(about.st_mode))
-        return fs_invalid(call, path, "it is neither a regular file nor a directory");
-    int file = open_found(found, about.st_mode);
-    if (file < 0)
-        return fs_refused(call, path, -file);
-    int error = fchmod(file, mode) == 0 ? 0 : errno;
-    close(file);
-    return error == 0 ? FS_DONE : fs_refused(call, path, error);
-}
-
 enum fs_status fs_chmod(const struct fs_call *call)
 {
     const char *path = call->words[1];
@@ -48,9 +22,9 @@ enum fs_status fs_chmod(const struct fs_call *call)
     int found = inroot_open(call->root, path, call->flags);
     if (found < 0)
         return fs_refused(call, path, -found);
-    enum fs_status status = change_mode(call, path, found, mode);
+    int failed = inroot_fchmod(found, mode);
     close(found);
-    return status;
+    return failed < 0 ? fs_refused(call, path, -failed) : FS_DONE;
 }
 
 /* Reads a number below 2^32 - 1 in decimal digits, up to a byte that is none. Gives that byte's place, or NULL. */
@@ -92,9 +66,9 @@ enum fs_status fs_chown(const struct fs_call *call)
     int found = inroot_open(call->root, path, call->flags);
     if (found < 0)
         return fs_refused(call, path, -found);
-    int error = fchownat(found, "", user, group, AT_EMPTY_PATH) == 0 ? 0 : errno;
+    int failed = inroot_fchown(found, user, group);
     close(found);
-    return error == 0 ? FS_DONE : fs_refused(call, path, error);
+    return failed < 0 ? fs_refused(call, path, -failed) : FS_DONE;
 }
 
 /* The kind that a letter stands for, as by mknod(1); 0 where it is none. */

@@ -6,13 +6,18 @@
 #include <pthread.h>
 #include <string.h>
 
-/* The bits that are no kind of file. */
-enum { MODE_BITS = 07777 };
+/* The bits that are no kind of file; and the flags that each call takes. */
+enum {
+    MODE_BITS = 07777,
+    ALL_CALLS = INROOT_BENEATH | INROOT_NO_LINKS | INROOT_NO_RETRY | INROOT_ONE_BY_ONE | INROOT_NO_XDEV | INROOT_NO_MAGICLINKS,
+};
 
 int inroot_check(int root, int flags)
 {
-    if (flags & ~(INROOT_BENEATH | INROOT_NO_LINKS | INROOT_NO_RETRY | INROOT_ONE_BY_ONE | INROOT_NO_XDEV))
+    int dir;
+    if (flags & ~ALL_CALLS)
         return -EINVAL;
+    inroot_at_find(root, &root, &dir);
     return root == INROOT_JAIL ? (inroot_is_jailed() ? 0 : -EBADF) : root < 0 ? -EBADF : 0;
 }
 
@@ -22,7 +27,17 @@ void inroot_copy(char text[INROOT_TEXT_MAX + 1], const char *from)
         text[INROOT_TEXT_MAX] = 0;
 }
 
-ssize_t inroot_run(int root, const struct inroot_request *asked, char *room)
+/* The last check of a resolve may be the kernel's alone, of no other call: EINVAL, or 0 and its flags. */
+static int settle_below(int root, struct inroot_request *asked)
+{
+    const struct inroot_kept_root *kept = inroot_root_kept(root);
+    bool resolves = asked->op == INROOT_ASK_RESOLVE || asked->op == INROOT_ASK_RESOLVE_NOFOLLOW;
+    if (resolves && kept != NULL)
+        asked->flags |= kept->flags & INROOT_BELOW;
+    return !resolves && asked->flags & INROOT_BELOW ? -EINVAL : 0;
+}
+
+ssize_t inroot_carry_out(int root, const struct inroot_request *asked, char *room)
 {
     int state;
     char first[INROOT_TEXT_MAX + 1], second[INROOT_TEXT_MAX + 1];
@@ -31,7 +46,9 @@ ssize_t inroot_run(int root, const struct inroot_request *asked, char *room)
     own.second = second;
     inroot_copy(first, asked->first);
     inroot_copy(second, asked->second);
-    int failed = inroot_check(root, own.flags);
+    int failed = settle_below(root, &own);
+    if (failed == 0)
+        failed = inroot_check(root, own.flags & ~INROOT_BELOW);
     if (failed)
         return inroot_error_alone(-failed, "", first);
     pthread_setcancelstate(PTHREAD_CANCEL_DISABLE, &state);
@@ -41,24 +58,25 @@ ssize_t inroot_run(int root, const struct inroot_request *asked, char *room)
     return result;
 }
 
-int inroot_run_alone(int root, const struct inroot_request *asked)
+int inroot_carry_out_alone(int root, const struct inroot_request *asked)
 {
     char room[INROOT_ROOM];
-    return (int)inroot_run(root, asked, room);
+    return (int)inroot_carry_out(root, asked, room);
 }
 
 static int on_path(int root, enum inroot_op op, const char *path, const char *text, int flags)
 {
     const struct inroot_request asked = {.op = op, .flags = flags, .first = path, .second = text};
-    return inroot_run_alone(root, &asked);
+    return inroot_carry_out_alone(root, &asked);
 }
 
 static int make(int root, enum inroot_op op, const char *path, mode_t kind, mode_t mode, dev_t device, int flags)
 {
     const struct inroot_request asked = {
-        .op = op, .flags = flags, .first = path, .second = "", .bits = kind | mode, .device = device,
+        .op = op, .flags = flags & ~INROOT_GIVE, .first = path, .second = "", .bits = kind | mode, .device = device,
+        .gives = flags & INROOT_GIVE,
     };
-    return mode & ~(mode_t)MODE_BITS ? inroot_error_alone(EINVAL, "", path) : inroot_run_alone(root, &asked);
+    return mode & ~(mode_t)MODE_BITS ? inroot_error_alone(EINVAL, "", path) : inroot_carry_out_alone(root, &asked);
 }
 
 const char *inroot_version(void)
@@ -81,7 +99,7 @@ ssize_t inroot_readlink(int root, const char *path, int flags, char *text, size_
 {
     char room[INROOT_ROOM];
     const struct inroot_request asked = {.op = INROOT_ASK_READLINK, .flags = flags, .first = path, .second = ""};
-    ssize_t length = inroot_run(root, &asked, room);
+    ssize_t length = inroot_carry_out(root, &asked, room);
     if (length > 0 && size > 0)
         memcpy(text, room, (size_t)length < size ? (size_t)length : size);
     return length;
@@ -97,11 +115,6 @@ int inroot_mkdir(int root, const char *path, mode_t mode, int flags)
     return make(root, INROOT_ASK_MKDIR, path, 0, mode, 0, flags);
 }
 
-int inroot_mkdir_all(int root, const char *path, mode_t mode, int flags)
-{
-    return make(root, INROOT_ASK_MKDIR_ALL, path, 0, mode, 0, flags);
-}
-
 int inroot_mknod(int root, const char *path, mode_t mode, dev_t dev, int flags)
 {
     mode_t kind = mode & S_IFMT;
@@ -113,7 +126,10 @@ int inroot_mknod(int root, const char *path, mode_t mode, dev_t dev, int flags)
 
 int inroot_symlink(int root, const char *text, const char *path, int flags)
 {
-    return on_path(root, INROOT_ASK_SYMLINK, path, text, flags);
+    const struct inroot_request asked = {
+        .op = INROOT_ASK_SYMLINK, .flags = flags & ~INROOT_GIVE, .first = path, .second = text, .gives = flags & INROOT_GIVE,
+    };
+    return inroot_carry_out_alone(root, &asked);
 }
 
 int inroot_unlink(int root, const char *path, int flags)
@@ -128,17 +144,19 @@ int inroot_rmdir(int root, const char *path, int flags)
 
 int inroot_rename(int root, const char *from, const char *to, int mode, int flags)
 {
+    const bool whiteout = mode & INROOT_WHITEOUT;
+    const int known = mode & ~INROOT_WHITEOUT;
     const struct inroot_request asked = {
-        .op = INROOT_ASK_RENAME, .mode = mode, .flags = flags, .first = from, .second = to,
+        .op = INROOT_ASK_RENAME, .mode = known, .flags = flags, .first = from, .second = to, .whiteout = whiteout,
     };
-    if (mode < INROOT_PLAIN || mode > INROOT_EXCHANGE)
+    if (known < INROOT_PLAIN || known > INROOT_EXCHANGE || (whiteout && known == INROOT_EXCHANGE))
         return inroot_error_alone(EINVAL, "", "");
-    return inroot_run_alone(root, &asked);
+    return inroot_carry_out_alone(root, &asked);
 }
 
 ssize_t inroot_remove_all(int root, const char *path, int flags)
 {
     char room[INROOT_ROOM];
     const struct inroot_request asked = {.op = INROOT_ASK_REMOVE_ALL, .flags = flags, .first = path, .second = ""};
-    return inroot_run(root, &asked, room);
+    return inroot_carry_out(root, &asked, room);
 }

@@ -6,7 +6,7 @@
  * comes next and what each answer means; this program makes the steps, which are system calls.
  *
  * ROOT is a descriptor of the directory (O_PATH is enough). Or it is INROOT_JAIL in a thread that inroot_jail() has
- * moved below a root.
+ * moved below a root. Or it is a number of inroot_at_begin(), by which paths begin at a directory below the root.
  *
  * Two witnesses tell where an object stands below the root. The first is a text: that of the object's link in
  * /proc/thread-self/fd (proc(5)), or in a jail, of a directory, what getcwd(2) gives. The second is openat2(2): it
@@ -28,13 +28,32 @@
  *   INROOT_BENEATH     refuses what would lead out of the root (RESOLVE_BENEATH)
  *   INROOT_NO_LINKS    refuses every symbolic link on the way (RESOLVE_NO_SYMLINKS)
  *   INROOT_NO_XDEV     refuses to leave the mount that ROOT is on, by a bind mount as well (RESOLVE_NO_XDEV)
+ *   INROOT_NO_MAGICLINKS refuses the kernel's own links that lead to an object and not along their text, as those in
+ *                      /proc/self/fd (RESOLVE_NO_MAGICLINKS)
  *   INROOT_NO_RETRY    makes one try
  *   INROOT_ONE_BY_ONE  looks up each name by a system call of its own, and not several by one openat2(2), which is
  *                      asked for places alone then
  *   INROOT_NOFOLLOW    of inroot_open() and inroot_stat() alone: a link at the end of PATH is what is meant
- *   INROOT_FOLLOW      of inroot_link() alone: a link at the end of EXISTING is followed (AT_SYMLINK_FOLLOW)
+ *   INROOT_FOLLOW      of inroot_link(): a link at the end of EXISTING is followed (AT_SYMLINK_FOLLOW); of
+ *                      inroot_mkdir_all() and inroot_mkfile_all(): what a link leads to is made where it is missing
+ *   INROOT_GIVE        of the calls that make an entry: what was made is given by a descriptor
+ *   INROOT_DIRECTORY   of inroot_open_parent() alone: PATH may end in a slash
+ *   INROOT_BELOW       of inroot_open(), inroot_openat(), inroot_stat() and EXISTING of inroot_link() alone: the last
+ *                      check of what is found is openat2(2)'s with RESOLVE_BENEATH, and no text is read for it. What
+ *                      is opened was reached by the path's parts at rising moments and stood below the root at that
+ *                      check; at which names is not said
  *
- * INROOT_TRUST_PROC is of inroot_jail_with() alone, which takes no other.
+ * INROOT_BELOW says less than a call without it: somebody may have moved the object between the moment when the path
+ * led to it and the check, to other names below the root. After `..` the names are asked for as without the flag.
+ * Where an entry is made, by O_CREAT, the flag says nothing of the directory in which it is made, which is found as
+ * without. Without openat2(2) it changes nothing. What is removed just while the kernel looks it up may be opened, as
+ * by openat2(2) itself.
+ *
+ * INROOT_TRUST_PROC is of inroot_jail_with() and inroot_root_open(), INROOT_ROOT_STAYS of the latter alone.
+ * INROOT_NOFOLLOW is also of inroot_open_partial().
+ *
+ * Without INROOT_NO_MAGICLINKS such a link is followed along its text, below the root, where openat2(2) with
+ * RESOLVE_IN_ROOT refuses it. Without openat2(2) the flag refuses each link of a proc(5) and of securityfs.
  *
  * Without INROOT_NO_XDEV a path goes on below what is mounted on its way. With it no part of the path may be one on
  * which something is mounted, not the last one either. A call whose names are looked up one by one, for
@@ -47,26 +66,26 @@
  * A call that finds that others moved or removed what it had come to begins again: it makes up to INROOT_TRIES tries,
  * the first eight one after another, and before each other one it waits, 10 microseconds at first and twice as long
  * each time up to a millisecond, so some 20 milliseconds in all. Then it gives EAGAIN. Who renames without end can
- * make it fail so: in the races of docs/HOST-TESTED.md up to four of a hundred calls ended so with one try, and none of
- * twenty million with all.
+ * make it fail so: in the races of docs/HOST-TESTED.md up to four of a hundred calls ended so with one try, and none
+ * of twenty million with all.
  *
  * Every call gives -errno where it fails, and then leaves no descriptor open. In this order:
  *
  *   EINVAL        a flag that is none, or that the call doesn't have; a MODE that is none
- *   EBADF         ROOT is no descriptor; INROOT_JAIL in a thread that wasn't moved
- *   ENOTDIR       ROOT is no directory
+ *   EBADF         ROOT is no descriptor; INROOT_JAIL in a thread that wasn't moved; a number that was ended
+ *   ENOTDIR       ROOT isn't a directory
  *   EOPNOTSUPP    there is no openat2(2), ROOT is a descriptor, and the thread's root directory isn't that of a mount
  *   ENOMEM        no memory for the call, here or at any step
  *   ENOENT        PATH is empty
  *   ENAMETOOLONG  PATH is longer than 4,095 bytes
  *   EINVAL        the last part of PATH is no name where an entry is changed, as `.`, `..` or none
- *   ENOTDIR       a slash at the end of PATH, where what is no directory is made or removed
+ *   ENOTDIR       a slash at the end of PATH, where a non-directory is made or removed
  *   ENAMETOOLONG  the last name is longer than 255 bytes, where an entry is changed
  *   EXDEV         the path leads out of the root, under INROOT_BENEATH; or to another mount, under INROOT_NO_XDEV
  *   ENAMETOOLONG  a name on the way is longer than 255 bytes, or a link's text or an object's own path than 4,095
- *   ENOTDIR       what a part stands in is no directory
+ *   ENOTDIR       what a part stands in isn't a directory
  *   ENOENT        a name on the way isn't there
- *   ELOOP         more than 40 links, or one under INROOT_NO_LINKS
+ *   ELOOP         more than 40 links, or one under INROOT_NO_LINKS, or a magic one under INROOT_NO_MAGICLINKS
  *   ENOSYS        a place is to be asked for by /proc, and there is no proc(5) with thread-self
  *   EAGAIN        something was moved or removed meanwhile, so that what was found isn't known to be inside
  *   EMFILE        no descriptor is left
@@ -76,7 +95,7 @@
  * an entry, on a file system that lets signals interrupt one, where it isn't known then whether the entry was
  * changed; and from one that opens for use, as a FIFO.
  *
- * Without openat2(2) EAGAIN is also what an object gives that is no directory and whose name ends in ` (deleted)`, at
+ * Without openat2(2) EAGAIN is also what a non-directory gives whose name ends in ` (deleted)`, at
  * every try: the kernel writes just this behind the path of what is removed.
  *
  * A link on a mount with nosymfollow (mount(8)) isn't followed: ELOOP. The protection of fs.protected_symlinks
@@ -94,6 +113,7 @@
 #include <stddef.h>
 #include <sys/stat.h>
 #include <sys/types.h>
+#include <time.h>
 
 #ifdef __cplusplus
 extern "C" {
@@ -120,6 +140,11 @@ enum {
     INROOT_ONE_BY_ONE = 32,
     INROOT_TRUST_PROC = 64,
     INROOT_NO_XDEV = 128,
+    INROOT_GIVE = 256,
+    INROOT_NO_MAGICLINKS = 512,
+    INROOT_DIRECTORY = 1024,
+    INROOT_BELOW = 4096,
+    INROOT_ROOT_STAYS = 8192,
 };
 
 /* How often a call is tried, where others are in its way. */
@@ -128,8 +153,11 @@ enum { INROOT_TRIES = 32 };
 /* In place of ROOT: the directory below which inroot_jail() has moved this thread. */
 #define INROOT_JAIL (-2)
 
-/* How inroot_rename() treats an entry that is there already (renameat2(2)). */
-enum { INROOT_PLAIN = 0, INROOT_NOREPLACE = 1, INROOT_EXCHANGE = 2 };
+/*
+ * How inroot_rename() treats an entry that is there already (renameat2(2)); and that it leaves a whiteout behind, by
+ * itself or with INROOT_NOREPLACE.
+ */
+enum { INROOT_PLAIN = 0, INROOT_NOREPLACE = 1, INROOT_EXCHANGE = 2, INROOT_WHITEOUT = 4 };
 
 /*
  * PROC is a descriptor of the topmost directory of a proc(5): the calls ask that one in place of /proc. The call may
@@ -142,10 +170,23 @@ enum { INROOT_PLAIN = 0, INROOT_NOREPLACE = 1, INROOT_EXCHANGE = 2 };
 int inroot_use_proc(int proc);
 
 /*
+ * The same by a proc(5) of the library's own, which is mounted nowhere, so that nobody can mount over what is below
+ * it: a new one (fsopen(2), Linux 5.2), or the one at /proc without what is mounted below it (open_tree(2)). For a
+ * program whose /proc may be covered, as in a container's mount namespace. It shows the processes of the thread's pid
+ * namespace.
+ *
+ * Gives 0; -EBUSY where there is one already; -EPERM without CAP_SYS_ADMIN, or where the kernel gives no new one
+ * since the /proc that is there is covered in part, and allows no copy of that; -ENOSYS before Linux 5.2, or where
+ * neither is a proc(5) with thread-self; -EMFILE, -ENOMEM, and what fsopen(2) and fsmount(2) have beside it. After an
+ * error the call may be made again.
+ */
+int inroot_use_private_proc(void);
+
+/*
  * Gives the calling thread a root directory, a current directory and a umask of its own (unshare(2), CLONE_FS) and
  * changes the first two to ROOT (chroot(2)), so that its calls may be given INROOT_JAIL. Other threads keep theirs. A
  * thread that was moved can't be moved back. Its current directory is that root after each call. Needs
- * CAP_SYS_CHROOT, which unshare(2) with CLONE_NEWUSER gives, and a /proc to ask for what is no directory.
+ * CAP_SYS_CHROOT, which unshare(2) with CLONE_NEWUSER gives, and a /proc to ask for a non-directory.
  *
  * Leave alone in such a thread, and in each that it makes: the root directory, by chroot(2), pivot_root(2) or
  * setns(2). A thread that it makes shares that with it, and isn't a moved one: it gives a descriptor as ROOT.
@@ -159,7 +200,7 @@ int inroot_jail(int root);
 
 /*
  * The same, by FLAGS: 0, or INROOT_TRUST_PROC. By this one the thread keeps two descriptors open, of its
- * /proc/thread-self/fd and of the root. Its calls read the link of what is no directory in the first, and look names
+ * /proc/thread-self/fd and of the root. Its calls read the link of a non-directory in the first, and look names
  * up from the second, without looking first whether they are still these. This saves two system calls, and a longer
  * path. The program promises in return that it
  *
@@ -183,11 +224,29 @@ void inroot_jail_done(void);
 
 /*
  * A root for as long as a program needs one: it holds a descriptor of DIRECTORY, and has seen that there is a /proc,
- * which is open from here on. FLAGS are 0. inroot_root_fd() gives the descriptor, which each call takes as ROOT, in
- * any thread that has the table of descriptors in which it was opened. It is the root's own: leave it open.
+ * which is open from here on. inroot_root_fd() gives the descriptor, which each call takes as ROOT, in any thread
+ * that has the table of descriptors in which it was opened. It is the root's own: leave it open. FLAGS are 0 or any
+ * of these:
+ *
+ *   INROOT_ROOT_STAYS  the root's path is read once, here, and not by each call. The program promises that until the
+ *                      root is closed nobody renames the root or a directory above it, and that calls on it are made
+ *                      in threads with the root directory and the mount namespace of this one
+ *   INROOT_TRUST_PROC  with INROOT_ROOT_STAYS alone: /proc/self/fd is kept open as well, and links are read in it
+ *                      without looking first whether it is still that directory. The program promises that the calls
+ *                      are made in threads that share the descriptors of its first thread; that it closes no
+ *                      descriptor that it didn't open, and puts no other in the place of one; and that it makes no
+ *                      calls in a child of vfork(2), or of clone(2) with CLONE_VM or CLONE_FILES
+ *   INROOT_BELOW       each call on this root that has this flag is made with it
+ *
+ * Where a promise is broken, what is opened has still been seen below the root by the kernel itself, which the other
+ * witness sees to. But its names, all at one moment, may not have been those of the path; and a call may begin again
+ * for nothing, and give EAGAIN. A child of fork(2) needs no promise: its calls go on as without the first two flags.
+ * So do they where the kernel has no MADV_WIPEONFORK (madvise(2)), where there is no openat2(2), and of more than
+ * some 256 such roots at a time.
  *
  * inroot_root_open() walks DIRECTORY as open(2) does, links and all, so it is to be a path that nobody else can
- * change. It gives 0 and the root; -EINVAL of a flag, -ENOMEM, what open(2) has with O_PATH and O_DIRECTORY, -ENOSYS
+ * change. It gives 0 and the root; -EINVAL of another flag, or of INROOT_TRUST_PROC without
+ * INROOT_ROOT_STAYS; -ENOMEM, -EMFILE, what open(2) has with O_PATH and O_DIRECTORY, -ENOSYS
  * where there is no proc(5). Then *ROOT is NULL. inroot_root_close() closes it, where it isn't NULL, after all calls
  * that were given its descriptor.
  */
@@ -197,19 +256,42 @@ int inroot_root_fd(const struct inroot_root *root);
 void inroot_root_close(struct inroot_root *root);
 
 /*
+ * Gives a number that calls take in place of ROOT, so that their paths begin at the directory DIR below ROOT. ROOT stays
+ * the root: `..` and absolute links stop there, and a path that begins with a slash begins there. DIR is a descriptor of
+ * a directory that was found below ROOT (O_PATH is enough); both stay open until inroot_at_end(). Any thread with the
+ * same table of descriptors may use the number. ROOT may be INROOT_JAIL, or such a number: then it is that one's root.
+ *
+ * Each call asks anew where DIR stands, by both witnesses, and then walks from the root by these names, whose last one is
+ * DIR itself, and by its path. So it begins at DIR, wherever that was moved to below the root. Where DIR was removed it
+ * gives ENOENT, and where it stands outside EAGAIN at each try. The names and the path together have at most 4,095
+ * bytes: ENAMETOOLONG beyond. These errors come behind those of ROOT. Such a call takes memory.
+ *
+ * Gives 0, and the number, which is below -4,095; -EBADF or -ENOTDIR where ROOT or DIR is no descriptor of a directory,
+ * ROOT's first; -EMFILE where a program has INROOT_ATS numbers. Then *AT is -1. inroot_at_end() gives a number back,
+ * after all calls that were given it: 0, or -EBADF where it is none. It closes neither ROOT nor DIR.
+ */
+enum { INROOT_ATS = 1024 };
+int inroot_at_begin(int root, int dir, int *at);
+int inroot_at_end(int at);
+
+/*
  * Why the thread's last call failed. STEP is the last step that it made, by its name in docs/HOST.md, or empty where
- * it failed before the first; to its steps come `Reopen`, which opens for use, and `Stat`. NAME is the name that the
- * step was about, or empty. REST is what was left of PATH then, where links were replaced by their texts: it begins
- * with NAME where that could not be opened or made. Of a rename, and of a tree that is removed, it is empty. The
- * texts end with a NUL, and are cut off where they don't fit. A later version may tell more in what is reserved here,
- * which is zero: the structure doesn't get larger while the library's soname stays.
+ * it failed before the first; to its steps come `Reopen`, which opens for use, `Stat`, `Attribute`, which changes what
+ * was found, and `Give`, which opens what was made. NAME is the name that the step was about, or empty. REST is what
+ * was left of PATH then, where links were replaced by their texts: it begins with NAME where that could not be opened
+ * or made. AT is where the walk had come to: the names below the root that it went by, with a slash before each, or a
+ * slash of the root itself. Others may have moved these since. It is empty where no step was made, or the names are
+ * longer than 4,095 bytes. Of a rename, and of a tree that is removed, both are empty. The texts end with a NUL, and are
+ * cut off where they don't fit. A later version may tell more in what is reserved here, which is zero: the structure
+ * doesn't get larger while the library's soname stays.
  */
 struct inroot_error {
     int error;          /* its number, as ENOENT */
     const char *step;   /* stays as long as the program */
     char name[256];
     char rest[4096];
-    unsigned long long reserved[16];
+    const char *at;     /* stays until the thread's next call */
+    unsigned long long reserved[15];
 };
 
 /*
@@ -225,9 +307,38 @@ int inroot_last_error(struct inroot_error *error);
 int inroot_open(int root, const char *path, int flags);
 
 /*
+ * Opens the directory in which the entry of PATH stands or is to be made, as the calls that change an entry walk to it, and
+ * tells the entry's name, of at most 255 bytes and a NUL. For system calls that the library doesn't make: give them this
+ * descriptor and this name, and see to it that they follow no link there. Gives a descriptor as inroot_open() does. A
+ * slash at the end of PATH is refused by ENOTDIR, or under INROOT_DIRECTORY taken away. After an error the name is empty.
+ */
+int inroot_open_parent(int root, const char *path, int flags, char last[256]);
+
+/*
+ * Opens as much of PATH as is there. Where all of it is there, gives what inroot_open() gives, and REST is empty. Else it
+ * gives the directory that the longest beginning of PATH means that leads to one, and writes what is left to REST, with a
+ * NUL: the first name of that isn't there, or stands for no directory where one is asked for, or is a link that leads to
+ * what is missing. A part of PATH is tried by ENOENT and ENOTDIR alone; every other error is the call's. ERANGE where
+ * REST doesn't fit into SIZE bytes, behind all others. Several walks may be made, so what the descriptor is of and what
+ * is left were seen at moments of the call, one after another.
+ */
+int inroot_open_partial(int root, const char *path, int flags, char *rest, size_t size);
+
+/*
+ * Tells where what FD is open on stands below ROOT, by both witnesses: the names, with a slash before each and a NUL at
+ * the end, or a slash of the root itself. Gives the text's length in bytes. It stood there at a moment of the call.
+ *
+ * EBADF where FD is none comes behind the first of every call that are about ROOT; ENOENT where it was removed; EXDEV
+ * where it doesn't stand below ROOT at any of eight questions; ERANGE where the text and its NUL don't fit into SIZE
+ * bytes. After an error nothing is written. Of an object with several names it is the one by which FD was opened.
+ */
+ssize_t inroot_place(int root, int fd, char *path, size_t size);
+
+/*
  * Opens what PATH means to be used, by OPEN_FLAGS as open(2) has them: O_RDONLY, O_WRONLY or O_RDWR, and O_CREAT,
  * O_EXCL, O_TRUNC, O_APPEND, O_DIRECTORY, O_NOFOLLOW, O_TMPFILE, O_NONBLOCK, O_SYNC, O_DSYNC, O_DIRECT, O_NOATIME,
- * O_LARGEFILE, O_NOCTTY, O_CLOEXEC. The last two are always set. Or O_PATH, with O_DIRECTORY and O_NOFOLLOW alone.
+ * O_LARGEFILE, O_NOCTTY, O_CLOEXEC. The last two are always set. Or O_PATH, with O_DIRECTORY, O_NOFOLLOW, O_CREAT and
+ * O_EXCL alone: with O_CREAT a file that is missing is made, and given as by INROOT_GIVE.
  * MODE counts with O_CREAT and O_TMPFILE, and is 0 without. Gives a descriptor.
  *
  * What is there already is found as inroot_open() does, and then opened by the descriptor that was found and never by
@@ -239,7 +350,7 @@ int inroot_open(int root, const char *path, int flags);
  * EINVAL of other flags, of O_CREAT with O_DIRECTORY or O_TMPFILE, of O_EXCL without O_CREAT or O_TMPFILE, of
  * O_TMPFILE without writing, of a MODE without both; and then, behind the errors of every call: EEXIST under O_CREAT
  * with O_EXCL where there is such an entry, a link too; EISDIR of a directory that is opened for writing or by
- * O_CREAT; ELOOP of a link under O_NOFOLLOW without O_PATH; ENOTDIR of what is no directory under O_DIRECTORY; ENXIO
+ * O_CREAT; ELOOP of a link under O_NOFOLLOW without O_PATH; ENOTDIR of a non-directory under O_DIRECTORY; ENXIO
  * of a socket; ENOSYS where there is no proc(5) to open by; EAGAIN under O_CREAT where others make and remove the
  * entry at each try; and what open(2) has beside it.
  *
@@ -276,6 +387,93 @@ int inroot_stat(int root, const char *path, struct stat *about, int flags);
  * as fits into SIZE bytes, without a NUL. EINVAL where it is no link.
  */
 ssize_t inroot_readlink(int root, const char *path, int flags, char *text, size_t size);
+
+/*
+ * The entries below the directory that PATH means, one after another: those of a directory before the next one beside
+ * it, a directory before what is in it, and else in no order. LEVELS says how deep: 1 gives the entries of PATH alone,
+ * and 0 all. It takes one descriptor for each level and less than 10 kilobytes, and reads a directory in pieces.
+ *
+ * inroot_walk_open() gives 0 and the walk; or -errno, and *WALK is NULL: EINVAL where LEVELS is negative, what
+ * inroot_open() gives with FLAGS, of which INROOT_NOFOLLOW is of PATH alone, ENOTDIR where it is no directory, EACCES
+ * where it may not be read. ROOT stays open until the walk is closed; and with INROOT_JAIL the same thread goes on.
+ *
+ * inroot_walk_next() gives 1 and an ENTRY; 0 behind the last; or -errno where the rest of a directory's entries isn't
+ * given, whose PATH is in ENTRY then, and the next turn goes on behind it: EAGAIN where it was moved meanwhile, and
+ * what getdents64(2) has. What is in ENTRY stays until the next turn. inroot_walk_skip() has the walk leave out what
+ * is below the directory that was given last. inroot_walk_close() ends it, where it isn't NULL.
+ *
+ * What it promises, whoever renames meanwhile: no link below PATH is followed. Each directory that it goes into was
+ * opened by its name in the directory that has it, and stood below the root then, at that PATH: a walk of its own
+ * came to the same one. Where it didn't, by as many tries as any call makes, ERROR is EAGAIN, and the walk doesn't go
+ * into it. It isn't promised that an entry is there still, that each one is given that was made, removed or moved
+ * meanwhile, or that none comes twice; nor that a directory that was gone into isn't moved out of the root while its
+ * own entries are read. Who makes entries without end can keep a walk from ending.
+ *
+ * An entry is opened by inroot_open(ENTRY.directory, ENTRY.name, INROOT_NOFOLLOW), below the directory that has it.
+ */
+struct inroot_walk;
+struct inroot_walk_entry {
+    const char *path;   /* its names from PATH on, a slash between each two; without one where it is PATH itself */
+    const char *name;   /* the last of them */
+    int directory;      /* the directory that has it, open for reading: the walk's own */
+    int opened;         /* the directory itself where the walk goes into it, likewise; else -1 */
+    mode_t kind;        /* S_IFREG, S_IFDIR, S_IFLNK and so on, as it was read */
+    int depth;          /* 1 where PATH has it */
+    int error;          /* why a directory isn't gone into, as EACCES; else 0 */
+    int reserved[9];    /* zero; a later version may tell more there */
+};
+int inroot_walk_open(int root, const char *path, int levels, int flags, struct inroot_walk **walk);
+int inroot_walk_next(struct inroot_walk *walk, struct inroot_walk_entry *entry);
+void inroot_walk_skip(struct inroot_walk *walk);
+void inroot_walk_close(struct inroot_walk *walk);
+
+/*
+ * Change the mode, the owner and the times of what FD is open on, wherever that is: what inroot_open() found, under
+ * INROOT_NOFOLLOW a link as well, a device, a FIFO or a socket, none of which is opened for it. No path is walked, so
+ * what changes is what was found. Each gives 0. They ask the /proc of the program, also in a jail.
+ *
+ * MODE is bits of 07777 as chmod(2) has them. A USER or a GROUP of all ones stays (chown(2)). TIMES are those of the
+ * last access and of the last change of the contents, as utimensat(2) has them, with UTIME_NOW and UTIME_OMIT; NULL
+ * is the present time for both.
+ *
+ * EINVAL of a MODE that is none, and of nanoseconds that are none; EBADF where FD is none; EOPNOTSUPP of a link's mode;
+ * ENOSYS where there is no proc(5) to go by, for the mode, and for the times before Linux 5.8; EMFILE; EPERM, EROFS
+ * and what chmod(2), chown(2) and utimensat(2) have beside it. The kernel takes the bits for set-user-ID and
+ * set-group-ID off where the owner changes: set the owner first.
+ */
+int inroot_fchmod(int fd, mode_t mode);
+int inroot_fchown(int fd, uid_t user, gid_t group);
+int inroot_futimens(int fd, const struct timespec times[2]);
+
+/*
+ * The extended attributes of what FD is open on (xattr(7)), in the same way; of a link it is the link that has them.
+ * inroot_fsetxattr() sets one, by FLAGS of setxattr(2): 0, XATTR_CREATE or XATTR_REPLACE. inroot_fgetxattr() gives
+ * the length of a value, and inroot_flistxattr() that of all names together, a NUL behind each; each writes it where
+ * it fits into SIZE bytes, and with a SIZE of 0 it tells the length alone. inroot_fsetxattr() and
+ * inroot_fremovexattr() give 0.
+ *
+ * EINVAL of other FLAGS; E2BIG of a value of more than 65,536 bytes; EBADF where FD is none; ENOSYS where there is no
+ * proc(5) to go by, and before Linux 6.13 where the one that inroot_use_proc() handed in isn't what stands at /proc,
+ * unless in a jail; EMFILE; ENODATA where there is no such attribute, ERANGE where it doesn't fit, ERANGE of a name
+ * that is longer than 255 bytes or empty, EEXIST and ENODATA as the FLAGS have them, EOPNOTSUPP where the file system
+ * has none, EPERM of `user.` attributes of what is neither a regular file nor a directory, and what setxattr(2) has
+ * beside it.
+ */
+int inroot_fsetxattr(int fd, const char *name, const void *value, size_t size, int flags);
+ssize_t inroot_fgetxattr(int fd, const char *name, void *value, size_t size);
+ssize_t inroot_flistxattr(int fd, char *names, size_t size);
+int inroot_fremovexattr(int fd, const char *name);
+
+/*
+ * The calls that make an entry, from here to inroot_link_fd(), give 0. Under INROOT_GIVE they give a descriptor of what
+ * they made (O_PATH and O_CLOEXEC), for its owner, mode, times and attributes. They open it by its name, in the
+ * directory in which they made it and through no link, and look at it. A file, or what got a second name, is just the
+ * one that was made; a link has the text, a device its number, and all have the kind. Who may rename in that directory
+ * may have put another directory, FIFO, socket, link or device of just that kind there meanwhile: this is given then, and
+ * is one that stood there. Else, where the entry was moved, removed or replaced, the call gives EAGAIN and isn't tried
+ * again: the entry was made. So it was where EMFILE, ENFILE or ENOMEM come from this opening, or EACCES. The step of
+ * such an error is `Give`.
+ */
 
 /*
  * Makes an empty file (mknodat(2)). Gives 0. EEXIST where there is such an entry, a link too, and what mknodat(2) has
@@ -321,7 +519,7 @@ int inroot_link(int root, const char *existing, const char *path, int flags);
  */
 int inroot_link_fd(int root, int fd, const char *path, int flags);
 
-/* Removes what is no directory (unlinkat(2)). Gives 0. ENOENT where there is no such entry, EISDIR of a directory. */
+/* Removes a non-directory (unlinkat(2)). Gives 0. ENOENT where there is no such entry, EISDIR of a directory. */
 int inroot_unlink(int root, const char *path, int flags);
 
 /* Removes an empty directory (unlinkat(2), AT_REMOVEDIR). Gives 0. ENOENT, ENOTDIR; ENOTEMPTY where it has entries. */
@@ -330,24 +528,45 @@ int inroot_rmdir(int root, const char *path, int flags);
 /*
  * Renames the entry FROM to TO by MODE (renameat2(2)). A slash at the end of either demands a directory. Gives 0, or
  * the errors of renameat2(2); EINVAL of another MODE.
+ *
+ * With INROOT_WHITEOUT the kernel puts a node of the character device 0 in FROM's place in the same moment, which
+ * overlayfs takes for an entry that is removed (RENAME_WHITEOUT). EINVAL comes where the file system has none, too,
+ * and EPERM before Linux 5.8 without CAP_MKNOD. The proved library asks for a plain rename then and knows nothing of
+ * that node: it counts as what somebody else makes there right afterwards.
  */
 int inroot_rename(int root, const char *from, const char *to, int mode, int flags);
 
 /*
  * Makes all directories of PATH that are missing (mkdirat(2)), each of MODE, none of them through a link, and opens
  * the last. A directory that is there already keeps its mode. Gives a descriptor (O_PATH and O_CLOEXEC). ENOTDIR
- * where what stands there is no directory, ENOENT for `..` after a missing name and for a link whose text leads to
+ * where what stands there isn't a directory, ENOENT for `..` after a missing name and for a link whose text leads to
  * what is missing, and what mkdirat(2) has beside it. What was made before an error stays.
+ *
+ * Under INROOT_FOLLOW a link whose text leads to what is missing is gone along, and that is made, below the root: the
+ * link is read and its text walked from the directory in which it was found, for at most 40 such links (ELOOP). Several
+ * walks are made then. EAGAIN where others are in their way at each try.
  */
 int inroot_mkdir_all(int root, const char *path, mode_t mode, int flags);
+
+/*
+ * Opens what is there at PATH, unless that is a directory, or makes an empty file of MODE, and all directories above it
+ * that are missing, each of mode ABOVE. Gives a descriptor (O_PATH and O_CLOEXEC) of what was there or was made. A link
+ * is followed where that leads to something. One that leads to what is missing is ENOENT, or under INROOT_FOLLOW gone
+ * along as by inroot_mkdir_all(), so that its target is made, below the root.
+ *
+ * EISDIR of a directory; then the errors of inroot_mkdir_all() for what is above, and of inroot_mkfile() with
+ * INROOT_GIVE. EAGAIN where others make and remove the file at each try. What was made before an error stays.
+ */
+int inroot_mkfile_all(int root, const char *path, mode_t mode, mode_t above, int flags);
 
 /*
  * Removes the entry of PATH with all that is below it (unlinkat(2)); of a link the link alone. Gives how many entries
  * it removed, 0 where there was none. What was removed before an error stays removed.
  *
- * It goes to any depth, holds some 40 descriptors at most, fewer where fewer are left, and less than 64 megabytes. It
- * goes on as long as it removes something: who makes entries without end can keep it from ending. A directory that is
- * moved meanwhile, while the call is below it, counts as a try, and these are counted from the last removal on.
+ * It goes to any depth, holds some 40 descriptors at most, in a tree of more than 1,022 levels 16 more, fewer where
+ * fewer are left, and less than 64 megabytes. It goes on as long as it removes something: who makes entries without end
+ * can keep it from ending. A directory that is moved meanwhile, while the call is below it, counts as a try, and these
+ * are counted from the last removal on.
  *
  * What is mounted on a directory of the tree is emptied as well, before the directory itself is refused by EBUSY.
  * Under INROOT_NO_XDEV nothing that is mounted there is touched: EXDEV as soon as the call comes to such a directory.

@@ -15,13 +15,14 @@ static int link_object(int root, int fd, const char *path, int flags)
     char text[INROOT_TEXT_MAX + 1] = "";
     struct inroot_request asked = {
         .op = INROOT_ASK_MKFILE,
-        .flags = flags,
+        .flags = flags & ~INROOT_GIVE,
         .first = path,
         .second = text,
         .makes = INROOT_MAKES_LINKED,
+        .gives = flags & INROOT_GIVE,
         .object = fd,
     };
-    int failed = inroot_check(root, flags);
+    int failed = inroot_check(root, asked.flags);
     if (failed)
         return inroot_error_alone(-failed, "", path);
     if (fstat(fd, &about) != 0)
@@ -33,7 +34,7 @@ static int link_object(int root, int fd, const char *path, int flags)
         text[length] = 0;
         asked.op = INROOT_ASK_SYMLINK;
     }
-    return inroot_run_alone(root, &asked);
+    return inroot_carry_out_alone(root, &asked);
 }
 
 int inroot_link_fd(int root, int fd, const char *path, int flags)
@@ -52,17 +53,17 @@ int inroot_link(int root, const char *existing, const char *path, int flags)
     bool follows = flags & INROOT_FOLLOW;
     const struct inroot_request asked = {
         .op = follows ? INROOT_ASK_RESOLVE : INROOT_ASK_RESOLVE_NOFOLLOW,
-        .flags = flags & ~INROOT_FOLLOW,
+        .flags = flags & ~(INROOT_FOLLOW | INROOT_GIVE),
         .first = existing,
         .second = "",
     };
     /* Of both paths the text as the call began counts. */
     inroot_copy(text, path);
     pthread_setcancelstate(PTHREAD_CANCEL_DISABLE, &state);
-    int fd = inroot_run_alone(root, &asked);
+    int fd = inroot_carry_out_alone(root, &asked);
     int result = fd;
     if (fd >= 0) {
-        result = link_object(root, fd, text, asked.flags);
+        result = link_object(root, fd, text, flags & ~(INROOT_FOLLOW | INROOT_BELOW));
         close(fd);
     }
     pthread_setcancelstate(state, NULL);

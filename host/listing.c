@@ -136,7 +136,7 @@ struct inroot_result inroot_list(struct inroot_driver *d, uint64_t handle)
     int error = inroot_handles_fd(d, handle, &fd);
     int dir = error ? -error : open_to_read(d, handle, fd);
     if (dir < 0)
-        return inroot_refused(d, -dir);
+        return inroot_unmade(d, -dir);
     struct part part = {.size = size_of_part(d)};
     part.text = malloc(part.size);
     error = part.text == NULL ? -ENOMEM : read_names(dir, &part);
@@ -145,7 +145,7 @@ struct inroot_result inroot_list(struct inroot_driver *d, uint64_t handle)
         error = keep_sorted(d, &part);
     free(part.text);
     if (error)
-        return inroot_refused(d, -error);
+        return inroot_unmade(d, -error);
     inroot_handles_slot(d, handle)->listed = (uint32_t)part.used;
     d->listed += part.used;
     return (struct inroot_result){.what = INROOT_ANSWER_LISTED};

@@ -24,35 +24,49 @@ static struct inroot_result names(void)
 /* Which object it is, while it is open; by which mount, where the kernel tells that; and how many names it has. */
 struct which {
     uint64_t device, inode, mount, links;
+    mode_t mode;
 };
 
-/* Nothing is asked of a server. A filter may refuse statx(2). */
-static bool find_which(int fd, struct which *which)
+/* Of what is open, or has a name in that directory. Nothing is asked of a server. A filter may refuse statx(2). */
+static bool find_which(int fd, const char *name, struct which *which)
 {
+    const int how = AT_EMPTY_PATH | AT_SYMLINK_NOFOLLOW | AT_NO_AUTOMOUNT;
     struct stat about;
 #ifdef STATX_MNT_ID
     struct statx more;
-    if (statx(fd, "", AT_EMPTY_PATH | AT_STATX_DONT_SYNC, STATX_INO | STATX_NLINK | STATX_MNT_ID, &more) == 0) {
+    if (statx(fd, name, how | AT_STATX_DONT_SYNC, STATX_TYPE | STATX_INO | STATX_NLINK | STATX_MNT_ID, &more) == 0) {
         *which = (struct which){
             .device = (uint64_t)more.stx_dev_major << 32 | more.stx_dev_minor,
             .inode = more.stx_ino,
             .mount = more.stx_mnt_id,
             .links = more.stx_nlink,
+            .mode = more.stx_mode,
         };
         return true;
     }
 #endif
-    if (fstat(fd, &about) != 0)
+    if (name[0] == 0 ? fstat(fd, &about) != 0 : fstatat(fd, name, &about, how) != 0)
         return false;
-    *which = (struct which){.device = about.st_dev, .inode = about.st_ino, .links = about.st_nlink};
+    *which = (struct which){
+        .device = about.st_dev, .inode = about.st_ino, .links = about.st_nlink, .mode = about.st_mode,
+    };
     return true;
+}
+
+bool inroot_is_entry(int dir, const char *name, int fd, enum inroot_kind *kind)
+{
+    struct which a, b;
+    if (!find_which(fd, "", &a) || !find_which(dir, name, &b))
+        return false;
+    *kind = S_ISDIR(a.mode) ? INROOT_KIND_DIR : S_ISLNK(a.mode) ? INROOT_KIND_LINK : INROOT_KIND_FILE;
+    return a.device == b.device && a.inode == b.inode && a.mount == b.mount;
 }
 
 /* Where the root was mounted over itself since it was opened, `..` leads to it by that mount. */
 static bool is_same(int fd, int other, bool is_root, uint64_t *links)
 {
     struct which a, b;
-    if (!find_which(fd, &a) || !find_which(other, &b))
+    if (!find_which(fd, "", &a) || !find_which(other, "", &b))
         return false;
     *links = b.links;
     return a.device == b.device && a.inode == b.inode && (is_root || a.mount == b.mount);
@@ -82,6 +96,21 @@ static int agrees(struct inroot_driver *d, int root, struct inroot_slot *slot, c
     if (same && is_root)
         slot->way = INROOT_BY_ROOT;
     return same;
+}
+
+bool inroot_look_first(struct inroot_driver *d, int root, struct inroot_slot *slot, const char *text)
+{
+    uint64_t links;
+    int found = inroot_look_up(d, root, text + 1, O_NOFOLLOW, RESOLVE_BENEATH);
+    if (found < 0)
+        return false;
+    bool same = is_same(slot->fd, found, false, &links);
+    close(same ? slot->fd : found);
+    if (!same)
+        return false;
+    slot->fd = found;
+    slot->way = INROOT_SEEN_BELOW;
+    return true;
 }
 
 /* ---- the first witness: links in /proc */
@@ -117,14 +146,20 @@ static ssize_t link_of(int proc, int fd, char *text)
     return read_link(proc, inroot_proc_name(fd, written), text);
 }
 
+/* By a directory of this thread's descriptors. */
+static ssize_t link_in(int table, int fd, char *text)
+{
+    char written[INROOT_PROC_NAME];
+    return read_link(table, inroot_proc_name(fd, written) + sizeof INROOT_PROC_TABLE - 1, text);
+}
+
 /* By the table that this thread keeps open, or -1. One that doesn't have the link was closed, and is forgotten. */
 static ssize_t link_in_table(int fd, char *text)
 {
-    char written[INROOT_PROC_NAME];
     int table = inroot_trust_table();
     if (table < 0)
         return -1;
-    ssize_t length = read_link(table, inroot_proc_name(fd, written) + sizeof INROOT_PROC_TABLE - 1, text);
+    ssize_t length = link_in(table, fd, text);
     if (length < 0 && errno != ENAMETOOLONG)
         inroot_trust_end();
     return length;
@@ -178,6 +213,37 @@ static ssize_t path_by_links(struct inroot_driver *d, int root, int fd, char *te
     return (ssize_t)cut_root(text, (size_t)path, (size_t)before);
 }
 
+/* Whether a path begins with that of a directory, and goes on below it. */
+static bool is_within(const char *text, const char *above, size_t length)
+{
+    return length == 1 || (memcmp(text, above, length) == 0 && (text[length] == '/' || text[length] == 0));
+}
+
+/*
+ * The same by what is kept of a root that stays (INROOT_ROOT_STAYS): 0 where that tells nothing, since the program has broken its
+ * promise, or the object is elsewhere. Then the links are asked.
+ */
+static ssize_t path_by_kept(struct inroot_driver *d, int root, int fd, char *text)
+{
+    const struct inroot_kept_root *kept = inroot_root_kept(root);
+    if (kept == NULL || kept->length == 0 || !inroot_has_openat2())
+        return 0;
+    ssize_t length = kept->table >= 0 ? link_in(kept->table, fd, text) : -1;
+    if (length < 0) {
+        int proc = inroot_proc_for(d);
+        length = proc < 0 ? -1 : link_of(proc, fd, text);
+    }
+    if (length < (ssize_t)kept->length || !is_within(text, kept->path, kept->length))
+        return 0;
+    return (ssize_t)cut_root(text, (size_t)length, kept->length);
+}
+
+static ssize_t path_below(struct inroot_driver *d, int root, int fd, char *text)
+{
+    ssize_t length = path_by_kept(d, root, fd, text);
+    return length > 0 ? length : path_by_links(d, root, fd, text);
+}
+
 /* In a thread whose root it is: the link's path of what is inside begins there. That of what is outside begins at the top. */
 static ssize_t path_of(struct inroot_driver *d, int fd, char *text)
 {
@@ -225,7 +291,7 @@ static int is_confirmed(struct inroot_driver *d, int root, struct inroot_slot *s
 {
     if (!inroot_has_openat2())
         return holds_alone(slot, text, length);
-    if (slot->way == INROOT_BELOW)
+    if (slot->way == INROOT_SEEN_BELOW)
         return 1;
     uint64_t links = 0;
     int agreed = agrees(d, root, slot, text, &links);
@@ -235,7 +301,7 @@ static int is_confirmed(struct inroot_driver *d, int root, struct inroot_slot *s
 /* The path below the root by both witnesses, where /proc is the first: 0 where it has none, or -1 with errno. */
 static ssize_t confirmed_path(struct inroot_driver *d, int root, struct inroot_slot *slot, char *text)
 {
-    ssize_t told = root == INROOT_JAILED ? path_of(d, slot->fd, text) : path_by_links(d, root, slot->fd, text);
+    ssize_t told = root == INROOT_JAILED ? path_of(d, slot->fd, text) : path_below(d, root, slot->fd, text);
     if (told < 0)
         return -1;
     if (told == 0 || text[0] != '/')
@@ -251,8 +317,9 @@ static struct inroot_result by_text(struct inroot_driver *d, int root, struct in
     /* A filter has refused the look-up just now: without it other questions are asked. */
     if (told < 0 && has_second && !inroot_has_openat2())
         told = confirmed_path(d, root, slot, text);
-    if (told < 0)
-        return inroot_refused(d, errno);
+    /* Where the witnesses don't agree, neither says that it stood elsewhere at one moment: so the step isn't made. */
+    if (told <= 0)
+        return inroot_unmade(d, told < 0 ? errno : EAGAIN);
     *length = (size_t)told;
     return names();
 }
@@ -271,12 +338,12 @@ static struct inroot_result by_directory(struct inroot_driver *d, struct inroot_
         /* A directory that may not be searched can be where a path ends, and leads nowhere. */
         if (errno == EACCES && slot->way != INROOT_BY_PARENT)
             return by_text(d, INROOT_JAILED, slot, text, length);
-        return inroot_refused(d, errno);
+        return inroot_unmade(d, errno);
     }
     long got = syscall(SYS_getcwd, text, (size_t)INROOT_TEXT_MAX);
     if (got < 0)
-        return errno == ENOENT ? names() : inroot_refused(d, errno);
-    if (slot->way != INROOT_BELOW && syscall(SYS_getcwd, none, sizeof none) < 0 && errno == ENOENT)
+        return errno == ENOENT ? names() : inroot_unmade(d, errno);
+    if (slot->way != INROOT_SEEN_BELOW && syscall(SYS_getcwd, none, sizeof none) < 0 && errno == ENOENT)
         return names();
     *length = (size_t)got - 1;
     if (*length == 1)
@@ -286,15 +353,36 @@ static struct inroot_result by_directory(struct inroot_driver *d, struct inroot_
 
 /* ---- */
 
-struct inroot_result inroot_place(struct inroot_driver *d, int root, struct inroot_slot *slot, char *text, size_t *length)
+struct inroot_result inroot_find_place(struct inroot_driver *d, int root, struct inroot_slot *slot, char *text,
+                                       size_t *length)
 {
     *length = 0;
     struct inroot_result result = root == INROOT_JAILED && slot->kind == INROOT_KIND_DIR
                                       ? by_directory(d, slot, text, length)
                                       : by_text(d, root, slot, text, length);
-    if (slot->way == INROOT_BELOW)
+    if (slot->way == INROOT_SEEN_BELOW)
         slot->way = INROOT_BY_NAME;
     return result;
+}
+
+/*
+ * Where the names are known that the walk passed to what it has opened by a name, the look-up comes first, and the text after it
+ * says whether the object is gone. Under INROOT_BELOW that look-up is all, and these names are told. So it is at a walk's end
+ * alone: after `..` the object was opened by no name.
+ */
+static bool is_seen_below(struct inroot_driver *d, int root, uint64_t handle, char *text, size_t *length)
+{
+    struct inroot_slot *slot = inroot_handles_slot(d, handle);
+    const char *passed = inroot_passed_names(d, handle, length);
+    bool is_plain = slot->kind != INROOT_KIND_DIR;
+    if (passed == NULL || !inroot_has_openat2() || !(d->below || is_plain))
+        return false;
+    if (slot->way == INROOT_BY_NAME && !inroot_look_first(d, root, slot, passed))
+        return false;
+    if (!d->below || slot->way != INROOT_SEEN_BELOW)
+        return false;
+    memcpy(text, passed, *length);
+    return true;
 }
 
 struct inroot_result inroot_name_below(struct inroot_driver *d, const struct inroot_told *step, char *text, size_t *length)
@@ -302,7 +390,7 @@ struct inroot_result inroot_name_below(struct inroot_driver *d, const struct inr
     int fd, root;
     int lost = inroot_handles_fd(d, step->handle, &fd);
     if (lost)
-        return inroot_refused(d, lost);
+        return inroot_unmade(d, lost);
     struct inroot_slot *slot = inroot_handles_slot(d, step->handle);
     *length = 0;
     /* The root's own second handle: it stands below itself at no names, wherever it is. */
@@ -311,5 +399,7 @@ struct inroot_result inroot_name_below(struct inroot_driver *d, const struct inr
         return names();
     }
     lost = inroot_handles_fd(d, step->other, &root);
-    return lost ? inroot_refused(d, lost) : inroot_place(d, root, slot, text, length);
+    if (lost)
+        return inroot_unmade(d, lost);
+    return is_seen_below(d, root, step->handle, text, length) ? names() : inroot_find_place(d, root, slot, text, length);
 }

@@ -97,6 +97,11 @@ static bool is_kept(int fd)
     return is_own(&own);
 }
 
+bool inroot_proc_is_kept(void)
+{
+    return atomic_load(&kept) != INROOT_NONE;
+}
+
 bool inroot_proc_is_lost(int proc)
 {
     return proc == atomic_load(&kept) && !is_kept(proc);

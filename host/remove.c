@@ -6,36 +6,85 @@
 #include "driver.h"
 
 #include <errno.h>
+#include <limits.h>
 #include <string.h>
 #include <unistd.h>
 
-/* A call that ended by its bound of steps, which the kernel's EBUSY of an entry isn't. */
+/* How many directories are kept from which a call goes on, each by a descriptor. */
+enum { PLACES = 16 };
+
+/* A call that ended by its bound of steps, and not by the kernel's EBUSY of an entry. */
 static bool ran_out(ssize_t result, const struct inroot_driver *d)
 {
-    return result == -EBUSY && !d->busy;
+    return result == -EBUSY && !d->unmade;
+}
+
+/* Where a proved call came to its last handle: an entry in this directory, from which another call goes on. */
+struct place {
+    int dir;
+    char name[NAME_MAX + 1];
+};
+
+/* Such places, each below the one before it. */
+struct places {
+    int count;
+    struct place at[PLACES];
+};
+
+/* Closes the outermost one, whose turn comes when a call begins at the root again. */
+static void drop_outermost(struct places *below)
+{
+    close(below->at[0].dir);
+    below->count--;
+    memmove(below->at, below->at + 1, (size_t)below->count * sizeof *below->at);
+}
+
+/* Takes over where the last call came to. */
+static void push(struct places *below, const struct inroot_driver *d)
+{
+    if (below->count == PLACES)
+        drop_outermost(below);
+    struct place *at = &below->at[below->count++];
+    at->dir = d->deepest;
+    memcpy(at->name, d->deepest_name, sizeof at->name);
+}
+
+/* Whether no descriptor was left for the call, and one was spared now. */
+static bool spares(struct places *below, ssize_t result)
+{
+    bool can = (result == -EMFILE || result == -ENFILE) && below->count > 1;
+    if (can)
+        drop_outermost(below);
+    return can;
 }
 
 /*
- * Goes on from the entry that was too deep for the call before, with its directory as the root, and deeper until something is
- * removed. Gives what the last call gave, and adds up what was removed.
+ * Goes on from where the call before came to its last handle, with that directory as the root, and deeper; and then from the
+ * places above, until each entry is gone. Gives 0 or what a call failed by, and adds up what was removed.
  */
 static ssize_t go_deeper(struct inroot_driver *d, int flags, char *room, uint64_t *removed)
 {
+    struct places below = {0};
     ssize_t result = 0;
-    while (d->too_deep) {
-        char name[sizeof d->deepest_name];
-        int dir = d->deepest;
-        memcpy(name, d->deepest_name, sizeof name);
-        struct inroot_request asked = {.op = INROOT_ASK_REMOVE_ALL, .flags = flags, .first = name, .second = ""};
-        result = inroot_once(d, dir, &asked, room);
-        close(dir);
+    push(&below, d);
+    while (below.count > 0 && result >= 0) {
+        const struct place at = below.at[below.count - 1];
+        struct inroot_request asked = {.op = INROOT_ASK_REMOVE_ALL, .flags = flags, .first = at.name, .second = ""};
+        result = inroot_once(d, at.dir, &asked, room);
         *removed += d->removed;
-        if (d->too_deep && d->removed > 0) {
-            close(d->deepest);
-            return 0;
+        bool goes_on = d->too_deep || spares(&below, result) || (ran_out(result, d) && d->removed > 0);
+        if (d->too_deep)
+            push(&below, d);
+        if (goes_on) {
+            result = 0;
+        } else if (result >= 0) {
+            close(at.dir);
+            below.count--;
         }
     }
-    return ran_out(result, d) && d->removed > 0 ? 0 : result;
+    while (below.count > 0)
+        drop_outermost(&below);
+    return result < 0 ? result : 0;
 }
 
 ssize_t inroot_remove_tree(int root, const struct inroot_request *asked, char *room)

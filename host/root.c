@@ -1,58 +1,222 @@
-/* root.c: a root that a program keeps. */
+/* root.c: a root that a program keeps, and what the library keeps of it. */
 #define _GNU_SOURCE
 #include "driver.h"
 
 #include <errno.h>
 #include <fcntl.h>
 #include <pthread.h>
+#include <stdatomic.h>
 #include <stdlib.h>
+#include <string.h>
+#include <sys/mman.h>
 #include <unistd.h>
+
+/* Of Linux 4.14; the headers may be older. */
+#ifndef MADV_WIPEONFORK
+#define MADV_WIPEONFORK 18
+#endif
 
 struct inroot_root {
     int fd;
+    struct inroot_own table;
+    /* A page that begins with 1, and with 0 in a child of fork(2): what is kept isn't the child's. */
+    unsigned char *mark;
+    struct inroot_kept_root kept;
 };
 
+/* ---- the roots of which something is kept, by their descriptors */
+
+/* So many at a time; of more of them nothing is kept. One is looked for in so many places, from its number on. */
+enum { KEPT = 256, PLACES = 8 };
+
 /*
- * Whether there is a /proc to ask, which stays open then: 0 or -errno. The link is read, since faccessat(2) takes no
- * flags before Linux 5.8, and filters refuse faccessat2(2).
+ * The number is set last and taken away first. So who finds the number of a root that is open finds that root, whatever others
+ * open and close. It is the descriptor's and one more, since the table begins with zeros.
  */
-static int has_proc(void)
+static struct {
+    _Atomic(struct inroot_root *) root;
+    atomic_int number;
+} roots[KEPT];
+
+static void enter(struct inroot_root *root)
 {
-    bool is_own;
-    char text[1];
-    int proc = inroot_proc_open(true, &is_own);
-    if (proc < 0)
-        return proc;
-    bool has_threads = readlinkat(proc, "thread-self", text, sizeof text) >= 0;
-    if (is_own)
-        close(proc);
-    return has_threads ? 0 : -ENOSYS;
+    for (int place = 0; place < PLACES; place++) {
+        int at = (root->fd + place) % KEPT;
+        struct inroot_root *none = NULL;
+        if (atomic_compare_exchange_strong(&roots[at].root, &none, root)) {
+            atomic_store(&roots[at].number, root->fd + 1);
+            return;
+        }
+    }
 }
 
-static int open_root(const char *directory, struct inroot_root *root)
+static void leave(struct inroot_root *root)
 {
-    do
-        root->fd = open(directory, O_PATH | O_DIRECTORY | O_CLOEXEC);
-    while (root->fd < 0 && errno == EINTR);
-    if (root->fd < 0)
-        return -errno;
-    int failed = has_proc();
-    if (failed)
-        close(root->fd);
+    for (int place = 0; place < PLACES; place++) {
+        int at = (root->fd + place) % KEPT;
+        if (atomic_load(&roots[at].root) != root)
+            continue;
+        atomic_store(&roots[at].number, 0);
+        atomic_store(&roots[at].root, NULL);
+    }
+}
+
+static struct inroot_root *find(int fd)
+{
+    for (int place = 0; fd >= 0 && place < PLACES; place++) {
+        int at = (fd + place) % KEPT;
+        if (atomic_load_explicit(&roots[at].number, memory_order_acquire) == fd + 1)
+            return atomic_load_explicit(&roots[at].root, memory_order_relaxed);
+    }
+    return NULL;
+}
+
+/* The kernel writes to the page, too: it empties a child's. */
+static bool is_of_parent(const struct inroot_root *root)
+{
+    return root->mark != NULL && *(const volatile unsigned char *)root->mark != 1;
+}
+
+const struct inroot_kept_root *inroot_root_kept(int fd)
+{
+    static const struct inroot_kept_root flag_alone = {.flags = INROOT_BELOW, .table = INROOT_NONE};
+    const struct inroot_root *root = find(fd);
+    if (root == NULL || !is_of_parent(root))
+        return root == NULL ? NULL : &root->kept;
+    return root->kept.flags & INROOT_BELOW ? &flag_alone : NULL;
+}
+
+/* ---- what is kept */
+
+static size_t page_size(void)
+{
+    return (size_t)sysconf(_SC_PAGESIZE);
+}
+
+/* Makes the page: 0 or -errno. Where the kernel has no such pages, nothing is kept. */
+static int make_mark(struct inroot_root *root)
+{
+    unsigned char *page = mmap(NULL, page_size(), PROT_READ | PROT_WRITE, MAP_PRIVATE | MAP_ANONYMOUS, -1, 0);
+    if (page == MAP_FAILED)
+        return -ENOMEM;
+    if (madvise(page, page_size(), MADV_WIPEONFORK) != 0) {
+        munmap(page, page_size());
+        return 0;
+    }
+    *page = 1;
+    root->mark = page;
+    return 0;
+}
+
+/* The path that a link tells, where it is one from the top; or zero. */
+static size_t path_of(int dir, const char *name, char path[INROOT_TEXT_MAX])
+{
+    ssize_t length = readlinkat(dir, name, path, INROOT_TEXT_MAX);
+    return length > 0 && length < INROOT_TEXT_MAX && path[0] == '/' ? (size_t)length : 0;
+}
+
+/*
+ * Keeps the directory of the descriptors of the process, which is that of its first thread: 0 or -errno. Where that has another
+ * table than this thread, or has ended, nothing is kept.
+ */
+static int keep_table(struct inroot_root *root, int proc)
+{
+    char written[INROOT_PROC_NAME], told[INROOT_TEXT_MAX], own[INROOT_TEXT_MAX];
+    const char *name = inroot_proc_name(root->fd, written);
+    int fd = openat(proc, "self/fd", O_PATH | O_DIRECTORY | O_CLOEXEC);
+    if (fd < 0)
+        return errno == EMFILE || errno == ENFILE || errno == ENOMEM ? -errno : 0;
+    size_t length = path_of(fd, name + sizeof INROOT_PROC_TABLE - 1, told);
+    bool is_own = length > 0 && path_of(proc, name, own) == length && memcmp(told, own, length) == 0;
+    if (!is_own || !inroot_proc_is(fd)) {
+        close(fd);
+        return 0;
+    }
+    int failed = inroot_proc_own(fd, &root->table);
+    root->kept.table = root->table.fd;
     return failed;
+}
+
+static int keep(struct inroot_root *root, int flags, int proc)
+{
+    char written[INROOT_PROC_NAME];
+    root->kept.flags = flags;
+    int failed = make_mark(root);
+    if (failed || root->mark == NULL)
+        return failed;
+    if (flags & INROOT_ROOT_STAYS)
+        root->kept.length = path_of(proc, inroot_proc_name(root->fd, written), root->kept.path);
+    return flags & INROOT_TRUST_PROC ? keep_table(root, proc) : 0;
+}
+
+/* Lets go of it. A child closes the table of its parent if its number is still that directory's. */
+static void forget(struct inroot_root *root)
+{
+    leave(root);
+    inroot_proc_close(&root->table);
+    if (root->mark != NULL)
+        munmap(root->mark, page_size());
+}
+
+/* ---- the calls */
+
+/*
+ * A /proc to ask, which stays open then: its descriptor or -errno, and whether it is the caller's. The link is read, since
+ * faccessat(2) takes no flags before Linux 5.8, and filters refuse faccessat2(2).
+ */
+static int find_proc(bool *is_own)
+{
+    char text[1];
+    int proc = inroot_proc_open(true, is_own);
+    if (proc < 0 || readlinkat(proc, "thread-self", text, sizeof text) >= 0)
+        return proc;
+    if (*is_own)
+        close(proc);
+    return -ENOSYS;
+}
+
+static int open_directory(const char *directory)
+{
+    int fd;
+    do
+        fd = open(directory, O_PATH | O_DIRECTORY | O_CLOEXEC);
+    while (fd < 0 && errno == EINTR);
+    return fd < 0 ? -errno : fd;
+}
+
+static int open_root(const char *directory, int flags, struct inroot_root *root)
+{
+    bool is_own;
+    root->fd = open_directory(directory);
+    if (root->fd < 0)
+        return root->fd;
+    int proc = find_proc(&is_own);
+    int failed = proc < 0 ? proc : flags != 0 ? keep(root, flags, proc) : 0;
+    if (proc >= 0 && is_own)
+        close(proc);
+    if (failed) {
+        forget(root);
+        close(root->fd);
+        return failed;
+    }
+    if (flags != 0)
+        enter(root);
+    return 0;
 }
 
 int inroot_root_open(const char *directory, int flags, struct inroot_root **root)
 {
     int state;
     *root = NULL;
-    if (flags != 0)
+    bool trusts_alone = flags & INROOT_TRUST_PROC && !(flags & INROOT_ROOT_STAYS);
+    if (trusts_alone || flags & ~(INROOT_ROOT_STAYS | INROOT_TRUST_PROC | INROOT_BELOW))
         return inroot_error_alone(EINVAL, "", directory);
-    struct inroot_root *new = malloc(sizeof *new);
+    struct inroot_root *new = calloc(1, sizeof *new);
     if (new == NULL)
         return inroot_error_alone(ENOMEM, "", directory);
+    new->table.fd = new->kept.table = INROOT_NONE;
     pthread_setcancelstate(PTHREAD_CANCEL_DISABLE, &state);
-    int failed = open_root(directory, new);
+    int failed = open_root(directory, flags, new);
     pthread_setcancelstate(state, NULL);
     if (failed) {
         free(new);
@@ -73,6 +237,7 @@ void inroot_root_close(struct inroot_root *root)
     if (root == NULL)
         return;
     pthread_setcancelstate(PTHREAD_CANCEL_DISABLE, &state);
+    forget(root);
     close(root->fd);
     free(root);
     pthread_setcancelstate(state, NULL);

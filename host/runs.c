@@ -102,7 +102,7 @@ static enum inroot_way way_of(struct inroot_driver *d, uint64_t handle, const st
 {
     const struct inroot_ahead *a = &d->ahead;
     bool is_rest = !run->up && inroot_ahead_skip(a, run->ends) == a->until;
-    return is_rest && inroot_handles_slot(d, handle)->way == INROOT_BY_ROOT ? INROOT_BELOW : INROOT_BY_NAME;
+    return is_rest && inroot_handles_slot(d, handle)->way == INROOT_BY_ROOT ? INROOT_SEEN_BELOW : INROOT_BY_NAME;
 }
 
 /* What kind of object was opened, where the kernel was not asked for a directory. */
@@ -119,12 +119,30 @@ static bool find_kind(struct inroot_run *run, uint64_t flags, bool up)
     return true;
 }
 
+/*
+ * Whether nobody asks what kind of object a whole path led to. It is no link that is followed, which the kernel would have refused,
+ * so that the proved function says the same of each kind that it may be. In a jail the question for its place asks.
+ */
+static bool is_kind_left_out(const struct inroot_driver *d, uint64_t handle, int dir)
+{
+    return handle == 0 && dir != INROOT_JAILED && d->asked->opened == NULL;
+}
+
+/* How long the names are that the walk stands at behind these: without the last of them where `..` follows. */
+static size_t stands_at(struct inroot_driver *d, uint64_t handle, const struct spelled *run)
+{
+    size_t length = handle == 0 ? 0 : inroot_passed_put(d, handle, run->text, run->used);
+    for (int left = run->up ? 2 : 0; left > 0; left--)
+        length = inroot_passed_above(d, length);
+    return length;
+}
+
 /* Whether these names were passed. */
 static bool pass(struct inroot_driver *d, uint64_t handle, int dir, const struct spelled *spelled, enum inroot_way way)
 {
     uint64_t flags = flags_of(&d->ahead, spelled);
     const bool stays = d->asked->flags & INROOT_NO_XDEV;
-    const uint64_t resolve = (way == INROOT_BELOW ? RESOLVE_BENEATH : 0) | (stays ? RESOLVE_NO_XDEV : 0);
+    const uint64_t resolve = (way == INROOT_SEEN_BELOW ? RESOLVE_BENEATH : 0) | (stays ? RESOLVE_NO_XDEV : 0);
     d->run.fd = inroot_look_up(d, dir, spelled->text, flags, resolve);
     if (d->run.fd < 0)
         return false;
@@ -132,7 +150,10 @@ static bool pass(struct inroot_driver *d, uint64_t handle, int dir, const struct
     d->run.way = way;
     d->run.left = spelled->count;
     d->run.up = spelled->up;
-    if (find_kind(&d->run, flags, spelled->up))
+    d->run.placed = false;
+    d->run.passed = stands_at(d, handle, spelled);
+    d->run.kind = flags & O_DIRECTORY ? INROOT_KIND_DIR : INROOT_KIND_FILE;
+    if (is_kind_left_out(d, handle, dir) || find_kind(&d->run, flags, spelled->up))
         return true;
     inroot_run_drop(d);
     errno = EIO;
@@ -149,6 +170,7 @@ static int fewer(struct inroot_ahead *a, int count, int error)
     if (error != ENOENT && error != ENOTDIR && error != ELOOP && error != EACCES && error != ENAMETOOLONG)
         return 0;
     a->bad = count;
+    a->met_link = error == ELOOP;
     return first ? count - 1 : count / 2;
 }
 
@@ -163,6 +185,53 @@ static int most_of(struct inroot_driver *d)
     return a->bad > 0 ? a->bad / 2 : INROOT_TEXT_MAX;
 }
 
+/* Which of the names was a link last, and would be followed; or -1. */
+static int first_link(struct inroot_driver *d, uint64_t handle, const struct spelled *run)
+{
+    const struct inroot_ahead *a = &d->ahead;
+    int first = inroot_hints_first(d, handle, run->text, run->up ? run->used - 3 : run->used);
+    bool is_meant_itself = first == run->count - 1 && a->link_may_end && inroot_ahead_is_end(a, run->ends);
+    return is_meant_itself ? -1 : first;
+}
+
+/* At most so many names, and only those before one that was a link last. */
+static void spell_to_link(struct inroot_driver *d, uint64_t handle, int most, struct spelled *run)
+{
+    spell(&d->ahead, most, run);
+    int before = run->count > 1 ? first_link(d, handle, run) : -1;
+    if (before > 0)
+        spell(&d->ahead, before, run);
+}
+
+/*
+ * Passes the last name behind a link by a look-up from the root, at the names where the walk stands, so that the kernel sees it
+ * below the root. The directory that is held must have that same object by that name: then it was opened there.
+ */
+static bool pass_from_root(struct inroot_driver *d, uint64_t handle, int dir, const struct spelled *spelled)
+{
+    struct inroot_run *run = &d->run;
+    bool stays = d->asked->flags & INROOT_NO_XDEV;
+    bool is_rest = !spelled->up && inroot_ahead_skip(&d->ahead, spelled->ends) == d->ahead.until;
+    if (d->link == 0 || stays || !is_rest || inroot_handles_slot(d, handle)->way == INROOT_BY_ROOT)
+        return false;
+    run->passed = inroot_passed_put(d, handle, spelled->text, spelled->used);
+    if (run->passed == 0)
+        return false;
+    run->fd = inroot_look_up(d, d->slots[0].fd, d->passed + 1, flags_of(&d->ahead, spelled), RESOLVE_BENEATH);
+    if (run->fd < 0) {
+        fewer(&d->ahead, 1, errno);
+        return false;
+    }
+    run->at = handle;
+    run->way = INROOT_SEEN_BELOW;
+    run->left = 1;
+    run->up = false;
+    if (inroot_is_entry(dir, spelled->text, run->fd, &run->kind))
+        return true;
+    inroot_run_drop(d);
+    return false;
+}
+
 /* Passes as many names as it can, and whether there were any. */
 static bool begin(struct inroot_driver *d, uint64_t handle, int dir)
 {
@@ -170,9 +239,9 @@ static bool begin(struct inroot_driver *d, uint64_t handle, int dir)
     struct inroot_ahead *a = &d->ahead;
     int most = most_of(d);
     while (most > 0) {
-        spell(a, most, &spelled);
+        spell_to_link(d, handle, most, &spelled);
         if (spelled.count < 2 && !spelled.up)
-            return false;
+            return spelled.count == 1 && pass_from_root(d, handle, dir, &spelled);
         if (pass(d, handle, dir, &spelled, way_of(d, handle, &spelled)))
             return true;
         most = fewer(a, spelled.count, errno);
@@ -193,9 +262,9 @@ bool inroot_run_whole(struct inroot_driver *d, int root)
     if (d->asked->flags & INROOT_ONE_BY_ONE || !d->ahead.known)
         return false;
     spell(&d->ahead, INROOT_TEXT_MAX, &spelled);
-    if (!is_whole(&d->ahead, &spelled))
+    if (!is_whole(&d->ahead, &spelled) || first_link(d, 0, &spelled) >= 0)
         return false;
-    if (pass(d, 0, root, &spelled, INROOT_BELOW))
+    if (pass(d, 0, root, &spelled, INROOT_SEEN_BELOW))
         return true;
     d->tried_error = errno;
     d->tried = spelled.count;
@@ -226,6 +295,10 @@ static inline struct inroot_result tell(struct inroot_driver *d, size_t length)
         run->fd = INROOT_NONE;
     }
     run->at = inroot_handles_put(d, fd, kind, way, run->at);
+    if (run->placed && run->left == 0)
+        d->from.told = run->at;
+    if (run->left == 0 && !run->up)
+        inroot_passed_end(d, run->at, run->passed);
     return inroot_opened(run->at, kind);
 }
 
@@ -245,12 +318,13 @@ struct inroot_result inroot_run_next(struct inroot_driver *d, const struct inroo
         return tell(d, step->first);
     /* What isn't foreseen can't be opened from a directory that was only passed. */
     inroot_run_drop(d);
-    return inroot_refused(d, ENOMEM);
+    return inroot_unmade(d, ENOMEM);
 }
 
 struct inroot_result inroot_run_up(struct inroot_driver *d, uint64_t child)
 {
     uint64_t handle = inroot_handles_put(d, d->run.fd, INROOT_KIND_DIR, INROOT_BY_PARENT, child);
+    inroot_passed_end(d, handle, d->run.passed);
     d->run.fd = INROOT_NONE;
     return inroot_opened(handle, INROOT_KIND_DIR);
 }

@@ -13,22 +13,6 @@
 
 /* ---- answers */
 
-struct inroot_result inroot_refused(struct inroot_driver *d, int error)
-{
-    switch (error) {
-    case EBUSY:
-        d->busy = true;
-        break;
-    case ENOENT: case EAGAIN: case ENOMEM: case EEXIST: case EXDEV: case ENOTDIR: case EISDIR: case EINVAL: case EMFILE:
-    case ENOSPC: case ENAMETOOLONG: case ENOTEMPTY: case ELOOP:
-        break;
-    default:
-        /* The call ends by EBADF, and this is told in its place. */
-        d->unknown = error;
-    }
-    return (struct inroot_result){.what = INROOT_ANSWER_REFUSED, .error = (uint16_t)error};
-}
-
 static struct inroot_result done_or(struct inroot_driver *d, long failed)
 {
     return failed ? inroot_refused(d, errno) : (struct inroot_result){.what = INROOT_ANSWER_DONE};
@@ -87,13 +71,13 @@ static struct inroot_result leave_here(struct inroot_driver *d, uint64_t dir, co
     const struct entry itself = {.dir = entry->dir, .name = "."};
     size_t length = strlen(entry->name);
     if (length >= sizeof d->deepest_name)
-        return inroot_refused(d, ENAMETOOLONG);
+        return inroot_unmade(d, ENAMETOOLONG);
     d->deepest = open_path(d, dir, &itself, O_DIRECTORY);
     if (d->deepest < 0)
-        return inroot_refused(d, errno);
+        return inroot_unmade(d, errno);
     d->too_deep = true;
     memcpy(d->deepest_name, entry->name, length + 1);
-    return inroot_refused(d, ENOMEM);
+    return inroot_unmade(d, ENOMEM);
 }
 
 /* Opens an entry of any kind. One that is neither a directory nor a link counts as a file. */
@@ -106,7 +90,7 @@ static struct inroot_result open_any(struct inroot_driver *d, uint64_t dir, cons
     if (fstat(fd, &about) != 0) {
         int error = errno;
         close(fd);
-        return inroot_refused(d, error);
+        return inroot_unmade(d, error);
     }
     enum inroot_kind other = S_ISLNK(about.st_mode) ? INROOT_KIND_LINK : INROOT_KIND_FILE;
     return opened(d, fd, S_ISDIR(about.st_mode) ? INROOT_KIND_DIR : other, INROOT_BY_NAME, dir);
@@ -121,7 +105,7 @@ static struct inroot_result open_name(struct inroot_driver *d, uint64_t dir, con
     if (is_too_deep(d, dir))
         return leave_here(d, dir, entry);
     if (!inroot_handles_reserve(d))
-        return inroot_refused(d, ENOMEM);
+        return inroot_unmade(d, ENOMEM);
     if (!is_expected)
         return open_any(d, dir, entry);
     int fd = open_path(d, dir, entry, O_DIRECTORY);
@@ -136,6 +120,18 @@ static bool expects_directory(const struct inroot_ahead *a, size_t length)
     return a->bad != 1 && (a->directory || !inroot_ahead_is_end(a, a->at + length));
 }
 
+/* Moves past the next name. A link that is followed is no place where the walk stands, and is looked for the next time. */
+static void pass_alone(struct inroot_driver *d, const struct inroot_told *step, const char *name,
+                       const struct inroot_result *opened)
+{
+    struct inroot_ahead *a = &d->ahead;
+    inroot_ahead_pass(a, step->first);
+    if (opened->kind == INROOT_KIND_LINK && !(a->link_may_end && inroot_ahead_is_end(a, a->at)))
+        inroot_hints_tell(d, step->handle, name, step->first, true);
+    else
+        inroot_passed_end(d, opened->handle, inroot_passed_put(d, step->handle, name, step->first));
+}
+
 /* Opens one name by itself: the next one of the path, or another. */
 static struct inroot_result open_alone(struct inroot_driver *d, const struct inroot_told *step, const char *name,
                                        bool foreseen)
@@ -143,17 +139,26 @@ static struct inroot_result open_alone(struct inroot_driver *d, const struct inr
     struct entry entry;
     int error = find(d, step->handle, name, step->first, &entry);
     if (error)
-        return inroot_refused(d, error);
+        return inroot_unmade(d, error);
     bool is_expected = !foreseen || expects_directory(&d->ahead, step->first);
     struct inroot_result result = open_name(d, step->handle, &entry, is_expected);
+    if (result.what == INROOT_ANSWER_OPENED && result.kind == INROOT_KIND_LINK && d->asked->flags & INROOT_NO_MAGICLINKS) {
+        int fd = inroot_handles_slot(d, result.handle)->fd, dir;
+        inroot_handles_fd(d, step->handle, &dir);
+        if (inroot_magic_refused(d, dir, name, fd, foreseen ? step->first : 0)) {
+            inroot_handles_close(d, result.handle);
+            return inroot_refused(d, ELOOP);
+        }
+    }
     if (foreseen && result.what == INROOT_ANSWER_OPENED)
-        inroot_ahead_pass(&d->ahead, step->first);
+        pass_alone(d, step, name, &result);
     return result;
 }
 
 /* Opens the next name of the path, with names behind it if it can; or another name. */
-static struct inroot_result open_next(struct inroot_driver *d, const struct inroot_told *step, const char *name)
+static struct inroot_result open_next(struct inroot_driver *d, const struct inroot_told *step, const char *name, char *text)
 {
+    struct inroot_result link;
     bool foreseen = inroot_ahead_is(&d->ahead, name, step->first);
     inroot_run_drop(d);
     if (!foreseen) {
@@ -161,7 +166,12 @@ static struct inroot_result open_next(struct inroot_driver *d, const struct inro
         return open_alone(d, step, name, false);
     }
     inroot_error_note_next(d, step->first);
-    return inroot_run_begin(d, step->handle) ? inroot_run_first(d, step->first) : open_alone(d, step, name, true);
+    if (inroot_followed_open(d, step, name, text, false, &link))
+        return link;
+    if (inroot_run_begin(d, step->handle))
+        return inroot_run_first(d, step->first);
+    /* Where that has met a link, it may be this one. */
+    return inroot_followed_open(d, step, name, text, true, &link) ? link : open_alone(d, step, name, true);
 }
 
 /*
@@ -173,9 +183,9 @@ static struct inroot_result open_root(struct inroot_driver *d, uint64_t root)
     struct entry itself;
     int error = find(d, root, ".", 1, &itself);
     if (error)
-        return inroot_refused(d, error);
+        return inroot_unmade(d, error);
     if (!inroot_handles_reserve(d))
-        return inroot_refused(d, ENOMEM);
+        return inroot_unmade(d, ENOMEM);
     inroot_ahead_dup(&d->ahead);
     if (inroot_ahead_has_name(&d->ahead)) {
         uint64_t handle = inroot_handles_share(d, root);
@@ -215,9 +225,9 @@ static struct inroot_result open_parent(struct inroot_driver *d, uint64_t handle
     struct entry above;
     int error = find(d, handle, "..", 2, &above);
     if (error)
-        return inroot_refused(d, error);
+        return inroot_unmade(d, error);
     if (!inroot_handles_reserve(d))
-        return inroot_refused(d, ENOMEM);
+        return inroot_unmade(d, ENOMEM);
     int up = open_path(d, handle, &above, O_DIRECTORY);
     if (up < 0)
         return inroot_refused(d, errno);
@@ -226,7 +236,10 @@ static struct inroot_result open_parent(struct inroot_driver *d, uint64_t handle
         close(up);
         return inroot_refused(d, ENOENT);
     }
-    return opened(d, up, INROOT_KIND_DIR, INROOT_BY_PARENT, handle);
+    ssize_t base = inroot_passed_base(d, handle);
+    struct inroot_result result = opened(d, up, INROOT_KIND_DIR, INROOT_BY_PARENT, handle);
+    inroot_passed_end(d, result.handle, base > 0 ? inroot_passed_above(d, (size_t)base) : 0);
+    return result;
 }
 
 /* Opens the directory above the last name of a run. This ends the run. */
@@ -234,7 +247,7 @@ static struct inroot_result go_up(struct inroot_driver *d, uint64_t child)
 {
     if (!inroot_handles_reserve(d)) {
         inroot_run_drop(d);
-        return inroot_refused(d, ENOMEM);
+        return inroot_unmade(d, ENOMEM);
     }
     inroot_ahead_pass_up(&d->ahead);
     return inroot_run_up(d, child);
@@ -242,50 +255,66 @@ static struct inroot_result go_up(struct inroot_driver *d, uint64_t child)
 
 /* ---- other steps */
 
-/* Of Linux 5.10; the C library's headers don't have it. */
-#ifndef ST_NOSYMFOLLOW
-#define ST_NOSYMFOLLOW 0x2000
-#endif
-
 /* Whether the link is on a mount that follows no link (mount(8), nosymfollow). readlink(2) still works there. */
 static bool is_kept_from_following(const struct inroot_driver *d, int fd)
 {
     struct statfs about;
     bool is_asked_for = d->asked->op == INROOT_ASK_READLINK && !d->asked->follows && inroot_ahead_is_end(&d->ahead, d->ahead.at);
-    return !is_asked_for && fstatfs(fd, &about) == 0 && about.f_flags & ST_NOSYMFOLLOW;
+    return !is_asked_for && fstatfs(fd, &about) == 0 && about.f_flags & INROOT_NOSYMFOLLOW;
 }
 
-/* A text that fills the room may be cut off, and is too long in either case. ENOENT: the object is no link. */
+/* Of a link that was read as it was opened: its text lies there still. */
+static struct inroot_result tell_link(struct inroot_driver *d, const char *text, size_t *length)
+{
+    if (inroot_followed_is_kept(d))
+        return inroot_refused(d, ELOOP);
+    *length = d->link_length;
+    inroot_ahead_put(&d->ahead, text, *length);
+    return (struct inroot_result){.what = INROOT_ANSWER_TEXT};
+}
+
+/*
+ * A text that fills the room may be cut off, and is too long in either case. Of what is no link readlinkat(2) gives ENOENT; of a
+ * link it gives neither this nor EINVAL for a reason of the tree.
+ */
 static struct inroot_result read_link(struct inroot_driver *d, uint64_t handle, char *text, size_t *length)
 {
     int fd;
+    if (handle == d->link)
+        return tell_link(d, text, length);
     int error = inroot_handles_fd(d, handle, &fd);
     if (error)
-        return inroot_refused(d, error);
+        return inroot_unmade(d, error);
     if (is_kept_from_following(d, fd))
-        return inroot_refused(d, ELOOP);
+        return inroot_unmade(d, ELOOP);
     ssize_t got;
     do
         got = readlinkat(fd, "", text, INROOT_TEXT_MAX + 1);
     while (got < 0 && errno == EINTR);
-    if (got < 0)
-        return inroot_refused(d, errno == ENOENT ? EINVAL : errno);
+    if (got < 0) {
+        error = errno == ENOENT ? EINVAL : errno;
+        bool is_link = inroot_handles_slot(d, handle)->kind == INROOT_KIND_LINK;
+        return is_link ? inroot_unmade(d, error) : inroot_refused(d, error);
+    }
     *length = (size_t)got;
     inroot_ahead_put(&d->ahead, text, *length);
     return (struct inroot_result){.what = INROOT_ANSWER_TEXT};
 }
 
-/* Gives the object another name, through its link in /proc. If the object is a link, linkat(2) doesn't follow it. */
+/*
+ * Gives the object another name, through its link in /proc. If the object is a link, linkat(2) doesn't follow it. ENOENT may be
+ * the object's, which has no name left.
+ */
 static struct inroot_result link_object(struct inroot_driver *d, const struct entry *entry)
 {
     char written[INROOT_PROC_NAME];
     int proc = inroot_proc_for(d);
     if (proc < 0)
-        return inroot_refused(d, -proc);
+        return inroot_unmade(d, -proc);
     const char *name = inroot_proc_name(d->asked->object, written);
     if (linkat(proc, name, entry->dir, entry->name, AT_SYMLINK_FOLLOW) == 0)
         return (struct inroot_result){.what = INROOT_ANSWER_DONE};
-    return inroot_refused(d, inroot_proc_error(proc, name, errno));
+    return errno == EEXIST ? inroot_refused(d, EEXIST) : inroot_unmade(d, inroot_proc_error(proc, name, errno));
 }
 
 static struct inroot_result make_file(struct inroot_driver *d, const struct entry *entry)
@@ -293,6 +322,10 @@ static struct inroot_result make_file(struct inroot_driver *d, const struct entr
     const struct inroot_request *asked = d->asked;
     if (asked->makes == INROOT_MAKES_LINKED)
         return link_object(d, entry);
+    if (asked->makes == INROOT_MAKES_NEW && asked->gives && S_ISREG(asked->bits)) {
+        int error = inroot_give_file(d, entry->dir, entry->name);
+        return error ? inroot_refused(d, error) : (struct inroot_result){.what = INROOT_ANSWER_DONE};
+    }
     if (asked->makes == INROOT_MAKES_NEW)
         return done_or(d, mknodat(entry->dir, entry->name, asked->bits, asked->device));
     d->made = openat(entry->dir, entry->name, asked->open_flags, asked->bits);
@@ -321,9 +354,29 @@ static struct inroot_result rename_entry(struct inroot_driver *d, const struct i
     struct entry new;
     int error = find(d, step->other, name, step->second, &new);
     if (error)
-        return inroot_refused(d, error);
+        return inroot_unmade(d, error);
+    /* The second path was to begin at the caller's directory, and nobody has seen that it did. */
+    if (d->from.second)
+        return inroot_unmade(d, EAGAIN);
     /* The modes have the kernel's own numbers. */
-    return done_or(d, syscall(SYS_renameat2, old->dir, old->name, new.dir, new.name, (unsigned int)step->detail));
+    unsigned int mode = step->detail | (d->asked->whiteout ? INROOT_WHITEOUT : 0);
+    return done_or(d, syscall(SYS_renameat2, old->dir, old->name, new.dir, new.name, mode));
+}
+
+/* Makes an entry, and opens it where the call gives it. */
+static struct inroot_result make_entry(struct inroot_driver *d, const struct inroot_told *step, const struct entry *entry,
+                                       const char *text)
+{
+    struct inroot_result result;
+    if (step->what == INROOT_STEP_MAKE_FILE)
+        result = make_file(d, entry);
+    else if (step->what == INROOT_STEP_MAKE_LINK)
+        result = make_link(d, entry, text);
+    else
+        result = done_or(d, mkdirat(entry->dir, entry->name, d->asked->bits));
+    if (d->asked->gives && result.what == INROOT_ANSWER_DONE)
+        inroot_give(d, entry->dir, entry->name, text);
+    return result;
 }
 
 /* Makes a step that changes an entry: of a directory's handle, and a name in it. */
@@ -333,15 +386,13 @@ static struct inroot_result change_entry(struct inroot_driver *d, const struct i
     const char *second = room + step->first + 1;
     int error = find(d, step->handle, room, step->first, &entry);
     if (error)
-        return inroot_refused(d, error);
+        return inroot_unmade(d, error);
     switch (step->what) {
     case INROOT_STEP_MAKE_DIR:
         inroot_ahead_make(&d->ahead);
-        return done_or(d, mkdirat(entry.dir, entry.name, d->asked->bits));
-    case INROOT_STEP_MAKE_FILE:
-        return make_file(d, &entry);
-    case INROOT_STEP_MAKE_LINK:
-        return make_link(d, &entry, second);
+        return make_entry(d, step, &entry, "");
+    case INROOT_STEP_MAKE_FILE: case INROOT_STEP_MAKE_LINK:
+        return make_entry(d, step, &entry, second);
     case INROOT_STEP_REMOVE_FILE:
         return removed(d, &entry, 0);
     case INROOT_STEP_REMOVE_DIR:
@@ -356,6 +407,11 @@ static struct inroot_result name_below(struct inroot_driver *d, const struct inr
 {
     if (step->handle == d->placed) {
         *length = d->placed_length;
+        return (struct inroot_result){.what = INROOT_ANSWER_NAMES};
+    }
+    if (inroot_from_tells(d, step->handle, text, length)) {
+        d->placed = step->handle;
+        d->placed_length = *length;
         return (struct inroot_result){.what = INROOT_ANSWER_NAMES};
     }
     struct inroot_result result = inroot_name_below(d, step, text, length);
@@ -393,8 +449,8 @@ struct inroot_result inroot_make(struct inroot_driver *d, const struct inroot_to
 {
     /* Only a link's text can be too long for the room. */
     if (!step->whole)
-        return inroot_refused(d, ENAMETOOLONG);
+        return inroot_unmade(d, ENAMETOOLONG);
     if (step->what != INROOT_STEP_NAME_BELOW)
-        d->placed = 0;
-    return step->what == INROOT_STEP_OPEN ? open_next(d, step, room) : make_other(d, step, room, text, length);
+        d->placed = d->from.told = 0;
+    return step->what == INROOT_STEP_OPEN ? open_next(d, step, room, text) : make_other(d, step, room, text, length);
 }

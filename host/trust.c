@@ -1,8 +1,10 @@
 /*
- * trust.c: a thread in a jail that keeps the directory of its descriptors in /proc open, and asks that for a link without
- * looking whether it is still the one (INROOT_TRUST_PROC); and its root, from which names are looked up. The program promises
- * that they are. A child of fork(2) has the descriptors as well, and the first leads to its parent's table there: such a child
- * finds zeros in a page, and forgets both.
+ * trust.c: what a thread keeps in a jail with INROOT_TRUST_PROC: a descriptor of its own table in /proc, and one of its root.
+ * Its calls read links in the first, and look names up from the second. They don't look first whether the numbers still stand
+ * for these two: the program promises that they do.
+ *
+ * A child of fork(2) has both descriptors, too, and its first one leads to its parent's table. So the thread has a page that the
+ * kernel empties for a child (MADV_WIPEONFORK). A child finds zeros there, and forgets both descriptors.
  */
 #define _GNU_SOURCE
 #include "driver.h"
@@ -19,7 +21,7 @@
 #endif
 
 static _Thread_local struct inroot_own table = {.fd = INROOT_NONE}, top = {.fd = INROOT_NONE};
-/* A page that is this thread's: it begins with 1 where the table is this thread's, too. */
+/* That page. It begins with 1 in the thread that made it, and with 0 in a child. */
 static _Thread_local unsigned char *mark;
 
 static size_t page_size(void)
@@ -27,13 +29,13 @@ static size_t page_size(void)
     return (size_t)sysconf(_SC_PAGESIZE);
 }
 
-/* The kernel writes to the page, too: it empties a child's. */
+/* volatile: the kernel empties the page, which no compiler sees. */
 static bool is_marked(void)
 {
     return *(const volatile unsigned char *)mark == 1;
 }
 
-/* A shortage is an error. If the kernel refuses for another reason, the thread keeps nothing, and the calls do without. */
+/* Running short is an error of the jail. If the kernel refuses for another reason, the calls do without what is kept. */
 static int told(int error)
 {
     switch (error) {
@@ -61,7 +63,7 @@ static int make_mark(void)
     return 0;
 }
 
-/* The directory of this thread's descriptors: 0 or -errno. */
+/* Opens the directory of this thread's descriptors: 0 or -errno. */
 static int open_table(int proc)
 {
     int fd = openat(proc, INROOT_PROC_TABLE, O_PATH | O_DIRECTORY | O_CLOEXEC);
@@ -71,7 +73,7 @@ static int open_table(int proc)
     return -ENOSYS;
 }
 
-/* The root: 0 or -errno. */
+/* Opens the root: 0 or -errno. */
 static int open_top(int root)
 {
     int fd = openat(root, ".", O_PATH | O_DIRECTORY | O_CLOEXEC);
@@ -107,7 +109,10 @@ int inroot_trust_begin(int proc, int root)
     return 0;
 }
 
-/* A child of fork(2) has both numbers of its parent, and no mark. What it did with the root's number meanwhile isn't known. */
+/*
+ * Whether this is a child of fork(2): it has its parent's numbers, and no mark. It may have another file by the root's number
+ * since, so nobody closes that one here.
+ */
 static bool is_of_parent(void)
 {
     return table.fd >= 0 && !is_marked();

@@ -45,7 +45,7 @@ static bool opens(int how, mode_t mode)
     int rest = how & ~(O_CREAT | O_EXCL | O_NOFOLLOW);
     if (is_nameless(how))
         rest &= ~(O_TMPFILE & ~O_DIRECTORY);
-    if (!reopens(rest) || (is_new && how & O_PATH) || (how & O_EXCL && !is_new))
+    if (!reopens(rest) || (is_nameless(how) && how & O_PATH) || (how & O_EXCL && !is_new))
         return false;
     if (creates && how & O_DIRECTORY)
         return false;
@@ -66,34 +66,17 @@ static int find(int root, const struct use *use, enum inroot_kind *kind)
         .directory = use->how & O_DIRECTORY,
         .opened = kind,
     };
-    return inroot_run_alone(root, &asked);
+    return inroot_carry_out_alone(root, &asked);
 }
 
-/* By one that is at hand, or surely by /proc: the descriptor or -errno; and whether that may be for want of /proc. */
-static int reopened_by(bool surely, int fd, int how, bool *is_lost)
+static ssize_t open_by_name(int proc, const char *name, void *how)
 {
-    char written[INROOT_PROC_NAME];
-    bool is_own;
-    int proc = inroot_proc_open(surely, &is_own);
-    *is_lost = false;
-    if (proc < 0)
-        return proc;
-    const char *name = inroot_proc_name(fd, written);
-    int used = openat(proc, name, how | ALWAYS);
-    if (used < 0)
-        used = -inroot_proc_error(proc, name, errno);
-    if (used == -ENOSYS || used == -ENOTDIR)
-        *is_lost = inroot_proc_is_lost(proc);
-    if (is_own)
-        close(proc);
-    return used;
+    return openat(proc, name, *(const int *)how | ALWAYS);
 }
 
 static int reopened(int fd, int how)
 {
-    bool is_lost;
-    int used = reopened_by(false, fd, how, &is_lost);
-    return is_lost ? reopened_by(true, fd, how, &is_lost) : used;
+    return (int)inroot_by_proc(fd, open_by_name, &how);
 }
 
 /* Whether an object of that kind may be opened so, where opening doesn't tell: 0 or -errno. */
@@ -134,16 +117,18 @@ static int open_found(int root, const struct use *use)
 
 static int create(int root, const struct use *use)
 {
+    const bool is_path = use->how & O_PATH;
     const struct inroot_request asked = {
         .op = INROOT_ASK_MKFILE,
-        .flags = use->flags,
+        .flags = use->flags & ~INROOT_BELOW,
         .first = use->path,
         .second = "",
-        .makes = INROOT_MAKES_OPEN,
-        .bits = use->mode,
+        .makes = is_path ? INROOT_MAKES_NEW : INROOT_MAKES_OPEN,
+        .bits = (is_path ? S_IFREG : 0) | use->mode,
+        .gives = is_path,
         .open_flags = use->how | O_CREAT | O_EXCL | O_NOFOLLOW | ALWAYS,
     };
-    return inroot_run_alone(root, &asked);
+    return inroot_carry_out_alone(root, &asked);
 }
 
 /*
@@ -154,9 +139,9 @@ static ssize_t follow(int root, const struct use *use, char *path)
 {
     char text[INROOT_ROOM];
     const struct inroot_request asked = {
-        .op = INROOT_ASK_READLINK, .flags = use->flags, .first = use->path, .second = "", .follows = true,
+        .op = INROOT_ASK_READLINK, .flags = use->flags & ~INROOT_BELOW, .first = use->path, .second = "", .follows = true,
     };
-    ssize_t length = inroot_run(root, &asked, text);
+    ssize_t length = inroot_carry_out(root, &asked, text);
     if (length <= 0)
         return length < 0 ? length : -ENOENT;
     const char *slash = strrchr(use->path, '/');

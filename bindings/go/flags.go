@@ -15,10 +15,15 @@ const (
 	NoLinks Flags = C.INROOT_NO_LINKS
 	// NoXdev refuses to leave the mount that the root is on, with EXDEV.
 	NoXdev Flags = C.INROOT_NO_XDEV
+	// NoMagicLinks refuses the kernel's links that lead to an object and not along their text, with ELOOP.
+	NoMagicLinks Flags = C.INROOT_NO_MAGICLINKS
 	// NoRetry makes one try, where others are in the way.
 	NoRetry Flags = C.INROOT_NO_RETRY
 	// OneByOne looks up each name by a system call of its own.
 	OneByOne Flags = C.INROOT_ONE_BY_ONE
+	// Below leaves the last check to openat2(2): what is opened stood below the root then, at which names is not said.
+	// Functions that change an entry or read a link refuse it, with EINVAL.
+	Below Flags = C.INROOT_BELOW
 )
 
 // joined gives them as the library takes them, with one of its own.
@@ -35,6 +40,7 @@ type Cause struct {
 	Step string // the last step that the call made, as Open; empty where it failed before the first
 	Name string // the name that the step was about, or empty
 	Rest string // what was left of the path then, where links were replaced by their texts
+	At   string // where the walk had come to: the names below the root that it went by; or empty
 }
 
 // LastError says why the last call of this thread failed, and whether one has. A goroutine may go on in another
@@ -50,5 +56,6 @@ func LastError() (Cause, bool) {
 		Step: C.GoString(told.step),
 		Name: C.GoString(&told.name[0]),
 		Rest: C.GoString(&told.rest[0]),
+		At:   C.GoString(told.at),
 	}, true
 }

@@ -1,3 +1,3 @@
-module inroot
+module gimowheta.example/inroot
 
 go 1.19

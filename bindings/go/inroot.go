@@ -7,11 +7,10 @@
 // Where the kernel has no openat2(2), nothing is promised if the root itself, or a directory above it, is renamed
 // meanwhile.
 //
-// The library is found by pkg-config. An error is an *os.PathError (or *os.LinkError of two paths) with a
-// syscall.Errno.
+// The library is found by pkg-config; with the tag inroot_static its archive is linked. An error is an *os.PathError
+// (or *os.LinkError of two paths) with a syscall.Errno.
 package inroot
 
-// #cgo pkg-config: inroot
 // #include <inroot.h>
 // #include <stdlib.h>
 import "C"
@@ -54,7 +53,7 @@ func modeOf(mode os.FileMode) C.mode_t {
 }
 
 // onPath makes a call on a path below a root. The number that it gives is negative where it failed.
-func onPath(op string, root *os.File, path string, call func(root C.int, path *C.char) C.long) (C.long, error) {
+func onPath(op string, root Root, path string, call func(root C.int, path *C.char) C.long) (C.long, error) {
 	if strings.IndexByte(path, 0) >= 0 {
 		return 0, &os.PathError{Op: op, Path: path, Err: syscall.EINVAL}
 	}
@@ -69,7 +68,7 @@ func onPath(op string, root *os.File, path string, call func(root C.int, path *C
 }
 
 // onPaths makes a call on two paths, of which the first may be a link's text.
-func onPaths(op string, root *os.File, first, path string, call func(root C.int, first, path *C.char) C.int) error {
+func onPaths(op string, root Root, first, path string, call func(root C.int, first, path *C.char) C.int) error {
 	if strings.IndexByte(first, 0) >= 0 {
 		return &os.LinkError{Op: op, Old: first, New: path, Err: syscall.EINVAL}
 	}
@@ -83,7 +82,7 @@ func onPaths(op string, root *os.File, first, path string, call func(root C.int,
 }
 
 // opened makes a call that gives a descriptor, and gives a file that has it.
-func opened(op string, root *os.File, path string, call func(root C.int, path *C.char) C.int) (*os.File, error) {
+func opened(op string, root Root, path string, call func(root C.int, path *C.char) C.int) (*os.File, error) {
 	fd, err := onPath(op, root, path, func(root C.int, path *C.char) C.long { return C.long(call(root, path)) })
 	if err != nil {
 		return nil, err
@@ -92,7 +91,7 @@ func opened(op string, root *os.File, path string, call func(root C.int, path *C
 }
 
 // done makes a call that gives nothing.
-func done(op string, root *os.File, path string, call func(root C.int, path *C.char) C.int) error {
+func done(op string, root Root, path string, call func(root C.int, path *C.char) C.int) error {
 	_, err := onPath(op, root, path, func(root C.int, path *C.char) C.long { return C.long(call(root, path)) })
 	return err
 }

@@ -82,6 +82,36 @@ func TestInside(t *testing.T) {
 	}
 }
 
+func TestKeptRoots(t *testing.T) {
+	top := t.TempDir()
+	if err := os.MkdirAll(filepath.Join(top, "a/b"), 0o755); err != nil {
+		t.Fatal(err)
+	}
+	if err := os.Symlink("a/b", filepath.Join(top, "l")); err != nil {
+		t.Fatal(err)
+	}
+	for _, flags := range []RootFlags{0, RootStays, RootStays | TrustProc, RootBelow, RootStays | TrustProc | RootBelow} {
+		root, err := OpenRoot(top, flags)
+		if err != nil {
+			t.Fatal(flags, err)
+		}
+		for _, path := range []string{"a/b", "l", "l/../b", "/"} {
+			file, err := OpenatInRoot(root, path)
+			if err != nil {
+				t.Fatal(flags, path, err)
+			}
+			file.Close()
+		}
+		if _, err := OpenatInRoot(root, "none"); !errors.Is(err, syscall.ENOENT) {
+			t.Fatal(flags, err)
+		}
+		root.Close()
+	}
+	if _, err := OpenRoot(top, TrustProc); !errors.Is(err, syscall.EINVAL) {
+		t.Fatal(err)
+	}
+}
+
 func TestNoLinkLeadsOut(t *testing.T) {
 	_, root := tree(t)
 	for _, path := range []string{"up/secret", "abs/secret", "../outside/secret", "in/../../../outside/secret"} {
@@ -235,7 +265,7 @@ func TestLastError(t *testing.T) {
 	_, err := OpenatInRoot(root, "in/none/x")
 	fails(t, err, syscall.ENOENT)
 	cause, is := LastError()
-	if wanted := (Cause{syscall.ENOENT, "Open", "none", "none/x"}); !is || cause != wanted {
+	if wanted := (Cause{syscall.ENOENT, "Open", "none", "none/x", "/a/b"}); !is || cause != wanted {
 		t.Errorf("%v, and not %v", cause, wanted)
 	}
 }

@@ -6,11 +6,24 @@
 #include <stdint.h>
 #include <stdio.h>
 #include <sys/types.h>
+#include <time.h>
 
+/* What is set of an entry that was made. */
+struct tar_status {
+    mode_t mode;
+    uid_t user;
+    gid_t group;
+    struct timespec changed; /* when the contents were */
+};
+
+/*
+ * Types are '0' a file, '1' a hard link, '2' a symbolic link, '3' and '4' a device of characters and of blocks, '5' a
+ * directory, '6' a FIFO, and those of GNU tar. What has any other one is a file, as POSIX.1 and GNU tar take it.
+ */
 struct tar_entry {
     char name[PATH_MAX], link[PATH_MAX]; /* as the archive has them; they are to be trusted in nothing */
-    char type;                           /* '0' a file, '1' a hard link, '2' a symbolic link, '3', '4', '5', '6' */
-    mode_t mode;
+    char type, given;                    /* as it is taken, and as the archive has it */
+    struct tar_status status;
     uint64_t size;                       /* of a file's contents */
     unsigned major, minor;               /* of a device */
 };

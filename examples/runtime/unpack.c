@@ -1,11 +1,15 @@
 /*
  * unpack: unpacks a tar archive below a directory, whatever its names and links lead to, as an image builder does.
  *
- * usage: unpack ROOT <ARCHIVE
+ * usage: unpack [-o] [-s] [-t] ROOT <ARCHIVE
+ *
+ *   -o   sets the owners of the entries, by their numbers
+ *   -s   asks for each entry where its directory stands, so that none is made in one that was moved out before
+ *   -t   sets the times at which they were changed
  *
  * Each name of the archive is a path below ROOT. An entry that is there already is replaced, a link too: nothing is
- * written through it. Modes are set; owners and times aren't. An entry that can't be made is told, and the others are
- * made. Statuses: 0, 1 where an entry could not be made, 2 a wrong command line, 4 any other fault.
+ * written through it. Modes are set. An entry that can't be made is told, and the others are made. Statuses: 0, 1 where
+ * an entry could not be made, 2 a wrong command line, 4 any other fault.
  */
 #define _GNU_SOURCE
 #include "tar.h"
@@ -20,43 +24,146 @@
 #include <sys/sysmacros.h>
 #include <unistd.h>
 
-/* A directory whose mode is set at the end: one that may not be written to could not be filled otherwise. */
+/* What of a directory is set at the end: one that may not be written to could not be filled otherwise. */
 struct directory {
     struct directory *next;
-    mode_t mode;
+    struct tar_status status;
     char name[];
 };
 
 struct unpacking {
     int root;
+    int above;                  /* the directory of the last entry, or -1; and its path */
+    char above_name[PATH_MAX];
+    int at;                     /* what calls take in the root's place, so that their paths begin there */
+    bool owners, strict, times, failed;
     struct tar_reader reader;
     struct directory *directories;
 };
 
-/* Removes what is at the name, so that the entry is made anew. Gives 0 or -errno. */
-static int make_room(int root, const char *name)
+/* Tells on standard error, without letting the archive's bytes at a terminal. */
+static void tell(const char *name, const char *what)
 {
-    int failed = inroot_unlink(root, name, 0);
-    if (failed == -EISDIR)
-        failed = inroot_remove_all(root, name, 0) < 0 ? -EBUSY : 0;
-    return failed == -ENOENT ? 0 : failed;
+    fputs("unpack: ", stderr);
+    for (; *name != '\0'; name++)
+        fputc((unsigned char)*name < ' ' || *name == 0x7f ? '?' : *name, stderr);
+    fprintf(stderr, ": %s\n", what);
 }
 
-/* Makes the directories above the entry that are missing. Gives 0 or -errno. */
-static int make_above(int root, const char *name)
+/* Tells what an entry could not be made for. */
+static void fail(struct unpacking *u, const char *name, int error)
+{
+    tell(name, strerror(error));
+    u->failed = true;
+}
+
+/* ---- the directory of an entry, which stays open while the next ones are made in it */
+
+static bool is_same(int one, int other)
+{
+    struct stat a, b;
+    return fstat(one, &a) == 0 && fstat(other, &b) == 0 && a.st_dev == b.st_dev && a.st_ino == b.st_ino;
+}
+
+/*
+ * Others may have moved the directory meanwhile, out of the root as well: then what was made in it since it was opened
+ * may stand there. This tells so.
+ */
+static void look_again(struct unpacking *u)
+{
+    int now = inroot_open(u->root, u->above_name, 0);
+    if (now < 0 || !is_same(now, u->above)) {
+        tell(u->above_name, "somebody moved or removed it while entries were made in it");
+        u->failed = true;
+    }
+    if (now >= 0)
+        close(now);
+}
+
+static void close_above(struct unpacking *u)
+{
+    if (u->above < 0)
+        return;
+    if (u->strict)
+        inroot_at_end(u->at);
+    else
+        look_again(u);
+    close(u->above);
+    u->above = -1;
+}
+
+/* Has the entry's directory open, which is made where it is missing. Gives 0 or -errno, and the last name. */
+static int open_above(struct unpacking *u, const char *name, const char **last)
 {
     char above[PATH_MAX];
     const char *slash = strrchr(name, '/');
-    if (slash == NULL || slash == name)
+    *last = slash == NULL ? name : slash + 1;
+    /* Of a name in the top directory that one is meant, with or without a slash before it. */
+    snprintf(above, sizeof above, "%.*s", slash == NULL || slash == name ? 1 : (int)(slash - name),
+             slash == NULL || slash == name ? "." : name);
+    if (u->above >= 0 && strcmp(above, u->above_name) == 0)
         return 0;
-    snprintf(above, sizeof above, "%.*s", (int)(slash - name), name);
-    int opened = inroot_mkdir_all(root, above, 0755, 0);
-    if (opened >= 0)
-        close(opened);
-    return opened < 0 ? opened : 0;
+    close_above(u);
+    memcpy(u->above_name, above, sizeof above);
+    u->above = u->at = inroot_mkdir_all(u->root, above, 0755, 0);
+    int failed = u->above < 0 ? u->above : u->strict ? inroot_at_begin(u->root, u->above, &u->at) : 0;
+    if (failed < 0 && u->above >= 0)
+        close(u->above);
+    if (failed < 0)
+        u->above = -1;
+    return failed;
 }
 
-/* Copies the entry's contents. Gives 0 or -errno. */
+/* Removes what is at the name, so that the entry is made anew. Gives 0 or -errno. */
+static int make_room(const struct unpacking *u, const char *last)
+{
+    int failed = inroot_unlink(u->at, last, 0);
+    if (failed == -EISDIR)
+        failed = inroot_remove_all(u->at, last, 0) < 0 ? -EBUSY : 0;
+    return failed == -ENOENT ? 0 : failed;
+}
+
+/* ---- what is set of an entry */
+
+static void times_of(const struct tar_status *status, struct timespec times[2])
+{
+    times[0] = (struct timespec){.tv_nsec = UTIME_OMIT};
+    times[1] = status->changed;
+}
+
+/* Of what is open by O_PATH. The owner first: the kernel takes bits of the mode off with it. Gives 0 or -errno. */
+static int set_found(const struct unpacking *u, int found, const struct tar_status *status, bool is_link)
+{
+    struct timespec times[2];
+    int failed = u->owners ? inroot_fchown(found, status->user, status->group) : 0;
+    if (failed == 0 && !is_link)
+        failed = inroot_fchmod(found, status->mode);
+    times_of(status, times);
+    return failed == 0 && u->times ? inroot_futimens(found, times) : failed;
+}
+
+/* Of a file that is open to be written. */
+static int set_file(const struct unpacking *u, int file, const struct tar_status *status)
+{
+    struct timespec times[2];
+    times_of(status, times);
+    if (u->owners && fchown(file, status->user, status->group) != 0)
+        return -errno;
+    return fchmod(file, status->mode) != 0 || (u->times && futimens(file, times) != 0) ? -errno : 0;
+}
+
+/* Of an entry that was made and given, or wasn't made. Gives 0 or -errno. */
+static int set_given(const struct unpacking *u, int given, const struct tar_entry *entry, bool is_link)
+{
+    int failed = given < 0 ? given : set_found(u, given, &entry->status, is_link);
+    if (given >= 0)
+        close(given);
+    return failed;
+}
+
+/* ---- entries, in the directory that is open. Each gives 0 or -errno, and -EEXIST where there is one already */
+
+/* Copies the entry's contents. */
 static int copy_contents(struct tar_reader *reader, int file)
 {
     static char bytes[65536];
@@ -71,129 +178,179 @@ static int copy_contents(struct tar_reader *reader, int file)
     return length < 0 ? -EIO : 0;
 }
 
-static int make_file(struct unpacking *u, const struct tar_entry *entry)
+static int make_file(struct unpacking *u, const struct tar_entry *entry, const char *last)
 {
     /* O_EXCL: it is this call that makes it, so that nobody's file is written to. */
-    int file = inroot_openat(u->root, entry->name, O_WRONLY | O_CREAT | O_EXCL, 0600, 0);
+    int file = inroot_openat(u->at, last, O_WRONLY | O_CREAT | O_EXCL, 0600, 0);
     if (file < 0)
         return file;
     int failed = copy_contents(&u->reader, file);
-    /* The umask was taken off. */
-    if (failed == 0 && fchmod(file, entry->mode) != 0)
-        failed = -errno;
+    if (failed == 0)
+        failed = set_file(u, file, &entry->status);
     if (close(file) != 0 && failed == 0)
         failed = -errno;
     return failed;
 }
 
-static int make_directory(struct unpacking *u, const struct tar_entry *entry)
+static int make_node(const struct unpacking *u, const struct tar_entry *entry, const char *last, mode_t kind)
+{
+    dev_t device = kind == S_IFIFO ? 0 : makedev(entry->major, entry->minor);
+    return set_given(u, inroot_mknod(u->at, last, kind | 0600, device, INROOT_GIVE), entry, false);
+}
+
+static int make_link(const struct unpacking *u, const struct tar_entry *entry, const char *last)
+{
+    if (!u->owners && !u->times)
+        return inroot_symlink(u->at, entry->link, last, 0);
+    return set_given(u, inroot_symlink(u->at, entry->link, last, INROOT_GIVE), entry, true);
+}
+
+static int make_second_name(const struct unpacking *u, const struct tar_entry *entry, const char *last)
+{
+    int existing = inroot_open(u->root, entry->link, INROOT_NOFOLLOW);
+    int failed = existing < 0 ? existing : inroot_link_fd(u->at, existing, last, 0);
+    if (existing >= 0)
+        close(existing);
+    return failed;
+}
+
+static int make_new(struct unpacking *u, const struct tar_entry *entry, const char *last)
+{
+    switch (entry->type) {
+    case '0': return make_file(u, entry, last);
+    case '1': return make_second_name(u, entry, last);
+    case '2': return make_link(u, entry, last);
+    case '3': return make_node(u, entry, last, S_IFCHR);
+    case '4': return make_node(u, entry, last, S_IFBLK);
+    case '5': return inroot_mkdir(u->at, last, 0700, 0);
+    case '6': return make_node(u, entry, last, S_IFIFO);
+    default: return -EOPNOTSUPP;
+    }
+}
+
+/* Replaces what is there already, but for a directory where one is wanted. Gives 0 or -errno. */
+static int make_in_place(struct unpacking *u, const struct tar_entry *entry, const char *last)
 {
     struct stat about;
-    /* A link or a file with this name is replaced, and a directory is kept. */
-    if (inroot_stat(u->root, entry->name, &about, INROOT_NOFOLLOW) == 0 && !S_ISDIR(about.st_mode)) {
-        int failed = make_room(u->root, entry->name);
-        if (failed < 0)
-            return failed;
-    }
-    int opened = inroot_mkdir_all(u->root, entry->name, 0700, 0);
-    if (opened < 0)
-        return opened;
-    close(opened);
+    int failed = make_new(u, entry, last);
+    if (failed != -EEXIST)
+        return failed;
+    if (entry->type == '5' && inroot_stat(u->at, last, &about, INROOT_NOFOLLOW) == 0 && S_ISDIR(about.st_mode))
+        return 0;
+    failed = make_room(u, last);
+    return failed < 0 ? failed : make_new(u, entry, last);
+}
+
+/* Keeps what is to be set of a directory at the end. Gives 0 or -errno. */
+static int keep(struct unpacking *u, const struct tar_entry *entry)
+{
     size_t length = strlen(entry->name) + 1;
     struct directory *kept = malloc(sizeof *kept + length);
     if (kept == NULL)
         return -ENOMEM;
     memcpy(kept->name, entry->name, length);
-    kept->mode = entry->mode;
+    kept->status = entry->status;
     kept->next = u->directories;
     u->directories = kept;
     return 0;
 }
 
-/* Makes an entry that has no contents. Gives 0 or -errno. */
-static int make_other(int root, const struct tar_entry *entry)
+/* What a path without a last name means, as `..`, is a directory or none. */
+static int make_directories(const struct unpacking *u, const struct tar_entry *entry)
 {
-    switch (entry->type) {
-    case '1': return inroot_link(root, entry->link, entry->name, 0);
-    case '2': return inroot_symlink(root, entry->link, entry->name, 0);
-    case '3': return inroot_mknod(root, entry->name, S_IFCHR | entry->mode, makedev(entry->major, entry->minor), 0);
-    case '4': return inroot_mknod(root, entry->name, S_IFBLK | entry->mode, makedev(entry->major, entry->minor), 0);
-    case '6': return inroot_mknod(root, entry->name, S_IFIFO | entry->mode, 0, 0);
-    default: return -EOPNOTSUPP;
-    }
+    int opened = entry->type == '5' ? inroot_mkdir_all(u->root, entry->name, 0700, 0) : -EINVAL;
+    if (opened >= 0)
+        close(opened);
+    return opened < 0 ? opened : 0;
 }
 
 /* Makes an entry. Gives 0 or -errno. */
 static int make_entry(struct unpacking *u, struct tar_entry *entry)
 {
+    const char *last;
     size_t length = strlen(entry->name);
     while (length > 1 && entry->name[length - 1] == '/')
         entry->name[--length] = '\0';
-    if (entry->type == '5')
-        return make_directory(u, entry);
-    int failed = make_above(u->root, entry->name);
+    int failed = open_above(u, entry->name, &last);
+    bool is_name = *last != '\0' && strcmp(last, ".") != 0 && strcmp(last, "..") != 0;
     if (failed == 0)
-        failed = make_room(u->root, entry->name);
-    if (failed < 0)
-        return failed;
-    return entry->type == '0' ? make_file(u, entry) : make_other(u->root, entry);
+        failed = is_name ? make_in_place(u, entry, last) : make_directories(u, entry);
+    /* Where the directory is gone, the next entry has it made anew. */
+    if (failed == -ENOENT)
+        close_above(u);
+    return failed == 0 && entry->type == '5' ? keep(u, entry) : failed;
 }
 
-/* Tells on standard error, without letting the archive's bytes at a terminal, and gives 1. */
-static int tell(const char *name, const char *what)
+/* Sets what is to be set of directories, the last first, so that what is below is reached before it is closed. */
+static void set_directories(struct unpacking *u)
 {
-    fputs("unpack: ", stderr);
-    for (; *name != '\0'; name++)
-        fputc((unsigned char)*name < ' ' || *name == 0x7f ? '?' : *name, stderr);
-    fprintf(stderr, ": %s\n", what);
-    return 1;
-}
-
-/* Sets the modes of directories, the last first, so that what is below is reached before it is closed. */
-static int set_modes(struct unpacking *u)
-{
-    int status = 0;
     while (u->directories != NULL) {
         struct directory *one = u->directories;
         /* The archive may have put something else in its place: a link is not followed. */
-        int opened = inroot_openat(u->root, one->name, O_RDONLY | O_DIRECTORY | O_NOFOLLOW, 0, 0);
-        if (opened < 0 || fchmod(opened, one->mode) != 0)
-            status = tell(one->name, strerror(opened < 0 ? -opened : errno));
-        if (opened >= 0)
-            close(opened);
+        int found = inroot_openat(u->root, one->name, O_PATH | O_DIRECTORY | O_NOFOLLOW, 0, 0);
+        int failed = found < 0 ? found : set_found(u, found, &one->status, false);
+        if (failed < 0)
+            fail(u, one->name, -failed);
+        if (found >= 0)
+            close(found);
         u->directories = one->next;
         free(one);
     }
-    return status;
+}
+
+/* ---- the archive */
+
+static int unpack(struct unpacking *u)
+{
+    static struct tar_entry entry;
+    int found;
+    while ((found = tar_next(&u->reader, &entry)) == 1) {
+        if (entry.type == '0' && entry.given != '0' && entry.given != '7' && entry.given != '\0')
+            tell(entry.name, "its type is unknown: it is made as a file");
+        int failed = make_entry(u, &entry);
+        if (failed < 0)
+            fail(u, entry.name, -failed);
+    }
+    close_above(u);
+    set_directories(u);
+    if (found < 0)
+        tell("the archive", u->reader.wrong);
+    return found < 0 ? 4 : u->failed ? 1 : 0;
+}
+
+/* Reads the options. Gives whether they are some of these, and a ROOT stands behind them. */
+static bool read_options(int count, char **words, struct unpacking *u)
+{
+    int option;
+    while ((option = getopt(count, words, "ost")) != -1) {
+        if (option == '?')
+            return false;
+        u->owners |= option == 'o';
+        u->strict |= option == 's';
+        u->times |= option == 't';
+    }
+    return optind == count - 1;
 }
 
 int main(int count, char **words)
 {
-    static struct tar_entry entry;
-    struct unpacking u = {.reader = {.file = stdin}};
+    static struct unpacking u = {.above = -1};
+    /* For headers and small files. What is larger is read where it is written from, without a copy. */
+    static char ahead[1 << 13];
     struct inroot_root *root;
-    int found, status = 0;
-    if (count != 2) {
-        fputs("usage: unpack ROOT <ARCHIVE\n", stderr);
+    if (!read_options(count, words, &u)) {
+        fputs("usage: unpack [-o] [-s] [-t] ROOT <ARCHIVE\n", stderr);
         return 2;
     }
-    int failed = inroot_root_open(words[1], 0, &root);
+    setvbuf(stdin, ahead, _IOFBF, sizeof ahead);
+    int failed = inroot_root_open(words[optind], 0, &root);
     if (failed < 0) {
-        tell(words[1], strerror(-failed));
+        tell(words[optind], strerror(-failed));
         return 4;
     }
     u.root = inroot_root_fd(root);
-    while ((found = tar_next(&u.reader, &entry)) == 1) {
-        failed = make_entry(&u, &entry);
-        if (failed < 0)
-            status = tell(entry.name, strerror(-failed));
-    }
-    if (set_modes(&u) != 0)
-        status = 1;
+    u.reader.file = stdin;
+    int status = unpack(&u);
     inroot_root_close(root);
-    if (found < 0) {
-        tell("the archive", u.reader.wrong);
-        return 4;
-    }
     return status;
 }

@@ -107,7 +107,7 @@ static int agrees(int root, int asked)
     int wanted = by_kernel(root, path, flags), got = inroot_open(asked, path, flags);
     int same = wanted < 0 || got < 0 ? wanted == got : same_object(wanted, got);
     if (!same)
-        printf("%s, flags %d: openat2 %d, inroot_open %d\n", path, flags, wanted, got);
+        printf("not so: %s, flags %d: wanted what openat2(2) gives, %d, got %d\n", path, flags, wanted, got);
     if (wanted >= 0)
         close(wanted);
     if (got >= 0)

@@ -6,45 +6,17 @@
  */
 #define _GNU_SOURCE
 #include "filter.h"
+#include "questions.h"
 
 #include <errno.h>
 #include <fcntl.h>
 #include <string.h>
 #include <sys/stat.h>
 
-static int base, root, at;
-
-/* What is done, before which question about a place from here on. */
-static void (*act)(void);
-static int questions;
-
-ssize_t __real_readlinkat(int dir, const char *name, char *text, size_t size);
-ssize_t __wrap_readlinkat(int dir, const char *name, char *text, size_t size);
-
-ssize_t __wrap_readlinkat(int dir, const char *name, char *text, size_t size)
-{
-    if (name[0] != 0 && act != NULL && --questions == 0) {
-        act();
-        act = NULL;
-    }
-    return __real_readlinkat(dir, name, text, size);
-}
-
-static void move(int from, const char *old, int to, const char *new)
-{
-    sure(renameat(from, old, to, new), old);
-}
-
 /* What others do. The neighbour's name is as long as the root's, and what is in it has the same names from there on. */
 static void move_beside(void) { move(root, "2/f", base, "boy/2/f"); }
 static void return_beside(void) { move(base, "boy/2/f", root, "2/f"); }
-static void move_file(void) { move(root, "2/f", base, "f"); }
-static void return_file(void) { move(base, "f", root, "2/f"); }
-static void move_root(void) { move(base, "box", base, "moved"); }
-static void return_root(void) { move(base, "moved", base, "box"); }
 static void exchange_roots(void) { sure(renameat2(base, "box", base, "boy", 2), "exchange"); }
-static void remove_file(void) { sure(unlinkat(root, "2/f", 0), "2/f"); }
-static void make_file(void) { sure(mknodat(root, "2/f", S_IFREG | 0600, 0), "2/f"); }
 
 /* What is done before which question, what undoes it, and what a call of 2/f with one try gives: by /proc, and in a jail. */
 static const struct {
@@ -68,19 +40,10 @@ static const struct {
 
 static void one(size_t row, int flags)
 {
-    int wanted = at == INROOT_JAIL ? rows[row].in_jail : rows[row].by_proc;
-    act = rows[row].done;
-    questions = rows[row].questions;
-    int fd = inroot_open(at, "2/f", flags | INROOT_NO_RETRY);
-    bool has_acted = act == NULL;
-    act = NULL;
-    expect((fd < 0 ? fd : 0) == wanted, "row %zu, flags %d: %d, and not %d", row, flags, fd, wanted);
-    if (fd >= 0)
-        close(fd);
-    if (has_acted)
-        rows[row].undone();
-    else
-        expect(wanted == 0, "row %zu: nothing was asked", row);
+    const struct disturbed how = {
+        rows[row].questions, rows[row].done, rows[row].undone, at == INROOT_JAIL ? rows[row].in_jail : rows[row].by_proc,
+    };
+    disturb(row, "2/f", flags, &how);
 }
 
 static void each(void)
@@ -103,7 +66,7 @@ static void in_jail(void)
     int failed = inroot_jail(root);
     if (failed == -EPERM)
         _exit(NO_RIGHT);
-    expect(failed == 0, "a jail: %d", failed);
+    gives(failed, 0, "a jail");
     refuse(SYS_openat2, EPERM);
     at = INROOT_JAIL;
     each();

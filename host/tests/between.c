@@ -8,7 +8,7 @@
  */
 #define _GNU_SOURCE
 #include "../openat2.h"
-#include "support.h"
+#include "questions.h"
 
 #include <errno.h>
 #include <fcntl.h>
@@ -16,66 +16,25 @@
 #include <sys/stat.h>
 #include <sys/syscall.h>
 
-static int base, root, at;
-
-/* What is done, before which question about a place from here on. */
-static void (*act)(void);
-static int questions;
-
-static void ask(void)
+static long my_syscall(long number, const long *with)
 {
-    if (act != NULL && --questions == 0) {
-        act();
-        act = NULL;
-    }
-}
-
-ssize_t __real_readlinkat(int dir, const char *name, char *text, size_t size);
-ssize_t __wrap_readlinkat(int dir, const char *name, char *text, size_t size);
-long __real_syscall(long number, ...);
-long __wrap_syscall(long number, ...);
-
-ssize_t __wrap_readlinkat(int dir, const char *name, char *text, size_t size)
-{
-    if (name[0] != 0)
-        ask();
-    return __real_readlinkat(dir, name, text, size);
-}
-
-/* Takes more words than were handed in. */
-__attribute__((no_sanitize("address"))) long __wrap_syscall(long number, ...)
-{
-    long with[5];
-    va_list more;
-    va_start(more, number);
-    for (int one = 0; one < 5; one++)
-        with[one] = va_arg(more, long);
-    va_end(more);
     /* What has room for an answer asks for one; the other witness opens names as they are. */
     const struct open_how *how = number == SYS_openat2 ? (const struct open_how *)with[2] : NULL;
     if (number == SYS_getcwd ? with[1] > 2 : how != NULL && how->resolve & RESOLVE_BENEATH && how->flags & O_NOFOLLOW)
         ask();
-    return __real_syscall(number, with[0], with[1], with[2], with[3], with[4]);
+    return REAL_SYSCALL(number, with);
 }
 
-static void move(int from, const char *old, int to, const char *new)
-{
-    sure(renameat(from, old, to, new), old);
-}
+INSTEAD_OF_SYSCALL(my_syscall)
 
 /* What others do. The other root's name is this one's with a letter behind it, as the path of what is in it would be. */
 static void move_beside(void) { move(root, "2", base, "box2"); }
 static void move_back(void) { move(base, "box2", root, "2"); }
 static void move_out(void) { move(root, "2/d", base, "d"); }
 static void move_in(void) { move(base, "d", root, "2/d"); }
-static void move_file(void) { move(root, "2/f", base, "f"); }
-static void return_file(void) { move(base, "f", root, "2/f"); }
-static void move_root(void) { move(base, "box", base, "moved"); }
-static void return_root(void) { move(base, "moved", base, "box"); }
 static void remove_directory(void) { sure(unlinkat(root, "2/d", AT_REMOVEDIR), "2/d"); }
 static void make_directory(void) { sure(mkdirat(root, "2/d", 0755), "2/d"); }
-static void remove_file(void) { sure(unlinkat(root, "2/f", 0), "2/f"); }
-static void make_file(void) { sure(mknodat(root, "2/f", S_IFREG | 0600, 0), "2/f"); }
+static void exchange(void) { sure((int)syscall(SYS_renameat2, root, "2/f", root, "2/g", 2), "2/g"); }
 
 /*
  * Each path, what is done before which question, what undoes it, and what a call with one try gives: by /proc and in a jail;
@@ -102,7 +61,8 @@ static const struct {
     {"2/f", 1, remove_file, make_file, -EAGAIN, -EAGAIN, -ENOENT, -ENOENT},
     {"2/d", 1, move_root, return_root, 0, 0, 0, 0},
     {"2/d", 2, move_root, return_root, -EAGAIN, 0, 0, 0},
-    {"2/f", 3, move_root, return_root, 0, 0, 0, 0},
+    {"2/f", 3, move_root, return_root, -EAGAIN, 0, 0, 0},
+    {"2/f", 1, exchange, exchange, -EAGAIN, -EAGAIN, 0, 0},
 };
 
 /* One call of a row, whose path stands behind these words. */
@@ -110,18 +70,8 @@ static void one(size_t row, const char *before, int flags, int wanted)
 {
     char path[16];
     snprintf(path, sizeof path, "%s%s", before, rows[row].path);
-    act = rows[row].done;
-    questions = rows[row].questions;
-    int fd = inroot_open(at, path, flags | INROOT_NO_RETRY);
-    bool has_acted = act == NULL;
-    act = NULL;
-    expect((fd < 0 ? fd : 0) == wanted, "row %zu, %s, flags %d: %d", row, path, flags, fd);
-    if (fd >= 0)
-        close(fd);
-    if (has_acted)
-        rows[row].undone();
-    else
-        expect(wanted == 0, "row %zu: nothing was asked", row);
+    const struct disturbed how = {rows[row].questions, rows[row].done, rows[row].undone, wanted};
+    disturb(row, path, flags, &how);
 }
 
 static void each(void)
@@ -130,6 +80,8 @@ static void each(void)
     for (size_t row = 0; row < sizeof rows / sizeof *rows; row++) {
         int by_steps = is_jail ? rows[row].in_jail : rows[row].by_proc;
         one(row, "", INROOT_ONE_BY_ONE, by_steps);
+        /* The look-up by the names passed is all that is asked for then, where it comes to the object. */
+        one(row, "", INROOT_ONE_BY_ONE | INROOT_BELOW, rows[row].questions > 1 ? 0 : by_steps);
         int at_once = is_jail ? rows[row].at_once_in_jail : rows[row].at_once_by_proc;
         /* Names that are left from the root are passed by one system call, too, so that no look-up is asked for. */
         one(row, "./", 0, rows[row].questions > (is_jail ? 1 : 2) ? 0 : by_steps);
@@ -177,6 +129,7 @@ int main(int count, char **words)
     sure(mkdirat(root, "2", 0755), "2");
     make_directory();
     make_file();
+    sure(mknodat(root, "2/g", S_IFREG | 0600, 0), "2/g");
     apart(by_proc);
     int skipped = apart(in_jail);
     apart(in_trusting_jail);

@@ -1,12 +1,13 @@
 /*
  * conversations: what the functions of the proved library are asked and tell, to the number and the byte. The steps of
  * a call are answered by hand, in rooms of each size up to one that is large enough. Errors are those of errno(3), as
- * openat2(2), mkdirat(2) and renameat2(2) give them. And which paths are opened at once.
+ * openat2(2), mkdirat(2) and renameat2(2) give them. Which paths are opened at once, and which errors refuse a step.
  *
  * usage: conversations. Exits 0 where each row holds.
  */
 #include "../calls.h"
 
+#include <errno.h>
 #include <stdio.h>
 #include <string.h>
 
@@ -461,7 +462,126 @@ static void openings_at_once(void)
     opens_long(5000, 200, false, false);
 }
 
+/* ---- a path taken apart */
+
+#define TEXT_OF(path) path, sizeof path - 1
+
+static const struct {
+    const char *path;
+    size_t path_length;
+    bool takes_slash;
+    size_t name, length;
+    bool slash;
+    uint8_t error;
+} splits[] = {
+    {TEXT_OF("a/b/f"), false, 4, 1, false, 0}, {TEXT_OF("f"), false, 0, 1, false, 0},
+    {TEXT_OF("/f"), false, 1, 1, false, 0},
+    {TEXT_OF("//a//long"), false, 5, 4, false, 0}, {TEXT_OF("a/b/"), true, 2, 1, true, 0},
+    {TEXT_OF("a/b///"), true, 2, 1, true, 0},
+    {TEXT_OF("a/b/"), false, 0, 0, false, ENOTDIR}, {TEXT_OF("../..a"), false, 3, 3, false, 0},
+    {TEXT_OF("a/..."), false, 2, 3, false, 0},
+    {TEXT_OF("."), false, 0, 0, false, EINVAL}, {TEXT_OF("a/.."), true, 0, 0, false, EINVAL},
+    {TEXT_OF("a/./"), true, 0, 0, false, EINVAL},
+    {TEXT_OF("../"), false, 0, 0, false, EINVAL}, {TEXT_OF("/"), true, 0, 0, false, EINVAL},
+    {TEXT_OF("///"), false, 0, 0, false, EINVAL},
+    {TEXT_OF(""), false, 0, 0, false, ENOENT}, {TEXT_OF("a\0/f"), false, 0, 0, false, EINVAL},
+    {TEXT_OF("\xff/\x01"), false, 2, 1, false, 0},
+};
+
+static void split(const char *path, size_t length, bool takes, const struct inroot_parted *wanted)
+{
+    struct inroot_parted got = {.name = 77, .length = 77, .slash = true, .error = 77};
+    inroot_split((const unsigned char *)path, length, takes, &got);
+    rows++;
+    if (got.name == wanted->name && got.length == wanted->length && got.slash == wanted->slash && got.error == wanted->error)
+        return;
+    wrong++;
+    printf("not so: %.20s of %zu bytes, %u: the name at %zu of %zu bytes, slash %u, error %u\n", path, length, takes, got.name,
+           got.length, got.slash, got.error);
+}
+
+/* A name of so many bytes behind `a/`, with a slash behind it or none. */
+static void split_long(size_t name, bool slash, bool takes, uint8_t error)
+{
+    char path[8192] = "a/";
+    memset(path + 2, 'n', name);
+    path[2 + name] = '/';
+    const struct inroot_parted fits = {.name = 2, .length = name, .slash = slash}, fails = {.error = error};
+    split(path, 2 + name + slash, takes, error ? &fails : &fits);
+}
+
+static void paths_taken_apart(void)
+{
+    for (size_t at = 0; at < sizeof splits / sizeof *splits; at++) {
+        const struct inroot_parted wanted = {
+            .name = splits[at].name, .length = splits[at].length, .slash = splits[at].slash, .error = splits[at].error,
+        };
+        split(splits[at].path, splits[at].path_length, splits[at].takes_slash, &wanted);
+    }
+    split_long(255, false, false, 0);
+    split_long(255, true, true, 0);
+    split_long(256, false, false, ENAMETOOLONG);
+    split_long(256, true, false, ENOTDIR);
+    split_long(4093, false, false, ENAMETOOLONG);
+    split_long(4094, true, true, ENAMETOOLONG);
+    split_long(5000, false, false, ENAMETOOLONG);
+}
+
+/* ---- errors */
+
 #define COUNT(table) (sizeof(table) / sizeof *(table))
+
+/* The errors by which the step table refuses a step; a rename by its mode. */
+struct refusals {
+    uint8_t step, mode;
+    uint32_t errors[5];
+};
+
+static const struct refusals refusals[] = {
+    {INROOT_STEP_OPEN, 0, {ENOENT}},
+    {INROOT_STEP_PARENT, 0, {ENOENT}},
+    {INROOT_STEP_READLINK, 0, {EINVAL}},
+    {INROOT_STEP_MAKE_DIR, 0, {ENOENT, EEXIST}},
+    {INROOT_STEP_MAKE_FILE, 0, {ENOENT, EEXIST}},
+    {INROOT_STEP_MAKE_LINK, 0, {ENOENT, EEXIST}},
+    {INROOT_STEP_REMOVE_FILE, 0, {ENOENT, EISDIR}},
+    {INROOT_STEP_REMOVE_DIR, 0, {ENOENT, ENOTDIR, ENOTEMPTY}},
+    {INROOT_STEP_RENAME, 0, {ENOENT, ENOTDIR, EISDIR, ENOTEMPTY}},
+    {INROOT_STEP_RENAME, 1, {ENOENT, EEXIST}},
+    {INROOT_STEP_RENAME, 2, {ENOENT}},
+};
+
+/* Of any step that has no row, no error is one. */
+static bool has(uint8_t step, uint8_t mode, uint32_t error)
+{
+    for (size_t at = 0; at < COUNT(refusals); at++)
+        for (size_t one = 0; one < COUNT(refusals[at].errors); one++)
+            if (refusals[at].step == step && (step != INROOT_STEP_RENAME || refusals[at].mode == mode) &&
+                refusals[at].errors[one] == error)
+                return error != 0;
+    return false;
+}
+
+static void refuses(uint8_t step, uint8_t mode, size_t text, uint32_t error, bool wanted)
+{
+    rows++;
+    if (inroot_is_refusal(step, mode, text, error) == wanted)
+        return;
+    wrong++;
+    printf("not so: step %u by mode %u, with a text of %zu bytes: error %u is to be %u\n", step, mode, text, error, wanted);
+}
+
+static void errors(void)
+{
+    for (unsigned step = 0; step < 256; step++)
+        for (unsigned mode = 0; mode < 3; mode++)
+            for (uint32_t error = 0; error < 4096; error++)
+                refuses((uint8_t)step, (uint8_t)mode, 4095, error, has((uint8_t)step, (uint8_t)mode, error));
+    for (unsigned step = 0; step < 256; step++)
+        refuses((uint8_t)step, 0, 4096, ENAMETOOLONG, step == INROOT_STEP_MAKE_LINK);
+    refuses(INROOT_STEP_OPEN, 0, 0, ENOENT + (1U << 16), false);
+    refuses(INROOT_STEP_OPEN, 0, 0, UINT32_MAX, false);
+}
 
 int main(void)
 {
@@ -474,6 +594,8 @@ int main(void)
             converses(&changes[at], size);
     }
     openings_at_once();
+    paths_taken_apart();
+    errors();
     printf("conversations: %u of %u rows not as they are to be\n", wrong, rows);
     return wrong != 0;
 }

@@ -8,6 +8,7 @@
  */
 #define _GNU_SOURCE
 #include "support.h"
+#include "wraps.h"
 
 #include <errno.h>
 #include <fcntl.h>
@@ -32,10 +33,6 @@ int __real_madvise(void *page, size_t size, int advice);
 int __wrap_madvise(void *page, size_t size, int advice);
 int __real_pthread_setspecific(pthread_key_t key, const void *value);
 int __wrap_pthread_setspecific(pthread_key_t key, const void *value);
-ssize_t __real_readlinkat(int dir, const char *name, char *text, size_t size);
-ssize_t __wrap_readlinkat(int dir, const char *name, char *text, size_t size);
-long __real_syscall(long number, ...);
-long __wrap_syscall(long number, ...);
 
 static int refused(int error)
 {
@@ -55,18 +52,11 @@ int __wrap_pthread_setspecific(pthread_key_t key, const void *value)
 
 ssize_t __wrap_readlinkat(int dir, const char *name, char *text, size_t size)
 {
-    return no_text && name[0] == 0 ? refused(no_text) : __real_readlinkat(dir, name, text, size);
+    return no_text && strncmp(name, "thread-self/", 12) != 0 ? refused(no_text) : __real_readlinkat(dir, name, text, size);
 }
 
-/* Takes more words than were handed in. */
-__attribute__((no_sanitize("address"))) long __wrap_syscall(long number, ...)
+static long my_syscall(long number, const long *with)
 {
-    long with[5];
-    va_list more;
-    va_start(more, number);
-    for (int one = 0; one < 5; one++)
-        with[one] = va_arg(more, long);
-    va_end(more);
     if (number == SYS_getcwd && with[1] == PATH_MAX && to_shut >= 0) {
         sure(seteuid(0), "seteuid");
         sure(fchmod(to_shut, 0), "fchmod");
@@ -79,8 +69,10 @@ __attribute__((no_sanitize("address"))) long __wrap_syscall(long number, ...)
     }
     if (number == SYS_getdents64 && no_names)
         return refused(no_names);
-    return __real_syscall(number, with[0], with[1], with[2], with[3], with[4]);
+    return REAL_SYSCALL(number, with);
 }
+
+INSTEAD_OF_SYSCALL(my_syscall)
 
 /* ---- a thread that can't keep what it needs in a jail */
 
@@ -88,8 +80,8 @@ static void jail_refused(const char *what, int flags)
 {
     int before = open_descriptors();
     gives(inroot_jail_with(root, flags), -ENOMEM, "%s", what);
-    expect(open_descriptors() == before, "%s: descriptors are left open", what);
-    expect(faccessat(AT_FDCWD, "/proc", F_OK, 0) == 0, "%s: the thread was moved", what);
+    gives(open_descriptors(), before, "%s: open descriptors", what);
+    gives(faccessat(AT_FDCWD, "/proc", F_OK, 0), 0, "%s: the thread's own /proc", what);
     gives(inroot_open(INROOT_JAIL, "a", 0), -EBADF, "%s", what);
 }
 
@@ -127,12 +119,13 @@ static void shut_out(void)
     to_shut = dir;
     gives(inroot_open(INROOT_JAIL, "a", 0), -EACCES, "a directory below a root that is shut meanwhile");
     expect(to_shut < 0, "the root wasn't shut");
-    expect(open_descriptors() == before, "a root that is shut: descriptors are left open");
+    gives(open_descriptors(), before, "a root that is shut: open descriptors");
     sure(seteuid(0), "seteuid");
     sure(fchmod(dir, 0755), "fchmod");
     sure(seteuid(65534), "seteuid");
     int fd = inroot_open(INROOT_JAIL, "a", 0);
-    expect(fd >= 0 && close(fd) == 0, "the same afterwards: %d", fd);
+    gives_fd(fd, "the same afterwards");
+    gives(close(fd), 0, "its closing");
 }
 
 /* ---- what can't be read */
@@ -153,8 +146,8 @@ static void unread(void)
     no_names = 0;
     interrupts = 3;
     gives(inroot_remove_all(root, "a/t", 0), 2, "a directory whose reading is interrupted");
-    expect(interrupts == 0, "the directory wasn't read");
-    expect(open_descriptors() == before, "descriptors are left open");
+    gives(interrupts, 0, "interruptions that are to come still");
+    gives(open_descriptors(), before, "open descriptors");
 }
 
 /* ---- texts that are too long */
@@ -202,7 +195,7 @@ static void without_numbers(void)
     allow((rlim_t)take_gaps(root) + 1);
     gives(inroot_open(root, "a/f", 0), -EMFILE, "the first call with one number left");
     allow(256);
-    expect(inroot_open(root, "a/f", 0) >= 0, "the call afterwards");
+    gives_fd(inroot_open(root, "a/f", 0), "the call afterwards");
 }
 
 /* The one that is left is that of a standard file, which /proc isn't to have. */
@@ -213,7 +206,7 @@ static void without_high_numbers(void)
     allow(STDERR_FILENO + 1);
     gives(inroot_use_proc(root), -EINVAL, "what is no /proc");
     int jailed = inroot_jail(root);
-    expect(jailed == -EMFILE || jailed == -EPERM, "a jail with the number of a standard file left: %d", jailed);
+    gives(jailed, jailed == -EPERM ? -EPERM : -EMFILE, "a jail with the number of a standard file left");
     gives(inroot_root_open("/", 0, &kept), -EMFILE, "a root with the number of a standard file left");
     allow(256);
     expect(fcntl(STDIN_FILENO, F_GETFD) < 0, "the number of a standard file was taken");

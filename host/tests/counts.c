@@ -10,6 +10,7 @@
 #define _GNU_SOURCE
 #include "../openat2.h"
 #include "support.h"
+#include "wraps.h"
 
 #include <errno.h>
 #include <pthread.h>
@@ -39,6 +40,7 @@ static int refusal, refusals = -1, no_advice;
 
 COUNTED(int, fstat, (int fd, struct stat *about), (fd, about))
 COUNTED(int, fstatfs, (int fd, struct statfs *about), (fd, about))
+COUNTED(int, statfs, (const char *path, struct statfs *about), (path, about))
 #ifdef STATX_INO
 COUNTED(int, statx, (int dir, const char *name, int flags, unsigned what, struct statx *about), (dir, name, flags, what, about))
 #endif
@@ -51,17 +53,21 @@ COUNTED(int, mkdirat, (int dir, const char *name, mode_t mode), (dir, name, mode
 COUNTED(int, mknodat, (int dir, const char *name, mode_t mode, dev_t dev), (dir, name, mode, dev))
 COUNTED(int, unlinkat, (int dir, const char *name, int flags), (dir, name, flags))
 
-int __real_openat(int dir, const char *name, int flags, ...);
-int __wrap_openat(int dir, const char *name, int flags, ...);
-long __real_syscall(long number, ...);
-long __wrap_syscall(long number, ...);
+int __real_fcntl(int fd, int what, ...);
+int __wrap_fcntl(int fd, int what, ...);
 
-int __wrap_openat(int dir, const char *name, int flags, ...)
+int __wrap_fcntl(int fd, int what, ...)
 {
     va_list more;
-    va_start(more, flags);
-    mode_t mode = flags & O_CREAT ? va_arg(more, mode_t) : 0;
+    va_start(more, what);
+    int with = va_arg(more, int);
     va_end(more);
+    made++;
+    return __real_fcntl(fd, what, with);
+}
+
+static int my_openat(int dir, const char *name, int flags, mode_t mode)
+{
     made++;
     created += (flags & O_EXCL) != 0;
     if (!is_taken || !(flags & O_EXCL))
@@ -69,6 +75,8 @@ int __wrap_openat(int dir, const char *name, int flags, ...)
     errno = EEXIST;
     return -1;
 }
+
+INSTEAD_OF_OPENAT(my_openat)
 
 int __real_madvise(void *page, size_t size, int advice);
 int __wrap_madvise(void *page, size_t size, int advice);
@@ -81,14 +89,8 @@ int __wrap_madvise(void *page, size_t size, int advice)
     return -1;
 }
 
-long __wrap_syscall(long number, ...)
+static long my_syscall(long number, const long *with)
 {
-    long with[5];
-    va_list more;
-    va_start(more, number);
-    for (int at = 0; at < 5; at++)
-        with[at] = va_arg(more, long);
-    va_end(more);
     made++;
     runs += number == SYS_openat2;
     if (number == SYS_openat2 && refusal != 0 && refusals != 0) {
@@ -96,8 +98,10 @@ long __wrap_syscall(long number, ...)
         errno = refusal;
         return -1;
     }
-    return __real_syscall(number, with[0], with[1], with[2], with[3], with[4]);
+    return REAL_SYSCALL(number, with);
 }
+
+INSTEAD_OF_SYSCALL(my_syscall)
 
 static int root, at;
 static char deep[128] = "d";
@@ -136,6 +140,71 @@ static int make_all(const char *path, int flags)
     return inroot_mkdir_all(at, path, 0755, flags);
 }
 
+/* What is made meanwhile isn't counted. */
+static int removed(int result, const char *path)
+{
+    unsigned kept = made;
+    unlinkat(root, path, 0);
+    made = kept;
+    return result;
+}
+
+static int open_parent(const char *path, int flags)
+{
+    char last[256];
+    return inroot_open_parent(at, path, flags, last);
+}
+
+static int open_partial(const char *path, int flags)
+{
+    char rest[256];
+    return inroot_open_partial(at, path, flags, rest, sizeof rest);
+}
+
+/* The thread's own number for `a/b`. */
+static int number_of(void)
+{
+    static _Thread_local int number;
+    unsigned kept = made;
+    if (number == 0)
+        sure(inroot_at_begin(at, sure(inroot_open(at, "a/b", 0), "a/b"), &number), "inroot_at_begin");
+    made = kept;
+    return number;
+}
+
+static int open_from(const char *path, int flags)
+{
+    return inroot_open(number_of(), path, flags);
+}
+
+static int make_from(const char *path, int flags)
+{
+    return removed(inroot_mkfile(number_of(), path, 0600, flags), "a/b/new");
+}
+
+static int give(const char *path, int flags)
+{
+    return removed(inroot_mkfile(at, path, 0600, flags | INROOT_GIVE), path);
+}
+
+static int make_file_all(const char *path, int flags)
+{
+    return inroot_mkfile_all(at, path, 0600, 0755, flags);
+}
+
+/* Of what the number's directory has open. */
+static int tell_place(const char *path, int flags)
+{
+    char place[256];
+    (void)flags;
+    static _Thread_local int fd;
+    unsigned kept = made;
+    if (fd == 0)
+        fd = sure(inroot_open(at, path, 0), path);
+    made = kept;
+    return inroot_place(at, fd, place, sizeof place) > 0 ? 0 : -1;
+}
+
 /* Where a call is made; each of them is followed by the same name by name. */
 enum { BY_JAIL = 0, BY_PROC = 2, BY_TRUST = 4, COLUMNS = 6 };
 
@@ -145,21 +214,29 @@ static const struct {
     int (*call)(const char *path, int flags);
     unsigned most[COLUMNS];
 } rows[] = {
-    {"open a/b", "a/b", open_it, {7, 9, 5, 11, 7, 9}},
-    {"open a/b/f, a file", "a/b/f", open_it, {6, 15, 5, 14, 5, 14}},
-    {"open four times b/..", "a/b/../b/../b/../b/..", open_it, {22, 39, 32, 50, 22, 39}},
-    {"open 32 directories", deep, open_it, {7, 69, 5, 71, 7, 69}},
-    {"open 32, O_PATH | O_DIRECTORY", deep, open_directory, {6, 68, 4, 70, 6, 68}},
-    {"open d/l/f, l a link to ../a/b", "d/l/f", open_it, {23, 30, 24, 32, 22, 29}},
-    {"open a/b/none", "a/b/none", open_it, {6, 5, 4, 5, 6, 5}},
-    {"open /a/b/none", "/a/b/none", open_it, {6, 5, 4, 5, 6, 5}},
+    {"open a/b", "a/b", open_it, {7, 9, 4, 11, 6, 9}},
+    {"open a/b/f, a file", "a/b/f", open_it, {6, 14, 4, 13, 3, 11}},
+    {"open four times b/..", "a/b/../b/../b/../b/..", open_it, {22, 39, 32, 50, 21, 39}},
+    {"open 32 directories", deep, open_it, {7, 69, 4, 71, 6, 69}},
+    {"open 32, O_PATH | O_DIRECTORY", deep, open_directory, {6, 68, 4, 70, 5, 68}},
+    {"open d/l/f, l a link to ../a/b", "d/l/f", open_it, {21, 29, 22, 31, 19, 28}},
+    {"open a/b/none", "a/b/none", open_it, {6, 5, 4, 5, 4, 5}},
+    {"open /a/b/none", "/a/b/none", open_it, {6, 5, 4, 5, 4, 5}},
     {"open /a/none beneath", "/a/none", open_beneath, {0, 0, 1, 1, 0, 0}},
-    {"open f, a file", "f", open_it, {6, 11, 5, 10, 5, 10}},
-    {"open l, a link to a/b", "l", open_it, {13, 14, 11, 16, 13, 14}},
-    {"read a/b/f", "a/b/f", read_it, {9, 18, 8, 17, 8, 17}},
-    {"create a/b/new", "a/b/new", create, {8, 10, 6, 12, 8, 10}},
-    {"make n/e/w/s", "n/e/w/s", make_all, {20, 17, 21, 19, 20, 17}},
-    {"make a/b, which is there", "a/b", make_all, {6, 8, 4, 10, 6, 8}},
+    {"open f, a file", "f", open_it, {6, 10, 4, 9, 3, 7}},
+    {"open l, a link to a/b", "l", open_it, {10, 14, 8, 16, 9, 14}},
+    {"read a/b/f", "a/b/f", read_it, {9, 17, 8, 16, 6, 14}},
+    {"create a/b/new", "a/b/new", create, {8, 10, 6, 12, 7, 10}},
+    {"make n/e/w/s", "n/e/w/s", make_all, {20, 17, 21, 19, 19, 17}},
+    {"make a/b, which is there", "a/b", make_all, {6, 8, 4, 10, 5, 8}},
+    {"open the parent of a/b/f", "a/b/f", open_parent, {6, 8, 4, 10, 5, 8}},
+    {"open the part of a/b/none/x", "a/b/none/x", open_partial, {21, 18, 15, 20, 16, 18}},
+    {"open f from a/b", "f", open_from, {19, 19, 19, 19, 16, 16}},
+    {"make new from a/b", "new", make_from, {11, 11, 11, 11, 9, 9}},
+    {"make and give a/b/new", "a/b/new", give, {12, 14, 10, 16, 11, 14}},
+    {"make a/b/f with all, which is there", "a/b/f", make_file_all, {6, 15, 5, 14, 3, 12}},
+    {"make n/e/w with all", "n/e/w", make_file_all, {32, 26, 33, 30, 29, 26}},
+    {"tell the place of a/b", "a/b", tell_place, {10, 10, 12, 12, 10, 10}},
 };
 
 enum { ROWS = sizeof rows / sizeof *rows };
@@ -171,10 +248,11 @@ static unsigned count_one(int row, int flags)
     made = 0;
     int fd = rows[row].call(rows[row].path, flags);
     unsigned count = made;
-    expect(fd >= 0 || strstr(rows[row].path, "none") != NULL, "%s: %d", rows[row].what, fd);
-    if (fd >= 0)
+    if (strstr(rows[row].path, "none") == NULL)
+        gives_fd(fd, "%s", rows[row].what);
+    if (fd > 0)
         close(fd);
-    if (rows[row].call == make_all)
+    if (rows[row].call == make_all || rows[row].call == make_file_all)
         inroot_remove_all(at, "n", 0);
     return count;
 }
@@ -185,7 +263,7 @@ static void count_all(int column)
         for (int way = 0; way < 2; way++) {
             unsigned count = counted[row][column + way] = count_one(row, way ? INROOT_ONE_BY_ONE : 0);
             unsigned most = rows[row].most[column + way];
-            expect(count <= most, "%s makes %u system calls, and %u are told of", rows[row].what, count, most);
+            gives_most(count, most, "%s: system calls", rows[row].what);
         }
 }
 
@@ -204,12 +282,12 @@ static void *count_without_advice(void *unused)
 {
     int before = open_descriptors();
     no_advice = ENOMEM;
-    expect(inroot_jail_with(root, INROOT_TRUST_PROC) == -ENOMEM, "a jail without memory");
+    gives(inroot_jail_with(root, INROOT_TRUST_PROC), -ENOMEM, "a jail without memory");
     no_advice = EINVAL;
     errno = -inroot_jail_with(root, INROOT_TRUST_PROC);
     no_advice = 0;
     sure(-errno, "inroot_jail_with");
-    expect(open_descriptors() == before, "a descriptor is kept that can't be told from a parent's");
+    gives(open_descriptors(), before, "descriptors, where none can be told from a parent's");
     at = INROOT_JAIL;
     count_all(BY_JAIL);
     return unused;
@@ -232,18 +310,18 @@ static void tries(void)
     created = 0;
     long from = microseconds();
     for (unsigned one = 1; one <= 100; one++) {
-        expect(inroot_openat(at, "a/taken", O_WRONLY | O_CREAT, 0600, INROOT_NO_RETRY) == -EAGAIN, "one try");
-        expect(created == one, "%u tries, and not %u", created, one);
+        gives(inroot_openat(at, "a/taken", O_WRONLY | O_CREAT, 0600, INROOT_NO_RETRY), -EAGAIN, "one try");
+        gives(created, one, "its tries");
     }
     long one = microseconds() - from;
     created = 0;
     from = microseconds();
-    expect(inroot_openat(at, "a/taken", O_WRONLY | O_CREAT, 0600, 0) == -EAGAIN, "all tries");
-    expect(created == INROOT_TRIES, "%u tries, and not all", created);
+    gives(inroot_openat(at, "a/taken", O_WRONLY | O_CREAT, 0600, 0), -EAGAIN, "all tries");
+    gives(created, INROOT_TRIES, "their number");
     long all = microseconds() - from;
-    expect(all >= 17000, "all tries took %ld microseconds", all);
+    gives_least(all, 17000, "all tries, in microseconds");
     expect(one / 100 < all, "one try took %ld microseconds, and all %ld", one / 100, all);
-    expect(inroot_openat(at, "a/taken", O_WRONLY | O_CREAT | O_EXCL, 0600, 0) == -EEXIST, "what is there");
+    gives(inroot_openat(at, "a/taken", O_WRONLY | O_CREAT | O_EXCL, 0600, 0), -EEXIST, "what is there");
     is_taken = false;
 }
 
@@ -253,13 +331,16 @@ static void *without_openat2(void *unused)
     struct stat about;
     runs = 0;
     for (int turn = 0; turn < 3; turn++) {
-        expect(inroot_stat(at, "a/b/../b/f", &about, 0) == 0 && S_ISREG(about.st_mode), "a file");
-        expect(inroot_stat(at, "d/l/f", &about, 0) == 0 && S_ISREG(about.st_mode), "a file behind a link");
-        expect(inroot_stat(at, "a/b/none", &about, 0) == -ENOENT, "what isn't there");
-        expect(inroot_stat(at, "a/b/f/x", &about, 0) == -ENOTDIR, "what is below a file");
-        expect(inroot_stat(at, deep, &about, 0) == 0 && S_ISDIR(about.st_mode), "many directories");
+        gives(inroot_stat(at, "a/b/../b/f", &about, 0), 0, "a file");
+        gives_mode(about.st_mode & S_IFMT, S_IFREG, "a file: its kind");
+        gives(inroot_stat(at, "d/l/f", &about, 0), 0, "a file behind a link");
+        gives_mode(about.st_mode & S_IFMT, S_IFREG, "a file behind a link: its kind");
+        gives(inroot_stat(at, "a/b/none", &about, 0), -ENOENT, "what isn't there");
+        gives(inroot_stat(at, "a/b/f/x", &about, 0), -ENOTDIR, "what is below a file");
+        gives(inroot_stat(at, deep, &about, 0), 0, "many directories");
+        gives_mode(about.st_mode & S_IFMT, S_IFDIR, "many directories: its kind");
     }
-    expect(runs == 1, "openat2(2) was tried %u times", runs);
+    gives(runs, 1, "tries of openat2(2)");
     return unused;
 }
 
@@ -269,12 +350,12 @@ static void *failing_openat2(void *unused)
     struct stat about;
     runs = 0;
     for (int turn = 0; turn < 3; turn++) {
-        expect(inroot_stat(at, "a/b/../b/f", &about, 0) == -refusal, "a file");
-        expect(inroot_stat(at, "a/b/none", &about, 0) == -ENOENT, "what isn't there");
-        expect(inroot_stat(at, "a/b/f/x", &about, 0) == -ENOTDIR, "what is below a file");
-        expect(inroot_stat(at, deep, &about, 0) == -refusal, "many directories");
+        gives(inroot_stat(at, "a/b/../b/f", &about, 0), -refusal, "a file");
+        gives(inroot_stat(at, "a/b/none", &about, 0), -ENOENT, "what isn't there");
+        gives(inroot_stat(at, "a/b/f/x", &about, 0), -ENOTDIR, "what is below a file");
+        gives(inroot_stat(at, deep, &about, 0), -refusal, "many directories");
     }
-    expect(runs > 12, "openat2(2) was tried %u times", runs);
+    gives_least(runs, 13, "tries of openat2(2)");
     return unused;
 }
 
@@ -285,9 +366,12 @@ static void *refused_once(void *unused)
     refusals = 1;
     for (int turn = 0; turn < 3; turn++) {
         runs = 0;
-        expect(inroot_stat(at, "a/b/f", &about, 0) == 0 && S_ISREG(about.st_mode), "a file");
-        expect(inroot_stat(at, deep, &about, 0) == 0 && S_ISDIR(about.st_mode), "many directories");
-        expect(runs > 1 && refusals == 0, "openat2(2) was tried %u times in turn %d", runs, turn);
+        gives(inroot_stat(at, "a/b/f", &about, 0), 0, "a file");
+        gives_mode(about.st_mode & S_IFMT, S_IFREG, "a file: its kind");
+        gives(inroot_stat(at, deep, &about, 0), 0, "many directories");
+        gives_mode(about.st_mode & S_IFMT, S_IFDIR, "many directories: its kind");
+        gives_least(runs, 2, "turn %d: tries of openat2(2)", turn);
+        gives(refusals, 0, "turn %d: refusals of it that are to come still", turn);
     }
     refusals = -1;
     return unused;

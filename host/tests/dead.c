@@ -8,6 +8,7 @@
  */
 #define _GNU_SOURCE
 #include "support.h"
+#include "wraps.h"
 
 #include <errno.h>
 #include <limits.h>
@@ -20,18 +21,16 @@ static char where[PATH_MAX];
 static int root, at;
 static const char *removed;
 
-int __real_openat(int dir, const char *name, int flags, ...);
-int __wrap_openat(int dir, const char *name, int flags, ...);
-
-/* What creates isn't made here. */
-int __wrap_openat(int dir, const char *name, int flags, ...)
+static int my_openat(int dir, const char *name, int flags, mode_t mode)
 {
     if (removed != NULL && strcmp(name, "..") == 0) {
         sure(unlinkat(root, removed, AT_REMOVEDIR), removed);
         removed = NULL;
     }
-    return __real_openat(dir, name, flags);
+    return __real_openat(dir, name, flags, mode);
 }
+
+INSTEAD_OF_OPENAT(my_openat)
 
 /* With another try the name isn't there. */
 static void one(const char *what, const char *name)
@@ -39,15 +38,16 @@ static void one(const char *what, const char *name)
     char path[64];
     snprintf(path, sizeof path, "%s/../f", name);
     int fd = inroot_open(at, path, INROOT_ONE_BY_ONE);
-    expect(fd >= 0, "%s, %s: what stands", what, name);
+    gives_fd(fd, "%s, %s: what stands", what, name);
     close(fd);
     removed = name;
     fd = inroot_open(at, path, INROOT_ONE_BY_ONE | INROOT_NO_RETRY);
-    expect(fd == -EAGAIN && removed == NULL, "%s, %s: what was above it by one try: %d", what, name, fd);
+    gives(fd, -EAGAIN, "%s, %s: what was above it by one try", what, name);
+    expect(removed == NULL, "%s, %s: it was removed meanwhile", what, name);
     if (fd >= 0)
         close(fd);
     removed = NULL;
-    expect(inroot_open(at, path, INROOT_ONE_BY_ONE) == -ENOENT, "%s, %s: by another try", what, name);
+    gives(inroot_open(at, path, INROOT_ONE_BY_ONE), -ENOENT, "%s, %s: by another try", what, name);
 }
 
 static void each(const char *what)

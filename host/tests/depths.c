@@ -1,35 +1,35 @@
 /*
  * depths: trees that are deeper than one of the proved calls goes, twice over, and a directory with more names than a
- * call holds. They are removed whole; and where others take the deep part away meanwhile, the call doesn't follow it.
+ * call holds. They are removed whole; where others take the deep part away meanwhile, the call doesn't follow it; and where
+ * the kernel refuses to remove the deepest, nothing stays open.
  * To be linked with --wrap=openat.
  *
- * usage: depths DIR. Exits 0 where that holds.
+ * usage: depths DIR. Exits 0 where that holds. 78: no right to be filtered, so that a part is left out.
  */
 #define _GNU_SOURCE
+#include "filter.h"
 #include "support.h"
+#include "wraps.h"
 
 #include <errno.h>
 #include <fcntl.h>
 #include <string.h>
+#include <sys/resource.h>
 #include <sys/stat.h>
 
-/* More than twice as deep as driver.h's INROOT_DEPTH_MAX, and more names than its listing.c holds at once. */
-enum { LEVELS = 33000, NAMES = 5000 };
+/*
+ * More levels than driver.h's INROOT_DEPTH_MAX by the places that remove.c keeps, twice over; more names than listing.c holds at
+ * once; and the levels of one proved call, which has 1,024 handles with those of the root and of the walk.
+ */
+enum { LEVELS = 33000, NAMES = 5000, ONE_CALL = 1022, PLACES = 16 };
 
 static int root, before;
 
 /* What is done as the call has come to its deepest directory. */
 static void (*act)(int deepest);
 
-int __real_openat(int dir, const char *name, int flags, ...);
-int __wrap_openat(int dir, const char *name, int flags, ...);
-
-int __wrap_openat(int dir, const char *name, int flags, ...)
+static int my_openat(int dir, const char *name, int flags, mode_t mode)
 {
-    va_list more;
-    va_start(more, flags);
-    mode_t mode = flags & (O_CREAT | O_TMPFILE) ? va_arg(more, mode_t) : 0;
-    va_end(more);
     int fd = __real_openat(dir, name, flags, mode);
     /* It is opened once more there, by itself, and not to be read. */
     if (act != NULL && fd >= 0 && flags & O_PATH && strcmp(name, ".") == 0) {
@@ -39,6 +39,8 @@ int __wrap_openat(int dir, const char *name, int flags, ...)
     }
     return fd;
 }
+
+INSTEAD_OF_OPENAT(my_openat)
 
 /* Directories within one another, below `t`; each of those from this one on has a file, whose name comes first. */
 static void dig(int levels, int files_from)
@@ -59,9 +61,9 @@ static void dig(int levels, int files_from)
 static void is_removed(const char *what, ssize_t wanted)
 {
     ssize_t got = inroot_remove_all(root, "t", INROOT_NO_RETRY);
-    expect(got == wanted, "%s: %zd, and not %zd", what, got, wanted);
-    expect(faccessat(root, "t", F_OK, AT_SYMLINK_NOFOLLOW) != 0, "%s: it is left", what);
-    expect(open_descriptors() == before, "%s: descriptors are left open", what);
+    gives(got, wanted, "%s: entries removed", what);
+    gives(faccessat(root, "t", F_OK, AT_SYMLINK_NOFOLLOW), -1, "%s: asked for", what);
+    gives(open_descriptors(), before, "%s: open descriptors", what);
 }
 
 static void deep(void)
@@ -84,6 +86,70 @@ static void large(void)
     is_removed("a large directory", NAMES + 1);
 }
 
+/* How many levels it is below the root. */
+static void measure(int deepest)
+{
+    struct stat top, about;
+    int levels = 0, at = sure(dup(deepest), "dup");
+    sure(fstat(root, &top), "fstat");
+    for (sure(fstat(at, &about), "fstat"); about.st_ino != top.st_ino; sure(fstat(at, &about), "fstat")) {
+        int above = sure(__real_openat(at, "..", O_PATH | O_DIRECTORY | O_CLOEXEC), "..");
+        close(at);
+        at = above;
+        levels++;
+    }
+    close(at);
+    expect(levels == ONE_CALL, "one call goes %d levels deep", levels);
+}
+
+static void bounded(void)
+{
+    dig(ONE_CALL, LEVELS);
+    act = measure;
+    is_removed("a tree for one call", ONE_CALL);
+    expect(act != NULL, "a tree for one call takes two");
+    dig(ONE_CALL + 1, LEVELS);
+    is_removed("a tree for two calls", ONE_CALL + 1);
+    expect(act == NULL, "a tree for two calls takes one");
+}
+
+/* With so few descriptors a call takes those of the places from which others are to go on. */
+static void with_few(void)
+{
+    const struct rlimit few = {.rlim_cur = (rlim_t)take_gaps(root) + 9, .rlim_max = (rlim_t)take_gaps(root) + 9};
+    int open_before = open_descriptors();
+    sure(setrlimit(RLIMIT_NOFILE, &few), "setrlimit");
+    ssize_t got = inroot_remove_all(root, "t", 0);
+    expect(got == PLACES * ONE_CALL, "a deep tree with few descriptors: %zd", got);
+    expect(open_descriptors() == open_before, "it leaves descriptors open");
+}
+
+static void spared(void)
+{
+    dig(PLACES * ONE_CALL, LEVELS);
+    apart(with_few);
+    expect(faccessat(root, "t", F_OK, AT_SYMLINK_NOFOLLOW) != 0, "a deep tree is left where there are few descriptors");
+}
+
+/* No directory may be removed. The error is that of the deepest one, and every place on the way is closed. */
+static void refused(void)
+{
+    struct inroot_error why = {0};
+    refuse_where(SYS_unlinkat, 2, AT_REMOVEDIR, AT_REMOVEDIR, EBUSY);
+    ssize_t got = inroot_remove_all(root, "t", 0);
+    expect(got == -EBUSY, "a deep tree of which nothing may be removed: %zd", got);
+    expect(inroot_last_error(&why) == 0 && strcmp(why.step, "RemoveDir") == 0, "it is told of %s", why.step);
+    expect(open_descriptors() == before, "it leaves descriptors open");
+}
+
+static int kept_by_the_kernel(void)
+{
+    dig(3 * ONE_CALL, LEVELS);
+    int skipped = apart(refused);
+    is_removed("a deep tree that was refused", 3 * ONE_CALL);
+    return skipped;
+}
+
 /* The rest of the tree is elsewhere by then, with what it has. */
 static void take_away(int deepest)
 {
@@ -96,11 +162,11 @@ static void taken_away(void)
     act = take_away;
     ssize_t got = inroot_remove_all(root, "t", INROOT_NO_RETRY);
     expect(act == NULL, "the call didn't come to its deepest directory");
-    expect(got == -EAGAIN, "a tree whose deep part is taken away: %zd", got);
-    expect(faccessat(root, "elsewhere", F_OK, 0) == 0, "what was taken away is gone");
-    expect(inroot_remove_all(root, "t", 0) > 16000, "what is left of it");
-    expect(inroot_remove_all(root, "elsewhere", 0) > 0, "what was taken away");
-    expect(open_descriptors() == before, "descriptors are left open");
+    gives(got, -EAGAIN, "a tree whose deep part is taken away");
+    gives(faccessat(root, "elsewhere", F_OK, 0), 0, "what was taken away, asked for");
+    gives(inroot_remove_all(root, "t", 0), ONE_CALL, "what is left of it");
+    gives_least(inroot_remove_all(root, "elsewhere", 0), 1, "what was taken away");
+    gives(open_descriptors(), before, "open descriptors");
 }
 
 int main(int count, char **words)
@@ -110,9 +176,12 @@ int main(int count, char **words)
     root = sure(open(words[1], O_PATH | O_DIRECTORY | O_CLOEXEC), words[1]);
     open_proc();
     before = open_descriptors();
+    bounded();
     deep();
     large();
     taken_away();
+    spared();
+    int skipped = kept_by_the_kernel();
     printf("depths: %d not as they are to be\n", wrong);
-    return wrong != 0;
+    return wrong != 0 ? 1 : skipped;
 }

@@ -32,8 +32,8 @@ static int by_kernel(int root, const char *path, int flags)
 static void both(int root, const char *path, int kernel, int here)
 {
     int one = by_kernel(root, path, O_PATH), other = inroot_open(root, path, 0);
-    expect((one < 0 ? one : 0) == kernel, "%s: openat2 %d", path, one);
-    expect((other < 0 ? other : 0) == here, "%s: inroot_open %d", path, other);
+    gives((one < 0 ? one : 0), kernel, "%s by openat2(2)", path);
+    gives((other < 0 ? other : 0), here, "%s by inroot_open()", path);
 }
 
 static void links(void)
@@ -44,13 +44,13 @@ static void links(void)
     sure(mknodat(root, "g (deleted)", S_IFREG | 0600, 0), "g");
     both(root, "g (deleted)", 0, 0);
     both(root, "dangling", -ENOENT, -ENOENT);
-    expect(inroot_mkfile(root, "dangling", 0644, 0) == -EEXIST, "a file at a dangling link");
-    expect(by_kernel(root, "dangling", O_CREAT | O_EXCL | O_WRONLY) == -EEXIST, "the kernel's O_EXCL at a dangling link");
-    expect(inroot_mkdir_all(root, "dangling", 0755, 0) == -ENOENT, "directories at a dangling link");
-    expect(inroot_mkdir_all(root, "made/../dangling/x", 0755, 0) == -ENOENT, "directories below a dangling link");
-    expect(faccessat(root, "nowhere", F_OK, 0) != 0, "something was made through a dangling link");
-    expect(by_kernel(root, "dangling", O_CREAT | O_WRONLY) >= 0, "the kernel's O_CREAT at a dangling link");
-    expect(faccessat(root, "nowhere", F_OK, 0) == 0, "the kernel made nothing through a dangling link");
+    gives(inroot_mkfile(root, "dangling", 0644, 0), -EEXIST, "a file at a dangling link");
+    gives(by_kernel(root, "dangling", O_CREAT | O_EXCL | O_WRONLY), -EEXIST, "the kernel's O_EXCL at a dangling link");
+    gives(inroot_mkdir_all(root, "dangling", 0755, 0), -ENOENT, "directories at a dangling link");
+    gives(inroot_mkdir_all(root, "made/../dangling/x", 0755, 0), -ENOENT, "directories below a dangling link");
+    gives(faccessat(root, "nowhere", F_OK, 0), -1, "what would be made through a dangling link");
+    gives_fd(by_kernel(root, "dangling", O_CREAT | O_WRONLY), "the kernel's O_CREAT at a dangling link");
+    gives(faccessat(root, "nowhere", F_OK, 0), 0, "what the kernel made through a dangling link");
 }
 
 /* Root may search everything: it becomes nobody. */
@@ -111,7 +111,7 @@ static void deep(void)
         strcat(strcat(path, at > 0 ? "/" : ""), name);
     int half = sure(inroot_open(root, path, 0), "half of the way");
     both(half, path, 0, -ENAMETOOLONG);
-    expect(inroot_remove_all(root, name, 0) == 31, "what is deeper than a path is long");
+    gives(inroot_remove_all(root, name, 0), 31, "what is deeper than a path is long");
 }
 
 int main(int count, char **words)

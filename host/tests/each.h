@@ -37,10 +37,78 @@ static int keep_root(void)
     return failed;
 }
 
+/* A call from the directory of `a/link`, by a number that stands for it. */
+static int from_link(int root, int (*make)(int at))
+{
+    int at, dir = inroot_open(root, "a/link", 0);
+    int result = dir < 0 ? dir : inroot_at_begin(root, dir, &at);
+    if (result == 0) {
+        result = make(at);
+        inroot_at_end(at);
+    }
+    if (dir >= 0)
+        close(dir);
+    return result;
+}
+
+static int open_from(int at)
+{
+    return inroot_open(at, ".././b/f", 0);
+}
+
+static int make_from(int at)
+{
+    return inroot_mkfile(at, "new", 0644, INROOT_GIVE);
+}
+
+static int rename_from(int at)
+{
+    return inroot_rename(at, "f", "../g", INROOT_NOREPLACE, 0);
+}
+
+static int place_of_link(int root)
+{
+    char place[64];
+    int fd = inroot_open(root, "a/link/f", 0);
+    ssize_t length = fd < 0 ? fd : inroot_place(root, fd, place, sizeof place);
+    if (fd >= 0)
+        close(fd);
+    return (int)length;
+}
+
+/* Walks over a tree; what isn't gone into counts as the call's error. */
+static int walk_over(int root)
+{
+    struct inroot_walk *walk;
+    struct inroot_walk_entry entry;
+    int found = inroot_walk_open(root, "a/b", 0, 0, &walk);
+    if (found < 0)
+        return found;
+    while ((found = inroot_walk_next(walk, &entry)) == 1)
+        if (entry.error != 0) {
+            found = -entry.error;
+            break;
+        }
+    inroot_walk_close(walk);
+    return found;
+}
+
+/* What was found gets the mode and the times that it has. */
+static int change(int root)
+{
+    int fd = inroot_open(root, "a/link/f", 0);
+    int failed = fd < 0 ? fd : inroot_fchmod(fd, 0600);
+    if (failed == 0)
+        failed = inroot_futimens(fd, NULL);
+    if (fd >= 0)
+        close(fd);
+    return failed;
+}
+
 /* A call by its number, and what undoes it. */
 static int call(int root, int number)
 {
-    char text[64];
+    char text[256];
     struct stat about;
     switch (number) {
     case 0: return inroot_open(root, "a/link/../b/./f", 0);
@@ -65,15 +133,31 @@ static int call(int root, int number)
     case 19: return publish(root);
     case 20: return keep_root();
     case 21: return (int)inroot_remove_all(root, "a/deep", 0);
+    case 22: return from_link(root, rename_from);
+    case 23: return place_of_link(root);
+    case 24: return inroot_open_parent(root, "a/link/new", 0, text);
+    case 25: return from_link(root, open_from);
+    case 26: return from_link(root, make_from);
+    case 27: return inroot_mkdir(root, "a/link/newdir/", 0755, INROOT_GIVE);
+    case 28: return inroot_symlink(root, "some/text", "a/newlink", INROOT_GIVE);
+    case 29: return inroot_link(root, "a/link/f", "a/newlink", INROOT_GIVE);
+    case 30: return inroot_mkfile_all(root, "a/link/new/er/file", 0644, 0755, 0);
+    case 31: return inroot_mkfile_all(root, "a/dangling", 0644, 0755, INROOT_FOLLOW);
+    case 32: return inroot_mkdir_all(root, "a/dangling/x", 0755, INROOT_FOLLOW);
+    case 33: return inroot_open_partial(root, "a/link/none/x", 0, text, sizeof text);
+    case 34: return inroot_openat(root, "a/link/new", O_PATH | O_CREAT, 0600, 0);
+    case 35: return inroot_open(root, "a/link/f", INROOT_NO_MAGICLINKS);
+    case 36: return walk_over(root);
+    case 37: return change(root);
     default: return (int)inroot_remove_all(root, "a/b", 0);
     }
 }
 
-enum { CALLS = 23 };
+enum { CALLS = 39 };
 
 static bool opens(int number)
 {
-    return number < 2 || (number >= 9 && number <= 14);
+    return number < 2 || (number >= 9 && number <= 14) || (number >= 24 && number <= 35);
 }
 
 /* More levels than a call has handles for at first. */
@@ -92,10 +176,13 @@ static void restore(int root, int result, int number)
         close(result);
     mkdirat(root, "a/b", 0755);
     mknodat(root, "a/b/f", S_IFREG | 0600, 0);
+    unlinkat(root, "a/b/new/er/file", 0);
     unlinkat(root, "a/b/new/er", AT_REMOVEDIR);
     unlinkat(root, "a/b/new", AT_REMOVEDIR);
     unlinkat(root, "a/b/new", 0);
     unlinkat(root, "a/b/gone", 0);
+    unlinkat(root, "a/b/gone/x", AT_REMOVEDIR);
+    unlinkat(root, "a/b/gone", AT_REMOVEDIR);
     unlinkat(root, "a/b/newdir", AT_REMOVEDIR);
     unlinkat(root, "a/newlink", 0);
     make_deep(root);

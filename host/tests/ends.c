@@ -40,7 +40,7 @@ static void cancelled(const char *name, void (*call)(void))
     returned = false;
     in_thread(make_call, &call);
     expect(returned, "%s: the thread ended within the call", name);
-    expect(open_descriptors() <= before, "%s: %d descriptors are left", name, open_descriptors() - before);
+    gives_most(open_descriptors(), before, "%s: open descriptors", name);
 }
 
 /* ---- each call */
@@ -62,12 +62,12 @@ static void each_call(void)
         void (*one)(void) = make_one;
         in_thread(make_call, &one);
         /* What these close(2) themselves is a point of their own. */
-        bool has_points = number == 14 || number == 19;
+        bool has_points = number == 14 || number == 19 || (number >= 22 && number <= 26 && number != 24) || number == 37;
         expect(returned || has_points, "%s: the thread ended within the call", name);
         if (returned)
             restore(root, result, number);
         if (!has_points)
-            expect(open_descriptors() == before, "%s: %d descriptors are left", name, open_descriptors() - before);
+            gives(open_descriptors(), before, "%s: open descriptors", name);
     }
 }
 
@@ -80,7 +80,7 @@ static void close_root(void)
 
 static void use_proc(void)
 {
-    expect(inroot_use_proc(proc) == -EBUSY, "a second /proc");
+    gives(inroot_use_proc(proc), -EBUSY, "a second /proc");
 }
 
 static void of_the_root(void)
@@ -88,7 +88,7 @@ static void of_the_root(void)
     int before = open_descriptors();
     sure(inroot_root_open("/", 0, &kept), "inroot_root_open");
     cancelled("inroot_root_close", close_root);
-    expect(open_descriptors() == before, "inroot_root_close: the root is open still");
+    gives(open_descriptors(), before, "inroot_root_close: open descriptors");
     cancelled("inroot_use_proc", use_proc);
 }
 
@@ -113,7 +113,7 @@ static void jail_here(void)
 static void *end_in_jail(void *unused)
 {
     jail_here();
-    expect(inroot_open(INROOT_JAIL, "a/b/none", 0) == -ENOENT, "what isn't there, in a jail");
+    gives(inroot_open(INROOT_JAIL, "a/b/none", 0), -ENOENT, "what isn't there, in a jail");
     close(sure(inroot_open(INROOT_JAIL, "a/b/f", 0), "a/b/f"));
     return unused;
 }
@@ -136,13 +136,12 @@ static void in_jails(void)
     int before = open_descriptors();
     for (int at = 0; at < 20; at++)
         in_thread(end_in_jail, NULL);
-    expect(open_descriptors() == before, "%d descriptors are left of threads that ended in a jail",
-           open_descriptors() - before);
+    gives(open_descriptors(), before, "open descriptors after threads that ended in a jail");
     before = open_descriptors();
     returned = false;
     in_thread(jail_and_leave, NULL);
     expect(returned, "inroot_jail_done: the thread ended within the call");
-    expect(open_descriptors() == before, "inroot_jail_done: /proc is open still");
+    gives(open_descriptors(), before, "inroot_jail_done: open descriptors");
 }
 
 static void in_trusting_jails(void)

@@ -1,6 +1,6 @@
 /*
  * errors: what a call gives for a bad root before anything else, what it opens, and what the kernel's words for what is
- * removed are taken for; and how often a call is tried.
+ * removed are taken for.
  *
  * usage: errors DIR. Exits 0 where each is as inroot.h says. 78: no right to become nobody, or to change a root, so that a part
  * is left out.
@@ -28,30 +28,42 @@ static void bad_roots(void)
 {
     static const char *const paths[] = {"", "/", "a", "..", "a/..", "a/b/c"};
     struct stat about;
-    char text[8];
+    char text[8], last[256];
     int file = sure(openat(base, "file", O_PATH | O_CLOEXEC), "file");
     for (size_t at = 0; at < sizeof paths / sizeof *paths; at++) {
         const char *path = paths[at];
-        expect(closed(inroot_open(999, path, 0)) == -EBADF, "a root that isn't open, %s", path);
-        expect(closed(inroot_open(INROOT_JAIL, path, 0)) == -EBADF, "no jail, %s", path);
-        expect(closed(inroot_open(file, path, 0)) == -ENOTDIR, "a root that is a file, %s", path);
-        expect(closed(inroot_open(file, path, INROOT_BENEATH)) == -ENOTDIR, "a root that is a file, beneath, %s", path);
-        expect(closed(inroot_open(999, path, 64)) == -EINVAL, "a flag that is none, %s", path);
-        expect(inroot_mkfile(999, path, 0644, 0) == -EBADF, "a file below what isn't open, %s", path);
-        expect(inroot_rename(file, path, path, 0, 0) == -ENOTDIR, "a rename below a file, %s", path);
-        expect(inroot_remove_all(file, path, 0) == -ENOTDIR, "a tree below a file, %s", path);
-        expect(inroot_readlink(file, path, 0, text, sizeof text) == -ENOTDIR, "a link below a file, %s", path);
-        expect(closed(inroot_openat(file, path, O_RDONLY, 0, 0)) == -ENOTDIR, "to be read below a file, %s", path);
-        expect(closed(inroot_openat(file, path, O_RDWR | O_CREAT, 0600, 0)) == -ENOTDIR, "created below a file, %s", path);
-        expect(inroot_stat(file, path, &about, 0) == -ENOTDIR, "told of below a file, %s", path);
-        expect(inroot_mknod(file, path, S_IFIFO | 0600, 0, 0) == -ENOTDIR, "a node below a file, %s", path);
-        expect(inroot_link(file, path, path, 0) == -ENOTDIR, "a second name below a file, %s", path);
-        expect(inroot_link_fd(file, base, path, 0) == -ENOTDIR, "a second name of what is open below a file, %s", path);
+        gives(closed(inroot_open(999, path, 0)), -EBADF, "a root that isn't open, %s", path);
+        gives(closed(inroot_open(INROOT_JAIL, path, 0)), -EBADF, "no jail, %s", path);
+        gives(closed(inroot_open(file, path, 0)), -ENOTDIR, "a root that is a file, %s", path);
+        gives(closed(inroot_open(file, path, INROOT_BENEATH)), -ENOTDIR, "a root that is a file, beneath, %s", path);
+        gives(closed(inroot_open(999, path, 64)), -EINVAL, "a flag that is none, %s", path);
+        gives(inroot_mkfile(999, path, 0644, 0), -EBADF, "a file below what isn't open, %s", path);
+        gives(inroot_rename(file, path, path, 0, 0), -ENOTDIR, "a rename below a file, %s", path);
+        gives(inroot_remove_all(file, path, 0), -ENOTDIR, "a tree below a file, %s", path);
+        gives(inroot_readlink(file, path, 0, text, sizeof text), -ENOTDIR, "a link below a file, %s", path);
+        gives(closed(inroot_openat(file, path, O_RDONLY, 0, 0)), -ENOTDIR, "to be read below a file, %s", path);
+        gives(closed(inroot_openat(file, path, O_RDWR | O_CREAT, 0600, 0)), -ENOTDIR, "created below a file, %s", path);
+        gives(inroot_stat(file, path, &about, 0), -ENOTDIR, "told of below a file, %s", path);
+        gives(inroot_mknod(file, path, S_IFIFO | 0600, 0, 0), -ENOTDIR, "a node below a file, %s", path);
+        gives(inroot_link(file, path, path, 0), -ENOTDIR, "a second name below a file, %s", path);
+        gives(inroot_link_fd(file, base, path, 0), -ENOTDIR, "a second name of what is open below a file, %s", path);
+        gives(inroot_open_parent(file, path, 0, last), -ENOTDIR, "a parent below a file, %s", path);
+        gives_text(last, "", "the name in a parent below a file, %s", path);
+        gives(inroot_open_parent(999, path, 0, last), -EBADF, "a parent below what isn't open, %s", path);
+        gives(inroot_open_partial(file, path, 0, last, sizeof last), -ENOTDIR, "a part below a file, %s", path);
+        gives(inroot_open_partial(999, path, 0, last, sizeof last), -EBADF, "a part below what isn't open, %s", path);
+        for (int follow = 0; follow <= INROOT_FOLLOW; follow += INROOT_FOLLOW) {
+            gives(inroot_mkfile_all(file, path, 0600, 0700, follow), -ENOTDIR, "a file and all below a file, %s", path);
+            gives(inroot_mkfile_all(999, path, 0600, 0700, follow), -EBADF, "a file and all below none, %s", path);
+            gives(inroot_mkdir_all(file, path, 0700, follow), -ENOTDIR, "all directories below a file, %s", path);
+            gives(inroot_mkfile_all(999, path, 0600, 010000, follow), -EINVAL, "a mode that is none, %s", path);
+            gives(inroot_mkfile_all(999, path, 010000, 0700, follow), -EINVAL, "a mode that is none, %s", path);
+        }
     }
     close(file);
     int root = sure(openat(base, ".", O_PATH | O_DIRECTORY | O_CLOEXEC), ".");
-    expect(closed(inroot_open(root, "", 0)) == -ENOENT, "no path");
-    expect(inroot_rename(root, "a", "b", 3, 0) == -EINVAL, "a mode that is none");
+    gives(closed(inroot_open(root, "", 0)), -ENOENT, "no path");
+    gives(inroot_rename(root, "a", "b", 3, 0), -EINVAL, "a mode that is none");
     close(root);
 }
 
@@ -59,15 +71,28 @@ static void bad_roots(void)
 static void unknown_flags(void)
 {
     const unsigned known = INROOT_BENEATH | INROOT_NO_LINKS | INROOT_NOFOLLOW | INROOT_NO_RETRY | INROOT_FOLLOW |
-                           INROOT_ONE_BY_ONE | INROOT_NO_XDEV;
+                           INROOT_ONE_BY_ONE | INROOT_NO_XDEV | INROOT_NO_MAGICLINKS | INROOT_GIVE |
+                           INROOT_BELOW;
     for (unsigned bit = 0; bit < 31; bit++) {
         int flag = (int)(1u << bit);
         int got = closed(inroot_open(999, "a", flag));
-        bool is_opens = (known & ~(unsigned)INROOT_FOLLOW) >> bit & 1;
-        expect(got == (is_opens ? -EBADF : -EINVAL), "inroot_open() with the flag 2^%u: %d", bit, got);
+        bool is_opens = (known & ~(unsigned)(INROOT_FOLLOW | INROOT_GIVE)) >> bit & 1;
+        gives(got, (is_opens ? -EBADF : -EINVAL), "inroot_open() with the flag 2^%u", bit);
         got = inroot_mkdir(999, "a", 0755, flag);
-        bool is_makes = (known & ~(unsigned)(INROOT_FOLLOW | INROOT_NOFOLLOW)) >> bit & 1;
-        expect(got == (is_makes ? -EBADF : -EINVAL), "inroot_mkdir() with the flag 2^%u: %d", bit, got);
+        bool is_makes = (known & ~(unsigned)(INROOT_FOLLOW | INROOT_NOFOLLOW | INROOT_BELOW)) >> bit & 1;
+        gives(got, (is_makes ? -EBADF : -EINVAL), "inroot_mkdir() with the flag 2^%u", bit);
+        char text[256];
+        got = inroot_open_parent(999, "a", flag, text);
+        bool is_parent = ((known & ~(unsigned)(INROOT_FOLLOW | INROOT_NOFOLLOW | INROOT_GIVE | INROOT_BELOW)) | INROOT_DIRECTORY) >> bit & 1;
+        gives(got, (is_parent ? -EBADF : -EINVAL), "inroot_open_parent() with the flag 2^%u", bit);
+        got = inroot_open_partial(999, "a", flag, text, sizeof text);
+        bool is_partial = is_opens && flag != INROOT_BELOW;
+        gives(got, (is_partial ? -EBADF : -EINVAL), "inroot_open_partial() with the flag 2^%u", bit);
+        got = inroot_mkfile_all(999, "a", 0600, 0700, flag);
+        bool is_all = (known & ~(unsigned)(INROOT_NOFOLLOW | INROOT_GIVE | INROOT_BELOW)) >> bit & 1;
+        gives(got, (is_all ? -EBADF : -EINVAL), "inroot_mkfile_all() with the flag 2^%u", bit);
+        got = inroot_mkdir_all(999, "a", 0700, flag);
+        gives(got, (is_all ? -EBADF : -EINVAL), "inroot_mkdir_all() with the flag 2^%u", bit);
     }
 }
 
@@ -78,10 +103,11 @@ static void opened_alone(void)
     int root = sure(openat(base, ".", O_RDONLY | O_DIRECTORY | O_CLOEXEC), ".");
     for (size_t at = 0; at < sizeof paths / sizeof *paths; at++) {
         int fd = inroot_open(root, paths[at], 0);
-        expect(fd >= 0, "%s: %d", paths[at], fd);
-        expect((fcntl(fd, F_GETFL) & O_PATH) != 0, "%s is opened by O_PATH", paths[at]);
-        expect(fcntl(fd, F_GETFD) == FD_CLOEXEC, "%s is closed by exec", paths[at]);
-        expect(lseek(fd, 0, SEEK_CUR) == -1 && errno == EBADF, "%s has a place to read from", paths[at]);
+        gives_fd(fd, "%s", paths[at]);
+        gives(fcntl(fd, F_GETFL) & O_PATH, O_PATH, "%s: its flag O_PATH", paths[at]);
+        gives(fcntl(fd, F_GETFD), FD_CLOEXEC, "%s: its flag FD_CLOEXEC", paths[at]);
+        gives(lseek(fd, 0, SEEK_CUR), -1, "%s: a place to read from", paths[at]);
+        gives(errno, EBADF, "%s: errno of a place to read from", paths[at]);
         close(fd);
     }
     close(root);
@@ -96,22 +122,22 @@ static void deleted_names(void)
     sure(mkdirat(root, "e (deleted)", 0755), "mkdirat");
     sure(mkdirat(root, "d/f", 0755), "mkdirat");
     sure(mknodat(root, "g (deleted)", S_IFREG | 0600, 0), "mknodat");
-    expect(closed(inroot_open(root, "d/f", 0)) == 0, "below a root that is called so");
-    expect(closed(inroot_open(root, "d/..", 0)) == 0, "up to a root that is called so");
-    expect(closed(inroot_open(root, "e (deleted)", 0)) == 0, "a directory that is called so");
-    expect(inroot_mkdir(root, "e (deleted)/x", 0755, 0) == 0, "in a directory that is called so");
+    gives(closed(inroot_open(root, "d/f", 0)), 0, "below a root that is called so");
+    gives(closed(inroot_open(root, "d/..", 0)), 0, "up to a root that is called so");
+    gives(closed(inroot_open(root, "e (deleted)", 0)), 0, "a directory that is called so");
+    gives(inroot_mkdir(root, "e (deleted)/x", 0755, 0), 0, "in a directory that is called so");
     /* Without openat2(2) such a file can't be told from one that is gone. */
     int wanted = has_openat2() ? 0 : -EAGAIN;
     gives(closed(inroot_open(root, "g (deleted)", INROOT_NO_RETRY)), wanted, "a file that is called so");
     gives(closed(inroot_open(root, "d/../g (deleted)", INROOT_NO_RETRY)), wanted, "the same, by steps");
-    expect(closed(inroot_open(root, "d/../e (deleted)", INROOT_NO_RETRY)) == 0, "a directory that is called so, by steps");
-    expect(inroot_remove_all(root, "e (deleted)", 0) == 2, "a tree that is called so");
+    gives(closed(inroot_open(root, "d/../e (deleted)", INROOT_NO_RETRY)), 0, "a directory that is called so, by steps");
+    gives(inroot_remove_all(root, "e (deleted)", 0), 2, "a tree that is called so");
     /* A root that is gone is below itself still, and has no names below it. */
     int gone = sure(openat(root, "d/f", O_PATH | O_DIRECTORY | O_CLOEXEC), "openat");
     sure(unlinkat(root, "d/f", AT_REMOVEDIR), "unlinkat");
-    expect(closed(inroot_open(gone, "/", 0)) == 0, "a root that is gone, itself");
-    expect(closed(inroot_open(gone, "x", 0)) == -ENOENT, "a name in a root that is gone");
-    expect(inroot_mkdir(gone, "x", 0755, 0) == -ENOENT, "a directory in a root that is gone");
+    gives(closed(inroot_open(gone, "/", 0)), 0, "a root that is gone, itself");
+    gives(closed(inroot_open(gone, "x", 0)), -ENOENT, "a name in a root that is gone");
+    gives(inroot_mkdir(gone, "x", 0755, 0), -ENOENT, "a directory in a root that is gone");
     close(gone);
     close(root);
 }
@@ -133,12 +159,12 @@ static void shut_directories(bool in_jail, int flags)
     }
     if (setresuid(65534, 65534, 65534) != 0)
         exit(1);
-    expect(closed(inroot_open(at, "shut", 0)) == 0, "a directory that may not be searched");
-    expect(closed(inroot_open(at, "sub/shut", 0)) == 0, "the same, deeper");
-    expect(closed(inroot_open(at, "shut/x", 0)) == -EACCES, "what is in it");
-    expect(closed(inroot_open(at, "shut/..", 0)) == -EACCES, "what is above it");
-    expect(closed(inroot_open(at, "sub/../sub", 0)) == 0, "what may be searched");
-    expect(closed(inroot_open(at, "sub/file", 0)) == 0, "a file in it");
+    gives(closed(inroot_open(at, "shut", 0)), 0, "a directory that may not be searched");
+    gives(closed(inroot_open(at, "sub/shut", 0)), 0, "the same, deeper");
+    gives(closed(inroot_open(at, "shut/x", 0)), -EACCES, "what is in it");
+    gives(closed(inroot_open(at, "shut/..", 0)), -EACCES, "what is above it");
+    gives(closed(inroot_open(at, "sub/../sub", 0)), 0, "what may be searched");
+    gives(closed(inroot_open(at, "sub/file", 0)), 0, "a file in it");
     close(root);
 }
 

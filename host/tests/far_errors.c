@@ -6,6 +6,7 @@
  */
 #define _GNU_SOURCE
 #include "support.h"
+#include "wraps.h"
 
 #include <errno.h>
 #include <fcntl.h>
@@ -25,8 +26,6 @@ static bool fails(const char *name)
     return true;
 }
 
-int __real_openat(int dir, const char *name, int flags, ...);
-int __wrap_openat(int dir, const char *name, int flags, ...);
 int __real_mkdirat(int dir, const char *name, mode_t mode);
 int __wrap_mkdirat(int dir, const char *name, mode_t mode);
 int __real_mknodat(int dir, const char *name, mode_t mode, dev_t dev);
@@ -34,14 +33,12 @@ int __wrap_mknodat(int dir, const char *name, mode_t mode, dev_t dev);
 int __real_unlinkat(int dir, const char *name, int flags);
 int __wrap_unlinkat(int dir, const char *name, int flags);
 
-int __wrap_openat(int dir, const char *name, int flags, ...)
+static int my_openat(int dir, const char *name, int flags, mode_t mode)
 {
-    va_list more;
-    va_start(more, flags);
-    mode_t mode = flags & O_CREAT ? va_arg(more, mode_t) : 0;
-    va_end(more);
     return fails(name) ? -1 : __real_openat(dir, name, flags, mode);
 }
+
+INSTEAD_OF_OPENAT(my_openat)
 
 int __wrap_mkdirat(int dir, const char *name, mode_t mode)
 {
@@ -90,12 +87,12 @@ int main(int count, char **words)
             error = numbers[at];
             int got = call(root, which);
             error = 0;
-            expect(got == -numbers[at], "call %d by error %d: %d", which, numbers[at], got);
-            expect(inroot_last_error(&why) == 0 && why.error == numbers[at], "call %d by error %d tells %d", which,
-                   numbers[at], why.error);
-            expect(failed == 1, "call %d by error %d: %u tries", which, numbers[at], failed);
+            gives(got, -numbers[at], "call %d by error %d", which, numbers[at]);
+            gives(inroot_last_error(&why), 0, "call %d by error %d: its last error", which, numbers[at]);
+            gives(why.error, numbers[at], "call %d by error %d: the error told", which, numbers[at]);
+            gives(failed, 1, "call %d by error %d: tries", which, numbers[at]);
         }
-    expect(open_descriptors() == before, "descriptors are left open");
+    gives(open_descriptors(), before, "open descriptors");
     printf("far_errors: %d not as they are to be\n", wrong);
     return wrong != 0;
 }

@@ -19,10 +19,7 @@ static long refused;
 
 static void is_file(int fd, const char *what)
 {
-    struct stat about, wanted;
-    sure(fstatat(root, "a/f", &wanted, 0), "a/f");
-    expect(fd >= 0 && fstat(fd, &about) == 0 && about.st_ino == wanted.st_ino, "system call %ld by %d, %s: %d", refused,
-           error, what, fd);
+    gives_object(fd, root, "a/f", "system call %ld by %d, %s", refused, error, what);
     if (fd >= 0)
         close(fd);
 }
@@ -35,7 +32,8 @@ static void each(int at)
         is_file(inroot_open(at, "a/../l", flags[one]), "a link");
         is_file(inroot_openat(at, "a/f", O_RDWR, 0, flags[one]), "a file to be used");
     }
-    expect(inroot_mkdir(at, "a/new", 0755, 0) == 0 && inroot_remove_all(at, "a/new", 0) == 1, "a directory");
+    gives(inroot_mkdir(at, "a/new", 0755, 0), 0, "a directory");
+    gives(inroot_remove_all(at, "a/new", 0), 1, "a directory");
 }
 
 static void under_filter(void)
@@ -43,7 +41,7 @@ static void under_filter(void)
     struct inroot_root *kept;
     refuse(refused, error);
     int failed = inroot_root_open(".", 0, &kept);
-    expect(failed == 0, "system call %ld by %d, a root that is kept: %d", refused, error, failed);
+    gives(failed, 0, "system call %ld by %d, a root that is kept", refused, error);
     if (failed == 0)
         each(inroot_root_fd(kept));
     inroot_root_close(kept);

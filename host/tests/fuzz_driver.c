@@ -42,6 +42,9 @@ static struct {
 
 static int opened_by_call;
 
+/* What the jail that trusts keeps open. It is closed once, by the call whose question there fails. */
+static int kept[2] = {-1, -1};
+
 /* ---- what others do in between */
 
 static void change(unsigned which)
@@ -145,12 +148,40 @@ int __wrap_open(const char *name, int flags, ...)
     return -1;
 }
 
+int __real_fcntl(int fd, int what, ...);
+int __wrap_fcntl(int fd, int what, ...);
+
+int __wrap_fcntl(int fd, int what, ...)
+{
+    va_list more;
+    va_start(more, what);
+    int with = va_arg(more, int);
+    va_end(more);
+    int error = fails();
+    if (error == 0) {
+        int result = __real_fcntl(fd, what, with);
+        return what == F_DUPFD_CLOEXEC ? counted(result) : result;
+    }
+    errno = error;
+    return -1;
+}
+
+static bool was_kept(int fd)
+{
+    for (int one = 0; one < 2; one++)
+        if (kept[one] == fd) {
+            kept[one] = -1;
+            return true;
+        }
+    return false;
+}
+
 int __wrap_close(int fd)
 {
     int closed = __real_close(fd);
     if (plan.armed) {
         MUST(closed == 0);
-        opened_by_call--;
+        opened_by_call -= !was_kept(fd);
     }
     return closed;
 }
@@ -279,9 +310,45 @@ static int open_for_use(int at, unsigned how, int flags)
     return inroot_openat(at, asked.first, way | (makes ? O_NONBLOCK : 0), makes ? 0600 : 0, flags);
 }
 
+/* From the directory `a/b/c`, wherever others move it. */
+static ssize_t call_from(int at, unsigned how, int flags)
+{
+    int from, dir = __real_openat(root, "a/b/c", O_PATH | O_DIRECTORY | O_CLOEXEC);
+    ssize_t result = -ENOENT;
+    plan.armed = false;
+    if (dir >= 0 && inroot_at_begin(at, dir, &from) == 0) {
+        plan.armed = true;
+        switch (how % 5) {
+        case 0: result = inroot_open(from, asked.first, flags); break;
+        case 1: result = inroot_mkfile(from, asked.first, 0600, flags | INROOT_GIVE); break;
+        case 2: result = inroot_mkdir_all(from, asked.first, 0700, flags | INROOT_FOLLOW); break;
+        case 3: result = inroot_rename(from, asked.first, asked.second, 0, flags) == 0 ? -EEXIST : -EIO; break;
+        default: result = inroot_remove_all(from, asked.first, flags) >= 0 ? -EEXIST : -EIO;
+        }
+        plan.armed = false;
+        inroot_at_end(from);
+    }
+    if (dir >= 0)
+        __real_close(dir);
+    plan.armed = true;
+    return result;
+}
+
+/* Where `a/b/c` stands is told, or nothing. */
+static ssize_t tell_place(int at)
+{
+    char place[64] = "";
+    int dir = __real_openat(root, "a/b/c", O_PATH | O_DIRECTORY | O_CLOEXEC);
+    ssize_t length = dir >= 0 ? inroot_place(at, dir, place, sizeof place) : -ENOENT;
+    MUST(length < 0 || strcmp(place, "/a/b/c") == 0 || strcmp(place, "/up/c") == 0);
+    if (dir >= 0)
+        __real_close(dir);
+    return length;
+}
+
 static void call(void)
 {
-    char text[64];
+    char text[4096];
     struct stat about;
     int at = asked.root;
     unsigned flags = (asked.flags & 3) | (asked.flags & 0x80 ? INROOT_ONE_BY_ONE : 0);
@@ -300,7 +367,15 @@ static void call(void)
     case 10: asked.result = open_for_use(at, asked.mode, (int)flags); break;
     case 11: asked.result = inroot_mknod(at, asked.first, S_IFREG | 0600, 0, (int)flags); break;
     case 12: asked.result = inroot_link(at, asked.first, asked.second, (int)(flags | (asked.flags & 4 ? INROOT_FOLLOW : 0))); break;
-    default: asked.result = inroot_stat(at, asked.first, &about, (int)(flags | (asked.flags & 4)));
+    case 13: asked.result = inroot_stat(at, asked.first, &about, (int)(flags | (asked.flags & 4))); break;
+    case 14: asked.result = inroot_open_parent(at, asked.first, (int)flags, text); break;
+    case 15: asked.result = inroot_open_partial(at, asked.first, (int)(flags | (asked.flags & 4)), text, sizeof text); break;
+    case 16: asked.result = inroot_mkfile_all(at, asked.first, 0600, 0700, (int)(flags | (asked.flags & 4 ? INROOT_FOLLOW : 0))); break;
+    case 17: asked.result = inroot_mkdir_all(at, asked.first, 0700, (int)(flags | INROOT_FOLLOW)); break;
+    case 18: asked.result = inroot_mkfile(at, asked.first, 0600, (int)(flags | INROOT_GIVE)); break;
+    case 19: asked.result = inroot_link(at, asked.first, asked.second, (int)(flags | INROOT_GIVE)); break;
+    case 20: asked.result = call_from(at, asked.mode, (int)flags); break;
+    default: asked.result = tell_place(at);
     }
     plan.armed = false;
 }
@@ -340,6 +415,19 @@ static void begin_jail(struct jail *jail)
     await(&jail->made);
 }
 
+/* A jail that trusts, and what it keeps. */
+static void begin_trusting_jail(struct jail *jail)
+{
+    bool before[64];
+    int count = 0;
+    for (int fd = 0; fd < 64; fd++)
+        before[fd] = fcntl(fd, F_GETFD) >= 0;
+    begin_jail(jail);
+    for (int fd = 0; fd < 64; fd++)
+        if (!before[fd] && fcntl(fd, F_GETFD) >= 0 && count < 2)
+            kept[count++] = fd;
+}
+
 /* What is outside was made or removed by nobody. */
 static void look_outside(void)
 {
@@ -355,13 +443,13 @@ int LLVMFuzzerTestOneInput(const uint8_t *data, size_t size)
     if (!begun) {
         begin();
         begin_jail(&jails[0]);
-        begin_jail(&jails[1]);
+        begin_trusting_jail(&jails[1]);
         begun = true;
     }
     make_tree();
     unsigned who = byte(&data, &size);
     unsigned op = byte(&data, &size);
-    asked.op = op < 200 ? op % 10 : 10 + op % 4;
+    asked.op = op < 200 ? op % 10 : op < 232 ? 10 + op % 4 : 14 + op % 8;
     asked.flags = byte(&data, &size);
     asked.mode = asked.flags / 8;
     path(asked.first, &data, &size);
@@ -378,7 +466,8 @@ int LLVMFuzzerTestOneInput(const uint8_t *data, size_t size)
     } else {
         call();
     }
-    bool opens = (asked.op == 0 || asked.op == 8 || asked.op == 10) && asked.result >= 0;
+    bool gives = asked.op == 0 || asked.op == 8 || asked.op == 10 || (asked.op >= 14 && asked.op <= 20);
+    bool opens = gives && asked.result >= 0;
     MUST(opened_by_call == opens);
     if (opens) {
         MUST(fstat((int)asked.result, &about) == 0 && about.st_ino != secret.st_ino);

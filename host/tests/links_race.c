@@ -102,9 +102,12 @@ static void judge(const struct worker *me)
 {
     printf("links_race: %s: opened %lu, refused %lu, failed %lu; led to a file by a link %lu, made by one %lu\n", me->name,
            (unsigned long)me->opened, (unsigned long)me->refused, me->failed, (unsigned long)me->led, (unsigned long)me->made);
-    expect(me->opened > 0, "%s: nothing was opened", me->name);
-    expect(follows(me) || (me->led == 0 && me->made == 0), "%s: a link was followed", me->name);
-    expect(follows(me) || me->refused > 0, "%s: no link was refused", me->name);
+    gives_least(me->opened, 1, "%s: what was opened", me->name);
+    if (follows(me))
+        return;
+    gives((long)me->led, 0, "%s: links that were followed", me->name);
+    gives((long)me->made, 0, "%s: what was made behind a link", me->name);
+    gives_least((long)me->refused, 1, "%s: links that were refused", me->name);
 }
 
 int main(int count, char **words)

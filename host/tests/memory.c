@@ -54,7 +54,7 @@ int main(int count, char **words)
             }
             tried++;
             if (got != -ENOMEM && !same(got, wanted)) {
-                printf("call %d without allocation %ld: %d, and %d else\n", number, at, got, wanted);
+                printf("not so: call %d without allocation %ld: wanted %d or -ENOMEM, got %d\n", number, at, wanted, got);
                 wrong++;
             }
             restore(root, got, number);

@@ -10,6 +10,7 @@
 #define _GNU_SOURCE
 #include "../openat2.h"
 #include "support.h"
+#include "wraps.h"
 
 #include <errno.h>
 #include <fcntl.h>
@@ -34,11 +35,6 @@ static char where[PATH_MAX];
  */
 static bool is_old, has_no_numbers, has_zeros, mounts_at_dots, links_at_making;
 
-long __real_syscall(long number, ...);
-long __wrap_syscall(long number, ...);
-int __real_openat(int dir, const char *name, int flags, ...);
-int __wrap_openat(int dir, const char *name, int flags, ...);
-
 static void put(const char *source, const char *target, const char *kind)
 {
     char from[2 * PATH_MAX], to[2 * PATH_MAX];
@@ -47,31 +43,22 @@ static void put(const char *source, const char *target, const char *kind)
     sure(mount(kind == NULL ? from : "none", to, kind, kind == NULL ? MS_BIND : 0, NULL), target);
 }
 
-/* Takes more words than were handed in. */
-__attribute__((no_sanitize("address"))) long __wrap_syscall(long number, ...)
+static long my_syscall(long number, const long *with)
 {
-    long with[5];
-    va_list more;
-    va_start(more, number);
-    for (int one = 0; one < 5; one++)
-        with[one] = va_arg(more, long);
-    va_end(more);
     if ((is_old && number == SYS_openat2) || (has_no_numbers && number == SYS_statx)) {
         errno = ENOSYS;
         return -1;
     }
-    long result = __real_syscall(number, with[0], with[1], with[2], with[3], with[4]);
+    long result = REAL_SYSCALL(number, with);
     if (has_zeros && number == SYS_statx && result == 0)
         memset((char *)with[4] + NUMBER_AT, 0, sizeof(uint64_t));
     return result;
 }
 
-int __wrap_openat(int dir, const char *name, int flags, ...)
+INSTEAD_OF_SYSCALL(my_syscall)
+
+static int my_openat(int dir, const char *name, int flags, mode_t mode)
 {
-    va_list more;
-    va_start(more, flags);
-    mode_t mode = flags & (O_CREAT | O_TMPFILE) ? va_arg(more, mode_t) : 0;
-    va_end(more);
     if (mounts_at_dots && strcmp(name, "..") == 0) {
         mounts_at_dots = false;
         put("host", "d", NULL);
@@ -82,6 +69,8 @@ int __wrap_openat(int dir, const char *name, int flags, ...)
     }
     return __real_openat(dir, name, flags, mode);
 }
+
+INSTEAD_OF_OPENAT(my_openat)
 
 static void open_roots(void)
 {
@@ -115,7 +104,7 @@ static void untouched(const char *when)
 static const char *const paths[] = {
     ".", "t", "t/a", "t/m", "t/m/", "t/m/kept", "t/m/in/deep", "t/m/..", "t/m/../a", "t/m/none", "t/file", "t/other",
     "t/other/x", "t/a/../m", "t/a/../m/kept", "l", "l/kept", "abs", "abs/in", "t/a/x", "/t/./a/x", "t/none", "t/a/x/y",
-    "up", "t/a/../../../t/a/x", "t/b/same", "proc-like/m",
+    "up", "t/a/../../../t/a/x", "t/b/same", "proc-like/m", "over", "over/x", "t/over/x",
 };
 
 static int by_the_kernel(const char *path)
@@ -132,12 +121,16 @@ static int by_the_kernel(const char *path)
 static void opens(const char *path)
 {
     struct stat one = {0}, other = {0};
+    /* Without the flag first: the library then knows which names are links. */
+    int free = inroot_open(at, path, INROOT_NO_RETRY | more_flags);
+    if (free >= 0)
+        close(free);
     int wanted = by_the_kernel(path), got = inroot_open(at, path, FLAGS | more_flags);
     bool same = wanted < 0 ? got == wanted
                            : got >= 0 && fstat(got, &one) == 0 && fstat(wanted, &other) == 0 &&
                                  one.st_ino == other.st_ino && one.st_dev == other.st_dev;
-    expect(same, "%s, flags %d%s: %d, and %d by openat2(2)", path, more_flags, is_old ? ", without openat2(2)" : "", got,
-           wanted);
+    expect(same, "%s, flags %d%s: wanted what openat2(2) gives, %d, got %d", path, more_flags, is_old ? ", without openat2(2)" : "",
+           wanted, got);
     if (wanted >= 0)
         close(wanted);
     if (got >= 0)
@@ -148,7 +141,36 @@ static void opens(const char *path)
 
 static void is_refused(int got, int wanted, const char *what)
 {
-    expect(got == wanted, "%s, flags %d: %d", what, more_flags, got);
+    gives(got, wanted, "%s, flags %d", what, more_flags);
+}
+
+/* A directory on which something is mounted, or in that, is none to begin at. One on the root's mount is. */
+static void from_directories(void)
+{
+    char last[256], text[64];
+    int flags = FLAGS | more_flags, mounted, plain;
+    int m = sure(inroot_open(at, "t/m", 0), "t/m"), a = sure(inroot_open(at, "t/a", 0), "t/a");
+    sure(inroot_at_begin(at, m, &mounted), "inroot_at_begin");
+    sure(inroot_at_begin(at, a, &plain), "inroot_at_begin");
+    is_refused(inroot_open(mounted, "kept", flags), -EXDEV, "a file from a mount");
+    is_refused(inroot_open(mounted, "in/deep", flags), -EXDEV, "a file deeper from a mount");
+    is_refused(inroot_open(mounted, "..", flags), -EXDEV, "up from a mount");
+    is_refused(inroot_mkfile(mounted, "new", 0600, flags), -EXDEV, "a new file from a mount");
+    is_refused(inroot_rename(mounted, "kept", "/t/a/moved", 0, flags), -EXDEV, "a rename from a mount");
+    is_refused(inroot_rename(mounted, "/t/a/x", "moved", 0, flags), -EXDEV, "a rename to a mount");
+    is_refused(inroot_open(plain, "../m/kept", flags), -EXDEV, "a mount from beside it");
+    is_refused(inroot_open_parent(at, "t/m/new", flags, last), -EXDEV, "the directory of what is on a mount");
+    is_refused(inroot_open_partial(at, "t/m/none", flags, text, sizeof text), -EXDEV, "a part that is on a mount");
+    is_refused(inroot_mkfile_all(at, "t/m/in/new", 0600, 0700, flags | INROOT_FOLLOW), -EXDEV, "a file with all above");
+    is_refused(inroot_mkfile(at, "t/m/new", 0600, flags | INROOT_GIVE), -EXDEV, "a file that is given");
+    const int found[] = {inroot_open(plain, "x", flags), inroot_open(mounted, "kept", more_flags), inroot_open(mounted, "/t/a/x", flags)};
+    for (int one = 0; one < 3; one++)
+        expect(found[one] >= 0 && close(found[one]) == 0, "file %d from a directory: %d", one, found[one]);
+    inroot_at_end(mounted);
+    inroot_at_end(plain);
+    close(m);
+    close(a);
+    untouched("from directories");
 }
 
 static void changes(void)
@@ -183,10 +205,12 @@ static void changes(void)
     is_refused((int)inroot_remove_all(at, "t/file", flags), -EBUSY, "a file that is mounted");
     close(own);
     untouched("refused");
+    from_directories();
     /* On its own mount all goes as without. */
     int made = inroot_mkdir_all(at, "t/a/y/z", 0700, flags);
-    expect(made >= 0 && close(made) == 0, "directories on the root's mount: %d", made);
-    expect(inroot_remove_all(at, "t/a/y", flags) == 2, "a tree on the root's mount");
+    gives_fd(made, "directories on the root's mount");
+    gives(close(made), 0, "their closing");
+    gives(inroot_remove_all(at, "t/a/y", flags), 2, "a tree on the root's mount");
 }
 
 /* In the order of their bytes what stands before a mount goes; nothing that is mounted does. */
@@ -195,8 +219,9 @@ static void removes(const char *tree, const char *before, const char *mounted, c
     struct inroot_error why = {0};
     char path[64];
     ssize_t got = inroot_remove_all(at, tree, FLAGS | more_flags);
-    expect(got == wanted, "%s is removed, flags %d: %zd", tree, more_flags, got);
-    expect(inroot_last_error(&why) == 0 && strcmp(why.name, mounted) == 0, "%s: it is about %s", tree, why.name);
+    gives(got, wanted, "%s is removed, flags %d", tree, more_flags);
+    gives(inroot_last_error(&why), 0, "%s: its last error", tree);
+    gives_text(why.name, mounted, "%s: the name of its last error", tree);
     snprintf(path, sizeof path, "%s/%s", tree, before);
     expect(!is_there(root, path), "%s is left", path);
     snprintf(path, sizeof path, "%s/%s", tree, after);
@@ -217,14 +242,17 @@ static void up(void)
 {
     mounts_at_dots = true;
     int fd = inroot_open(at, "d/e/..", FLAGS | INROOT_ONE_BY_ONE);
-    expect(fd == -EXDEV && !mounts_at_dots, "`..` to a mount that came meanwhile: %d", fd);
+    gives(fd, -EXDEV, "`..` to a mount that came meanwhile");
+    expect(!mounts_at_dots, "no mount came in between");
 }
 
 /* Without the flag what is mounted is emptied, before the directory below it is refused. */
 static void without(void)
 {
     ssize_t got = inroot_remove_all(at, "t/m", more_flags);
-    expect(got == -EBUSY && !is_there(base, "host/kept") && !is_there(base, "host/in"), "a mounted tree: %zd", got);
+    gives(got, -EBUSY, "a mounted tree");
+    expect(!is_there(base, "host/kept"), "a mounted tree: what is in it is there still");
+    expect(!is_there(base, "host/in"), "a mounted tree: a directory in it is there still");
     sure(mkdirat(base, "host/in", 0755), "host/in");
     sure(mknodat(base, "host/kept", S_IFREG | 0600, 0), "host/kept");
     sure(mknodat(base, "host/in/deep", S_IFREG | 0600, 0), "host/in/deep");
@@ -254,7 +282,8 @@ static void each_link(void)
     is_refused(inroot_openat(at, "t/other/dangling", O_RDWR | O_CREAT, 0600, 0), -ELOOP, "a new file behind a link");
     links_at_making = true;
     is_refused(inroot_openat(at, "t/other/new", O_RDWR | O_CREAT, 0600, 0), -ELOOP, "a link came in between");
-    expect(!links_at_making && unlinkat(root, "t/other/new", 0) == 0, "no link came in between");
+    expect(!links_at_making, "no link came in between");
+    gives(unlinkat(root, "t/other/new", 0), 0, "the link that came");
     expect(!is_there(root, "t/other/none"), "a file was made behind a link");
     is_refused(inroot_link(at, "t/other/l", "t/other/second", INROOT_FOLLOW), -ELOOP, "a second name behind a link");
     is_refused(inroot_mkdir_all(at, "t/other/abs/new", 0700, 0), -ELOOP, "directories behind a link");
@@ -263,7 +292,8 @@ static void each_link(void)
     is_refused((int)inroot_readlink(at, "to", 0, text, sizeof text), 9, "a link's text");
     is_refused((int)inroot_readlink(at, "t/other/abs/up", 0, text, sizeof text), -ELOOP, "a link behind a link");
     int fd = inroot_open(at, "t/other/l", INROOT_NOFOLLOW);
-    expect(fd >= 0 && close(fd) == 0, "a link itself: %d", fd);
+    gives_fd(fd, "a link itself");
+    gives(close(fd), 0, "its closing");
 }
 
 static void without_links(void)
@@ -310,6 +340,22 @@ static void make_tree(void)
     sure(symlinkat("/t/m", root, "abs"), "abs");
     sure(symlinkat("t/m/../a", root, "up"), "up");
     sure(symlinkat("t/other/l", root, "to"), "to");
+    sure(symlinkat("t/none", root, "over"), "over");
+    sure(symlinkat("none", root, "t/over"), "t/over");
+    sure(symlinkat("t/a", root, "source"), "source");
+}
+
+/* A link over a link: mount(2) follows none of a descriptor. */
+static void put_link(const char *source, const char *target)
+{
+    char from[32], to[32];
+    int one = sure(openat(root, source, O_PATH | O_NOFOLLOW | O_CLOEXEC), source);
+    int other = sure(openat(root, target, O_PATH | O_NOFOLLOW | O_CLOEXEC), target);
+    snprintf(from, sizeof from, "/proc/self/fd/%d", one);
+    snprintf(to, sizeof to, "/proc/self/fd/%d", other);
+    sure(mount(from, to, NULL, MS_BIND, NULL), target);
+    close(one);
+    close(other);
 }
 
 /* In a mount namespace of this process's own, which ends with it. What was opened before stands in another. */
@@ -322,6 +368,8 @@ static void mount_all(void)
     put("host/kept", "t/file", NULL);
     put("root/t/a", "t/b/same", NULL);
     put("", "t/other", "tmpfs");
+    put_link("source", "over");
+    put_link("source", "t/over");
     make("t/other/x", false);
 }
 
@@ -378,7 +426,8 @@ static void by_device(void)
     is_refused((int)inroot_remove_all(at, "t/other", FLAGS), -EXDEV, "a tree of another file system");
     expect(is_there(root, "t/other/x"), "another file system was changed");
     int fd = inroot_open(at, "t/m/kept", FLAGS);
-    expect(fd >= 0 && close(fd) == 0, "a bind mount of the same file system: %d", fd);
+    gives_fd(fd, "a bind mount of the same file system");
+    gives(close(fd), 0, "its closing");
 }
 
 static void without_numbers(void)

@@ -182,9 +182,12 @@ static int entries_of(const char *name)
 }
 
 /* What was there is there, and nothing beside. */
-static bool is_untouched(void)
+static void is_untouched(const char *title)
 {
-    return entries_of("out") == 4 && entries_of("out/victim") == 1 && entries_of("out/victim/c") == 0 && entries_of("out/c") == 0;
+    gives(entries_of("out"), 4, "%s: entries of out", title);
+    gives(entries_of("out/victim"), 1, "%s: entries of out/victim", title);
+    gives(entries_of("out/victim/c"), 0, "%s: entries of out/victim/c", title);
+    gives(entries_of("out/c"), 0, "%s: entries of out/c", title);
 }
 
 /* ---- */
@@ -208,17 +211,11 @@ static const struct kind kinds[] = {
 
 static void race_of(const struct kind *kind, unsigned seconds)
 {
-    static const char *const names[] = {
-        [PLAIN] = "by a descriptor", [CHROOT] = "by a descriptor in a chroot", [IN_JAIL] = "by a descriptor in a jail",
-        [IN_TRUST] = "by a descriptor in a jail that trusts", [BY_JAIL] = "in a jail", [BY_TRUST] = "in a jail that trusts",
-    };
-    struct worker workers[16] = {{.name = "a walk without a check", .work = open_unchecked, .control = true}};
+    const struct worker control = {.name = "a walk without a check", .work = open_unchecked, .control = true};
     char title[64];
     snprintf(title, sizeof title, "new_race: %s", kind->name);
-    for (int one = 0; one < kind->count; one++)
-        workers[one + 1] = (struct worker){.name = names[kind->places[one]], .place = kind->places[one], .work = kind->work};
-    race(title, workers, kind->count + 1, kind->move, seconds);
-    expect(is_untouched(), "%s: something outside was changed", title);
+    race_in(title, &control, kind->work, kind->places, kind->count, kind->move, seconds);
+    is_untouched(title);
 }
 
 int main(int count, char **words)

@@ -6,6 +6,7 @@
  */
 #define _GNU_SOURCE
 #include "support.h"
+#include "wraps.h"
 
 #include <errno.h>
 #include <fcntl.h>
@@ -18,21 +19,16 @@ static int root;
 static void (*act)(void);
 static bool each_time;
 
-int __real_openat(int dir, const char *name, int flags, ...);
-int __wrap_openat(int dir, const char *name, int flags, ...);
-
-int __wrap_openat(int dir, const char *name, int flags, ...)
+static int my_openat(int dir, const char *name, int flags, mode_t mode)
 {
-    va_list more;
-    va_start(more, flags);
-    mode_t mode = flags & O_CREAT ? va_arg(more, mode_t) : 0;
-    va_end(more);
     if (flags & O_CREAT && act != NULL) {
         act();
         act = each_time ? act : NULL;
     }
     return __real_openat(dir, name, flags, mode);
 }
+
+INSTEAD_OF_OPENAT(my_openat)
 
 static void place_dangling(void) { sure(symlinkat("target", root, "d/f"), "d/f"); }
 static void place_link(void) { sure(symlinkat("/there", root, "d/f"), "d/f"); }
@@ -51,13 +47,6 @@ static void clear(void)
     unlinkat(root, "d/f", 0);
     unlinkat(root, "d/f", AT_REMOVEDIR);
     unlinkat(root, "d/target", 0);
-}
-
-static bool is(int fd, const char *path)
-{
-    struct stat one, other;
-    return fd >= 0 && fstat(fd, &one) == 0 && fstatat(root, path, &other, AT_SYMLINK_NOFOLLOW) == 0 &&
-           one.st_ino == other.st_ino && one.st_dev == other.st_dev;
 }
 
 /* What comes in between, and what a call gives: an error, or what it opened. */
@@ -90,14 +79,15 @@ static void one(size_t row, int at)
     int fd = inroot_openat(at, "d/f", O_RDWR | O_CREAT, 0600, rows[row].flags);
     expect(act == NULL, "row %zu: no file was to be made", row);
     act = NULL;
-    expect((fd < 0 ? -fd : 0) == rows[row].error, "row %zu: %d", row, fd);
-    expect(rows[row].opened == NULL || is(fd, rows[row].opened), "row %zu: something else was opened", row);
+    gives((fd < 0 ? -fd : 0), rows[row].error, "row %zu: the error", row);
+    if (rows[row].opened != NULL)
+        gives_object(fd, root, rows[row].opened, "row %zu: what was opened", row);
     bool made = faccessat(root, "d/target", F_OK, AT_SYMLINK_NOFOLLOW) == 0;
-    expect(made == (rows[row].opened != NULL && strcmp(rows[row].opened, "d/target") == 0), "row %zu: a link's target",
-           row);
+    gives(made, (rows[row].opened != NULL && strcmp(rows[row].opened, "d/target") == 0),
+          "row %zu: a link's target", row);
     if (fd >= 0)
         close(fd);
-    expect(open_descriptors() == before, "row %zu: descriptors are left open", row);
+    gives(open_descriptors(), before, "row %zu: open descriptors", row);
     clear();
 }
 
@@ -109,8 +99,8 @@ static void again_and_again(int at, int flags, int wanted)
     int fd = inroot_openat(at, "d/f", O_RDWR | O_CREAT, 0600, INROOT_NO_LINKS | flags);
     act = NULL;
     each_time = false;
-    expect(fd == wanted, "a link at each try, flags %d: %d", flags, fd);
-    expect(faccessat(root, "d/target", F_OK, AT_SYMLINK_NOFOLLOW) != 0, "a link at each try: its target was made");
+    gives(fd, wanted, "a link at each try, flags %d", flags);
+    gives(faccessat(root, "d/target", F_OK, AT_SYMLINK_NOFOLLOW), -1, "a link at each try: its target, asked for");
     clear();
 }
 
@@ -122,7 +112,7 @@ static void lead_on(void)
     snprintf(name, sizeof name, number == 0 ? "d/f" : "d/n%u", number);
     snprintf(next, sizeof next, "n%u", ++number);
     sure(symlinkat(next, root, name), name);
-    expect(number <= 41, "%u links are followed", number);
+    gives_most(number, 41, "links that are followed");
 }
 
 static void led_on(int at)
@@ -132,7 +122,7 @@ static void led_on(int at)
     int fd = inroot_openat(at, "d/f", O_RDWR | O_CREAT, 0600, 0);
     act = NULL;
     each_time = false;
-    expect(fd == -ELOOP, "a link at each name: %d", fd);
+    gives(fd, -ELOOP, "a link at each name");
     clear();
 }
 
@@ -143,7 +133,7 @@ static void from_the_first(int at)
     place_link();
     for (size_t one = 0; one < sizeof how / sizeof *how; one++) {
         int fd = inroot_openat(at, "d/f", how[one], 0, INROOT_NO_LINKS);
-        expect(fd == -ELOOP, "a link that is there, opened by %o: %d", (unsigned)how[one], fd);
+        gives(fd, -ELOOP, "a link that is there, opened by %o", (unsigned)how[one]);
     }
     clear();
 }

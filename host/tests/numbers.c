@@ -63,17 +63,15 @@ static void take(int fd)
 
 static void opens(int at, const char *path, int flags, const char *when)
 {
-    struct stat about, wanted;
     int fd = inroot_open(at, path, flags);
-    sure(fstatat(root, "a/b/f", &wanted, 0), "a/b/f");
-    expect(fd >= 0 && fstat(fd, &about) == 0 && about.st_ino == wanted.st_ino, "%s, %s: %d", path, when, fd);
+    gives_object(fd, root, "a/b/f", "%s, %s", path, when);
     if (fd >= 0)
         close(fd);
 }
 
 static void closed(int fd, const char *what)
 {
-    expect(fd >= 0, "%s: %d", what, fd);
+    gives_fd(fd, "%s", what);
     if (fd >= 0)
         close(fd);
 }
@@ -92,7 +90,7 @@ static void *jailed(void *unused)
     int failed = inroot_jail(root);
     if (failed == -EPERM)
         return unused;
-    expect(failed == 0, "a jail: %d", failed);
+    gives(failed, 0, "a jail");
     in_jail();
     inroot_jail_done();
     return unused;
@@ -105,10 +103,11 @@ static void *lost_in_jail(void *number)
     sure(-errno, "inroot_jail");
     in_jail();
     take(*(int *)number);
-    expect(inroot_open(INROOT_JAIL, "a/b/f", 0) == -ENOSYS, "a file in a jail whose /proc is another file");
-    expect(inroot_openat(INROOT_JAIL, "a/b", O_RDONLY, 0, 0) == -ENOSYS, "a directory to be read in such a jail");
+    gives(inroot_open(INROOT_JAIL, "a/b/f", 0), -ENOSYS, "a file in a jail whose /proc is another file");
+    gives(inroot_openat(INROOT_JAIL, "a/b", O_RDONLY, 0, 0), -ENOSYS, "a directory to be read in such a jail");
     int fd = inroot_open(INROOT_JAIL, "a/b", 0);
-    expect(fd >= 0 && close(fd) == 0, "a directory in such a jail: %d", fd);
+    gives_fd(fd, "a directory in such a jail");
+    gives(close(fd), 0, "its closing");
     return NULL;
 }
 
@@ -132,22 +131,24 @@ static void of_program(void)
     note(before);
     opens(root, "a/b/f", 0, "at first");
     int number = kept_beside(before);
-    expect(number > STDERR_FILENO, "the number of /proc is %d", number);
+    gives_least(number, STDERR_FILENO + 1, "the number of /proc");
     take(number);
     for (int turn = 0; turn < 2; turn++) {
         opens(root, "a/b/f", 0, "after that");
         opens(root, "a/b/../b/f", INROOT_ONE_BY_ONE, "after that");
         closed(inroot_openat(root, "a/b/f", O_RDWR, 0, 0), "a file to be used");
         closed(inroot_openat(root, "a/b", O_RDONLY | O_DIRECTORY, 0, 0), "a directory to be read");
-        expect(inroot_link(root, "a/b/f", "a/g", 0) == 0 && unlinkat(root, "a/g", 0) == 0, "a second name");
-        expect(inroot_mkdir(root, "a/new", 0755, 0) == 0 && inroot_remove_all(root, "a/new", 0) == 1, "a directory");
-        expect(inroot_open(root, "a/b/f/x", 0) == -ENOTDIR, "below a file");
-        expect(inroot_root_open("/", 0, &kept) == 0, "a root that is kept");
+        gives(inroot_link(root, "a/b/f", "a/g", 0), 0, "a second name");
+        gives(unlinkat(root, "a/g", 0), 0, "its removal");
+        gives(inroot_mkdir(root, "a/new", 0755, 0), 0, "a directory");
+        gives(inroot_remove_all(root, "a/new", 0), 1, "its removal");
+        gives(inroot_open(root, "a/b/f/x", 0), -ENOTDIR, "below a file");
+        gives(inroot_root_open("/", 0, &kept), 0, "a root that is kept");
         inroot_root_close(kept);
     }
     int left = open_descriptors();
     opens(root, "a/b/f", 0, "once more");
-    expect(open_descriptors() == left, "descriptors are left open");
+    gives(open_descriptors(), left, "open descriptors");
     pthread_create(&thread, NULL, jailed, NULL);
     pthread_join(thread, NULL);
     expect(is_taker(number), "the other file was closed");
@@ -166,7 +167,7 @@ static void *ends_in_jail(void *number)
     errno = -inroot_jail_with(root, jail_flags);
     sure(-errno, "inroot_jail_with");
     int kept = kept_beside(before);
-    expect(kept > STDERR_FILENO, "what a thread keeps has the number %d", kept);
+    gives_least(kept, STDERR_FILENO + 1, "the number of what a thread keeps");
     *(int *)number = kept;
     opens(INROOT_JAIL, "a/b/f", 0, "in a jail");
     if (kept >= 0)
@@ -215,7 +216,7 @@ static void of_child(void)
         _exit(wrong);
     }
     sure(waitpid(child, &status, 0), "waitpid");
-    expect(WIFEXITED(status) && WEXITSTATUS(status) == 0, "a child: %x", (unsigned)status);
+    ended_well(status, "a child");
     opens(INROOT_JAIL, "a/b/f", 0, "in the parent");
 }
 
@@ -230,7 +231,7 @@ static void standard(void)
     errno = -inroot_jail_with(root, INROOT_TRUST_PROC);
     if (errno == EPERM)
         return;
-    expect(errno == 0, "a jail without standard files");
+    gives(errno, 0, "a jail without standard files");
     expect(!is_proc(STDIN_FILENO) && !is_proc(STDERR_FILENO), "the table has the number of a standard file");
     opens(INROOT_JAIL, "a/b/f", 0, "in a jail without standard files");
 }

@@ -32,32 +32,32 @@ static void filter(void)
         refuse(SYS_statx, by_error);
 }
 
-static bool is_f(int fd)
+static void opens_f(int at, const char *path, int flags, const char *who)
 {
-    struct stat about, f;
-    bool same = fd >= 0 && fstat(fd, &about) == 0 && fstatat(root, "a/b/f", &f, 0) == 0 && about.st_ino == f.st_ino;
+    int fd = inroot_open(at, path, flags);
+    gives_object(fd, root, "a/b/f", "%s: %s, flags %d", who, path, flags);
     if (fd >= 0)
         close(fd);
-    return same;
 }
 
 static void goes_on(const char *who, int at)
 {
     static const int flags[] = {0, INROOT_ONE_BY_ONE};
     for (int one = 0; one < 2; one++) {
-        expect(is_f(inroot_open(at, "a/b/f", flags[one])), "%s: plain names", who);
-        expect(is_f(inroot_open(at, "a/b/../../l", flags[one])), "%s: a link", who);
-        expect(inroot_mkdir(at, "a/new", 0755, flags[one]) == 0, "%s: a directory is made", who);
-        expect(inroot_remove_all(at, "a/new", flags[one]) == 1, "%s: a directory is removed", who);
+        opens_f(at, "a/b/f", flags[one], who);
+        opens_f(at, "a/b/../../l", flags[one], who);
+        gives(inroot_mkdir(at, "a/new", 0755, flags[one]), 0, "%s: a directory is made", who);
+        gives(inroot_remove_all(at, "a/new", flags[one]), 1, "%s: a directory is removed", who);
     }
 }
 
 static void told(const char *who, int result)
 {
     struct inroot_error why;
-    expect(result == -EOPNOTSUPP, "%s: %d", who, result);
-    expect(inroot_last_error(&why) == 0 && why.error == EOPNOTSUPP && strcmp(why.step, "OwnRoot") == 0, "%s: at %s", who,
-           why.step);
+    gives(result, -EOPNOTSUPP, "%s", who);
+    gives(inroot_last_error(&why), 0, "%s: its last error", who);
+    gives(why.error, EOPNOTSUPP, "%s: the error told", who);
+    gives_text(why.step, "OwnRoot", "%s: the step of it", who);
 }
 
 /* Nothing is found, made or removed. */
@@ -79,11 +79,12 @@ static void is_refused(const char *who, int at)
     told(who, inroot_unlink(at, "a/b/f", 0));
     told(who, inroot_rmdir(at, "e", 0));
     told(who, (int)inroot_remove_all(at, "a", 0));
-    expect(fstatat(root, "a/b/new", &about, 0) != 0 && fstatat(root, "a/b/f", &about, 0) == 0 && fstatat(root, "e", &about, 0) == 0,
-           "%s: something was changed", who);
-    expect(inroot_open(1000, "a", 0) == -EBADF, "%s: no descriptor", who);
+    gives(fstatat(root, "a/b/new", &about, 0), -1, "%s: a/b/new, asked for", who);
+    gives(fstatat(root, "a/b/f", &about, 0), 0, "%s: a/b/f, asked for", who);
+    gives(fstatat(root, "e", &about, 0), 0, "%s: e, asked for", who);
+    gives(inroot_open(1000, "a", 0), -EBADF, "%s: no descriptor", who);
     int file = sure(openat(root, "a/b/f", O_PATH | O_CLOEXEC), "f");
-    expect(inroot_open(file, "a", 0) == -ENOTDIR, "%s: no directory", who);
+    gives(inroot_open(file, "a", 0), -ENOTDIR, "%s: no directory", who);
     close(file);
 }
 
@@ -96,8 +97,8 @@ static void in_no_jail(void)
     if (!no_openat2)
         return;
     /* The kernel writes just this behind the path of what is removed. */
-    expect(inroot_open(root, "g (deleted)", INROOT_NO_RETRY) == -EAGAIN, "a file that is called as if it were gone");
-    expect(inroot_open(root, "h (deleted)", INROOT_NO_RETRY) >= 0, "a directory that is called as if it were gone");
+    gives(inroot_open(root, "g (deleted)", INROOT_NO_RETRY), -EAGAIN, "a file that is called as if it were gone");
+    gives_fd(inroot_open(root, "h (deleted)", INROOT_NO_RETRY), "a directory that is called as if it were gone");
 }
 
 static void in_chroot(void)

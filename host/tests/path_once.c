@@ -8,6 +8,7 @@
  */
 #define _GNU_SOURCE
 #include "support.h"
+#include "wraps.h"
 
 #include <errno.h>
 #include <fcntl.h>
@@ -32,53 +33,45 @@ static void change(void)
     changes += first_later != NULL;
 }
 
-ssize_t __real_readlinkat(int dir, const char *name, char *text, size_t size);
-ssize_t __wrap_readlinkat(int dir, const char *name, char *text, size_t size);
-int __real_openat(int dir, const char *name, int flags, ...);
-int __wrap_openat(int dir, const char *name, int flags, ...);
-long __real_syscall(long number, ...);
-long __wrap_syscall(long number, ...);
+/* Whether it is the name of a descriptor in /proc, and not that of a link on the path. */
+static bool is_descriptor(const char *name)
+{
+    return strncmp(name, "thread-self/", 12) == 0 || (name[0] >= '0' && name[0] <= '9');
+}
 
 /* So that the call's first try ends by EAGAIN. */
 ssize_t __wrap_readlinkat(int dir, const char *name, char *text, size_t size)
 {
     change();
-    if (!lies || name[0] == 0)
+    if (!lies || !is_descriptor(name))
         return __real_readlinkat(dir, name, text, size);
     lies = false;
     memcpy(text, "/none", 5);
     return 5;
 }
 
-int __wrap_openat(int dir, const char *name, int flags, ...)
+static int my_openat(int dir, const char *name, int flags, mode_t mode)
 {
-    va_list more;
-    va_start(more, flags);
-    mode_t mode = flags & (O_CREAT | O_TMPFILE) ? va_arg(more, mode_t) : 0;
-    va_end(more);
     int fd = __real_openat(dir, name, flags, mode);
     change();
     return fd;
 }
 
-/* Takes more words than were handed in. */
-__attribute__((no_sanitize("address"))) long __wrap_syscall(long number, ...)
+INSTEAD_OF_OPENAT(my_openat)
+
+static long my_syscall(long number, const long *with)
 {
-    long with[5];
-    va_list more;
-    va_start(more, number);
-    for (int one = 0; one < 5; one++)
-        with[one] = va_arg(more, long);
-    va_end(more);
     if (number == SYS_getcwd && lies && with[1] >= 6) {
         lies = false;
         memcpy((char *)with[0], "/none", 6);
         return 6;
     }
-    long result = __real_syscall(number, with[0], with[1], with[2], with[3], with[4]);
+    long result = REAL_SYSCALL(number, with);
     change();
     return result;
 }
+
+INSTEAD_OF_SYSCALL(my_syscall)
 
 static struct stat status_of(const char *path)
 {
@@ -104,7 +97,7 @@ static void give(const char *one, const char *later, const char *two, const char
 
 static void taken_back(const char *what)
 {
-    expect(changes > 0, "%s: the text wasn't changed", what);
+    gives_least(changes, 1, "%s: changes of the text", what);
     first_later = second_later = NULL;
     lies = false;
 }
@@ -112,13 +105,15 @@ static void taken_back(const char *what)
 /* What is there is opened, and it is this one. */
 static void opens(const char *path, int flags, bool is_tried_again)
 {
-    struct stat about, wanted = status_of("a/f");
+    const char *when = is_tried_again ? "tried again" : "at the first try";
+    struct stat about = {0}, wanted = status_of("a/f");
     give(path, "out/secret", "", NULL);
     lies = is_tried_again;
     int fd = inroot_open(at, first, flags);
     taken_back(path);
-    expect(fd >= 0 && fstat(fd, &about) == 0 && about.st_ino == wanted.st_ino, "%s, flags %d, %s: %d", path, flags,
-           is_tried_again ? "tried again" : "at the first try", fd);
+    gives_fd(fd, "%s, flags %d, %s", path, flags, when);
+    gives(fd < 0 ? 0 : fstat(fd, &about), 0, "%s, flags %d, %s: fstat(2) of it", path, flags, when);
+    gives((long)about.st_ino, (long)wanted.st_ino, "%s, flags %d, %s: the inode", path, flags, when);
     if (fd >= 0)
         close(fd);
 }
@@ -140,20 +135,26 @@ static void files(bool is_tried_again)
     lies = is_tried_again;
     int fd = inroot_openat(at, first, O_RDWR | O_CREAT, 0600, 0);
     taken_back("a file that is made");
-    expect(fd >= 0 && is_there("a/new") && !is_there("out/new"), "a file that is made: %d", fd);
+    gives_fd(fd, "a file that is made");
+    gives(is_there("a/new"), true, "a file that is made: whether a/new is there");
+    gives(is_there("out/new"), false, "a file that is made: whether out/new is there");
     if (fd >= 0)
         close(fd);
     unlinkat(root, "a/new", 0);
     give("a/dangling", "out/dangling", "", NULL);
     fd = inroot_openat(at, first, O_RDWR | O_CREAT, 0600, 0);
     taken_back("a file at the end of a link");
-    expect(fd >= 0 && is_there("a/target") && !is_there("out/dangling"), "a file at the end of a link: %d", fd);
+    gives_fd(fd, "a file at the end of a link");
+    gives(is_there("a/target"), true, "a file at the end of a link: whether a/target is there");
+    gives(is_there("out/dangling"), false, "a file at the end of a link: whether out/dangling is there");
     if (fd >= 0)
         close(fd);
     unlinkat(root, "a/target", 0);
     give("a/new", "out/new", "", NULL);
     lies = is_tried_again;
-    expect(inroot_mkfile(at, first, 0600, 0) == 0 && is_there("a/new") && !is_there("out/new"), "an empty file");
+    gives(inroot_mkfile(at, first, 0600, 0), 0, "an empty file");
+    gives(is_there("a/new"), true, "an empty file: whether a/new is there");
+    gives(is_there("out/new"), false, "an empty file: whether out/new is there");
     taken_back("an empty file");
     unlinkat(root, "a/new", 0);
 }
@@ -164,12 +165,16 @@ static void directories(bool is_tried_again)
     lies = is_tried_again;
     int fd = inroot_mkdir_all(at, first, 0700, 0);
     taken_back("directories");
-    expect(fd >= 0 && is_there("a/b/new/er") && !is_there("out/b"), "directories: %d", fd);
+    gives_fd(fd, "directories");
+    gives(is_there("a/b/new/er"), true, "directories: whether a/b/new/er is there");
+    gives(is_there("out/b"), false, "directories: whether out/b is there");
     if (fd >= 0)
         close(fd);
     give("a/b/new", "out", "", NULL);
     lies = is_tried_again;
-    expect(inroot_remove_all(at, first, 0) == 2 && is_there("out/secret") && !is_there("a/b/new"), "a tree is removed");
+    gives(inroot_remove_all(at, first, 0), 2, "a tree is removed");
+    gives(is_there("out/secret"), true, "a tree is removed: whether out/secret is there");
+    gives(is_there("a/b/new"), false, "a tree is removed: whether a/b/new is there");
     taken_back("a tree is removed");
 }
 
@@ -178,22 +183,29 @@ static void two_texts(bool is_tried_again)
     struct stat wanted = status_of("a/f");
     give("a/f", "out/secret", "a/g", "out/g");
     lies = is_tried_again;
-    expect(inroot_rename(at, first, second, INROOT_PLAIN, 0) == 0 && is_there("a/g") && !is_there("out/g"), "a rename");
+    gives(inroot_rename(at, first, second, INROOT_PLAIN, 0), 0, "a rename");
+    gives(is_there("a/g"), true, "a rename: whether a/g is there");
+    gives(is_there("out/g"), false, "a rename: whether out/g is there");
     taken_back("a rename");
-    expect(status_of("a/g").st_ino == wanted.st_ino, "another entry was renamed");
+    gives(status_of("a/g").st_ino, wanted.st_ino, "the inode of what was renamed");
     sure(renameat(root, "a/g", root, "a/f"), "a/f");
     give("a/f", "out/secret", "a/g", "out/g");
     lies = is_tried_again;
-    expect(inroot_link(at, first, second, 0) == 0 && is_there("a/g") && !is_there("out/g"), "a second name");
+    gives(inroot_link(at, first, second, 0), 0, "a second name");
+    gives(is_there("a/g"), true, "a second name: whether a/g is there");
+    gives(is_there("out/g"), false, "a second name: whether out/g is there");
     taken_back("a second name");
-    expect(status_of("a/g").st_ino == wanted.st_ino, "another entry got a second name");
+    gives(status_of("a/g").st_ino, wanted.st_ino, "the inode of what got a second name");
     unlinkat(root, "a/g", 0);
     give("text", "other", "a/g", "out/g");
     lies = is_tried_again;
-    expect(inroot_symlink(at, first, second, 0) == 0 && is_there("a/g") && !is_there("out/g"), "a link is made");
+    gives(inroot_symlink(at, first, second, 0), 0, "a link is made");
+    gives(is_there("a/g"), true, "a link is made: whether a/g is there");
+    gives(is_there("out/g"), false, "a link is made: whether out/g is there");
     taken_back("a link is made");
-    char text[8];
-    expect(__real_readlinkat(root, "a/g", text, sizeof text) == 4 && memcmp(text, "text", 4) == 0, "a link's text");
+    char text[8] = "";
+    gives(__real_readlinkat(root, "a/g", text, sizeof text - 1), 4, "the length of a link's text");
+    gives_text(text, "text", "a link's text");
     unlinkat(root, "a/g", 0);
 }
 

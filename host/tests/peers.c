@@ -217,7 +217,7 @@ static void make_dirs(void)
 }
 
 /* Nothing was made or removed where nobody but the mover was: the secret stands there, beside one directory. */
-static bool is_untouched(void)
+static void is_untouched(const char *race)
 {
     struct stat about;
     int count = 0;
@@ -225,7 +225,9 @@ static bool is_untouched(void)
     while (readdir(all) != NULL)
         count++;
     closedir(all);
-    return count == 4 && fstatat(out, "secret", &about, AT_SYMLINK_NOFOLLOW) == 0 && fstatat(out, "dir", &about, AT_SYMLINK_NOFOLLOW) == 0;
+    gives(count, 4, "%s: entries of out, `.` and `..` among them", race);
+    gives(fstatat(out, "secret", &about, AT_SYMLINK_NOFOLLOW), 0, "%s: out/secret, asked for", race);
+    gives(fstatat(out, "dir", &about, AT_SYMLINK_NOFOLLOW), 0, "%s: out/dir, asked for", race);
 }
 
 /* ---- races */
@@ -267,13 +269,15 @@ static void race(const char *name, struct worker *workers, int count, void (*abo
         double all = (double)(w->done + w->failed);
         printf("peers: %s: %s: %lu done, %lu escaped, %lu EAGAIN (%.4f %%), %lu failed\n", name, w->name, w->done, w->escaped,
                w->raced, all > 0 ? 100 * (double)w->raced / all : 0, w->failed);
-        if (!w->control)
-            expect(w->escaped == 0 && w->done > 0, "%s: %s: %lu escaped, %lu done", name, w->name, w->escaped, w->done);
+        if (!w->control) {
+            gives((long)w->escaped, 0, "%s: %s: escaped", name, w->name);
+            gives_least((long)w->done, 1, "%s: %s: done", name, w->name);
+        }
     }
     int left = open_descriptors() - before;
     has_shown = has_shown && (fooled || !has_control);
-    expect(left == 0, "%s: %d descriptors left open", name, left);
-    expect(is_untouched(), "%s: something outside was changed", name);
+    gives(left, 0, "%s: descriptors left open", name);
+    is_untouched(name);
     printf("peers: %s: %lu moves, %d descriptors left open\n", name, (unsigned long)moves, left);
 }
 
@@ -350,12 +354,12 @@ static void make_together(int count, bool jails)
     }
     for (int at = 0; at < count; at++) {
         pthread_join(threads[at], NULL);
-        expect(makers[at].dir >= 0, "%d threads: directories: %d", count, makers[at].dir);
-        expect(makers[at].file == 0 || makers[at].file == -EEXIST, "%d threads: a file: %d", count, makers[at].file);
+        gives_fd(makers[at].dir, "%d threads: directories", count);
+        gives(makers[at].file, makers[at].file == 0 ? 0 : -EEXIST, "%d threads: a file", count);
         made += makers[at].file == 0;
     }
-    expect(made == 1, "%d threads: %d made the file", count, made);
-    expect(inroot_remove_all(root, "same", 0) == 7, "%d threads: what they made", count);
+    gives(made, 1, "%d threads: those that made the file", count);
+    gives(inroot_remove_all(root, "same", 0), 7, "%d threads: what they made", count);
     pthread_barrier_destroy(&together);
 }
 

@@ -45,15 +45,17 @@ static void no_use(const char *why)
     struct inroot_root *kept;
     struct stat about;
     int fd = sure(openat(root, "f", O_PATH | O_CLOEXEC), "f");
-    expect(inroot_reopen(fd, O_RDONLY) == -ENOSYS, "a file once more %s", why);
-    expect(inroot_openat(root, "f", O_RDONLY, 0, 0) == -ENOSYS, "a file to be read %s", why);
-    expect(inroot_openat(root, "new", O_RDWR | O_CREAT, 0600, 0) >= 0, "a new file in the root itself %s", why);
-    expect(inroot_openat(root, "a/new", O_RDWR | O_CREAT, 0600, 0) == -ENOSYS, "a new file %s", why);
-    expect(inroot_link_fd(root, fd, "g", 0) == -ENOSYS, "a second name %s", why);
-    expect(inroot_link(root, "f", "g", 0) == -ENOSYS, "a second name of what is found %s", why);
-    expect(inroot_stat(root, "f", &about, 0) == -ENOSYS, "what stands there %s", why);
-    expect(inroot_root_open(where, 0, &kept) == -ENOSYS && kept == NULL, "a root that is kept %s", why);
-    expect(faccessat(root, "g", F_OK, 0) != 0 && faccessat(root, "a/new", F_OK, 0) != 0, "something was made %s", why);
+    gives(inroot_reopen(fd, O_RDONLY), -ENOSYS, "a file once more %s", why);
+    gives(inroot_openat(root, "f", O_RDONLY, 0, 0), -ENOSYS, "a file to be read %s", why);
+    gives_fd(inroot_openat(root, "new", O_RDWR | O_CREAT, 0600, 0), "a new file in the root itself %s", why);
+    gives(inroot_openat(root, "a/new", O_RDWR | O_CREAT, 0600, 0), -ENOSYS, "a new file %s", why);
+    gives(inroot_link_fd(root, fd, "g", 0), -ENOSYS, "a second name %s", why);
+    gives(inroot_link(root, "f", "g", 0), -ENOSYS, "a second name of what is found %s", why);
+    gives(inroot_stat(root, "f", &about, 0), -ENOSYS, "what stands there %s", why);
+    gives(inroot_root_open(where, 0, &kept), -ENOSYS, "a root that is kept %s", why);
+    expect(kept == NULL, "a root that is kept %s", why);
+    gives(faccessat(root, "g", F_OK, 0), -1, "g, asked for, %s", why);
+    gives(faccessat(root, "a/new", F_OK, 0), -1, "a/new, asked for, %s", why);
     sure(unlinkat(root, "new", 0), "new");
     close(fd);
 }
@@ -71,55 +73,55 @@ static void no_proc(void)
 {
     cover(false);
     no_use("without /proc");
-    expect(inroot_open(root, "f", 0) == -ENOSYS, "a file without /proc");
-    expect(inroot_mkdir(root, "a/x", 0755, 0) == -ENOSYS, "a directory without /proc");
-    expect(inroot_jail(root) == -ENOSYS, "a jail without /proc");
-    expect(inroot_jail_with(root, INROOT_TRUST_PROC) == -ENOSYS, "a jail that trusts without /proc");
-    expect(inroot_open(root, "none", 0) == -ENOENT, "what isn't there, without /proc");
+    gives(inroot_open(root, "f", 0), -ENOSYS, "a file without /proc");
+    gives(inroot_mkdir(root, "a/x", 0755, 0), -ENOSYS, "a directory without /proc");
+    gives(inroot_jail(root), -ENOSYS, "a jail without /proc");
+    gives(inroot_jail_with(root, INROOT_TRUST_PROC), -ENOSYS, "a jail that trusts without /proc");
+    gives(inroot_open(root, "none", 0), -ENOENT, "what isn't there, without /proc");
 }
 
 static void forged(void)
 {
     cover(true);
     no_use("by a /proc that is none");
-    expect(inroot_open(root, "f", 0) == -ENOSYS, "a file by a /proc that is none");
-    expect(inroot_open(root, "a/../f", 0) == -ENOSYS, "a file after `..` by a /proc that is none");
-    expect(inroot_jail(root) == -ENOSYS, "a jail by a /proc that is none");
-    expect(inroot_jail_with(root, INROOT_TRUST_PROC) == -ENOSYS, "a jail that trusts by a /proc that is none");
+    gives(inroot_open(root, "f", 0), -ENOSYS, "a file by a /proc that is none");
+    gives(inroot_open(root, "a/../f", 0), -ENOSYS, "a file after `..` by a /proc that is none");
+    gives(inroot_jail(root), -ENOSYS, "a jail by a /proc that is none");
+    gives(inroot_jail_with(root, INROOT_TRUST_PROC), -ENOSYS, "a jail that trusts by a /proc that is none");
 }
 
 /* The directory of the thread's descriptors is that of the /proc that was handed in, and is closed with it. */
 static void handed_in_to_trust(void)
 {
     cover(true);
-    expect(inroot_use_proc(good) == 0, "a /proc");
+    gives(inroot_use_proc(good), 0, "a /proc");
     close(good);
-    expect(inroot_jail_with(root, INROOT_TRUST_PROC) == 0, "a jail that trusts by the /proc that was handed in");
-    expect(inroot_open(INROOT_JAIL, "f", 0) >= 0, "a file in a jail that trusts by that /proc");
-    expect(inroot_open(INROOT_JAIL, "a/g", 0) >= 0, "a file deeper in a jail that trusts by that /proc");
+    gives(inroot_jail_with(root, INROOT_TRUST_PROC), 0, "a jail that trusts by the /proc that was handed in");
+    gives_fd(inroot_open(INROOT_JAIL, "f", 0), "a file in a jail that trusts by that /proc");
+    gives_fd(inroot_open(INROOT_JAIL, "a/g", 0), "a file deeper in a jail that trusts by that /proc");
     close_proc();
-    expect(inroot_open(INROOT_JAIL, "a", 0) >= 0, "a directory in a jail that trusts whose /proc was closed");
-    expect(inroot_open(INROOT_JAIL, "f", 0) == -ENOSYS, "a file in a jail that trusts whose /proc was closed");
-    expect(inroot_open(INROOT_JAIL, "a/g", 0) == -ENOSYS, "a file deeper in a jail that trusts whose /proc was closed");
+    gives_fd(inroot_open(INROOT_JAIL, "a", 0), "a directory in a jail that trusts whose /proc was closed");
+    gives(inroot_open(INROOT_JAIL, "f", 0), -ENOSYS, "a file in a jail that trusts whose /proc was closed");
+    gives(inroot_open(INROOT_JAIL, "a/g", 0), -ENOSYS, "a file deeper in a jail that trusts whose /proc was closed");
 }
 
 static void handed_in(void)
 {
     cover(true);
-    expect(inroot_use_proc(999) == -EBADF, "a /proc that isn't open");
-    expect(inroot_use_proc(root) == -EINVAL, "a /proc that is another directory");
-    expect(inroot_use_proc(good) == 0, "a /proc");
-    expect(inroot_use_proc(good) == -EBUSY, "a second /proc");
+    gives(inroot_use_proc(999), -EBADF, "a /proc that isn't open");
+    gives(inroot_use_proc(root), -EINVAL, "a /proc that is another directory");
+    gives(inroot_use_proc(good), 0, "a /proc");
+    gives(inroot_use_proc(good), -EBUSY, "a second /proc");
     close(good);
-    expect(inroot_open(root, "f", 0) >= 0, "a file by the /proc that was handed in");
-    expect(inroot_openat(root, "f", O_RDWR, 0, 0) >= 0, "a file to be used by the /proc that was handed in");
-    expect(inroot_jail(root) == 0, "a jail by the /proc that was handed in");
-    expect(inroot_open(INROOT_JAIL, "f", 0) >= 0, "a file in a jail by the /proc that was handed in");
-    expect(inroot_openat(INROOT_JAIL, "f", O_RDWR, 0, 0) >= 0, "a file to be used in a jail by that /proc");
+    gives_fd(inroot_open(root, "f", 0), "a file by the /proc that was handed in");
+    gives_fd(inroot_openat(root, "f", O_RDWR, 0, 0), "a file to be used by the /proc that was handed in");
+    gives(inroot_jail(root), 0, "a jail by the /proc that was handed in");
+    gives_fd(inroot_open(INROOT_JAIL, "f", 0), "a file in a jail by the /proc that was handed in");
+    gives_fd(inroot_openat(INROOT_JAIL, "f", O_RDWR, 0, 0), "a file to be used in a jail by that /proc");
     close_proc();
-    expect(inroot_open(INROOT_JAIL, "a", 0) >= 0, "a directory in a jail whose /proc was closed");
-    expect(inroot_openat(INROOT_JAIL, "a", O_RDONLY, 0, 0) == -ENOSYS, "the same, to be read");
-    expect(inroot_reopen(root, O_RDONLY) == -ENOSYS, "a directory once more in a jail whose /proc was closed");
+    gives_fd(inroot_open(INROOT_JAIL, "a", 0), "a directory in a jail whose /proc was closed");
+    gives(inroot_openat(INROOT_JAIL, "a", O_RDONLY, 0, 0), -ENOSYS, "the same, to be read");
+    gives(inroot_reopen(root, O_RDONLY), -ENOSYS, "a directory once more in a jail whose /proc was closed");
 }
 
 /* Below a jail's root stands a proc(5) that somebody mounted there. It is called /proc, and it isn't the program's. */
@@ -133,23 +135,23 @@ static void of_the_jail(void)
         _exit(NO_RIGHT);
     /* In this mount namespace, where the other one's descriptor doesn't lead. */
     int here = sure(open(where, O_PATH | O_DIRECTORY | O_CLOEXEC), where);
-    expect(inroot_jail(here) == 0, "a jail with a /proc of its own");
-    expect(inroot_open(INROOT_JAIL, "f", 0) >= 0, "a file in a jail with a /proc of its own");
+    gives(inroot_jail(here), 0, "a jail with a /proc of its own");
+    gives_fd(inroot_open(INROOT_JAIL, "f", 0), "a file in a jail with a /proc of its own");
     close_proc();
-    expect(inroot_open(INROOT_JAIL, "a", 0) >= 0, "a directory in a jail with a /proc of its own");
+    gives_fd(inroot_open(INROOT_JAIL, "a", 0), "a directory in a jail with a /proc of its own");
     int fd = inroot_open(INROOT_JAIL, "f", 0);
-    expect(fd == -ENOSYS, "a file by a /proc of the jail's own: %d", fd);
+    gives(fd, -ENOSYS, "a file by a /proc of the jail's own");
     fd = inroot_openat(INROOT_JAIL, "a", O_RDONLY, 0, 0);
-    expect(fd == -ENOSYS, "a directory to be read by a /proc of the jail's own: %d", fd);
-    expect(inroot_link(INROOT_JAIL, "f", "g", 0) == -ENOSYS, "a second name by a /proc of the jail's own");
+    gives(fd, -ENOSYS, "a directory to be read by a /proc of the jail's own");
+    gives(inroot_link(INROOT_JAIL, "f", "g", 0), -ENOSYS, "a second name by a /proc of the jail's own");
 }
 
 /* Opened while it was one, and covered later: what is open stays what it is. */
 static void covered_later(void)
 {
-    expect(inroot_open(root, "f", 0) >= 0, "a file");
+    gives_fd(inroot_open(root, "f", 0), "a file");
     cover(true);
-    expect(inroot_open(root, "f", 0) >= 0, "a file by a /proc that was opened before");
+    gives_fd(inroot_open(root, "f", 0), "a file by a /proc that was opened before");
 }
 
 /* Something else is mounted on the directory of this thread's descriptors: it is asked nothing. */
@@ -162,23 +164,23 @@ static void table_covered(void)
     /* The kernel may refuse mounts there. */
     if (mount("none", path, "tmpfs", 0, NULL) != 0)
         _exit(NO_RIGHT);
-    expect(inroot_jail_with(root, INROOT_TRUST_PROC) == 0, "a jail that trusts whose table is covered");
-    expect(inroot_open(INROOT_JAIL, "f", 0) == -ENOSYS, "a file in a jail that trusts whose table is covered");
+    gives(inroot_jail_with(root, INROOT_TRUST_PROC), 0, "a jail that trusts whose table is covered");
+    gives(inroot_open(INROOT_JAIL, "f", 0), -ENOSYS, "a file in a jail that trusts whose table is covered");
 }
 
 /* Below another directory of a proc(5) there is no thread-self. */
 static void not_its_top(void)
 {
     int below = sure(open("/proc/sys", O_PATH | O_DIRECTORY | O_CLOEXEC), "/proc/sys");
-    expect(inroot_use_proc(below) == 0, "a directory of /proc");
+    gives(inroot_use_proc(below), 0, "a directory of /proc");
     no_use("by a directory of /proc");
-    expect(inroot_open(root, "f", 0) == -ENOSYS, "a file by a directory of /proc");
+    gives(inroot_open(root, "f", 0), -ENOSYS, "a file by a directory of /proc");
     int failed = inroot_jail_with(root, INROOT_TRUST_PROC);
     if (failed == -EPERM)
         _exit(wrong != 0 ? 1 : NO_RIGHT);
-    expect(failed == 0, "a jail that trusts by a directory of /proc, which keeps none: %d", failed);
-    expect(inroot_open(INROOT_JAIL, "f", 0) == -ENOSYS, "a file in a jail that trusts by a directory of /proc");
-    expect(inroot_open(INROOT_JAIL, "a", 0) >= 0, "a directory in a jail that trusts by a directory of /proc");
+    gives(failed, 0, "a jail that trusts by a directory of /proc, which keeps none");
+    gives(inroot_open(INROOT_JAIL, "f", 0), -ENOSYS, "a file in a jail that trusts by a directory of /proc");
+    gives_fd(inroot_open(INROOT_JAIL, "a", 0), "a directory in a jail that trusts by a directory of /proc");
 }
 
 int main(int count, char **words)

@@ -195,8 +195,9 @@ int main(int count, char **words)
     gives(left, 0, "descriptors left open");
     for (int at = 0; at < OURS; at++) {
         const struct resolver *r = &resolvers[at];
-        expect(r->opened > 0, "%s: nothing was opened", r->name);
-        expect(r->escaped == 0 || (swaps && !r->jailed), "%s: %lu escaped", r->name, r->escaped);
+        gives_least(r->opened, 1, "%s: what was opened", r->name);
+        if (!swaps || r->jailed)
+            gives((long)r->escaped, 0, "%s: escaped", r->name);
     }
     return ending(fooled);
 }

@@ -4,7 +4,7 @@
  * isn't opened, and nothing is made or cut off outside.
  *
  * usage: roots_race DIR SECONDS RACE. RACE is all, or one way to have a root: chroot, jail, done, made, own; or one place for
- * it: bind, namespace, overlay, renamed. Exits 0 where that holds, and a walk without a check was led out. 78: no right here to
+ * it: bind, namespace, overlay, renamed; or kept, of which the library keeps something, kept_renamed. Exits 0 where that holds, and a walk without a check was led out. 78: no right here to
  * do so. 79: that walk was not led out.
  */
 #define _GNU_SOURCE
@@ -18,9 +18,12 @@
 static int base, inner, outer;
 /* The root as it was first opened. By a bind mount the kernel refuses `..` of what was moved out of it, and fools hardly any walk. */
 static int plain_root;
-static char where[PATH_MAX + 16], below[PATH_MAX + 24], paths[8][PATH_MAX + 64];
+static char where[PATH_MAX + 16], below[PATH_MAX + 24], paths[12][PATH_MAX + 64];
 
-enum { TO_SECRET, TO_TOP, TO_FILE, TO_DIRECTORY, TO_FILE_UP, TO_INSIDE, PATHS, TO_NEW = PATHS };
+enum {
+    TO_SECRET, TO_TOP, TO_FILE, TO_DIRECTORY, TO_FILE_UP, TO_INSIDE, BY_LINK, BY_LINK_UP, BY_LINK_ON, BY_LINK_TO_NAME, PATHS,
+    TO_NEW = PATHS
+};
 
 /* ---- who is in their way */
 
@@ -105,7 +108,8 @@ static void make_tree(const char *names, const char *other)
 {
     static const char *const ends[PATHS + 1] = {
         [TO_SECRET] = "b/x/../../secret", [TO_TOP] = "b/x/../../../secret", [TO_FILE] = "b/f", [TO_DIRECTORY] = "b/c",
-        [TO_FILE_UP] = "b/x/../y/f", [TO_INSIDE] = "b/x", [TO_NEW] = "b/x/../../new",
+        [TO_FILE_UP] = "b/x/../y/f", [TO_INSIDE] = "b/x", [BY_LINK] = "via/../../secret", [BY_LINK_UP] = "b/x/up",
+        [BY_LINK_ON] = "b/x/on", [BY_LINK_TO_NAME] = "b/last", [TO_NEW] = "b/x/../../new",
     };
     char path[2 * PATH_MAX];
     snprintf(below, sizeof below, "%s%sq", names, names[0] != 0 ? "/" : "");
@@ -124,13 +128,30 @@ static void make_tree(const char *names, const char *other)
     sure((int)write(secret, "secret", 6), "secret");
     close(secret);
     sure(mknodat(outer, "../secret", S_IFREG | 0600, 0), "../secret");
+    sure(symlinkat("b/x", inner, "via"), "via");
+    sure(symlinkat("../../secret", inner, "b/x/up"), "up");
+    sure(symlinkat("../y/f", inner, "b/x/on"), "on");
+    sure(symlinkat("f", inner, "b/last"), "last");
+}
+
+/* The root once more, as the library keeps it. */
+static int kept_by(int flags)
+{
+    struct inroot_root *kept;
+    char box[PATH_MAX + 24];
+    snprintf(box, sizeof box, "%s/box", where);
+    errno = -inroot_root_open(box, flags, &kept);
+    sure(-errno, box);
+    return inroot_root_fd(kept);
 }
 
 /* The secret has its text, and beside it nothing was made. */
-static bool is_untouched(void)
+static void is_untouched(const char *title)
 {
-    struct stat about;
-    return fstatat(outer, "secret", &about, 0) == 0 && about.st_size == 6 && faccessat(outer, "new", F_OK, 0) != 0;
+    struct stat about = {0};
+    gives(fstatat(outer, "secret", &about, 0), 0, "%s: secret, asked for", title);
+    gives((long)about.st_size, 6, "%s: the size of secret", title);
+    gives(faccessat(outer, "new", F_OK, 0), -1, "%s: new, asked for", title);
 }
 
 /* ---- mounts */
@@ -182,23 +203,18 @@ static void by_namespace(void)
 
 /* ---- */
 
-/* In all these places at once, beside the control. */
 static void race_of(const char *name, unsigned places, void (*move)(void), unsigned seconds)
 {
-    static const char *const names[] = {
-        [PLAIN] = "by a descriptor", [CHROOT] = "by a descriptor in a chroot", [IN_JAIL] = "by a descriptor in a jail",
-        [IN_TRUST] = "by a descriptor in a jail that trusts", [AFTER_JAIL] = "by a descriptor after a jail",
-        [MADE] = "by a descriptor in a thread that a jailed one made", [BY_JAIL] = "in a jail", [BY_TRUST] = "in a jail that trusts",
-    };
-    struct worker workers[16] = {{.name = "a walk without a check", .work = without_check, .control = true}};
-    int count = 1;
+    const struct worker control = {.name = "a walk without a check", .work = without_check, .control = true};
+    enum place all[MOST_WORKERS];
+    int count = 0;
     char title[64];
     snprintf(title, sizeof title, "roots_race: %s", name);
-    for (unsigned place = PLAIN; place <= BY_TRUST; place++)
+    for (unsigned place = PLAIN; place < PLACES; place++)
         if (places & 1U << place)
-            workers[count++] = (struct worker){.name = names[place], .place = place, .work = resolve};
-    race(title, workers, count, move, seconds);
-    expect(is_untouched(), "%s: something outside was changed", title);
+            all[count++] = place;
+    race_in(title, &control, resolve, all, count, move, seconds);
+    is_untouched(title);
 }
 
 enum {
@@ -221,6 +237,8 @@ static const struct {
     {"namespace", SOME, by_namespace, move_out_and_in},
     {"overlay", SOME, NULL, move_out_and_in},
     {"renamed", 1 << PLAIN | 1 << BY_JAIL, NULL, rename_root_too},
+    {"kept", 1 << KEPT | 1 << SEEN, NULL, move_out_and_in},
+    {"kept_renamed", 1 << KEPT | 1 << SEEN, NULL, rename_root_too},
 };
 
 int main(int count, char **words)
@@ -243,6 +261,8 @@ int main(int count, char **words)
     if (races[one].mount != NULL)
         races[one].mount();
     open_proc();
+    kept_root = kept_by(INROOT_ROOT_STAYS | INROOT_TRUST_PROC);
+    seen_root = kept_by(INROOT_BELOW);
     race_of(words[3], races[one].places, races[one].move, (unsigned)atoi(words[2]));
     return ending(has_shown);
 }

@@ -30,24 +30,25 @@ static void each_call(void)
         sure(-errno, "inroot_jail_with");
         at = INROOT_JAIL;
     }
-    int none = take_gaps(root);
+    const int none = take_gaps(root), enough = none + 64;
     for (int number = 0; number < CALLS; number++) {
-        allow(256);
+        allow(enough);
         int wanted = call(at, number);
         restore(root, wanted, number);
         int before = open_descriptors();
         for (int left = 0; left < MOST; left++) {
             allow(none + left);
             int got = call(at, number);
-            allow(256);
+            allow(enough);
             ran_short += got == -EMFILE;
-            expect(got == -EMFILE || same(got, wanted), "call %d with %d descriptors left: %d, and %d else", number, left, got, wanted);
-            expect(left < 8 || got != -EMFILE, "call %d doesn't do with %d descriptors", number, left);
+            expect(got == -EMFILE || same(got, wanted), "call %d with %d descriptors left: wanted %d or -EMFILE, got %d", number, left, wanted,
+                   got);
+            expect(left < 8 || got != -EMFILE, "call %d with %d descriptors left: wanted what else it gives, got -EMFILE", number, left);
             restore(root, got, number);
         }
-        expect(open_descriptors() == before, "call %d left descriptors open", number);
+        gives(open_descriptors(), before, "call %d: open descriptors", number);
     }
-    expect(ran_short > CALLS, "only %d calls ran short", ran_short);
+    gives_least(ran_short, CALLS + 1, "calls that ran short");
 }
 
 int main(int count, char **words)

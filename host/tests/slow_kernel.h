@@ -9,6 +9,7 @@
 
 #include "../openat2.h"
 #include "support.h"
+#include "wraps.h"
 
 #include <errno.h>
 #include <limits.h>
@@ -40,14 +41,6 @@ static void ask(void)
 
 /* ---- a kernel whose calls take their time */
 
-ssize_t __real_readlinkat(int dir, const char *name, char *text, size_t size);
-ssize_t __wrap_readlinkat(int dir, const char *name, char *text, size_t size);
-long __real_syscall(long number, ...);
-long __wrap_syscall(long number, ...);
-
-int __real_openat(int dir, const char *name, int flags, ...);
-int __wrap_openat(int dir, const char *name, int flags, ...);
-
 /* The path of what is in the outer directory becomes that of the inner one. */
 static ssize_t tell_lie(char *text, size_t size, size_t length)
 {
@@ -68,12 +61,13 @@ ssize_t __wrap_readlinkat(int dir, const char *name, char *text, size_t size)
     return length > 0 && proc_lies ? tell_lie(text, size, (size_t)length) : length;
 }
 
-/* What creates isn't made here. */
-int __wrap_openat(int dir, const char *name, int flags, ...)
+static int my_openat(int dir, const char *name, int flags, mode_t mode)
 {
     ask();
-    return __real_openat(dir, name, flags);
+    return __real_openat(dir, name, flags, mode);
 }
+
+INSTEAD_OF_OPENAT(my_openat)
 
 #ifdef STATX_INO
 int __real_statx(int dir, const char *name, int flags, unsigned asked, struct statx *about);
@@ -182,20 +176,15 @@ static long tell_directory(char *text, size_t size)
     return length;
 }
 
-/* Takes more words than were handed in. */
-__attribute__((no_sanitize("address"))) long __wrap_syscall(long number, ...)
+static long my_syscall(long number, const long *with)
 {
-    long with[5];
-    va_list more;
-    va_start(more, number);
-    for (int one = 0; one < 5; one++)
-        with[one] = va_arg(more, long);
-    va_end(more);
     if (number == SYS_openat2)
         return look_up((int)with[0], (const char *)with[1], (const struct open_how *)with[2]);
     if (number == SYS_getcwd)
         return tell_directory((char *)with[0], (size_t)with[1]);
-    return __real_syscall(number, with[0], with[1], with[2], with[3], with[4]);
+    return REAL_SYSCALL(number, with);
 }
+
+INSTEAD_OF_SYSCALL(my_syscall)
 
 #endif

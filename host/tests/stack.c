@@ -67,10 +67,10 @@ int main(int count, char **words)
     size_t thread = used_by(make_none);
     for (number = 0; number < CALLS; number++) {
         size_t taken = used_by(make_call) - thread;
-        expect(taken <= MOST, "call %d takes %zu bytes of the stack", number, taken);
+        gives_most(taken, MOST, "call %d: bytes of the stack", number);
         most = taken > most ? taken : most;
     }
-    expect(most > MOST / 8, "the calls take %zu bytes of the stack, which can't be", most);
+    gives_least((long)most, MOST / 8 + 1, "bytes of the stack that some call takes");
     printf("stack: %zu bytes at most, %d not as they are to be\n", most, wrong);
     return wrong != 0;
 }

@@ -2,6 +2,7 @@
 #ifndef SUPPORT_H
 #define SUPPORT_H
 
+#include "../error_name.h"
 #include "../inroot.h"
 #include "../openat2.h"
 
@@ -12,6 +13,8 @@
 #include <stdint.h>
 #include <stdio.h>
 #include <stdlib.h>
+#include <string.h>
+#include <sys/stat.h>
 #include <sys/syscall.h>
 #include <sys/wait.h>
 #include <unistd.h>
@@ -22,7 +25,7 @@ enum { NO_OPENAT2 = 77, NO_RIGHT = 78, NOT_FOOLED = 79 };
 /* How many times something wasn't as it is to be. */
 static int wrong;
 
-/* Tells what wasn't. */
+/* Tells what isn't so. Where a value is compared, gives() and its kin below tell both: what was wanted, and what came. */
 __attribute__((format(printf, 2, 3), unused)) static void expect(bool holds, const char *what, ...)
 {
     va_list words;
@@ -37,15 +40,92 @@ __attribute__((format(printf, 2, 3), unused)) static void expect(bool holds, con
     va_end(words);
 }
 
-/* Prints what a call gave where it gave something else than was wanted. */
+/* Counts what isn't so, and writes out its words, for the values that are put behind them. */
+#define EXPECT(holds, what)                                                                                              \
+    if (holds)                                                                                                           \
+        return;                                                                                                          \
+    char words[8192];                                                                                                    \
+    va_list given;                                                                                                       \
+    va_start(given, what);                                                                                               \
+    vsnprintf(words, sizeof words, what, given);                                                                         \
+    va_end(given)
+
+/* A value as a reader knows it: with its name, where it is the negative number of an error. */
+static inline const char *value_text(long value, char room[64])
+{
+    if (value < 0 && value > -134)
+        snprintf(room, 64, "%ld (-%s)", value, error_name((int)-value));
+    else
+        snprintf(room, 64, "%ld", value);
+    return room;
+}
+
+/* A call gave what was wanted. */
 __attribute__((format(printf, 3, 4), unused)) static void gives(long got, long wanted, const char *what, ...)
 {
-    char text[8192];
-    va_list words;
-    va_start(words, what);
-    vsnprintf(text, sizeof text, what, words);
-    va_end(words);
-    expect(got == wanted, "%s: %ld, and not %ld", text, got, wanted);
+    char came[64], due[64];
+    EXPECT(got == wanted, what);
+    expect(false, "%s: wanted %s, got %s", words, value_text(wanted, due), value_text(got, came));
+}
+
+/* A call gave a descriptor, whichever it is. */
+__attribute__((format(printf, 2, 3), unused)) static void gives_fd(int got, const char *what, ...)
+{
+    char came[64];
+    EXPECT(got >= 0, what);
+    expect(false, "%s: wanted a descriptor, got %s", words, value_text(got, came));
+}
+
+/* Something has this mode. */
+__attribute__((format(printf, 3, 4), unused)) static void gives_mode(mode_t got, mode_t wanted, const char *what, ...)
+{
+    EXPECT(got == wanted, what);
+    expect(false, "%s: wanted the mode %o, got %o", words, wanted, got);
+}
+
+/* Something has this text. */
+__attribute__((format(printf, 3, 4), unused)) static void gives_text(const char *got, const char *wanted, const char *what, ...)
+{
+    EXPECT(strcmp(got, wanted) == 0, what);
+    expect(false, "%s: wanted '%s', got '%s'", words, wanted, got);
+}
+
+/* A number is at most so large. */
+__attribute__((format(printf, 3, 4), unused)) static void gives_most(long got, long most, const char *what, ...)
+{
+    char came[64];
+    EXPECT(got <= most, what);
+    expect(false, "%s: wanted at most %ld, got %s", words, most, value_text(got, came));
+}
+
+/* A number is at least so large. */
+__attribute__((format(printf, 3, 4), unused)) static void gives_least(long got, long least, const char *what, ...)
+{
+    char came[64];
+    EXPECT(got >= least, what);
+    expect(false, "%s: wanted at least %ld, got %s", words, least, value_text(got, came));
+}
+
+/* A call opened the object that stands at this path below a directory. A link there is the object itself. */
+__attribute__((format(printf, 4, 5), unused)) static void gives_object(int got, int dir, const char *path, const char *what, ...)
+{
+    char came[64];
+    struct stat about = {0}, wanted = {0};
+    int asked = got < 0 ? got : fstat(got, &about) == 0 ? 0 : -errno;
+    bool stands = fstatat(dir, path, &wanted, AT_SYMLINK_NOFOLLOW) == 0;
+    EXPECT(stands && asked == 0 && about.st_ino == wanted.st_ino && about.st_dev == wanted.st_dev, what);
+    expect(false, "%s: wanted the object at %s, inode %ld, got inode %s", words, path, (long)wanted.st_ino,
+           value_text(asked < 0 ? asked : (long)about.st_ino, came));
+}
+
+/* A process has ended by itself, and with status 0. */
+__attribute__((format(printf, 2, 3), unused)) static void ended_well(int status, const char *what, ...)
+{
+    EXPECT(WIFEXITED(status) && WEXITSTATUS(status) == 0, what);
+    if (WIFEXITED(status))
+        expect(false, "%s: wanted status 0, got %d", words, WEXITSTATUS(status));
+    else
+        expect(false, "%s: wanted status 0, got signal %d", words, WTERMSIG(status));
 }
 
 /* Whether this thread has openat2(2), which an older kernel lacks and a filter may refuse. */
@@ -137,6 +217,42 @@ __attribute__((unused)) static int apart(void (*what)(void))
     else
         wrong += WEXITSTATUS(status);
     return 0;
+}
+
+/* A child of fork(2), which waits for a byte. */
+struct child {
+    pid_t id;
+    int go;
+};
+
+/* Begins a child that does this once it is let go. */
+__attribute__((unused)) static struct child begin_child(void (*what)(void))
+{
+    int go[2];
+    char byte;
+    sure(pipe2(go, O_CLOEXEC), "pipe");
+    fflush(stdout);
+    pid_t child = sure(fork(), "fork");
+    if (child == 0) {
+        wrong = 0;
+        sure((int)read(go[0], &byte, 1), "read");
+        what();
+        fflush(stdout);
+        _exit(wrong > 100 ? 100 : wrong);
+    }
+    close(go[0]);
+    return (struct child){child, go[1]};
+}
+
+/* Lets it go, and waits for its end. */
+__attribute__((unused)) static void end_child(struct child child, const char *what)
+{
+    char byte = 0;
+    int status;
+    sure((int)write(child.go, &byte, 1), "write");
+    close(child.go);
+    sure(waitpid(child.id, &status, 0), "waitpid");
+    ended_well(status, "%s", what);
 }
 
 /* Whether this process may become nobody and root again. In a user namespace there may be no such user. */

@@ -29,13 +29,6 @@ static void jail_here(void)
     sure(failed, "inroot_jail");
 }
 
-/* Where this thread's descriptor of this number is, by what the program itself asks. */
-static bool is_file_f(int fd)
-{
-    struct stat one, other;
-    return fstat(fd, &one) == 0 && fstatat(root, "f", &other, 0) == 0 && one.st_ino == other.st_ino;
-}
-
 /* Puts another table of descriptors in the way: what is open there, on the numbers that come next, is the file f. */
 static void fill(const char *path)
 {
@@ -49,33 +42,21 @@ static void fill(const char *path)
 static void in_child(void)
 {
     int fd = inroot_open(INROOT_JAIL, "f", INROOT_NO_RETRY);
-    expect(fd >= 0 && is_file_f(fd), "f after fork: %d", fd);
+    gives_object(fd, root, "f", "f after fork");
     int dir = inroot_open(INROOT_JAIL, "a/b", INROOT_NO_RETRY);
-    expect(dir >= 0, "a/b after fork: %d", dir);
-    expect(inroot_open(INROOT_JAIL, "none", INROOT_NO_RETRY) == -ENOENT, "none after fork");
+    gives_fd(dir, "a/b after fork");
+    gives(inroot_open(INROOT_JAIL, "none", INROOT_NO_RETRY), -ENOENT, "none after fork");
 }
 
 static void *fork_in_jail(void *unused)
 {
-    int go[2], status;
-    char byte = 0;
     jail_here();
     int first = inroot_open(INROOT_JAIL, "f", 0);
-    expect(first >= 0, "f before the fork: %d", first);
+    gives_fd(first, "f before the fork");
     close(first);
-    sure(pipe2(go, O_CLOEXEC), "pipe");
-    pid_t child = sure(fork(), "fork");
-    if (child == 0) {
-        wrong = 0;
-        sure((int)read(go[0], &byte, 1), "read");
-        in_child();
-        fflush(stdout);
-        _exit(wrong);
-    }
+    struct child child = begin_child(in_child);
     fill("a");
-    sure((int)write(go[1], &byte, 1), "write");
-    sure(waitpid(child, &status, 0), "waitpid");
-    expect(WIFEXITED(status) && WEXITSTATUS(status) == 0, "a child after fork: %x", (unsigned)status);
+    end_child(child, "a child after fork");
     return unused;
 }
 
@@ -93,9 +74,9 @@ static void *vfork_in_jail(void *unused)
     }
     sure(child, "vfork");
     sure(waitpid(child, &status, 0), "waitpid");
-    expect(outcome >= 0, "f after vfork: %d", outcome);
+    gives_fd(outcome, "f after vfork");
     int fd = inroot_open(INROOT_JAIL, "f", 0);
-    expect(fd >= 0, "f in the parent after vfork: %d", fd);
+    gives_fd(fd, "f in the parent after vfork");
     return unused;
 }
 
@@ -112,9 +93,9 @@ static void *with_own_table(void *turn)
     while (*now == 1)
         sched_yield();
     int fd = inroot_open(root, "f", INROOT_NO_RETRY);
-    expect(fd >= 0 && is_file_f(fd), "f with a table of its own: %d", fd);
+    gives_object(fd, root, "f", "f with a table of its own");
     int dir = inroot_open(root, "a/b/..", INROOT_NO_RETRY);
-    expect(dir >= 0, "a/b/.. with a table of its own: %d", dir);
+    gives_fd(dir, "a/b/.. with a table of its own");
     return NULL;
 }
 
@@ -137,7 +118,6 @@ static void own_table(void)
 static void *lied_to(void *turn)
 {
     atomic_int *now = turn;
-    struct stat one, other;
     sure(unshare(CLONE_FILES), "unshare");
     *now = 1;
     while (*now == 1)
@@ -145,8 +125,7 @@ static void *lied_to(void *turn)
     /* What the number of the root stands for in this table is outside, and what is found there has left it. */
     sure(dup3(outside, root, O_CLOEXEC), "dup3");
     int fd = inroot_open(root, "f", INROOT_NO_RETRY);
-    bool same = fd >= 0 && fstat(fd, &one) == 0 && fstatat(outside, "f", &other, 0) == 0 && one.st_ino == other.st_ino;
-    expect(same, "f below the thread's own root: %d", fd);
+    gives_object(fd, outside, "f", "f below the thread's own root");
     return NULL;
 }
 
@@ -173,7 +152,7 @@ static void *late_jail(void *turn)
         sched_yield();
     jail_here();
     int fd = inroot_open(INROOT_JAIL, "f", INROOT_NO_RETRY);
-    expect(fd >= 0, "f in a jail with a table of its own: %d", fd);
+    gives_fd(fd, "f in a jail with a table of its own");
     inroot_jail_done();
     return NULL;
 }
@@ -186,7 +165,7 @@ static void late(void)
     while (turn == 0)
         sched_yield();
     int fd = inroot_open(root, "f", 0);
-    expect(fd >= 0, "f: %d", fd);
+    gives_fd(fd, "f");
     turn = 2;
     pthread_join(thread, NULL);
 }
@@ -195,8 +174,8 @@ static void *outlive(void *leader)
 {
     pthread_join(*(pthread_t *)leader, NULL);
     int fd = inroot_open(root, "f", INROOT_NO_RETRY), dir = inroot_open(root, "a/b", INROOT_NO_RETRY);
-    expect(fd >= 0, "f after the main thread has ended: %d", fd);
-    expect(dir >= 0, "a/b after the main thread has ended: %d", dir);
+    gives_fd(fd, "f after the main thread has ended");
+    gives_fd(dir, "a/b after the main thread has ended");
     fflush(stdout);
     _exit(wrong);
 }
@@ -214,23 +193,23 @@ static void main_ends(void)
 static void closed_behind(void)
 {
     int fd = inroot_open(root, "f", 0);
-    expect(fd >= 0, "f: %d", fd);
+    gives_fd(fd, "f");
     for (int at = root + 1; at < 64; at++)
         close(at);
     fill("a");
     fd = inroot_open(root, "f", INROOT_NO_RETRY);
-    expect(fd >= 0, "f after all else was closed: %d", fd);
+    gives_fd(fd, "f after all else was closed");
     int before = open_descriptors();
     close(inroot_open(root, "f", INROOT_NO_RETRY));
-    expect(open_descriptors() == before, "descriptors after all else was closed");
+    gives(open_descriptors(), before, "open descriptors after all else was closed");
 }
 
 /* ---- a jail that fails, and the current directory */
 
-static bool is_at(const char *wanted)
+static void is_at(const char *wanted, const char *when)
 {
     char path[PATH_MAX];
-    return getcwd(path, sizeof path) != NULL && strcmp(path, wanted) == 0;
+    gives_text(getcwd(path, sizeof path) != NULL ? path : "no directory", wanted, "the current directory %s", when);
 }
 
 static void *change_directory(void *unused)
@@ -246,42 +225,42 @@ static void no_right(void)
     sure(chdir("/"), "/");
     if (setresuid(65534, 65534, 65534) != 0)
         exit(1);
-    expect(inroot_jail(root) == -EPERM, "a jail without the right");
-    expect(is_at("/"), "the current directory after a jail that failed");
+    gives(inroot_jail(root), -EPERM, "a jail without the right");
+    is_at("/", "after a jail that failed");
     pthread_create(&thread, NULL, change_directory, NULL);
     pthread_join(thread, NULL);
-    expect(is_at("/usr"), "the current directory is no longer shared after a jail that failed");
-    expect(inroot_open(INROOT_JAIL, "f", 0) == -EBADF, "a jail that failed");
+    is_at("/usr", "that a failed jail leaves shared");
+    gives(inroot_open(INROOT_JAIL, "f", 0), -EBADF, "a jail that failed");
 }
 
 static void bad_jails(void)
 {
     int file = sure(openat(root, "f", O_PATH | O_CLOEXEC), "f");
     sure(chdir("/usr"), "/usr");
-    expect(inroot_jail(file) == -ENOTDIR, "a jail in a file");
-    expect(inroot_jail(999) == -EBADF, "a jail in what isn't open");
-    expect(inroot_jail_with(file, INROOT_TRUST_PROC) == -ENOTDIR, "a jail that trusts in a file");
-    expect(inroot_jail_with(999, INROOT_TRUST_PROC) == -EBADF, "a jail that trusts in what isn't open");
+    gives(inroot_jail(file), -ENOTDIR, "a jail in a file");
+    gives(inroot_jail(999), -EBADF, "a jail in what isn't open");
+    gives(inroot_jail_with(file, INROOT_TRUST_PROC), -ENOTDIR, "a jail that trusts in a file");
+    gives(inroot_jail_with(999, INROOT_TRUST_PROC), -EBADF, "a jail that trusts in what isn't open");
     for (unsigned flag = 1; flag != 0; flag <<= 1)
         if (flag != INROOT_TRUST_PROC)
-            expect(inroot_jail_with(999, (int)(flag | INROOT_TRUST_PROC)) == -EINVAL, "a flag that is none: %x", flag);
-    expect(inroot_open(root, "f", INROOT_TRUST_PROC) == -EINVAL, "a flag of a jail");
-    expect(is_at("/usr"), "the current directory after jails that failed");
+            gives(inroot_jail_with(999, (int)(flag | INROOT_TRUST_PROC)), -EINVAL, "a flag that is none: %x", flag);
+    gives(inroot_open(root, "f", INROOT_TRUST_PROC), -EINVAL, "a flag of a jail");
+    is_at("/usr", "after jails that failed");
     close(file);
     jail_here();
-    expect(inroot_jail(root) == -EBUSY, "a second jail");
-    expect(inroot_jail_with(999, INROOT_TRUST_PROC) == -EBUSY, "a second jail that trusts");
-    expect(inroot_jail_with(root, INROOT_BENEATH) == -EINVAL, "a second jail by a flag that is none");
+    gives(inroot_jail(root), -EBUSY, "a second jail");
+    gives(inroot_jail_with(999, INROOT_TRUST_PROC), -EBUSY, "a second jail that trusts");
+    gives(inroot_jail_with(root, INROOT_BENEATH), -EINVAL, "a second jail by a flag that is none");
     static const char *const paths[] = {"a/b", "a/b/..", "f", "none", "a/../a/b/f"};
     for (size_t at = 0; at < sizeof paths / sizeof *paths; at++) {
         int fd = inroot_open(INROOT_JAIL, paths[at], 0);
-        expect(is_at("/"), "the current directory after %s", paths[at]);
+        is_at("/", paths[at]);
         if (fd >= 0)
             close(fd);
     }
     inroot_jail_done();
-    expect(inroot_open(INROOT_JAIL, "f", 0) == -EBADF, "a jail after its end");
-    expect(is_at("/"), "the current directory after the end of a jail");
+    gives(inroot_open(INROOT_JAIL, "f", 0), -EBADF, "a jail after its end");
+    is_at("/", "after the end of a jail");
 }
 
 /* A thread that a jailed one made shares its current directory, and changes it without end: so often until now. */
@@ -315,7 +294,7 @@ static void wander_by(int flags)
     }
     stop = true;
     pthread_join(thread, NULL);
-    expect(raced == 0, "%d calls were answered by another thread's current directory", raced);
+    gives(raced, 0, "calls that another thread's current directory answered");
 }
 
 static void wanderer(void)
@@ -368,7 +347,7 @@ static void cancelled(void)
         pthread_join(thread, NULL);
     }
     int left = open_descriptors() - before - 1;
-    expect(left <= 0, "%d descriptors are left of threads that were cancelled", left);
+    gives_most(left, 0, "descriptors left of threads that were cancelled");
 }
 
 static void *end_in_jail(void *unused)
@@ -388,7 +367,7 @@ static void ended(void)
         pthread_join(thread, NULL);
     }
     int left = open_descriptors() - before;
-    expect(left == 0, "%d descriptors are left of threads that ended", left);
+    gives(left, 0, "descriptors left of threads that ended");
 }
 
 static atomic_int alarms;
@@ -420,9 +399,9 @@ static void storm(void)
         failed += inroot_remove_all(root, "s", 0) != 3;
     }
     sure(setitimer(ITIMER_REAL, &never, NULL), "setitimer");
-    expect(failed == 0, "%d calls failed under %d signals", failed, alarms);
-    expect(alarms > 100, "%d signals", alarms);
-    expect(open_descriptors() - before <= 1, "descriptors under signals");
+    gives(failed, 0, "calls that failed under %d signals", alarms);
+    gives_least(alarms, 101, "signals");
+    gives_most(open_descriptors() - before, 1, "descriptors that are left after signals");
 }
 
 static void in_thread(void *(*what)(void *))

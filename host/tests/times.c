@@ -314,7 +314,7 @@ static double removed_here(const char *name, long files)
     double from = now();
     ssize_t removed = inroot_remove_all(root, name, 0);
     double taken = now() - from;
-    expect(removed == files + 1, "%zd entries removed", removed);
+    gives(removed, files + 1, "entries removed");
     return taken;
 }
 

@@ -37,14 +37,7 @@ static void jail_here(void)
     errno = -inroot_jail_with(root, INROOT_TRUST_PROC);
     sure(-errno, "inroot_jail_with");
     keeps = open_descriptors() - before;
-    expect(keeps == 0 || keeps == 2, "a thread keeps %d descriptors", keeps);
-}
-
-static bool is(int fd, const char *path)
-{
-    struct stat one, other;
-    return fd >= 0 && fstat(fd, &one) == 0 && fstatat(root, path, &other, AT_SYMLINK_NOFOLLOW) == 0 &&
-           one.st_ino == other.st_ino;
+    gives(keeps, keeps == 0 ? 0 : 2, "descriptors that a thread keeps");
 }
 
 /* What is no directory, by plain names, by steps, and not followed: with one try, so that a wrong table shows. */
@@ -60,11 +53,11 @@ static void look_up(const char *when)
     };
     for (size_t at = 0; at < sizeof rows / sizeof *rows; at++) {
         int fd = inroot_open(INROOT_JAIL, rows[at].path, rows[at].flags | INROOT_NO_RETRY);
-        expect(is(fd, rows[at].found), "%s, flags %d, %s: %d", rows[at].path, rows[at].flags, when, fd);
+        gives_object(fd, root, rows[at].found, "%s, flags %d, %s", rows[at].path, rows[at].flags, when);
         if (fd >= 0)
             close(fd);
     }
-    expect(inroot_open(INROOT_JAIL, "a/b/none", INROOT_NO_RETRY) == -ENOENT, "a/b/none, %s", when);
+    gives(inroot_open(INROOT_JAIL, "a/b/none", INROOT_NO_RETRY), -ENOENT, "a/b/none, %s", when);
 }
 
 /* The numbers that come next are those of the directory `a` in this table. */
@@ -109,35 +102,23 @@ static void in_child(void)
 {
     int before = open_descriptors();
     look_up("in a child of fork");
-    expect(open_descriptors() == before - keeps / 2, "a child of fork keeps its parent's table");
-    expect(emptied() <= 0, "a child of fork keeps a page");
+    gives(open_descriptors(), before - keeps / 2, "open descriptors of a child of fork");
+    gives_most(emptied(), 0, "kilobytes that a child of fork keeps emptied");
     look_up("in a child of fork, once more");
     inroot_jail_done();
-    expect(open_descriptors() == before - keeps / 2, "the end of the jail in a child of fork");
+    gives(open_descriptors(), before - keeps / 2, "open descriptors after the end of the jail in a child of fork");
 }
 
 static void *fork_in_jail(void *unused)
 {
-    int go[2], status;
-    char byte = 0;
     jail_here();
     look_up("before a fork");
-    sure(pipe2(go, O_CLOEXEC), "pipe");
-    pid_t child = sure(fork(), "fork");
-    if (child == 0) {
-        wrong = 0;
-        sure((int)read(go[0], &byte, 1), "read");
-        in_child();
-        fflush(stdout);
-        _exit(wrong);
-    }
+    struct child child = begin_child(in_child);
     int before = open_descriptors();
     look_up("in the parent of a fork");
-    expect(open_descriptors() == before, "the parent of a fork keeps something else than before");
+    gives(open_descriptors(), before, "open descriptors of the parent of a fork");
     fill();
-    sure((int)write(go[1], &byte, 1), "write");
-    sure(waitpid(child, &status, 0), "waitpid");
-    expect(WIFEXITED(status) && WEXITSTATUS(status) == 0, "a child of fork: %x", (unsigned)status);
+    end_child(child, "a child of fork");
     look_up("in the parent after its child");
     return unused;
 }
@@ -179,7 +160,8 @@ static void own_table(void)
 static void *end_in_jail(void *unused)
 {
     jail_here();
-    expect(emptied() < 0 || (emptied() > 0) == (keeps > 0), "%ld kB are emptied for a child", emptied());
+    if (emptied() >= 0)
+        gives(emptied() > 0, keeps > 0, "whether something is emptied for a child");
     look_up("in a thread that ends");
     return unused;
 }
@@ -190,9 +172,9 @@ static void *leave_jail(void *unused)
     look_up("in a thread that leaves its jail");
     int before = open_descriptors();
     inroot_jail_done();
-    expect(before - open_descriptors() == keeps, "descriptors after the end of a jail");
-    expect(emptied() <= 0, "a page after the end of a jail");
-    expect(inroot_open(INROOT_JAIL, "a/b/f", 0) == -EBADF, "a jail after its end");
+    gives(before - open_descriptors(), keeps, "descriptors after the end of a jail");
+    gives_most(emptied(), 0, "kilobytes kept emptied after the end of a jail");
+    gives(inroot_open(INROOT_JAIL, "a/b/f", 0), -EBADF, "a jail after its end");
     /* And once more, where it is now: `/proc` is open. */
     jail_here();
     look_up("in a second jail");
@@ -221,8 +203,8 @@ static void ended(void)
     int before = open_descriptors();
     for (int at = 0; at < 99; at++)
         in_thread(ways[at % 3]);
-    expect(open_descriptors() == before, "%d descriptors are left of threads", open_descriptors() - before);
-    expect(emptied() <= 0, "%ld kB are left of threads", emptied());
+    gives(open_descriptors(), before, "open descriptors after threads");
+    gives_most(emptied(), 0, "kilobytes kept emptied after threads");
 }
 
 /*
@@ -242,7 +224,8 @@ static void *close_behind(void *both)
     look_up("after it was closed");
     look_up("after it was closed, once more");
     gives(open_descriptors() - without, left, "descriptors after it was closed");
-    expect(emptied() <= 0 || left > 0, "a page after it was closed");
+    if (left == 0)
+        gives_most(emptied(), 0, "kilobytes kept emptied after it was closed");
     return NULL;
 }
 
@@ -275,18 +258,20 @@ static void fork_and_close(bool asks)
                 close(fd);
         root = there;
         for (int fd = 3; fd <= last; fd++)
-            expect(fd == proc || openat(there, ".", O_PATH | O_CLOEXEC) == fd, "number %d", fd);
+            if (fd != proc)
+                gives(openat(there, ".", O_PATH | O_CLOEXEC), fd, "the number of what a child opens");
         /* There is no /proc to ask for a file. */
         int found = asks ? inroot_open(INROOT_JAIL, "a/../a/b", INROOT_NO_RETRY) : INROOT_JAIL;
-        expect(!asks || is(found, "a/b"), "a directory in a child that closed all: %d", found);
+        if (asks)
+            gives_object(found, root, "a/b", "a directory in a child that closed all");
         inroot_jail_done();
         for (int fd = 3; fd <= last; fd++)
-            expect(fcntl(fd, F_GETFD) >= 0, "descriptor %d of a child was closed", fd);
+            gives_least(fcntl(fd, F_GETFD), 0, "the flags of a child's descriptor %d", fd);
         fflush(stdout);
         _exit(wrong);
     }
     sure(waitpid(child, &status, 0), "waitpid");
-    expect(WIFEXITED(status) && WEXITSTATUS(status) == 0, "a child that closed all: %x", (unsigned)status);
+    ended_well(status, "a child that closed all");
     close(last);
 }
 
@@ -327,13 +312,14 @@ static void *run_short(void *unused)
         allow(RLIMIT_NOFILE, 256);
         if (failed == 0)
             break;
-        expect(failed == -EMFILE, "a jail with %d descriptors left: %d", left, failed);
-        expect(open_descriptors() == before, "a jail with %d descriptors left leaves some open", left);
-        expect(emptied() <= 0, "a jail with %d descriptors left leaves a page", left);
-        expect(inroot_open(INROOT_JAIL, "a/b/f", 0) == -EBADF, "a jail with %d descriptors left", left);
-        expect(faccessat(AT_FDCWD, "/proc", F_OK, 0) == 0, "a thread was moved with %d descriptors left", left);
+        gives(failed, -EMFILE, "a jail with %d descriptors left", left);
+        gives(open_descriptors(), before, "a jail with %d descriptors left: open descriptors", left);
+        gives_most(emptied(), 0, "a jail with %d descriptors left: kilobytes kept emptied", left);
+        gives(inroot_open(INROOT_JAIL, "a/b/f", 0), -EBADF, "a jail with %d descriptors left", left);
+        gives(faccessat(AT_FDCWD, "/proc", F_OK, 0), 0, "a jail with %d descriptors left: the thread's own /proc", left);
     }
-    expect(failed == 0 && left >= 2, "a jail with %d descriptors left: %d", left, failed);
+    gives(failed, 0, "a jail with %d descriptors left", left);
+    gives_least(left, 2, "descriptors that a jail needs left");
     look_up("after it ran short of descriptors");
     return unused;
 }
@@ -344,9 +330,9 @@ static void *run_out_of_memory(void *unused)
     allow(RLIMIT_AS, 1);
     int failed = inroot_jail_with(root, INROOT_TRUST_PROC);
     allow(RLIMIT_AS, RLIM_INFINITY);
-    expect(failed == -ENOMEM, "a jail without memory: %d", failed);
-    expect(open_descriptors() == before, "a jail without memory leaves descriptors open");
-    expect(inroot_open(INROOT_JAIL, "a/b/f", 0) == -EBADF, "a jail without memory");
+    gives(failed, -ENOMEM, "a jail without memory");
+    gives(open_descriptors(), before, "a jail without memory: open descriptors");
+    gives(inroot_open(INROOT_JAIL, "a/b/f", 0), -EBADF, "a jail without memory");
     jail_here();
     look_up("after it ran out of memory");
     return unused;

@@ -107,7 +107,7 @@ static bool is_fooled(const struct attack *a, opener *open_it)
 static int attack(const struct attack *a, opener *open_it)
 {
     int fooled = is_fooled(a, open_it), last = moment;
-    expect(fooled == 0, "%s: what is opened where nobody acts", a->name);
+    gives(fooled, 0, "%s: what is opened where nobody acts", a->name);
     /* A call that is disturbed may ask for more. */
     for (int first = 1; first <= last + 4; first++)
         for (int second = first; second <= last + 8; second++) {
@@ -163,8 +163,7 @@ static void attack_by(const char *who, const struct attack *one, int flags, cons
     a.path = path;
     a.flags = flags;
     int fooled = how(&a, open_it);
-    expect(fooled == 0, "%s, %s, %s, flags %d%s: what never stood inside was opened %d times", who, a.name, before, flags,
-           lies ? ", numbers lie" : "", fooled);
+    gives(fooled, 0, "%s, %s, %s, flags %d%s: openings of what never stood inside", who, a.name, before, flags, lies ? ", numbers lie" : "");
 }
 
 static void each(const char *who)
@@ -272,7 +271,7 @@ static void be_led_out(void)
         a.path = path;
         int fooled = attack(&a, unchecked);
         printf("twins: a walk without checks, %s: fooled at %d pairs of moments\n", a.name, fooled);
-        expect(fooled > 0, "%s: a walk without checks isn't fooled", a.name);
+        gives_least(fooled, 1, "%s: how often a walk without checks is fooled", a.name);
     }
 }
 

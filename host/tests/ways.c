@@ -9,6 +9,7 @@
 #define _GNU_SOURCE
 #include "../openat2.h"
 #include "support.h"
+#include "wraps.h"
 
 #include <dirent.h>
 #include <errno.h>
@@ -44,24 +45,17 @@ static uint64_t mix(uint64_t sum, const char *text, size_t length)
 /* How many runs were tried, and how many succeeded. */
 static unsigned long tried, passed;
 
-long __real_syscall(long number, ...);
-long __wrap_syscall(long number, ...);
-
-long __wrap_syscall(long number, ...)
+static long my_syscall(long number, const long *with)
 {
-    long with[5];
-    va_list more;
-    va_start(more, number);
-    for (int at = 0; at < 5; at++)
-        with[at] = va_arg(more, long);
-    va_end(more);
-    long result = __real_syscall(number, with[0], with[1], with[2], with[3], with[4]);
+    long result = REAL_SYSCALL(number, with);
     /* A run that goes on is of directories. What is looked up below the root for its place, in both ways, may be anything. */
     bool runs = number == SYS_openat2 && ((const struct open_how *)with[2])->flags & O_DIRECTORY && strcmp((const char *)with[1], ".") != 0;
     tried += runs;
     passed += runs && result >= 0;
     return result;
 }
+
+INSTEAD_OF_SYSCALL(my_syscall)
 
 /* ---- random paths and trees */
 
@@ -244,11 +238,11 @@ int main(int count, char **words)
             snprintf(name, sizeof name, "tree%d.%d", tree, way);
             unsigned long before_it = tried;
             run(&sides[way], name, 0x9e3779b97f4a7c15 + (uint64_t)tree);
-            expect((tried > before_it) == (way == 0), "runs on one side of tree %d, and none on the other", tree);
+            gives((tried > before_it), (way == 0), "tree %d: whether a run of names was opened on side %d", tree, way);
         }
         for (int at = 0; at < cases; at++)
             differ += outcomes[at] != outcomes[cases + at];
-        expect(sides[0].tree == sides[1].tree, "the trees %d are not the same", tree);
+        gives(sides[0].tree, sides[1].tree, "tree %d: its entries by the other way", tree);
         opened += sides[0].opened;
         changed += sides[0].changed;
     }

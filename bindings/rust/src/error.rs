@@ -20,6 +20,8 @@ pub struct Cause {
     pub name: OsString,
     /// What was left of the path then, where links were replaced by their texts.
     pub rest: OsString,
+    /// Where the walk had come to: the names below the root that it went by, with a slash before each; or empty.
+    pub at: OsString,
 }
 
 /// Why the thread's last call failed, where one has. After a call that succeeded it says nothing of that call.
@@ -36,13 +38,14 @@ pub fn last_error() -> Option<Cause> {
             step: CStr::from_ptr(told.step).to_string_lossy().into_owned(),
             name: text_of(told.name.as_ptr()),
             rest: text_of(told.rest.as_ptr()),
+            at: text_of(told.at),
         })
     }
 }
 
 /// # Safety
 /// The bytes end with a NUL.
-unsafe fn text_of(bytes: *const c_char) -> OsString {
+pub(crate) unsafe fn text_of(bytes: *const c_char) -> OsString {
     OsString::from_vec(CStr::from_ptr(bytes).to_bytes().to_vec())
 }
 

@@ -31,16 +31,28 @@
 )))]
 compile_error!("libinroot is there for 64-bit Linux on x86-64 and arm64 alone");
 
+mod attributes;
 mod error;
 mod ffi;
 mod flags;
 mod handle;
+mod parts;
 mod root;
+mod walk;
 
+pub use attributes::XattrMode;
 pub use error::{last_error, Cause};
-pub use flags::{OpenFlags, RenameFlags, ResolverFlags};
+pub use flags::{OpenFlags, RenameFlags, ResolverFlags, RootFlags};
 pub use handle::Handle;
 pub use root::{InodeType, Root};
+pub use walk::{Walk, WalkEntry};
+
+/// Has the calls ask a proc(5) that is mounted nowhere, in place of /proc: inroot_use_private_proc(3). Before the first
+/// other call.
+pub fn use_private_proc() -> std::io::Result<()> {
+    // SAFETY: it takes nothing.
+    error::done(unsafe { ffi::inroot_use_private_proc() })
+}
 
 /// The version of the library that is linked.
 pub fn version() -> String {

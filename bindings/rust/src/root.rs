@@ -1,7 +1,8 @@
 //! A directory, and the calls below it.
 
 use crate::error::{c_path, count_of, done, opened};
-use crate::{ffi, Handle, OpenFlags, RenameFlags, ResolverFlags};
+use crate::parts::Begin;
+use crate::{ffi, Handle, OpenFlags, RenameFlags, ResolverFlags, RootFlags};
 use std::ffi::OsString;
 use std::fs::{File, Metadata, OpenOptions, Permissions};
 use std::io;
@@ -10,13 +11,15 @@ use std::os::unix::ffi::OsStringExt;
 use std::os::unix::fs::{OpenOptionsExt, PermissionsExt};
 use std::os::unix::io::{AsFd, AsRawFd, BorrowedFd, OwnedFd};
 use std::path::{Path, PathBuf};
+use std::ptr::{null_mut, NonNull};
 
 const S_IFIFO: u32 = 0o010000;
 const S_IFCHR: u32 = 0o020000;
 const S_IFBLK: u32 = 0o060000;
 const S_IFSOCK: u32 = 0o140000;
 const INROOT_NOFOLLOW: c_int = 4;
-const INROOT_FOLLOW: c_int = 16;
+pub(crate) const INROOT_FOLLOW: c_int = 16;
+const INROOT_GIVE: c_int = 256;
 
 /// What [`Root::create`] makes. Modes are taken less the umask.
 #[derive(Clone, Debug)]
@@ -39,11 +42,33 @@ pub enum InodeType {
     BlockDevice(Permissions, u64),
 }
 
+/// A root that the library keeps: its descriptor, and what it has read of it.
+#[derive(Debug)]
+pub(crate) struct KeptRoot(NonNull<ffi::Kept>);
+
+// SAFETY: any thread may make calls on such a root, and the library writes to it as it is opened and closed alone.
+unsafe impl Send for KeptRoot {}
+unsafe impl Sync for KeptRoot {}
+
+impl Drop for KeptRoot {
+    fn drop(&mut self) {
+        // SAFETY: it was opened, and no call on it goes on.
+        unsafe { ffi::inroot_root_close(self.0.as_ptr()) }
+    }
+}
+
+#[derive(Debug)]
+pub(crate) enum Held {
+    Own(OwnedFd),
+    Kept(KeptRoot),
+}
+
 /// A directory below which paths are resolved. Any number of threads may make calls on it.
 #[derive(Debug)]
 pub struct Root {
-    fd: OwnedFd,
-    flags: ResolverFlags,
+    pub(crate) begin: Option<Begin>,
+    pub(crate) held: Held,
+    pub(crate) flags: ResolverFlags,
 }
 
 impl Root {
@@ -55,9 +80,20 @@ impl Root {
         Ok(Root::from_fd(file))
     }
 
-    /// The root that this descriptor is open on. Calls give ENOTDIR where it is no directory.
+    /// The same, of which the library keeps something: inroot_root_open(3) has what each flag promises, and what the
+    /// program promises in return.
+    pub fn open_kept(path: impl AsRef<Path>, flags: RootFlags) -> io::Result<Root> {
+        let path = c_path(path.as_ref())?;
+        let mut kept = null_mut();
+        // SAFETY: the path ends with a NUL, and the library writes a root, or a null pointer after an error.
+        done(unsafe { ffi::inroot_root_open(path.as_ptr(), flags.bits(), &mut kept) })?;
+        let kept = NonNull::new(kept).ok_or(io::ErrorKind::Other)?;
+        Ok(Root { begin: None, held: Held::Kept(KeptRoot(kept)), flags: ResolverFlags::default() })
+    }
+
+    /// The root that this descriptor is open on. Calls give ENOTDIR if it isn't a directory.
     pub fn from_fd(fd: impl Into<OwnedFd>) -> Root {
-        Root { fd: fd.into(), flags: ResolverFlags::default() }
+        Root { begin: None, held: Held::Own(fd.into()), flags: ResolverFlags::default() }
     }
 
     /// The same root, whose calls are restricted so.
@@ -66,13 +102,31 @@ impl Root {
         self
     }
 
-    /// The same root by a descriptor of its own.
+    /// The same root by a descriptor of its own. What the library keeps of this one it doesn't keep of that.
     pub fn try_clone(&self) -> io::Result<Root> {
-        Ok(Root { fd: self.fd.try_clone()?, flags: self.flags })
+        let root = Root { begin: None, held: Held::Own(self.as_fd().try_clone_to_owned()?), flags: self.flags };
+        match &self.begin {
+            Some(begin) => root.begin_at(begin.dir.try_clone()?),
+            None => Ok(root),
+        }
     }
 
-    fn number(&self) -> c_int {
-        self.fd.as_raw_fd()
+    /// The root's own descriptor.
+    pub(crate) fn root_fd(&self) -> c_int {
+        match &self.held {
+            Held::Own(fd) => fd.as_raw_fd(),
+            // SAFETY: the root is open.
+            Held::Kept(kept) => unsafe { ffi::inroot_root_fd(kept.0.as_ptr()) },
+        }
+    }
+
+    /// What the calls take in the root's place.
+    pub(crate) fn number(&self) -> c_int {
+        self.begin.as_ref().map_or_else(|| self.root_fd(), |begin| begin.number)
+    }
+
+    pub(crate) fn flags(&self) -> ResolverFlags {
+        self.flags
     }
 
     /// Finds what the path means. A link at its end is followed.
@@ -115,11 +169,22 @@ impl Root {
 
     /// Makes an entry that isn't there yet, or gives EEXIST.
     pub fn create(&self, path: impl AsRef<Path>, what: &InodeType) -> io::Result<()> {
-        let (root, flags) = (self.number(), self.flags.bits());
-        let to = c_path(path.as_ref())?;
+        done(self.make(path.as_ref(), what, 0)?)
+    }
+
+    /// Makes an entry that isn't there yet, and gives what it made. A file, or what got a second name, is just that
+    /// one; of any other only the kind, a link's text and a device's number are known. EAGAIN where others took it away
+    /// before it could be opened: it was made.
+    pub fn create_handle(&self, path: impl AsRef<Path>, what: &InodeType) -> io::Result<Handle> {
+        opened(self.make(path.as_ref(), what, INROOT_GIVE)?).map(Handle::from)
+    }
+
+    fn make(&self, path: &Path, what: &InodeType, more: c_int) -> io::Result<c_int> {
+        let (root, flags) = (self.number(), self.flags.bits() | more);
+        let to = c_path(path)?;
         let to = to.as_ptr();
         // SAFETY: as above, of both paths.
-        done(match what {
+        Ok(match what {
             InodeType::File(mode) => unsafe { ffi::inroot_mkfile(root, to, mode_of(mode), flags) },
             InodeType::Directory(mode) => unsafe { ffi::inroot_mkdir(root, to, mode_of(mode), flags) },
             InodeType::Symlink(text) => {
@@ -165,7 +230,7 @@ impl Root {
         opened(given).map(Handle::from)
     }
 
-    /// Removes what is no directory; of a link the link alone.
+    /// Removes a non-directory; of a link the link alone.
     pub fn remove_file(&self, path: impl AsRef<Path>) -> io::Result<()> {
         let path = c_path(path.as_ref())?;
         // SAFETY: as above.
@@ -218,11 +283,12 @@ impl Root {
 
 impl AsFd for Root {
     fn as_fd(&self) -> BorrowedFd<'_> {
-        self.fd.as_fd()
+        // SAFETY: the descriptor stays open for as long as this root is there.
+        unsafe { BorrowedFd::borrow_raw(self.root_fd()) }
     }
 }
 
 /// The bits that the kernel takes for a new entry: those of the kind are the call's own.
-fn mode_of(mode: &Permissions) -> u32 {
+pub(crate) fn mode_of(mode: &Permissions) -> u32 {
     mode.mode() & 0o7777
 }

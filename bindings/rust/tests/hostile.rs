@@ -127,6 +127,26 @@ fn restrictions_are_kept() {
 }
 
 #[test]
+fn what_is_kept_of_a_root_changes_no_answer() {
+    use inroot::RootFlags;
+    let tree = Tree::new();
+    let both = RootFlags::STAYS | RootFlags::TRUST_PROC;
+    for flags in [RootFlags::default(), RootFlags::STAYS, both, RootFlags::BELOW, both | RootFlags::BELOW] {
+        let root = Root::open_kept(tree.at("box"), flags).unwrap();
+        assert_eq!(text(&root, "in/f"), "inside");
+        assert_eq!(text(&root.try_clone().unwrap(), "a/b/../b/f"), "inside");
+        assert_eq!(number(root.resolve("none")), Some(2));
+        root.mkdir_all("made", &mode(0o755)).unwrap();
+        root.remove_all("made").unwrap();
+    }
+    assert_eq!(number(Root::open_kept(tree.at("box"), RootFlags::TRUST_PROC)), Some(22));
+    assert_eq!(number(Root::open_kept(tree.at("none"), both)), Some(2));
+    let below = tree.root().with_resolver_flags(ResolverFlags::BELOW);
+    assert_eq!(text(&below, "in/f"), "inside");
+    assert_eq!(number(below.mkdir_all("made", &mode(0o755))), Some(22));
+}
+
+#[test]
 fn a_call_stays_on_its_mount() {
     // There is a /proc, which is a mount of its own.
     let whole = Root::open("/").unwrap();

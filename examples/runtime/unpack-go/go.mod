@@ -2,6 +2,6 @@ module unpack
 
 go 1.19
 
-require inroot v0.0.0
+require gimowheta.example/inroot v0.0.0
 
-replace inroot => ../../../bindings/go
+replace gimowheta.example/inroot => ../../../bindings/go

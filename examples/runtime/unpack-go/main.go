@@ -1,35 +1,126 @@
 // Unpack unpacks a tar archive below a directory, whatever its names and links lead to, as an image builder does.
 //
-// usage: unpack ROOT <ARCHIVE
+// usage: unpack [-o] [-s] [-t] ROOT <ARCHIVE
+//
+//	-o   sets the owners of the entries, by their numbers
+//	-s   asks for each entry where its directory stands, so that none is made in one that was moved out before
+//	-t   sets the times at which they were changed
 //
 // Each name of the archive is a path below ROOT. An entry that is there already is replaced, a link too: nothing is
-// written through it. Modes are set; owners and times aren't. An entry that can't be made is told, and the others are
-// made. Statuses: 0, 1 where an entry could not be made, 2 a wrong command line, 4 any other fault.
+// written through it. Modes are set. An entry that can't be made is told, and the others are made. Statuses: 0, 1 where
+// an entry could not be made, 2 a wrong command line, 4 any other fault.
 package main
 
 import (
 	"archive/tar"
+	"bufio"
 	"errors"
+	"flag"
 	"fmt"
-	"inroot"
 	"io"
 	"os"
-	"path"
 	"strings"
 	"syscall"
+	"time"
+
+	"gimowheta.example/inroot"
 )
 
-// A directory's mode is set at the end: one that may not be written to could not be filled otherwise.
+// A directory's owner, mode and time are set at the end: one that may not be written to could not be filled otherwise.
 type directory struct {
-	name string
-	mode os.FileMode
+	name   string
+	header *tar.Header
+}
+
+type unpacking struct {
+	root                  *os.File
+	above                 *os.File // the directory of the last entry, or nil; and its path
+	aboveName             string
+	at                    inroot.Root // what calls take in the root's place, so that their paths begin there
+	owners, strict, times bool
+	failed                bool
+	archive               *tar.Reader
+	buffer                []byte
+	directories           []directory
+}
+
+// fail tells what went wrong, without letting the archive's bytes at a terminal.
+func (u *unpacking) fail(name string, what error) {
+	var path *os.PathError
+	var link *os.LinkError
+	switch {
+	case errors.As(what, &path):
+		what = path.Err
+	case errors.As(what, &link):
+		what = link.Err
+	}
+	fmt.Fprintf(os.Stderr, "unpack: %q: %v\n", name, what)
+	u.failed = true
+}
+
+// lookAgain tells where others have moved the directory of the last entry meanwhile, out of the root as well: then what
+// was made in it since it was opened may stand there.
+func (u *unpacking) lookAgain() {
+	was, err := u.above.Stat()
+	if err == nil {
+		now, failed := inroot.StatInRoot(u.root, u.aboveName)
+		if err = failed; err == nil && !os.SameFile(was, now) {
+			err = syscall.ESTALE
+		}
+	}
+	if err != nil {
+		u.fail(u.aboveName, errors.New("somebody moved or removed it while entries were made in it"))
+	}
+}
+
+// closeAbove closes the directory of the last entry.
+func (u *unpacking) closeAbove() {
+	if u.above == nil {
+		return
+	}
+	if at, is := u.at.(*inroot.At); is {
+		at.Close()
+	} else {
+		u.lookAgain()
+	}
+	u.above.Close()
+	u.above = nil
+}
+
+// openAbove has the entry's directory open, which is made where it is missing. It gives the last name.
+func (u *unpacking) openAbove(name string) (last string, err error) {
+	// Not path.Split, which takes `a/..` away before links are looked at.
+	slash := strings.LastIndexByte(name, '/')
+	above := "."
+	if slash > 0 {
+		above = name[:slash]
+	}
+	last = name[slash+1:]
+	if u.above != nil && above == u.aboveName {
+		return last, nil
+	}
+	u.closeAbove()
+	u.aboveName = above
+	opened, err := inroot.MkdirAllHandle(u.root, above, 0o755)
+	if err != nil {
+		return last, err
+	}
+	u.at = opened
+	if u.strict {
+		if u.at, err = inroot.BeginAt(u.root, opened); err != nil {
+			opened.Close()
+			return last, err
+		}
+	}
+	u.above = opened
+	return last, nil
 }
 
 // makeRoom removes what is at the name, so that the entry is made anew.
-func makeRoom(root *os.File, name string) error {
-	err := inroot.UnlinkInRoot(root, name)
+func (u *unpacking) makeRoom(last string) error {
+	err := inroot.UnlinkInRoot(u.at, last)
 	if errors.Is(err, syscall.EISDIR) {
-		_, err = inroot.RemoveAllInRoot(root, name)
+		_, err = inroot.RemoveAllInRoot(u.at, last)
 	}
 	if errors.Is(err, syscall.ENOENT) {
 		return nil
@@ -37,25 +128,43 @@ func makeRoom(root *os.File, name string) error {
 	return err
 }
 
-// makeAll makes the directories of the name that are missing.
-func makeAll(root *os.File, name string, mode os.FileMode) error {
-	made, err := inroot.MkdirAllHandle(root, name, mode)
-	if err != nil {
-		return err
+// setFound sets what is to be set of what was found or made. The owner first: the kernel takes bits of the mode off.
+func (u *unpacking) setFound(found *os.File, header *tar.Header) error {
+	if u.owners {
+		if err := inroot.Chown(found, header.Uid, header.Gid); err != nil {
+			return err
+		}
 	}
-	return made.Close()
+	if header.Typeflag != tar.TypeSymlink {
+		if err := inroot.Chmod(found, header.FileInfo().Mode()); err != nil {
+			return err
+		}
+	}
+	if u.times {
+		return inroot.Chtimes(found, time.Time{}, header.ModTime)
+	}
+	return nil
 }
 
-func makeFile(root *os.File, name string, mode os.FileMode, contents io.Reader) error {
-	// O_EXCL: it is this call that makes it, so that nobody's file is written to.
-	file, err := inroot.OpenFileInRoot(root, name, os.O_WRONLY|os.O_CREATE|os.O_EXCL, 0o600)
+// setGiven does that to an entry that was made and given.
+func (u *unpacking) setGiven(given *os.File, err error, header *tar.Header) error {
 	if err != nil {
 		return err
 	}
-	_, err = io.Copy(file, contents)
-	// The umask was taken off.
+	defer given.Close()
+	return u.setFound(given, header)
+}
+
+func (u *unpacking) makeFile(last string, header *tar.Header) error {
+	// O_EXCL: it is this call that makes it, so that nobody's file is written to.
+	file, err := inroot.OpenFileInRoot(u.at, last, os.O_WRONLY|os.O_CREATE|os.O_EXCL, 0o600)
+	if err != nil {
+		return err
+	}
+	// Without the file's own ReadFrom, which tries system calls that don't take an archive's part.
+	_, err = io.CopyBuffer(struct{ io.Writer }{file}, struct{ io.Reader }{u.archive}, u.buffer)
 	if err == nil {
-		err = file.Chmod(mode)
+		err = u.setFound(file, header)
 	}
 	if closed := file.Close(); err == nil {
 		err = closed
@@ -63,82 +172,122 @@ func makeFile(root *os.File, name string, mode os.FileMode, contents io.Reader) 
 	return err
 }
 
-func makeDirectory(root *os.File, name string) error {
-	// A link or a file with this name is replaced, and a directory is kept.
-	found, err := inroot.OpenatInRootNoFollow(root, name)
-	if err == nil {
-		about, err := found.Stat()
-		found.Close()
-		if err == nil && !about.IsDir() {
-			if err := makeRoom(root, name); err != nil {
-				return err
-			}
-		}
-	}
-	return makeAll(root, name, 0o700)
-}
-
-func makeDevice(root *os.File, name string, header *tar.Header) error {
-	kinds := map[byte]uint32{tar.TypeChar: syscall.S_IFCHR, tar.TypeBlock: syscall.S_IFBLK, tar.TypeFifo: syscall.S_IFIFO}
+func (u *unpacking) makeNode(last string, kind uint32, header *tar.Header) error {
 	major, minor := uint64(header.Devmajor), uint64(header.Devminor)
 	device := (major&0xfff)<<8 | (major>>12)<<44 | minor&0xff | (minor>>8)<<20
-	if header.Typeflag == tar.TypeFifo {
+	if kind == syscall.S_IFIFO {
 		device = 0
 	}
-	return inroot.MknodInRoot(root, name, kinds[header.Typeflag]|uint32(header.Mode&0o7777), device)
+	given, err := inroot.MknodHandle(u.at, last, kind|0o600, device)
+	return u.setGiven(given, err, header)
 }
 
-// makeEntry makes one entry, and gives what it is called.
-func makeEntry(root *os.File, header *tar.Header, contents io.Reader) (string, error) {
-	name := header.Name
-	for len(name) > 1 && strings.HasSuffix(name, "/") {
-		name = name[:len(name)-1]
+func (u *unpacking) makeLink(last string, header *tar.Header) error {
+	if !u.owners && !u.times {
+		return inroot.SymlinkInRoot(u.at, header.Linkname, last)
 	}
-	if header.Typeflag == tar.TypeDir {
-		return name, makeDirectory(root, name)
-	}
-	// Not path.Dir, which takes `a/..` away before links are looked at.
-	if slash := strings.LastIndexByte(name, '/'); slash > 0 {
-		if err := makeAll(root, name[:slash], 0o755); err != nil {
-			return name, err
-		}
-	}
-	if err := makeRoom(root, name); err != nil {
-		return name, err
-	}
-	switch header.Typeflag {
-	case tar.TypeReg:
-		return name, makeFile(root, name, header.FileInfo().Mode(), contents)
-	case tar.TypeLink:
-		return name, inroot.LinkInRoot(root, header.Linkname, name)
-	case tar.TypeSymlink:
-		return name, inroot.SymlinkInRoot(root, header.Linkname, name)
-	case tar.TypeChar, tar.TypeBlock, tar.TypeFifo:
-		return name, makeDevice(root, name, header)
-	}
-	return name, &os.PathError{Op: "unpack", Path: name, Err: syscall.EOPNOTSUPP}
+	given, err := inroot.SymlinkHandle(u.at, header.Linkname, last)
+	return u.setGiven(given, err, header)
 }
 
-// setMode sets a directory's mode. The archive may have put something else in its place: a link is not followed.
-func setMode(root *os.File, one directory) error {
-	flags := os.O_RDONLY | syscall.O_DIRECTORY | syscall.O_NOFOLLOW
-	opened, err := inroot.OpenFileInRoot(root, one.name, flags, 0)
+func (u *unpacking) makeSecondName(last string, header *tar.Header) error {
+	existing, err := inroot.OpenatInRootNoFollow(u.root, header.Linkname)
 	if err != nil {
 		return err
 	}
-	defer opened.Close()
-	return opened.Chmod(one.mode)
+	defer existing.Close()
+	return inroot.LinkFileInRoot(u.at, existing, last)
 }
 
-// tell prints what went wrong, without letting the archive's bytes at a terminal.
-func tell(name string, err error) {
-	fmt.Fprintf(os.Stderr, "unpack: %q: %v\n", name, errors.Unwrap(err))
+// makeNew makes the entry in the directory that is open, or gives EEXIST.
+func (u *unpacking) makeNew(last string, header *tar.Header) error {
+	switch header.Typeflag {
+	case tar.TypeLink:
+		return u.makeSecondName(last, header)
+	case tar.TypeSymlink:
+		return u.makeLink(last, header)
+	case tar.TypeChar:
+		return u.makeNode(last, syscall.S_IFCHR, header)
+	case tar.TypeBlock:
+		return u.makeNode(last, syscall.S_IFBLK, header)
+	case tar.TypeDir:
+		return inroot.MkdirInRoot(u.at, last, 0o700)
+	case tar.TypeFifo:
+		return u.makeNode(last, syscall.S_IFIFO, header)
+	case tar.TypeReg, tar.TypeCont:
+		return u.makeFile(last, header)
+	case 'D', 'K', 'L', 'M', 'N', 'S', 'V':
+		return syscall.EOPNOTSUPP
+	}
+	fmt.Fprintf(os.Stderr, "unpack: %q: its type is unknown: it is made as a file\n", header.Name)
+	return u.makeFile(last, header)
 }
 
-func unpack(root *os.File, archive *tar.Reader) (status int) {
-	var directories []directory
+// makeInPlace replaces what is there already, but for a directory where one is wanted.
+func (u *unpacking) makeInPlace(last string, header *tar.Header) error {
+	err := u.makeNew(last, header)
+	if !errors.Is(err, syscall.EEXIST) {
+		return err
+	}
+	if header.Typeflag == tar.TypeDir {
+		if about, err := inroot.LstatInRoot(u.at, last); err == nil && about.IsDir() {
+			return nil
+		}
+	}
+	if err := u.makeRoom(last); err != nil {
+		return err
+	}
+	return u.makeNew(last, header)
+}
+
+// makeDirectories makes what a path without a last name means, as "..": a directory or nothing.
+func (u *unpacking) makeDirectories(name string, header *tar.Header) error {
+	if header.Typeflag != tar.TypeDir {
+		return syscall.EINVAL
+	}
+	made, err := inroot.MkdirAllHandle(u.root, name, 0o700)
+	if err != nil {
+		return err
+	}
+	return made.Close()
+}
+
+func (u *unpacking) makeEntry(name string, header *tar.Header) error {
+	last, err := u.openAbove(name)
+	switch {
+	case err != nil:
+		return err
+	case last == "" || last == "." || last == "..":
+		err = u.makeDirectories(name, header)
+	default:
+		err = u.makeInPlace(last, header)
+	}
+	// Where the directory is gone, the next entry has it made anew.
+	if errors.Is(err, syscall.ENOENT) {
+		u.closeAbove()
+	}
+	if err == nil && header.Typeflag == tar.TypeDir {
+		u.directories = append(u.directories, directory{name, header})
+	}
+	return err
+}
+
+// setDirectory sets what is to be set of a directory. The archive may have put something else in its place: a link is
+// not followed.
+func (u *unpacking) setDirectory(one directory) error {
+	const oPath = 0x200000
+	flags := oPath | syscall.O_DIRECTORY | syscall.O_NOFOLLOW
+	found, err := inroot.OpenFileInRoot(u.root, one.name, flags, 0)
+	if err != nil {
+		return err
+	}
+	defer found.Close()
+	return u.setFound(found, one.header)
+}
+
+func (u *unpacking) unpack() int {
 	for {
-		header, err := archive.Next()
+		header, err := u.archive.Next()
 		if err == io.EOF {
 			break
 		}
@@ -146,34 +295,46 @@ func unpack(root *os.File, archive *tar.Reader) (status int) {
 			fmt.Fprintf(os.Stderr, "unpack: the archive: %v\n", err)
 			return 4
 		}
-		name, err := makeEntry(root, header, archive)
-		if err != nil {
-			tell(name, err)
-			status = 1
-		} else if header.Typeflag == tar.TypeDir {
-			directories = append(directories, directory{name, header.FileInfo().Mode()})
+		name := header.Name
+		for len(name) > 1 && strings.HasSuffix(name, "/") {
+			name = name[:len(name)-1]
+		}
+		if err := u.makeEntry(name, header); err != nil {
+			u.fail(name, err)
 		}
 	}
-	for i := len(directories) - 1; i >= 0; i-- {
-		if err := setMode(root, directories[i]); err != nil {
-			tell(directories[i].name, err)
-			status = 1
+	u.closeAbove()
+	for i := len(u.directories) - 1; i >= 0; i-- {
+		if err := u.setDirectory(u.directories[i]); err != nil {
+			u.fail(u.directories[i].name, err)
 		}
 	}
-	return status
+	if u.failed {
+		return 1
+	}
+	return 0
 }
 
 func main() {
-	if len(os.Args) != 2 {
-		fmt.Fprintf(os.Stderr, "usage: %s ROOT <ARCHIVE\n", path.Base(os.Args[0]))
+	owners := flag.Bool("o", false, "sets the owners of the entries, by their numbers")
+	strict := flag.Bool("s", false, "asks for each entry where its directory stands")
+	times := flag.Bool("t", false, "sets the times at which they were changed")
+	flag.Usage = func() { fmt.Fprintln(os.Stderr, "usage: unpack [-o] [-s] [-t] ROOT <ARCHIVE") }
+	flag.Parse()
+	if flag.NArg() != 1 {
+		flag.Usage()
 		os.Exit(2)
 	}
-	root, err := os.Open(os.Args[1])
+	root, err := os.Open(flag.Arg(0))
 	if err != nil {
 		fmt.Fprintf(os.Stderr, "unpack: %v\n", err)
 		os.Exit(4)
 	}
-	status := unpack(root, tar.NewReader(os.Stdin))
+	u := unpacking{
+		root: root, owners: *owners, strict: *strict, times: *times,
+		archive: tar.NewReader(bufio.NewReaderSize(os.Stdin, 1<<18)), buffer: make([]byte, 1<<16),
+	}
+	status := u.unpack()
 	root.Close()
 	os.Exit(status)
 }

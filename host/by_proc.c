@@ -1,0 +1,37 @@
+/* by_proc.c: what is done to an object by its link in /proc, where the kernel takes no descriptor that only names it. */
+#define _GNU_SOURCE
+#include "driver.h"
+
+#include <errno.h>
+#include <fcntl.h>
+#include <unistd.h>
+
+/* By one that is at hand, or surely by /proc; and whether it may have failed for want of /proc. */
+static ssize_t done_by(bool surely, int fd, inroot_act *act, void *what, bool *is_lost)
+{
+    char written[INROOT_PROC_NAME];
+    bool is_own;
+    int proc = inroot_proc_open(surely, &is_own);
+    *is_lost = false;
+    if (proc < 0)
+        return proc;
+    const char *name = inroot_proc_name(fd, written);
+    ssize_t done = act(proc, name, what);
+    if (done < 0)
+        done = -inroot_proc_error(proc, name, errno);
+    if (done == -ENOSYS || done == -ENOTDIR)
+        *is_lost = inroot_proc_is_lost(proc);
+    if (is_own)
+        close(proc);
+    return done;
+}
+
+ssize_t inroot_by_proc(int fd, inroot_act *act, void *what)
+{
+    bool is_lost;
+    ssize_t done = done_by(false, fd, act, what, &is_lost);
+    if (is_lost)
+        done = done_by(true, fd, act, what, &is_lost);
+    /* What has no name there for want of a descriptor. */
+    return done == -ENOSYS && fcntl(fd, F_GETFD) < 0 ? -EBADF : done;
+}

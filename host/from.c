@@ -1,0 +1,169 @@
+/*
+ * from.c: a call that begins at a directory below the root. It is asked where that stands, by both witnesses, and the
+ * names come before the call's own paths. So the proved call walks from the root. Its first steps, by these names, are
+ * answered by the directory itself, which the kernel's look-up by just these names has come to.
+ */
+#define _GNU_SOURCE
+#include "driver.h"
+
+#include <errno.h>
+#include <fcntl.h>
+#include <string.h>
+#include <sys/stat.h>
+#include <unistd.h>
+
+/* Whether a path begins at the directory. One that is none says so itself. */
+static bool begins_there(const char *path)
+{
+    return path[0] != 0 && path[0] != '/';
+}
+
+static int count_names(const char *place)
+{
+    int count = 0;
+    for (const char *at = place; *at != 0; at++)
+        count += *at == '/' && at[1] != 0;
+    return count;
+}
+
+/* The place of the caller's directory, in the text, and a descriptor that was opened there; or -errno. */
+static ssize_t find(struct inroot_driver *d, int root, int dir, char *text, struct inroot_slot *slot)
+{
+    size_t length;
+    *slot = (struct inroot_slot){.kind = INROOT_KIND_DIR, .way = INROOT_BY_NAME, .above = -1};
+    slot->fd = fcntl(dir, F_DUPFD_CLOEXEC, 0);
+    if (slot->fd < 0)
+        return -errno;
+    struct inroot_result result = inroot_find_place(d, root, slot, text, &length);
+    /* In a jail the kernel has a text of what is outside, too: it begins with no slash. */
+    if (result.what == INROOT_ANSWER_NAMES && length > 0 && text[0] == '/')
+        return (ssize_t)length;
+    int error = result.what != INROOT_ANSWER_NAMES ? d->unmade : EAGAIN;
+    if (error == EAGAIN && inroot_is_dead(slot->fd))
+        error = ENOENT;
+    close(slot->fd);
+    slot->fd = INROOT_NONE;
+    d->unmade = 0;
+    return -error;
+}
+
+/* Cut off where it doesn't fit: then it is too long for a path as well. */
+static void join(char to[INROOT_TEXT_MAX + 1], const char *place, const char *path)
+{
+    size_t used = strlen(place), length = strlen(path);
+    memcpy(to, place, used);
+    to[used++] = '/';
+    if (length > INROOT_TEXT_MAX - used)
+        length = INROOT_TEXT_MAX - used;
+    memcpy(to + used, path, length);
+    to[used + length] = 0;
+}
+
+/* The paths that begin at the directory get its names, without the slash before the first. */
+static void join_paths(struct inroot_driver *d, struct inroot_joined *joined)
+{
+    struct inroot_request *request = &joined->request;
+    if (d->from.first)
+        join(joined->first, joined->place + 1, request->first);
+    else
+        strcpy(joined->first, request->first);
+    if (d->from.second)
+        join(joined->second, joined->place + 1, request->second);
+    else
+        strcpy(joined->second, request->second);
+    request->first = joined->first;
+    request->second = joined->second;
+}
+
+int inroot_from_join(struct inroot_driver *d, int root, int dir, const struct inroot_request *asked,
+                     struct inroot_joined *joined)
+{
+    struct stat about;
+    struct inroot_slot slot;
+    if (fstat(dir, &about) != 0)
+        return -errno;
+    if (!S_ISDIR(about.st_mode))
+        return -ENOTDIR;
+    joined->request = *asked;
+    joined->place[0] = 0;
+    bool first = begins_there(asked->first), second = asked->op == INROOT_ASK_RENAME && begins_there(asked->second);
+    ssize_t length = first || second ? find(d, root, dir, joined->place, &slot) : 0;
+    if (length < 0)
+        return (int)length;
+    d->from.dir = dir;
+    d->from.place = joined->place;
+    d->from.fd = length > 0 ? slot.fd : INROOT_NONE;
+    /* Of the root itself there are no names. */
+    d->from.names = count_names(joined->place);
+    d->from.first = first && d->from.names > 0;
+    d->from.second = second && d->from.names > 0;
+    join_paths(d, joined);
+    return 0;
+}
+
+/* The names are told as a run that was passed, on the root's mount where the call stays there: 0 or an error. */
+static int pass(struct inroot_driver *d, uint64_t root, int fd)
+{
+    if (inroot_mount_stay(d, fd) < 0)
+        return errno;
+    bool is_seen = inroot_has_openat2() && inroot_handles_slot(d, root)->fd != INROOT_JAILED;
+    d->run.fd = fd;
+    d->run.left = d->from.names;
+    d->run.up = false;
+    d->run.kind = INROOT_KIND_DIR;
+    d->run.way = is_seen ? INROOT_SEEN_BELOW : INROOT_BY_NAME;
+    d->run.at = root;
+    d->run.passed = inroot_passed_put(d, root, d->from.place + 1, strlen(d->from.place + 1));
+    d->run.placed = true;
+    return 0;
+}
+
+/* No system call was made since that was told. */
+bool inroot_from_tells(struct inroot_driver *d, uint64_t handle, char *text, size_t *length)
+{
+    if (handle != d->from.told)
+        return false;
+    *length = strlen(d->from.place);
+    memcpy(text, d->from.place, *length + 1);
+    return true;
+}
+
+int inroot_from_begin(struct inroot_driver *d, uint64_t root)
+{
+    int fd = d->from.fd;
+    if (!d->from.first || fd < 0)
+        return 0;
+    d->from.fd = INROOT_NONE;
+    d->from.first = false;
+    return pass(d, root, fd);
+}
+
+bool inroot_from_is_second(const struct inroot_driver *d, const struct inroot_told *step)
+{
+    bool is_root = (uint32_t)step->handle == 0 && step->handle >> 32 == 1;
+    return step->what == INROOT_STEP_OPEN && is_root && inroot_ahead_is_done(&d->ahead);
+}
+
+int inroot_from_again(struct inroot_driver *d, uint64_t root, char *text)
+{
+    struct inroot_slot slot;
+    d->from.second = false;
+    inroot_run_drop(d);
+    ssize_t length = find(d, inroot_handles_slot(d, root)->fd, d->from.dir, text, &slot);
+    if (length < 0)
+        return (int)-length;
+    text[length] = 0;
+    if (strcmp(text, d->from.place) != 0) {
+        close(slot.fd);
+        return EAGAIN;
+    }
+    inroot_ahead_second(&d->ahead);
+    return pass(d, root, slot.fd);
+}
+
+void inroot_from_end(struct inroot_driver *d)
+{
+    if (d->from.fd >= 0)
+        close(d->from.fd);
+    d->from.fd = INROOT_NONE;
+}

@@ -1,0 +1,253 @@
+/*
+ * given: what a call makes is given by a descriptor (INROOT_GIVE, and O_PATH with O_CREAT); by /proc, in a jail, and in one that
+ * trusts. Between the making and the opening the entry is moved, and another put in its place: then nothing is given. To be
+ * linked with --wrap=openat.
+ *
+ * usage: given DIR. Exits 0 where each is as inroot.h says. 78: no right to change a root, so that a part is left out.
+ */
+#define _GNU_SOURCE
+#include "support.h"
+
+#include <stdarg.h>
+#include <string.h>
+#include <sys/stat.h>
+#include <sys/sysmacros.h>
+
+static int root, jail_flags = -1;
+
+/* What somebody else does right before the entry that was made is opened by its name. */
+static void (*meanwhile)(void);
+static int refusal;
+
+int __real_openat(int dir, const char *name, int flags, ...);
+int __wrap_openat(int dir, const char *name, int flags, ...);
+
+/* It was made, and is opened by its name. */
+static bool is_new(const char *name)
+{
+    return (strcmp(name, "new") == 0 || strcmp(name, "/new") == 0) && faccessat(root, "a/b/new", F_OK, AT_SYMLINK_NOFOLLOW) == 0;
+}
+
+int __wrap_openat(int dir, const char *name, int flags, ...)
+{
+    va_list more;
+    va_start(more, flags);
+    mode_t mode = flags & O_CREAT ? va_arg(more, mode_t) : 0;
+    va_end(more);
+    if (is_new(name) && flags & O_PATH) {
+        void (*now)(void) = meanwhile;
+        meanwhile = NULL;
+        if (now != NULL)
+            now();
+        if (refusal) {
+            errno = refusal;
+            return -1;
+        }
+    }
+    return __real_openat(dir, name, flags, mode);
+}
+
+/* ---- each kind of entry */
+
+static int make_one(int at, int kind, int flags)
+{
+    switch (kind) {
+    case 0: return inroot_mkdir(at, "a/link/new", 0750, flags);
+    case 1: return inroot_mkfile(at, "a/link/new", 0640, flags);
+    case 2: return inroot_mknod(at, "a/link/new", S_IFIFO | 0600, 0, flags);
+    case 3: return inroot_mknod(at, "a/link/new", S_IFSOCK | 0600, 0, flags);
+    case 4: return inroot_symlink(at, "some/text", "a/link/new", flags);
+    case 5: return inroot_link(at, "a/b/f", "a/link/new", flags);
+    case 6: return inroot_link(at, "a/b/s", "a/link/new", flags);
+    case 7: return inroot_openat(at, "a/link/new", O_PATH | O_CREAT | O_EXCL, 0640, 0);
+    default: return inroot_openat(at, "a/link/new", O_PATH | O_CREAT, 0640, 0);
+    }
+}
+
+static const mode_t modes[] = {S_IFDIR | 0750, S_IFREG | 0640, S_IFIFO | 0600, S_IFSOCK | 0600, S_IFLNK | 0777, S_IFREG | 0600,
+                               S_IFLNK | 0777, S_IFREG | 0640, S_IFREG | 0640};
+enum { KINDS = 9 };
+
+static void clean(void)
+{
+    static const char *const names[] = {"a/b/new", "a/b/away"};
+    for (int one = 0; one < 2; one++) {
+        unlinkat(root, names[one], 0);
+        unlinkat(root, names[one], AT_REMOVEDIR);
+    }
+}
+
+static void each_kind(int at)
+{
+    for (int kind = 0; kind < KINDS; kind++) {
+        struct stat about, there;
+        int fd = make_one(at, kind, INROOT_GIVE);
+        expect(fd > 0, "kind %d: %d", kind, fd);
+        if (fd <= 0)
+            continue;
+        sure(fstat(fd, &about), "fstat");
+        sure(fstatat(root, "a/b/new", &there, AT_SYMLINK_NOFOLLOW), "a/b/new");
+        expect(about.st_ino == there.st_ino, "kind %d: another was given", kind);
+        expect(about.st_mode == modes[kind], "kind %d: the mode is %o", kind, about.st_mode);
+        expect(fcntl(fd, F_GETFL) & O_PATH && fcntl(fd, F_GETFD) == FD_CLOEXEC, "kind %d: it is opened otherwise", kind);
+        close(fd);
+        if (kind != 8)
+            gives(make_one(at, kind, INROOT_GIVE), -EEXIST, "kind %d, again", kind);
+        clean();
+        if (kind < 7)
+            gives(make_one(at, kind, 0), 0, "kind %d, not given", kind);
+        clean();
+    }
+}
+
+/* A device can't be made by everyone. */
+static void devices(int at)
+{
+    struct stat about;
+    int fd = inroot_mknod(at, "a/b/new", S_IFCHR | 0600, makedev(1, 3), INROOT_GIVE);
+    expect(fd > 0 || fd == -EPERM, "a device: %d", fd);
+    if (fd > 0) {
+        sure(fstat(fd, &about), "fstat");
+        expect(S_ISCHR(about.st_mode) && about.st_rdev == makedev(1, 3), "another device");
+        close(fd);
+    }
+    clean();
+}
+
+/* ---- others in between */
+
+static void move_away(void)
+{
+    sure(renameat(root, "a/b/new", root, "a/b/away"), "away");
+}
+
+static void put_directory(void)
+{
+    move_away();
+    sure(mkdirat(root, "a/b/new", 0755), "mkdir");
+}
+
+static void put_file(void)
+{
+    move_away();
+    sure(mknodat(root, "a/b/new", S_IFREG | 0600, 0), "mknod");
+}
+
+static void put_link(void)
+{
+    move_away();
+    sure(symlinkat("/", root, "a/b/new"), "symlink");
+}
+
+static void put_device(void)
+{
+    move_away();
+    if (mknodat(root, "a/b/new", S_IFCHR | 0600, makedev(1, 5)) != 0)
+        sure(symlinkat("/", root, "a/b/new"), "symlink");
+}
+
+/* The entry that was made was moved, and another may stand at its name: this isn't given, and nothing is made once more. */
+static void others(int at)
+{
+    static void (*const all[])(void) = {move_away, put_directory, put_file, put_link, put_device};
+    for (int kind = 0; kind < KINDS; kind++) {
+        for (size_t one = 0; one < sizeof all / sizeof *all; one++) {
+            struct inroot_error error;
+            /* Nobody can tell one directory from another. */
+            if (kind == 0 && all[one] == put_directory)
+                continue;
+            meanwhile = all[one];
+            int fd = make_one(at, kind, INROOT_GIVE);
+            gives(fd, -EAGAIN, "kind %d, and others %zu", kind, one);
+            expect(meanwhile == NULL, "kind %d: nobody came in between", kind);
+            expect(inroot_last_error(&error) == 0 && strcmp(error.step, "Give") == 0, "kind %d: the step %s", kind, error.step);
+            expect(faccessat(root, "a/b/away", F_OK, AT_SYMLINK_NOFOLLOW) == 0, "kind %d: what was made is gone", kind);
+            if (fd > 0)
+                close(fd);
+            clean();
+        }
+    }
+}
+
+static void another_device(int at)
+{
+    int fd = inroot_mknod(at, "a/b/new", S_IFCHR | 0600, makedev(1, 3), 0);
+    clean();
+    if (fd != 0)
+        return;
+    meanwhile = put_device;
+    gives(inroot_mknod(at, "a/b/new", S_IFCHR | 0600, makedev(1, 3), INROOT_GIVE), -EAGAIN, "another device");
+    clean();
+}
+
+/* What can't be opened was made. */
+static void refused(int at)
+{
+    for (int kind = 0; kind < KINDS; kind++) {
+        refusal = EMFILE;
+        gives(make_one(at, kind, INROOT_GIVE), -EMFILE, "kind %d with no descriptor left", kind);
+        refusal = 0;
+        expect(faccessat(root, "a/b/new", F_OK, AT_SYMLINK_NOFOLLOW) == 0, "kind %d wasn't made", kind);
+        clean();
+    }
+}
+
+/* O_PATH with O_CREAT gives what is there as well. */
+static void paths(int at)
+{
+    struct stat about;
+    int fd = inroot_openat(at, "a/b/f", O_PATH | O_CREAT, 0600, 0);
+    expect(fd > 0 && fcntl(fd, F_GETFL) & O_PATH, "a file that is there: %d", fd);
+    close(fd);
+    gives(inroot_openat(at, "a/b", O_PATH | O_CREAT, 0600, 0), -EISDIR, "a directory that is there");
+    gives(inroot_openat(at, "a/b/f", O_PATH | O_CREAT | O_EXCL, 0600, 0), -EEXIST, "a file that is there, and O_EXCL");
+    fd = inroot_openat(at, "a/b/s", O_PATH | O_CREAT, 0600, 0);
+    expect(fd > 0 && fstat(fd, &about) == 0 && S_ISREG(about.st_mode), "the target of a link: %d", fd);
+    close(fd);
+    gives(unlinkat(root, "a/gone", 0), 0, "the target");
+    fd = inroot_openat(at, "a/b/s", O_PATH | O_CREAT | O_NOFOLLOW, 0600, 0);
+    expect(fd > 0 && fstat(fd, &about) == 0 && S_ISLNK(about.st_mode), "the link itself: %d", fd);
+    close(fd);
+}
+
+static void each(void)
+{
+    int at = root;
+    umask(0);
+    if (jail_flags >= 0) {
+        int failed = inroot_jail_with(root, jail_flags);
+        if (failed == -EPERM)
+            _exit(NO_RIGHT);
+        errno = -failed;
+        sure(failed, "inroot_jail_with");
+        at = INROOT_JAIL;
+    }
+    int before = open_descriptors();
+    each_kind(at);
+    devices(at);
+    others(at);
+    another_device(at);
+    refused(at);
+    paths(at);
+    expect(open_descriptors() == before, "%d descriptors are left", open_descriptors() - before);
+}
+
+int main(int count, char **words)
+{
+    if (count != 2)
+        return 2;
+    root = sure(open(words[1], O_PATH | O_DIRECTORY | O_CLOEXEC), words[1]);
+    sure(mkdirat(root, "a", 0755), "a");
+    sure(mkdirat(root, "a/b", 0755), "a/b");
+    sure(mknodat(root, "a/b/f", S_IFREG | 0600, 0), "f");
+    sure(symlinkat("/a/b", root, "a/link"), "link");
+    sure(symlinkat("../gone", root, "a/b/s"), "s");
+    open_proc();
+    int skipped = apart(each);
+    for (jail_flags = 0; jail_flags <= INROOT_TRUST_PROC; jail_flags += INROOT_TRUST_PROC) {
+        int status = apart(each);
+        skipped = skipped ? skipped : status;
+    }
+    printf("given: %d not as they are to be\n", wrong);
+    return wrong != 0 ? 1 : skipped;
+}

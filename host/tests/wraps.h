@@ -1,0 +1,47 @@
+/*
+ * wraps.h: what a test puts in the place of a function that the driver calls (ld, --wrap), where that takes any number of
+ * arguments. The test writes a function that takes all of them, and names it here.
+ */
+#ifndef WRAPS_H
+#define WRAPS_H
+
+#include <fcntl.h>
+#include <stdarg.h>
+#include <sys/types.h>
+
+int __real_openat(int dir, const char *name, int flags, ...);
+long __real_syscall(long number, ...);
+ssize_t __real_readlinkat(int dir, const char *name, char *text, size_t size);
+ssize_t __wrap_readlinkat(int dir, const char *name, char *text, size_t size);
+
+/* INSTEAD(dir, name, flags, mode) in the place of openat(2). What makes nothing has no mode. */
+#define INSTEAD_OF_OPENAT(INSTEAD)                                                        \
+    int __wrap_openat(int dir, const char *name, int flags, ...);                         \
+    int __wrap_openat(int dir, const char *name, int flags, ...)                          \
+    {                                                                                     \
+        va_list more;                                                                     \
+        va_start(more, flags);                                                            \
+        mode_t mode = flags & O_CREAT || (flags & O_TMPFILE) == O_TMPFILE                 \
+                          ? va_arg(more, mode_t) : 0;                                     \
+        va_end(more);                                                                     \
+        return INSTEAD(dir, name, flags, mode);                                           \
+    }
+
+/* INSTEAD(number, with) in the place of syscall(2), with six arguments. It takes more than were handed in. */
+#define INSTEAD_OF_SYSCALL(INSTEAD)                                                       \
+    long __wrap_syscall(long number, ...);                                                \
+    __attribute__((no_sanitize("address"))) long __wrap_syscall(long number, ...)         \
+    {                                                                                     \
+        long with[6];                                                                     \
+        va_list more;                                                                     \
+        va_start(more, number);                                                           \
+        for (int one = 0; one < 6; one++)                                                 \
+            with[one] = va_arg(more, long);                                               \
+        va_end(more);                                                                     \
+        return INSTEAD(number, with);                                                     \
+    }
+
+/* The system call itself. */
+#define REAL_SYSCALL(number, with) __real_syscall(number, (with)[0], (with)[1], (with)[2], (with)[3], (with)[4], (with)[5])
+
+#endif

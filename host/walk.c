@@ -1,0 +1,322 @@
+/*
+ * walk.c: the entries below a directory, one after another, with one descriptor for each level. A directory is opened by its
+ * name in the one that has it, through no link, and then has to be what its path means below the root, by a call of its own. So
+ * whoever moves directories meanwhile, none is listed that didn't stand below the root after it was opened.
+ */
+#define _GNU_SOURCE
+#include "driver.h"
+
+#include <errno.h>
+#include <fcntl.h>
+#include <pthread.h>
+#include <stdlib.h>
+#include <string.h>
+#include <sys/stat.h>
+#include <sys/syscall.h>
+#include <unistd.h>
+
+/* What getdents64(2) gives at once; and the longest name that a file system gives, as vfat. */
+enum { RECORDS = 8192, NAME_ROOM = 1024 };
+
+/* An entry as it writes it. */
+struct record {
+    uint64_t inode;
+    int64_t offset;
+    unsigned short length;
+    unsigned char type;
+    char name[];
+};
+
+/* A directory that is being listed. */
+struct level {
+    struct level *above;
+    int fd;
+    bool is_lost;          /* it no longer stands where it was found */
+    size_t length;         /* of its path in `text` */
+    size_t at, got;        /* of what was read, so much was given */
+    _Alignas(8) char records[RECORDS];
+};
+
+struct inroot_walk {
+    int root, levels, flags, depth;
+    int first;             /* INROOT_NOFOLLOW where PATH itself may be no link, else 0 */
+    struct level *top;
+    struct level *entered; /* the directory that was given last, where it is gone into */
+    size_t begin;          /* where the names begin behind PATH and a slash */
+    char text[PATH_MAX + NAME_ROOM + 2];
+};
+
+static int open_to_read(int dir, const char *name)
+{
+    int fd;
+    do
+        fd = openat(dir, name, O_RDONLY | O_DIRECTORY | O_NOFOLLOW | O_CLOEXEC);
+    while (fd < 0 && errno == EINTR);
+    return fd < 0 ? -errno : fd;
+}
+
+/* ---- whether a directory stands where it was found */
+
+static bool is_same(int one, int other)
+{
+    struct stat a, b;
+    return fstat(one, &a) == 0 && fstat(other, &b) == 0 && a.st_dev == b.st_dev && a.st_ino == b.st_ino;
+}
+
+/* Whether the text means this directory, which then stood below the root: 0; -ESTALE where it means something else; -errno. */
+static int stands(const struct inroot_walk *walk, int fd, int more)
+{
+    int now = inroot_open(walk->root, walk->text, walk->flags | more);
+    if (now < 0)
+        return now == -ENOENT || now == -ENOTDIR || now == -ELOOP ? -ESTALE : now;
+    bool same = is_same(now, fd);
+    close(now);
+    return same ? 0 : -ESTALE;
+}
+
+/* The text is cut off for the question, and then whole again. */
+static bool is_lost(struct inroot_walk *walk, const struct level *level)
+{
+    char next = walk->text[level->length];
+    walk->text[level->length] = 0;
+    bool lost = stands(walk, level->fd, level->above == NULL ? walk->first : INROOT_NOFOLLOW) != 0;
+    walk->text[level->length] = next;
+    return lost;
+}
+
+/* Opens the directory that the text names: its descriptor or -errno. */
+static int open_next(struct inroot_walk *walk, const char *name)
+{
+    for (int tries = 1;; tries++) {
+        int fd = open_to_read(walk->top->fd, name);
+        int failed = fd < 0 ? fd : stands(walk, fd, INROOT_NOFOLLOW);
+        if (failed == 0)
+            return fd;
+        if (fd >= 0)
+            close(fd);
+        if (failed == -ESTALE && inroot_again(tries, walk->flags))
+            continue;
+        if (failed != -ESTALE && failed != -EAGAIN)
+            return failed;
+        /* If it is the directory above that was moved, nothing more is gone into there. */
+        walk->top->is_lost = is_lost(walk, walk->top);
+        return -EAGAIN;
+    }
+}
+
+/* ---- levels */
+
+static struct level *new_level(int fd, size_t length)
+{
+    struct level *level = malloc(sizeof *level);
+    if (level == NULL)
+        return NULL;
+    *level = (struct level){.fd = fd, .length = length};
+    return level;
+}
+
+static void drop(struct level *level)
+{
+    if (level == NULL)
+        return;
+    close(level->fd);
+    free(level);
+}
+
+static void leave(struct inroot_walk *walk)
+{
+    struct level *level = walk->top;
+    walk->top = level->above;
+    walk->depth--;
+    drop(level);
+}
+
+/* Goes into the directory that was given last, unless it is passed over. */
+static void go_on(struct inroot_walk *walk)
+{
+    if (walk->entered == NULL)
+        return;
+    walk->entered->above = walk->top;
+    walk->top = walk->entered;
+    walk->entered = NULL;
+    walk->depth++;
+}
+
+/* Opens it for the turns to come. Gives 0 or why it isn't gone into. */
+static int enter(struct inroot_walk *walk, const char *name, size_t length)
+{
+    int fd = open_next(walk, name);
+    if (fd < 0)
+        return -fd;
+    walk->entered = new_level(fd, length);
+    if (walk->entered == NULL)
+        close(fd);
+    return walk->entered == NULL ? ENOMEM : 0;
+}
+
+/* ---- entries */
+
+/* Gives 1 and the next name of the directory; 0 at its end, which one that is gone has, too; -errno. */
+static int next_record(struct level *level, const struct record **record)
+{
+    while (level->at == level->got) {
+        long got = syscall(SYS_getdents64, level->fd, level->records, sizeof level->records);
+        if (got < 0 && errno == EINTR)
+            continue;
+        if (got <= 0)
+            return got == 0 || errno == ENOENT ? 0 : -errno;
+        level->at = 0;
+        level->got = (size_t)got;
+    }
+    *record = (const struct record *)(const void *)(level->records + level->at);
+    level->at += (*record)->length;
+    return 1;
+}
+
+static bool is_entry(const char *name)
+{
+    return strcmp(name, ".") != 0 && strcmp(name, "..") != 0;
+}
+
+/* The kind, which some file systems don't write beside the name; 0 of what is gone by now. */
+static mode_t kind_of(const struct level *level, const struct record *record)
+{
+    struct stat about;
+    if (record->type != 0)
+        return (mode_t)record->type << 12;
+    return fstatat(level->fd, record->name, &about, AT_SYMLINK_NOFOLLOW | AT_NO_AUTOMOUNT) == 0 ? about.st_mode & S_IFMT : 0;
+}
+
+/* Tells of the directory whose entries are given, or of one of them. */
+static void tell(const struct inroot_walk *walk, struct inroot_walk_entry *entry, const char *name, mode_t kind)
+{
+    *entry = (struct inroot_walk_entry){
+        .path = walk->text + walk->begin, .name = name, .directory = walk->top->fd, .opened = -1, .kind = kind,
+        .depth = walk->depth,
+    };
+}
+
+/* The rest of its entries isn't given. Of the first one the path is empty. */
+static int break_off(struct inroot_walk *walk, struct inroot_walk_entry *entry, int failed)
+{
+    struct level *level = walk->top;
+    walk->text[level->length] = 0;
+    if (level->length < walk->begin)
+        walk->text[walk->begin] = 0;
+    const char *slash = strrchr(walk->text + walk->begin, '/');
+    tell(walk, entry, slash == NULL ? walk->text + walk->begin : slash + 1, S_IFDIR);
+    entry->directory = -1;
+    entry->depth--;
+    leave(walk);
+    return inroot_error_alone(-failed, "List", entry->path);
+}
+
+static void give(struct inroot_walk *walk, struct inroot_walk_entry *entry, const struct record *record, mode_t kind)
+{
+    size_t from = walk->top->length, length = strlen(record->name);
+    walk->text[from] = '/';
+    length = length < NAME_ROOM ? length : NAME_ROOM;
+    memcpy(walk->text + from + 1, record->name, length);
+    walk->text[from + 1 + length] = 0;
+    tell(walk, entry, walk->text + from + 1, kind);
+    if (!S_ISDIR(kind) || (walk->levels != 0 && walk->depth == walk->levels))
+        return;
+    entry->error = enter(walk, walk->text + from + 1, from + 1 + length);
+    if (entry->error == 0)
+        entry->opened = walk->entered->fd;
+}
+
+static int next(struct inroot_walk *walk, struct inroot_walk_entry *entry)
+{
+    const struct record *record = NULL;
+    go_on(walk);
+    while (walk->top != NULL) {
+        int found = walk->top->is_lost ? -EAGAIN : next_record(walk->top, &record);
+        if (found < 0)
+            return break_off(walk, entry, found);
+        if (found == 0) {
+            leave(walk);
+            continue;
+        }
+        mode_t kind = is_entry(record->name) ? kind_of(walk->top, record) : 0;
+        if (kind == 0)
+            continue;
+        give(walk, entry, record, kind);
+        return 1;
+    }
+    return 0;
+}
+
+/* ---- the calls */
+
+/* The directory with which it begins, by a descriptor to read it: 0 or -errno. */
+static int begin(struct inroot_walk *walk)
+{
+    int found = inroot_open(walk->root, walk->text, walk->flags | walk->first);
+    if (found < 0)
+        return found;
+    int fd = open_to_read(found, ".");
+    close(found);
+    if (fd < 0)
+        return inroot_error_alone(-fd, "List", walk->text);
+    size_t length = strlen(walk->text);
+    walk->top = new_level(fd, length);
+    walk->begin = length + 1;
+    walk->depth = 1;
+    if (walk->top != NULL)
+        return 0;
+    close(fd);
+    return inroot_error_alone(ENOMEM, "List", walk->text);
+}
+
+int inroot_walk_open(int root, const char *path, int levels, int flags, struct inroot_walk **walk)
+{
+    int state;
+    *walk = NULL;
+    struct inroot_walk *new = levels < 0 ? NULL : malloc(sizeof *new);
+    if (new == NULL)
+        return inroot_error_alone(levels < 0 ? EINVAL : ENOMEM, "", "");
+    *new = (struct inroot_walk){
+        .root = root, .levels = levels, .flags = flags & ~INROOT_NOFOLLOW, .first = flags & INROOT_NOFOLLOW,
+    };
+    inroot_copy(new->text, path);
+    pthread_setcancelstate(PTHREAD_CANCEL_DISABLE, &state);
+    int failed = begin(new);
+    pthread_setcancelstate(state, NULL);
+    if (failed)
+        free(new);
+    else
+        *walk = new;
+    return failed;
+}
+
+int inroot_walk_next(struct inroot_walk *walk, struct inroot_walk_entry *entry)
+{
+    int state;
+    pthread_setcancelstate(PTHREAD_CANCEL_DISABLE, &state);
+    int found = next(walk, entry);
+    pthread_setcancelstate(state, NULL);
+    return found;
+}
+
+void inroot_walk_skip(struct inroot_walk *walk)
+{
+    int state;
+    pthread_setcancelstate(PTHREAD_CANCEL_DISABLE, &state);
+    drop(walk->entered);
+    walk->entered = NULL;
+    pthread_setcancelstate(state, NULL);
+}
+
+void inroot_walk_close(struct inroot_walk *walk)
+{
+    int state;
+    if (walk == NULL)
+        return;
+    inroot_walk_skip(walk);
+    pthread_setcancelstate(PTHREAD_CANCEL_DISABLE, &state);
+    while (walk->top != NULL)
+        leave(walk);
+    pthread_setcancelstate(state, NULL);
+    free(walk);
+}

@@ -1,0 +1,127 @@
+/*
+ * xattr.c: the extended attributes of what was found. Linux 6.13 has system calls that take a name in a directory, which is that
+ * of /proc here. Before that there are only those that take a path: it is walked from the current directory of a jail, which is
+ * made that of /proc, and else from the top, where what is called /proc is the directory that the library has open.
+ */
+#define _GNU_SOURCE
+#include "driver.h"
+
+#include <errno.h>
+#include <pthread.h>
+#include <stdio.h>
+#include <sys/stat.h>
+#include <sys/syscall.h>
+#include <sys/xattr.h>
+#include <unistd.h>
+
+/* The numbers are the same on each machine; older headers don't have them. */
+enum { SET_AT = 463, GET_AT, LIST_AT, REMOVE_AT };
+
+/* The most bytes that a value has, and all names of an object together (xattr(7)). */
+enum { MOST_BYTES = 65536 };
+
+enum attribute_act { SET, GET, LIST, REMOVE };
+
+/* What is done, to which attribute: the value that is set, or the room for what is got. */
+struct attribute {
+    enum attribute_act act;
+    const char *name;
+    void *value;
+    size_t size;
+    int flags;
+};
+
+/* As setxattrat(2) and getxattrat(2) take a value. */
+struct value {
+    _Alignas(8) uint64_t at;
+    uint32_t size, flags;
+};
+
+static ssize_t by_name(int proc, const char *name, const struct attribute *one)
+{
+    const struct value value = {(uintptr_t)one->value, (uint32_t)one->size, (uint32_t)one->flags};
+    switch (one->act) {
+    case SET: return syscall(SET_AT, proc, name, 0, one->name, &value, sizeof value);
+    case GET: return syscall(GET_AT, proc, name, 0, one->name, &value, sizeof value);
+    case LIST: return syscall(LIST_AT, proc, name, 0, one->value, one->size);
+    default: return syscall(REMOVE_AT, proc, name, 0, one->name);
+    }
+}
+
+static ssize_t by_path(const char *path, const struct attribute *one)
+{
+    switch (one->act) {
+    case SET: return setxattr(path, one->name, one->value, one->size, one->flags);
+    case GET: return getxattr(path, one->name, one->value, one->size);
+    case LIST: return listxattr(path, one->value, one->size);
+    default: return removexattr(path, one->name);
+    }
+}
+
+static ssize_t from_jail(int proc, const char *name, const struct attribute *one)
+{
+    struct inroot_driver d = {.alone = false};
+    ssize_t done = inroot_jail_enter(&d, proc) ? by_path(name, one) : -1;
+    int error = errno;
+    if (d.moved && chdir("/") != 0)
+        return -1;
+    errno = error;
+    return done;
+}
+
+static ssize_t from_top(int proc, const char *name, const struct attribute *one)
+{
+    struct stat there, here;
+    char path[sizeof "/proc/" + INROOT_PROC_NAME];
+    if (stat("/proc", &there) != 0 || fstat(proc, &here) != 0 || there.st_dev != here.st_dev || there.st_ino != here.st_ino) {
+        errno = ENOSYS;
+        return -1;
+    }
+    snprintf(path, sizeof path, "/proc/%s", name);
+    return by_path(path, one);
+}
+
+/* A filter may refuse system calls that it doesn't know by EPERM: where that is the object's answer, it is so by a path, too. */
+static ssize_t act_on(int proc, const char *name, void *what)
+{
+    const struct attribute *one = what;
+    ssize_t done = by_name(proc, name, one);
+    if (done >= 0 || (errno != ENOSYS && errno != EPERM))
+        return done;
+    return inroot_is_jailed() ? from_jail(proc, name, one) : from_top(proc, name, one);
+}
+
+static ssize_t act(int fd, struct attribute one)
+{
+    int state;
+    if (fd < 0)
+        return inroot_error_alone(EBADF, "", "");
+    pthread_setcancelstate(PTHREAD_CANCEL_DISABLE, &state);
+    ssize_t done = inroot_by_proc(fd, act_on, &one);
+    pthread_setcancelstate(state, NULL);
+    return done < 0 ? inroot_error_alone((int)-done, done == -EBADF ? "" : "Attribute", "") : done;
+}
+
+int inroot_fsetxattr(int fd, const char *name, const void *value, size_t size, int flags)
+{
+    if (flags & ~(XATTR_CREATE | XATTR_REPLACE))
+        return inroot_error_alone(EINVAL, "", "");
+    if (size > MOST_BYTES)
+        return inroot_error_alone(E2BIG, "", "");
+    return (int)act(fd, (struct attribute){SET, name, (void *)(uintptr_t)value, size, flags});
+}
+
+ssize_t inroot_fgetxattr(int fd, const char *name, void *value, size_t size)
+{
+    return act(fd, (struct attribute){GET, name, value, size < MOST_BYTES ? size : MOST_BYTES, 0});
+}
+
+ssize_t inroot_flistxattr(int fd, char *names, size_t size)
+{
+    return act(fd, (struct attribute){LIST, NULL, names, size < MOST_BYTES ? size : MOST_BYTES, 0});
+}
+
+int inroot_fremovexattr(int fd, const char *name)
+{
+    return (int)act(fd, (struct attribute){REMOVE, name, NULL, 0, 0});
+}
