@@ -1,14 +1,14 @@
-# Refuses each request for memory of the calls that timing/refusals makes, on both trees, of two sessions of one service,
-# and of the copies of a world that timing/copies makes. checks/refusals reads it, whose functions it uses.
+# Refuses each request for memory of the calls that benches/refusals makes, on both trees, of two sessions of one service,
+# and of the copies of a world that benches/copies makes. checks/refusals reads it, whose functions it uses.
 
-if ! calls=$(timing/build refusals 2>"$room/build"); then
-    verdict 1 "timing/refusals is not built: $(tail -n 5 "$room/build")"
+if ! calls=$(benches/build refusals 2>"$room/build"); then
+    verdict 1 "benches/refusals is not built: $(tail -n 5 "$room/build")"
     end
 fi
 "$calls" >"$room/ample" 2>"$room/build"
 verdict $? "the calls: $(tail -n 5 "$room/build")"
-cmp -s "$room/ample" timing/refusals/stdout
-verdict $? 'timing/refusals does not print what it is to print'
+cmp -s "$room/ample" benches/refusals/stdout
+verdict $? 'benches/refusals does not print what it is to print'
 [ "$failed" -eq 0 ] || end
 
 # ---- each request for memory of a call
@@ -102,7 +102,7 @@ refuse_each() {
 
 all_refused=0
 all_in_calls=0
-scenarios=$(sed -n 's/^plain //p' timing/refusals/stdout | grep -v '^sessions$')
+scenarios=$(sed -n 's/^plain //p' benches/refusals/stdout | grep -v '^sessions$')
 # What is refused while a tree is built is the same in each scenario: it is tried in the first one alone.
 declare -A begin_of=([plain]=1 [indexed]=1)
 for kind_of_tree in plain indexed; do
@@ -233,14 +233,14 @@ echo "refusals: $((all_refused - calls_refused)) requests for memory of two sess
 
 # ---- each request for memory of a world that is copied before each of its turns
 
-if ! copies=$(timing/build copies 2>"$room/build"); then
-    verdict 1 "timing/copies is not built: $(tail -n 5 "$room/build")"
+if ! copies=$(benches/build copies 2>"$room/build"); then
+    verdict 1 "benches/copies is not built: $(tail -n 5 "$room/build")"
     end
 fi
 run "$copies"
 ample=$out
-[ "$status" -eq 0 ] && [ "$live" -eq 0 ] && cmp -s "$room/out" timing/copies/stdout
-verdict $? 'timing/copies does not print what it is to print'
+[ "$status" -eq 0 ] && [ "$live" -eq 0 ] && cmp -s "$room/out" benches/copies/stdout
+verdict $? 'benches/copies does not print what it is to print'
 
 # Which of the ends that a refusal may have the run has, as `kind`: outside of the copies, or refused; else nothing. Where
 # a copy was refused, nothing is left of it, and the world goes on as if it had not been made.

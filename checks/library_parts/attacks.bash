@@ -30,20 +30,58 @@ for unpack in "${unpackers[@]}"; do
     [ "$(cat "$at/ok/second" "$at/ok/last" "$at/escaped" "$at/file-link" "$at$work/outside/by-link")" = \
         'insideafter all attacksby dotsthrough a link to a filethrough an absolute link' ] &&
         [ -p "$at/ok/fifo" ] && [ ! -e "$at/hard-out" ] && [ ! -e "$at/smuggled" ] &&
-        grep -q unknown "$work/err"
+        grep -q smuggled "$at/unknown" && grep -q 'type is unknown' "$work/err"
     verdict $? "$name made something else: $(listing "$at")"
     [ -z "$first" ] || [ "$(listing "$at")" = "$(listing "$first")" ]
     verdict $? "$name made other entries than ${first##*/}: $(diff <(listing "$at") <(listing "$first"))"
     first=$at
 done
 
+# A tree of each kind is unpacked as tar(1) does: kind, mode, owner, times, links and contents.
+grown=$work/grown
+mkdir -p "$grown/tree/deep/er" "$grown/tree/shut" && (
+    cd "$grown/tree" || exit
+    echo file >file && echo other >deep/er/other && head -c 200000 /dev/urandom >deep/large && : >empty
+    ln file deep/second && ln -s ../file deep/link && ln -s /nowhere gone && mkfifo -m 622 fifo
+    chmod 4751 deep/large && chmod 444 deep/er/other && chmod 1777 deep && echo kept >shut/kept
+    [ "$(id -u)" -ne 0 ] || { mknod -m 666 null c 1 3 && mknod -m 660 disk b 7 0 && chown 12:34 deep/er/other null deep &&
+        chown -h 56:78 gone fifo && chmod 2755 deep/er; } 2>/dev/null
+    touch -d '2001-02-03 04:05:06.789' file deep/er/other && touch -h -d '1969-12-31 23:00:00.25 UTC' gone
+    chmod 555 shut && touch -d '2010-11-12' fifo deep/er deep shut .
+)
+# grown DIRECTORY: what tar(1) keeps of a tree; %T is the device.
+grown() {
+    (cd "$1" && find . -printf '%p %y %m %U:%G %T@ %n %l\n' | LC_ALL=C sort &&
+        find . \( -type b -o -type c \) -exec stat -c '%n %t:%T' {} + | LC_ALL=C sort &&
+        find . -type f -exec cksum {} + | LC_ALL=C sort -k3)
+}
+if tar --format=pax -C "$grown/tree" -cf "$work/grown.tar" . 2>/dev/null && mkdir "$grown/tar" &&
+    tar --numeric-owner -xpf "$work/grown.tar" -C "$grown/tar" 2>/dev/null; then
+    by_tar=$(grown "$grown/tar")
+    for unpack in "${unpackers[@]}"; do
+        name=${unpack##*/}
+        mkdir "$grown/$name"
+        own=-o
+        [ "$(id -u)" -eq 0 ] || own=-t
+        (umask 077 && "$unpack" $own -t "$grown/$name" <"$work/grown.tar" 2>"$work/err")
+        verdict $? "$name of a tree: $(cat "$work/err")"
+        [ "$(grown "$grown/$name")" = "$by_tar" ]
+        verdict $? "$name makes another tree than tar(1): $(diff <(grown "$grown/$name") <(echo "$by_tar"))"
+        # A second time into what is there already: it is replaced.
+        "$unpack" $own -s -t "$grown/$name" <"$work/grown.tar" 2>"$work/err" && [ "$(grown "$grown/$name")" = "$by_tar" ]
+        verdict $? "$name over what is there: $(cat "$work/err")$(diff <(grown "$grown/$name") <(echo "$by_tar"))"
+    done
+else
+    skip 'a tree unpacked as tar(1) does' 'there is no tar here that writes pax archives, or it may not make what is in one'
+fi
+
 # The attacks work where they meet an unpacker that opens by its own paths: below a root directory of its own, so that
 # nothing else can be changed.
 if [ -e "$work/static" ] && unshare -rm true 2>/dev/null; then
     trap_box=$work/trap
     mkdir -p "$trap_box/proc" "$trap_box/box" "$trap_box/outside" && echo secret >"$trap_box/outside/secret"
-    sed 's/inroot_openat(u->root, entry->name,/openat(u->root, entry->name,/; s/ | O_EXCL, 0600, 0)/, 0600)/
-        s/ inroot_unlink(root, name, 0);/ 0;/' examples/runtime/unpack.c >"$work/naive.c"
+    sed 's/inroot_openat(u->at, last, O_WRONLY | O_CREAT | O_EXCL, 0600, 0)/openat(u->root, entry->name, O_WRONLY | O_CREAT, 0600)/' \
+        examples/runtime/unpack.c >"$work/naive.c"
     has 'a naive unpacker' cc -std=gnu11 -static -Iexamples/runtime -o "$trap_box/naive" "$work/naive.c" \
         examples/runtime/tar.c "${static_flags[@]}"
     examples/runtime/make-attacks /outside >"$trap_box/attacks.tar"
@@ -91,6 +129,39 @@ printf 'x%.0s' {1..2000} | "$work/watched" "$box" 2>"$work/err"
 verdict $? "no archive: $(cat "$work/err")"
 [ "$(outside)" = "$before" ]
 verdict $? 'an archive that is cut off changed what is outside'
+
+# A directory that is moved while entries are made in it: this is told, and nothing else outside is changed.
+mkdir -p "$work/half/d" && echo one >"$work/half/d/one" && echo two >"$work/half/d/two"
+if tar --format=ustar -C "$work/half" -cf "$work/half.tar" d/ 2>/dev/null; then
+    # Of the headers and contents, so many bytes until the first file is whole.
+    whole=1536
+    for unpack in "${unpackers[@]}"; do
+        name=${unpack##*/}
+        mkdir "$work/moving-$name" "$work/moved-$name"
+        {
+            head -c "$whole" "$work/half.tar"
+            for ((i = 0; i < 200; i++)); do [ ! -s "$(echo "$work/moving-$name/d/"*)" ] || break; sleep 0.05; done
+            mv "$work/moving-$name/d" "$work/moved-$name/d"
+            tail -c +$((whole + 1)) "$work/half.tar"
+        } | "$unpack" "$work/moving-$name" 2>"$work/err"
+        [ "${PIPESTATUS[1]}" -eq 1 ] && grep -q 'somebody moved or removed it' "$work/err" &&
+            [ "$(cd "$work/moved-$name" && find . | LC_ALL=C sort | xargs)" = '. ./d ./d/one ./d/two' ]
+        verdict $? "$name, of a directory that was moved: $(cat "$work/err")"
+        # Where it asks for each entry, nothing more is made there.
+        rm -rf "$work/moving-$name" "$work/moved-$name"
+        mkdir "$work/moving-$name" "$work/moved-$name"
+        {
+            head -c "$whole" "$work/half.tar"
+            for ((i = 0; i < 200; i++)); do [ ! -s "$(echo "$work/moving-$name/d/"*)" ] || break; sleep 0.05; done
+            mv "$work/moving-$name/d" "$work/moved-$name/d"
+            tail -c +$((whole + 1)) "$work/half.tar"
+        } | "$unpack" -s "$work/moving-$name" 2>"$work/err"
+        [ "${PIPESTATUS[1]}" -eq 1 ] && [ "$(find "$work/moved-$name" -type f | wc -l)" -eq 1 ]
+        verdict $? "$name -s, of a directory that was moved: $(cat "$work/err")"
+    done
+else
+    skip 'an archive whose directory is moved meanwhile' 'there is no tar with ustar archives here'
+fi
 
 # While a directory of the root is exchanged for a link out of it, again and again.
 mkdir -p "$work/race/swap" "$work/many/swap" && ln -s ../outside "$work/race/other"

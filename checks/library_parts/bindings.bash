@@ -41,12 +41,17 @@ if ! lacks go 'bindings/go and the example in Go'; then
     export GOFLAGS=-mod=readonly GOWORK=off GOPROXY=off GOTOOLCHAIN=local CGO_ENABLED=1
     # Of its own: the cache keeps what pkg-config said, and doesn't see where the library went.
     export GOCACHE=$work/gocache
-    [ -z "$(gofmt -l bindings/go examples/runtime)" ]
-    verdict $? "gofmt -l: $(gofmt -l bindings/go examples/runtime)"
+    [ -z "$(gofmt -l bindings/go examples)" ]
+    verdict $? "gofmt -l: $(gofmt -l bindings/go examples)"
     has 'go vet of bindings/go' env -C bindings/go go vet ./...
     has 'the tests of bindings/go' env -C bindings/go go test -count=1 ./...
     has 'a Go program' env -C examples/runtime/unpack-go go build -o "$work/unpack-go" . && has_go=yes
     cp "$work/unpack-go" "$work/used" && has 'a Go program takes the shared library' is_shared
+    has 'a Go program, over the archive' env -C examples/runtime/unpack-go \
+        go build -tags inroot_static -o "$work/unpack-go-archive" .
+    cp "$work/unpack-go-archive" "$work/used" && ! is_shared
+    verdict $? 'a Go program that is built with inroot_static takes the shared library'
+    has "the tests of examples/clients/securejoin" env -C examples/clients/securejoin go test -count=1 ./...
     if [ -e "$work/static" ]; then
         has 'a Go program, static' env -C examples/runtime/unpack-go \
             go build -ldflags '-linkmode external -extldflags -static' -o "$work/unpack-go-static" .

@@ -2,7 +2,7 @@
 # The packages of packaging/debian: built, looked at, installed below a root of their own, used, and removed.
 # checks/library reads this file.
 
-packed_names='golang-inroot-dev inroot libinroot-dev libinroot0 librust-inroot-dev'
+packed_names='golang-gimowheta-inroot-dev inroot libinroot-dev libinroot0 librust-inroot-dev'
 packages=$work/packages
 package_root=$work/package-root
 
@@ -63,6 +63,11 @@ packages_use() {
             GOFLAGS=-mod=readonly GOWORK=off GOPROXY=off GOTOOLCHAIN=local GOCACHE="$work/package-gocache" \
             PKG_CONFIG_SYSROOT_DIR="$package_root" PKG_CONFIG_PATH="$pkgconfig" PKG_CONFIG_ALLOW_SYSTEM_LIBS=1 \
             PKG_CONFIG_ALLOW_SYSTEM_CFLAGS=1 LD_LIBRARY_PATH="${pkgconfig%/pkgconfig}" go test -count=1 ./...
+        # As Debian's own packages are built: by the import path, below the directory of all of them.
+        has 'Go over the packages, by GOPATH' env -C examples/runtime/unpack-go GO111MODULE=off \
+            GOPATH="$package_root/usr/share/gocode" GOTOOLCHAIN=local GOCACHE="$work/package-gocache" \
+            PKG_CONFIG_SYSROOT_DIR="$package_root" PKG_CONFIG_PATH="$pkgconfig" PKG_CONFIG_ALLOW_SYSTEM_LIBS=1 \
+            PKG_CONFIG_ALLOW_SYSTEM_CFLAGS=1 go build -o "$work/package-unpack-go" .
     fi
     # shellcheck disable=SC2086
     has 'dpkg -P' into_root -P $packed_names inroot-dbgsym libinroot0-dbgsym
