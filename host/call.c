@@ -133,9 +133,8 @@ static void begin(struct inroot_driver *d, const struct inroot_request *asked)
     d->second_length = strlen(asked->second);
     d->counts = asked->op == INROOT_ASK_REMOVE_ALL;
     d->below = asked->flags & INROOT_BELOW;
-    d->proc = d->deepest = d->made = d->run.fd = d->from.fd = d->from.dir = INROOT_NONE;
-    d->from.first = d->from.second = false;
-    d->from.told = 0;
+    d->proc = d->deepest = d->made = d->run.fd = INROOT_NONE;
+    d->from = (struct inroot_from){.dir = INROOT_NONE, .fd = INROOT_NONE};
     d->name = d->step_name;
     inroot_ahead_begin(d);
 }

@@ -226,6 +226,7 @@ static bool pass_from_root(struct inroot_driver *d, uint64_t handle, int dir, co
     run->way = INROOT_SEEN_BELOW;
     run->left = 1;
     run->up = false;
+    run->placed = false;
     if (inroot_is_entry(dir, spelled->text, run->fd, &run->kind))
         return true;
     inroot_run_drop(d);

@@ -181,7 +181,10 @@ static inline void race_in(const char *title, const struct worker *control, int 
         [MADE] = "by a descriptor in a thread that a jailed one made",
         [BY_JAIL] = "in a jail",
         [BY_TRUST] = "in a jail that trusts",
+        [KEPT] = "by a root that stays",
+        [SEEN] = "by a root with INROOT_BELOW",
     };
+    _Static_assert(sizeof names / sizeof *names == PLACES, "each place has its name");
     struct worker workers[MOST_WORKERS] = {*control};
     sure(count < MOST_WORKERS ? 0 : -1, "more workers");
     for (int one = 0; one < count; one++)

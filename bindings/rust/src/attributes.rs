@@ -87,7 +87,10 @@ impl Handle {
 
 /// As the kernel has it. Before 1970 the nanoseconds count upwards as well.
 fn spec_of(time: Option<SystemTime>) -> ffi::Timespec {
-    let Some(time) = time else { return ffi::Timespec { seconds: 0, nanoseconds: UTIME_OMIT } };
+    let time = match time {
+        Some(time) => time,
+        None => return ffi::Timespec { seconds: 0, nanoseconds: UTIME_OMIT },
+    };
     match time.duration_since(UNIX_EPOCH) {
         Ok(after) => ffi::Timespec { seconds: after.as_secs() as i64, nanoseconds: i64::from(after.subsec_nanos()) },
         Err(before) => {
