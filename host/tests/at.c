@@ -385,17 +385,9 @@ static void make_tree(void)
 
 static void each(void)
 {
-    int at = root;
     if (is_old)
         refuse(SYS_openat2, ENOSYS);
-    if (jail_flags >= 0) {
-        int failed = inroot_jail_with(root, jail_flags);
-        if (failed == -EPERM)
-            _exit(NO_RIGHT);
-        errno = -failed;
-        sure(failed, "inroot_jail_with");
-        at = INROOT_JAIL;
-    }
+    int at = root_or_jail(root, jail_flags);
     int before = open_descriptors();
     parents(at);
     opens_from(at);

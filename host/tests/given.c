@@ -212,16 +212,8 @@ static void paths(int at)
 
 static void each(void)
 {
-    int at = root;
     umask(0);
-    if (jail_flags >= 0) {
-        int failed = inroot_jail_with(root, jail_flags);
-        if (failed == -EPERM)
-            _exit(NO_RIGHT);
-        errno = -failed;
-        sure(failed, "inroot_jail_with");
-        at = INROOT_JAIL;
-    }
+    int at = root_or_jail(root, jail_flags);
     int before = open_descriptors();
     each_kind(at);
     devices(at);

@@ -49,15 +49,7 @@ static void each(void)
 {
     static const int flags[] = {0, INROOT_NOFOLLOW, INROOT_ONE_BY_ONE, INROOT_NOFOLLOW | INROOT_ONE_BY_ONE};
     char text[64];
-    int at = root;
-    if (jail_flags >= 0) {
-        int failed = inroot_jail_with(root, jail_flags);
-        if (failed == -EPERM)
-            _exit(NO_RIGHT);
-        errno = -failed;
-        sure(failed, "inroot_jail_with");
-        at = INROOT_JAIL;
-    }
+    int at = root_or_jail(root, jail_flags);
     int before = open_descriptors();
     for (int one = 0; one < PATHS; one++)
         for (size_t with = 0; with < sizeof flags / sizeof *flags; with++)

@@ -187,6 +187,19 @@ static inline int take_gaps(int root)
     return fd;
 }
 
+/* What calls take as the root: in a jail by these flags, or where they are negative the descriptor. */
+static inline int root_or_jail(int root, int flags)
+{
+    if (flags < 0)
+        return root;
+    int failed = inroot_jail_with(root, flags);
+    if (failed == -EPERM)
+        _exit(NO_RIGHT);
+    errno = -failed;
+    sure(failed, "inroot_jail_with");
+    return INROOT_JAIL;
+}
+
 /* Has the calls ask a /proc that is open already, so that descriptors can be counted. */
 static inline void open_proc(void)
 {
