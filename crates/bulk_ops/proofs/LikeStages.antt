@@ -72,8 +72,8 @@ left_there names done lt = omega (arith, length-drop done names)
 
 kind_is : (call : Call) (stage : Stage) → IsStage call stage → kind_of (making_of stage) ≡ kind_at stage
 kind_is call (Walking walker) is = refl
-kind_is call (MakingIn held chain) is = next_kind _ 1 (λ n left. refl) _ _ (to_come chain.value) (left_there chain.value.names chain.value.done is)
-kind_is call (Opening held chain) is = next_kind _ 2 (λ n left. refl) _ _ (to_come chain.value) (left_there chain.value.names chain.value.done is)
+kind_is call (MakingIn held chain) is = next_kind _ 1 (λ n left. refl) _ _ (to_come chain.value) (left_there chain.value.names chain.value.done is.1)
+kind_is call (Opening held chain) is = next_kind _ 2 (λ n left. refl) _ _ (to_come chain.value) (left_there chain.value.names chain.value.done is.1)
 kind_is call (Leaving old new chain) is = refl
 kind_is call (Ending held chain) is = refl
 kind_is call (Closing first second error) is = refl

@@ -12,6 +12,7 @@ use Rattle.path_text.specs.Names.{same_names}
 use Rattle.tree_model.specs.declared.answer.Answer.{Answer}
 use Rattle.tree_model.specs.declared.answer.Answer.TheVariants.{Opened, Text, Names, NotBelow, Listed, Done, Refused}
 use Rattle.tree_model.specs.declared.step.StepOf.TheVariants.{Open, MakeDir}
+use Rattle.handles.specs.declared.owner.Owner.{Owner}
 use Rattle.handles.specs.Objects.{ReachedObject, StandingObject, reached_by}
 use Rattle.handles.proofs.SameNames.{same_where_equal, other_where_not}
 use Rattle.step_resolver.specs.Asked.{asked}
@@ -122,19 +123,19 @@ made_otherwise : (way : Way) (held : Handle) (names : List (List ℕ)) (n : List
 made_otherwise way held names n left Done ne = absurd (ne refl)
 made_otherwise way held names n left answer ne = refl
 
-reached_is : (answer : Answer) (new : ReachedObject) → Some new ≡ reached_by answer → answer ≡ Opened new.handle new.node new.kind
-reached_is (Opened h x k) new e = ap (λ (o : ReachedObject). Opened o.handle o.node o.kind) (same_Some _ _ (sym e))
-reached_is (Text text) new e = cc (e)
-reached_is (Names names) new e = cc (e)
-reached_is NotBelow new e = cc (e)
-reached_is (Listed names) new e = cc (e)
-reached_is Done new e = cc (e)
-reached_is (Refused error) new e = cc (e)
+reached_is : (owner : Owner) (answer : Answer) (new : ReachedObject) → Some new ≡ reached_by owner answer → answer ≡ Opened new.handle new.node new.kind
+reached_is owner (Opened h x k) new e = ap (λ (o : ReachedObject). Opened o.handle o.node o.kind) (same_Some _ _ (sym e))
+reached_is owner (Text text) new e = cc (e)
+reached_is owner (Names names) new e = cc (e)
+reached_is owner NotBelow new e = cc (e)
+reached_is owner (Listed names) new e = cc (e)
+reached_is owner Done new e = cc (e)
+reached_is owner (Refused error) new e = cc (e)
 
-unreached : (way : Way) (held : Handle) (names : List (List ℕ)) (n : List ℕ) (left : List (List ℕ)) (answer : Answer) → None ≡ reached_by answer
+unreached : (way : Way) (held : Handle) (names : List (List ℕ)) (n : List ℕ) (left : List (List ℕ)) (owner : Owner) (answer : Answer) → None ≡ reached_by owner answer
     → takes way true (opening held names n left) answer ≡ gives_up (held.number ∷ []) (raced_if_missing (refusal_of answer))
-unreached way held names n left (Opened h x k) e = cc (e)
-unreached way held names n left answer e = refl
+unreached way held names n left owner (Opened h x k) e = cc (e)
+unreached way held names n left owner answer e = refl
 
 module _ (way : Way) (held : ReachedObject) (chain : Chain) (less : chain.done < length chain.names) where
   abbrev handle : Handle
@@ -177,28 +178,28 @@ module _ (way : Way) (held : ReachedObject) (chain : Chain) (less : chain.done <
       ∙ sym (made_otherwise way handle names next.name (drop (suc chain.done) chain.names) answer ne)
       ∙ ap (λ (m : Making). takes way true m answer) (sym is_making)
 
-  pub name_unopened : (answer : Answer) → None ≡ reached_by answer → gives_up (held.handle ∷ []) (raced_if_missing (refusal_of answer)) ≡ takes way true at_opening answer
-  name_unopened answer e =
-      sym (unreached way handle names next.name (drop (suc chain.done) chain.names) answer e) ∙ ap (λ (m : Making). takes way true m answer) (sym is_opening)
+  pub name_unopened : (owner : Owner) (answer : Answer) → None ≡ reached_by owner answer → gives_up (held.handle ∷ []) (raced_if_missing (refusal_of answer)) ≡ takes way true at_opening answer
+  name_unopened owner answer e =
+      sym (unreached way handle names next.name (drop (suc chain.done) chain.names) owner answer e) ∙ ap (λ (m : Making). takes way true m answer) (sym is_opening)
 
-  opened_takes : (answer : Answer) (new : ReachedObject) → Some new ≡ reached_by answer
+  opened_takes : (owner : Owner) (answer : Answer) (new : ReachedObject) → Some new ≡ reached_by owner answer
       → takes way true at_opening answer ≡ enters handle names next.name (drop (suc chain.done) chain.names) (handle_of new)
-  opened_takes answer new e =
-      ap (λ (a : Answer). takes way true at_opening a) (reached_is answer new e)
+  opened_takes owner answer new e =
+      ap (λ (a : Answer). takes way true at_opening a) (reached_is owner answer new e)
       ∙ ap (λ (m : Making). takes way true m (Opened new.handle new.node new.kind)) is_opening
 
-  pub dir_opened : (answer : Answer) (new : ReachedObject) → Some new ≡ reached_by answer → is_dir_kind new.kind ≡ true
+  pub dir_opened : (owner : Owner) (answer : Answer) (new : ReachedObject) → Some new ≡ reached_by owner answer → is_dir_kind new.kind ≡ true
       → more (gone_into held new chain) ≡ takes way true at_opening answer
-  dir_opened answer new e dir =
+  dir_opened owner answer new e dir =
       ap (λ (ns : List (List ℕ)). more (leaving held.handle (handle_of new) ns (drop (suc chain.done) chain.names))) next.passes
       ∙ sym (ap (λ b. if b then more (leaving held.handle (handle_of new) (next.name ∷ names) (drop (suc chain.done) chain.names)) else gives_up (new.handle ∷ held.handle ∷ []) NotDir) dir)
-      ∙ sym (opened_takes answer new e)
+      ∙ sym (opened_takes owner answer new e)
 
-  pub other_opened : (answer : Answer) (new : ReachedObject) → Some new ≡ reached_by answer → is_dir_kind new.kind ≡ false
+  pub other_opened : (owner : Owner) (answer : Answer) (new : ReachedObject) → Some new ≡ reached_by owner answer → is_dir_kind new.kind ≡ false
       → gives_up (new.handle ∷ held.handle ∷ []) NotDir ≡ takes way true at_opening answer
-  other_opened answer new e ne =
+  other_opened owner answer new e ne =
       sym (ap (λ b. if b then more (leaving held.handle (handle_of new) (next.name ∷ names) (drop (suc chain.done) chain.names)) else gives_up (new.handle ∷ held.handle ∷ []) NotDir) ne)
-      ∙ sym (opened_takes answer new e)
+      ∙ sym (opened_takes owner answer new e)
 
 -- ---- the last directory
 

@@ -65,13 +65,15 @@ gone_into old new chain = leaving old.handle (handle_of new) (reverse (take (suc
 
 -- ---- what every call keeps
 
--- the walk is the call's own; a name is to come where one is due; and no more were passed than there are
+-- the walk, or what is held at the names passed, is the call's own; a name is to come where one is due; and no more
+-- were passed than there are
 abbrev pub IsStage : Call → Stage → Type 0
 IsStage call (Walking walker) = (walker.owner ≡ call.root.owner) × (walker.way ≡ way_of call)
-IsStage call (MakingIn held chain) = chain.value.done < length chain.value.names
-IsStage call (Opening held chain) = chain.value.done < length chain.value.names
-IsStage call (Leaving old new chain) = chain.value.done ≤ length chain.value.names
-IsStage call (Ending held chain) = Unit {0}
+IsStage call (MakingIn held chain) =
+    (held.owner ≡ call.root.owner) × (chain.value.done < length chain.value.names)
+IsStage call (Opening held chain) = (held.owner ≡ call.root.owner) × (chain.value.done < length chain.value.names)
+IsStage call (Leaving old new chain) = (new.owner ≡ call.root.owner) × (chain.value.done ≤ length chain.value.names)
+IsStage call (Ending held chain) = held.owner ≡ call.root.owner
 IsStage call (Closing first second error) = Unit {0}
 
 -- ---- turns

@@ -14,7 +14,7 @@ pub(crate) fn held_again(held: &Reached) -> Reached
         node: held.node(),
         kind: held.kind(),
     };
-    match Reached::of(&answer) {
+    match Reached::of(held.owner(), &answer) {
         Some(again) => again,
         // Something was opened.
         None => unreachable!(),

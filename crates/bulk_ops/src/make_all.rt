@@ -257,6 +257,7 @@ impl Call {
 
     // The deepest directory is held: the rest of the path is looked through, before anything is made.
     fn begins_to_make(&self, alloc: Global, deepest: Standing, rest: &Parts) -> BulkTurn<MkdirAll>
+        requires { deepest.owner ≡ self.now.root.owner }
         ensures turn { (room : Bool) × IsTurn result
             (begins_to_make room (standing_handle deepest) (reverse deepest.names) (asked true rest.now)
             (rest_fault (asked true rest.now))) }
@@ -273,7 +274,8 @@ impl Call {
 
     // The next name is made in what is held; after the last one it is asked where that stands.
     fn goes_down(&self, held: Reached, chain: Box<Chain>) -> BulkTurn<MkdirAll>
-        requires { chain.value.done ≤ length chain.value.names }
+        requires owner { held.owner ≡ self.now.root.owner }
+        requires within { chain.value.done ≤ length chain.value.names }
         ensures turn { IsTurn result (goes_down (handle_of held) (passed chain.value) (to_come chain.value)) }
         ensures kept { Keeps self.now.root.owner (way_of self.now) result }
     {
@@ -286,7 +288,8 @@ impl Call {
 
     // The name was made, or was there already.
     fn name_made(&self, held: Reached, chain: Box<Chain>, answer: Answer) -> BulkTurn<MkdirAll>
-        requires { chain.value.done < length chain.value.names }
+        requires owner { held.owner ≡ self.now.root.owner }
+        requires more { chain.value.done < length chain.value.names }
         ensures turn { TakesTo (way_of self.now) (making_of (Stage.Making held chain)) answer result }
         ensures kept { Keeps self.now.root.owner (way_of self.now) result }
     {
@@ -305,7 +308,7 @@ impl Call {
         ensures turn { TakesTo (way_of self.now) (making_of (Stage.Opening held chain)) answer result }
         ensures kept { Keeps self.now.root.owner (way_of self.now) result }
     {
-        match Reached::of(&answer) {
+        match Reached::of(self.root.owner, &answer) {
             None => self.closes(held, None, raced_if_missing(refusal_of(&answer))),
             Some(new) => {
                 if is_directory(new.kind()) {
@@ -319,7 +322,8 @@ impl Call {
 
     // The directory that was opened is held, and the one above is closed.
     fn enters(&self, old: Reached, new: Reached, mut chain: Box<Chain>) -> BulkTurn<MkdirAll>
-        requires { chain.value.done < length chain.value.names }
+        requires owner { new.owner ≡ self.now.root.owner }
+        requires more { chain.value.done < length chain.value.names }
         ensures turn { IsTurn result (more (gone_into old new chain.value)) }
         ensures kept { Keeps self.now.root.owner (way_of self.now) result }
     {
@@ -332,11 +336,12 @@ impl Call {
 
     // The place of the last directory was asked.
     fn ended(&self, held: Reached, chain: Box<Chain>, answer: Answer) -> BulkTurn<MkdirAll>
+        requires { held.owner ≡ self.now.root.owner }
         ensures turn { TakesTo (way_of self.now) (making_of (Stage.Ending held chain)) answer result }
         ensures kept { Keeps self.now.root.owner (way_of self.now) result }
     {
         let refusal = check_refusal(&answer);
-        match held.judge(self.root.owner, answer, &chain.names) {
+        match held.judge(answer, &chain.names) {
             Ok(standing) => BulkTurn::Made(standing),
             Err(reached) => self.closes(reached, None, refusal),
         }

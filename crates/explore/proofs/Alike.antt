@@ -1,7 +1,4 @@
 -- Calls, steps and seats are the same but for the numbers of handles; and what a turn leaves as it was.
-pub mod Walks
-pub mod Bulk
-pub mod Calls
 pub mod Steps
 pub mod Turns
 pub mod OutsideAlike

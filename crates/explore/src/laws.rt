@@ -2,18 +2,9 @@
 ghost use Rattle.std.specs.Prelude.{◌≡◌};
 ghost use Rattle.explore.specs.declared.jobs.TheConstants.{JOBS_MAX};
 ghost use Rattle.explore.specs.Concluded.{FoundClassesHaveLeasts, CountsConclude};
-ghost use Rattle.explore.specs.Laws.{CallsBeginBlindly, StepsAreDueBlindly, AnswersAreTakenBlindly};
 ghost use Rattle.explore.specs.Search.{ChosenListsStandForAll, ReportsAreOfFullLists, FullListsAreReported};
 ghost use Rattle.explore.specs.Merged.{WordsAreLists};
 ghost use Rattle.explore.specs.Want.{WantIsTold, WantStays, RunsWithoutWantAreFull};
-
-/// A call looks at no handle's number. With other numbers in place of its handles' it begins in the same way, the same
-/// steps are due by those numbers, and their answers make the same of it.
-pub fn calls_are_blind()
-    ensures begins { CallsBeginBlindly }
-    ensures due { StepsAreDueBlindly }
-    ensures takes { AnswersAreTakenBlindly }
-{}
 
 /// Want of memory is told: a turn that lacked some is the turn with memory, or else its actor's call closes what it
 /// holds and fails so, whatever comes. So a run to the end without such a reply is the run with memory for all.

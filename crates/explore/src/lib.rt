@@ -62,8 +62,8 @@ pub use beginnings::Beginnings;
 pub use found::{Class, Ending, Findings};
 pub use jobs::{JOBS_MAX, Jobs};
 pub use laws::{
-    calls_are_blind, chosen_lists_stand_for_all, counts_conclude, jobs_limit_is_a_number,
-    want_is_told, words_are_lists,
+    chosen_lists_stand_for_all, counts_conclude, jobs_limit_is_a_number, want_is_told,
+    words_are_lists,
 };
 pub use limits::{Limits, Scope, SearchFault};
 pub use local_laws::{same_parts_go_alike, turns_are_local};

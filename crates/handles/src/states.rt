@@ -11,10 +11,11 @@ mod checked;
 mod copy;
 mod unchecked;
 
-/// An object that was opened, by its handle: not checked. It can be judged or closed, and not let go. Whose handle it
-/// is, whoever opened it knows. Contracts see it as a `ReachedObject`: the same three.
+/// An object that was opened, by its owner's handle: not checked. It can be judged or closed, and not let go. Contracts
+/// see it as a `ReachedObject`: the same four.
 #[derive(Debug)]
 pub struct Reached {
+    owner: Owner,
     handle: HandleNo,
     node: Node,
     kind: Kind,
@@ -25,16 +26,18 @@ impl Model for Reached {
 
     ghost Value = { ReachedObject };
 
-    ghost view = { λ r. record { handle = r.handle; node = r.node; kind = r.kind } };
+    ghost view = { λ r. record { owner = r.owner; handle = r.handle; node = r.node; kind = r.kind } };
 }
 
 impl Reached {
-    /// The object that an answer to a step opened, where it opened one.
-    pub fn of(answer: &Answer) -> Option<Reached>
-        ensures { result ≡ reached_by answer.now }
+    /// The object that an answer to a step of this owner's opened, where it opened one. From then on the object keeps
+    /// its owner.
+    pub fn of(owner: Owner, answer: &Answer) -> Option<Reached>
+        ensures { result ≡ reached_by owner answer.now }
     {
         match answer {
             Answer::Opened { handle, node, kind } => Some(Reached {
+                owner,
                 handle: *handle,
                 node: *node,
                 kind: *kind,
@@ -44,18 +47,18 @@ impl Reached {
     }
 
     /// Judges the answer to a NameBelow that the owner made of this object. If the answer has the expected names, all
-    /// of them and no more, this gives the owner's `Standing`; otherwise it gives the same `Reached` back.
+    /// of them and no more, this gives the same owner's `Standing`; otherwise it gives the same `Reached` back.
     #[tactic(auto, using(crate::proofs::SameNames::same_where_equal, crate::proofs::SameNames::other_where_not))]
-    pub fn judge(self, owner: Owner, answer: Answer, expected: &Names) -> Result<Standing, Reached>
-        ensures exact { result ≡ judged self owner answer expected.now }
+    pub fn judge(self, answer: Answer, expected: &Names) -> Result<Standing, Reached>
+        ensures exact { result ≡ judged self answer expected.now }
         ensures ok { IfOk result (λ standing.
-            (answer ≡ Answer.Names expected.now) × (standing ≡ standing_at self owner expected.now)) }
+            (answer ≡ Answer.Names expected.now) × (standing ≡ standing_at self expected.now)) }
         ensures err { IfErr result (λ reached. (answer ≢ Answer.Names expected.now) × (reached ≡ self)) }
     {
         match answer {
             Answer::Names(names) => {
                 if names.same(expected) {
-                    Ok(self.standing_at(owner, names))
+                    Ok(self.standing_at(names))
                 } else {
                     Err(self)
                 }
@@ -64,11 +67,16 @@ impl Reached {
         }
     }
 
-    // The same, the owner's, standing at these names.
-    fn standing_at(self, owner: Owner, names: Names) -> Standing
-        ensures { result ≡ standing_at self owner names }
+    // The same, standing at these names.
+    fn standing_at(self, names: Names) -> Standing
+        ensures { result ≡ standing_at self names }
     {
-        let Reached { handle, node, kind } = self;
+        let Reached {
+            owner,
+            handle,
+            node,
+            kind,
+        } = self;
         Standing {
             owner,
             handle,
@@ -84,6 +92,7 @@ impl Reached {
     {
         // taken apart, since it can't be let go
         let Reached {
+            owner: _,
             handle,
             node: _,
             kind: _,
@@ -119,11 +128,12 @@ impl Standing {
         StepOf::Close(self.handle)
     }
 
-    /// The object by the same handle, its place to be checked again: it may have been moved since.
+    /// The same owner's object by the same handle, its place to be checked again: it may have been moved since.
     pub fn onward(self) -> Reached
         ensures { result ≡ unchecked self }
     {
         Reached {
+            owner: self.owner,
             handle: self.handle,
             node: self.node,
             kind: self.kind,

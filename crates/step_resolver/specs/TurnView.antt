@@ -11,7 +11,7 @@ use Rattle.step_resolver.specs.Asked.{asked, follows}
 use Rattle.step_resolver.specs.Meaning.{LINKS_MAX}
 use Rattle.step_resolver.specs.Order.{Way, Handle, root_itself, holds, Walking, opening, reading, rising, judging, duping, ending, closing, Turn, more, found, partial, failed, starts, take, steps_left_at}
 use Rattle.walk_plan.specs.Plan.{is_own}
-use Rattle.step_resolver.specs.View.{course_way, walking_of, own_to_come, IsPending}
+use Rattle.step_resolver.specs.View.{course_way, walking_of, own_to_come, IsHeldBy, IsPending}
 use Rattle.step_resolver.specs.declared.course.Course.{Course}
 use Rattle.step_resolver.specs.declared.pending.Next.{Next}
 use Rattle.step_resolver.specs.declared.pending.Next.TheVariants as next
@@ -84,10 +84,12 @@ abbrev pub IsNext : Course → Option ReachedObject → Next → Type 0
 IsNext course place (next.Due pending) = IsPending course.plan place pending
 IsNext course place (next.Failed error) = place ≡ None
 
--- the root, what the walk is after and its restrictions stay the same; and what comes next is of this course
+-- the root, what the walk is after and its restrictions stay the same; what comes next is of this course, and what is
+-- held then is the root's owner's
 abbrev pub KeepsCourse : Course → Course → Option ReachedObject → Next → Type 0
 KeepsCourse old new place next =
     (new.root ≡ old.root) × (new.plan.goal ≡ old.plan.goal) × (new.plan.flags ≡ old.plan.flags) × IsNext new place next
+    × IsHeldBy old.root.owner place
 
 -- what comes after the last check, as a turn; the rest of a partial end is in the plan
 abbrev pub end_turn : Course → End → Turn

@@ -126,6 +126,11 @@ view_of course place pending =
 
 -- ---- what every walk keeps
 
+-- what is held is this owner's
+abbrev pub IsHeldBy : Owner → Option ReachedObject → Type 0
+IsHeldBy owner None = Unit {0}
+IsHeldBy owner (Some held) = held.owner ≡ owner
+
 -- no name was passed where nothing is held
 abbrev pub IsPlace : List (List ℕ) → Option ReachedObject → Type 0
 IsPlace names None = names ≡ []

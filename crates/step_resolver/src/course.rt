@@ -1,6 +1,6 @@
 //! A walk apart from its pending step, and what each answer comes to.
-ghost use Rattle.std.specs.Prelude.{◌≡◌, [], true, false, Option, Some, None, IsSome, option_to_list, reverse};
-ghost use Rattle.handles.specs.Objects.{reached_by};
+ghost use Rattle.std.specs.Prelude.{◌≡◌, [], true, false, Option, Some, None, IsSome, IsTrue, option_to_list, reverse};
+ghost use Rattle.handles.specs.Objects.{is_opened};
 ghost use Rattle.path_text.specs.declared.part.Part.TheVariants.{Up};
 ghost use Rattle.walk_plan.specs.Plan.{next_part, is_own, follows_next_link, stayed};
 ghost use Rattle.step_resolver.specs.Order.{gives, ending, gives_up, closing, at_end, goes_on, closes, comes, handle_at, more, refused_open, follows_link, is_followed};
@@ -106,7 +106,7 @@ fn all_given_up(place: Option<Reached>) -> Option<HandleNo>
 }
 
 impl Course {
-    ghost use Rattle.step_resolver.specs.View.{course_way, position_at, IsPlace, IsAfter};
+    ghost use Rattle.step_resolver.specs.View.{course_way, position_at, IsHeldBy, IsPlace, IsAfter};
     ghost use Rattle.step_resolver.specs.TurnView.{next_turn, IsDue, KeepsCourse, TakesOn, TakesTo, end_turn, IsEnd};
 
     /// The handle through which the place is reached.
@@ -139,7 +139,8 @@ impl Course {
         second: Option<Reached>,
         after: AfterClose,
     ) -> Next
-        requires { IsAfter self.now.plan.names place.now after }
+        requires after { IsAfter self.now.plan.names place.now after }
+        requires owner { IsHeldBy self.now.root.owner place.now }
         ensures turn { next_turn self.now place.now result
             ≡ more (closing first.handle (numbers_of second) (after_of self.now.plan place.now after)) }
         ensures kept { KeepsCourse self.now self.now place.now result }
@@ -155,6 +156,7 @@ impl Course {
     // The end, or the place in which the first part left is missing: something is held for it, and its place asked.
     fn end(&self, place: &Option<Reached>) -> Next
         requires place { IsPlace self.now.plan.names place.now }
+        requires owner { IsHeldBy self.now.root.owner place.now }
         requires own { self.now.plan.inner ≡ [] }
         ensures turn { next_turn self.now place.now result
             ≡ at_end (position_at self.now place.now) (own_to_come self.now.plan) }
@@ -170,7 +172,8 @@ impl Course {
     /// Goes on from the place: the parts that need no step are passed, up to the step that is due.
     #[tactic(auto, using(crate::proofs::WalkParts::next_parts))]
     pub(crate) fn go_on(&mut self, place: &mut Option<Reached>) -> Next
-        requires { IsPlace self.old.plan.names place.old }
+        requires place { IsPlace self.old.plan.names place.old }
+        requires owner { IsHeldBy self.old.root.owner place.old }
         ensures turn { next_turn self.new place.new result
             ≡ goes_on (course_way self.old) (position_at self.old place.old) (todo_of self.old.plan) }
         ensures kept { KeepsCourse self.old self.new place.new result }
@@ -193,6 +196,7 @@ impl Course {
     #[tactic(auto, using(crate::proofs::WalkParts::next_parts))]
     fn move_on(&mut self, place: &mut Option<Reached>) -> Next
         requires place { IsPlace self.old.plan.names place.old }
+        requires owner { IsHeldBy self.old.root.owner place.old }
         requires directory { is_directory_at place.old ≡ true }
         requires moves { stays self.old.plan ≡ false }
         ensures turn { next_turn self.new place.new result
@@ -219,6 +223,7 @@ impl Course {
     #[tactic(auto, using(crate::proofs::WalkParts::rise_crosses, crate::proofs::WalkParts::rises))]
     fn rise(&mut self, place: &mut Option<Reached>) -> Next
         requires place { IsPlace self.old.plan.names place.old }
+        requires owner { IsHeldBy self.old.root.owner place.old }
         requires directory { is_directory_at place.old ≡ true }
         requires up { next_part self.old.plan ≡ Some Up }
         requires moves { stays self.old.plan ≡ false }
@@ -244,13 +249,14 @@ impl Course {
     /// also is if something is held, since that is closed first.
     pub(crate) fn opened(&mut self, place: &mut Option<Reached>, answer: &Answer) -> Next
         requires place { IsPlace self.old.plan.names place.old }
+        requires owner { IsHeldBy self.old.root.owner place.old }
         requires named { IsAtName self.old.plan }
         ensures turn { TakesOn self.old place.old Pending.Opening answer.now self.new place.new result }
         ensures kept { KeepsCourse self.old self.new place.new result }
         ensures due { IsSome place.old → IsDue result }
-        ensures opened { IsSome (reached_by answer.now) → IsDue result }
+        ensures opened { IsTrue (is_opened answer.now) → IsDue result }
     {
-        match Reached::of(answer) {
+        match Reached::of(self.root.owner, answer) {
             None => self.not_opened(place, refusal_of(answer)),
             Some(new) => {
                 if self.must_follow(new.kind()) {
@@ -272,6 +278,7 @@ impl Course {
     // The name wasn't opened. A missing one of the caller's own is where the deepest directory ends.
     fn not_opened(&self, place: &mut Option<Reached>, error: Errno) -> Next
         requires place { IsPlace self.now.plan.names place.old }
+        requires owner { IsHeldBy self.now.root.owner place.old }
         requires named { IsAtName self.now.plan }
         ensures turn { next_turn self.now place.new result
             ≡ refused_open (course_way self.now) (position_at self.now place.old) (is_own self.now.plan)
@@ -290,6 +297,7 @@ impl Course {
     // A link that must be followed: its text is read, unless no link may be followed any more, or none at all.
     fn follow(&self, place: &mut Option<Reached>, link: Reached) -> Next
         requires place { IsPlace self.now.plan.names place.old }
+        requires owner { IsHeldBy self.now.root.owner place.old }
         requires named { IsAtName self.now.plan }
         ensures turn { next_turn self.now place.new result
             ≡ follows_link (course_way self.now) (position_at self.now place.old) (handle_of link)
@@ -319,6 +327,7 @@ impl Course {
     #[tactic(auto, using(crate::proofs::WalkAnswers::name_passed))]
     fn enter(&mut self, place: &mut Option<Reached>, new: Reached) -> Next
         requires place { IsPlace self.old.plan.names place.old }
+        requires owner { new.owner ≡ self.old.root.owner }
         requires named { IsAtName self.old.plan }
         ensures turn { EntersBy (course_way self.old) (position_at self.old place.old)
             (name_in (next_part self.old.plan)) (handle_of new) (todo_of (stayed self.old.plan))
@@ -344,6 +353,7 @@ impl Course {
         answer: Answer,
     ) -> Next
         requires place { IsPlace self.old.plan.names place.old }
+        requires owner { IsHeldBy self.old.root.owner place.old }
         requires may { MayFollow self.old.plan }
         ensures turn { TakesOn self.old place.old (Pending.Reading link) answer self.new place.new result }
         ensures kept { KeepsCourse self.old self.new place.new result }
@@ -369,7 +379,7 @@ impl Course {
         ensures kept { KeepsCourse self.now self.now place.new result }
     {
         let old = taken(place);
-        match Reached::of(&answer) {
+        match Reached::of(self.root.owner, &answer) {
             Some(new) => {
                 hold(place, new);
                 self.close(place, old, None, AfterClose::Judges)
@@ -384,13 +394,14 @@ impl Course {
     /// The place of a parent was asked: the walk goes on from it only where it stands at the names passed.
     #[tactic(auto, using(crate::proofs::WalkAnswers::judging_fails))]
     pub(crate) fn judged(&mut self, place: &mut Option<Reached>, answer: Answer) -> Next
-        requires { IsSome place.old }
+        requires place { IsSome place.old }
+        requires owner { IsHeldBy self.old.root.owner place.old }
         ensures turn { TakesOn self.old place.old Pending.Judging answer self.new place.new result }
         ensures kept { KeepsCourse self.old self.new place.new result }
     {
         let refusal = check_refusal(&answer);
         let new = taken(place);
-        match new.judge(self.root.owner, answer, self.plan.names()) {
+        match new.judge(answer, self.plan.names()) {
             Ok(standing) => {
                 hold(place, standing.onward());
                 self.go_on(place)
@@ -407,7 +418,7 @@ impl Course {
         ensures turn { TakesOn self.now place.old Pending.Duping answer self.now place.new result }
         ensures kept { KeepsCourse self.now self.now place.new result }
     {
-        match Reached::of(&answer) {
+        match Reached::of(self.root.owner, &answer) {
             Some(held) => {
                 hold(place, held);
                 Next::Due(Pending::Ending)
@@ -419,14 +430,15 @@ impl Course {
     /// The place of what is held at the end was asked: it is the end only where it stands at the names passed.
     #[tactic(auto, using(crate::proofs::WalkAnswers::ending_fails))]
     pub(crate) fn ended(&self, held: Reached, answer: Answer) -> End
-        requires { self.now.plan.inner ≡ [] }
+        requires owner { held.owner ≡ self.now.root.owner }
+        requires own { self.now.plan.inner ≡ [] }
         ensures turn { TakesTo (course_way self.now)
             (ending (handle_of held) (reverse self.now.plan.names) (own_to_come self.now.plan)) answer
             (end_turn self.now result) }
         ensures kept { IsEnd self.now result }
     {
         let refusal = check_refusal(&answer);
-        match held.judge(self.root.owner, answer, self.plan.names()) {
+        match held.judge(answer, self.plan.names()) {
             Ok(standing) => {
                 if self.plan.is_own() {
                     End::Partial(standing)
@@ -449,7 +461,8 @@ impl Course {
         second: Option<HandleNo>,
         after: AfterClose,
     ) -> Next
-        requires { IsAfter self.old.plan.names place.old after }
+        requires after { IsAfter self.old.plan.names place.old after }
+        requires owner { IsHeldBy self.old.root.owner place.old }
         ensures turn { next_turn self.new place.new result
             ≡ closes (course_way self.old) (option_to_list second) (after_of self.old.plan place.old after) }
         ensures kept { KeepsCourse self.old self.new place.new result }
@@ -466,7 +479,8 @@ impl Course {
 
     // All was closed.
     fn come(&mut self, place: &mut Option<Reached>, after: AfterClose) -> Next
-        requires { IsAfter self.old.plan.names place.old after }
+        requires after { IsAfter self.old.plan.names place.old after }
+        requires owner { IsHeldBy self.old.root.owner place.old }
         ensures turn { next_turn self.new place.new result
             ≡ comes (course_way self.old) (after_of self.old.plan place.old after) }
         ensures kept { KeepsCourse self.old self.new place.new result }

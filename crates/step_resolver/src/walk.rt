@@ -1,6 +1,6 @@
 //! A walk along a path below a root.
-ghost use Rattle.std.specs.Prelude.{◌≡◌, ◌<◌, ◌≤◌, ◌↔◌, [], Bool, true, false, IsSome, IsTrue, length};
-ghost use Rattle.handles.specs.Objects.{reached_by};
+ghost use Rattle.std.specs.Prelude.{◌≡◌, ◌<◌, ◌≤◌, [], Bool, true, false, IsTrue, length};
+ghost use Rattle.handles.specs.Objects.{is_opened};
 ghost use Rattle.path_text.specs.declared.path.TheConstants.{PARTS_MAX};
 ghost use Rattle.step_resolver.specs.declared.pending.Next.TheVariants.{Due};
 ghost use Rattle.step_resolver.specs.View.{HoldsNoLink};
@@ -54,11 +54,12 @@ impl Model for Walk {
 
     ghost Value = { WalkView };
 
-    ghost use Rattle.step_resolver.specs.View.{view_of, IsPending};
+    ghost use Rattle.step_resolver.specs.View.{view_of, IsHeldBy, IsPending};
 
     ghost view = { λ w. view_of w.state.value.course w.state.value.place w.state.value.pending };
 
-    ghost invariant = { λ w. IsPending w.state.value.course.plan w.state.value.place w.state.value.pending };
+    ghost invariant = { λ w. IsPending w.state.value.course.plan w.state.value.place w.state.value.pending
+        × IsHeldBy w.state.value.course.root.owner w.state.value.place };
 }
 
 /// What a walk has come to.
@@ -76,7 +77,7 @@ pub enum Turn {
 
 impl Walk {
     ghost use Rattle.step_resolver.specs.Order.{due, for_walk, goes_on, more, passes, root_itself, steps_left};
-    ghost use Rattle.step_resolver.specs.View.{way_from, course_way, todo_of, walking_of, IsPending, is_ending};
+    ghost use Rattle.step_resolver.specs.View.{way_from, course_way, todo_of, walking_of, IsHeldBy, IsPending, is_ending};
     ghost use Rattle.step_resolver.specs.TurnView.{turn_view, Keeps, StartsTo, TakesTo, steps_to_come, STEPS_MAX};
     ghost use Rattle.step_resolver.specs.TurnsTell.{TellsBegun, TellsTaken};
 
@@ -277,6 +278,7 @@ impl Walk {
     #[inline(never)]
     fn ended(mut state: Box<State>, answer: Answer) -> Turn
         requires pending { IsPending state.value.course.plan state.value.place state.value.pending }
+        requires owner { IsHeldBy state.value.course.root.owner state.value.place }
         requires ending { is_ending state.value.pending ≡ true }
         ensures turn { TakesTo (course_way state.value.course)
             (walking_of state.value.course.plan state.value.place state.value.pending) answer
@@ -313,7 +315,7 @@ fn goes_on(pending: &mut Pending, next: Next)
 
 // Whether an object was opened.
 fn has_opened(answer: &Answer) -> bool
-    ensures { IsTrue result ↔ IsSome (reached_by answer.now) }
+    ensures { result ≡ is_opened answer.now }
 {
     matches!(
         answer,
@@ -326,13 +328,14 @@ fn has_opened(answer: &Answer) -> bool
 }
 
 impl State {
-    ghost use Rattle.step_resolver.specs.View.{HoldsNothing, HoldsNoLink, IsPending, is_ending};
+    ghost use Rattle.step_resolver.specs.View.{HoldsNothing, HoldsNoLink, IsHeldBy, IsPending, is_ending};
     ghost use Rattle.step_resolver.specs.TurnView.{TakesOn, KeepsCourse};
     ghost use Rattle.walk_plan.specs.Plan.{is_own};
 
     // What the answer to the pending step comes to, where that isn't the last check.
     fn answered(&mut self, answer: Answer) -> Next
         requires pending { IsPending self.old.course.plan self.old.place self.old.pending }
+        requires owner { IsHeldBy self.old.course.root.owner self.old.place }
         requires goes_on { is_ending self.old.pending ≡ false }
         ensures turn { TakesOn self.old.course self.old.place self.old.pending answer
             self.new.course self.new.place result }
@@ -361,6 +364,7 @@ impl State {
     // The same of a link's text.
     fn read(&mut self, answer: Answer) -> Next
         requires pending { IsPending self.old.course.plan self.old.place self.old.pending }
+        requires owner { IsHeldBy self.old.course.root.owner self.old.place }
         requires reads { HoldsNoLink self.old.pending → ⊥ }
         ensures turn { TakesOn self.old.course self.old.place self.old.pending answer
             self.new.course self.new.place result }

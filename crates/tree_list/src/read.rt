@@ -1,7 +1,7 @@
 //! What takes more than one look at the nodes of a tree: ways up and down, and listings.
-ghost use Rattle.std.specs.Prelude.{◌≡◌, ◌≤◌, length, insert, IfOk};
+ghost use Rattle.std.specs.Prelude.{◌≡◌, IfOk};
 ghost use Rattle.tree_model.specs.Steps.{directory_at};
-ghost use Rattle.tree_model.specs.State.{TOP, is_within, names_below, names_in, insert_name, sorted_names};
+ghost use Rattle.tree_model.specs.State.{TOP, is_within, names_below, names_in, sorted_names};
 
 use path_text::{Errno, Name, Names, NoMemory};
 use std::alloc::Global;
@@ -65,31 +65,14 @@ pub(crate) fn names_in(alloc: Global, nodes: &[Inode], dir: Node) -> Result<Vec<
     Ok(names)
 }
 
-// Where a name goes among sorted ones.
-fn slot_of(name: &Name, sorted: &[Name]) -> usize
-    ensures within { result ≤ length sorted.now }
-    ensures placed { insert sorted.now result name.now ≡ insert_name name.now sorted.now }
-{
-    for (at, other) in sorted.iter().enumerate() {
-        if name.cmp(other).is_lt() {
-            return at;
-        }
-    }
-    sorted.len()
-}
-
 /// The names by their bytes. NoMemory where room was refused.
-#[tactic(auto, using(crate::proofs::Sorting::onto))]
+#[tactic(auto, using(crate::proofs::Sorting::sorted_names_from_sort))]
 pub(crate) fn sorted(alloc: Global, names: Vec<Name>) -> Result<Names, NoMemory>
     ensures { IfOk result (λ names_by_bytes. names_by_bytes ≡ sorted_names names.items) }
 {
     let mut names = names;
-    let mut sorted = Vec::with_capacity(alloc, names.len())?;
-    while let Some(name) = names.pop() {
-        let at = slot_of(&name, sorted.as_slice());
-        sorted.insert(at, name)?;
-    }
-    Names::from_slice(alloc, sorted.as_slice())
+    names.sort()?;
+    Names::from_slice(alloc, names.as_slice())
 }
 
 /// The directory at these names below the top, no link followed. Errors, in this order: at each name

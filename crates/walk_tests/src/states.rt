@@ -1,11 +1,11 @@
 //! A handle's states, each call with values from outside.
-use crate::words::{answer_of, are_printed, closes, let_go, reached_by};
+use crate::words::{answer_of, are_printed, closes, let_go, owner, reached_by};
 use fixtures::names_of;
-use handles::{Owner, Reached, Standing};
+use handles::{Reached, Standing};
 use path_text::Names;
 use std::alloc::Global;
 use step_resolver::like_held;
-use tree_model::{Actor, HandleNo, Kind, Node};
+use tree_model::{HandleNo, Kind, Node};
 
 // What opens handle 5 on the directory 11.
 const OPENED: &str = "dir 5 11";
@@ -39,20 +39,15 @@ const JUDGED: [(&str, &str, &str); 14] = [
     ("/a", "names /a", "onward"),
 ];
 
-fn owner() -> Owner {
-    Owner {
-        tag: 7,
-        actor: Actor::new(2),
-    }
-}
-
 fn is_opened(handle: HandleNo, node: Node, kind: Kind) -> bool {
     handle.number() == 5 && node.number() == 11 && kind == Kind::Dir
 }
 
-// Whether it is what was opened, and its close is that of that handle.
+// Whether it is what was opened, the owner's, and its close is that of that handle.
 fn is_as_opened(reached: Reached) -> bool {
-    is_opened(reached.handle(), reached.node(), reached.kind()) & closes(reached.into_close(), 5)
+    let same = is_opened(reached.handle(), reached.node(), reached.kind())
+        & (reached.owner() == owner());
+    same & closes(reached.into_close(), 5)
 }
 
 // The same, standing at those names.
@@ -78,7 +73,7 @@ fn reaches(alloc: Global, answer: &str) -> bool {
 // What was opened, judged by that answer to the question whether it stands at these names.
 fn judged(alloc: Global, expected: &Names, answer: &str) -> Option<Result<Standing, Reached>> {
     match reached_by(alloc, OPENED) {
-        Some(reached) => Some(reached.judge(owner(), answer_of(alloc, answer), expected)),
+        Some(reached) => Some(reached.judge(answer_of(alloc, answer), expected)),
         None => None,
     }
 }

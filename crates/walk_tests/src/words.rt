@@ -1,9 +1,9 @@
 //! What words of a row say: goals, parts and answers.
 use fixtures::names_of;
-use handles::Reached;
+use handles::{Owner, Reached};
 use path_text::{Bytes, Errno, Names, Part, Parts};
 use std::alloc::Global;
-use tree_model::{Answer, HandleNo, Kind, Node, Step, StepOf};
+use tree_model::{Actor, Answer, HandleNo, Kind, Node, Step, StepOf};
 use walk_plan::Goal;
 
 /// A word, and what comes after it.
@@ -102,9 +102,17 @@ pub fn answer_of(alloc: Global, words: &str) -> Answer {
     }
 }
 
-/// What the answer that words say opens.
+/// Whose handles are opened.
+pub fn owner() -> Owner {
+    Owner {
+        tag: 7,
+        actor: Actor::new(2),
+    }
+}
+
+/// What the answer that words say opens for that owner.
 pub fn reached_by(alloc: Global, words: &str) -> Option<Reached> {
-    Reached::of(&answer_of(alloc, words))
+    Reached::of(owner(), &answer_of(alloc, words))
 }
 
 /// Whether that step closes the handle of that number.

@@ -1,5 +1,5 @@
 -- What a phase is to the order of steps.
-use Rattle.std.specs.Prelude.{◌≡◌, ◌≢◌, ℕ, suc, ◌<◌, List, [], ◌∷◌, drop, length, refl}
+use Rattle.std.specs.Prelude.{◌≡◌, ◌≢◌, ℕ, suc, ◌<◌, List, [], ◌∷◌, ◌++◌, drop, length, refl}
 use Rattle.std.proofs.Common.{sym, ap, ◌∙◌}
 use Rattle.tree_model.specs.declared.answer.Answer.{Answer}
 use Rattle.bulk_ops.specs.declared.remove_all.clearing.End.{End}
@@ -8,9 +8,10 @@ use Rattle.bulk_ops.specs.declared.remove_all.phase.Phase.TheVariants.{Walking, 
 use Rattle.bulk_ops.specs.declared.turn.BulkTurn.TheVariants.{More}
 use Rattle.bulk_ops.specs.declared.remove_all.clearing.TheConstants.{CLEARING_STEPS_MAX}
 use Rattle.bulk_ops.specs.declared.remove_all.frame.Frame.{Frame}
-use Rattle.bulk_ops.specs.RemoveAllOrder.{Removing, removes_file, is_due, Turn, more, steps_left}
-use Rattle.bulk_ops.specs.RemoveAllView.{name_at, levels_of, removing_of, phase_turn, TakesOn}
+use Rattle.bulk_ops.specs.RemoveAllOrder.{Level, Removing, removes_file, is_due, enters, Turn, more, steps_left}
+use Rattle.bulk_ops.specs.RemoveAllView.{name_at, level_of, level_at, levels_of, removing_of, phase_turn, TakesOn}
 use Rattle.bulk_ops.specs.RemoveAllTurnView.{TakesTo}
+use Rattle.bulk_ops.proofs.RemovingAll.Levels.{levels_of-append}
 use Rattle.bulk_ops.proofs.RemovingAll.StepCount.{taken_lowers}
 
 going : (phase : Phase) → ((end : End) → phase ≢ Over end) → phase_turn phase ≡ more (removing_of phase)
@@ -41,3 +42,16 @@ begun d target frames turn one none due =
     due
     ∙ ap (λ ns. is_due removes_file (record { dir = d; name = name_at target 0; others = ns }) (levels_of frames) 0 CLEARING_STEPS_MAX) (one_name target one)
     ∙ ap (λ fs. is_due removes_file (record { dir = d; name = name_at target 0; others = [] }) (levels_of fs) 0 CLEARING_STEPS_MAX) none
+
+-- a directory that was opened and has entries is entered: the first of them is the next to be cleared
+pub entered_first : (d : ℕ) (names : List (List ℕ)) (inner here : Frame) (above more_above : List Frame) (count left : ℕ) (turn : Turn)
+    → level_at d names ≡ level_of inner ∷ [] → more_above ≡ above ++ here ∷ []
+    → turn ≡ is_due removes_file (level_of inner) (levels_of more_above) count left
+    → turn ≡ enters d names (level_of here) (levels_of above) count left
+entered_first d [] inner here above more_above count left turn first pushed due = cc (first)
+entered_first d (n ∷ others) inner here above more_above count left turn first pushed due =
+    let same : level_of inner ≡ record { dir = d; name = n; others = others } = cc (first) in
+    due
+    ∙ ap (λ (level : Level). is_due removes_file level (levels_of more_above) count left) same
+    ∙ ap (λ (frames : List Frame). is_due removes_file (record { dir = d; name = n; others = others }) (levels_of frames) count left) pushed
+    ∙ ap (λ (levels : List Level). is_due removes_file (record { dir = d; name = n; others = others }) levels count left) (levels_of-append above here)

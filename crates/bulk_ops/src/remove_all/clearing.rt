@@ -278,7 +278,7 @@ impl Progress {
         ensures { phase_turn result
             ≡ opened (level_of self.here) (levels_of self.above.items) self.removed self.left answer.now }
     {
-        match Reached::of(answer) {
+        match Reached::of(self.here.dir.owner(), answer) {
             Some(child) => match child.kind() {
                 Kind::Dir => self.due(Stage::List(child)),
                 Kind::File | Kind::Link => self.due(Stage::Shut(child)),

@@ -14,8 +14,10 @@ use Rattle.root_ops.specs.declared.below.Below.{Below}
 use Rattle.root_ops.specs.declared.op.Op.TheVariants as op
 use Rattle.root_ops.specs.declared.op.Request.{Request}
 use Rattle.root_ops.specs.Order.{Reply, opened, link_text, done, count, stepped, kept, fault, CallTurn, more, ends, starts, take, due}
+use Rattle.root_ops.specs.Renumbered.{for_handles}
 use Rattle.root_ops.specs.TurnView.{below_of}
 use Rattle.root_ops.specs.View.{CallView}
+use Rattle.root_ops.proofs.Blind.Calls.{calls_begin_blindly, steps_are_due_blindly, answers_are_taken_blindly}
 use Rattle.race_core.specs.declared.plan.Planned.{Planned}
 use Rattle.race_core.specs.declared.plan.Planned.TheVariants as planned
 use Rattle.race_core.specs.declared.plan.Ref.{Ref}
@@ -28,7 +30,6 @@ use Rattle.race_core.specs.Turns as turns
 use Rattle.race_core.specs.TurnView.{is_busy, is_within, are_some}
 use Rattle.explore.specs.Renamed.{step_by, answer_by, standing_by, reply_by, call_turn_by, root_by, below_by, request_by, call_by, planned_by, plans_by, outcome_by, outcomes_by, standings_by, kept_by, ledger_by, seat_by}
 use Rattle.explore.specs.Alike.{Pairs, SameSteps, SameSeats}
-use Rattle.explore.proofs.Alike.Calls.{calls_begin_blindly, steps_are_due_blindly, answers_are_taken_blindly}
 use Rattle.explore.proofs.Alike.Steps.{zero_agrees}
 
 -- the seat once a step's answer is taken
@@ -162,7 +163,7 @@ module _ (f : ℕ → ℕ) where
   begins_by room ledger None = ap (λ l. record { ledger = l; doing = None }) (ended_by ledger.root.owner ledger (fault BadHandle))
   begins_by room ledger (Some request) =
       comes_by ledger (below_of ledger.root request.flags) (starts (below_of ledger.root request.flags) room request.op)
-      ∙ ap (comes (ledger_by f ledger) (below_of (root_by f ledger.root) request.flags)) (calls_begin_blindly f (below_of ledger.root request.flags) room request.op)
+      ∙ ap (comes (ledger_by f ledger) (below_of (root_by f ledger.root) request.flags)) (calls_begin_blindly (for_handles f) (below_of ledger.root request.flags) room request.op)
 
   begins_next_by : (room : Bool) (ledger : LedgerView) (to_come : List Planned) → seat_by f (begins_next room ledger to_come) ≡ begins_next room (ledger_by f ledger) (plans_by f to_come)
   begins_next_by room ledger [] = refl
@@ -179,7 +180,7 @@ module _ (f : ℕ → ℕ) where
       → seat_by f (answered_seat room ledger call answer) ≡ answered_seat room (ledger_by f ledger) (call_by f call) (answer_by f answer)
   answered_by room ledger call answer =
       comes_by ledger call.below (take call.below room call.doing answer)
-      ∙ ap (comes (ledger_by f ledger) (below_by f call.below)) (answers_are_taken_blindly f call.below room call.doing answer)
+      ∙ ap (comes (ledger_by f ledger) (below_by f call.below)) (answers_are_taken_blindly (for_handles f) call.below room call.doing answer)
 
 -- ---- two seats
 
@@ -198,9 +199,9 @@ module _ (pairs : Pairs) where
       → SameSeats pairs (record { ledger = ledger; doing = Some call }) (record { ledger = ledger'; doing = Some call' })
       → SameSteps pairs (due call.below call.doing) (due call'.below call'.doing)
   due_alike ledger ledger' call call' same f g agree =
-      steps_are_due_blindly f call.below call.doing
+      steps_are_due_blindly (for_handles f) call.below call.doing
       ∙ ap (λ (view : CallView). due view.below view.doing) (same_Some (call_by f call) (call_by g call') (ap (λ (seat : Seat). seat.doing) (same f g agree)))
-      ∙ sym (steps_are_due_blindly g call'.below call'.doing)
+      ∙ sym (steps_are_due_blindly (for_handles g) call'.below call'.doing)
 
   -- ---- who is busy
 

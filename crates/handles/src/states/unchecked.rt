@@ -1,10 +1,18 @@
 //! What a `Reached` tells of its object.
 ghost use Rattle.std.specs.Prelude.{◌≡◌};
 
+use crate::owner::Owner;
 use crate::states::Reached;
 use tree_model::{HandleNo, Kind, Node};
 
 impl Reached {
+    /// Whose handle it is.
+    pub fn owner(&self) -> Owner
+        ensures { result ≡ self.now.owner }
+    {
+        self.owner
+    }
+
     /// The handle's number.
     pub fn handle(&self) -> HandleNo
         ensures { result ≡ self.now.handle }

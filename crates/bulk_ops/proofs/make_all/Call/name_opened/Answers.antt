@@ -10,7 +10,7 @@ returns-in-None-clause-turn c = (
   true,
   same_turn c.closes.result
       (ap (λ error. gives_up (c.args.held.handle ∷ []) error) (c.raced_if_missing.ensures ∙ ap raced_if_missing c.refusal_of.ensures)
-      ∙ name_unopened (way_of c.args.self.now) c.args.held c.args.chain.value c.requires c.args.answer c.in-None.ensures)
+      ∙ name_unopened (way_of c.args.self.now) c.args.held c.args.chain.value c.requires c.args.self.now.root.owner c.args.answer c.in-None.ensures)
       c.closes.ensures.turn,
 )
 
@@ -18,7 +18,7 @@ pub returns-then-is_directory-clause-turn : goal.returns-then-is_directory-claus
 returns-then-is_directory-clause-turn c = (
   true,
   same_turn c.enters.result
-      (dir_opened (way_of c.args.self.now) c.args.held c.args.chain.value c.requires c.args.answer c.in-Some.new c.in-Some.ensures
+      (dir_opened (way_of c.args.self.now) c.args.held c.args.chain.value c.requires c.args.self.now.root.owner c.args.answer c.in-Some.new c.in-Some.ensures
       (sym (c.is_directory.ensures ∙ ap is_dir_kind c.kind.ensures) ∙ c.if-is_directory.true))
       c.enters.ensures.turn,
 )
@@ -27,7 +27,7 @@ pub returns-else-is_directory-clause-turn : goal.returns-else-is_directory-claus
 returns-else-is_directory-clause-turn c = (
   true,
   same_turn c.closes-else-is_directory.result
-      (other_opened (way_of c.args.self.now) c.args.held c.args.chain.value c.requires c.args.answer c.in-Some.new c.in-Some.ensures
+      (other_opened (way_of c.args.self.now) c.args.held c.args.chain.value c.requires c.args.self.now.root.owner c.args.answer c.in-Some.new c.in-Some.ensures
       (sym (c.is_directory.ensures ∙ ap is_dir_kind c.kind.ensures) ∙ c.if-is_directory.false))
       c.closes-else-is_directory.ensures.turn,
 )
