@@ -1,6 +1,7 @@
-//! The functions by which a C program makes calls: a static library of four exports, over `c_protocol`.
+//! The functions by which a C program makes calls: a static library of twelve exports, over `c_protocol` and
+//! `kernel_text`.
 //!
-//! Each export is the function of that name of `c_protocol`, with its clauses. What a C program owes is said in
+//! Each export is the function of that name of one of these, with its clauses. What a C program owes is said in
 //! `host/calls.h`: a what is kept is empty (zero) before the first call, and is left alone between two turns.
 #![tactic(auto)]
 
@@ -8,10 +9,14 @@ ghost use Rattle.std.specs.Prelude.{◌≡◌, IfSome, IsSome};
 ghost use Rattle.root_ops.specs.declared.call.CallTurn.{CallTurn};
 ghost use Rattle.c_protocol.specs.AtOnce.{opens_at_once};
 ghost use Rattle.c_protocol.specs.Refusals.{is_refusal};
+ghost use Rattle.c_protocol.specs.Runs.{ComeNext, IsRun};
 ghost use Rattle.c_protocol.specs.Split.{IsParted};
 ghost use Rattle.c_protocol.specs.Turns.{call_of, IsBegun, IsNext, IsTold};
+ghost use Rattle.kernel_text.specs.Listing.{IsTaken, Sorts};
+ghost use Rattle.kernel_text.specs.Place.{but_last, is_named, place_between, place_of_cwd, TellsPlace};
 
-use c_protocol::{Answered, Asked, Kept, Parted, Told};
+use c_protocol::{Ahead, Answered, Asked, Kept, Parted, Ran, Told};
+use kernel_text::{Place, Sorted, Taken};
 use std::alloc::Global;
 
 /// Begins a call, and tells its first step or its reply: `c_protocol::begin`.
@@ -49,6 +54,42 @@ pub extern "C" fn inroot_next(
     c_protocol::next(alloc, kept, answered, bytes, told, room);
 }
 
+/// Which names a call is due to open next, one in another: `c_protocol::names_ahead`.
+#[unsafe(no_mangle)]
+pub extern "C" fn inroot_names_ahead(
+    alloc: Global,
+    kept: &mut Kept,
+    most: usize,
+    number: u64,
+    room: &mut [u8],
+    ahead: &mut Ahead,
+)
+    requires { IsSome (call_of kept.old.held) }
+    ensures kept { kept.new.held ≡ kept.old.held }
+    ensures names { IfSome (call_of kept.old.held)
+        (λ call. ComeNext call most number ahead.new room.old room.new) }
+{
+    *ahead = c_protocol::names_ahead(alloc, kept, most, number, room);
+}
+
+/// Takes a call past names that one system call passed, and tells the next step: `c_protocol::pass_names`.
+#[unsafe(no_mangle)]
+pub extern "C" fn inroot_pass_names(
+    alloc: Global,
+    kept: &mut Kept,
+    text: &[u8],
+    number: u64,
+    told: &mut Told,
+    room: &mut [u8],
+    ran: &mut Ran,
+)
+    requires { IsSome (call_of kept.old.held) }
+    ensures { IfSome (call_of kept.old.held) (λ call. (turn : CallTurn) × IsRun call text.now number ran.new turn
+        × IsTold turn kept.new.held told.new room.old room.new) }
+{
+    *ran = c_protocol::pass_names(alloc, kept, text, number, told, room);
+}
+
 /// Whether a call whose names were passed at once opens what the last one is: `c_protocol::opens_at_once`.
 #[unsafe(no_mangle)]
 pub extern "C" fn inroot_opens_at_once(asked: &Asked, path: &[u8], kind: u8, place: &[u8]) -> bool
@@ -71,4 +112,49 @@ pub extern "C" fn inroot_is_refusal(what: u8, mode: u8, text: usize, error: u32)
     ensures { result ≡ is_refusal what mode text error }
 {
     c_protocol::is_refusal(what, mode, text, error)
+}
+
+/// Where an object stands below a root, by what links in /proc tell: `kernel_text::place_between`.
+#[unsafe(no_mangle)]
+pub extern "C" fn inroot_place_between(before: &[u8], path: &[u8], after: &[u8], place: &mut Place)
+    ensures { TellsPlace path.now (place_between before.now path.now after.now) place.new }
+{
+    *place = kernel_text::place_between(before, path, after);
+}
+
+/// Where a directory stands below the thread's root, by what getcwd(2) tells: `kernel_text::place_of_cwd`.
+#[unsafe(no_mangle)]
+pub extern "C" fn inroot_place_of_cwd(told: &[u8], place: &mut Place)
+    ensures { TellsPlace (but_last told.now) (place_of_cwd told.now) place.new }
+{
+    *place = kernel_text::place_of_cwd(told);
+}
+
+/// Whether what was found at a place has a name still: `kernel_text::is_named`.
+#[unsafe(no_mangle)]
+pub extern "C" fn inroot_is_named(again: &[u8], place: &[u8]) -> bool
+    ensures { result ≡ is_named again.now place.now }
+{
+    kernel_text::is_named(again, place)
+}
+
+/// Takes the names of records of getdents64(2): `kernel_text::take_names`.
+#[unsafe(no_mangle)]
+pub extern "C" fn inroot_take_names(records: &[u8], room: &mut [u8], taken: &mut Taken)
+    ensures { IsTaken records.now room.old room.new taken.new }
+{
+    *taken = kernel_text::take_names(records, room);
+}
+
+/// Sorts names by their bytes: `kernel_text::sort_names`.
+#[unsafe(no_mangle)]
+pub extern "C" fn inroot_sort_names(
+    alloc: Global,
+    text: &[u8],
+    room: &mut [u8],
+    sorted: &mut Sorted,
+)
+    ensures { Sorts text.now room.old room.new sorted.new }
+{
+    *sorted = kernel_text::sort_names(alloc, text, room);
 }

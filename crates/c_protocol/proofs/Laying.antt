@@ -3,7 +3,7 @@ use Rattle.std.specs.Prelude.{◌≡◌, ℕ, ◌+◌, ◌<◌, ◌≤◌, List,
 use Rattle.std.proofs.Common.{ap, arith, length-append, append_assoc}
 use Rattle.std.proofs.Math.Seq.{take-add, take-append_seam}
 use Rattle.std.proofs.lemmas.Bool.{le-leb, lt-leb}
-use Rattle.std.proofs.lemmas.List.{append-nil, drop_more, take-append-drop}
+use Rattle.std.proofs.lemmas.List.{append-nil, drop_more, length-take-le, take-append-drop}
 use Rattle.std.proofs.lemmas.Option.{slice_get_within, get_or_from_slice_get}
 use Rattle.std.proofs.lemmas.Slice.{drop-append-drop}
 use mathlib.Core.Path.{sym, ◌∙◌}
@@ -85,3 +85,19 @@ too_short names k room left name found is short =
     let same = ap length (printed_some names some) in
     let more = within k names name found in
     sym (lt-leb (length (ended (printed names))) room (omega (arith, counted, same, is, more, short)))
+
+-- a slash and a part after it
+pub put_part : (part old mid new : List ℕ) (at end : ℕ) → at ≤ length old → end ≡ at + (length part + 1)
+    → mid ≡ take at old ++ ((SLASH ∷ []) ++ drop (at + 1) old) → new ≡ take (at + 1) mid ++ (part ++ drop (at + 1 + length part) mid)
+    → new ≡ take at old ++ ((SLASH ∷ part) ++ drop end old)
+put_part part old mid new at end within is first second =
+    let before = take at old in
+    let counted : at ≡ length before = sym (length-take-le at old within) in
+    let slashed = length-append before (SLASH ∷ []) in
+    let all = length-append (before ++ SLASH ∷ []) part in
+    let whole : old ≡ before ++ drop (length before) old =
+    sym (take-append-drop at old) ∙ ap (λ (k : ℕ). before ++ drop k old) counted in
+    let one = put before (SLASH ∷ []) old old mid at counted whole first in
+    let two = put (before ++ SLASH ∷ []) part old mid new (at + 1) (omega (arith, counted, slashed)) one second in
+    two ∙ ap (λ (k : ℕ). ((before ++ SLASH ∷ []) ++ part) ++ drop k old) (omega (arith, counted, slashed, all, is))
+    ∙ append_assoc (before ++ SLASH ∷ []) part (drop end old) ∙ append_assoc before (SLASH ∷ []) (part ++ drop end old)

@@ -11,3 +11,6 @@ mod GivingUp
 mod OwnExchanges
 mod SeenBelow
 mod Refusing
+mod RunTurns
+mod RunStates
+mod RunConversing

@@ -6,8 +6,10 @@ pub use Rattle.root_ops.specs.View
 pub mod Kept
 pub mod Numbers
 pub mod Turns
+pub mod Runs
 pub mod History
 pub mod Outright
+pub mod RunHistory
 pub mod OwnExchanges
 pub mod Refusals
 pub mod AtOnce

@@ -20,7 +20,7 @@ pub(crate) struct Held {
 }
 
 // Makes each Close that is due for nobody, and says of every other step that there was no memory for it.
-fn give_up(alloc: Global, call: Call) {
+pub(crate) fn give_up(alloc: Global, call: Call) {
     let mut turn = CallTurn::More(call);
     loop {
         match turn {
@@ -55,8 +55,8 @@ impl Model for Kept {
 }
 
 impl Kept {
-    /// No call.
-    pub(crate) fn empty(alloc: Global) -> Kept
+    /// No call: what a program keeps before its first one.
+    pub fn empty(alloc: Global) -> Kept
         ensures { result.held ≡ None }
     {
         Kept {

@@ -4,6 +4,7 @@ ghost use Rattle.c_protocol.specs.History.{ConversationsAreCalls};
 ghost use Rattle.c_protocol.specs.Outright.{ConversationsTell};
 ghost use Rattle.c_protocol.specs.OwnExchanges.{ConversationsClose, UnmadeStepsEndCalls};
 ghost use Rattle.c_protocol.specs.Refusals.{StepsAreRefusedSo};
+ghost use Rattle.c_protocol.specs.RunHistory.{ConversationsWithRunsTell};
 ghost use Rattle.c_protocol.specs.SeenBelow.{PlainSeenBelow, ResolvesSeenBelow};
 
 use root_ops::{calls_tell, calls_tell_by_any_numbers, each_call_tells, opened_are_closed};
@@ -35,6 +36,16 @@ pub fn conversations_tell()
     conversations_are_calls();
     each_call_tells();
     calls_tell_by_any_numbers();
+}
+
+/// A conversation in which names are passed by one system call, where `names_ahead` says that they come next and
+/// `pass_names` how many of them count: each run stands for the turns of these names, each opened as a directory in the
+/// one before it. With these turns in the place of the runs it is a conversation of single turns to the same reply, so
+/// that all other laws of conversations speak of it, and `conversations_tell` holds of its call.
+pub fn conversations_with_runs_tell()
+    ensures { ConversationsWithRunsTell }
+{
+    conversations_tell();
 }
 
 /// A call of which `opens_at_once` is true, by whatever handles each name was opened in the directory before it: the

@@ -5,8 +5,10 @@
 //! `begin` and `next`, whose contracts say that each step and each reply that is told is the one of the proved call,
 //! spelled exactly, and that each answer is taken as the one that its numbers and bytes spell. Between two turns the
 //! C program keeps the call by its pointer, as a `Kept`. Where it has passed all names of a path by one system call, it
-//! needs no turns: `opens_at_once` says exactly for which calls, and the law `opens_at_once_tell` what holds of them. A
-//! path is taken apart into its directory's path and its last name by `split`, as the calls on one entry do it.
+//! needs no turns: `opens_at_once` says exactly for which calls, and the law `opens_at_once_tell` what holds of them.
+//! In the midst of a call `names_ahead` says which names come next, and `pass_names` takes the call past those that one
+//! system call passed; by the law `conversations_with_runs_tell` that is as good as single turns. A path is taken apart
+//! into its directory's path and its last name by `split`, as the calls on one entry do it.
 //! Whatever the answers are, a call closes what it opened (`conversations_close`), and after a step that wasn't made it
 //! does nothing else (`unmade_steps_end_calls`). Which errors of a system call are a step's own says `is_refusal`, and
 //! `steps_are_refused_so` that the step table has no others.
@@ -20,6 +22,7 @@ mod last_name;
 mod laws;
 mod numbers;
 mod refusals;
+mod runs;
 mod told;
 mod turns;
 
@@ -27,9 +30,10 @@ pub use at_once::opens_at_once;
 pub use kept::Kept;
 pub use last_name::{Parted, split};
 pub use laws::{
-    conversations_are_calls, conversations_close, conversations_tell, opens_at_once_tell,
-    seen_below_tell, steps_are_refused_so, unmade_steps_end_calls,
+    conversations_are_calls, conversations_close, conversations_tell, conversations_with_runs_tell,
+    opens_at_once_tell, seen_below_tell, steps_are_refused_so, unmade_steps_end_calls,
 };
 pub use numbers::{Answered, Asked, Told};
 pub use refusals::is_refusal;
+pub use runs::{Ahead, Ran, names_ahead, pass_names};
 pub use turns::{begin, next};

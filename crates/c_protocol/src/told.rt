@@ -101,7 +101,7 @@ fn reply_told(reply: &Reply) -> Told
 }
 
 // Lays bytes there, from a place on.
-fn lay_at(bytes: &[u8], at: usize, room: &mut [u8])
+pub(crate) fn lay_at(bytes: &[u8], at: usize, room: &mut [u8])
     requires { at + length bytes.now ≤ length room.old }
     ensures { room.new ≡ take at room.old ++ (bytes.now ++ drop (at + length bytes.now) room.old) }
 {

@@ -37,7 +37,7 @@ fn tell_due(call: &Call, told: &mut Told, room: &mut [u8])
 }
 
 // Tells the turn, and keeps the call where it goes on, in the box that is there for it.
-fn keep(
+pub(crate) fn keep(
     alloc: Global,
     mut held: Box<Held>,
     turn: CallTurn,

@@ -1,0 +1,135 @@
+-- Names of a path that a C program passes in the midst of a call by one openat2(2) with RESOLVE_NO_SYMLINKS, which
+-- looks each of them up in the one before it (path_resolution(7)). To the call these are single turns, whose answers it
+-- is told at once.
+use Rattle.std.specs.Prelude.{◌≡◌, ◌≤◌, ℕ, ◌+◌, List, [], ◌∷◌, ◌++◌, Bool, true, false, length, map, take, drop}
+use Rattle.path_text.specs.declared.name.TheConstants.{SLASH}
+use Rattle.path_text.specs.Print.{after_slashes}
+use Rattle.path_text.specs.Text.{between_slashes}
+use Rattle.tree_model.specs.declared.step.StepOf.TheVariants.{Open, Parent, NameBelow, Close}
+use Rattle.tree_model.specs.StepWith.{StepWith}
+use Rattle.root_ops.specs.declared.call.CallTurn.{CallTurn}
+use Rattle.root_ops.specs.declared.call.CallTurn.TheVariants.{More, Done}
+use Rattle.root_ops.specs.Order.{due}
+use Rattle.root_ops.specs.View.{CallView}
+use Rattle.c_protocol.specs.Turns.{IsNext}
+use Rattle.c_protocol.specs.declared.numbers.Answered.{Answered}
+use Rattle.c_protocol.specs.declared.runs.Ahead.{Ahead}
+use Rattle.c_protocol.specs.declared.runs.Ran.{Ran}
+
+-- ---- turns whose answers are told at once
+
+-- a step that was due, and the numbers that were told as its answer
+pub record Made : Type 0 where
+  pub step : StepWith ℕ
+  pub answer : Answered
+
+-- From one turn to another each of these steps was due, and was answered so, as `next` takes an answer.
+abbrev pub Makes : List Made → CallTurn → CallTurn → Type 0
+Makes [] turn last = turn ≡ last
+Makes (m ∷ ms) (More call) last =
+    (due call.below call.doing ≡ m.step) × ((next : CallTurn) × (IsNext call m.answer [] next × Makes ms next last))
+Makes (m ∷ ms) (Done reply) last = ⊥
+
+-- ---- the steps of names
+
+-- a name that was passed, and whether the directory that has it was to be closed then
+pub record Entered : Type 0 where
+  pub name : List ℕ
+  pub shut : Bool
+
+-- that a directory was opened by this number, which is its node's as well
+abbrev pub as_directory : ℕ → Answered
+as_directory number = record { handle = number; node = number; what = 1; kind = 1; error = 0 }
+
+abbrev pub as_done : Answered
+as_done = record { handle = 0; node = 0; what = 5; kind = 0; error = 0 }
+
+abbrev pub shuts : Bool → ℕ → List Made
+shuts false dir = []
+shuts true dir = record { step = Close dir; answer = as_done } ∷ []
+
+-- Each name is opened in the directory that the one before it opened, and is a directory. Where the call closes the
+-- directory then that has the name, it is closed. The numbers of what is opened count up.
+abbrev pub steps_of : ℕ → ℕ → List Entered → List Made
+steps_of dir number [] = []
+steps_of dir number (n ∷ ns) =
+    record { step = Open dir n.name; answer = as_directory number }
+    ∷ (shuts n.shut dir ++ steps_of number (number + 1) ns)
+
+-- the directory that is open behind the names
+abbrev pub dir_behind : ℕ → ℕ → List Entered → ℕ
+dir_behind dir number [] = dir
+dir_behind dir number (n ∷ ns) = dir_behind number (number + 1) ns
+
+-- it was told that a directory was opened, and of the one that has its name that it was closed
+abbrev pub Enters : CallView → ℕ → ℕ → Bool → CallTurn → Type 0
+Enters call dir number shut last =
+    (next : CallTurn) × (IsNext call (as_directory number) [] next × Makes (shuts shut dir) next last)
+
+-- whether the directory in which the first of them was opened is closed
+abbrev pub is_shut : List Entered → Bool
+is_shut [] = false
+is_shut (n ∷ ns) = n.shut
+
+abbrev pub names_of : List Entered → List (List ℕ)
+names_of ns = map (λ n. n.name) ns
+
+-- it is due to open this name in this directory
+abbrev pub Opens : CallTurn → ℕ → List ℕ → Type 0
+Opens (More call) dir name = due call.below call.doing ≡ Open dir name
+Opens (Done reply) dir name = ⊥
+
+-- ---- a run
+
+-- The first names of the text, so many as are told, were passed from that directory on; the others are not the next
+-- ones.
+pub record IsRun (call : CallView) (text : List ℕ) (number : ℕ) (ran : Ran) (turn : CallTurn) : Type 0 where
+  pub entered : List Entered
+  pub names : names_of entered ≡ take ran.names (between_slashes text)
+  pub count : length entered ≡ ran.names
+  pub shut : ran.shut ≡ is_shut entered
+  pub makes : Makes (steps_of ran.dir number entered) (More call) turn
+
+-- ---- what comes next
+
+-- a slash and a part are laid out from one place to another
+abbrev pub LiesAt : List ℕ → ℕ → ℕ → List ℕ → List ℕ → Type 0
+LiesAt part at end old new =
+    (end ≡ at + (length part + 1))
+    × ((end ≤ length new) × (new ≡ take at old ++ ((SLASH ∷ part) ++ drop end old)))
+
+abbrev pub up_text : Bool → List ℕ
+up_text false = []
+up_text true = SLASH ∷ 46 ∷ 46 ∷ []
+
+-- what is due behind the names
+abbrev pub GoesUp : CallTurn → ℕ → Type 0
+GoesUp (More call) dir = due call.below call.doing ≡ Parent dir
+GoesUp (Done reply) dir = ⊥
+
+abbrev pub AsksFor : CallTurn → ℕ → Type 0
+AsksFor (More call) dir = (root : ℕ) × (due call.below call.doing ≡ NameBelow root dir)
+AsksFor (Done reply) dir = ⊥
+
+-- Behind so many names that take so much of the room: `..` is laid out as well only where the call goes up, and their
+-- place is asked for where that is said.
+pub record IsEnd (call : CallView) (dir count at : ℕ) (ahead : Ahead) (old new : List ℕ) : Type 0 where
+  pub names : ahead.names ≡ count
+  pub laid : new ≡ take at old ++ (up_text ahead.up ++ drop ahead.used old)
+  pub used : ahead.used ≡ at + length (up_text ahead.up)
+  pub up : ahead.up ≡ true → GoesUp (More call) dir
+  pub ends : ahead.ends ≡ true → AsksFor (More call) dir
+
+-- If the names that are laid out there, a slash before each, are directories, the call passes them. Where it says so,
+-- it goes up behind them, for which `..` is laid out as well; or their place is asked for.
+pub record ComeNext (call : CallView) (most number : ℕ) (ahead : Ahead) (old new : List ℕ) : Type 0 where
+  pub dir : ℕ
+  pub entered : List Entered
+  pub turn : CallTurn
+  pub makes : Makes (steps_of dir number entered) (More call) turn
+  pub count : ahead.names ≡ length entered
+  pub few : ahead.names ≤ most
+  pub laid : new ≡ (after_slashes (names_of entered) ++ up_text ahead.up) ++ drop ahead.used old
+  pub used : ahead.used ≡ length (after_slashes (names_of entered) ++ up_text ahead.up)
+  pub up : ahead.up ≡ true → GoesUp turn (dir_behind dir number entered)
+  pub ends : ahead.ends ≡ true → AsksFor turn (dir_behind dir number entered)
