@@ -5,3 +5,5 @@ mod Ordered
 mod Sums
 mod Heads
 mod Beginnings
+pub mod InPieces
+pub mod SameReports

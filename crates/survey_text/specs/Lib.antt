@@ -2,8 +2,10 @@ pub mod Asked
 pub mod Changes
 pub mod Conditions
 pub mod Counts
+pub mod InPieces
 pub mod Looks
 pub mod Merge
+pub mod Nearby
 pub mod Order
 pub mod Outcome
 pub mod Property

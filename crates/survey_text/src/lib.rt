@@ -18,6 +18,7 @@ mod fault;
 mod laws;
 mod looks;
 mod merging;
+mod nearby;
 mod order;
 mod outcome;
 mod part;
@@ -31,7 +32,9 @@ mod telling;
 pub use asked::{OptionFault, Options};
 pub use counts::COUNT_MAX;
 pub use fault::ExploreFault;
-pub use laws::{count_limit_is_a_number, replies_have_heads};
+pub use laws::{
+    count_limit_is_a_number, pieces_tell_the_whole, replies_have_heads, same_reports_are_told_alike,
+};
 pub use merging::{MergeFault, merge};
 pub use part::Part;
 pub use property::{Property, Rule, read_property};

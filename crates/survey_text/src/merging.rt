@@ -2,10 +2,12 @@
 ghost use Rattle.std.specs.Prelude.{◌≡◌, ◌<◌, ◌++◌, ◌∷◌, [], false, true, length, take, IfOk, MatchOption, MatchResult};
 ghost use Rattle.std.specs.List.{list_any};
 ghost use Rattle.survey_text.specs.declared.merging.MergeFault.TheVariants as merge_fault;
-ghost use Rattle.survey_text.specs.Merge.{go_along, goes_along, are_apart, has_lists, is_there, lacks_turn, has_gap, all_lists, longest, all_of, IsJoined, IsWhole, WhyNoWhole};
+ghost use Rattle.survey_text.specs.Nearby.{AreSome};
+ghost use Rattle.survey_text.specs.Merge.{goes_along, are_apart, has_lists, lacks_turn, has_gap, all_lists, longest, all_of, IsJoined, IsWhole, WhyNoWhole};
 ghost use Rattle.survey_text.specs.Order.{in_order};
 
 use crate::counts::plus;
+use crate::nearby::{go_along, in_word_order, is_there};
 use crate::order::put_all;
 use crate::part::Part;
 use crate::property::Property;
@@ -61,13 +63,6 @@ impl From<NoMemory> for MergeFault {
     }
 }
 
-// Whether one of two lists begins with the other.
-fn go_along(turns: &[u32], others: &[u32]) -> bool
-    ensures { result ≡ go_along turns.now others.now }
-{
-    turns.starts_with(others) || others.starts_with(turns)
-}
-
 // The place of the first part that goes along with that one.
 fn first_along(parts: &[Part], part: &Part) -> Option<usize>
     ensures { MatchOption result (list_any (goes_along part.now) parts.now ≡ false)
@@ -94,18 +89,6 @@ fn first_overlap(parts: &[Part]) -> Option<(usize, usize)>
     None
 }
 
-// Whether a part that has lists goes along with these turns.
-fn is_there(parts: &[Part], turns: &[u32]) -> bool
-    ensures { result ≡ is_there parts.now turns.now }
-{
-    for part in parts {
-        if part.lists > 0 && go_along(part.begin.as_slice(), turns) {
-            return true;
-        }
-    }
-    false
-}
-
 // Equal turns, and one more of that actor.
 fn turns_and(alloc: Global, turns: &[u32], actor: u32) -> Result<Vec<u32>, NoMemory>
     ensures { IfOk result (λ more. more.items ≡ turns.now ++ actor ∷ []) }
@@ -117,25 +100,34 @@ fn turns_and(alloc: Global, turns: &[u32], actor: u32) -> Result<Vec<u32>, NoMem
 }
 
 // Whether there is none for these turns and then that actor's.
-fn lacks_turn(alloc: Global, parts: &[Part], turns: &[u32], actor: u32) -> Result<bool, NoMemory>
+fn lacks_turn(
+    alloc: Global,
+    parts: &[Part],
+    ordered: &[&Part],
+    turns: &[u32],
+    actor: u32,
+) -> Result<bool, NoMemory>
+    requires { AreSome parts.now ordered.now }
     ensures { IfOk result (λ lacks. lacks ≡ lacks_turn parts.now turns.now actor) }
 {
     let begin = turns_and(alloc, turns, actor)?;
-    Ok(!is_there(parts, begin.as_slice()))
+    Ok(!is_there(parts, ordered, begin.as_slice()))
 }
 
 // The first of these actors by whom no part has the turn after these.
 fn first_missing_of(
     alloc: Global,
     parts: &[Part],
+    ordered: &[&Part],
     turns: &[u32],
     might: &[u32],
 ) -> Result<Option<u32>, NoMemory>
+    requires { AreSome parts.now ordered.now }
     ensures { IfOk result (λ actor. MatchOption actor (list_any (lacks_turn parts.now turns.now) might.now ≡ false)
         (λ _. list_any (lacks_turn parts.now turns.now) might.now ≡ true)) }
 {
     for actor in might {
-        if lacks_turn(alloc, parts, turns, *actor)? {
+        if lacks_turn(alloc, parts, ordered, turns, *actor)? {
             return Ok(Some(*actor));
         }
     }
@@ -157,14 +149,16 @@ fn first_turns(begin: &[u32], turns: usize) -> &[u32]
 fn first_missing_by(
     alloc: Global,
     parts: &[Part],
+    ordered: &[&Part],
     part: &Part,
 ) -> Result<Option<(usize, u32)>, NoMemory>
+    requires { AreSome parts.now ordered.now }
     ensures { IfOk result (λ missing. MatchOption missing (has_gap parts.now part.now ≡ false)
         (λ _. has_gap parts.now part.now ≡ true)) }
 {
     for (at, might) in part.might.iter().enumerate() {
         let turns = first_turns(part.begin.as_slice(), at);
-        if let Some(actor) = first_missing_of(alloc, parts, turns, might.as_slice())? {
+        if let Some(actor) = first_missing_of(alloc, parts, ordered, turns, might.as_slice())? {
             return Ok(Some((at, actor)));
         }
     }
@@ -176,8 +170,9 @@ fn first_missing(alloc: Global, parts: &[Part]) -> Result<Option<(usize, usize, 
     ensures { IfOk result (λ missing. MatchOption missing (list_any (has_gap parts.now) parts.now ≡ false)
         (λ _. list_any (has_gap parts.now) parts.now ≡ true)) }
 {
+    let ordered = in_word_order(alloc, parts)?;
     for (place, part) in parts.iter().enumerate() {
-        if let Some((turn, actor)) = first_missing_by(alloc, parts, part)? {
+        if let Some((turn, actor)) = first_missing_by(alloc, parts, &ordered, part)? {
             return Ok(Some((place, turn, actor)));
         }
     }

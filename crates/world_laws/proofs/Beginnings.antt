@@ -15,11 +15,11 @@ busy_first w is zero whole = tt
 busy_first w [] (suc n) whole = tt
 busy_first w (i ∷ is) (suc n) whole = (whole.0, busy_first (turn full w i) is n whole.1)
 
-plus_more : (b : Bool) (m n : ℕ) → m ≤ n → plus b m ≤ plus b n
+pub plus_more : (b : Bool) (m n : ℕ) → m ≤ n → plus b m ≤ plus b n
 plus_more true m n le = omega arith
 plus_more false m n le = le
 
-none_fewer : (n : ℕ) → 0 ≤ n
+pub none_fewer : (n : ℕ) → 0 ≤ n
 none_fewer n = omega arith
 
 cuts_first : (w : WorldView) (last : Option ℕ) (is : List ℕ) (n : ℕ) → cuts_after w last (take n is) ≤ cuts_after w last is
@@ -28,7 +28,7 @@ cuts_first w last [] (suc n) = none_fewer 0
 cuts_first w last (i ∷ is) (suc n) =
     plus_more (is_cut w.seats last i) (cuts_after (turn full w i) (Some i) (take n is)) (cuts_after (turn full w i) (Some i) is) (cuts_first (turn full w i) (Some i) is n)
 
-within_fewer : (most : Option ℕ) (m n : ℕ) → m ≤ n → IsWithin most n → IsWithin most m
+pub within_fewer : (most : Option ℕ) (m n : ℕ) → m ≤ n → IsWithin most n → IsWithin most m
 within_fewer None m n le few = tt
 within_fewer (Some k) m n le few = at_most k m n le few
   where

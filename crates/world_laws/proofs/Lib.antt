@@ -8,13 +8,13 @@ mod GivenUpWorlds
 mod CalmSteps
 mod CalmCalls
 mod CalmWorlds
-mod OnceEach
-mod OneOrder
-mod OneAnswer
-mod Sums
-mod PickedOnce
-mod PartsCounted
-mod PartsJoined
-mod WholePart
-mod Beginnings
-mod SearchedPart
+pub mod OnceEach
+pub mod OneOrder
+pub mod OneAnswer
+pub mod Sums
+pub mod PickedOnce
+pub mod PartsCounted
+pub mod PartsJoined
+pub mod WholePart
+pub mod Beginnings
+pub mod SearchedPart

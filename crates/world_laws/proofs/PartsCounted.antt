@@ -52,10 +52,10 @@ module _ (w : WorldView) (scope : Scope) (parts : List PartView) (are : AreParts
 
   -- ---- the parts' classes
 
-  class_part : (d : ClassView) → IsAmong d (classes_of parts) → (part : PartView) × (IsAmong part parts × IsAmong d part.classes)
+  pub class_part : (d : ClassView) → IsAmong d (classes_of parts) → (part : PartView) × (IsAmong part parts × IsAmong d part.classes)
   class_part d h = of_flat (λ (part : PartView). part.classes) d parts h
 
-  part_class : (part : PartView) → IsAmong part parts → (d : ClassView) → IsAmong d part.classes → IsPartClass w scope part.begin d
+  pub part_class : (part : PartView) → IsAmong part parts → (d : ClassView) → IsAmong d part.classes → IsPartClass w scope part.begin d
   part_class part h d k = let at = place_of d part.classes k in (are.each part h).each at.0 d at.1
 
   one_class : (part : PartView) → IsAmong part parts → (d e : ClassView) → IsAmong d part.classes → IsAmong e part.classes
@@ -84,7 +84,7 @@ module _ (w : WorldView) (scope : Scope) (parts : List PartView) (are : AreParts
   abbrev pub LeadsTo : ClassView → List ℕ → Type 0
   LeadsTo d js = IsAsked w scope js × (IsBeside d js × AgreeIn w scope js d.least.turns)
 
-  class_counted : (d : ClassView) → IsAmong d (classes_of parts) → AreSoMany (LeadsTo d) d.lists
+  pub class_counted : (d : ClassView) → IsAmong d (classes_of parts) → AreSoMany (LeadsTo d) d.lists
   class_counted d h =
       let at = class_part d h in
       let is : IsPartClass w scope at.0.begin d = part_class at.0 at.1.0 d at.1.1 in
@@ -101,7 +101,7 @@ module _ (w : WorldView) (scope : Scope) (parts : List PartView) (are : AreParts
       ))
       is.lists
 
-  class_alone : (d e : ClassView) (js : List ℕ) → LeadsTo d js → LeadsTo e js → d ≡ e
+  pub class_alone : (d e : ClassView) (js : List ℕ) → LeadsTo d js → LeadsTo e js → d ≡ e
   class_alone d e js a b =
       let p = a.1.0 in
       let q = b.1.0 in

@@ -1,0 +1,6 @@
+mod FirstPieces
+mod ToldAlike
+mod Tellings
+mod Barred
+mod Viewed
+mod Merged

@@ -1,0 +1,86 @@
+-- What parts of all schedules come to, merged, and what the one search of all tells: statements of laws.
+use Rattle.std.specs.Prelude.{◌≡◌, ℕ, List, [], Bool, length, map, Some, None}
+use Rattle.explore.specs.declared.limits.Scope.{Scope}
+use Rattle.explore.specs.Alike.{after_turns}
+use Rattle.explore.specs.Explored.{IsAsked, AgreeIn, ClassView, IsEnding}
+use Rattle.explore.specs.Opened.{opened_world}
+use Rattle.explore.specs.Renamed.{replies_by}
+use Rattle.explore_text.specs.declared.search.Asked.{Asked}
+use Rattle.explore_text.specs.Classes.{IsTold}
+use Rattle.explore_text.specs.Part.{IsPart}
+use Rattle.explore_text.specs.Surveyed.{IsSurvey}
+use Rattle.race_core.specs.declared.plan.ActorPlan.{ActorPlan}
+use Rattle.race_core.specs.declared.report.Outcome.{Outcome}
+use Rattle.race_core.specs.Worlds.{WorldView, ledgers_in, replies_in}
+use Rattle.schedule_graph.specs.Counted.{IsAmong, EachOnce}
+use Rattle.survey_text.specs.declared.part.Part.{Part}
+use Rattle.survey_text.specs.declared.property.Property.{Property}
+use Rattle.survey_text.specs.declared.survey.Told.{Told}
+use Rattle.survey_text.specs.Conditions.{told_text}
+use Rattle.survey_text.specs.InPieces.{AreAlike}
+use Rattle.survey_text.specs.Merge.{IsJoined}
+use Rattle.tree_model.specs.State.{State}
+use Rattle.world_laws.specs.Parts.{IsWholeOf, AreBeginnings}
+
+-- ---- outcomes that are told alike
+
+-- Other numbers of handles change nothing.
+abbrev pub NameNoHandles : List (List Outcome) → Type 0
+NameNoHandles replies = (f : ℕ → ℕ) → replies_by f replies ≡ replies
+
+-- the replies after each list that is asked for say no handle's number
+abbrev pub RepliesNameNoHandles : WorldView → Scope → Type 0
+RepliesNameNoHandles w scope = (is : List ℕ) → IsAsked w scope is
+    → NameNoHandles (replies_in (ledgers_in (after_turns w is).seats))
+
+-- What is told of two least lists that lead to one outcome looks the same and has the same lines.
+abbrev pub AgreeingListsAreToldAlike : Type 0
+AgreeingListsAreToldAlike = (w : WorldView) (scope : Scope) (named : List ℕ) (opening : State) (c d : ClassView)
+    (told like : Told) → RepliesNameNoHandles w scope → IsEnding w scope c.least → IsEnding w scope d.least
+    → AgreeIn w scope c.least.turns d.least.turns → IsTold named opening (length w.seats) c told
+    → IsTold named opening (length w.seats) d like → AreAlike told like
+
+-- ---- parts that are merged
+
+-- one question, whatever turns the lists of the part begin with; those of the whole begin with any
+pub record AreOneQuestion (part whole : Asked) : Type 0 where
+  pub named : part.named.items ≡ whole.named.items
+  pub scope : IsWholeOf part.limits.scope whole.limits.scope
+
+-- it is the answer to this question for the lists that begin with some turns
+abbrev pub IsPartOf : Asked → State → List ActorPlan → ℕ → Part → Type 0
+IsPartOf asked tree plans lines part = (own : Asked) × (AreOneQuestion own asked × IsPart own tree plans lines part)
+
+abbrev pub begins_in : List Part → List (List ℕ)
+begins_in parts = map (λ part. part.begin.items) parts
+
+-- each is a part of this question, each list that is asked for begins with just one, and none is there twice
+pub record ArePartsOf (asked : Asked) (tree : State) (plans : List ActorPlan) (lines : ℕ)
+    (parts : List Part) : Type 0 where
+  pub whole : asked.limits.scope.begin.items ≡ []
+  pub each : (part : Part) → IsAmong part parts → IsPartOf asked tree plans lines part
+  pub cover : AreBeginnings (opened_world tree plans lines) asked.limits.scope
+      (λ begin. IsAmong begin (begins_in parts))
+  pub once : EachOnce (begins_in parts)
+
+-- The texts are those of the same outcomes, and differ in the number of states alone, which the one has and the other
+-- doesn't. The answers are the same.
+pub record SayTheSame (properties : List Property) (holds answer : Bool) (whole text : List ℕ) : Type 0 where
+  pub all : List Told
+  pub lists : ℕ
+  pub states : ℕ
+  pub longest : ℕ
+  pub whole_is : whole ≡ told_text lists (Some states) longest all properties
+  pub text_is : text ≡ told_text lists None longest all properties
+  pub answers : answer ≡ holds
+
+-- What is joined of the parts says the same as the survey of all lists. The world has a seat for each plan: its roots
+-- were granted.
+abbrev pub MergedPartsAreTheWhole : Type 0
+MergedPartsAreTheWhole = (asked : Asked) (tree : State) (plans : List ActorPlan) (lines : ℕ) (parts : List Part)
+    (holds answer : Bool) (whole text : List ℕ)
+    → length plans ≡ length (opened_world tree plans lines).seats
+    → RepliesNameNoHandles (opened_world tree plans lines) asked.limits.scope
+    → ArePartsOf asked tree plans lines parts → IsSurvey asked tree plans lines holds whole
+    → IsJoined parts asked.properties.items answer text
+    → SayTheSame asked.properties.items holds answer whole text

@@ -1,0 +1,7 @@
+//! What the merge of parts writes, and what the one search writes: laws, each the contract of a function without a
+//! body.
+#![tactic(auto)]
+
+mod laws;
+
+pub use laws::{agreeing_lists_are_told_alike, merged_parts_are_the_whole};
