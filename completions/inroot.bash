@@ -6,8 +6,8 @@ _inroot() {
     else
         case ${COMP_WORDS[1]} in
         walk) words='--beneath --no-links --strict --help' ;;
-        replay) words='--schedule --strict --help' ;;
-        draw) words='--svg --all --width --color --schedule --strict --help' ;;
+        replay) words='--json --schedule --strict --help' ;;
+        draw) words='--svg --html --all --width --color --schedule --strict --help' ;;
         run) words='--workers --strict --help' ;;
         explore) words='--actor --cuts --begin --part --merge --states --jobs --outside --when --never --always --strict --help' ;;
         esac

@@ -12,6 +12,8 @@ complete -c inroot -n '__fish_seen_subcommand_from walk' -l beneath -d 'Refuse w
 complete -c inroot -n '__fish_seen_subcommand_from walk' -l no-links -d 'Follow no link'
 complete -c inroot -n '__fish_seen_subcommand_from replay draw' -l schedule -x -d 'Take these turns'
 complete -c inroot -n '__fish_seen_subcommand_from draw' -l svg -d 'Draw as SVG'
+complete -c inroot -n '__fish_seen_subcommand_from replay' -l json -d 'Print JSON'
+complete -c inroot -n '__fish_seen_subcommand_from draw' -l html -d 'Draw a page for a browser'
 complete -c inroot -n '__fish_seen_subcommand_from draw' -l all -d 'Draw each close'
 complete -c inroot -n '__fish_seen_subcommand_from draw' -l width -x -d 'In so many columns'
 complete -c inroot -n '__fish_seen_subcommand_from draw' -l color -x -a 'never auto always' -d 'When to use colours'

@@ -2,7 +2,7 @@
 use Rattle.std.specs.Prelude.{ℕ, List, [], ◌++◌, nat_lt, if◌then◌else◌, codes, decimal}
 use Rattle.command_line.specs.declared.advice.TheConstants.{STATES_MAX}
 use Rattle.command_line.specs.declared.ending.Fault.{Fault}
-use Rattle.command_line.specs.declared.ending.Fault.TheVariants.{Usage, NotUtf8, Schedule, AskedTurn, AskedTurns, Width, Color, NoRequest, Run, Options, PropertyFails, ExploreActor, ExploreProperty, ExploreStates, ExploreTurns, ExploreBegin, ExploreCuts, Merge, DrawActors, DrawLines, Service}
+use Rattle.command_line.specs.declared.ending.Fault.TheVariants.{Usage, NotUtf8, Schedule, AskedTurn, AskedTurns, Width, Color, NoRequest, Run, Options, PropertyFails, ExploreActor, ExploreProperty, ExploreStates, ExploreTurns, ExploreBegin, ExploreCuts, Merge, DrawActors, DrawLines, ReplayEvents, Service}
 use Rattle.scripts.specs.declared.fault.RunFault.TheVariants.{BookFull}
 
 -- more may be asked for, up to a limit
@@ -33,5 +33,6 @@ advice_of (ExploreCuts at) states =
     turn_advice at (codes " of --begin, counted from 0, makes more cuts than --cuts takes")
 advice_of DrawActors states = codes "a picture has at most 4 actors"
 advice_of DrawLines states = codes "a picture has at most 2000 lines, and its run 2000 events"
+advice_of ReplayEvents states = codes "a report as JSON has at most 2000 events"
 advice_of (Run BookFull) states = codes "\"lines\" is too small: each actor, or each worker of run, has one"
 advice_of other states = []

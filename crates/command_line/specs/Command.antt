@@ -9,6 +9,7 @@ use Rattle.clap.specs.declared.parser.matches.ArgMatches.{ArgMatches}
 use Rattle.drawings.specs.declared.picture.Closes.{Closes}
 use Rattle.drawings.specs.declared.picture.Closes.TheVariants.{Shown, Hidden}
 use Rattle.command_line.specs.declared.commands.Drawing.{Drawing}
+use Rattle.command_line.specs.declared.commands.Replaying.{Replaying}
 use Rattle.command_line.specs.declared.commands.Request.{Request}
 use Rattle.command_line.specs.declared.commands.Request.TheVariants as request
 use Rattle.command_line.specs.declared.commands.Walking.{Walking}
@@ -37,15 +38,21 @@ abbrev pub IsSchedule : ArgMatches → Option (Bor (List ℕ)) → Type 0
 IsSchedule matches (Some text) = first_value (found_of matches) (codes "schedule") ≡ Some text.now
 IsSchedule matches None = first_value (found_of matches) (codes "schedule") ≡ None
 
+-- `--json` asks for JSON
+pub record IsReplaying (matches : ArgMatches) (replaying : Replaying) : Type 0 where
+  pub schedule : IsSchedule matches replaying.schedule
+  pub form : IsOption matches (codes "json") replaying.json
+
 -- `--all` asks for what is closed, too
 abbrev pub is_all : Closes → Bool
 is_all Shown = true
 is_all Hidden = false
 
--- `--svg` asks for SVG, and the texts are those that were given
+-- `--svg` asks for SVG and `--html` for a page, and the texts are those that were given
 pub record IsDrawing (matches : ArgMatches) (drawing : Drawing) : Type 0 where
   pub schedule : IsSchedule matches drawing.schedule
   pub form : IsOption matches (codes "svg") drawing.svg
+  pub page : IsOption matches (codes "html") drawing.html
   pub closes : IsOption matches (codes "all") (is_all drawing.closes)
   pub width : option_map (λ text. text.now) drawing.width ≡ first_value (found_of matches) (codes "width")
   pub color : option_map (λ text. text.now) drawing.color ≡ first_value (found_of matches) (codes "color")
@@ -99,8 +106,8 @@ pub record AreOf (matches : ArgMatches) (name : List ℕ) (own : ArgMatches) : T
 abbrev pub IsRequest : ArgMatches → Option Request → Type 0
 IsRequest matches (Some (request.Walk walk)) =
     (own : ArgMatches) × (AreOf matches (codes "walk") own × IsWalk own walk)
-IsRequest matches (Some (request.Replay schedule)) =
-    (own : ArgMatches) × (AreOf matches (codes "replay") own × IsSchedule own schedule)
+IsRequest matches (Some (request.Replay replaying)) =
+    (own : ArgMatches) × (AreOf matches (codes "replay") own × IsReplaying own replaying)
 IsRequest matches (Some (request.Draw drawing)) =
     (own : ArgMatches) × (AreOf matches (codes "draw") own × IsDrawing own drawing)
 IsRequest matches (Some (request.Run workers)) =

@@ -6,8 +6,10 @@ use Rattle.scripts.specs.declared.fault.ScriptFault.TheVariants.{Turn, TooManyTu
 use Rattle.survey_text.specs.declared.merging.MergeFault.{MergeFault}
 use Rattle.survey_text.specs.declared.merging.MergeFault.TheVariants as merge
 use Rattle.command_line.specs.declared.ending.Fault.{Fault}
-use Rattle.command_line.specs.declared.ending.Fault.TheVariants.{Usage, NotUtf8, Schedule, AskedTurn, AskedTurns, Width, Color, NoRequest, Run, Options, PropertyFails, ExploreActor, ExploreProperty, ExploreStates, ExploreTurns, ExploreBegin, ExploreCuts, Merge, DrawActors, DrawLines, Service}
+use Rattle.command_line.specs.declared.ending.Fault.TheVariants.{Usage, NotUtf8, Schedule, AskedTurn, AskedTurns, Width, Color, NoRequest, Run, Options, PropertyFails, ExploreActor, ExploreProperty, ExploreStates, ExploreTurns, ExploreBegin, ExploreCuts, Merge, DrawActors, DrawLines, ReplayEvents, Service}
 use Rattle.script_drawings.specs.declared.drawing.DrawFault.{DrawFault}
+use Rattle.script_drawings.specs.declared.page.JsonFault.{JsonFault}
+use Rattle.script_drawings.specs.declared.page.JsonFault.TheVariants as json
 use Rattle.script_jobs.specs.declared.jobs.JobsFault.{JobsFault}
 use Rattle.script_jobs.specs.declared.jobs.JobsFault.TheVariants as jobs
 use Rattle.scripts.specs.declared.turns.TurnOrder.{TurnOrder}
@@ -62,6 +64,7 @@ status_of (Err (ExploreCuts at)) = FAILED
 status_of (Err (Merge fault)) = FAILED
 status_of (Err DrawActors) = FAILED
 status_of (Err DrawLines) = FAILED
+status_of (Err ReplayEvents) = FAILED
 status_of (Err (Service fault)) = FAILED
 
 -- how the program tells why nothing was drawn
@@ -69,6 +72,11 @@ abbrev pub told_of : DrawFault → Fault
 told_of (drawing.Run fault) = Run fault
 told_of drawing.TooManyActors = DrawActors
 told_of drawing.TooManyLines = DrawLines
+
+-- how it tells why nothing was told as JSON
+abbrev pub json_told_of : JsonFault → Fault
+json_told_of (json.Run fault) = Run fault
+json_told_of json.TooManyEvents = ReplayEvents
 
 -- how it tells why jobs have no replies
 abbrev pub jobs_told_of : JobsFault → Fault

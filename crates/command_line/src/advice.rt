@@ -88,6 +88,7 @@ pub fn advise(out: &mut Output, fault: Fault, states: u64) -> Result<(), NoMemor
         ),
         Fault::DrawActors => out.text("a picture has at most 4 actors"),
         Fault::DrawLines => out.text("a picture has at most 2000 lines, and its run 2000 events"),
+        Fault::ReplayEvents => out.text("a report as JSON has at most 2000 events"),
         Fault::Run(RunFault::BookFull) => {
             out.text("\"lines\" is too small: each actor, or each worker of run, has one")
         }

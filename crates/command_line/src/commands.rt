@@ -1,6 +1,6 @@
 //! The command line.
 ghost use Rattle.std.specs.Prelude.{◌≡◌, IfSome};
-ghost use Rattle.command_line.specs.Command.{IsAsked, IsDrawing, IsExploration, IsExploreRequest, IsRequest, IsSchedule, IsStrict, IsWorkers, texts_given};
+ghost use Rattle.command_line.specs.Command.{IsAsked, IsDrawing, IsExploration, IsExploreRequest, IsReplaying, IsRequest, IsSchedule, IsStrict, IsWorkers, texts_given};
 ghost use Rattle.survey_text.specs.Asked.{texts_in};
 
 use clap::builder::ValueParser;
@@ -29,7 +29,11 @@ const NO_LINKS: &str = "no-links";
 
 const SCHEDULE: &str = "schedule";
 
+const JSON: &str = "json";
+
 const SVG: &str = "svg";
+
+const HTML: &str = "html";
 
 const ALL: &str = "all";
 
@@ -127,7 +131,8 @@ const REPLAYING: &str =
     "SCRIPT is a JSON text on standard input, with the actors' calls and a schedule of their turns.
 
 Prints a line for each event, for how each call ended, for each entry of the tree
-then, and for each actor with how many handles it has open.
+then, and for each actor with how many handles it has open. As JSON it is one line, for a
+run of at most 2000 events.
 
 Example:
   inroot replay < examples/attacks/moved-out.json";
@@ -145,10 +150,16 @@ fn schedule<'a>(alloc: Global) -> Arg<'a> {
 
 // The command `replay`.
 fn replay<'a>(alloc: Global) -> Result<Command<'a>, AllocError> {
+    let json = option(
+        alloc,
+        JSON,
+        "Print JSON: the tree at the beginning, and what each event changed",
+    );
     Command::new(alloc, REPLAY)
         .about("Run the actors' calls by the schedule, and print what came of them")
         .override_usage("inroot replay [OPTIONS] < SCRIPT")
         .after_help(REPLAYING)
+        .arg(json)?
         .arg(schedule(alloc))?
         .arg(strict(alloc))
 }
@@ -171,6 +182,12 @@ Example:
 // The command `draw`.
 fn draw<'a>(alloc: Global) -> Result<Command<'a>, AllocError> {
     let svg = option(alloc, SVG, "Draw as SVG and not as text");
+    let html = option(
+        alloc,
+        HTML,
+        "Draw a page for a browser, with the tree of each moment",
+    )
+    .conflicts_with(SVG)?;
     let all = option(alloc, ALL, "Show each handle that is closed, too");
     let width = valued(
         alloc,
@@ -191,6 +208,7 @@ fn draw<'a>(alloc: Global) -> Result<Command<'a>, AllocError> {
         .override_usage("inroot draw [OPTIONS] < SCRIPT")
         .after_help(DRAWING)
         .arg(svg)?
+        .arg(html)?
         .arg(all)?
         .arg(width)?
         .arg(color)?
@@ -381,17 +399,27 @@ pub struct Drawing<'a> {
     pub schedule: Option<&'a str>,
     /// As SVG, and not as text.
     pub svg: bool,
+    /// As a page, and not as text.
+    pub html: bool,
     pub closes: Closes,
     pub width: Option<&'a str>,
     pub color: Option<&'a str>,
+}
+
+/// A report to make.
+#[derive(Clone, Copy, Debug)]
+pub struct Replaying<'a> {
+    /// The turns that are asked for in place of the script's.
+    pub schedule: Option<&'a str>,
+    /// As JSON, and not as text.
+    pub json: bool,
 }
 
 /// What a command line asks for.
 #[derive(Clone, Copy, Debug)]
 pub enum Request<'a> {
     Walk(Walking<'a>),
-    /// With the turns that are asked for in place of the script's.
-    Replay(Option<&'a str>),
+    Replay(Replaying<'a>),
     Draw(Drawing<'a>),
     /// By so many workers, 1 to 8.
     Run(usize),
@@ -422,6 +450,16 @@ fn schedule_asked<'a>(matches: &ArgMatches<'a>) -> Option<&'a str>
     matches.get_str(SCHEDULE)
 }
 
+/// The report that the arguments of `replay` ask for.
+fn replay_asked<'a>(matches: &ArgMatches<'a>) -> Replaying<'a>
+    ensures { IsReplaying matches.now result }
+{
+    Replaying {
+        schedule: schedule_asked(matches),
+        json: matches.get_flag(JSON),
+    }
+}
+
 /// The picture that the arguments of `draw` ask for.
 fn drawing_asked<'a>(matches: &ArgMatches<'a>) -> Drawing<'a>
     ensures { IsDrawing matches.now result }
@@ -434,6 +472,7 @@ fn drawing_asked<'a>(matches: &ArgMatches<'a>) -> Drawing<'a>
     Drawing {
         schedule: schedule_asked(matches),
         svg: matches.get_flag(SVG),
+        html: matches.get_flag(HTML),
         closes,
         width: matches.get_str(WIDTH),
         color: matches.get_str(COLOR),
@@ -505,7 +544,7 @@ pub fn asked<'m>(matches: &'m ArgMatches<'_>) -> Option<Request<'m>>
     ensures { IsRequest matches.now result }
 {
     if let Some(matches) = matches.subcommand_matches(REPLAY) {
-        return Some(Request::Replay(schedule_asked(matches)));
+        return Some(Request::Replay(replay_asked(matches)));
     }
     if let Some(matches) = matches.subcommand_matches(DRAW) {
         return Some(Request::Draw(drawing_asked(matches)));

@@ -1,11 +1,11 @@
 //! How the program ends.
 ghost use Rattle.std.specs.Prelude.{◌≡◌};
-ghost use Rattle.command_line.specs.Ending.{status_of, told_of, jobs_told_of, options_told_of, explore_told_of, merge_told_of};
+ghost use Rattle.command_line.specs.Ending.{status_of, told_of, json_told_of, jobs_told_of, options_told_of, explore_told_of, merge_told_of};
 ghost use Rattle.command_line.specs.declared.ending.Fault.TheVariants.{Run};
 ghost use Rattle.scripts.specs.declared.fault.RunFault.TheVariants.{NoMemory as OutOfMemory};
 
 use path_text::NoMemory;
-use script_drawings::DrawFault;
+use script_drawings::{DrawFault, JsonFault};
 use script_jobs::{JobsFault, ServiceFault};
 use scripts::RunFault;
 use std::alloc::AllocError;
@@ -71,6 +71,9 @@ pub enum Fault {
     /// The run has more events and replies than a picture has lines.
     #[error("draw: lines")]
     DrawLines,
+    /// The run has more events than are told as JSON.
+    #[error("replay: events")]
+    ReplayEvents,
     /// Jobs weren't served, or their service wasn't closed.
     #[error("{0}")]
     Service(ServiceFault),
@@ -92,6 +95,17 @@ impl From<DrawFault> for Fault {
             DrawFault::Run(fault) => Fault::Run(fault),
             DrawFault::TooManyActors => Fault::DrawActors,
             DrawFault::TooManyLines => Fault::DrawLines,
+        }
+    }
+}
+
+impl From<JsonFault> for Fault {
+    ghost from_gives = { λ fault told. told ≡ json_told_of fault };
+
+    fn from(fault: JsonFault) -> Fault {
+        match fault {
+            JsonFault::Run(fault) => Fault::Run(fault),
+            JsonFault::TooManyEvents => Fault::ReplayEvents,
         }
     }
 }
@@ -186,6 +200,7 @@ pub fn status(ended: &Result<(), Fault>) -> u8
             | Fault::Merge(_)
             | Fault::DrawActors
             | Fault::DrawLines
+            | Fault::ReplayEvents
             | Fault::Service(_),
         ) => 4,
         Err(

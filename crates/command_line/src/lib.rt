@@ -15,7 +15,7 @@ mod order;
 mod style;
 
 pub use advice::advise;
-pub use commands::{Drawing, Request, Walking, asked, command, is_strict};
+pub use commands::{Drawing, Replaying, Request, Walking, asked, command, is_strict};
 pub use ending::{Fault, status};
 pub use entry::{entry_of, entry_text};
 pub use order::{blamed, order_of};

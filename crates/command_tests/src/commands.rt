@@ -43,19 +43,41 @@ fn ends_with_its_statuses(rt: HostRuntime) {
         (Err(Fault::Run(RunFault::BookFull)), 4),
         (Err(Fault::DrawActors), 4),
         (Err(Fault::DrawLines), 4),
+        (Err(Fault::ReplayEvents), 4),
         (Err(Fault::Service(ServiceFault::Lost(0))), 4),
     ] {
         assert!(rt; status(&ended) == want, "{want:?}");
     }
 }
 
-/// Turns that are asked for with a replay or a drawing, and how it is drawn: whether as SVG.
-type Run<'a> = (Option<&'a str>, Option<(bool, Closes)>);
+/// How a replay or a drawing is written.
+#[derive(Clone, Copy, PartialEq, Eq)]
+enum Written {
+    Text,
+    Json,
+    Picture,
+    Svg,
+    Page,
+}
 
-fn is_run(want: Option<Run>, schedule: Option<&str>, style: Option<(bool, Closes)>) -> bool {
+/// Turns that are asked for with a replay or a drawing, how it is written, and whether with what is closed.
+type Run<'a> = (Option<&'a str>, Written, Closes);
+
+fn is_run(want: Option<Run>, schedule: Option<&str>, written: Written, closes: Closes) -> bool {
     match want {
-        Some((turns, wanted)) => turns == schedule && wanted == style,
+        Some((turns, form, shown)) => turns == schedule && form == written && shown == closes,
         None => false,
+    }
+}
+
+/// How a drawing that is asked for is written.
+fn written_as(drawing: Drawing) -> Written {
+    if drawing.html {
+        Written::Page
+    } else if drawing.svg {
+        Written::Svg
+    } else {
+        Written::Picture
     }
 }
 
@@ -68,10 +90,16 @@ fn asks_run(alloc: Global, words: &[&str], want: Option<Run>) -> bool {
         return want.is_none();
     };
     match asked(&matches) {
-        Some(Request::Replay(schedule)) => is_run(want, schedule, None),
+        Some(Request::Replay(replaying)) => {
+            let written = if replaying.json {
+                Written::Json
+            } else {
+                Written::Text
+            };
+            is_run(want, replaying.schedule, written, Closes::Hidden)
+        }
         Some(Request::Draw(drawing)) => {
-            let style = (drawing.svg, drawing.closes);
-            is_run(want, drawing.schedule, Some(style))
+            is_run(want, drawing.schedule, written_as(drawing), drawing.closes)
         }
         _ => want.is_none(),
     }
@@ -96,20 +124,34 @@ fn reads_its_command_line(rt: HostRuntime) {
     let words = ["inroot", "walk", "--no-links", "--", "-a"];
     assert!(rt; asks(rt.alloc(), &words, "-a", false, true));
     for (words, want) in [
-        (["inroot", "replay"].as_slice(), Some((None, None))),
+        (
+            ["inroot", "replay"].as_slice(),
+            Some((None, Written::Text, Closes::Hidden)),
+        ),
         (
             &["inroot", "replay", "--schedule", "0*3,1"],
-            Some((Some("0*3,1"), None)),
+            Some((Some("0*3,1"), Written::Text, Closes::Hidden)),
+        ),
+        (
+            &["inroot", "replay", "--schedule=1", "--json"],
+            Some((Some("1"), Written::Json, Closes::Hidden)),
         ),
         (&["inroot", "replay", "a"], None),
         (
             &["inroot", "draw", "--all"],
-            Some((None, Some((false, Closes::Shown)))),
+            Some((None, Written::Picture, Closes::Shown)),
         ),
         (
             &["inroot", "draw", "--schedule=-", "--svg"],
-            Some((Some("-"), Some((true, Closes::Hidden)))),
+            Some((Some("-"), Written::Svg, Closes::Hidden)),
         ),
+        (
+            &["inroot", "draw", "--html", "--all"],
+            Some((None, Written::Page, Closes::Shown)),
+        ),
+        (&["inroot", "draw", "--html", "--svg"], None),
+        (&["inroot", "draw", "--json"], None),
+        (&["inroot", "replay", "--html"], None),
         (&["inroot", "replay", "--svg"], None),
     ] {
         assert!(rt; asks_run(rt.alloc(), words, want), "{words:?}");
@@ -342,6 +384,7 @@ fn draws_as_it_is_asked_to(rt: HostRuntime) {
         let drawing = Drawing {
             schedule: None,
             svg: false,
+            html: false,
             closes: Closes::Hidden,
             width,
             color,

@@ -16,8 +16,9 @@ use command_line::{
     Drawing, Fault, Request, Screen, Walking, asked, blamed, command, is_strict, order_of, status,
     style_of,
 };
+use drawings::Closes;
 use explore_text::{Asked, explore_part, explore_script, merge_parts, read_asked};
-use script_drawings::{Style, draw};
+use script_drawings::{Style, draw, draw_page, replay_json};
 use script_jobs::run_jobs;
 use script_runs::{replay, walk};
 use scripts::{RunFault, TurnOrder, read_script, read_strictly};
@@ -68,7 +69,9 @@ struct Workers {
 enum Task<'a> {
     Walk(Walking<'a>),
     Replay(TurnOrder),
+    Json(TurnOrder),
     Draw(TurnOrder, Style),
+    Page(TurnOrder, Closes),
     Run(Workers),
     Explore(Asked),
     Part(Asked),
@@ -103,7 +106,14 @@ fn task_of<'m>(rt: &HostRuntime, matches: &'m ArgMatches<'_>) -> Result<Task<'m>
     let alloc = rt.alloc();
     Ok(match asked(matches).ok_or(Fault::NoRequest)? {
         Request::Walk(walking) => Task::Walk(walking),
-        Request::Replay(schedule) => Task::Replay(order_of(alloc, schedule)?),
+        Request::Replay(replaying) if replaying.json => {
+            Task::Json(order_of(alloc, replaying.schedule)?)
+        }
+        Request::Replay(replaying) => Task::Replay(order_of(alloc, replaying.schedule)?),
+        Request::Draw(drawing) if drawing.html => Task::Page(
+            order_of(alloc, drawing.schedule)?,
+            drawing.closes,
+        ),
         Request::Draw(drawing) => Task::Draw(
             order_of(alloc, drawing.schedule)?,
             style_on(rt, drawing)?,
@@ -139,6 +149,16 @@ fn perform<R: Threads + Wait + Sync, S: Read>(
         }
         Task::Replay(order) => {
             if let Err(fault) = replay(alloc, script, &mut output, order) {
+                return Err(blamed(order, Fault::from(fault)));
+            }
+        }
+        Task::Json(order) => {
+            if let Err(fault) = replay_json(alloc, script, &mut output, order) {
+                return Err(blamed(order, Fault::from(fault)));
+            }
+        }
+        Task::Page(order, closes) => {
+            if let Err(fault) = draw_page(alloc, script, &mut output, order, *closes) {
                 return Err(blamed(order, Fault::from(fault)));
             }
         }

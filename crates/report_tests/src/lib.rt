@@ -1,6 +1,8 @@
-//! Reports, their renumbering and pictures of runs, by tables of lines.
+//! Reports, their renumbering, pictures, JSON and pages of runs, by tables of lines.
 #![tactic(auto)]
 
+#[cfg(test)]
+mod json;
 #[cfg(test)]
 mod pictures;
 #[cfg(test)]

@@ -33,13 +33,13 @@ granted_so said_tree tree t said_plans plans same none are h =
 -- ---- the picture
 
 -- the tree in which the roots were granted again is the one that the run went from
-opening : (said : Said) (t tree : State) (events : List Event) (replies : List (List Outcome)) (run : IsRunOf said tree events replies)
+pub opening : (said : Said) (t tree : State) (events : List Event) (replies : List (List Outcome)) (run : IsRunOf said tree events replies)
     → opened_by (granted (tree_of said) 0 said.plans) ≡ Some t → t ≡ run.opened.roots.tree
 opening said t tree events replies run h =
     let are : Some t ≡ Some run.opened.roots.tree = sym h ∙ ap opened_by run.opened.are_granted in cc (are)
 
 -- the picture made of it is the run's
-made : (closes : Closes) (said : Said) (t tree : State) (calls : List (List (List ℕ))) (events : List Event) (replies : List (List Outcome)) (run : IsRunOf said tree events replies)
+pub made : (closes : Closes) (said : Said) (t tree : State) (calls : List (List (List ℕ))) (events : List Event) (replies : List (List Outcome)) (run : IsRunOf said tree events replies)
     → opened_by (granted (tree_of said) 0 said.plans) ≡ Some t → calls ≡ calls_of said.plans → drawn_of closes t calls events replies ≡ drawn closes said tree events replies run
 made closes said t tree calls events replies run h are =
     ap (λ (s : State). drawn_of closes s calls events replies) (opening said t tree events replies run h)

@@ -1,0 +1,8 @@
+use Rattle.std.proofs.Common.{◌≡◌, ◌++◌, drop}
+use Rattle.report_text.specs.Report.{numbered}
+use Rattle.pages.specs.Run.{replies_at}
+use Rattle.pages.proofs.report.all_actors.Given as goal
+
+-- what is written and what is left to write make the whole
+abbrev pub invariant-loop-at : goal.invariant-loop-at
+invariant-loop-at l = l.out ++ numbered replies_at l.at (drop l.at l.actors) ≡ l.fn.out ++ numbered replies_at 0 l.actors

@@ -1,0 +1,308 @@
+//! What every page has. `tools/page` writes this file from `page.html`.
+
+/// What a page begins with, up to the report as text.
+pub const BEGINNING: &str = "<!doctype html>
+<html lang=\"en\">
+<head>
+<meta charset=\"utf-8\">
+<meta name=\"viewport\" content=\"width=device-width, initial-scale=1\">
+<meta http-equiv=\"Content-Security-Policy\"
+ content=\"default-src 'none'; script-src 'unsafe-inline'; style-src 'unsafe-inline'\">
+<title>A run of calls below a root</title>
+<style>
+:root { color-scheme: light; --line: #8a93a5; --shade: #e3e0d8; --now: #fff3bf; }
+body { margin: 1rem; background: #fff; color: #1c1f26; font: 14px/1.45 system-ui, sans-serif; }
+h1 { font-size: 1.25rem; margin: 0 0 .5rem; }
+h2 { font-size: 1rem; margin: .75rem 0 .25rem; }
+pre, td, th, li, output { font-family: ui-monospace, monospace; overflow-wrap: anywhere; }
+pre { white-space: pre-wrap; font-size: 12px; }
+ul { list-style: none; margin: 0; padding: 0; }
+[hidden] { display: none; }
+:focus-visible { outline: 3px solid #0b57d0; outline-offset: 2px; }
+#controls { display: flex; flex-wrap: wrap; gap: .5rem 1rem; align-items: center; margin: .5rem 0; }
+#moment { flex: 1 1 20rem; min-width: 12rem; }
+#now { flex: 1 1 100%; min-height: 1.45em; }
+#panes { display: grid; grid-template-columns: minmax(0, 3fr) minmax(0, 2fr); gap: 1rem; }
+@media (max-width: 50rem) { #panes { grid-template-columns: minmax(0, 1fr); } }
+.pane { overflow: auto; max-height: 75vh; border: 1px solid var(--line); }
+table { border-collapse: collapse; width: 100%; table-layout: fixed; }
+th, td { border-left: 1px solid var(--line); padding: .1rem .4rem; text-align: left; vertical-align: top; }
+th { position: sticky; top: 0; background: #fff; border-bottom: 1px solid var(--line); }
+th:first-child, td:first-child { border-left: 0; width: 3.5rem; text-align: right; }
+tbody tr { cursor: pointer; }
+tr.later { color: #6b7280; }
+tr.later td { font-style: italic; }
+tr.now td { background: var(--now); }
+tr.now td:first-child::before { content: \"> \"; }
+.good { color: #1a7f37; }
+.failed { color: #9a6700; }
+.bad { color: #c0182b; font-weight: bold; }
+#heading-pane { max-height: 25vh; padding: .2rem .4rem; }
+#heading li { white-space: pre-wrap; }
+#tree li, #gone li { border-left: 4px solid transparent; padding: .05rem .4rem .05rem calc(.4rem + var(--depth, 0) * 1.25rem); }
+#tree li.outside { background: var(--shade); border-left: 4px double var(--line); }
+li.changed .name { background: var(--now); outline: 1px solid #b08900; }
+.node { color: #5b6270; font-size: .86em; }
+.mark { border: 1px solid currentColor; border-radius: .6rem; padding: 0 .4rem; margin-left: .4rem; font-size: .86em; }
+.actor0 { color: #0b57d0; } .actor1 { color: #a8430a; } .actor2 { color: #6a1b9a; } .actor3 { color: #00695c; }
+.unseen { position: absolute; width: 1px; height: 1px; overflow: hidden; clip-path: inset(50%); }
+@media print {
+  body { margin: 0; font-size: 11px; }
+  #controls label, #controls input, #controls select { display: none; }
+  .pane, #heading-pane { overflow: visible; max-height: none; }
+  #panes { display: block; }
+  tr, li { break-inside: avoid; }
+  th { position: static; }
+  tr.later { color: inherit; }
+  tr.later td { font-style: normal; }
+  * { print-color-adjust: exact; -webkit-print-color-adjust: exact; }
+}
+</style>
+</head>
+<body>
+<main>
+<h1>A run of calls below a root</h1>
+<div id=\"shown\" hidden>
+<h2 id=\"heading-name\">What the actors called for, and how it ended</h2>
+<div class=\"pane\" id=\"heading-pane\" tabindex=\"0\" role=\"region\" aria-labelledby=\"heading-name\">
+<ul id=\"heading\"></ul>
+</div>
+<div id=\"controls\">
+<label for=\"moment\">Moment</label>
+<input id=\"moment\" type=\"range\" min=\"0\" value=\"0\" step=\"1\">
+<label for=\"root\">Shade what is outside of the root of</label>
+<select id=\"root\"></select>
+<output id=\"now\" for=\"moment\" aria-live=\"polite\"></output>
+</div>
+<div id=\"panes\">
+<section aria-labelledby=\"steps-name\">
+<h2 id=\"steps-name\">Who did what, told as things stood just before</h2>
+<div class=\"pane\" id=\"steps\" tabindex=\"0\" role=\"region\" aria-labelledby=\"steps-name\"></div>
+</section>
+<section aria-labelledby=\"tree-name\">
+<h2 id=\"tree-name\">The tree at this moment</h2>
+<div class=\"pane\" id=\"tree-pane\" tabindex=\"0\" role=\"region\" aria-labelledby=\"tree-name\">
+<ul id=\"tree\"></ul>
+<div id=\"gone-part\"><h2>Held, and standing nowhere any more</h2><ul id=\"gone\"></ul></div>
+</div>
+</section>
+</div>
+</div>
+<noscript><p>A script of this page shows the run moment by moment. It doesn't run here, so this is the report as
+text.</p></noscript>
+<details id=\"text\" open>
+<summary>The report as text</summary>
+<pre>
+";
+
+/// What stands between the report as text and the report as JSON.
+pub const REPORT: &str = "</pre>
+</details>
+</main>
+<script type=\"application/json\" id=\"report\">";
+
+/// What stands between the report and the picture.
+pub const PICTURE: &str = "</script>
+<script type=\"application/json\" id=\"picture\">";
+
+/// What a page ends with: the script that shows the picture and the tree of each moment.
+pub const END: &str = "</script>
+<script>
+(() => {
+  'use strict';
+  const find = (id) => document.getElementById(id);
+  const report = JSON.parse(find('report').textContent);
+  const picture = JSON.parse(find('picture').textContent);
+
+  // An element with a text, which is never read as markup.
+  const make = (tag, text, name) => {
+    const it = document.createElement(tag);
+    it.textContent = text;
+    it.className = name || '';
+    return it;
+  };
+
+  // The tree at a moment: that of the beginning, and what each event before the moment changed.
+  const treeAt = (moment) => {
+    const nodes = new Map();
+    const handles = new Map();
+    for (const change of [report, ...report.events.slice(0, moment)]) {
+      for (const [node, kind, parent, name] of change.nodes) {
+        nodes.set(node, { kind, parent, name });
+      }
+      for (const [handle, actor, node] of change.handles) {
+        if (actor === undefined) {
+          handles.delete(handle);
+        } else {
+          handles.set(handle, { actor, node });
+        }
+      }
+    }
+    return { nodes, handles };
+  };
+
+  // The bytes of a name, by which names are ordered.
+  const bytesOf = (name) => name.replace(/\\\\x(..)/g, (_, digits) => String.fromCharCode(parseInt(digits, 16)));
+
+  // The nodes of each directory, by their names.
+  const entriesOf = (nodes) => {
+    const entries = new Map();
+    for (const [node, it] of nodes) {
+      if (it.parent !== undefined) {
+        entries.set(it.parent, [...(entries.get(it.parent) || []), { node, key: bytesOf(it.name) }]);
+      }
+    }
+    for (const own of entries.values()) {
+      own.sort((a, b) => (a.key < b.key ? -1 : 1));
+    }
+    return entries;
+  };
+
+  // What stands in the tree from the top down: each node with its depth, and whether it is a root or stands below it.
+  const standing = (nodes, root) => {
+    const entries = entriesOf(nodes);
+    const rows = [];
+    const left = [{ node: 0, depth: 0, inside: root === 0 }];
+    while (left.length > 0) {
+      const row = left.pop();
+      rows.push(row);
+      const own = entries.get(row.node) || [];
+      for (let at = own.length - 1; at >= 0; at -= 1) {
+        const node = own[at].node;
+        left.push({ node, depth: row.depth + 1, inside: row.inside || node === root });
+      }
+    }
+    return rows;
+  };
+
+  const roots = report.handles.slice(0, picture.actors).map(([, , node]) => node);
+
+  // A node with its name, its number, and a mark for each handle that is open on it.
+  const item = (tree, node, held) => {
+    const it = tree.nodes.get(node);
+    const li = make('li', '');
+    const sign = it.kind === 'dir' ? '/' : it.kind === 'link' ? ' (link)' : '';
+    li.append(make('span', (it.name || '') + sign, 'name'), ' ', make('span', `node ${node}`, 'node'));
+    roots.forEach((root, actor) => {
+      if (root === node) {
+        li.append(make('span', `root of actor ${actor}`, `mark actor${actor}`));
+      }
+    });
+    for (const [handle, actor] of held.get(node) || []) {
+      if (handle >= roots.length) {
+        li.append(make('span', `actor ${actor} handle ${handle}`, `mark actor${actor}`));
+      }
+    }
+    return li;
+  };
+
+  // The open handles of each node.
+  const heldIn = (tree) => {
+    const held = new Map();
+    for (const [handle, { actor, node }] of tree.handles) {
+      held.set(node, [...(held.get(node) || []), [handle, actor]]);
+    }
+    return held;
+  };
+
+  const showTree = (moment, actor) => {
+    const tree = treeAt(moment);
+    const held = heldIn(tree);
+    const event = moment > 0 ? report.events[moment - 1] : { nodes: [] };
+    const changed = new Set(event.nodes.map(([node]) => node));
+    const rows = standing(tree.nodes, roots[actor]);
+    const seen = new Set(rows.map((row) => row.node));
+    find('tree').replaceChildren(...rows.map(({ node, depth, inside }) => {
+      const li = item(tree, node, held);
+      li.style.setProperty('--depth', Math.min(depth, 40));
+      li.classList.toggle('changed', changed.has(node));
+      if (!inside) {
+        li.classList.add('outside');
+        li.append(make('span', ', outside', 'unseen'));
+      }
+      return li;
+    }));
+    const gone = [...held.keys()].filter((node) => !seen.has(node));
+    find('gone').replaceChildren(...gone.map((node) => item(tree, node, held)));
+    find('gone-part').hidden = gone.length === 0;
+  };
+
+  const showMoment = (moment) => {
+    for (const row of document.querySelectorAll('#steps tbody tr')) {
+      const at = Number(row.dataset.moment);
+      row.classList.toggle('now', at === moment - 1);
+      row.classList.toggle('later', at >= moment);
+      if (at === moment - 1) {
+        row.setAttribute('aria-current', 'step');
+        row.scrollIntoView({ block: 'nearest' });
+      } else {
+        row.removeAttribute('aria-current');
+      }
+    }
+    const { actor, step, answer } = report.events[moment - 1] || {};
+    const told = moment > 0 ? `after event ${moment - 1}: actor ${actor} ${step} = ${answer}` : 'as the run begins';
+    find('now').textContent = `moment ${moment} of ${report.events.length}, ${told}`;
+    find('moment').setAttribute('aria-valuetext', find('now').textContent);
+  };
+
+  const show = () => {
+    const moment = Number(find('moment').value);
+    showMoment(moment);
+    showTree(moment, Number(find('root').value));
+  };
+
+  // A row for each line of the picture. A line without a moment is a note on the event before it.
+  const stepRows = () => {
+    let last = -1;
+    return picture.lines.map((line) => {
+      last = line.moment === null ? last : line.moment;
+      const row = make('tr', '');
+      row.dataset.moment = last;
+      row.append(make('td', line.moment === null ? '' : line.moment));
+      for (let actor = 0; actor < picture.actors; actor += 1) {
+        row.append(make('td', actor === line.actor ? line.text : '', actor === line.actor ? line.tone : ''));
+      }
+      row.addEventListener('click', () => {
+        find('moment').value = Number(row.dataset.moment) + 1;
+        show();
+      });
+      return row;
+    });
+  };
+
+  const begin = () => {
+    const table = make('table', '');
+    const names = make('tr', '');
+    const head = make('thead', '');
+    const body = make('tbody', '');
+    names.append(make('th', ''));
+    for (let actor = 0; actor < picture.actors; actor += 1) {
+      names.append(make('th', `actor ${actor}`, `actor${actor}`));
+      const choice = make('option', `actor ${actor}`);
+      choice.value = actor;
+      find('root').append(choice);
+    }
+    for (const cell of names.children) {
+      cell.scope = 'col';
+    }
+    head.append(names);
+    body.append(...stepRows());
+    table.append(head, body);
+    find('steps').append(table);
+    find('heading').append(...picture.heading.map(({ tone, text }) => make('li', text, tone)));
+    find('moment').max = report.events.length;
+    find('moment').value = report.events.length;
+    find('moment').addEventListener('input', show);
+    find('root').addEventListener('change', show);
+    find('text').open = false;
+    find('shown').hidden = false;
+    show();
+    find('moment').focus();
+  };
+
+  begin();
+})();
+</script>
+</body>
+</html>
+";
