@@ -84,7 +84,11 @@ static int take(const char *path, const struct stat *about, int what, struct FTW
     if (what != FTW_SL && what != FTW_SLN)
         add(below, 0);
     const struct open_how how = {.flags = O_PATH | O_CLOEXEC, .resolve = RESOLVE_IN_ROOT};
-    int fd = what == FTW_SL || what == FTW_SLN ? (int)syscall(SYS_openat2, top, below, &how, sizeof how) : -1;
+    int fd;
+    /* The kernel refuses a path with `..` by EAGAIN while others rename. */
+    do
+        fd = what == FTW_SL || what == FTW_SLN ? (int)syscall(SYS_openat2, top, below, &how, sizeof how) : -1;
+    while (fd < 0 && (what == FTW_SL || what == FTW_SLN) && errno == EAGAIN);
     if (fd >= 0 && fstat(fd, &target) == 0)
         add(below, 1);
     if (fd >= 0)

@@ -11,7 +11,10 @@
 
 enum { FIRST = -65536, IN_USE = 1 };
 
-/* Above the root, and below twice the directory and a bit that the place is taken; or zero. */
+/*
+ * Of a place that is taken, the upper half holds the root's descriptor, and the lower half twice the directory's, plus
+ * one. A free place is zero.
+ */
 static _Atomic uint64_t places[INROOT_ATS];
 
 static uint64_t pair_of(int root, int dir)

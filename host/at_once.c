@@ -17,7 +17,7 @@ static bool may_open(const struct inroot_request *asked)
     return opens && !leads_out;
 }
 
-/* The path as a place, which it is where it is plain names: a slash before each. Gives how long that is. */
+/* Writes the path as a place, with a slash before the first name. A path of plain names is one. Gives its length. */
 static size_t as_place(const struct inroot_driver *d, char *text)
 {
     size_t slash = d->asked->first[0] == '/' ? 0 : 1;
@@ -26,7 +26,7 @@ static size_t as_place(const struct inroot_driver *d, char *text)
     return slash + d->first_length;
 }
 
-/* Where it stands: as the kernel has seen it, below the root. Or at which names, too. Whether that could be told. */
+/* Finds the names at which the object stands. Under INROOT_BELOW the path has them. Tells whether it found them. */
 static bool find_place(struct inroot_driver *d, int root, char *text, size_t *length)
 {
     struct inroot_run *run = &d->run;

@@ -8,10 +8,10 @@
 #include <sys/stat.h>
 #include <unistd.h>
 
-/* The bits that are no kind of file; and how many nanoseconds a second has. */
+/* The bits of a mode beside the kind of file; the nanoseconds of a second. */
 enum { MODE_BITS = 07777, SECOND = 1000000000 };
 
-/* What comes before any change: AT_FDCWD is no object that was found, and neither is INROOT_JAIL. 0 or -errno. */
+/* Checks before anything changes. AT_FDCWD and INROOT_JAIL name no object that was found. Gives 0 or -errno. */
 static int check(int fd, bool is_right)
 {
     return !is_right ? -EINVAL : fd < 0 ? -EBADF : 0;
@@ -72,7 +72,7 @@ static ssize_t change_times(int proc, const char *name, void *what)
     return utimensat(proc, name, what, 0);
 }
 
-/* Before Linux 5.8 the flag is none, and EINVAL: of what is right otherwise, as it is here. */
+/* Linux before 5.8 doesn't know the flag and says EINVAL. All else was checked before, so EINVAL says nothing more. */
 static int set_times(int fd, struct timespec *times)
 {
     if (utimensat(fd, "", times, AT_EMPTY_PATH) == 0)

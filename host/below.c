@@ -66,7 +66,7 @@ int inroot_look_up(struct inroot_driver *d, int dir, const char *names, uint64_t
         int fd = open_here(from, names, flags, resolve);
         if (fd >= 0 || errno != EBADF || dir != INROOT_JAILED || from != inroot_trust_root())
             return fd;
-        /* The program has closed what the thread keeps, which goes on without. */
+        /* The program has closed the descriptor that the thread keeps. The thread goes on without it. */
         inroot_trust_end();
     }
 }

@@ -6,7 +6,7 @@
 #include <fcntl.h>
 #include <unistd.h>
 
-/* By one that is at hand, or surely by /proc; and whether it may have failed for want of /proc. */
+/* Acts by a /proc that is at hand, or with SURELY by one that was checked. Tells whether the failure may be /proc's. */
 static ssize_t done_by(bool surely, int fd, inroot_act *act, void *what, bool *is_lost)
 {
     char written[INROOT_PROC_NAME];
@@ -32,6 +32,6 @@ ssize_t inroot_by_proc(int fd, inroot_act *act, void *what)
     ssize_t done = done_by(false, fd, act, what, &is_lost);
     if (is_lost)
         done = done_by(true, fd, act, what, &is_lost);
-    /* What has no name there for want of a descriptor. */
+    /* A number that is no open descriptor has no name in /proc. */
     return done == -ENOSYS && fcntl(fd, F_GETFD) < 0 ? -EBADF : done;
 }

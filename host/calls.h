@@ -1,6 +1,7 @@
 /*
- * calls.h: the proved library's five functions, and what passes between it and a driver. The numbers and bytes are those
- * of crates/c_protocol, whose contracts say what they stand for. A program that makes calls includes inroot.h, and not this.
+ * calls.h: the proved library's twelve functions, and what passes between it and a driver. The numbers and bytes are those
+ * of crates/c_protocol and crates/kernel_text, whose contracts say what they stand for. A program that makes calls
+ * includes inroot.h, and not this.
  */
 #ifndef INROOT_CALLS_H
 #define INROOT_CALLS_H
@@ -71,6 +72,38 @@ void inroot_next(struct inroot_kept *kept, const struct inroot_answered *answere
                  size_t length, struct inroot_told *told, unsigned char *room, size_t size);
 
 /*
+ * Names that come next in a call: how many; how many bytes they take, a slash before each; whether `..` comes behind them, which
+ * is counted and written as well; and whether the walk ends behind them.
+ */
+struct inroot_ahead_names {
+    size_t names, used;
+    bool up, ends;
+};
+
+/*
+ * Writes the names that a call is due to open next, one in another, if each of them is a directory: at most so many, and so many as
+ * fit. The call stays as it is: `kept` holds one. None where no Open is due, or without memory to look ahead. NUMBER is that of
+ * inroot_pass_names().
+ */
+void inroot_names_ahead(struct inroot_kept *kept, size_t most, uint64_t number, unsigned char *room, size_t size,
+                        struct inroot_ahead_names *ahead);
+
+/* Names that a call has passed: the handle in whose directory the first was opened, how many, and whether that is closed now. */
+struct inroot_ran {
+    uint64_t dir;
+    size_t names;
+    bool shut;
+};
+
+/*
+ * Tells a call that the names of a text, a slash between each two, were passed as directories, as by one openat2(2) with
+ * RESOLVE_NO_SYMLINKS. It passes those that it was due to open, one in another, and tells the step that is due behind them. What is
+ * opened so has numbers that count up from NUMBER, and counts as closed where the call closes it. `kept` holds a call.
+ */
+void inroot_pass_names(struct inroot_kept *kept, const unsigned char *text, size_t length, uint64_t number,
+                       struct inroot_told *told, unsigned char *room, size_t size, struct inroot_ran *ran);
+
+/*
  * Whether a call goes so: PATH's names are opened one after another, each a directory but for the last, which is of this
  * KIND, and stands at PLACE when it is asked for. Then its reply is what was opened. It is true of a resolve, but not of a
  * link that it would follow, and of a call that makes all directories, where they are there; and only where PATH is just
@@ -99,5 +132,63 @@ void inroot_split(const unsigned char *path, size_t path_length, bool takes_slas
  * link is that is made. An error that is none is told as ENOMEM, that is as a step that wasn't made.
  */
 bool inroot_is_refusal(uint8_t what, uint8_t mode, size_t text, uint32_t error);
+
+/* ---- what the kernel's texts say. None of these needs a call under way. */
+
+/*
+ * Where an object stands below a root, in a text that the kernel told: it begins there, and has so many bytes, a slash before
+ * each name, or a slash alone for the root. A length of 0: the text tells no place. `gone`: the place ends as the kernel writes
+ * of what was removed, in " (deleted)"; a name may end so, too.
+ */
+struct inroot_place {
+    size_t start, length;
+    bool gone;
+};
+
+/*
+ * The place that PATH tells, the text of an object's link in /proc/pid/fd (proc(5)), by those of the root's link BEFORE it and
+ * AFTER it, all without a NUL. BEFORE may be given twice, where something else says that the root stayed there. None is told if
+ * the root's two differ, if one begins with no slash, if PATH doesn't go on with a slash behind the root's, and by a PATH
+ * of more than 4,095 bytes.
+ */
+void inroot_place_between(const unsigned char *before, size_t before_length, const unsigned char *path, size_t path_length,
+                          const unsigned char *after, size_t after_length, struct inroot_place *place);
+
+/* The same of the thread's current directory below its own root, by what getcwd(2) wrote: so many bytes, with the NUL. */
+void inroot_place_of_cwd(const unsigned char *told, size_t told_length, struct inroot_place *place);
+
+/*
+ * Whether what was found at a place has a name still, by the text AGAIN that its link tells afterwards: this doesn't end in
+ * " (deleted)", or its last name is that of the place.
+ */
+bool inroot_is_named(const unsigned char *again, size_t again_length, const unsigned char *place, size_t place_length);
+
+/* So many bytes of names were taken; there is no room for the next one; or the number of the next record's error, or 0. */
+struct inroot_taken {
+    size_t used;
+    bool full;
+    uint8_t error;
+};
+
+/*
+ * Takes the names of records of getdents64(2), but for `.` and `..`, to the beginning of the room, a slash before each. It ends
+ * with the records, at a name for which there is no room, or at the first error: EIO of what is no record or no name,
+ * ENAMETOOLONG of a name over 255 bytes.
+ */
+void inroot_take_names(const unsigned char *records, size_t records_length, unsigned char *room, size_t size,
+                       struct inroot_taken *taken);
+
+/* So many bytes of names lie in the room; or an error's number, or 0. */
+struct inroot_sorted {
+    size_t length;
+    uint8_t error;
+};
+
+/*
+ * Sorts names by their bytes, from a text with a slash before each into a room, which is longer than the text. No names are a
+ * slash alone. Errors: ERANGE of a room that is no longer, ENOMEM.
+ */
+void inroot_sort_names(const unsigned char *text, size_t text_length, unsigned char *room, size_t size,
+                       struct inroot_sorted *sorted);
 
 #endif

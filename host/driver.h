@@ -46,6 +46,7 @@ struct inroot_slot {
     uint32_t depth, listed;        /* below the first such directory; how many bytes of names the call holds for it */
     uint8_t way, kind;
     bool is_shared;                /* the descriptor is the caller's */
+    bool is_above;                 /* it was come to by `..` of another */
     struct inroot_identity who;    /* once it was let go */
 };
 
@@ -149,6 +150,7 @@ struct inroot_driver {
     bool below;                    /* the last check is the kernel's alone (INROOT_BELOW) */
     uint64_t passed_handle;        /* the handle that stands at the names in `passed`, or zero, and how long they are */
     size_t passed_length;
+    uint64_t lived;                /* the directory that had the entry which the last step but Close was about, or zero */
     uint64_t link, link_dir;       /* a link that was read by its name in that directory, or zero, and how long its text is */
     size_t link_length;
     /* What follows isn't cleared as a call begins: it is set then, or where what it belongs to is. */
@@ -237,6 +239,13 @@ const char *inroot_passed_names(struct inroot_driver *d, uint64_t handle, size_t
 int inroot_hints_first(struct inroot_driver *d, uint64_t handle, const char *names, size_t length);
 /* A name in a handle's directory is a link, or is none. */
 void inroot_hints_tell(struct inroot_driver *d, uint64_t handle, const char *name, size_t length, bool is_link);
+
+/* above.c */
+/*
+ * The directory above a handle's, which is CHILD, by the names passed: looked up from the root, so that the kernel sees it below
+ * the root; and the child's `..` leads to that same one. Whether it could.
+ */
+bool inroot_above_open(struct inroot_driver *d, uint64_t handle, int child, struct inroot_result *result);
 
 /* followed.c */
 /* Opens the next name as a link, and reads it, where it is likely to be one; it can't be passed with others. Whether it could. */

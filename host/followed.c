@@ -11,7 +11,7 @@
 #include <sys/vfs.h>
 #include <unistd.h>
 
-/* A directory as a system call takes it, and behind what a name stands then. Of a jail's root it is the thread's own root. */
+/* Gives the directory as a system call takes it, and what comes before a name then. A jail's root is the thread's own. */
 static int start_of(int dir, const char **slash)
 {
     int kept = dir == INROOT_JAILED ? inroot_trust_root() : dir;
@@ -35,8 +35,8 @@ static ssize_t read_entry(int dir, const char *name, size_t length, char *text)
 }
 
 /*
- * Whether a link of that name would be followed, and may be read by it. A name on another mount than its directory is to be seen
- * under INROOT_NO_XDEV, and under INROOT_NO_MAGICLINKS the link itself is to be had.
+ * Whether the call would follow a link of that name, and may read it by its name. Under INROOT_NO_XDEV the driver has to
+ * see on which mount the name is, and under INROOT_NO_MAGICLINKS it needs the link itself.
  */
 static bool may_read(const struct inroot_driver *d, size_t length)
 {
@@ -47,8 +47,8 @@ static bool may_read(const struct inroot_driver *d, size_t length)
 }
 
 /*
- * By what was tried just now it is a link: one of so few names is, and it is the last of them; or it is the first of those that
- * could not be passed together.
+ * Whether the name is likely a link. The kernel has just met one among the next names: this is the last of them, or the
+ * first of those that could not be passed together. Or a hint says so.
  */
 static bool is_likely(struct inroot_driver *d, uint64_t dir, const char *name, size_t length, bool is_alone)
 {
@@ -67,10 +67,10 @@ bool inroot_followed_open(struct inroot_driver *d, const struct inroot_told *ste
         return false;
     ssize_t got = read_entry(dir, name, length, text);
     inroot_hints_tell(d, step->handle, name, length, got >= 0);
-    /* Whatever it is, the step is made in another way. */
+    /* The name is no link, or is gone. Then the step is made in another way. */
     if (got < 0)
         return false;
-    d->link_dir = step->handle;
+    d->link_dir = d->lived = step->handle;
     d->link_length = (size_t)got;
     d->link = inroot_handles_put(d, INROOT_PASSED, INROOT_KIND_LINK, INROOT_BY_NAME, step->handle);
     inroot_ahead_pass(&d->ahead, length);

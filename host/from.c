@@ -12,7 +12,7 @@
 #include <sys/stat.h>
 #include <unistd.h>
 
-/* Whether a path begins at the directory. One that is none says so itself. */
+/* Whether the path begins at the directory. An empty path doesn't: the call tells its own error. */
 static bool begins_there(const char *path)
 {
     return path[0] != 0 && path[0] != '/';
@@ -26,7 +26,7 @@ static int count_names(const char *place)
     return count;
 }
 
-/* The place of the caller's directory, in the text, and a descriptor that was opened there; or -errno. */
+/* Finds where the caller's directory stands. Writes the place, and opens the directory again: its length or -errno. */
 static ssize_t find(struct inroot_driver *d, int root, int dir, char *text, struct inroot_slot *slot)
 {
     size_t length;
@@ -47,7 +47,7 @@ static ssize_t find(struct inroot_driver *d, int root, int dir, char *text, stru
     return -error;
 }
 
-/* Cut off where it doesn't fit: then it is too long for a path as well. */
+/* Joins the two. What doesn't fit is cut off: what is left is too long for a path, too. */
 static void join(char to[INROOT_TEXT_MAX + 1], const char *place, const char *path)
 {
     size_t used = strlen(place), length = strlen(path);
@@ -93,7 +93,7 @@ int inroot_from_join(struct inroot_driver *d, int root, int dir, const struct in
     d->from.dir = dir;
     d->from.place = joined->place;
     d->from.fd = length > 0 ? slot.fd : INROOT_NONE;
-    /* Of the root itself there are no names. */
+    /* The root itself stands at no names. */
     d->from.names = count_names(joined->place);
     d->from.first = first && d->from.names > 0;
     d->from.second = second && d->from.names > 0;
@@ -101,7 +101,7 @@ int inroot_from_join(struct inroot_driver *d, int root, int dir, const struct in
     return 0;
 }
 
-/* The names are told as a run that was passed, on the root's mount where the call stays there: 0 or an error. */
+/* Tells the call that it passed these names as one run. INROOT_NO_XDEV wants the root's mount. Gives 0 or an error. */
 static int pass(struct inroot_driver *d, uint64_t root, int fd)
 {
     if (inroot_mount_stay(d, fd) < 0)
@@ -118,7 +118,7 @@ static int pass(struct inroot_driver *d, uint64_t root, int fd)
     return 0;
 }
 
-/* No system call was made since that was told. */
+/* Answers by what the driver told the call last. It has made no system call since. */
 bool inroot_from_tells(struct inroot_driver *d, uint64_t handle, char *text, size_t *length)
 {
     if (handle != d->from.told)

@@ -1,8 +1,8 @@
 /*
  * give.c: a descriptor of what a call has just made (INROOT_GIVE). It is opened by its name in the directory in which it
- * was made, and looked at: others may have moved it, or put another in its place. A file is told from all others, by the
- * one descriptor by which it was made; so is what got a second name. Of any other entry the kind is known, and what
- * belongs to it.
+ * was made, and looked at: others may have moved it, or put another in its place. The driver knows a file by the
+ * descriptor by which it made it, and what got a second name by the caller's descriptor. Of any other entry it compares
+ * the kind, and a link's text or a device's number.
  */
 #define _GNU_SOURCE
 #include "driver.h"
@@ -28,7 +28,7 @@ static bool has_text(int fd, const char *text)
     return got >= 0 && (size_t)got == length && memcmp(now, text, length) == 0;
 }
 
-/* Whether it can be what was made. */
+/* Whether this object can be the one that the call made. */
 static bool fits(const struct inroot_driver *d, int fd, const struct stat *about, const char *text)
 {
     const struct inroot_request *asked = d->asked;
@@ -54,7 +54,7 @@ static int open_entry(int dir, const char *name)
     return fd;
 }
 
-/* The descriptor by which a file was made has served its purpose. */
+/* Keeps this descriptor in place of the one by which the file was made. */
 static void keep(struct inroot_driver *d, int fd)
 {
     if (d->made >= 0)

@@ -33,7 +33,7 @@ static uint64_t take_slot(struct inroot_driver *d, int fd, enum inroot_kind kind
     slot->depth = slot->listed = 0;
     slot->way = (uint8_t)way;
     slot->kind = (uint8_t)kind;
-    slot->is_shared = false;
+    slot->is_shared = slot->is_above = false;
     return (uint64_t)++d->serial << 32 | at;
 }
 
@@ -141,9 +141,9 @@ bool inroot_handles_spare(struct inroot_driver *d, uint64_t handle)
 }
 
 /*
- * Opens the directory above the one that was closed last. Whoever moved that one away meanwhile made `..` lead elsewhere: then
- * the call has lost its directory, and no step is made in another one. What the machine takes for an answer about an entry
- * isn't told of it.
+ * Opens the directory above the one that was closed last. If somebody moved that one away meanwhile, `..` leads elsewhere:
+ * then the call has lost its directory, and makes no step in another one. ENOENT and ENOTDIR would be answers about an entry,
+ * so the call is told EAGAIN in their place.
  */
 static void come_back(struct inroot_driver *d, struct inroot_slot *slot, int32_t at)
 {
@@ -198,7 +198,7 @@ int inroot_handles_fd_again(struct inroot_driver *d, uint64_t handle, int *fd)
     if (slot->fd == INROOT_AWAY && slot->lost == 0)
         come_back(d, slot, index_of(handle));
     *fd = slot->fd;
-    /* To open it by its name could give another directory, so that the step isn't made, as if there were no memory for it. */
+    /* By its name another directory could be opened. So the step counts as not made, as if memory had been refused. */
     return slot->fd == INROOT_PASSED ? ENOMEM : slot->lost;
 }
 

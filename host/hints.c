@@ -22,7 +22,7 @@ static uint64_t mix(uint64_t key, uint64_t bytes)
     return key ^ key >> 29;
 }
 
-/* With one more name. */
+/* Adds a name to a key. */
 static uint64_t with_name(uint64_t key, const char *name, size_t length)
 {
     uint64_t bytes;
@@ -42,7 +42,7 @@ static size_t name_length(const char *name, size_t most)
     return slash == NULL ? most : (size_t)(slash - name);
 }
 
-/* Of the root, and of the names that a handle stands at; or zero, where these aren't known. */
+/* Gives the key of the root and the names at which the handle stands. It is zero if the names aren't known. */
 static uint64_t key_of(struct inroot_driver *d, uint64_t handle)
 {
     ssize_t length = handle == 0 ? 0 : inroot_passed_base(d, handle);

@@ -27,7 +27,7 @@ void inroot_copy(char text[INROOT_TEXT_MAX + 1], const char *from)
         text[INROOT_TEXT_MAX] = 0;
 }
 
-/* The last check of a resolve may be the kernel's alone, of no other call: EINVAL, or 0 and its flags. */
+/* Only a resolve may leave its last check to the kernel (INROOT_BELOW). Adds the root's flag. Gives 0 or -EINVAL. */
 static int settle_below(int root, struct inroot_request *asked)
 {
     const struct inroot_kept_root *kept = inroot_root_kept(root);

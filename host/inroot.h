@@ -38,10 +38,10 @@
  *                      inroot_mkdir_all() and inroot_mkfile_all(): what a link leads to is made where it is missing
  *   INROOT_GIVE        of the calls that make an entry: what was made is given by a descriptor
  *   INROOT_DIRECTORY   of inroot_open_parent() alone: PATH may end in a slash
- *   INROOT_BELOW       of inroot_open(), inroot_openat(), inroot_stat() and EXISTING of inroot_link() alone: the last
- *                      check of what is found is openat2(2)'s with RESOLVE_BENEATH, and no text is read for it. What
- *                      is opened was reached by the path's parts at rising moments and stood below the root at that
- *                      check; at which names is not said
+ *   INROOT_BELOW       of inroot_open(), inroot_open_parent(), inroot_openat(), inroot_stat() and EXISTING of
+ *                      inroot_link() alone: the last check of what is found is openat2(2)'s with RESOLVE_BENEATH, and
+ *                      no text is read for it. What is opened was reached by the path's parts at rising moments and
+ *                      stood below the root at that check; at which names is not said
  *
  * INROOT_BELOW says less than a call without it: somebody may have moved the object between the moment when the path
  * led to it and the check, to other names below the root. After `..` the names are asked for as without the flag.

@@ -9,7 +9,6 @@
 #include <errno.h>
 #include <fcntl.h>
 #include <stdlib.h>
-#include <string.h>
 #include <sys/syscall.h>
 #include <unistd.h>
 
@@ -21,95 +20,48 @@ enum {
     FEW_RECORDS = 4096,
 };
 
-/* An entry as getdents64(2) writes it. */
-struct record {
-    uint64_t inode;
-    int64_t offset;
-    unsigned short length;
-    unsigned char type;
-    char name[];
-};
-
-/* Names, a NUL after each, one after another. */
+/* Names, a slash before each. */
 struct part {
-    char *text;
-    size_t used, size, count;
+    unsigned char *text;
+    size_t used, size;
 };
-
-static bool is_entry(const char *name)
-{
-    return strcmp(name, ".") != 0 && strcmp(name, "..") != 0;
-}
-
-/* Takes what was read over, as long as it fits. Gives 1 for an end, 0, or -ENAMETOOLONG of what is no name elsewhere. */
-static int take_names(struct part *part, const char *records, size_t length)
-{
-    for (size_t at = 0; at < length;) {
-        const struct record *entry = (const struct record *)(const void *)(records + at);
-        size_t size = strlen(entry->name) + 1;
-        at += entry->length;
-        if (!is_entry(entry->name))
-            continue;
-        if (size > NAME_MAX + 1)
-            return -ENAMETOOLONG;
-        if (part->used + size > part->size)
-            return 1;
-        memcpy(part->text + part->used, entry->name, size);
-        part->used += size;
-        part->count++;
-    }
-    return 0;
-}
 
 /* Reads names until the part is full, or there are no more. A directory that is gone has none. Gives 0 or -errno. */
 static int read_names(int dir, struct part *part)
 {
     size_t size = part->size < RECORDS ? FEW_RECORDS : RECORDS;
-    char *records = malloc(size);
-    int end = records == NULL ? -ENOMEM : 0;
-    while (end == 0) {
+    unsigned char *records = malloc(size);
+    int error = records == NULL ? ENOMEM : 0;
+    for (bool more = true; more && error == 0;) {
+        struct inroot_taken taken = {0};
         long got = syscall(SYS_getdents64, dir, records, size);
         if (got < 0 && errno == EINTR)
             continue;
-        if (got < 0)
-            end = errno == ENOENT ? 1 : -errno;
-        else
-            end = got == 0 ? 1 : take_names(part, records, (size_t)got);
+        if (got > 0)
+            inroot_take_names(records, (size_t)got, part->text + part->used, part->size - part->used, &taken);
+        part->used += taken.used;
+        more = got > 0 && !taken.full;
+        error = got < 0 && errno != ENOENT ? errno : taken.error;
     }
     free(records);
-    return end < 0 ? end : 0;
+    return -error;
 }
 
-static int by_bytes(const void *a, const void *b)
-{
-    return strcmp(*(const char *const *)a, *(const char *const *)b);
-}
-
-/* Writes the names in order, a slash before each; no names are a slash alone. */
+/* Keeps the names in order. */
 static int keep_sorted(struct inroot_driver *d, const struct part *part)
 {
-    const char **sorted = malloc((part->count + 1) * sizeof *sorted);
-    char *text = malloc(part->used + 1);
-    if (sorted == NULL || text == NULL) {
-        free(sorted);
-        free(text);
+    struct inroot_sorted sorted;
+    unsigned char *text = malloc(part->used + 1);
+    if (text == NULL)
         return -ENOMEM;
+    inroot_sort_names(part->text, part->used, text, part->used + 1, &sorted);
+    if (sorted.error) {
+        free(text);
+        return -sorted.error;
     }
-    const char *name = part->text;
-    for (size_t at = 0; at < part->count; at++, name += strlen(name) + 1)
-        sorted[at] = name;
-    qsort(sorted, part->count, sizeof *sorted, by_bytes);
-    char *end = text;
-    for (size_t at = 0; at < part->count; at++) {
-        *end++ = '/';
-        end = stpcpy(end, sorted[at]);
-    }
-    if (part->count == 0)
-        *end++ = '/';
-    free(sorted);
     free(d->names);
-    d->names = text;
-    d->names_length = (size_t)(end - text);
+    d->names = (char *)text;
+    d->names_length = sorted.length;
     return 0;
 }
 

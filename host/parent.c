@@ -24,7 +24,7 @@ int inroot_open_parent(int root, const char *path, int flags, char last[256])
     const int restrictions = flags & ~INROOT_DIRECTORY;
     last[0] = 0;
     inroot_copy(text, path);
-    int failed = inroot_check(root, restrictions);
+    int failed = inroot_check(root, restrictions & ~INROOT_BELOW);
     if (failed)
         return inroot_error_alone(-failed, "", text);
     inroot_split((const unsigned char *)text, strlen(text), flags & INROOT_DIRECTORY, &parted);

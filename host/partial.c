@@ -15,7 +15,7 @@ struct cut {
     size_t pieces, there, missing;
 };
 
-/* Where a piece of the text begins, of which there is one. */
+/* Gives where this piece of the text begins. The text has such a piece. */
 static size_t piece_at(const char *text, size_t piece)
 {
     size_t at = strspn(text, "/");
@@ -57,7 +57,7 @@ static int open_pieces(const struct cut *cut, size_t pieces)
     return fd;
 }
 
-/* Tries these, and keeps what is there of both: 0, or -errno of another failure than that they aren't. */
+/* Tries so many pieces, and notes whether they are there: 0, or -errno of any other failure. */
 static int try_pieces(struct cut *cut, size_t pieces)
 {
     int fd = open_pieces(cut, pieces);
@@ -100,7 +100,7 @@ int inroot_partial(int root, int from, char *text, int flags, bool follows, size
         return whole;
     cut.missing = cut.pieces;
     int failed = search(&cut);
-    /* Nothing but where the text begins. */
+    /* Not even the first piece is there: the call gives where the text begins. */
     if (failed == 0 && cut.fd < 0)
         cut.fd = failed = open_pieces(&cut, 0);
     *rest = piece_at(text, cut.there);
@@ -117,7 +117,7 @@ int inroot_open_partial(int root, const char *path, int flags, char *rest, size_
     char text[INROOT_TEXT_MAX + 1];
     size_t at;
     inroot_copy(text, path);
-    /* It makes several walks, and the names between them are asked for. */
+    /* The call makes several walks, and asks for the names between them. */
     if (flags & INROOT_BELOW)
         return inroot_error_alone(EINVAL, "", text);
     pthread_setcancelstate(PTHREAD_CANCEL_DISABLE, &state);

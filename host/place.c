@@ -115,16 +115,7 @@ bool inroot_look_first(struct inroot_driver *d, int root, struct inroot_slot *sl
 
 /* ---- the first witness: links in /proc */
 
-static const char deleted[] = " (deleted)";
-
-/* Whether the text ends as the kernel writes of what is gone. A name may end so, too. */
-static bool ends_as_gone(const char *text, size_t length)
-{
-    const size_t tail = sizeof deleted - 1;
-    return length >= tail && memcmp(text + length - tail, deleted, tail) == 0;
-}
-
-/* The path of a link that has this name in a directory of /proc, with a NUL, or -1 with errno. */
+/* The path of a link that has this name in a directory of /proc, without a NUL, or -1 with errno. */
 static ssize_t read_link(int dir, const char *name, char text[INROOT_TEXT_MAX])
 {
     ssize_t length = readlinkat(dir, name, text, INROOT_TEXT_MAX);
@@ -134,8 +125,6 @@ static ssize_t read_link(int dir, const char *name, char text[INROOT_TEXT_MAX])
     }
     if (length < 0 && errno == ENOENT)
         errno = ENOSYS;
-    if (length >= 0)
-        text[length] = 0;
     return length;
 }
 
@@ -165,20 +154,31 @@ static ssize_t link_in_table(int fd, char *text)
     return length;
 }
 
-/* Cuts off the root's path. The top's own path is a slash, and that of any other directory ends in none. */
-static size_t cut_root(char *text, size_t length, size_t root)
+/* Keeps of a text the place that the proved call found in it, with a NUL. Gives how long it is: 0 where the text tells none. */
+static ssize_t keep_place(char *text, const struct inroot_place *place)
 {
-    size_t cut = root == 1 ? 0 : root;
-    length -= cut;
-    memmove(text, text + cut, length);
-    if (length == 0)
-        text[length++] = '/';
-    text[length] = 0;
-    return length;
+    memmove(text, text + place->start, place->length);
+    text[place->length] = 0;
+    return (ssize_t)place->length;
 }
 
-/* Whether the root has this path still. -1 with errno where its links tell nothing. */
-static int stays(struct inroot_driver *d, int proc, int root, const char *path, size_t length)
+/* The place by a root's path, an object's, and the root's again; each as the kernel told it. */
+static void find_between(const char *before, ssize_t root_length, const char *text, ssize_t length, const char *after,
+                         ssize_t again_length, struct inroot_place *place)
+{
+    inroot_place_between((const unsigned char *)before, (size_t)root_length, (const unsigned char *)text, (size_t)length,
+                         (const unsigned char *)after, (size_t)again_length, place);
+}
+
+/* The same where one path of the root's is enough. */
+static void find_behind(const char *root, ssize_t root_length, const char *text, ssize_t length, struct inroot_place *place)
+{
+    find_between(root, root_length, text, length, root, root_length, place);
+}
+
+/* The same where the root's path has to be read again. -1 with errno where its links tell nothing. */
+static int find_again(struct inroot_driver *d, int proc, int root, const char *above, ssize_t above_length, const char *text,
+                      ssize_t length, struct inroot_place *place)
 {
     char again[INROOT_TEXT_MAX];
     if (!inroot_own_root_tells(d, proc)) {
@@ -186,14 +186,16 @@ static int stays(struct inroot_driver *d, int proc, int root, const char *path, 
         return -1;
     }
     ssize_t after = link_of(proc, root, again);
-    return after < 0 ? -1 : (size_t)after == length && memcmp(path, again, length) == 0;
+    if (after >= 0)
+        find_between(above, above_length, text, length, again, after, place);
+    return after < 0 ? -1 : 0;
 }
 
 /*
- * The path below a root that is given by its descriptor: 0 where it has none, or -1 with errno. Where there is no second witness
- * the root's path is read before the object's and after it.
+ * The place below a root that is given by its descriptor: 0, or -1 with errno. Where there is no second witness the root's path
+ * is read before the object's and after it.
  */
-static ssize_t path_by_links(struct inroot_driver *d, int root, int fd, char *text)
+static int by_links(struct inroot_driver *d, int root, int fd, char *text, struct inroot_place *place)
 {
     char above[INROOT_TEXT_MAX];
     int proc = inroot_proc_for(d);
@@ -205,43 +207,29 @@ static ssize_t path_by_links(struct inroot_driver *d, int root, int fd, char *te
     ssize_t path = before < 0 ? before : link_of(proc, fd, text);
     if (path < 0)
         return -1;
-    int same = inroot_has_openat2() ? 1 : stays(d, proc, root, above, (size_t)before);
-    if (same < 0)
-        return -1;
-    if (!same || before == 0 || path < before || memcmp(above, text, (size_t)before) != 0)
-        return 0;
-    return (ssize_t)cut_root(text, (size_t)path, (size_t)before);
-}
-
-/* Whether a path begins with that of a directory, and goes on below it. */
-static bool is_within(const char *text, const char *above, size_t length)
-{
-    return length == 1 || (memcmp(text, above, length) == 0 && (text[length] == '/' || text[length] == 0));
+    if (!inroot_has_openat2())
+        return find_again(d, proc, root, above, before, text, path, place);
+    find_behind(above, before, text, path, place);
+    return 0;
 }
 
 /*
- * The same by what is kept of a root that stays (INROOT_ROOT_STAYS): 0 where that tells nothing, since the program has broken its
- * promise, or the object is elsewhere. Then the links are asked.
+ * The same by what is kept of a root that stays (INROOT_ROOT_STAYS). Whether that tells a place: it doesn't if the program has
+ * broken its promise, or the object is elsewhere. Then the links are asked.
  */
-static ssize_t path_by_kept(struct inroot_driver *d, int root, int fd, char *text)
+static bool is_by_kept(struct inroot_driver *d, int root, int fd, char *text, struct inroot_place *place)
 {
     const struct inroot_kept_root *kept = inroot_root_kept(root);
     if (kept == NULL || kept->length == 0 || !inroot_has_openat2())
-        return 0;
+        return false;
     ssize_t length = kept->table >= 0 ? link_in(kept->table, fd, text) : -1;
     if (length < 0) {
         int proc = inroot_proc_for(d);
         length = proc < 0 ? -1 : link_of(proc, fd, text);
     }
-    if (length < (ssize_t)kept->length || !is_within(text, kept->path, kept->length))
-        return 0;
-    return (ssize_t)cut_root(text, (size_t)length, kept->length);
-}
-
-static ssize_t path_below(struct inroot_driver *d, int root, int fd, char *text)
-{
-    ssize_t length = path_by_kept(d, root, fd, text);
-    return length > 0 ? length : path_by_links(d, root, fd, text);
+    if (length >= 0)
+        find_behind(kept->path, (ssize_t)kept->length, text, length, place);
+    return length >= 0 && place->length > 0;
 }
 
 /* In a thread whose root it is: the link's path of what is inside begins there. That of what is outside begins at the top. */
@@ -257,56 +245,60 @@ static ssize_t path_of(struct inroot_driver *d, int fd, char *text)
     return -1;
 }
 
-/*
- * Whether what the text says holds where the thread has no openat2(2). What is gone is called so: a directory that isn't dead has
- * that name, and of what may have several links nothing can be known.
- */
-static bool holds_alone(const struct inroot_slot *slot, const char *text, size_t length)
+/* The place in such a thread. */
+static int by_own_root(struct inroot_driver *d, int fd, char *text, struct inroot_place *place)
 {
-    return !ends_as_gone(text, length) || (slot->kind == INROOT_KIND_DIR && !inroot_is_dead(slot->fd));
+    ssize_t length = path_of(d, fd, text);
+    if (length >= 0)
+        find_behind("/", 1, text, length, place);
+    return length < 0 ? -1 : 0;
 }
 
-/* From the last slash on, where there is one. */
-static const char *last_part(const char *text)
+/*
+ * Whether a place holds where the thread has no openat2(2). What is gone is called so: a directory that isn't dead has that
+ * name, and of what may have several links nothing can be known.
+ */
+static bool holds_alone(const struct inroot_slot *slot, bool gone)
 {
-    const char *slash = strrchr(text, '/');
-    return slash == NULL ? text : slash;
+    return !gone || (slot->kind == INROOT_KIND_DIR && !inroot_is_dead(slot->fd));
 }
 
 /*
  * Whether what the look-up found wasn't gone by then: the kernel may find what is removed before it looks where that is. So its
  * link is read once more. A directory that has a name isn't gone, but for overlayfs; and a dead one leads nowhere.
  */
-static int stays_named(struct inroot_driver *d, const struct inroot_slot *slot, const char *text, uint64_t links)
+static int stays_named(struct inroot_driver *d, const struct inroot_slot *slot, const char *text, size_t length, uint64_t links)
 {
     char again[INROOT_TEXT_MAX];
     if (slot->kind == INROOT_KIND_DIR && links > 0)
         return 1;
     ssize_t now = path_of(d, slot->fd, again);
-    return now < 0 ? -1 : !ends_as_gone(again, (size_t)now) || strcmp(last_part(again), last_part(text)) == 0;
+    return now < 0 ? -1 : inroot_is_named((const unsigned char *)again, (size_t)now, (const unsigned char *)text, length);
 }
 
 /* Whether the second witness says the same as this text, where there is one and it hasn't spoken yet; -1 with errno. */
-static int is_confirmed(struct inroot_driver *d, int root, struct inroot_slot *slot, const char *text, size_t length)
+static int is_confirmed(struct inroot_driver *d, int root, struct inroot_slot *slot, const char *text, size_t length, bool gone)
 {
     if (!inroot_has_openat2())
-        return holds_alone(slot, text, length);
+        return holds_alone(slot, gone);
     if (slot->way == INROOT_SEEN_BELOW)
         return 1;
     uint64_t links = 0;
     int agreed = agrees(d, root, slot, text, &links);
-    return agreed > 0 ? stays_named(d, slot, text, links) : agreed;
+    return agreed > 0 ? stays_named(d, slot, text, length, links) : agreed;
 }
 
 /* The path below the root by both witnesses, where /proc is the first: 0 where it has none, or -1 with errno. */
 static ssize_t confirmed_path(struct inroot_driver *d, int root, struct inroot_slot *slot, char *text)
 {
-    ssize_t told = root == INROOT_JAILED ? path_of(d, slot->fd, text) : path_below(d, root, slot->fd, text);
-    if (told < 0)
-        return -1;
-    if (told == 0 || text[0] != '/')
-        return 0;
-    int confirmed = is_confirmed(d, root, slot, text, (size_t)told);
+    struct inroot_place place;
+    int failed = root == INROOT_JAILED ? by_own_root(d, slot->fd, text, &place)
+                 : is_by_kept(d, root, slot->fd, text, &place) ? 0
+                                                               : by_links(d, root, slot->fd, text, &place);
+    ssize_t told = failed ? -1 : keep_place(text, &place);
+    if (told <= 0)
+        return told;
+    int confirmed = is_confirmed(d, root, slot, text, (size_t)told, place.gone);
     return confirmed > 0 ? told : confirmed;
 }
 
@@ -334,6 +326,7 @@ static struct inroot_result by_text(struct inroot_driver *d, int root, struct in
 static struct inroot_result by_directory(struct inroot_driver *d, struct inroot_slot *slot, char *text, size_t *length)
 {
     char none[1];
+    struct inroot_place place;
     if (!inroot_jail_enter(d, slot->fd)) {
         /* A directory that may not be searched can be where a path ends, and leads nowhere. */
         if (errno == EACCES && slot->way != INROOT_BY_PARENT)
@@ -345,7 +338,8 @@ static struct inroot_result by_directory(struct inroot_driver *d, struct inroot_
         return errno == ENOENT ? names() : inroot_unmade(d, errno);
     if (slot->way != INROOT_SEEN_BELOW && syscall(SYS_getcwd, none, sizeof none) < 0 && errno == ENOENT)
         return names();
-    *length = (size_t)got - 1;
+    inroot_place_of_cwd((const unsigned char *)text, (size_t)got, &place);
+    *length = (size_t)keep_place(text, &place);
     if (*length == 1)
         slot->way = INROOT_BY_ROOT;
     return names();
@@ -375,7 +369,7 @@ static bool is_seen_below(struct inroot_driver *d, int root, uint64_t handle, ch
     struct inroot_slot *slot = inroot_handles_slot(d, handle);
     const char *passed = inroot_passed_names(d, handle, length);
     bool is_plain = slot->kind != INROOT_KIND_DIR;
-    if (passed == NULL || !inroot_has_openat2() || !(d->below || is_plain))
+    if (passed == NULL || slot->is_above || !inroot_has_openat2() || !(d->below || is_plain))
         return false;
     if (slot->way == INROOT_BY_NAME && !inroot_look_first(d, root, slot, passed))
         return false;

@@ -43,7 +43,7 @@ static bool has_threads(int proc)
     return inroot_proc_is(proc) && readlinkat(proc, "thread-self", text, sizeof text) >= 0;
 }
 
-/* One that has what the calls ask for: its descriptor, or -errno. The first error counts. */
+/* Finds a proc(5) that has what the calls ask for: its descriptor, or -errno. The first error counts. */
 static int find_one(void)
 {
     int fd = mount_new();

@@ -17,12 +17,12 @@
 #include <sys/vfs.h>
 #include <unistd.h>
 
-/* The program's; and that of a thread whose table of descriptors has not the program's one, and which can open none later. */
+/* The program's descriptor; and that of a thread with a table of its own, which lacks the program's and can't open one later. */
 static atomic_int kept = INROOT_NONE;
 static _Atomic uint64_t kept_device, kept_inode;
 static _Thread_local struct inroot_own of_thread = {.fd = INROOT_NONE};
 
-/* In place of a descriptor, while another thread writes its device and inode. */
+/* Stands in place of a descriptor while another thread writes its device and inode. */
 enum { CLAIMED = -5 };
 
 /* Its destructor closes what a thread keeps, as the thread ends. */
@@ -107,7 +107,7 @@ bool inroot_proc_is_lost(int proc)
     return proc == atomic_load(&kept) && !is_kept(proc);
 }
 
-/* One that is there already, or INROOT_NONE: of a proc(5), or surely the one that was opened. */
+/* Gives a descriptor that is there, or INROOT_NONE. With SURELY it is the one that was opened; else any proc(5) will do. */
 static int at_hand(bool surely)
 {
     int fd = atomic_load(&kept);

@@ -26,7 +26,7 @@ struct inroot_root {
 
 /* ---- the roots of which something is kept, by their descriptors */
 
-/* So many at a time; of more of them nothing is kept. One is looked for in so many places, from its number on. */
+/* The table has so many roots; of any others nothing is kept. A root is looked for in so many places, from its number on. */
 enum { KEPT = 256, PLACES = 8 };
 
 /*
@@ -116,8 +116,8 @@ static size_t path_of(int dir, const char *name, char path[INROOT_TEXT_MAX])
 }
 
 /*
- * Keeps the directory of the descriptors of the process, which is that of its first thread: 0 or -errno. Where that has another
- * table than this thread, or has ended, nothing is kept.
+ * Keeps the process's directory of descriptors: 0 or -errno. It is the first thread's. If that thread has another table than
+ * this one, or has ended, nothing is kept.
  */
 static int keep_table(struct inroot_root *root, int proc)
 {

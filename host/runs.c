@@ -120,12 +120,13 @@ static bool find_kind(struct inroot_run *run, uint64_t flags, bool up)
 }
 
 /*
- * Whether nobody asks what kind of object a whole path led to. It is no link that is followed, which the kernel would have refused,
- * so that the proved function says the same of each kind that it may be. In a jail the question for its place asks.
+ * Whether nobody asks what kind of object a whole path led to. It is no link that is followed, which the kernel would
+ * have refused, so that the proved function says the same of each kind that it may be. In a jail the question for its
+ * place asks, where there is one.
  */
 static bool is_kind_left_out(const struct inroot_driver *d, uint64_t handle, int dir)
 {
-    return handle == 0 && dir != INROOT_JAILED && d->asked->opened == NULL;
+    return handle == 0 && (dir != INROOT_JAILED || d->below) && d->asked->opened == NULL;
 }
 
 /* How long the names are that the walk stands at behind these: without the last of them where `..` follows. */
@@ -233,7 +234,7 @@ static bool pass_from_root(struct inroot_driver *d, uint64_t handle, int dir, co
     return false;
 }
 
-/* Passes as many names as it can, and whether there were any. */
+/* Passes as many names as it can, and whether there were any: one alone where the kernel is to see it below the root. */
 static bool begin(struct inroot_driver *d, uint64_t handle, int dir)
 {
     struct spelled spelled;
@@ -241,9 +242,11 @@ static bool begin(struct inroot_driver *d, uint64_t handle, int dir)
     int most = most_of(d);
     while (most > 0) {
         spell_to_link(d, handle, most, &spelled);
-        if (spelled.count < 2 && !spelled.up)
+        enum inroot_way way = way_of(d, handle, &spelled);
+        bool is_alone = spelled.count < 2 && !spelled.up;
+        if (is_alone && (spelled.count == 0 || way != INROOT_SEEN_BELOW))
             return spelled.count == 1 && pass_from_root(d, handle, dir, &spelled);
-        if (pass(d, handle, dir, &spelled, way_of(d, handle, &spelled)))
+        if (pass(d, handle, dir, &spelled, way))
             return true;
         most = fewer(a, spelled.count, errno);
     }

@@ -32,7 +32,7 @@ static bool is_there(struct inroot_driver *d, int root, const struct stat *about
            now.st_dev == about->st_dev && now.st_ino == about->st_ino;
 }
 
-/* By a copy of the descriptor, in whose place the look-up may put its own. */
+/* Asks with a copy of the caller's descriptor, since the look-up may put its own in place of what it is given. */
 static ssize_t ask(struct inroot_driver *d, int root, const struct stat *about, char *room)
 {
     size_t length;

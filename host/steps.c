@@ -219,26 +219,41 @@ bool inroot_is_dead(int fd)
     return fstatfs(fd, &where) == 0 && where.f_type == OVERLAYFS_SUPER_MAGIC && reads_as_dead(fd);
 }
 
-/* The kernel opens the old parent of a removed directory. Removal is for good, so it is enough to ask afterwards. */
+/* Opens the directory above by the child's `..`: of whatever the names passed say nothing. */
+static struct inroot_result open_up(struct inroot_driver *d, uint64_t handle, const struct entry *above)
+{
+    ssize_t base = inroot_passed_base(d, handle);
+    int up = open_path(d, handle, above, O_DIRECTORY);
+    if (up < 0)
+        return inroot_refused(d, errno);
+    struct inroot_result result = opened(d, up, INROOT_KIND_DIR, INROOT_BY_PARENT, handle);
+    inroot_passed_end(d, result.handle, base > 0 ? inroot_passed_above(d, (size_t)base) : 0);
+    return result;
+}
+
+/*
+ * The kernel opens the old parent of a removed directory. Removal is for good, so it is enough to ask afterwards. It isn't asked
+ * of one that had an entry at the step before: the parent stands for that moment, if it was removed since.
+ */
 static struct inroot_result open_parent(struct inroot_driver *d, uint64_t handle)
 {
     struct entry above;
+    struct inroot_result result;
+    bool lived = handle == d->lived;
     int error = find(d, handle, "..", 2, &above);
     if (error)
         return inroot_unmade(d, error);
     if (!inroot_handles_reserve(d))
         return inroot_unmade(d, ENOMEM);
-    int up = open_path(d, handle, &above, O_DIRECTORY);
-    if (up < 0)
-        return inroot_refused(d, errno);
+    if (!inroot_above_open(d, handle, above.dir, &result))
+        result = open_up(d, handle, &above);
+    if (result.what != INROOT_ANSWER_OPENED)
+        return result;
     inroot_ahead_pass_up(&d->ahead);
-    if (inroot_is_dead(above.dir)) {
-        close(up);
+    if (!lived && inroot_is_dead(above.dir)) {
+        inroot_handles_close(d, result.handle);
         return inroot_refused(d, ENOENT);
     }
-    ssize_t base = inroot_passed_base(d, handle);
-    struct inroot_result result = opened(d, up, INROOT_KIND_DIR, INROOT_BY_PARENT, handle);
-    inroot_passed_end(d, result.handle, base > 0 ? inroot_passed_above(d, (size_t)base) : 0);
     return result;
 }
 
@@ -452,5 +467,7 @@ struct inroot_result inroot_make(struct inroot_driver *d, const struct inroot_to
         return inroot_unmade(d, ENAMETOOLONG);
     if (step->what != INROOT_STEP_NAME_BELOW)
         d->placed = d->from.told = 0;
+    if (step->what != INROOT_STEP_READLINK && step->what != INROOT_STEP_PARENT)
+        d->lived = 0;
     return step->what == INROOT_STEP_OPEN ? open_next(d, step, room, text) : make_other(d, step, room, text, length);
 }

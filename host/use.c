@@ -56,15 +56,17 @@ static bool opens(int how, mode_t mode)
 
 /* ---- what is found */
 
+/* The kind is asked for where opening by it, or handing it out, doesn't tell. */
 static int find(int root, const struct use *use, enum inroot_kind *kind)
 {
+    bool needs_kind = use->how & (O_CREAT | O_DIRECTORY);
     const struct inroot_request asked = {
         .op = use->how & O_NOFOLLOW ? INROOT_ASK_RESOLVE_NOFOLLOW : INROOT_ASK_RESOLVE,
         .flags = use->flags,
         .first = use->path,
         .second = "",
         .directory = use->how & O_DIRECTORY,
-        .opened = kind,
+        .opened = needs_kind ? kind : NULL,
     };
     return inroot_carry_out_alone(root, &asked);
 }
@@ -103,7 +105,7 @@ static int use_found(int fd, enum inroot_kind kind, const struct use *use)
 
 static int open_found(int root, const struct use *use)
 {
-    enum inroot_kind kind;
+    enum inroot_kind kind = INROOT_KIND_FILE;
     int fd = find(root, use, &kind);
     if (fd < 0)
         return fd;
@@ -132,8 +134,8 @@ static int create(int root, const struct use *use)
 }
 
 /*
- * Writes the path to which the link at the end of this one leads: its directory's, and the link's text. Gives how
- * long the text is, or -errno; -EINVAL where it is no link, and -ENOENT where it is gone.
+ * Reads the link at the end of the path, and writes the path to which it leads: the link's directory, and its text. Gives
+ * the length of the text, or -errno; -EINVAL if it is no link, and -ENOENT if it is gone.
  */
 static ssize_t follow(int root, const struct use *use, char *path)
 {
@@ -154,7 +156,7 @@ static ssize_t follow(int root, const struct use *use, char *path)
     return length;
 }
 
-/* Whether what came in between is to be tried again: it was made, or removed. */
+/* Whether to try again: somebody made or removed the entry in between. */
 static bool in_between(ssize_t followed)
 {
     return followed == -EINVAL || followed == -ENOENT;

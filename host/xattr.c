@@ -81,7 +81,7 @@ static ssize_t from_top(int proc, const char *name, const struct attribute *one)
     return by_path(path, one);
 }
 
-/* A filter may refuse system calls that it doesn't know by EPERM: where that is the object's answer, it is so by a path, too. */
+/* A filter may refuse a system call that it doesn't know by EPERM. If EPERM is the object's answer, a path gives it too. */
 static ssize_t act_on(int proc, const char *name, void *what)
 {
     const struct attribute *one = what;

@@ -22,7 +22,7 @@ const (
 	// OneByOne looks up each name by a system call of its own.
 	OneByOne Flags = C.INROOT_ONE_BY_ONE
 	// Below leaves the last check to openat2(2): what is opened stood below the root then, at which names is not said.
-	// Functions that change an entry or read a link refuse it, with EINVAL.
+	// OpenParentInRoot takes it, too. Functions that change an entry or read a link refuse it, with EINVAL.
 	Below Flags = C.INROOT_BELOW
 )
 

@@ -85,6 +85,8 @@ static void parents(int at)
         {"a/b/f/x", 0, ENOTDIR, NULL, NULL}, {"/f", INROOT_BENEATH, EXDEV, NULL, NULL},
         {"a/link/x", INROOT_NO_LINKS, ELOOP, NULL, NULL},
         {"loop/x", 0, ELOOP, NULL, NULL}, {"a/b/f", INROOT_ONE_BY_ONE, 0, "a/b", "f"},
+        {"a/b/f", INROOT_BELOW, 0, "a/b", "f"}, {"a/none", INROOT_BELOW, 0, "a", "none"},
+        {"a/b/../x", INROOT_BELOW, 0, "a", "x"}, {"none/x", INROOT_BELOW, ENOENT, NULL, NULL},
     };
     char last[256], longest[300], path[400];
     for (size_t one = 0; one < sizeof cases / sizeof *cases; one++) {

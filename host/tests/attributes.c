@@ -7,6 +7,7 @@
  */
 #define _GNU_SOURCE
 #include "support.h"
+#include "wraps.h"
 
 #include <errno.h>
 #include <limits.h>
@@ -32,19 +33,9 @@ static bool lacks_right, has_devices, may_give, has_trusted, has_user;
 static int refuses;
 static int by_number, by_times;
 
-long __real_syscall(long number, ...);
 long __wrap_syscall(long number, ...);
 int __real_utimensat(int dir, const char *name, const struct timespec times[2], int flags);
 int __wrap_utimensat(int dir, const char *name, const struct timespec times[2], int flags);
-
-#define COUNTED(type, name, parameters, arguments)               \
-    type __real_##name parameters;                               \
-    type __wrap_##name parameters;                               \
-    type __wrap_##name parameters                                \
-    {                                                            \
-        made++;                                                  \
-        return __real_##name arguments;                          \
-    }
 
 /* How many system calls were made. */
 static volatile int made;

@@ -98,11 +98,7 @@ static void by_proc(void)
 
 static void jail_by(int flags)
 {
-    int failed = inroot_jail_with(root, flags);
-    if (failed == -EPERM)
-        _exit(NO_RIGHT);
-    errno = -failed;
-    sure(failed, "inroot_jail_with");
+    jail_or_end(root, flags);
     at = INROOT_JAIL;
     each();
 }

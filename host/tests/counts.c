@@ -29,15 +29,6 @@ static bool is_taken;
 /* The error by which each openat2(2) fails, or so many of them, or 0; and each madvise(2). */
 static int refusal, refusals = -1, no_advice;
 
-#define COUNTED(type, name, parameters, arguments)               \
-    type __real_##name parameters;                               \
-    type __wrap_##name parameters;                               \
-    type __wrap_##name parameters                                \
-    {                                                            \
-        made++;                                                  \
-        return __real_##name arguments;                          \
-    }
-
 COUNTED(int, fstat, (int fd, struct stat *about), (fd, about))
 COUNTED(int, fstatfs, (int fd, struct statfs *about), (fd, about))
 COUNTED(int, statfs, (const char *path, struct statfs *about), (path, about))
@@ -126,6 +117,11 @@ static int open_directory(const char *path, int flags)
     return inroot_openat(at, path, O_PATH | O_DIRECTORY, 0, flags);
 }
 
+static int open_path_below(const char *path, int flags)
+{
+    return inroot_openat(at, path, O_PATH, 0, flags | INROOT_BELOW);
+}
+
 static int create(const char *path, int flags)
 {
     int fd = inroot_openat(at, path, O_WRONLY | O_CREAT | O_EXCL, 0600, flags);
@@ -153,6 +149,11 @@ static int open_parent(const char *path, int flags)
 {
     char last[256];
     return inroot_open_parent(at, path, flags, last);
+}
+
+static int open_parent_below(const char *path, int flags)
+{
+    return open_parent(path, flags | INROOT_BELOW);
 }
 
 static int open_partial(const char *path, int flags)
@@ -219,22 +220,26 @@ static const struct {
     {"open four times b/..", "a/b/../b/../b/../b/..", open_it, {22, 39, 32, 50, 21, 39}},
     {"open 32 directories", deep, open_it, {7, 69, 4, 71, 6, 69}},
     {"open 32, O_PATH | O_DIRECTORY", deep, open_directory, {6, 68, 4, 70, 5, 68}},
-    {"open d/l/f, l a link to ../a/b", "d/l/f", open_it, {21, 29, 22, 31, 19, 28}},
+    {"open d/l/f, l a link to ../a/b", "d/l/f", open_it, {15, 29, 11, 31, 12, 28}},
+    {"open a/b/u, a link to ../g", "a/b/u", open_it, {18, 26, 17, 28, 17, 25}},
     {"open a/b/none", "a/b/none", open_it, {6, 5, 4, 5, 4, 5}},
     {"open /a/b/none", "/a/b/none", open_it, {6, 5, 4, 5, 4, 5}},
     {"open /a/none beneath", "/a/none", open_beneath, {0, 0, 1, 1, 0, 0}},
     {"open f, a file", "f", open_it, {6, 10, 4, 9, 3, 7}},
-    {"open l, a link to a/b", "l", open_it, {10, 14, 8, 16, 9, 14}},
-    {"read a/b/f", "a/b/f", read_it, {9, 17, 8, 16, 6, 14}},
+    {"open l, a link to a/b", "l", open_it, {9, 14, 8, 16, 9, 14}},
+    {"read a/b/f", "a/b/f", read_it, {9, 17, 7, 16, 6, 14}},
     {"create a/b/new", "a/b/new", create, {8, 10, 6, 12, 7, 10}},
     {"make n/e/w/s", "n/e/w/s", make_all, {20, 17, 21, 19, 19, 17}},
     {"make a/b, which is there", "a/b", make_all, {6, 8, 4, 10, 5, 8}},
     {"open the parent of a/b/f", "a/b/f", open_parent, {6, 8, 4, 10, 5, 8}},
+    {"open the parent of a/f", "a/f", open_parent, {6, 6, 4, 8, 5, 6}},
+    {"open the parent of a/f by BELOW", "a/f", open_parent_below, {3, 7, 1, 5, 1, 5}},
+    {"open a/b/f by O_PATH and BELOW", "a/b/f", open_path_below, {3, 12, 1, 10, 1, 10}},
     {"open the part of a/b/none/x", "a/b/none/x", open_partial, {21, 18, 15, 20, 16, 18}},
-    {"open f from a/b", "f", open_from, {19, 19, 19, 19, 16, 16}},
+    {"open f from a/b", "f", open_from, {18, 18, 18, 18, 15, 15}},
     {"make new from a/b", "new", make_from, {11, 11, 11, 11, 9, 9}},
     {"make and give a/b/new", "a/b/new", give, {12, 14, 10, 16, 11, 14}},
-    {"make a/b/f with all, which is there", "a/b/f", make_file_all, {6, 15, 5, 14, 3, 12}},
+    {"make a/b/f with all, which is there", "a/b/f", make_file_all, {6, 14, 5, 13, 3, 11}},
     {"make n/e/w with all", "n/e/w", make_file_all, {32, 26, 33, 30, 29, 26}},
     {"tell the place of a/b", "a/b", tell_place, {10, 10, 12, 12, 10, 10}},
 };
@@ -403,6 +408,8 @@ static void make_tree(void)
     sure(mknodat(root, "f", S_IFREG | 0600, 0), "f");
     sure(symlinkat("../a/b", root, "d/l"), "d/l");
     sure(symlinkat("a/b", root, "l"), "l");
+    sure(mknodat(root, "a/g", S_IFREG | 0600, 0), "a/g");
+    sure(symlinkat("../g", root, "a/b/u"), "a/b/u");
     for (int one = 1; one < 32; one++)
         sure(mkdirat(root, strcat(deep, "/d"), 0755), deep);
 }

@@ -83,7 +83,7 @@ static void unknown_flags(void)
         gives(got, (is_makes ? -EBADF : -EINVAL), "inroot_mkdir() with the flag 2^%u", bit);
         char text[256];
         got = inroot_open_parent(999, "a", flag, text);
-        bool is_parent = ((known & ~(unsigned)(INROOT_FOLLOW | INROOT_NOFOLLOW | INROOT_GIVE | INROOT_BELOW)) | INROOT_DIRECTORY) >> bit & 1;
+        bool is_parent = ((known & ~(unsigned)(INROOT_FOLLOW | INROOT_NOFOLLOW | INROOT_GIVE)) | INROOT_DIRECTORY) >> bit & 1;
         gives(got, (is_parent ? -EBADF : -EINVAL), "inroot_open_parent() with the flag 2^%u", bit);
         got = inroot_open_partial(999, "a", flag, text, sizeof text);
         bool is_partial = is_opens && flag != INROOT_BELOW;
@@ -150,11 +150,7 @@ static void shut_directories(bool in_jail, int flags)
 {
     int root = sure(openat(base, "open", O_PATH | O_DIRECTORY | O_CLOEXEC), "open"), at = root;
     if (in_jail) {
-        int failed = inroot_jail_with(root, flags);
-        if (failed == -EPERM)
-            _exit(NO_RIGHT);
-        errno = -failed;
-        sure(failed, "inroot_jail_with");
+        jail_or_end(root, flags);
         at = INROOT_JAIL;
     }
     if (setresuid(65534, 65534, 65534) != 0)

@@ -71,11 +71,7 @@ static void in_proc(void)
     root = sure(open("/proc/self", O_PATH | O_DIRECTORY | O_CLOEXEC), "/proc/self");
     int at = root;
     if (jail_flags >= 0) {
-        int failed = inroot_jail_with(root, jail_flags);
-        if (failed == -EPERM)
-            _exit(NO_RIGHT);
-        errno = -failed;
-        sure(failed, "inroot_jail_with");
+        jail_or_end(root, jail_flags);
         at = INROOT_JAIL;
     }
     gives(inroot_open(at, "root", INROOT_NO_MAGICLINKS), -ELOOP, "a magic link in the root");

@@ -220,18 +220,8 @@ static void race_of(const struct kind *kind, unsigned seconds)
 
 int main(int count, char **words)
 {
-    const size_t all = sizeof kinds / sizeof *kinds;
-    size_t one = 0;
+    const size_t one = row_of(kinds, sizeof kinds / sizeof *kinds, sizeof *kinds, count, words, where, &base);
     struct inroot_root *kept = NULL;
-    if (count != 4 || realpath(words[1], where) == NULL)
-        return 2;
-    while (one < all && strcmp(kinds[one].name, words[3]) != 0)
-        one++;
-    if (one == all)
-        return 2;
-    base = sure(open(where, O_PATH | O_DIRECTORY | O_CLOEXEC), where);
-    if (!may_jail(base))
-        return NO_RIGHT;
     make_tree();
     open_proc();
     if (strcmp(words[3], "kept") == 0) {

@@ -45,13 +45,7 @@ struct worker {
 
 static bool is_outside(int fd)
 {
-    struct stat about;
-    if (fstat(fd, &about) != 0)
-        return false;
-    for (size_t at = 0; at < sizeof outside / sizeof *outside; at++)
-        if (about.st_ino == outside[at].st_ino && about.st_dev == outside[at].st_dev)
-            return true;
-    return false;
+    return is_one_of(fd, outside, sizeof outside / sizeof *outside);
 }
 
 /* ---- what workers do: a descriptor, or -errno */

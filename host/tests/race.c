@@ -46,13 +46,7 @@ enum { PATHS = sizeof paths / sizeof *paths };
 
 static bool is_outside(int fd)
 {
-    struct stat about;
-    if (fstat(fd, &about) != 0)
-        return false;
-    for (size_t at = 0; at < sizeof outside / sizeof *outside; at++)
-        if (about.st_ino == outside[at].st_ino && about.st_dev == outside[at].st_dev)
-            return true;
-    return false;
+    return is_one_of(fd, outside, sizeof outside / sizeof *outside);
 }
 
 static int by_proc(const char *path)

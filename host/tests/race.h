@@ -5,6 +5,7 @@
 #include "support.h"
 
 #include <errno.h>
+#include <limits.h>
 #include <pthread.h>
 #include <sched.h>
 #include <stdatomic.h>
@@ -190,6 +191,27 @@ static inline void race_in(const char *title, const struct worker *control, int 
     for (int one = 0; one < count; one++)
         workers[one + 1] = (struct worker){.name = names[places[one]], .place = places[one], .work = work};
     race(title, workers, count + 1, move, seconds);
+}
+
+/*
+ * usage: RACE DIR SECONDS KIND. Gives which row of a table begins with the name of this kind, and opens the directory; or ends the
+ * program as one does that can't be run.
+ */
+static inline size_t row_of(const void *rows, size_t rows_count, size_t size, int count, char **words,
+                            char where[PATH_MAX], int *base)
+{
+    const char *const *name = rows;
+    size_t one = 0;
+    if (count != 4 || realpath(words[1], where) == NULL)
+        exit(2);
+    for (; one < rows_count && strcmp(*name, words[3]) != 0; one++)
+        name += size / sizeof *name;
+    if (one == rows_count)
+        exit(2);
+    *base = sure(open(where, O_PATH | O_DIRECTORY | O_CLOEXEC), where);
+    if (!may_jail(*base))
+        exit(NO_RIGHT);
+    return one;
 }
 
 /* A walk without a check: each part is opened in the one before. */

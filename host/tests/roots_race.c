@@ -243,17 +243,7 @@ static const struct {
 
 int main(int count, char **words)
 {
-    const size_t all = sizeof races / sizeof *races;
-    size_t one = 0;
-    if (count != 4 || realpath(words[1], where) == NULL)
-        return 2;
-    while (one < all && strcmp(races[one].name, words[3]) != 0)
-        one++;
-    if (one == all)
-        return 2;
-    base = sure(open(where, O_PATH | O_DIRECTORY | O_CLOEXEC), where);
-    if (!may_jail(base))
-        return NO_RIGHT;
+    const size_t one = row_of(races, sizeof races / sizeof *races, sizeof *races, count, words, where, &base);
     bool is_renamed = races[one].move == rename_root_too;
     if (strcmp(words[3], "overlay") == 0)
         on_overlay();

@@ -128,6 +128,18 @@ __attribute__((format(printf, 2, 3), unused)) static void ended_well(int status,
         expect(false, "%s: wanted status 0, got signal %d", words, WTERMSIG(status));
 }
 
+/* Whether this is one of these objects. */
+static inline bool is_one_of(int fd, const struct stat *objects, size_t count)
+{
+    struct stat about;
+    if (fstat(fd, &about) != 0)
+        return false;
+    for (size_t one = 0; one < count; one++)
+        if (about.st_ino == objects[one].st_ino && about.st_dev == objects[one].st_dev)
+            return true;
+    return false;
+}
+
 /* Whether this thread has openat2(2), which an older kernel lacks and a filter may refuse. */
 static inline bool has_openat2(void)
 {
@@ -283,6 +295,16 @@ __attribute__((unused)) static bool may_jail(int root)
         _exit(inroot_jail(root) == 0 ? 0 : 1);
     sure(waitpid(child, &status, 0), "waitpid");
     return WIFEXITED(status) && WEXITSTATUS(status) == 0;
+}
+
+/* Gives this thread the root as its own; or ends the process as a check does that has no right to. */
+__attribute__((unused)) static void jail_or_end(int root, int flags)
+{
+    int failed = inroot_jail_with(root, flags);
+    if (failed == -EPERM)
+        _exit(NO_RIGHT);
+    errno = -failed;
+    sure(failed, "inroot_jail_with");
 }
 
 #endif

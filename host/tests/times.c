@@ -28,7 +28,7 @@
 #include <time.h>
 #include <unistd.h>
 
-enum { BATCHES = 200, BATCH = 50, DEPTH = 32, FILES = 20000, REMOVALS = 3 };
+enum { BATCHES = 100, BATCH = 50, DEPTH = 32, FILES = 20000, REMOVALS = 3 };
 
 static int root;
 static char where[PATH_MAX];

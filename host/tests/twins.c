@@ -185,11 +185,7 @@ static void each_twice(const char *who)
 
 static void jail_by(int flags)
 {
-    int failed = inroot_jail_with(root, flags);
-    if (failed == -EPERM)
-        _exit(NO_RIGHT);
-    errno = -failed;
-    sure(failed, "inroot_jail_with");
+    jail_or_end(root, flags);
 }
 
 static void in_no_jail(void)

@@ -41,6 +41,16 @@ ssize_t __wrap_readlinkat(int dir, const char *name, char *text, size_t size);
         return INSTEAD(number, with);                                                     \
     }
 
+/* Counts in `made` how often the test's subject calls this function. */
+#define COUNTED(type, name, parameters, arguments)               \
+    type __real_##name parameters;                               \
+    type __wrap_##name parameters;                               \
+    type __wrap_##name parameters                                \
+    {                                                            \
+        made++;                                                  \
+        return __real_##name arguments;                          \
+    }
+
 /* The system call itself. */
 #define REAL_SYSCALL(number, with) __real_syscall(number, (with)[0], (with)[1], (with)[2], (with)[3], (with)[4], (with)[5])
 

@@ -1,0 +1,63 @@
+/*
+ * above.c: the directory above, where the names are known at which the walk stands. These without the last are looked up from
+ * the root by RESOLVE_BENEATH, and what is found is compared with what the child's `..` leads to. So the directory is opened and
+ * seen below the root by one look-up, and only a text is read for its place.
+ */
+#define _GNU_SOURCE
+#include "driver.h"
+#include "openat2.h"
+
+#include <fcntl.h>
+#include <string.h>
+#include <unistd.h>
+
+/* The proved call's own handle on the root: the first. */
+enum { ROOT_SERIAL = 1 };
+
+/*
+ * The root itself is at hand, and its place needs no question. What is handed out is opened anew. In a jail the thread may keep
+ * a descriptor of it.
+ */
+static bool is_root(struct inroot_driver *d, int child, struct inroot_result *result)
+{
+    enum inroot_kind kind;
+    int root = d->slots[0].fd == INROOT_JAILED ? inroot_trust_root() : d->slots[0].fd;
+    if (root < 0 || !inroot_ahead_has_name(&d->ahead) || !inroot_is_entry(child, "..", root, &kind))
+        return false;
+    *result = inroot_opened(inroot_handles_share(d, (uint64_t)ROOT_SERIAL << 32), INROOT_KIND_DIR);
+    return true;
+}
+
+/* By so many of the names, which are more than none. */
+static int look_up(struct inroot_driver *d, size_t length)
+{
+    char behind = d->passed[length];
+    d->passed[length] = 0;
+    int fd = inroot_look_up(d, d->slots[0].fd, d->passed + 1, O_DIRECTORY, RESOLVE_BENEATH);
+    d->passed[length] = behind;
+    return fd;
+}
+
+bool inroot_above_open(struct inroot_driver *d, uint64_t handle, int child, struct inroot_result *result)
+{
+    enum inroot_kind kind;
+    const int by_itself = INROOT_ONE_BY_ONE | INROOT_NO_XDEV;
+    ssize_t base = inroot_passed_base(d, handle);
+    if (base <= 0 || d->counts || d->asked->flags & by_itself || !inroot_has_openat2())
+        return false;
+    size_t length = inroot_passed_above(d, (size_t)base);
+    if (length == 0)
+        return is_root(d, child, result);
+    int fd = look_up(d, length);
+    if (fd < 0)
+        return false;
+    if (!inroot_is_entry(child, "..", fd, &kind)) {
+        close(fd);
+        return false;
+    }
+    uint64_t above = inroot_handles_put(d, fd, INROOT_KIND_DIR, INROOT_SEEN_BELOW, handle);
+    inroot_handles_slot(d, above)->is_above = true;
+    inroot_passed_end(d, above, length);
+    *result = inroot_opened(above, INROOT_KIND_DIR);
+    return true;
+}

@@ -1,0 +1,136 @@
+/*
+ * fuzz_texts: the proved library's functions over what the kernel writes, with any bytes: records of getdents64(2), and texts of
+ * places. Nothing outside of the bytes is read or written, each call ends, and what it tells is compared with plain C.
+ *
+ * For libFuzzer, or with fuzz_main.c for stored cases. A case is bytes: which function, the size of the room or of the texts
+ * before the last one, and the bytes.
+ */
+#define _GNU_SOURCE
+#include "../calls.h"
+
+#include <errno.h>
+#include <limits.h>
+#include <stdio.h>
+#include <stdlib.h>
+#include <string.h>
+
+int LLVMFuzzerTestOneInput(const uint8_t *data, size_t size);
+
+#define MUST(holds) ((holds) ? (void)0 : (fprintf(stderr, "not so: %s\n", #holds), abort()))
+
+/* In a block of its own, so that a step over its end is seen. */
+static unsigned char *copy_of(const uint8_t *bytes, size_t size)
+{
+    unsigned char *copy = malloc(size + (size == 0));
+    if (copy == NULL)
+        abort();
+    if (size > 0)
+        memcpy(copy, bytes, size);
+    return copy;
+}
+
+static size_t name_length(const unsigned char *text, size_t left)
+{
+    const unsigned char *slash = memchr(text, '/', left);
+    return slash == NULL ? left : (size_t)(slash - text);
+}
+
+/* Names with a slash before each. Gives how many bytes they have, and sees that they are in order where they are to be. */
+static size_t must_be_names(const unsigned char *text, size_t size, bool sorted)
+{
+    size_t sum = 0, before = 0;
+    for (size_t at = 0; at < size;) {
+        MUST(text[at] == '/');
+        const unsigned char *name = text + at + 1;
+        size_t length = name_length(name, size - at - 1);
+        MUST(length > 0 && length <= NAME_MAX && memchr(name, 0, length) == NULL);
+        MUST(!(length == 1 && name[0] == '.') && !(length == 2 && memcmp(name, "..", 2) == 0));
+        if (sorted && before > 0) {
+            size_t common = before < length ? before : length;
+            int order = memcmp(name - before - 1, name, common);
+            MUST(order < 0 || (order == 0 && before <= length));
+        }
+        for (size_t byte = 0; byte < length; byte++)
+            sum += name[byte];
+        before = length;
+        at += length + 1;
+    }
+    return sum;
+}
+
+static void must_sort(const unsigned char *text, size_t size)
+{
+    struct inroot_sorted sorted;
+    unsigned char *room = malloc(size + 1);
+    if (room == NULL)
+        abort();
+    inroot_sort_names(text, size, room, size, &sorted);
+    MUST(sorted.error == ERANGE && sorted.length == 0);
+    inroot_sort_names(text, size, room, size + 1, &sorted);
+    MUST(sorted.error == 0 && sorted.length == (size == 0 ? 1 : size));
+    if (size == 0)
+        MUST(room[0] == '/');
+    else
+        MUST(must_be_names(room, size, true) == must_be_names(text, size, false));
+    free(room);
+}
+
+static void records(size_t size, const uint8_t *bytes, size_t length)
+{
+    struct inroot_taken taken;
+    unsigned char *given = copy_of(bytes, length), *room = malloc(size + 1);
+    if (room == NULL)
+        abort();
+    memset(room, 0xa5, size + 1);
+    inroot_take_names(given, length, room, size, &taken);
+    MUST(taken.used <= size && (taken.error == 0 || taken.error == EIO || taken.error == ENAMETOOLONG));
+    MUST(!(taken.full && taken.error));
+    for (size_t at = taken.used; at <= size; at++)
+        MUST(room[at] == 0xa5);
+    must_be_names(room, taken.used, false);
+    must_sort(room, taken.used);
+    free(given);
+    free(room);
+}
+
+/* What comes behind the root's path, by plain C: where it begins, or -1. */
+static ssize_t place_of(const unsigned char *root, size_t root_length, const unsigned char *path, size_t length)
+{
+    if (root_length == 0 || length == 0 || root[0] != '/' || path[0] != '/' || length > 4095)
+        return -1;
+    if (root_length == 1)
+        return 0;
+    if (length < root_length || memcmp(root, path, root_length) != 0)
+        return -1;
+    return length == root_length || path[root_length] == '/' ? (ssize_t)root_length : -1;
+}
+
+static void places(size_t size, const uint8_t *bytes, size_t length)
+{
+    struct inroot_place place;
+    size_t root_length = size < length ? size : length;
+    unsigned char *root = copy_of(bytes, root_length), *path = copy_of(bytes + root_length, length - root_length);
+    size_t path_length = length - root_length;
+    ssize_t wanted = place_of(root, root_length, path, path_length);
+    inroot_place_between(root, root_length, path, path_length, root, root_length, &place);
+    MUST((wanted < 0) == (place.length == 0));
+    if (wanted >= 0 && (size_t)wanted == path_length)
+        MUST(place.start == 0 && place.length == 1);
+    else if (wanted >= 0)
+        MUST(place.start == (size_t)wanted && place.length == path_length - (size_t)wanted);
+    inroot_place_between(root, root_length, path, path_length, path, path_length, &place);
+    MUST(place.length == 0 || root_length == path_length);
+    MUST(inroot_is_named(path, path_length, path, path_length));
+    inroot_place_of_cwd(path, path_length, &place);
+    MUST(place.length == 0 || (place.start == 0 && place.length == path_length - 1 && path[path_length - 1] == 0));
+    free(root);
+    free(path);
+}
+
+int LLVMFuzzerTestOneInput(const uint8_t *data, size_t size)
+{
+    if (size < 2)
+        return 0;
+    (data[0] & 1 ? places : records)(data[1], data + 2, size - 2);
+    return 0;
+}
