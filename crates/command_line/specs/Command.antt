@@ -13,8 +13,8 @@ use Rattle.command_line.specs.declared.commands.Replaying.{Replaying}
 use Rattle.command_line.specs.declared.commands.Request.{Request}
 use Rattle.command_line.specs.declared.commands.Request.TheVariants as request
 use Rattle.command_line.specs.declared.commands.Walking.{Walking}
-use Rattle.survey_text.specs.declared.asked.Options.{Options}
-use Rattle.survey_text.specs.Asked.{texts_in}
+use Rattle.outcome_text.specs.declared.asked.Options.{Options}
+use Rattle.outcome_text.specs.Asked.{texts_in}
 
 -- the option's value is `true` or `false`; without one it isn't set
 pub record IsOption (matches : ArgMatches) (id : List ℕ) (set : Bool) : Type 0 where

@@ -3,24 +3,24 @@ use Rattle.std.specs.Borrow.{Bor}
 use Rattle.std.specs.Prelude.{⊤, ℕ, List, Option, Some, None, Result, Ok, Err}
 use Rattle.scripts.specs.declared.fault.RunFault.TheVariants.{Script, ReadFailed, WriteFailed, NoMemory, BookFull}
 use Rattle.scripts.specs.declared.fault.ScriptFault.TheVariants.{Turn, TooManyTurns}
-use Rattle.survey_text.specs.declared.merging.MergeFault.{MergeFault}
-use Rattle.survey_text.specs.declared.merging.MergeFault.TheVariants as merge
+use Rattle.outcome_text.specs.declared.merging.MergeFault.{MergeFault}
+use Rattle.outcome_text.specs.declared.merging.MergeFault.TheVariants as merge
 use Rattle.command_line.specs.declared.ending.Fault.{Fault}
 use Rattle.command_line.specs.declared.ending.Fault.TheVariants.{Usage, NotUtf8, Schedule, AskedTurn, AskedTurns, Width, Color, NoRequest, Run, Options, PropertyFails, ExploreActor, ExploreProperty, ExploreStates, ExploreTurns, ExploreBegin, ExploreCuts, Merge, DrawActors, DrawLines, ReplayEvents, Service}
-use Rattle.script_drawings.specs.declared.drawing.DrawFault.{DrawFault}
-use Rattle.script_drawings.specs.declared.page.JsonFault.{JsonFault}
-use Rattle.script_drawings.specs.declared.page.JsonFault.TheVariants as json
-use Rattle.script_jobs.specs.declared.jobs.JobsFault.{JobsFault}
-use Rattle.script_jobs.specs.declared.jobs.JobsFault.TheVariants as jobs
+use Rattle.draw_command.specs.declared.drawing.DrawFault.{DrawFault}
+use Rattle.draw_command.specs.declared.page.JsonFault.{JsonFault}
+use Rattle.draw_command.specs.declared.page.JsonFault.TheVariants as json
+use Rattle.run_command.specs.declared.jobs.JobsFault.{JobsFault}
+use Rattle.run_command.specs.declared.jobs.JobsFault.TheVariants as jobs
 use Rattle.scripts.specs.declared.turns.TurnOrder.{TurnOrder}
 use Rattle.scripts.specs.declared.turns.TurnOrder.TheVariants.{OfScript, Asked}
 use Rattle.scripts.specs.declared.turns.Turns.{Turns}
 use Rattle.scripts.specs.Turns.{SaysTurns}
-use Rattle.script_drawings.specs.declared.drawing.DrawFault.TheVariants as drawing
-use Rattle.survey_text.specs.declared.asked.OptionFault.{OptionFault}
-use Rattle.survey_text.specs.declared.asked.OptionFault.TheVariants as option
-use Rattle.survey_text.specs.declared.fault.ExploreFault.{ExploreFault}
-use Rattle.survey_text.specs.declared.fault.ExploreFault.TheVariants as explore
+use Rattle.draw_command.specs.declared.drawing.DrawFault.TheVariants as drawing
+use Rattle.outcome_text.specs.declared.asked.OptionFault.{OptionFault}
+use Rattle.outcome_text.specs.declared.asked.OptionFault.TheVariants as option
+use Rattle.outcome_text.specs.declared.fault.ExploreFault.{ExploreFault}
+use Rattle.outcome_text.specs.declared.fault.ExploreFault.TheVariants as explore
 
 abbrev pub ANSWERED : ℕ
 ANSWERED = 0

@@ -1,15 +1,15 @@
 //! The command line.
 ghost use Rattle.std.specs.Prelude.{◌≡◌, IfSome};
 ghost use Rattle.command_line.specs.Command.{IsAsked, IsDrawing, IsExploration, IsExploreRequest, IsReplaying, IsRequest, IsSchedule, IsStrict, IsWorkers, texts_given};
-ghost use Rattle.survey_text.specs.Asked.{texts_in};
+ghost use Rattle.outcome_text.specs.Asked.{texts_in};
 
 use clap::builder::ValueParser;
 use clap::{Arg, ArgAction, ArgMatches, Command};
 use drawings::Closes;
+use outcome_text::Options;
 use path_text::Flags;
-use script_jobs::WORKERS_MAX;
+use run_command::WORKERS_MAX;
 use std::alloc::{AllocError, Global};
-use survey_text::Options;
 
 // The names of the commands, the id of the path that `walk` takes, and the options by their ids, which are their
 // names.

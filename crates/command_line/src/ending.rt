@@ -4,12 +4,12 @@ ghost use Rattle.command_line.specs.Ending.{status_of, told_of, json_told_of, jo
 ghost use Rattle.command_line.specs.declared.ending.Fault.TheVariants.{Run};
 ghost use Rattle.scripts.specs.declared.fault.RunFault.TheVariants.{NoMemory as OutOfMemory};
 
+use draw_command::{DrawFault, JsonFault};
+use outcome_text::{ExploreFault, MergeFault, OptionFault};
 use path_text::NoMemory;
-use script_drawings::{DrawFault, JsonFault};
-use script_jobs::{JobsFault, ServiceFault};
+use run_command::{JobsFault, ServiceFault};
 use scripts::RunFault;
 use std::alloc::AllocError;
-use survey_text::{ExploreFault, MergeFault, OptionFault};
 use thiserror::Error;
 
 /// Why the program ends without its answer.

@@ -3,15 +3,15 @@ use command_line::{
     Drawing, Fault, Request, Screen, advise, asked, blamed, command, entry_text, is_strict,
     order_of, status, style_of,
 };
+use draw_command::Form;
 use drawings::{Closes, Colours, Legend};
+use outcome_text::{OptionFault, Options};
 use path_text::Errno;
-use script_drawings::Form;
-use script_jobs::ServiceFault;
+use run_command::ServiceFault;
 use scripts::{Cause, RunFault, ScriptFault, TurnOrder};
 use serde_json::Value;
 use std::alloc::Global;
 use step_text::Output;
-use survey_text::{OptionFault, Options};
 
 #[test]
 fn ends_with_its_statuses(rt: HostRuntime) {

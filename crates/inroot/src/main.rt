@@ -1,8 +1,8 @@
 //! The program: resolves paths below a root, over the tree that a script on standard input gives, replays, draws and
 //! explores scripts of calls that race, and lets workers make a script's calls.
 //!
-//! It hands the words of its command line to `command_line`, and standard input and output to `script_runs`,
-//! `script_drawings`, `script_jobs` and `explore_text`, where it is stated what a run writes; it ends with the status
+//! It hands the words of its command line to `command_line`, and standard input and output to `walk_replay_command`,
+//! `draw_command`, `run_command` and `explore_command`, where it is stated what a run writes; it ends with the status
 //! that `command_line` says of what happened.
 #![tactic(auto)]
 
@@ -16,11 +16,10 @@ use command_line::{
     Drawing, Fault, Request, Screen, Walking, asked, blamed, command, is_strict, order_of, status,
     style_of,
 };
+use draw_command::{Style, draw, draw_page, replay_json};
 use drawings::Closes;
-use explore_text::{Asked, explore_part, explore_script, merge_parts, read_asked};
-use script_drawings::{Style, draw, draw_page, replay_json};
-use script_jobs::run_jobs;
-use script_runs::{replay, walk};
+use explore_command::{Asked, explore_part, explore_script, merge_parts, read_asked};
+use run_command::run_jobs;
 use scripts::{RunFault, TurnOrder, read_script, read_strictly};
 use std::alloc::Global;
 use std::io::{IsTerminal, Read};
@@ -30,6 +29,7 @@ use std::thread::Threads;
 use std::{env, io};
 use telling::{Told, tell};
 use waiting::Waiting;
+use walk_replay_command::{replay, walk};
 
 /// Tells help, the version or a usage fault, and how the program ends after it.
 fn told_by(rt: &HostRuntime, error: &clap::Error) -> Result<(), Fault> {

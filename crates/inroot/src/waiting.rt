@@ -1,5 +1,5 @@
 //! How far an exploration has come, told on standard error where somebody waits at a terminal.
-use explore_text::{Progress, Waiter};
+use explore_command::{Progress, Waiter};
 use std::io::IsTerminal;
 use std::time::{Duration, Instant};
 

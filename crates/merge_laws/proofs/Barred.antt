@@ -9,11 +9,11 @@ use Rattle.explore.specs.Alike.{full, after_turns}
 use Rattle.explore.specs.Explored.{IsWithin}
 use Rattle.explore.specs.Lists.{is_cut, cuts, cuts_after}
 use Rattle.explore.specs.Search.{IsFull}
-use Rattle.explore_text.specs.Part.{IsBarred}
+use Rattle.explore_command.specs.Part.{IsBarred}
 use Rattle.race_core.specs.Worlds.{WorldView, turn, is_busy_at}
 use Rattle.schedule_graph.specs.declared.count.TheConstants.{COUNT_CAP}
-use Rattle.world_laws.specs.Parts.{IsAskedFrom, part_with, IsPart}
-use Rattle.world_laws.proofs.Beginnings.{plus_more, none_fewer, within_fewer}
+use Rattle.further_world_laws.specs.Parts.{IsAskedFrom, part_with, IsPart}
+use Rattle.further_world_laws.proofs.Beginnings.{plus_more, none_fewer, within_fewer}
 
 -- a turn of a full list is of an actor who has something left to do then
 busy_there : (w : WorldView) (begin rest : List ℕ) (at actor : ℕ) → IsFull w (begin ++ rest) → slice_get begin at ≡ Some actor

@@ -7,9 +7,9 @@ use Rattle.std.proofs.lemmas.List.Sums.{sum_by-cons}
 use Rattle.schedule_graph.specs.Counted.{IsAmong}
 use Rattle.schedule_graph.proofs.Among.{among_left, among_right, among_split}
 use Rattle.schedule_graph.proofs.Ranks.{ranks_total, ranks_chain}
-use Rattle.survey_text.specs.declared.survey.Told.{Told}
-use Rattle.survey_text.specs.Order.{rank_of, comes_before, put, in_order}
-use Rattle.survey_text.specs.InPieces.{AreAlike, AreOneBut, AreFirst}
+use Rattle.outcome_text.specs.declared.survey.Told.{Told}
+use Rattle.outcome_text.specs.Order.{rank_of, comes_before, put, in_order}
+use Rattle.outcome_text.specs.InPieces.{AreAlike, AreOneBut, AreFirst}
 
 module _ {A : Type 0} (told : A → Told) where
   abbrev pub Before : A → A → Type 0

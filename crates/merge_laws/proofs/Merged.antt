@@ -4,25 +4,25 @@ use Rattle.std.proofs.Common.{◌∙◌, inl, sym, ap, subst, ⊎_elim}
 use Rattle.std.proofs.lemmas.List.{append-nil}
 use Rattle.explore.specs.declared.limits.Scope.{Scope}
 use Rattle.explore.specs.Opened.{opened_world}
-use Rattle.explore_text.specs.declared.search.Asked.{Asked}
-use Rattle.explore_text.specs.Surveyed.{IsSurvey}
+use Rattle.explore_command.specs.declared.search.Asked.{Asked}
+use Rattle.explore_command.specs.Surveyed.{IsSurvey}
 use Rattle.race_core.specs.declared.plan.ActorPlan.{ActorPlan}
 use Rattle.race_core.specs.Worlds.{WorldView}
 use Rattle.schedule_graph.specs.declared.count.TheConstants.{COUNT_CAP}
 use Rattle.schedule_graph.specs.Counted.{IsAmong, EachOnce}
-use Rattle.survey_text.specs.declared.part.Part.{Part}
-use Rattle.survey_text.specs.declared.property.Property.{Property}
-use Rattle.survey_text.specs.declared.survey.Told.{Told}
-use Rattle.survey_text.specs.Conditions.{told_text}
-use Rattle.survey_text.specs.InPieces.{ArePieces}
-use Rattle.survey_text.specs.Merge.{all_lists, longest, all_of, IsJoined}
-use Rattle.survey_text.specs.Order.{in_order}
-use Rattle.survey_text.proofs.InPieces.{pieces_tell_the_whole}
+use Rattle.outcome_text.specs.declared.part.Part.{Part}
+use Rattle.outcome_text.specs.declared.property.Property.{Property}
+use Rattle.outcome_text.specs.declared.survey.Told.{Told}
+use Rattle.outcome_text.specs.Conditions.{told_text}
+use Rattle.outcome_text.specs.InPieces.{ArePieces}
+use Rattle.outcome_text.specs.Merge.{all_lists, longest, all_of, IsJoined}
+use Rattle.outcome_text.specs.Order.{in_order}
+use Rattle.outcome_text.proofs.InPieces.{pieces_tell_the_whole}
 use Rattle.tree_model.specs.State.{State}
-use Rattle.world_laws.specs.Parts.{PartView, part_with, AreParts, AreBeginnings, classes_of, begins_of, greatest_by}
-use Rattle.world_laws.specs.Parts as worlds
-use Rattle.world_laws.proofs.PartsJoined.{parts_make_the_whole}
-use Rattle.world_laws.proofs.WholePart.{whole_is_a_part}
+use Rattle.further_world_laws.specs.Parts.{PartView, part_with, AreParts, AreBeginnings, classes_of, begins_of, greatest_by}
+use Rattle.further_world_laws.specs.Parts as worlds
+use Rattle.further_world_laws.proofs.PartsJoined.{parts_make_the_whole}
+use Rattle.further_world_laws.proofs.WholePart.{whole_is_a_part}
 use Rattle.merge_laws.specs.Merged.{RepliesNameNoHandles, ArePartsOf, SayTheSame, MergedPartsAreTheWhole}
 use Rattle.merge_laws.proofs.Tellings.{Piece, Telling, are_pieces}
 use Rattle.merge_laws.proofs.Viewed.{ArePaired, AreViewed, paired, endings_in, viewed_all, viewed_part}

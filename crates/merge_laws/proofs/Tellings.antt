@@ -6,25 +6,25 @@ use Rattle.explore.specs.declared.limits.Scope.{Scope}
 use Rattle.explore.specs.Explored.{IsAsked, AgreeIn, EndingView, ClassView, IsEnding}
 use Rattle.explore.specs.Lists.{rank, is_at_most, Rank}
 use Rattle.explore.proofs.Lists.Told.{agree_same, agree_turned, agree_on}
-use Rattle.explore_text.specs.Classes.{IsTold}
+use Rattle.explore_command.specs.Classes.{IsTold}
 use Rattle.race_core.specs.Worlds.{WorldView}
 use Rattle.schedule_graph.specs.declared.count.TheConstants.{COUNT_CAP}
 use Rattle.schedule_graph.specs.Counted.{IsAmong, EachOnce, AreSoMany}
 use Rattle.schedule_graph.proofs.Summing.{so_many_as}
-use Rattle.survey_text.specs.declared.survey.Told.{Told}
-use Rattle.survey_text.specs.InPieces.{AreAlike, AreOneBut, IsByOutcome, ArePieces}
-use Rattle.survey_text.specs.Order.{rank_of, in_order}
-use Rattle.survey_text.specs.Telling.{IsToldOf}
+use Rattle.outcome_text.specs.declared.survey.Told.{Told}
+use Rattle.outcome_text.specs.InPieces.{AreAlike, AreOneBut, IsByOutcome, ArePieces}
+use Rattle.outcome_text.specs.Order.{rank_of, in_order}
+use Rattle.outcome_text.specs.Telling.{IsToldOf}
 use Rattle.merge_laws.proofs.FirstPieces.{Before, HaveNoTies, AreOthers, IsFirstOf, IsWholeOf, first_in_order, order_sum, mapped_sum}
-use Rattle.survey_text.proofs.SameReports.{one_list_is_told_as_one}
+use Rattle.outcome_text.proofs.SameReports.{one_list_is_told_as_one}
 use Rattle.tree_model.specs.State.{State}
-use Rattle.world_laws.specs.Parts.{Begins, PartView, AreParts, classes_of}
-use Rattle.world_laws.proofs.OneAnswer.{same_ending}
-use Rattle.world_laws.proofs.OneOrder.{ranks_both}
-use Rattle.world_laws.proofs.OnceEach.{same_many}
-use Rattle.world_laws.proofs.PartsCounted.{LeadsTo, class_part, part_class, classes_once, class_counted, class_alone, own_class, own_among, own_least}
-use Rattle.world_laws.proofs.PickedOnce.{mapped, unmapped, once_unmapped, one_of_each}
-use Rattle.world_laws.proofs.Sums.{InSome, sum_many}
+use Rattle.further_world_laws.specs.Parts.{Begins, PartView, AreParts, classes_of}
+use Rattle.further_world_laws.proofs.OneAnswer.{same_ending}
+use Rattle.further_world_laws.proofs.OneOrder.{ranks_both}
+use Rattle.further_world_laws.proofs.OnceEach.{same_many}
+use Rattle.further_world_laws.proofs.PartsCounted.{LeadsTo, class_part, part_class, classes_once, class_counted, class_alone, own_class, own_among, own_least}
+use Rattle.further_world_laws.proofs.PickedOnce.{mapped, unmapped, once_unmapped, one_of_each}
+use Rattle.further_world_laws.proofs.Sums.{InSome, sum_many}
 use Rattle.merge_laws.specs.Merged.{RepliesNameNoHandles}
 use Rattle.merge_laws.proofs.ToldAlike.{told_alike}
 

@@ -4,13 +4,13 @@ use Rattle.std.proofs.Common.{◌∙◌, sym, ap, subst}
 use Rattle.explore.specs.declared.limits.Scope.{Scope}
 use Rattle.explore.specs.Explored.{AgreeIn, EndingView, ClassView, IsEnding}
 use Rattle.explore.proofs.Lists.Told.{actors_stay}
-use Rattle.explore_text.specs.Classes.{IsTold}
+use Rattle.explore_command.specs.Classes.{IsTold}
 use Rattle.race_core.specs.declared.report.Outcome.{Outcome}
 use Rattle.race_core.specs.Worlds.{WorldView}
-use Rattle.survey_text.specs.declared.survey.Told.{Told}
-use Rattle.survey_text.specs.InPieces.{AreAlike, HoldAsMany}
-use Rattle.survey_text.specs.Telling.{IsToldOf}
-use Rattle.survey_text.proofs.SameReports.{same_reports_are_told_alike}
+use Rattle.outcome_text.specs.declared.survey.Told.{Told}
+use Rattle.outcome_text.specs.InPieces.{AreAlike, HoldAsMany}
+use Rattle.outcome_text.specs.Telling.{IsToldOf}
+use Rattle.outcome_text.proofs.SameReports.{same_reports_are_told_alike}
 use Rattle.tree_model.specs.State.{State}
 use Rattle.tree_model.specs.Steps.{held_count}
 use Rattle.merge_laws.specs.Merged.{RepliesNameNoHandles, AgreeingListsAreToldAlike}

@@ -6,19 +6,19 @@ use Rattle.std.proofs.lemmas.List.Sums.{sum_by-cons}
 use Rattle.explore.specs.declared.limits.Scope.{Scope}
 use Rattle.explore.specs.Explored.{ClassView, IsEnding}
 use Rattle.explore.specs.Opened.{opened_world}
-use Rattle.explore_text.specs.declared.search.Asked.{Asked}
-use Rattle.explore_text.specs.Classes.{AreTold}
-use Rattle.explore_text.specs.Part as of_scene
+use Rattle.explore_command.specs.declared.search.Asked.{Asked}
+use Rattle.explore_command.specs.Classes.{AreTold}
+use Rattle.explore_command.specs.Part as of_scene
 use Rattle.race_core.specs.declared.plan.ActorPlan.{ActorPlan}
 use Rattle.race_core.specs.Worlds.{WorldView}
 use Rattle.schedule_graph.specs.Counted.{IsAmong}
-use Rattle.survey_text.specs.declared.part.Part.{Part}
-use Rattle.survey_text.specs.declared.survey.Told.{Told}
-use Rattle.survey_text.specs.Merge.{longest, all_of}
+use Rattle.outcome_text.specs.declared.part.Part.{Part}
+use Rattle.outcome_text.specs.declared.survey.Told.{Told}
+use Rattle.outcome_text.specs.Merge.{longest, all_of}
 use Rattle.tree_model.specs.State.{State}
-use Rattle.world_laws.specs.Parts.{PartView, part_with, IsPart, begins_of, classes_of, greatest_by}
-use Rattle.world_laws.proofs.OnceEach.{place_of}
-use Rattle.world_laws.proofs.SearchedPart.{searches_tell_parts}
+use Rattle.further_world_laws.specs.Parts.{PartView, part_with, IsPart, begins_of, classes_of, greatest_by}
+use Rattle.further_world_laws.proofs.OnceEach.{place_of}
+use Rattle.further_world_laws.proofs.SearchedPart.{searches_tell_parts}
 use Rattle.merge_laws.specs.Merged.{AreOneQuestion, IsPartOf, begins_in}
 use Rattle.merge_laws.proofs.Barred.{barred_part}
 use Rattle.merge_laws.proofs.Tellings.{Piece}

@@ -5,22 +5,22 @@ use Rattle.explore.specs.Alike.{after_turns}
 use Rattle.explore.specs.Explored.{IsAsked, AgreeIn, ClassView, IsEnding}
 use Rattle.explore.specs.Opened.{opened_world}
 use Rattle.explore.specs.Renamed.{replies_by}
-use Rattle.explore_text.specs.declared.search.Asked.{Asked}
-use Rattle.explore_text.specs.Classes.{IsTold}
-use Rattle.explore_text.specs.Part.{IsPart}
-use Rattle.explore_text.specs.Surveyed.{IsSurvey}
+use Rattle.explore_command.specs.declared.search.Asked.{Asked}
+use Rattle.explore_command.specs.Classes.{IsTold}
+use Rattle.explore_command.specs.Part.{IsPart}
+use Rattle.explore_command.specs.Surveyed.{IsSurvey}
 use Rattle.race_core.specs.declared.plan.ActorPlan.{ActorPlan}
 use Rattle.race_core.specs.declared.report.Outcome.{Outcome}
 use Rattle.race_core.specs.Worlds.{WorldView, ledgers_in, replies_in}
 use Rattle.schedule_graph.specs.Counted.{IsAmong, EachOnce}
-use Rattle.survey_text.specs.declared.part.Part.{Part}
-use Rattle.survey_text.specs.declared.property.Property.{Property}
-use Rattle.survey_text.specs.declared.survey.Told.{Told}
-use Rattle.survey_text.specs.Conditions.{told_text}
-use Rattle.survey_text.specs.InPieces.{AreAlike}
-use Rattle.survey_text.specs.Merge.{IsJoined}
+use Rattle.outcome_text.specs.declared.part.Part.{Part}
+use Rattle.outcome_text.specs.declared.property.Property.{Property}
+use Rattle.outcome_text.specs.declared.survey.Told.{Told}
+use Rattle.outcome_text.specs.Conditions.{told_text}
+use Rattle.outcome_text.specs.InPieces.{AreAlike}
+use Rattle.outcome_text.specs.Merge.{IsJoined}
 use Rattle.tree_model.specs.State.{State}
-use Rattle.world_laws.specs.Parts.{IsWholeOf, AreBeginnings}
+use Rattle.further_world_laws.specs.Parts.{IsWholeOf, AreBeginnings}
 
 -- ---- outcomes that are told alike
 

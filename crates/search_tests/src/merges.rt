@@ -1,12 +1,12 @@
 //! What makes no part and no whole, and what can't be read or written.
 use crate::parts::{Question, add_part, all_within, asked_of, merged};
 use crate::scenes::{REMOVED, TWO_RESOLVE};
-use explore_text::{Silent, explore_part, merge_parts};
+use explore_command::{Silent, explore_part, merge_parts};
+use outcome_text::{ExploreFault, MergeFault, Part, merge};
 use scripts::{RunFault, ScriptFault};
 use std::alloc::Global;
 use std::io::{self, ErrorKind, Read};
 use std::thread::Threads;
-use survey_text::{ExploreFault, MergeFault, Part, merge};
 
 /// A beginning, who might have each of its turns, and how many schedules begin so.
 type Begun = (&'static [u32], &'static [&'static [u32]], u64);

@@ -1,8 +1,8 @@
 //! What is asked by the texts of options. Which texts are none are command lines of `explore`.
-use explore_text::{Jobs, read_asked};
+use explore_command::{Jobs, read_asked};
+use outcome_text::{OptionFault, Options, Rule, replies_have_heads};
 use std::alloc::Global;
 use std::test::Fail;
-use survey_text::{OptionFault, Options, Rule, replies_have_heads};
 
 const NONE: Options<'static> = Options {
     actors: &[],

@@ -1,15 +1,15 @@
 //! Parts of searches: what each tells, and that parts which have all schedules make what the whole search writes.
 use crate::scenes::{CARRIED_OUT, MOVED_OUT, REMOVED, THREE_MAKE, TWO_MAKE, TWO_RESOLVE, scene_of};
 use explore::{Jobs, Scene, explore};
-use explore_text::{
+use explore_command::{
     Asked, Silent, explore_part, explore_script, merge_parts, part_of_scene, read_asked,
     survey_scene,
 };
+use outcome_text::{Options, Part, Survey, merge};
 use race_core::ACTORS_MAX;
 use std::alloc::Global;
 use std::test::Fail;
 use std::thread::Threads;
-use survey_text::{Options, Part, Survey, merge};
 
 /// The actors that are named, the most cuts, whether steps outside of roots are counted, and the properties by `never`
 /// and by `always`.

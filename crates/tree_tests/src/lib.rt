@@ -1,4 +1,5 @@
-//! Nodes, lists of entries, handles and the cache of entries, by tables. Steps and answers are the rows of `tree_rows`.
+//! Nodes, lists of entries, handles and the cache of entries, by tables. Steps and answers are the rows of
+//! `compare_trees`.
 #![tactic(auto)]
 
 #[cfg(test)]

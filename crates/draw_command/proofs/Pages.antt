@@ -1,0 +1,67 @@
+-- What is told of a run as JSON, and its page: the tree in which the roots were granted again is the one that it went from.
+use Rattle.std.proofs.Common.{◌≡◌, ◌≢◌, ℕ, List, [], ◌++◌, length, sym, ap, ◌∙◌}
+use Rattle.std.specs.Prelude.{Some, codes, Result, Ok, Err, MatchResult, IfOk}
+use Rattle.drawings.specs.declared.picture.Closes.{Closes}
+use Rattle.drawings.specs.Calls.{calls_of}
+use Rattle.drawings.specs.Picture.{Drawn, drawn_of}
+use Rattle.pages.specs.Page.{text_part, report_part, picture_part, ending, page_of}
+use Rattle.pages.specs.Run.{opening_part, replies_part, events_part, report_json}
+use Rattle.pages.specs.Shown.{picture_json}
+use Rattle.race_core.specs.declared.report.Outcome.{Outcome}
+use Rattle.race_core.specs.Opening.{granted}
+use Rattle.report_text.specs.Report.{report_text}
+use Rattle.tree_model.specs.declared.answer.Event.{Event}
+use Rattle.tree_model.specs.State.{State}
+use Rattle.draw_command.specs.Drawing.{drawn, opened_by}
+use Rattle.draw_command.specs.Page.{IsJsonOf, IsPageOf, run_json}
+use Rattle.draw_command.proofs.Drawings.{opening, made}
+use Rattle.walk_replay_command.specs.Replay.{IsRunOf}
+use Rattle.scripts.specs.Writing.{tree_of}
+use Rattle.scripts.specs.Scenario.{Said}
+use Rattle.scripts.proofs.Texts.{tail_some, front_some}
+use Rattle.pages.specs.Changes.{changes_words}
+
+told_of_run : (said : Said) (t tree : State) (events : List Event) (replies : List (List Outcome)) (run : IsRunOf said tree events replies)
+    → opened_by (granted (tree_of said) 0 said.plans) ≡ Some t → report_json t events replies ≡ run_json said tree events replies run
+told_of_run said t tree events replies run h = ap (λ (s : State). report_json s events replies) (opening said t tree events replies run h)
+
+pub is_json : (said : Said) (t tree : State) (events : List Event) (replies : List (List Outcome)) (text : List ℕ) → IsRunOf said tree events replies
+    → opened_by (granted (tree_of said) 0 said.plans) ≡ Some t → text ≡ report_json t events replies → IsJsonOf said text
+is_json said t tree events replies text run h told =
+    record { tree = tree; events = events; replies = replies; run = run; is = told ∙ told_of_run said t tree events replies run h }
+
+pub is_page : (closes : Closes) (said : Said) (t tree : State) (calls : List (List (List ℕ))) (events : List Event) (replies : List (List Outcome)) (picture : Drawn) (text json page : List ℕ)
+    → IsRunOf said tree events replies → opened_by (granted (tree_of said) 0 said.plans) ≡ Some t → calls ≡ calls_of said.plans
+    → picture ≡ drawn_of closes t calls events replies → text ≡ report_text events replies tree (length said.plans) → json ≡ report_json t events replies
+    → page ≡ page_of text json (picture_json picture) → IsPageOf closes said page
+is_page closes said t tree calls events replies picture text json page run h are drawn_so text_so json_so is =
+    record {
+      tree = tree;
+      events = events;
+      replies = replies;
+      run = run;
+      is =
+          is ∙ ap (λ bs. page_of bs json (picture_json picture)) text_so
+          ∙ ap (λ bs. page_of (report_text events replies tree (length said.plans)) bs (picture_json picture)) (json_so ∙ told_of_run said t tree events replies run h)
+          ∙ ap (λ (p : Drawn). page_of (report_text events replies tree (length said.plans)) (run_json said tree events replies run) (picture_json p))
+          (drawn_so ∙ made closes said t tree calls events replies run h are);
+    }
+
+-- ---- neither is empty
+
+ending_some : ending ≢ []
+unfolding ending
+ending_some = λ e. cc (e)
+
+pub page_some : (text report picture : List ℕ) → page_of text report picture ≢ []
+unfolding page_of
+page_some text report picture =
+    tail_some (text_part text) _ (tail_some (report_part report) _ (tail_some (picture_part picture) ending ending_some))
+
+opening_some : (opened : State) → opening_part opened ≢ []
+unfolding opening_part
+opening_some opened = front_some (codes "{\"version\":1") (changes_words [] [] opened) (λ e. cc (e))
+
+pub json_some : (opened : State) (events : List Event) (replies : List (List Outcome)) → report_json opened events replies ≢ []
+unfolding report_json
+json_some opened events replies = front_some (opening_part opened) (replies_part replies ++ events_part opened events) (opening_some opened)

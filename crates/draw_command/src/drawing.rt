@@ -1,0 +1,172 @@
+//! A script drawn: its world is run to its end, and a picture of it is written.
+ghost use Rattle.std.specs.Prelude.{◌≡◌, ◌≢◌, ◌≤◌, [], length, Ok, Some, IfOk, IfErr, IfSome, MatchResult, OnOk};
+ghost use Rattle.drawings.specs.Picture.{IsPictureFault};
+ghost use Rattle.race_core.specs.Opening.{granted};
+ghost use Rattle.draw_command.specs.declared.drawing.DrawFault.TheVariants as draw_fault;
+ghost use Rattle.scripts.specs.declared.fault.RunFault.TheVariants.{NoMemory as OutOfMemory};
+ghost use Rattle.draw_command.specs.Drawing.{form_text, opened_by, told_of, IsDraw, IsDrawingOf, IsNoDrawing, IsWellFormed};
+ghost use Rattle.scripts.specs.Scenario.{said_by, IsPlayable};
+ghost use Rattle.step_text.specs.Output.{Gains};
+
+use drawings::{Closes, Look, Picture, PictureFault, calls_of};
+use path_text::NoMemory;
+use race_core::ActorPlan;
+use scripts::{ACTORS_MAX, RunFault, Scenario, TurnOrder, read_scene};
+use std::alloc::Global;
+use std::io::{Read, Write};
+use step_text::Output;
+use thiserror::Error;
+use tree_list::ListTree;
+use tree_model::{Actor, Tree};
+use walk_replay_command::report_of;
+
+/// How a picture is written.
+#[derive(Clone, Copy, Debug, PartialEq, Eq)]
+pub enum Form {
+    /// As text that looks so.
+    Text(Look),
+    /// As SVG (Scalable Vector Graphics 1.1, W3C).
+    Svg,
+}
+
+/// What is drawn of a run, and how.
+#[derive(Clone, Copy, Debug, PartialEq, Eq)]
+pub struct Style {
+    pub form: Form,
+    pub closes: Closes,
+}
+
+/// Why nothing was drawn.
+#[derive(Clone, Copy, Debug, PartialEq, Eq, Error)]
+pub enum DrawFault {
+    #[error("{0}")]
+    Run(RunFault),
+    /// There are more actors than a picture has columns.
+    #[error("draw: actors")]
+    TooManyActors,
+    /// The run has more events, or its picture more lines, than a picture may have.
+    #[error("draw: lines")]
+    TooManyLines,
+}
+
+impl From<RunFault> for DrawFault {
+    ghost from_gives = { λ fault told. told ≡ draw_fault.Run fault };
+
+    fn from(fault: RunFault) -> DrawFault {
+        DrawFault::Run(fault)
+    }
+}
+
+impl From<NoMemory> for DrawFault {
+    ghost from_gives = { λ _ told. told ≡ draw_fault.Run OutOfMemory };
+
+    fn from(_error: NoMemory) -> DrawFault {
+        DrawFault::Run(RunFault::NoMemory)
+    }
+}
+
+/// How it is told that there is no picture of some actors.
+pub(crate) fn told_of(fault: PictureFault) -> DrawFault
+    ensures { result ≡ told_of fault }
+{
+    match fault {
+        PictureFault::Actors => DrawFault::TooManyActors,
+        PictureFault::Lines => DrawFault::TooManyLines,
+        PictureFault::NoMemory => DrawFault::Run(RunFault::NoMemory),
+    }
+}
+
+/// Adds a picture in its form.
+fn add_picture(
+    alloc: Global,
+    out: &mut Output,
+    picture: &Picture,
+    form: Form,
+) -> Result<(), NoMemory>
+    ensures told { Gains out.old out.new (form_text form picture.now) result }
+    ensures well_formed { OnOk result (IsWellFormed form (form_text form picture.now)) }
+{
+    match form {
+        Form::Text(look) => picture.text(alloc, out, look),
+        Form::Svg => picture.svg(alloc, out),
+    }
+}
+
+/// Grants each actor its root, in the order of their numbers. `NoMemory` where room was refused; where a script's
+/// checks have passed, no root is refused otherwise.
+pub(crate) fn grant_roots(
+    alloc: Global,
+    tree: &mut ListTree,
+    plans: &[ActorPlan],
+) -> Result<(), NoMemory>
+    requires { length plans.now ≤ ACTORS_MAX }
+    ensures { OnOk result (opened_by (granted tree.old 0 plans.now) ≡ Some tree.new) }
+{
+    for (actor, plan) in plans.iter().enumerate() {
+        match tree.grant(alloc, Actor::new(actor as u32), &plan.root) {
+            Ok(_root) => {}
+            Err(_) => return Err(NoMemory),
+        }
+    }
+    Ok(())
+}
+
+/// The drawing of a scenario's run, whose steps are made again on the same tree. Errors: those of `report_of`;
+/// `TooManyActors` over the 4 that a picture has; `NoMemory`; `TooManyLines` over 2,000 events or lines.
+fn drawing_of(
+    alloc: Global,
+    scenario: Scenario,
+    mut tree: ListTree,
+    style: Style,
+) -> Result<Output, DrawFault>
+    requires same { tree ≡ scenario.tree }
+    requires none { scenario.tree.handles ≡ [] }
+    requires playable { IsPlayable (said_by scenario) }
+    ensures drawn { MatchResult result (IsDrawingOf style (said_by scenario))
+        (IsNoDrawing style.closes (said_by scenario)) }
+    ensures some { IfOk result (λ text. text ≢ []) }
+{
+    grant_roots(alloc, &mut tree, &scenario.plans)?;
+    let calls = calls_of(alloc, &scenario.plans)?;
+    let came_to = report_of(alloc, scenario)?;
+    let picture = match Picture::of(
+        alloc,
+        tree,
+        &calls,
+        &came_to.events,
+        &came_to.replies,
+        style.closes,
+    ) {
+        Ok(picture) => picture,
+        Err(fault) => return Err(told_of(fault)),
+    };
+    let mut text = Output::new(alloc);
+    add_picture(alloc, &mut text, &picture, style.form)?;
+    Ok(text)
+}
+
+/// Reads a script, runs its world in this order of turns, and writes a picture of it: a heading with each actor's
+/// root and how its calls ended, and a column for each actor, in which its steps stand at their moments, those that
+/// close a handle only where they are asked for. As SVG it is well-formed XML, whatever names the script has.
+///
+/// Errors, in this order: those of `read_scenario`; `BookFull` where the script gives its book fewer lines than it
+/// has actors; `TooManyActors` over 4; `TooManyLines` where the run has more than 2,000 events or the picture more
+/// than 2,000 lines; `NoMemory`, where room for the world or the picture was refused, in place of any of the last
+/// three too; `WriteFailed`. Nothing is written before the picture is whole.
+pub fn draw<R: Read, W: Write>(
+    alloc: Global,
+    reader: &mut R,
+    writer: &mut W,
+    order: &TurnOrder,
+    style: Style,
+) -> Result<(), DrawFault>
+    ensures run { IsDraw order.now style (R.remaining reader.old) (W.contents writer.old)
+        (W.contents writer.new) result }
+{
+    let (scenario, tree) = read_scene(alloc, reader, order)?;
+    let text = drawing_of(alloc, scenario, tree, style)?;
+    match writer.write_all(text.as_slice()) {
+        Ok(()) => Ok(()),
+        Err(_) => Err(DrawFault::Run(RunFault::WriteFailed)),
+    }
+}

@@ -1,0 +1,151 @@
+//! A script's run as JSON, and as a page that a browser shows.
+ghost use Rattle.std.specs.Prelude.{◌≡◌, ◌≢◌, [], IfOk, MatchResult};
+ghost use Rattle.draw_command.specs.declared.page.JsonFault.TheVariants as json_fault;
+ghost use Rattle.scripts.specs.declared.fault.RunFault.TheVariants.{NoMemory as OutOfMemory};
+ghost use Rattle.draw_command.specs.Drawing.{IsNoDrawing};
+ghost use Rattle.draw_command.specs.Page.{IsJsonOf, IsNoJson, IsJson, IsPageOf, IsPage};
+ghost use Rattle.scripts.specs.Scenario.{said_by, IsPlayable};
+
+use crate::drawing::{DrawFault, grant_roots, told_of};
+use drawings::{Closes, Picture, calls_of};
+use pages::{report_json, run_page};
+use path_text::NoMemory;
+use report_text::report;
+use scripts::{RunFault, Scenario, TurnOrder, read_scene};
+use std::alloc::Global;
+use std::io::{Read, Write};
+use step_text::Output;
+use thiserror::Error;
+use tree_list::ListTree;
+use walk_replay_command::report_of;
+
+/// The most events of a run that is told as JSON.
+pub const EVENTS_MAX: usize = 2000;
+
+/// Why a run wasn't told as JSON.
+#[derive(Clone, Copy, Debug, PartialEq, Eq, Error)]
+pub enum JsonFault {
+    #[error("{0}")]
+    Run(RunFault),
+    /// The run has more events than are told.
+    #[error("replay: events")]
+    TooManyEvents,
+}
+
+impl From<RunFault> for JsonFault {
+    ghost from_gives = { λ fault told. told ≡ json_fault.Run fault };
+
+    fn from(fault: RunFault) -> JsonFault {
+        JsonFault::Run(fault)
+    }
+}
+
+impl From<NoMemory> for JsonFault {
+    ghost from_gives = { λ _ told. told ≡ json_fault.Run OutOfMemory };
+
+    fn from(_error: NoMemory) -> JsonFault {
+        JsonFault::Run(RunFault::NoMemory)
+    }
+}
+
+/// The report on a scenario's run as JSON, whose steps are made again on the same tree. Errors: those of `report_of`;
+/// `NoMemory`; `TooManyEvents` over 2,000.
+fn json_of(alloc: Global, scenario: Scenario, mut tree: ListTree) -> Result<Output, JsonFault>
+    requires same { tree ≡ scenario.tree }
+    requires none { scenario.tree.handles ≡ [] }
+    requires playable { IsPlayable (said_by scenario) }
+    ensures told { MatchResult result (IsJsonOf (said_by scenario)) (IsNoJson (said_by scenario)) }
+    ensures some { IfOk result (λ text. text ≢ []) }
+{
+    grant_roots(alloc, &mut tree, &scenario.plans)?;
+    let came_to = report_of(alloc, scenario)?;
+    if came_to.events.len() > EVENTS_MAX {
+        return Err(JsonFault::TooManyEvents);
+    }
+    let mut text = Output::new(alloc);
+    report_json(alloc, &mut text, tree, &came_to.events, &came_to.replies)?;
+    Ok(text)
+}
+
+/// Reads a script, runs its world in this order of turns, and writes the report as one line of JSON: the tree as the
+/// run begins, each event with what it changed, and how each call ended.
+///
+/// Errors, in this order: those of `read_scenario`; `BookFull` where the script gives its book fewer lines than it
+/// has actors; `TooManyEvents` where the run has more than 2,000; `NoMemory`, where room for the world or the report
+/// was refused, in place of either of the last two too; `WriteFailed`. Nothing is written before the text is whole.
+pub fn replay_json<R: Read, W: Write>(
+    alloc: Global,
+    reader: &mut R,
+    writer: &mut W,
+    order: &TurnOrder,
+) -> Result<(), JsonFault>
+    ensures run { IsJson order.now (R.remaining reader.old) (W.contents writer.old) (W.contents writer.new) result }
+{
+    let (scenario, tree) = read_scene(alloc, reader, order)?;
+    let text = json_of(alloc, scenario, tree)?;
+    match writer.write_all(text.as_slice()) {
+        Ok(()) => Ok(()),
+        Err(_) => Err(JsonFault::Run(RunFault::WriteFailed)),
+    }
+}
+
+/// The page of a scenario's run. Errors as of a drawing.
+fn page_of(
+    alloc: Global,
+    scenario: Scenario,
+    mut tree: ListTree,
+    closes: Closes,
+) -> Result<Output, DrawFault>
+    requires same { tree ≡ scenario.tree }
+    requires none { scenario.tree.handles ≡ [] }
+    requires playable { IsPlayable (said_by scenario) }
+    ensures shown { MatchResult result (IsPageOf closes (said_by scenario)) (IsNoDrawing closes (said_by scenario)) }
+    ensures some { IfOk result (λ text. text ≢ []) }
+{
+    grant_roots(alloc, &mut tree, &scenario.plans)?;
+    let calls = calls_of(alloc, &scenario.plans)?;
+    let actors = scenario.plans.len() as u32;
+    let opening = tree.copy(alloc)?;
+    let came_to = report_of(alloc, scenario)?;
+    let (events, replies) = (&came_to.events, &came_to.replies);
+    let picture = match Picture::of(alloc, opening, &calls, events, replies, closes) {
+        Ok(picture) => picture,
+        Err(fault) => return Err(told_of(fault)),
+    };
+    let mut text = Output::new(alloc);
+    report(alloc, &mut text, &came_to, actors)?;
+    let mut json = Output::new(alloc);
+    report_json(alloc, &mut json, tree, &came_to.events, &came_to.replies)?;
+    let mut whole = Output::new(alloc);
+    run_page(
+        alloc,
+        &mut whole,
+        text.as_slice(),
+        json.as_slice(),
+        &picture,
+    )?;
+    Ok(whole)
+}
+
+/// Reads a script, runs its world in this order of turns, and writes a page of HTML that needs nothing beside itself:
+/// it has the report as `replay` writes it, as text and as JSON, and the picture as `draw` draws it, with the closes
+/// that are asked for. A script of the page shows the tree of each moment. Names have no byte in it that begins a tag.
+///
+/// Errors, in this order: those of `draw`, for the same reasons.
+pub fn draw_page<R: Read, W: Write>(
+    alloc: Global,
+    reader: &mut R,
+    writer: &mut W,
+    order: &TurnOrder,
+    closes: Closes,
+) -> Result<(), DrawFault>
+    ensures run { IsPage order.now closes (R.remaining reader.old) (W.contents writer.old)
+        (W.contents writer.new) result }
+{
+    let (scenario, tree) = read_scene(alloc, reader, order)?;
+    let text = page_of(alloc, scenario, tree, closes)?;
+    match writer.write_all(text.as_slice()) {
+        Ok(()) => Ok(()),
+        Err(_) => Err(DrawFault::Run(RunFault::WriteFailed)),
+    }
+}

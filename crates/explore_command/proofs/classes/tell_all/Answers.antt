@@ -1,0 +1,23 @@
+use Rattle.std.proofs.Common.{◌≡◌, ◌+◌, ◌++◌, ◌∷◌, [], List, sym, ap, ◌∙◌, subst, take}
+use Rattle.std.proofs.lemmas.List.{take_more}
+use Rattle.explore.specs.Explored.{ClassView}
+use Rattle.outcome_text.specs.declared.survey.Told.{Told}
+use Rattle.explore_command.specs.Classes.{AreTold}
+use Rattle.explore_command.proofs.ToldOnes.{one_told}
+use Rattle.explore_command.proofs.classes.tell_all.Goals as goal
+
+pub loop-class-preserved : goal.loop-class-preserved
+loop-class-preserved g c =
+    let named = c.args.named.now in
+    let opening = c.args.opening.now in
+    let actors = c.args.actors in
+    let classes = c.args.classes.now in
+    let at = c.loop-class.class-index in
+    let class = c.class-item.result in
+    let told = c.in_ok-tell.field-0 in
+    let front : take (at + 1) classes ≡ take at classes ++ class ∷ [] =
+    take_more classes at class c.loop-class-test.true ∙ ap (λ (x : ClassView). take at classes ++ x ∷ []) (sym c.class-item.is) in
+    let pushed : c.push.new.self.items ≡ c.loop-class.all.items ++ told ∷ [] = c.in_ok-push.ensures.items in
+    subst (λ (xs : List ClassView). AreTold named opening actors xs c.push.new.self.items) (sym front)
+    (subst (λ (ts : List Told). AreTold named opening actors (take at classes ++ class ∷ []) ts) (sym pushed)
+    (one_told named opening actors (take at classes) c.loop-class.all.items class told c.loop-class.invariant c.in_ok-tell.ensures))

@@ -1,0 +1,78 @@
+-- The text of what a search of all schedules finds.
+use Rattle.std.specs.Prelude.{⊤, ◌≡◌, ◌≤◌, ℕ, Bool, List, length, find, nat_le, Option, Some, None}
+use Rattle.explore.specs.declared.limits.SearchFault.{SearchFault}
+use Rattle.explore.specs.declared.limits.SearchFault.TheVariants as search
+use Rattle.explore.specs.Promise.{IsMerged}
+use Rattle.explore.specs.Explored.{ClassView, AreStates, WhyNot}
+use Rattle.explore.specs.Opened.{opened_world}
+use Rattle.race_core.specs.declared.plan.ActorPlan.{ActorPlan}
+use Rattle.tree_model.specs.State.{State}
+use Rattle.explore_command.specs.declared.search.Asked.{Asked}
+use Rattle.explore_command.specs.declared.search.SurveyFault.{SurveyFault}
+use Rattle.explore_command.specs.declared.search.SurveyFault.TheVariants.{NoSuchActor, NoSuchLine, TooManyStates, TooManyTurns, NotBusy, TooManyCuts, NoMemory}
+use Rattle.outcome_text.specs.declared.survey.Told.{Told}
+use Rattle.outcome_text.specs.Order.{in_order}
+use Rattle.outcome_text.specs.Conditions.{told_text, told_holds}
+use Rattle.explore_command.specs.Classes.{AreTold}
+use Rattle.outcome_text.specs.Tellable.{first_untold}
+
+-- the first of those that are named who isn't there
+abbrev pub first_foreign : Asked → List ActorPlan → Option ℕ
+first_foreign asked plans = find (λ i. nat_le (length plans) i) asked.named.items
+
+-- all who are named are there, and each property names a line that a report can have
+pub record IsOfThese (asked : Asked) (plans : List ActorPlan) : Type 0 where
+  pub actors : first_foreign asked plans ≡ None
+  pub properties : first_untold asked.limits.scope.outside plans asked.properties.items ≡ None
+
+-- What is said of each outcome makes the text, in the order of their least lists, and shows whether no property fails.
+-- Where conditions are asked for, only the lists that come to a report with the line of each one count (`Conditions`).
+pub record IsTelling (asked : Asked) (tree : State) (plans : List ActorPlan) (classes : List ClassView)
+    (lists states turns : ℕ) (holds : Bool) (text : List ℕ) : Type 0 where
+  pub all : List Told
+  pub told : AreTold asked.named.items tree (length plans) classes all
+  pub is : text ≡ told_text lists (Some states) turns (in_order all) asked.properties.items
+  pub judged : holds ≡ told_holds (in_order all) asked.properties.items
+
+-- The text of all that is found of the world of this tree and these plans: the outcomes of all full lists of turns
+-- with at most so many cuts that begin with the turns that are asked for, and how many states these lists go through.
+-- And whether no property fails.
+pub record IsSurvey (asked : Asked) (tree : State) (plans : List ActorPlan) (lines : ℕ) (holds : Bool)
+    (text : List ℕ) : Type 0 where
+  pub of_these : IsOfThese asked plans
+  pub classes : List ClassView
+  pub lists : ℕ
+  pub states : ℕ
+  pub turns : ℕ
+  pub explored : IsMerged (opened_world tree plans lines) asked.limits.scope classes lists turns
+  pub few : states ≤ asked.limits.states
+  pub counted : AreStates (opened_world tree plans lines) asked.limits.scope states
+  pub telling : IsTelling asked tree plans classes lists states turns holds text
+
+-- how it is told that a search finds nothing
+abbrev pub unfound_by : SearchFault → SurveyFault
+unfound_by search.TooManyActors = NoMemory
+unfound_by search.TooManyTurns = TooManyTurns
+unfound_by search.TooManyStates = TooManyStates
+unfound_by (search.NotBusy at) = NotBusy at
+unfound_by (search.TooManyCuts at) = TooManyCuts at
+unfound_by search.NoMemory = NoMemory
+
+-- all that is asked for is there, and this is known of why a search tells nothing
+abbrev pub IsUnfound : Asked → State → List ActorPlan → ℕ → SearchFault → Type 0
+IsUnfound asked tree plans lines fault =
+    IsOfThese asked plans × WhyNot (opened_world tree plans lines) asked.limits fault
+
+-- The first of those that are named who isn't there; or else the first property that no report can have a line for;
+-- or else the first turn of the beginning that can't be taken; or a list has more turns than are gone through, or there
+-- are more states than that; or a growth was refused.
+abbrev pub WhyNoSurvey : Asked → State → List ActorPlan → ℕ → SurveyFault → Type 0
+WhyNoSurvey asked tree plans lines (NoSuchActor actor) = first_foreign asked plans ≡ Some actor
+WhyNoSurvey asked tree plans lines (NoSuchLine place) =
+    (first_foreign asked plans ≡ None)
+    × (first_untold asked.limits.scope.outside plans asked.properties.items ≡ Some place)
+WhyNoSurvey asked tree plans lines TooManyStates = IsUnfound asked tree plans lines search.TooManyStates
+WhyNoSurvey asked tree plans lines TooManyTurns = IsUnfound asked tree plans lines search.TooManyTurns
+WhyNoSurvey asked tree plans lines (NotBusy at) = IsUnfound asked tree plans lines (search.NotBusy at)
+WhyNoSurvey asked tree plans lines (TooManyCuts at) = IsUnfound asked tree plans lines (search.TooManyCuts at)
+WhyNoSurvey asked tree plans lines NoMemory = ⊤

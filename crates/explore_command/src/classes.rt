@@ -1,0 +1,48 @@
+//! What the text says of the outcomes that a search finds.
+ghost use Rattle.std.specs.Prelude.{IfOk};
+ghost use Rattle.explore_command.specs.Classes.{IsTold, AreTold};
+
+use explore::Class;
+use outcome_text::{Found, Told, told_of};
+use path_text::NoMemory;
+use std::alloc::Global;
+use tree_model::{Snapshot, Tree};
+
+// What the text says of an outcome.
+fn tell<T: Tree>(
+    alloc: Global,
+    named: &[u32],
+    opening: &Snapshot,
+    actors: u32,
+    class: &Class<T>,
+) -> Result<Told, NoMemory>
+    ensures { IfOk result (IsTold named.now opening.now actors class.now) }
+{
+    let found = Found {
+        lists: class.lists,
+        cuts: class.least.cuts,
+        changes: class.least.changes,
+        turns: &class.least.turns,
+        report: &class.least.report,
+        outside: &class.least.outside,
+    };
+    told_of(alloc, named, opening, actors, &found)
+}
+
+/// What the text says of each outcome, where so many actors are there and these are named. NoMemory where room was
+/// refused.
+pub(crate) fn tell_all<T: Tree>(
+    alloc: Global,
+    named: &[u32],
+    opening: &Snapshot,
+    actors: u32,
+    classes: &[Class<T>],
+) -> Result<Vec<Told>, NoMemory>
+    ensures { IfOk result (λ all. AreTold named.now opening.now actors classes.now all.items) }
+{
+    let mut all = Vec::with_capacity(alloc, classes.len())?;
+    for class in classes {
+        all.push(tell(alloc, named, opening, actors, class)?)?;
+    }
+    Ok(all)
+}

@@ -1,0 +1,158 @@
+//! The outcomes of the schedules that begin with some turns: a part of those of all.
+ghost use Rattle.std.specs.Prelude.{◌≡◌, ◌≤◌, ◌++◌, ◌∷◌, [], false, length, take, OnOk, IfOk, MatchResult};
+ghost use Rattle.race_core.specs.declared.opening.TheConstants.{ACTORS_MAX as MOST_ACTORS};
+ghost use Rattle.explore_command.specs.Part.{IsBarred, HasNone, IsPart};
+ghost use Rattle.explore_command.specs.Surveyed.{WhyNoSurvey};
+ghost use Rattle.explore.specs.Opened.{opened_world};
+
+use crate::search::{Asked, SurveyFault, check, jobs_of, told_by, told_in};
+use explore::{Jobs, Limits, Progress, Scene, Scope, SearchFault, Silent, explore};
+use outcome_text::Part;
+use path_text::NoMemory;
+use std::alloc::Global;
+use std::thread::Threads;
+
+/// Adds one more.
+pub(crate) fn add<T: Drop>(all: &mut Vec<T>, one: T) -> Result<(), NoMemory>
+    ensures { OnOk result (all.new.items ≡ all.old.items ++ one ∷ []) }
+{
+    all.push(one)?;
+    Ok(())
+}
+
+// Equal turns.
+fn copy_of(alloc: Global, turns: &[u32]) -> Result<Vec<u32>, NoMemory>
+    ensures { IfOk result (λ copy. copy.items ≡ turns.now) }
+{
+    let mut copy = Vec::new(alloc);
+    copy.extend_from_slice(turns)?;
+    Ok(copy)
+}
+
+// Whether a list can begin with these turns: a search that may go through no world only sees to that.
+fn may_begin<R: Threads + Sync>(
+    alloc: Global,
+    threads: &R,
+    scene: &Scene,
+    limits: &Limits,
+    begin: Vec<u32>,
+) -> Result<bool, NoMemory>
+    ensures { IfOk result (λ may. may ≡ false
+        → IsBarred (opened_world scene.now.tree scene.now.plans.items scene.now.lines) limits.now begin.items) }
+{
+    let scope = Scope {
+        cuts: limits.scope.cuts,
+        outside: limits.scope.outside,
+        begin,
+    };
+    let none = Limits {
+        states: 0,
+        turns: limits.turns,
+        scope,
+    };
+    match explore(alloc, threads, Jobs::one(), scene, &none, &mut Silent) {
+        Ok(_) | Err(SearchFault::TooManyStates | SearchFault::TooManyTurns) => Ok(true),
+        Err(SearchFault::NotBusy(_) | SearchFault::TooManyCuts(_)) => Ok(false),
+        Err(SearchFault::TooManyActors | SearchFault::NoMemory) => Err(NoMemory),
+    }
+}
+
+// Who might have the turn after these.
+fn who_might<R: Threads + Sync>(
+    alloc: Global,
+    threads: &R,
+    scene: &Scene,
+    limits: &Limits,
+    turns: &[u32],
+) -> Result<Vec<u32>, NoMemory>
+    requires { length scene.now.plans.items ≤ MOST_ACTORS }
+{
+    let mut might = Vec::new(alloc);
+    for actor in 0..scene.plans.len() as u32 {
+        let mut begin = copy_of(alloc, turns)?;
+        add(&mut begin, actor)?;
+        if may_begin(alloc, threads, scene, limits, begin)? {
+            add(&mut might, actor)?;
+        }
+    }
+    Ok(might)
+}
+
+// Who might have each of the first turns that are asked for, so many.
+fn all_might<R: Threads + Sync>(
+    alloc: Global,
+    threads: &R,
+    scene: &Scene,
+    limits: &Limits,
+    turns: usize,
+) -> Result<Vec<Vec<u32>>, NoMemory>
+    requires actors { length scene.now.plans.items ≤ MOST_ACTORS }
+    requires turns { turns ≤ length limits.now.scope.begin.items }
+{
+    let begin = limits.scope.begin.as_slice();
+    let mut all = Vec::new(alloc);
+    for at in 0..turns {
+        let might = who_might(alloc, threads, scene, limits, &begin[..at])?;
+        add(&mut all, might)?;
+    }
+    Ok(all)
+}
+
+// The part of no lists, whose turn at that place can't be taken.
+fn no_lists<R: Threads + Sync>(
+    alloc: Global,
+    threads: &R,
+    scene: &Scene,
+    limits: &Limits,
+    at: usize,
+) -> Result<Part, NoMemory>
+    requires { length scene.now.plans.items ≤ MOST_ACTORS }
+    ensures begin { IfOk result (λ part. part.begin.items ≡ limits.now.scope.begin.items) }
+    ensures none { IfOk result HasNone }
+{
+    let begin = copy_of(alloc, limits.scope.begin.as_slice())?;
+    let turns = begin.len().min(at.saturating_add(1));
+    Ok(Part {
+        begin,
+        might: all_might(alloc, threads, scene, limits, turns)?,
+        lists: 0,
+        turns: 0,
+        all: Vec::new(alloc),
+    })
+}
+
+/// Goes through the lists that begin with the turns that are asked for: gives each outcome, and how the lists begin.
+/// Errors as of `survey_scene`, but that turns which can't be taken make a part of no lists.
+pub fn part_of_scene<R: Threads + Sync, P: Progress>(
+    alloc: Global,
+    threads: &R,
+    scene: &Scene,
+    asked: &Asked,
+    progress: &mut P,
+) -> Result<Part, SurveyFault>
+    requires { length scene.now.plans.items ≤ MOST_ACTORS }
+    ensures { MatchResult result (IsPart asked.now scene.now.tree scene.now.plans.items scene.now.lines)
+        (WhyNoSurvey asked.now scene.now.tree scene.now.plans.items scene.now.lines) }
+{
+    check(alloc, scene, asked)?;
+    let limits = &asked.limits;
+    let found = match explore(alloc, threads, jobs_of(asked.jobs), scene, limits, progress) {
+        Ok(found) => found,
+        Err(SearchFault::NotBusy(at)) => {
+            return Ok(no_lists(alloc, threads, scene, limits, at)?);
+        }
+        Err(SearchFault::TooManyCuts(at)) => {
+            return Ok(no_lists(alloc, threads, scene, limits, at)?);
+        }
+        Err(fault) => return Err(told_by(fault)),
+    };
+    let begin = copy_of(alloc, limits.scope.begin.as_slice())?;
+    let might = all_might(alloc, threads, scene, limits, begin.len())?;
+    Ok(Part {
+        begin,
+        might,
+        lists: found.lists,
+        turns: found.turns as u64,
+        all: told_in(alloc, scene, asked, &found.classes)?,
+    })
+}

@@ -1,0 +1,50 @@
+//! Parts written: what `inroot explore --part` writes.
+use crate::part::part_of_scene;
+use crate::part_text::part_text;
+use crate::script::told_by;
+use crate::seal::sum_of;
+use crate::search::Asked;
+use crate::waiter::Waiter;
+use explore::Scene;
+use outcome_text::ExploreFault;
+use scripts::{RunFault, TurnOrder, read_scene, read_script};
+use std::alloc::Global;
+use std::io::{Read, Write};
+use std::thread::Threads;
+
+/// Reads a script, goes through the schedules that begin with the turns that are asked for, and writes what they come
+/// to as a line of JSON that `merge_parts` reads, and that ends with its digest.
+///
+/// Errors as of `explore_script`, but that turns which can't be taken make a part of no schedules.
+pub fn explore_part<Rt: Threads + Sync, R: Read, W: Write, P: Waiter>(
+    alloc: Global,
+    threads: &Rt,
+    reader: &mut R,
+    writer: &mut W,
+    asked: &Asked,
+    progress: &mut P,
+) -> Result<(), ExploreFault> {
+    let script = read_script(alloc, reader)?;
+    let (scenario, tree) = read_scene(alloc, &mut script.as_slice(), &TurnOrder::OfScript)?;
+    let (plans, lines) = (scenario.plans, scenario.lines);
+    if (lines as usize) < plans.len() {
+        return Err(ExploreFault::Run(RunFault::BookFull));
+    }
+    let scene = Scene { tree, plans, lines };
+    let explored = part_of_scene(alloc, threads, &scene, asked, progress);
+    progress.over();
+    let part = match explored {
+        Ok(part) => part,
+        Err(fault) => return Err(told_by(fault)),
+    };
+    let Ok(digest) = sum_of(alloc, script.as_slice()) else {
+        return Err(ExploreFault::Run(RunFault::NoMemory));
+    };
+    let Ok(text) = part_text(alloc, digest.as_bytes(), asked, &part) else {
+        return Err(ExploreFault::Run(RunFault::NoMemory));
+    };
+    match writer.write_all(text.as_slice()) {
+        Ok(()) => Ok(()),
+        Err(_) => Err(ExploreFault::Run(RunFault::WriteFailed)),
+    }
+}

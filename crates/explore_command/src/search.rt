@@ -1,0 +1,184 @@
+//! All schedules of a world gone through, and the text of their outcomes.
+ghost use Rattle.std.specs.Prelude.{◌≡◌, ◌≤◌, length, find, nat_le, IfOk, IfSome, MatchResult};
+ghost use Rattle.race_core.specs.declared.opening.TheConstants.{ACTORS_MAX as MOST_ACTORS};
+ghost use Rattle.explore_command.specs.declared.search.SurveyFault.TheVariants as survey_fault;
+ghost use Rattle.explore_command.specs.Surveyed.{unfound_by, IsOfThese, IsTelling, IsSurvey, WhyNoSurvey};
+ghost use Rattle.explore_command.specs.Classes.{AreTold};
+
+use crate::classes::tell_all;
+use explore::{Class, Findings, Jobs, Limits, Progress, Scene, SearchFault, explore};
+use outcome_text::{Property, Survey, Told, first_untold, told_in_order};
+use path_text::NoMemory;
+use std::alloc::Global;
+use std::thread::Threads;
+use thiserror::Error;
+use tree_list::ListTree;
+use tree_model::Tree;
+
+/// The most turns of a list that is gone through.
+pub const TURNS_MAX: u32 = 100_000;
+
+/// What is asked of a world.
+#[derive(Debug, Drop)]
+pub struct Asked {
+    /// The actors whose replies alone make an outcome; with none the replies of all, the tree and the open handles do.
+    pub named: Vec<u32>,
+    /// Which lists are gone through, whether it is told how many steps of each actor acted outside of its root, and how
+    /// many worlds are gone through at most.
+    pub limits: Limits,
+    /// On how many threads they are gone through; with none on one. It makes no difference to what is told.
+    pub jobs: Option<Jobs>,
+    /// Which reports count, and properties of each of these, whatever actors are named.
+    pub properties: Vec<Property>,
+}
+
+/// Why there is no survey.
+#[derive(Clone, Copy, Debug, PartialEq, Eq, Error)]
+pub enum SurveyFault {
+    /// The first actor that is named and isn't there.
+    #[error("actor {0}")]
+    NoSuchActor(u32),
+    /// The first property that no report can have a line for, by its place, counted from 0.
+    #[error("property {0}")]
+    NoSuchLine(usize),
+    /// There are more worlds than are gone through.
+    #[error("states")]
+    TooManyStates,
+    /// A list has more turns than the limit.
+    #[error("turns")]
+    TooManyTurns,
+    /// The turn at that place of the beginning, counted from 0, is of an actor who has nothing left to do then.
+    #[error("begin {0}")]
+    NotBusy(usize),
+    /// With the turn at that place of the beginning, counted from 0, there are more cuts than are asked for.
+    #[error("cuts {0}")]
+    TooManyCuts(usize),
+    /// Room was refused.
+    #[error("no memory")]
+    NoMemory,
+}
+
+impl From<NoMemory> for SurveyFault {
+    ghost from_gives = { λ _ fault. fault ≡ survey_fault.NoMemory };
+
+    fn from(_error: NoMemory) -> SurveyFault {
+        SurveyFault::NoMemory
+    }
+}
+
+// The first of these that is none of so many actors.
+fn first_foreign(named: &[u32], actors: usize) -> Option<u32>
+    ensures { result ≡ find (λ i. nat_le actors i) named.now }
+{
+    for actor in named {
+        if actors <= *actor as usize {
+            return Some(*actor);
+        }
+    }
+    None
+}
+
+/// On how many threads worlds are gone through: on as many as are asked for, or on one.
+pub(crate) fn jobs_of(asked: Option<Jobs>) -> Jobs
+    ensures { IfSome asked (λ jobs. result ≡ jobs) }
+{
+    if let Some(jobs) = asked {
+        return jobs;
+    }
+    Jobs::one()
+}
+
+/// What the text says of each outcome that was found. NoMemory where room was refused.
+pub(crate) fn told_in(
+    alloc: Global,
+    scene: &Scene,
+    asked: &Asked,
+    classes: &[Class<ListTree>],
+) -> Result<Vec<Told>, NoMemory>
+    requires { length scene.now.plans.items ≤ MOST_ACTORS }
+    ensures { IfOk result (λ all. AreTold asked.now.named.items scene.now.tree (length scene.now.plans.items)
+        classes.now all.items) }
+{
+    let opening = scene.tree.snapshot(alloc)?;
+    let actors = scene.plans.len() as u32;
+    tell_all(alloc, &asked.named, &opening, actors, classes)
+}
+
+// The text of what was found, and whether no property fails.
+fn survey_of(
+    alloc: Global,
+    scene: &Scene,
+    asked: &Asked,
+    found: Findings<ListTree>,
+) -> Result<Survey, NoMemory>
+    requires { length scene.now.plans.items ≤ MOST_ACTORS }
+    ensures { IfOk result (λ survey.
+        IsTelling asked.now scene.now.tree scene.now.plans.items found.classes.items found.lists found.states
+        found.turns survey.holds survey.text) }
+{
+    let (lists, states, turns) = (found.lists, found.states, found.turns as u64);
+    let all = told_in(alloc, scene, asked, &found.classes)?;
+    told_in_order(alloc, lists, Some(states), turns, all, &asked.properties)
+}
+
+/// Whether all who are named are there, and each property names a line that a report can have. Errors: `NoSuchActor`
+/// and `NoSuchLine` of the first that isn't; `NoMemory`.
+pub(crate) fn check(alloc: Global, scene: &Scene, asked: &Asked) -> Result<(), SurveyFault>
+    ensures { MatchResult result (λ _. IsOfThese asked.now scene.now.plans.items)
+        (WhyNoSurvey asked.now scene.now.tree scene.now.plans.items scene.now.lines) }
+{
+    if let Some(actor) = first_foreign(&asked.named, scene.plans.len()) {
+        return Err(SurveyFault::NoSuchActor(actor));
+    }
+    let outside = asked.limits.scope.outside;
+    if let Some(place) = first_untold(alloc, outside, &scene.plans, &asked.properties)? {
+        return Err(SurveyFault::NoSuchLine(place));
+    }
+    Ok(())
+}
+
+/// How it is told that a search finds nothing. A world never has more actors than it may have.
+pub(crate) fn told_by(fault: SearchFault) -> SurveyFault
+    ensures { result ≡ unfound_by fault }
+{
+    match fault {
+        SearchFault::TooManyTurns => SurveyFault::TooManyTurns,
+        SearchFault::TooManyStates => SurveyFault::TooManyStates,
+        SearchFault::NotBusy(at) => SurveyFault::NotBusy(at),
+        SearchFault::TooManyCuts(at) => SurveyFault::TooManyCuts(at),
+        SearchFault::TooManyActors | SearchFault::NoMemory => SurveyFault::NoMemory,
+    }
+}
+
+/// Goes through all full lists of turns of the world of a tree and of plans, those with at most so many cuts that begin
+/// with the turns that are asked for, and says what they come to: how many there are, by how many worlds, how many
+/// turns the longest has, each outcome once with how many lead to it and a schedule for the least of them, and whether
+/// each property holds of every one. Where a property is a condition, only the lists whose report has its line count.
+/// Outcomes are compared with their new nodes numbered anew, so these numbers make no difference between them. The
+/// number of steps that acted outside does, where it is asked for. The number of threads makes none. On the way
+/// `progress` gets the number of worlds so far.
+///
+/// Errors, in this order: `NoSuchActor` of the first that is named and isn't there; `NoSuchLine` of the first
+/// property that names an actor who isn't there, a call that its actor doesn't have, or a reply that begins with other
+/// words than one can; `NotBusy` and `TooManyCuts` of the first turn of the beginning that can't be taken;
+/// `TooManyStates` and `TooManyTurns` beyond the limits, whichever is met first; `NoMemory` where room was refused, and
+/// where the world can't be made.
+pub fn survey_scene<R: Threads + Sync, P: Progress>(
+    alloc: Global,
+    threads: &R,
+    scene: &Scene,
+    asked: &Asked,
+    progress: &mut P,
+) -> Result<Survey, SurveyFault>
+    requires { length scene.now.plans.items ≤ MOST_ACTORS }
+    ensures { MatchResult result
+        (λ survey. IsSurvey asked.now scene.now.tree scene.now.plans.items scene.now.lines survey.holds survey.text)
+        (WhyNoSurvey asked.now scene.now.tree scene.now.plans.items scene.now.lines) }
+{
+    check(alloc, scene, asked)?;
+    let jobs = jobs_of(asked.jobs);
+    match explore(alloc, threads, jobs, scene, &asked.limits, progress) {
+        Ok(found) => Ok(survey_of(alloc, scene, asked, found)?),
+        Err(fault) => Err(told_by(fault)),
+    }
+}

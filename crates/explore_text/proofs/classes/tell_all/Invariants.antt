@@ -1,7 +1,0 @@
-use Rattle.std.proofs.Common.{take}
-use Rattle.explore_text.specs.Classes.{AreTold}
-use Rattle.explore_text.proofs.classes.tell_all.Given as goal
-
--- it is told of those so far
-abbrev pub invariant-loop-class : goal.invariant-loop-class
-invariant-loop-class g l = AreTold l.named l.opening l.fn.actors (take l.class-index l.classes) l.all.items

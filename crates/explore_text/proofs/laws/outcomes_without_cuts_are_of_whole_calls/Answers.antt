@@ -1,5 +1,0 @@
-use Rattle.explore_text.proofs.WholeCalls.{without_cuts_whole}
-use Rattle.explore_text.proofs.laws.outcomes_without_cuts_are_of_whole_calls.Goals as goal
-
-pub returns : goal.returns
-returns c = without_cuts_whole

@@ -1,0 +1,8 @@
+use Rattle.std.proofs.Common.{◌≡◌, ◌++◌, drop}
+use Rattle.report_text.specs.Report.{numbered}
+use Rattle.outcome_text.specs.Outcome.{named_outside_of, named_outside}
+use Rattle.outcome_text.proofs.outcome.named_outside.Given as goal
+
+-- what is written and what is left to write make the whole
+abbrev pub invariant-loop-actor : goal.invariant-loop-actor
+invariant-loop-actor l = l.out ++ numbered (named_outside_of l.named) l.actor (drop l.actor l.outside) ≡ l.fn.out ++ named_outside l.named l.outside

@@ -1,0 +1,71 @@
+//! Outcomes told in the order of their least lists.
+ghost use Rattle.std.specs.Prelude.{◌≡◌, IfOk};
+ghost use Rattle.outcome_text.specs.Order.{in_order};
+ghost use Rattle.outcome_text.specs.Conditions.{told_text, told_holds};
+
+use crate::conditions::{condition_lines, counted, lists_counted};
+use crate::order::put_all;
+use crate::property::Property;
+use crate::survey::{Told, all_hold, outcome_text};
+use path_text::NoMemory;
+use std::alloc::Global;
+use step_text::Output;
+
+/// The text of a survey, and whether no property fails.
+#[derive(Debug, Drop)]
+pub struct Survey {
+    pub text: Output,
+    pub holds: bool,
+}
+
+/// The text of these outcomes, in the order of their least lists, as `outcome_text` tells them, and whether no property
+/// fails. Where a property is a condition, only the outcomes that have its line count, and it fails if none does.
+/// NoMemory where room was refused.
+pub fn told_in_order(
+    alloc: Global,
+    lists: u64,
+    states: Option<u64>,
+    longest: u64,
+    all: Vec<Told>,
+    properties: &[Property],
+) -> Result<Survey, NoMemory>
+    ensures text { IfOk result (λ survey.
+        survey.text ≡ told_text lists states longest (in_order all.items) properties.now) }
+    ensures holds { IfOk result (λ survey. survey.holds ≡ told_holds (in_order all.items) properties.now) }
+{
+    let mut ordered = Vec::new(alloc);
+    put_all(&mut ordered, all)?;
+    told_ordered(alloc, lists, states, longest, ordered, properties)
+}
+
+/// The same of outcomes that are in this order. NoMemory where room was refused.
+pub(crate) fn told_ordered(
+    alloc: Global,
+    lists: u64,
+    states: Option<u64>,
+    longest: u64,
+    ordered: Vec<Told>,
+    properties: &[Property],
+) -> Result<Survey, NoMemory>
+    ensures text { IfOk result (λ survey.
+        survey.text ≡ told_text lists states longest ordered.items properties.now) }
+    ensures holds { IfOk result (λ survey. survey.holds ≡ told_holds ordered.items properties.now) }
+{
+    let mut conditions = Output::new(alloc);
+    condition_lines(&mut conditions, lists, &ordered, properties)?;
+    let schedules = lists_counted(lists, properties, &ordered);
+    let all = counted(ordered, properties);
+    let mut text = Output::new(alloc);
+    outcome_text(
+        alloc,
+        &mut text,
+        schedules,
+        states,
+        longest,
+        &all,
+        conditions.as_slice(),
+        properties,
+    )?;
+    let holds = all_hold(&all, properties);
+    Ok(Survey { text, holds })
+}

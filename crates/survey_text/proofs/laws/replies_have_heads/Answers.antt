@@ -1,9 +1,0 @@
-use Rattle.survey_text.proofs.Beginnings.{replies_pass}
-use Rattle.survey_text.proofs.Heads.{replies_have_heads}
-use Rattle.survey_text.proofs.laws.replies_have_heads.Goals as goal
-
-pub returns-clause-heads : goal.returns-clause-heads
-returns-clause-heads c = replies_have_heads
-
-pub returns-clause-pass : goal.returns-clause-pass
-returns-clause-pass c = replies_pass

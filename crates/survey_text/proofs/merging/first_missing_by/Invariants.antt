@@ -1,8 +1,0 @@
-use Rattle.std.proofs.Common.{◌≡◌, drop}
-use Rattle.survey_text.specs.Merge.{lacks, has_gap}
-use Rattle.survey_text.specs.Tellable.{any_numbered}
-use Rattle.survey_text.proofs.merging.first_missing_by.Given as goal
-
--- what is left decides
-abbrev pub invariant-loop-at : goal.invariant-loop-at
-invariant-loop-at l = any_numbered (lacks l.parts l.part) l.at (drop l.at l.part.might.items) ≡ has_gap l.parts l.part

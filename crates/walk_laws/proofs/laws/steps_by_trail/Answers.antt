@@ -1,5 +1,0 @@
-use Rattle.walk_laws.proofs.EveryWalk.{steps_by_trail}
-use Rattle.walk_laws.proofs.laws.steps_by_trail.Goals as goal
-
-pub returns : goal.returns
-returns c = steps_by_trail

@@ -1,6 +1,0 @@
-use Rattle.world_laws.proofs.PartsJoined.{parts_make_the_whole}
-use Rattle.world_laws.proofs.WholePart.{whole_is_a_part}
-use Rattle.world_laws.proofs.answer_laws.merged_parts_are_whole.Goals as goal
-
-pub returns : goal.returns
-returns c = record { parts = parts_make_the_whole; whole = whole_is_a_part }
