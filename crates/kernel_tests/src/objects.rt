@@ -1,0 +1,85 @@
+//! Which object an answer is about, of which kind it is, and what an error says.
+use std::test::Fail;
+use system_calls::{Birth, Object, is_elsewhere, is_node, is_same_object, kind_of, same_directory};
+
+fn object(device: u64, inode: u64, mount: u64) -> Object {
+    Object {
+        device,
+        inode,
+        mount,
+    }
+}
+
+#[test]
+fn tells_objects_apart(rt: HostRuntime) -> Result<(), Fail> {
+    let one = object(1, 2, 3);
+    assert!(rt; is_same_object(&one, &object(1, 2, 3), false));
+    assert!(rt; !is_same_object(&one, &object(1, 2, 4), false));
+    assert!(rt; is_same_object(&one, &object(1, 2, 4), true));
+    assert!(rt; !is_same_object(&one, &object(2, 2, 3), true));
+    assert!(rt; !is_same_object(&one, &object(1, 3, 3), true));
+    // A kernel that tells no mount tells it of neither.
+    assert!(rt; is_same_object(&object(1, 2, 0), &object(1, 2, 0), false));
+    assert!(rt; !is_same_object(&object(1, 2, 0), &one, false));
+    Ok(())
+}
+
+fn birth(device: u64, inode: u64, seconds: u64, nanoseconds: u32) -> Birth {
+    Birth {
+        device,
+        inode,
+        seconds,
+        nanoseconds,
+    }
+}
+
+#[test]
+fn knows_a_directory_again(rt: HostRuntime) -> Result<(), Fail> {
+    let before = birth(1, 2, 3, 4);
+    assert!(rt; same_directory(&birth(1, 2, 3, 4), &before) == 1);
+    assert!(rt; same_directory(&birth(1, 2, 3, 5), &before) == 2);
+    assert!(rt; same_directory(&birth(1, 2, 4, 4), &before) == 2);
+    assert!(rt; same_directory(&birth(1, 3, 3, 4), &before) == 0);
+    assert!(rt; same_directory(&birth(2, 2, 3, 4), &before) == 0);
+    // What could not be asked is no directory, and not even itself.
+    assert!(rt; same_directory(&birth(0, 0, 0, 0), &birth(0, 0, 0, 0)) == 0);
+    Ok(())
+}
+
+#[test]
+fn reads_the_kind_of_a_mode(rt: HostRuntime) -> Result<(), Fail> {
+    assert!(rt; kind_of(0o040755) == 1);
+    assert!(rt; kind_of(0o100644) == 2);
+    assert!(rt; kind_of(0o120777) == 3);
+    assert!(rt; kind_of(0o060000) == 2);
+    assert!(rt; kind_of(0o140000) == 2);
+    assert!(rt; kind_of(0) == 2);
+    Ok(())
+}
+
+#[test]
+fn makes_nodes_of_five_kinds(rt: HostRuntime) -> Result<(), Fail> {
+    assert!(rt; is_node(0o100644, 0));
+    assert!(rt; is_node(0o010600, 0));
+    assert!(rt; is_node(0o147777, 0));
+    assert!(rt; !is_node(0o100644, 1));
+    assert!(rt; is_node(0o020600, 0));
+    assert!(rt; is_node(0o020600, 259));
+    assert!(rt; is_node(0o060600, 2051));
+    assert!(rt; !is_node(0o040755, 0));
+    assert!(rt; !is_node(0o120777, 0));
+    assert!(rt; !is_node(0o644, 0));
+    assert!(rt; !is_node(0o300644, 0));
+    Ok(())
+}
+
+#[test]
+fn reads_the_error_of_a_look_up(rt: HostRuntime) -> Result<(), Fail> {
+    for error in [2, 11, 13, 18, 20, 40] {
+        assert!(rt; is_elsewhere(error));
+    }
+    for error in [0, 1, 4, 12, 22, 23, 36, 38, 258] {
+        assert!(rt; !is_elsewhere(error));
+    }
+    Ok(())
+}

@@ -1,0 +1,89 @@
+-- What the flags are by which a call opens what it found, and makes what is missing.
+use Rattle.std.proofs.Common.{◌≡◌, ℕ, ◌+◌, Bool, true, false, not, ◌&&◌, ◌||◌, if◌then◌else◌, bit_and, bit_or, refl, sym, subst, ap, ◌∙◌}
+use Rattle.std.specs.Int.Bits.{and_zero_r}
+use Rattle.std.proofs.lemmas.Bool.{eq-eqb, false≢true}
+use Rattle.std.proofs.lemmas.Nat.{and_assoc, and_or_apart, and_or_self}
+use Rattle.system_calls.specs.declared.opening.MachineFlags.{MachineFlags}
+use Rattle.system_calls.specs.OpenFlags.{has, o_tmpfile, IsOfMachine, on_x86_64, on_x86_64_large, on_arm64, on_arm64_large, O_CREAT, O_EXCL, O_PATH}
+use Rattle.system_calls.specs.Opening.{contradict, done, found_flags, opening_of, opens, refused, use_flags, ALWAYS, EISDIR, ENOTDIR}
+
+-- ---- what contradicts
+
+refused_by : (machine : MachineFlags) (flags : ℕ) (among clash fits : Bool) → clash ≡ true
+    → (if among && (not clash && fits) then done machine flags else refused) ≡ refused
+refused_by machine flags true true fits h = refl
+refused_by machine flags false true fits h = refl
+refused_by machine flags among false fits h = elim (false≢true h) [ ]
+
+pub contradiction-refused : (machine : MachineFlags) (flags mode : ℕ) → contradict machine flags ≡ true
+    → opening_of machine flags mode ≡ refused
+contradiction-refused machine flags mode h = refused_by machine flags _ (contradict machine flags) _ h
+
+-- ---- what was found
+
+abbrev kept : MachineFlags → ℕ
+kept machine = bit_or (use_flags machine) (bit_or O_EXCL (o_tmpfile machine))
+
+apart : (flags known others : ℕ) → bit_and ALWAYS others ≡ 0 → bit_and known others ≡ 0
+    → bit_and (bit_or (bit_and flags known) ALWAYS) others ≡ 0
+apart flags known others always none =
+    and_or_apart others (bit_and flags known) ALWAYS always
+    ∙ (and_assoc others flags known ∙ (ap (bit_and flags) none ∙ and_zero_r flags))
+
+or_refused : (machine : MachineFlags) (flags others : ℕ) (taken : Bool) → bit_and (found_flags machine flags) others ≡ 0
+    → bit_and (if taken then done machine flags else refused).found_flags others ≡ 0
+or_refused machine flags others true h = h
+or_refused machine flags others false h = refl
+
+abbrev HasNone : MachineFlags → Type 0
+HasNone machine =
+    (bit_and (kept machine) O_CREAT ≡ 0) × (bit_and (kept machine) machine.nofollow ≡ 0) × (bit_and ALWAYS machine.nofollow ≡ 0)
+
+has_none : (machine : MachineFlags) → IsOfMachine machine → HasNone machine
+has_none machine (on_x86_64 e) = subst HasNone (sym e) (refl, refl, refl)
+has_none machine (on_x86_64_large e) = subst HasNone (sym e) (refl, refl, refl)
+has_none machine (on_arm64 e) = subst HasNone (sym e) (refl, refl, refl)
+has_none machine (on_arm64_large e) = subst HasNone (sym e) (refl, refl, refl)
+
+pub found-creates : (machine : MachineFlags) (flags mode : ℕ) → IsOfMachine machine
+    → bit_and (opening_of machine flags mode).found_flags O_CREAT ≡ 0
+found-creates machine flags mode of =
+    or_refused machine flags O_CREAT (opens machine flags mode) (apart flags (kept machine) O_CREAT refl (has_none machine of).0)
+
+pub found-follows : (machine : MachineFlags) (flags mode : ℕ) → IsOfMachine machine
+    → bit_and (opening_of machine flags mode).found_flags machine.nofollow ≡ 0
+found-follows machine flags mode of =
+    or_refused machine flags machine.nofollow (opens machine flags mode)
+    (apart flags (kept machine) machine.nofollow (has_none machine of).2 (has_none machine of).1)
+
+-- ---- what is made
+
+made_in : (machine : MachineFlags) (flags : ℕ) (taken : Bool)
+    → (if taken then done machine flags else refused).makes ≡ true
+    → has (if taken then done machine flags else refused).made_flags (bit_or (O_CREAT + O_EXCL + ALWAYS) machine.nofollow) ≡ true
+made_in machine flags true h = eq-eqb _ _ (and_or_self (bit_or (O_CREAT + O_EXCL + ALWAYS) machine.nofollow) flags)
+made_in machine flags false h = elim (false≢true h) [ ]
+
+pub made-new : (machine : MachineFlags) (flags mode : ℕ) → (opening_of machine flags mode).makes ≡ true
+    → has (opening_of machine flags mode).made_flags (bit_or (O_CREAT + O_EXCL + ALWAYS) machine.nofollow) ≡ true
+made-new machine flags mode h = made_in machine flags (opens machine flags mode) h
+
+-- ---- kinds
+
+by_kind : (creates directory path : Bool) → (creates || directory) ≡ false
+    → ((if creates then EISDIR else 0) ≡ 0) × ((if path && directory then ENOTDIR else 0) ≡ 0)
+by_kind true directory path h = elim (false≢true (sym h)) [ ]
+by_kind false true path h = elim (false≢true (sym h)) [ ]
+by_kind false false true h = (refl, refl)
+by_kind false false false h = (refl, refl)
+
+kind_in : (machine : MachineFlags) (flags : ℕ) (taken : Bool)
+    → (if taken then done machine flags else refused).asks_kind ≡ false
+    → ((if taken then done machine flags else refused).directory_error ≡ 0)
+    × ((if taken then done machine flags else refused).other_error ≡ 0)
+kind_in machine flags true h = by_kind (has flags O_CREAT) (has flags machine.directory) (has flags O_PATH) h
+kind_in machine flags false h = (refl, refl)
+
+pub kind-asked : (machine : MachineFlags) (flags mode : ℕ) → (opening_of machine flags mode).asks_kind ≡ false
+    → ((opening_of machine flags mode).directory_error ≡ 0) × ((opening_of machine flags mode).other_error ≡ 0)
+kind-asked machine flags mode h = kind_in machine flags (opens machine flags mode) h

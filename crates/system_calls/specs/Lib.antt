@@ -1,0 +1,4 @@
+pub mod Objects
+pub mod OpenFlags
+pub mod Opening
+pub mod Tries
