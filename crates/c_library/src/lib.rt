@@ -1,23 +1,28 @@
-//! The functions by which a C program makes calls: a static library of twelve exports, over `c_protocol` and
-//! `kernel_text`.
+//! The functions by which a C program makes calls: a static library of twenty-one exports, over `c_protocol`,
+//! `kernel_text` and `system_calls`.
 //!
 //! Each export is the function of that name of one of these, with its clauses. What a C program owes is said in
-//! `host/calls.h`: a what is kept is empty (zero) before the first call, and is left alone between two turns.
+//! `host/calls.h`: what is kept is empty (zero) before the first call, and is left alone between two turns.
 #![tactic(auto)]
 
 ghost use Rattle.std.specs.Prelude.{◌≡◌, IfSome, IsSome};
 ghost use Rattle.root_ops.specs.declared.call.CallTurn.{CallTurn};
 ghost use Rattle.c_protocol.specs.AtOnce.{opens_at_once};
+ghost use Rattle.c_protocol.specs.FollowedAtOnce.{follows_at_once};
 ghost use Rattle.c_protocol.specs.Refusals.{is_refusal};
 ghost use Rattle.c_protocol.specs.Runs.{ComeNext, IsRun};
 ghost use Rattle.c_protocol.specs.Split.{IsParted};
 ghost use Rattle.c_protocol.specs.Turns.{call_of, IsBegun, IsNext, IsTold};
 ghost use Rattle.kernel_text.specs.Listing.{IsTaken, Sorts};
 ghost use Rattle.kernel_text.specs.Place.{but_last, is_named, place_between, place_of_cwd, TellsPlace};
+ghost use Rattle.system_calls.specs.Objects.{is_elsewhere, is_node, is_same_object, kind_of, same_directory};
+ghost use Rattle.system_calls.specs.Opening.{opening_of, reopen_flags};
+ghost use Rattle.system_calls.specs.Tries.{next_try};
 
 use c_protocol::{Ahead, Answered, Asked, Kept, Parted, Ran, Told};
 use kernel_text::{Place, Sorted, Taken};
 use std::alloc::Global;
+use system_calls::{Birth, MachineFlags, NextTry, Object, Opening};
 
 /// Begins a call, and tells its first step or its reply: `c_protocol::begin`.
 #[unsafe(no_mangle)]
@@ -98,6 +103,14 @@ pub extern "C" fn inroot_opens_at_once(asked: &Asked, path: &[u8], kind: u8, pla
     c_protocol::opens_at_once(asked, path, kind, place)
 }
 
+/// Whether one system call may walk a call's path as a whole, through links: `c_protocol::follows_at_once`.
+#[unsafe(no_mangle)]
+pub extern "C" fn inroot_follows_at_once(asked: &Asked, path: &[u8]) -> bool
+    ensures { result ≡ follows_at_once asked.now path.now }
+{
+    c_protocol::follows_at_once(asked, path)
+}
+
 /// Where the last name of a path stands in it, or why it has none: `c_protocol::split`.
 #[unsafe(no_mangle)]
 pub extern "C" fn inroot_split(path: &[u8], takes_slash: bool, parted: &mut Parted)
@@ -157,4 +170,79 @@ pub extern "C" fn inroot_sort_names(
     ensures { Sorts text.now room.old room.new sorted.new }
 {
     *sorted = kernel_text::sort_names(alloc, text, room);
+}
+
+/// What a call on a path does by flags of open(2): `system_calls::opening_of`.
+#[unsafe(no_mangle)]
+pub extern "C" fn inroot_opening_of(
+    machine: &MachineFlags,
+    flags: u32,
+    mode: u32,
+    opening: &mut Opening,
+)
+    ensures { opening.new ≡ opening_of machine.now flags mode }
+{
+    *opening = system_calls::opening_of(machine, flags, mode);
+}
+
+/// The flags by which what is open is opened once more, or 0: `system_calls::reopen_flags`.
+#[unsafe(no_mangle)]
+pub extern "C" fn inroot_reopen_flags(machine: &MachineFlags, flags: u32) -> u32
+    ensures { result ≡ reopen_flags machine.now flags }
+{
+    system_calls::reopen_flags(machine, flags)
+}
+
+/// Whether a call is begun again, and after which pause: `system_calls::next_try`.
+#[unsafe(no_mangle)]
+pub extern "C" fn inroot_next_try(
+    tries: u32,
+    may_retry: bool,
+    error: u32,
+    lost: bool,
+    next: &mut NextTry,
+)
+    ensures { next.new ≡ next_try tries may_retry error lost }
+{
+    *next = system_calls::next_try(tries, may_retry, error, lost);
+}
+
+/// Whether two answers are about the same object: `system_calls::is_same_object`.
+#[unsafe(no_mangle)]
+pub extern "C" fn inroot_is_same_object(one: &Object, other: &Object, by_any_mount: bool) -> bool
+    ensures { result ≡ is_same_object one.now other.now by_any_mount }
+{
+    system_calls::is_same_object(one, other, by_any_mount)
+}
+
+/// Whether a directory is the one that was there before: `system_calls::same_directory`.
+#[unsafe(no_mangle)]
+pub extern "C" fn inroot_same_directory(now: &Birth, before: &Birth) -> u8
+    ensures { result ≡ same_directory now.now before.now }
+{
+    system_calls::same_directory(now, before)
+}
+
+/// The kind of an object by its mode: `system_calls::kind_of`.
+#[unsafe(no_mangle)]
+pub extern "C" fn inroot_kind_of(mode: u32) -> u8
+    ensures { result ≡ kind_of mode }
+{
+    system_calls::kind_of(mode)
+}
+
+/// Whether mknod(2) may be asked for an entry of this mode and device: `system_calls::is_node`.
+#[unsafe(no_mangle)]
+pub extern "C" fn inroot_is_node(mode: u32, device: u64) -> bool
+    ensures { result ≡ is_node mode device }
+{
+    system_calls::is_node(mode, device)
+}
+
+/// Whether an error of a look-up says that the names lead elsewhere: `system_calls::is_elsewhere`.
+#[unsafe(no_mangle)]
+pub extern "C" fn inroot_is_elsewhere(error: u32) -> bool
+    ensures { result ≡ is_elsewhere error }
+{
+    system_calls::is_elsewhere(error)
 }

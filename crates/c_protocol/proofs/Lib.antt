@@ -10,6 +10,7 @@ mod SplitLemmas
 mod GivingUp
 mod OwnExchanges
 mod SeenBelow
+mod FollowedAtOnce
 mod Refusing
 mod RunTurns
 mod RunStates

@@ -9,7 +9,7 @@ use Rattle.c_protocol.specs.History.{Heard, Hears, RepliesLast}
 use Rattle.c_protocol.specs.History as plain
 use Rattle.c_protocol.specs.Numbers.{step_told, step_bytes}
 use Rattle.c_protocol.specs.Outright.{ConversationsTell}
-use Rattle.c_protocol.specs.RunHistory.{Run, Exchange, single, run, Conversation, last_heard, AreAnswers, StandFor, ConversationsWithRunsTell}
+use Rattle.c_protocol.specs.RunHistory.{Exchange, single, run, Conversation, last_heard, AreAnswers, StandFor, ConversationsWithRunsTell}
 use Rattle.c_protocol.specs.Runs.{Made, Makes, steps_of}
 use Rattle.c_protocol.specs.Turns.{call_of, fits, laid, IsNext}
 use Rattle.c_protocol.specs.declared.kept.Held.{Held}

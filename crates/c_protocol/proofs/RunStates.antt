@@ -1,12 +1,12 @@
 -- How far a call has come by names, in the midst of the loops that pass them and lay them out.
-use Rattle.std.proofs.Common.{◌≡◌, ℕ, ◌+◌, ◌-◌, ◌<◌, ◌≤◌, Bool, true, false, List, [], ◌∷◌, ◌++◌, length, get_or, take, drop, refl, ap, sym, ◌∙◌, subst, arith, length-append}
+use Rattle.std.proofs.Common.{◌≡◌, ℕ, ◌+◌, ◌-◌, ◌<◌, ◌≤◌, Bool, false, List, [], ◌∷◌, ◌++◌, length, get_or, take, drop, refl, ap, sym, ◌∙◌, subst, arith, length-append}
 use Rattle.std.proofs.lemmas.List.{append-nil, take_more}
 use Rattle.path_text.specs.declared.name.TheConstants.{SLASH}
 use Rattle.path_text.specs.Print.{after_slashes}
 use Rattle.path_text.specs.Text.{between_slashes}
 use Rattle.tree_model.specs.declared.step.StepOf.TheVariants.{Open}
 use Rattle.root_ops.specs.declared.call.CallTurn.{CallTurn}
-use Rattle.root_ops.specs.declared.call.CallTurn.TheVariants.{More, Done}
+use Rattle.root_ops.specs.declared.call.CallTurn.TheVariants.{More}
 use Rattle.root_ops.specs.Order.{due}
 use Rattle.root_ops.specs.View.{CallView}
 use Rattle.c_protocol.specs.Runs.{Makes, Entered, steps_of, dir_behind, is_shut, names_of, Enters, GoesUp, AsksFor, up_text, IsEnd, ComeNext, IsRun}

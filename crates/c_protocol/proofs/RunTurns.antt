@@ -1,6 +1,5 @@
 -- Names that a call is told one after another, and what has been laid out of them.
-use Rattle.std.proofs.Common.{◌≡◌, ℕ, ◌+◌, ◌≤◌, Bool, true, false, List, [], ◌∷◌, ◌++◌, length, take, drop, refl, ap, sym, ◌∙◌, subst, arith, append_assoc, length-append}
-use Rattle.std.specs.Prelude.{map}
+use Rattle.std.proofs.Common.{◌≡◌, ℕ, ◌+◌, Bool, List, [], ◌∷◌, ◌++◌, length, refl, ap, sym, ◌∙◌, subst, arith, append_assoc, length-append}
 use Rattle.std.proofs.lemmas.List.{append-nil}
 use Rattle.path_text.specs.declared.name.TheConstants.{SLASH}
 use Rattle.path_text.specs.Print.{after_slashes}
@@ -9,7 +8,7 @@ use Rattle.root_ops.specs.declared.call.CallTurn.{CallTurn}
 use Rattle.root_ops.specs.declared.call.CallTurn.TheVariants.{More, Done}
 use Rattle.root_ops.specs.Order.{due}
 use Rattle.root_ops.specs.View.{CallView}
-use Rattle.c_protocol.specs.Runs.{Made, Makes, Entered, as_directory, shuts, steps_of, dir_behind, is_shut, names_of, Enters}
+use Rattle.c_protocol.specs.Runs.{Made, Makes, Entered, as_directory, shuts, steps_of, dir_behind, names_of, Enters}
 
 -- ---- turns after one another
 

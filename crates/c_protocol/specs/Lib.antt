@@ -14,4 +14,5 @@ pub mod OwnExchanges
 pub mod Refusals
 pub mod AtOnce
 pub mod SeenBelow
+pub mod FollowedAtOnce
 pub mod Split

@@ -1,5 +1,6 @@
 //! What a C program's call tells in a history: laws, each the contract of a function without a body.
 ghost use Rattle.c_protocol.specs.AtOnce.{OpensAtOnceTell};
+ghost use Rattle.c_protocol.specs.FollowedAtOnce.{LinksSeenBelow};
 ghost use Rattle.c_protocol.specs.History.{ConversationsAreCalls};
 ghost use Rattle.c_protocol.specs.Outright.{ConversationsTell};
 ghost use Rattle.c_protocol.specs.OwnExchanges.{ConversationsClose, UnmadeStepsEndCalls};
@@ -87,6 +88,18 @@ pub fn seen_below_tell()
     ensures plain { PlainSeenBelow }
 {
     opens_at_once_tell();
+}
+
+/// A call of which `follows_at_once` is true, which one system call walks as a whole, through links and `..`
+/// (openat2(2), RESOLVE_IN_ROOT or RESOLVE_BENEATH). It is a resolve. Nobody is told its steps. So the law is about
+/// whatever lines lead it to the reply that something was opened, where the history has whatever names as the answer to
+/// the last of them, the question where that stands. What was opened was reached by the path's parts at rising moments,
+/// and stood below the root at that question, at which names is not said. Where others leave alone the entries that the
+/// path reads, it is what the path means.
+pub fn links_seen_below_tell()
+    ensures { LinksSeenBelow }
+{
+    seen_below_tell();
 }
 
 /// The step table refuses a step by no other error than those of `is_refusal`, in any tree: but for a handle that

@@ -6,6 +6,8 @@
 //! spelled exactly, and that each answer is taken as the one that its numbers and bytes spell. Between two turns the
 //! C program keeps the call by its pointer, as a `Kept`. Where it has passed all names of a path by one system call, it
 //! needs no turns: `opens_at_once` says exactly for which calls, and the law `opens_at_once_tell` what holds of them.
+//! Nor where one system call has followed the links: `follows_at_once` says for which calls, and
+//! `links_seen_below_tell` what holds of them.
 //! In the midst of a call `names_ahead` says which names come next, and `pass_names` takes the call past those that one
 //! system call passed; by the law `conversations_with_runs_tell` that is as good as single turns. A path is taken apart
 //! into its directory's path and its last name by `split`, as the calls on one entry do it.
@@ -17,6 +19,7 @@
 mod answered;
 mod asked;
 mod at_once;
+mod followed;
 mod kept;
 mod last_name;
 mod laws;
@@ -27,11 +30,13 @@ mod told;
 mod turns;
 
 pub use at_once::opens_at_once;
+pub use followed::follows_at_once;
 pub use kept::Kept;
 pub use last_name::{Parted, split};
 pub use laws::{
     conversations_are_calls, conversations_close, conversations_tell, conversations_with_runs_tell,
-    opens_at_once_tell, seen_below_tell, steps_are_refused_so, unmade_steps_end_calls,
+    links_seen_below_tell, opens_at_once_tell, seen_below_tell, steps_are_refused_so,
+    unmade_steps_end_calls,
 };
 pub use numbers::{Answered, Asked, Told};
 pub use refusals::is_refusal;

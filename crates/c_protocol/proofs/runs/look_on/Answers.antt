@@ -1,5 +1,4 @@
 use Rattle.std.proofs.Common.{◌≡◌, ◌-◌, arith, refl, subst}
-use Rattle.root_ops.specs.declared.call.CallTurn.{CallTurn}
 use Rattle.root_ops.specs.declared.call.CallTurn.TheVariants.{More}
 use Rattle.c_protocol.specs.Runs.{IsEnd}
 use Rattle.c_protocol.proofs.RunStates.{goes_on, one_laid, at_end}
