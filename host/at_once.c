@@ -1,12 +1,20 @@
 /*
- * at_once.c: one openat2(2) opens a whole path of plain names, and the driver asks where the object stands. If the proved
- * library says that a call with these answers to its steps would reply so, the driver takes no turn. docs/HOST-WHY.md has the
- * argument.
+ * at_once.c: one openat2(2) opens a whole path, and the driver takes no turn. Of plain names it asks where the object stands, and
+ * the proved library says whether a call with these answers to its steps would reply so. Under INROOT_BELOW the kernel walks
+ * the path through links and `..`, where the proved library says that this may stand for the steps. docs/HOST-WHY.md has the
+ * arguments.
  */
 #define _GNU_SOURCE
 #include "driver.h"
+#include "openat2.h"
 
+#include <errno.h>
+#include <fcntl.h>
 #include <string.h>
+#include <sys/stat.h>
+#include <unistd.h>
+
+/* ---- a path of plain names */
 
 /* Whether the call may be such a one. The proved call refuses a path that leads out by its first byte before any step. */
 static bool may_open(const struct inroot_request *asked)
@@ -49,9 +57,10 @@ static bool is_reply(struct inroot_driver *d, int root, const struct inroot_aske
                                 (const unsigned char *)text, length);
 }
 
-int inroot_at_once(struct inroot_driver *d, int root, const struct inroot_asked *numbers, char *text)
+/* Opens plain names: the descriptor, or INROOT_NONE. FAILED is an error by which they can't be opened, or zero. */
+static int open_names(struct inroot_driver *d, int root, const struct inroot_asked *numbers, char *text, int failed)
 {
-    if (!may_open(d->asked) || !inroot_run_whole(d, root))
+    if (!may_open(d->asked) || !inroot_run_whole(d, root, failed))
         return INROOT_NONE;
     if (!is_reply(d, root, numbers, text)) {
         /* The steps decide: the caller sees nothing of what was found here. */
@@ -63,6 +72,63 @@ int inroot_at_once(struct inroot_driver *d, int root, const struct inroot_asked 
     d->run.fd = INROOT_NONE;
     if (d->asked->opened != NULL)
         *d->asked->opened = d->run.kind;
+    return fd;
+}
+
+/* ---- a path that the kernel walks, through links and `..` */
+
+/* For a path of slashes alone the kernel doesn't search the root, as the step does that opens the root's own handle. */
+static bool may_follow(const struct inroot_driver *d, const struct inroot_asked *numbers)
+{
+    const char *path = d->asked->first;
+    return d->below && !(d->asked->flags & INROOT_ONE_BY_ONE) && path[strspn(path, "/")] != 0 &&
+           inroot_follows_at_once(numbers, (const unsigned char *)path, d->first_length);
+}
+
+/* Tells the caller of what kind it is, where that is asked. Whether it could. */
+static bool tell_kind(const struct inroot_driver *d, int fd)
+{
+    struct stat about;
+    if (d->asked->opened == NULL)
+        return true;
+    if (fstat(fd, &about) != 0)
+        return false;
+    *d->asked->opened = S_ISDIR(about.st_mode) ? INROOT_KIND_DIR : S_ISLNK(about.st_mode) ? INROOT_KIND_LINK : INROOT_KIND_FILE;
+    return true;
+}
+
+/*
+ * Opens what the kernel's walk comes to: the descriptor, or INROOT_NONE and why. It stays on the root's own mount: `..` would lead
+ * the kernel to what is mounted over the root's directory, which isn't the root to the steps.
+ */
+static int follow(struct inroot_driver *d, int root, int *failed)
+{
+    const struct inroot_request *asked = d->asked;
+    const uint64_t resolve = asked->flags & INROOT_BENEATH ? RESOLVE_BENEATH : RESOLVE_IN_ROOT;
+    const uint64_t end = asked->op == INROOT_ASK_RESOLVE_NOFOLLOW ? O_NOFOLLOW : 0;
+    int fd = inroot_look_through(d, root, asked->first, end | (asked->directory ? O_DIRECTORY : 0), resolve | RESOLVE_NO_XDEV);
+    if (fd >= 0 && tell_kind(d, fd))
+        return fd;
+    *failed = errno;
+    if (fd >= 0)
+        close(fd);
+    return INROOT_NONE;
+}
+
+/* Whether without links, too, plain names can't be opened where the kernel's walk failed by this. */
+static bool is_missing(int error)
+{
+    return error == ENOENT || error == ENOTDIR || error == ELOOP || error == EACCES || error == ENAMETOOLONG;
+}
+
+int inroot_at_once(struct inroot_driver *d, int root, const struct inroot_asked *numbers, char *text)
+{
+    int failed = 0;
+    int fd = may_follow(d, numbers) ? follow(d, root, &failed) : INROOT_NONE;
+    if (fd < 0)
+        fd = open_names(d, root, numbers, text, is_missing(failed) ? failed : 0);
+    if (fd < 0)
+        return INROOT_NONE;
     /* The step to report if the way back to the root fails. */
     d->step = INROOT_STEP_NAME_BELOW;
     d->ahead.at = d->ahead.end;

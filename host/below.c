@@ -1,7 +1,7 @@
 /*
- * below.c: the kernel's own look-up below a directory, openat2(2) through no link. Runs of names are passed by it (runs.c), and
+ * below.c: the kernel's own look-up below a directory, openat2(2). Through no link, runs of names are passed by it (runs.c), and
  * by RESOLVE_BENEATH it is one of the two witnesses for a place (place.c): as it ends, the kernel sees in one moment whether
- * what it found is below the directory.
+ * what it found is below the directory. Through links a whole path is walked by it (at_once.c).
  */
 #define _GNU_SOURCE
 #include "driver.h"
@@ -16,15 +16,15 @@
 enum known { NOT_YET, THERE, MISSING };
 static _Thread_local enum known known;
 
-static int open_once(int dir, const char *names, uint64_t flags, uint64_t resolve)
+static int open_once(int dir, const char *path, uint64_t flags, uint64_t resolve)
 {
     const struct open_how how = {
         .flags = flags | O_PATH | O_CLOEXEC,
-        .resolve = resolve | RESOLVE_NO_SYMLINKS | RESOLVE_NO_MAGICLINKS,
+        .resolve = resolve | RESOLVE_NO_MAGICLINKS,
     };
     int fd;
     do
-        fd = (int)syscall(SYS_openat2, dir, names, &how, sizeof how);
+        fd = (int)syscall(SYS_openat2, dir, path, &how, sizeof how);
     while (fd < 0 && errno == EINTR);
     return fd;
 }
@@ -46,16 +46,16 @@ bool inroot_has_openat2(void)
 }
 
 /* Opens as well, and learns from the error whether the system call itself is refused. */
-static int open_here(int dir, const char *names, uint64_t flags, uint64_t resolve)
+static int open_here(int dir, const char *path, uint64_t flags, uint64_t resolve)
 {
-    int fd = open_once(dir, names, flags, resolve);
+    int fd = open_once(dir, path, flags, resolve);
     int error = errno;
     known = fd < 0 && (error == ENOSYS || error == EPERM) ? try_here() : THERE;
     errno = error;
     return fd;
 }
 
-int inroot_look_up(struct inroot_driver *d, int dir, const char *names, uint64_t flags, uint64_t resolve)
+int inroot_look_through(struct inroot_driver *d, int dir, const char *path, uint64_t flags, uint64_t resolve)
 {
     for (;;) {
         int from = dir;
@@ -63,10 +63,15 @@ int inroot_look_up(struct inroot_driver *d, int dir, const char *names, uint64_t
             errno = ENOSYS;
         if (known == MISSING || !inroot_jail_start(d, &from))
             return -1;
-        int fd = open_here(from, names, flags, resolve);
+        int fd = open_here(from, path, flags, resolve);
         if (fd >= 0 || errno != EBADF || dir != INROOT_JAILED || from != inroot_trust_root())
             return fd;
         /* The program has closed the descriptor that the thread keeps. The thread goes on without it. */
         inroot_trust_end();
     }
+}
+
+int inroot_look_up(struct inroot_driver *d, int dir, const char *names, uint64_t flags, uint64_t resolve)
+{
+    return inroot_look_through(d, dir, names, flags, resolve | RESOLVE_NO_SYMLINKS);
 }

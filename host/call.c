@@ -9,9 +9,6 @@
 #include <time.h>
 #include <unistd.h>
 
-/* The rule of inroot.h: so many tries, and no pause between the first ones. */
-enum { TRIES = INROOT_TRIES, AT_ONCE = 8 };
-
 /* What a call gives that changed an entry: what it made, where that is asked for. Nothing is made once more. */
 static int done(struct inroot_driver *d)
 {
@@ -42,22 +39,30 @@ static ssize_t reply_of(struct inroot_driver *d, const struct inroot_told *told)
     }
 }
 
-/* Makes the step. In a long path most steps open or close the next name of a run, which takes no system call. */
-static struct inroot_result make(struct inroot_driver *d, const struct inroot_told *step, const char *room, char *text,
-                                 size_t *length)
+/* Makes the step, or gives no answer where another one is due. */
+static struct inroot_result make(struct inroot_driver *d, struct inroot_told *step, char *room, char *text, size_t *length)
 {
+    struct inroot_result result;
     *length = 0;
     d->steps++;
     if (step->what == INROOT_STEP_CLOSE)
         return inroot_handles_close(d, step->handle);
-    if (d->from.second && inroot_from_is_second(d, step)) {
-        int error = inroot_from_again(d, step->handle, text);
-        if (error)
-            return inroot_refused(d, error);
-    }
-    if (step->what == INROOT_STEP_OPEN && inroot_run_goes_on(d, step))
-        return inroot_run_next(d, step, room);
+    if (d->from.dir >= 0 && inroot_from_begins(d, step, room, text, &result))
+        return result;
     return inroot_make(d, step, room, text, length);
+}
+
+void inroot_answer(struct inroot_driver *d, struct inroot_result result, const char *bytes, size_t length,
+                   struct inroot_told *told, char *room)
+{
+    const struct inroot_answered answered = {
+        .handle = result.handle,
+        .node = result.handle,
+        .what = (uint8_t)result.what,
+        .kind = result.kind,
+        .error = result.error,
+    };
+    inroot_next(d->kept, &answered, (const unsigned char *)bytes, length, told, (unsigned char *)room, INROOT_ROOM);
 }
 
 /* Takes turns with the proved call. */
@@ -66,24 +71,18 @@ static ssize_t converse(struct inroot_driver *d, const struct inroot_asked *numb
     const struct inroot_request *asked = d->asked;
     struct inroot_told told;
     struct inroot_kept kept = {0};
-    unsigned char *bytes = (unsigned char *)room;
     /* Not in the room: the library writes there while it reads this. */
     char text[INROOT_TEXT_MAX + 1];
+    d->kept = &kept;
     inroot_begin(numbers, (const unsigned char *)asked->first, d->first_length, (const unsigned char *)asked->second,
-                 d->second_length, &kept, &told, bytes, INROOT_ROOM);
+                 d->second_length, &kept, &told, (unsigned char *)room, INROOT_ROOM);
     while (told.what < INROOT_REPLY_OPENED) {
         size_t length;
         struct inroot_result result = make(d, &told, room, text, &length);
-        bool lists = result.what == INROOT_ANSWER_LISTED;
-        const struct inroot_answered answered = {
-            .handle = result.handle,
-            .node = result.handle,
-            .what = (uint8_t)result.what,
-            .kind = result.kind,
-            .error = result.error,
-        };
-        inroot_next(&kept, &answered, (const unsigned char *)(lists ? d->names : text), lists ? d->names_length : length,
-                    &told, bytes, INROOT_ROOM);
+        if (result.what == INROOT_ANSWER_LISTED)
+            inroot_answer(d, result, d->names, d->names_length, &told, room);
+        else if (result.what != 0)
+            inroot_answer(d, result, text, length, &told, room);
     }
     return reply_of(d, &told);
 }
@@ -156,9 +155,7 @@ static ssize_t reply_to(struct inroot_driver *d, int root, const struct inroot_r
     if (failed)
         return failed;
     numbers.root = inroot_handles_begin(d, root);
-    failed = inroot_from_begin(d, numbers.root);
-    ssize_t result = failed ? -failed : converse(d, &numbers, room);
-    inroot_run_drop(d);
+    ssize_t result = converse(d, &numbers, room);
     inroot_handles_end(d);
     if (d->made >= 0)
         close(d->made);
@@ -233,17 +230,14 @@ ssize_t inroot_once(struct inroot_driver *d, int root, const struct inroot_reque
     return bad_root ? bad_root : result;
 }
 
-bool inroot_again(int tries, int flags)
+bool inroot_again(int tries, int flags, ssize_t result, bool lost)
 {
-    if (flags & INROOT_NO_RETRY || tries >= TRIES)
-        return false;
-    if (tries >= AT_ONCE) {
-        const long most = 1000000;
-        long pause = 10000L << (tries - AT_ONCE < 7 ? tries - AT_ONCE : 7);
-        const struct timespec time = {.tv_nsec = pause < most ? pause : most};
+    struct inroot_next_try next;
+    inroot_next_try((uint32_t)tries, !(flags & INROOT_NO_RETRY), result < 0 ? (uint32_t)-result : 0, lost, &next);
+    const struct timespec time = {.tv_nsec = next.pause};
+    if (next.pause > 0)
         nanosleep(&time, NULL);
-    }
-    return true;
+    return next.due;
 }
 
 ssize_t inroot_call(int root, const struct inroot_request *asked, char *room)
@@ -251,7 +245,7 @@ ssize_t inroot_call(int root, const struct inroot_request *asked, char *room)
     struct inroot_driver d;
     for (int tries = 1;; tries++) {
         ssize_t result = inroot_once(&d, root, asked, room);
-        if (result == -EAGAIN && !d.lost && inroot_again(tries, asked->flags))
+        if (inroot_again(tries, asked->flags, result, d.lost))
             continue;
         if (result < 0)
             inroot_error_of(&d, (int)-result);

@@ -1,7 +1,7 @@
 /*
- * calls.h: the proved library's twelve functions, and what passes between it and a driver. The numbers and bytes are those
- * of crates/c_protocol and crates/kernel_text, whose contracts say what they stand for. A program that makes calls
- * includes inroot.h, and not this.
+ * calls.h: the proved library's twenty-one functions, and what passes between it and a driver. The numbers and bytes are those
+ * of crates/c_protocol, crates/kernel_text and crates/system_calls, whose contracts say what they stand for. A program that
+ * makes calls includes inroot.h, and not this.
  */
 #ifndef INROOT_CALLS_H
 #define INROOT_CALLS_H
@@ -113,6 +113,14 @@ void inroot_pass_names(struct inroot_kept *kept, const unsigned char *text, size
 bool inroot_opens_at_once(const struct inroot_asked *asked, const unsigned char *path, size_t path_length, uint8_t kind,
                           const unsigned char *place, size_t place_length);
 
+/*
+ * Whether one system call may walk PATH as a whole in the place of a call's steps, through links and `..`: openat2(2) with
+ * RESOLVE_IN_ROOT, or with RESOLVE_BENEATH where that is asked for. It is true of a resolve that may follow links, of a text of 1 to
+ * 4,095 bytes in which no part has more than 255; but not of a path that leads out by its first byte. It takes no memory, changes
+ * nothing, and needs no call under way. docs/HOST-WHY.md has the argument.
+ */
+bool inroot_follows_at_once(const struct inroot_asked *asked, const unsigned char *path, size_t path_length);
+
 /* Where a path's last name stands in it, of so many bytes; or the error's number, and zeros. */
 struct inroot_parted {
     size_t name, length;
@@ -190,5 +198,72 @@ struct inroot_sorted {
  */
 void inroot_sort_names(const unsigned char *text, size_t text_length, unsigned char *room, size_t size,
                        struct inroot_sorted *sorted);
+
+/* ---- what is asked of Linux, and what its answers mean, by numbers alone. These take no memory, and need no call under way. */
+
+/* The flags of open(2) whose numbers differ between machines: O_DIRECTORY, O_NOFOLLOW, O_DIRECT, O_LARGEFILE. */
+struct inroot_machine_flags {
+    uint32_t directory, nofollow, direct, largefile;
+};
+
+/*
+ * What a call on a path does by flags of open(2): an error, and nothing else; or 0, and what is done. `finds`: what is there is
+ * looked for; `makes`: what is missing is made, and must be missing where nothing is looked for. `follows` a link at the end. The
+ * kind of what was found matters (`asks_kind`), since a `directory` is wanted, or none; then there is an error of a directory, or
+ * of all else. What was found is given by O_PATH (`by_path`), or opened by `found_flags`, or a `nameless` file is made in it by
+ * these. What is missing is made by `made_flags`.
+ */
+struct inroot_opening {
+    uint8_t error;
+    bool finds, makes, follows, directory, asks_kind, by_path, nameless;
+    uint8_t directory_error, other_error;
+    uint32_t found_flags, made_flags;
+};
+
+/* EINVAL of flags that the call doesn't have, or that contradict each other, and of a mode that doesn't fit them. */
+void inroot_opening_of(const struct inroot_machine_flags *machine, uint32_t flags, uint32_t mode, struct inroot_opening *opening);
+
+/* The flags by which what is open is opened once more; or 0, where these are refused by EINVAL. */
+uint32_t inroot_reopen_flags(const struct inroot_machine_flags *machine, uint32_t flags);
+
+/* Another try is due, after a pause of so many nanoseconds. */
+struct inroot_next_try {
+    bool due;
+    uint32_t pause;
+};
+
+/*
+ * Whether a call is begun again after so many tries, where it may be: the last one ended by EAGAIN, nothing that it made was lost,
+ * and there were fewer tries than INROOT_TRIES.
+ */
+void inroot_next_try(uint32_t tries, bool may_retry, uint32_t error, bool lost, struct inroot_next_try *next);
+
+/* Which object a system call tells of; the mount is 0 where it doesn't tell that. */
+struct inroot_object {
+    uint64_t device, inode, mount;
+};
+
+/* Whether two answers are about one object, while it is open; by the same mount, unless that doesn't count. */
+bool inroot_is_same_object(const struct inroot_object *one, const struct inroot_object *other, bool by_any_mount);
+
+/* Which directory it is, where no descriptor pins it: no inode, where that can't be asked; no birth, where none is kept. */
+struct inroot_birth {
+    uint64_t device, inode, seconds;
+    uint32_t nanoseconds;
+};
+
+enum inroot_same { INROOT_ANOTHER, INROOT_SAME, INROOT_SAME_ON_OVERLAYFS };
+
+/* Whether it is the directory that was there before, as far as these tell (`enum inroot_same`). */
+uint8_t inroot_same_directory(const struct inroot_birth *now, const struct inroot_birth *before);
+
+/* The kind of an object by its mode (`enum inroot_kind`). */
+uint8_t inroot_kind_of(uint32_t mode);
+
+/* Whether mknod(2) may be asked for an entry of this mode, with its kind, and this device. */
+bool inroot_is_node(uint32_t mode, uint64_t device);
+
+/* Whether an error of a look-up by names says that these lead elsewhere by now. Any other says that it couldn't be asked. */
+bool inroot_is_elsewhere(uint32_t error);
 
 #endif

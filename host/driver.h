@@ -20,24 +20,17 @@ enum { INROOT_TEXT_MAX = PATH_MAX, INROOT_ROOM = 2 * PATH_MAX + 2 * (NAME_MAX + 
  */
 enum { INROOT_HELD_MAX = 32, INROOT_DEPTH_MAX = 1022 };
 
-/* Which object a directory is, where no descriptor pins it; its birth is zero where the file system keeps none. */
-struct inroot_identity {
-    uint64_t device, inode;
-    int64_t born;
-    uint32_t born_part;
-};
-
 /*
  * How the handle was opened. INROOT_SEEN_BELOW: by its names from the root, and the kernel saw it below the root in the end. This
  * answers one question about its place, the one that follows.
  */
 enum inroot_way { INROOT_BY_ROOT, INROOT_BY_NAME, INROOT_SEEN_BELOW, INROOT_BY_PARENT };
 
-/*
- * In place of a descriptor: one that was let go and can be opened again; the root of a jail, which needs none; a directory that
- * was passed with others by one system call; none.
- */
-enum { INROOT_AWAY = -2, INROOT_JAILED = -3, INROOT_PASSED = -4, INROOT_NONE = -1 };
+/* In place of a descriptor: one that was let go and can be opened again; the root of a jail, which needs none; none. */
+enum { INROOT_AWAY = -2, INROOT_JAILED = -3, INROOT_NONE = -1 };
+
+/* In the number of a handle without a slot: of a directory that was passed with others, or a link that was read by its name. */
+static const uint64_t INROOT_PASSED = UINT64_C(1) << 31;
 
 /* What a handle of the proved call stands for. */
 struct inroot_slot {
@@ -47,7 +40,7 @@ struct inroot_slot {
     uint8_t way, kind;
     bool is_shared;                /* the descriptor is the caller's */
     bool is_above;                 /* it was come to by `..` of another */
-    struct inroot_identity who;    /* once it was let go */
+    struct inroot_birth who;       /* once it was let go */
 };
 
 /* Beside the steps of the proved call: whether /proc tells the root from what is outside; what was made is opened. */
@@ -99,13 +92,11 @@ struct inroot_ahead {
     const char *second;            /* the request's own */
 };
 
-/* Names that one system call passed: its descriptor, of the last of them or of the directory above, and what is to be told. */
+/* What one system call opened behind names, and isn't told yet. */
 struct inroot_run {
-    int fd, left;
-    bool up, placed;               /* it was just seen at the names of `from` */
+    int fd;
     enum inroot_kind kind;
-    enum inroot_way way;           /* by which the last of them was come to */
-    uint64_t at;                   /* the handle from which it goes on */
+    enum inroot_way way;           /* by which it was come to */
     size_t passed;                 /* how long the names are that the walk stands at behind it, or zero */
 };
 
@@ -155,6 +146,7 @@ struct inroot_driver {
     size_t link_length;
     /* What follows isn't cleared as a call begins: it is set then, or where what it belongs to is. */
     const struct inroot_request *asked;
+    struct inroot_kept *kept;      /* the proved call, while it goes on */
     size_t first_length, second_length;
     const char *name;              /* what `step` was about, in `ahead` where that foresaw it, or in `step_name` */
     int proc;                      /* the /proc that was found to be one, or none yet */
@@ -187,7 +179,9 @@ void inroot_handles_end(struct inroot_driver *d);
 bool inroot_handles_grow(struct inroot_driver *d);
 /* A handle on what was opened, by its name in DIR or otherwise; there is room. */
 uint64_t inroot_handles_put(struct inroot_driver *d, int fd, enum inroot_kind kind, enum inroot_way way, uint64_t dir);
-/* The same as inroot_handles_fd() of a handle whose descriptor was let go, or that was passed with others. */
+/* A handle that has no slot. The numbers behind it, of fewer names than a path has, are no other handles'. */
+uint64_t inroot_handles_passed(struct inroot_driver *d);
+/* The same as inroot_handles_fd() of a handle whose descriptor was let go. */
 int inroot_handles_fd_again(struct inroot_driver *d, uint64_t handle, int *fd);
 struct inroot_result inroot_handles_close(struct inroot_driver *d, uint64_t handle);
 /* A second handle on the root, by the same descriptor. */
@@ -262,23 +256,30 @@ bool inroot_has_openat2(void);
  * or -1 with errno.
  */
 int inroot_look_up(struct inroot_driver *d, int dir, const char *names, uint64_t flags, uint64_t resolve);
+/* The same of a path, through links, but no magic one. */
+int inroot_look_through(struct inroot_driver *d, int dir, const char *path, uint64_t flags, uint64_t resolve);
 
 /* runs.c */
 /*
  * Passes the whole path from the root where it is plain names, before any step is made. Whether it could, and the kernel saw
- * what it led to below the root.
+ * what it led to below the root. FAILED is the error of a look-up that this one would fail by, too, or zero.
  */
-bool inroot_run_whole(struct inroot_driver *d, int root);
-/* Passes the next name of the path, and names behind it, from this directory, where none are under way. Whether it could. */
-bool inroot_run_begin(struct inroot_driver *d, uint64_t handle);
-/* Answers the Open of the first name of a run, which is so long; and the Open or the Parent with which it goes on. */
-struct inroot_result inroot_run_first(struct inroot_driver *d, size_t length);
-struct inroot_result inroot_run_next(struct inroot_driver *d, const struct inroot_told *step, const char *name);
-struct inroot_result inroot_run_up(struct inroot_driver *d, uint64_t child);
+bool inroot_run_whole(struct inroot_driver *d, int root, int failed);
+/*
+ * Passes the next name of the path, which is due to be opened, and names behind it. Whether it could. Then the call is told all
+ * but the last part, and the answer is that to the step which is due behind them.
+ */
+bool inroot_run_begin(struct inroot_driver *d, struct inroot_told *told, char *room, struct inroot_result *result);
+/*
+ * The same of what is open behind these parts, a slash between each two: so many names, and one more or `..`. There is no answer
+ * where another step is due behind the names: what is open is let go then.
+ */
+struct inroot_result inroot_run_tell(struct inroot_driver *d, struct inroot_told *told, char *room, const char *parts,
+                                     size_t names);
 void inroot_run_drop(struct inroot_driver *d);
 
 /* at_once.c */
-/* Opens the whole path at once, where the library says that this is the reply; or gives INROOT_NONE. */
+/* Opens the whole path at once, where the library says that this is the reply, or may be; or gives INROOT_NONE. */
 int inroot_at_once(struct inroot_driver *d, int root, const struct inroot_asked *numbers, char *text);
 
 /* error.c */
@@ -348,10 +349,16 @@ bool inroot_jail_enter(struct inroot_driver *d, int fd);
 bool inroot_jail_start(struct inroot_driver *d, int *dir);
 
 /* call.c */
+/* Gives the proved call the answer to the step that was told last, with what was read. It tells the next one. */
+void inroot_answer(struct inroot_driver *d, struct inroot_result result, const char *bytes, size_t length,
+                   struct inroot_told *told, char *room);
 /* A try: one proved call from its beginning to its reply, whose text then lies in the room. */
 ssize_t inroot_once(struct inroot_driver *d, int root, const struct inroot_request *asked, char *room);
-/* Whether another try is due after this many, for which it has waited then. */
-bool inroot_again(int tries, int flags);
+/*
+ * Whether another try is due after this many, the last of which gave this: -EAGAIN where others were in the way. LOST: what it made
+ * isn't where it made it any more. It has waited then.
+ */
+bool inroot_again(int tries, int flags, ssize_t result, bool lost);
 /* A call by as many tries as are due. Gives 0, what was opened, a text's length, or -errno. */
 ssize_t inroot_call(int root, const struct inroot_request *asked, char *room);
 
@@ -414,11 +421,12 @@ struct inroot_joined {
 /* Asks where the directory stands, and puts its names before the paths: 0 or -errno. */
 int inroot_from_join(struct inroot_driver *d, int root, int dir, const struct inroot_request *asked,
                      struct inroot_joined *joined);
-/* The first walk, from this handle of the root, begins with the directory that was opened at these names: 0 or an error. */
-int inroot_from_begin(struct inroot_driver *d, uint64_t root);
-/* Whether a step begins the second walk of a rename. Then it is asked anew where the directory stands: 0 or an error. */
-bool inroot_from_is_second(const struct inroot_driver *d, const struct inroot_told *step);
-int inroot_from_again(struct inroot_driver *d, uint64_t root, char *text);
+/*
+ * Whether a walk begins there with this step. Then the call is told that it passed the names, as by inroot_run_tell(). Before the
+ * second walk of a rename it is asked anew where the directory stands.
+ */
+bool inroot_from_begins(struct inroot_driver *d, struct inroot_told *told, char *room, char *text,
+                        struct inroot_result *result);
 void inroot_from_end(struct inroot_driver *d);
 /* Whether the handle's place was told right before, and nothing was asked since: then tells it again. */
 bool inroot_from_tells(struct inroot_driver *d, uint64_t handle, char *text, size_t *length);
@@ -464,11 +472,10 @@ struct inroot_result inroot_unmade(struct inroot_driver *d, int error);
 /* Whether somebody removed the directory, as far as the kernel shows it. */
 bool inroot_is_dead(int fd);
 /*
- * Makes a step that is neither a Close nor the Open with which a run goes on. Its names lie in the room. What it reads is
- * written to `text`.
+ * Makes a step other than Close. Its names lie in the room. What it reads is written to `text`. Names of a path that it has passed
+ * are told to the call, and the answer is that to the step that is told then. There is none where it has yet to be made.
  */
-struct inroot_result inroot_make(struct inroot_driver *d, const struct inroot_told *step, const char *room, char *text,
-                                 size_t *length);
+struct inroot_result inroot_make(struct inroot_driver *d, struct inroot_told *step, char *room, char *text, size_t *length);
 
 #pragma GCC visibility pop
 
@@ -480,6 +487,11 @@ static inline struct inroot_result inroot_opened(uint64_t handle, enum inroot_ki
     return (struct inroot_result){.what = INROOT_ANSWER_OPENED, .handle = handle, .kind = (uint8_t)kind};
 }
 
+static inline bool inroot_handles_is_passed(uint64_t handle)
+{
+    return handle & INROOT_PASSED;
+}
+
 static inline struct inroot_slot *inroot_handles_slot(struct inroot_driver *d, uint64_t handle)
 {
     return &d->slots[(uint32_t)handle];
@@ -489,7 +501,7 @@ static inline struct inroot_slot *inroot_handles_slot(struct inroot_driver *d, u
 static inline int inroot_handles_fd(struct inroot_driver *d, uint64_t handle, int *fd)
 {
     *fd = inroot_handles_slot(d, handle)->fd;
-    return *fd == INROOT_AWAY || *fd == INROOT_PASSED ? inroot_handles_fd_again(d, handle, fd) : 0;
+    return *fd == INROOT_AWAY ? inroot_handles_fd_again(d, handle, fd) : 0;
 }
 
 /* Whether there is room for one more handle. */
@@ -526,14 +538,6 @@ static inline void inroot_ahead_pass(struct inroot_ahead *a, size_t length)
 {
     a->at += length;
     a->bad -= a->bad > 0;
-}
-
-/* Whether this is the step that comes next in the run under way, if there is one, but for its name. */
-static inline bool inroot_run_goes_on(const struct inroot_driver *d, const struct inroot_told *step)
-{
-    if (d->run.fd < 0 || step->handle != d->run.at)
-        return false;
-    return step->what == (d->run.left > 0 ? INROOT_STEP_OPEN : INROOT_STEP_PARENT);
 }
 
 /* Keeps that the call opens the next name, which is so long. Only a Dup or a ReadLink moves that name. */

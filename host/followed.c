@@ -63,7 +63,7 @@ bool inroot_followed_open(struct inroot_driver *d, const struct inroot_told *ste
     const size_t length = step->first;
     if (!may_read(d, length) || !is_likely(d, step->handle, name, length, is_alone))
         return false;
-    if (!inroot_handles_reserve(d) || inroot_handles_fd(d, step->handle, &dir) != 0)
+    if (inroot_handles_fd(d, step->handle, &dir) != 0)
         return false;
     ssize_t got = read_entry(dir, name, length, text);
     inroot_hints_tell(d, step->handle, name, length, got >= 0);
@@ -72,7 +72,7 @@ bool inroot_followed_open(struct inroot_driver *d, const struct inroot_told *ste
         return false;
     d->link_dir = d->lived = step->handle;
     d->link_length = (size_t)got;
-    d->link = inroot_handles_put(d, INROOT_PASSED, INROOT_KIND_LINK, INROOT_BY_NAME, step->handle);
+    d->link = inroot_handles_passed(d);
     inroot_ahead_pass(&d->ahead, length);
     *result = inroot_opened(d->link, INROOT_KIND_LINK);
     return true;

@@ -1,7 +1,7 @@
 /*
  * from.c: a call that begins at a directory below the root. It is asked where that stands, by both witnesses, and the
- * names come before the call's own paths. So the proved call walks from the root. Its first steps, by these names, are
- * answered by the directory itself, which the kernel's look-up by just these names has come to.
+ * names come before the call's own paths. So the proved call walks from the root. It is told that it passed these names, of
+ * which the last is answered by the directory itself: the kernel's look-up by just these names has come to it.
  */
 #define _GNU_SOURCE
 #include "driver.h"
@@ -101,21 +101,63 @@ int inroot_from_join(struct inroot_driver *d, int root, int dir, const struct in
     return 0;
 }
 
-/* Tells the call that it passed these names as one run. INROOT_NO_XDEV wants the root's mount. Gives 0 or an error. */
-static int pass(struct inroot_driver *d, uint64_t root, int fd)
+/* Tells the call that it passed these names from the root, by which the directory was opened. INROOT_NO_XDEV wants its mount. */
+static struct inroot_result pass(struct inroot_driver *d, int fd, struct inroot_told *told, char *room)
 {
-    if (inroot_mount_stay(d, fd) < 0)
-        return errno;
-    bool is_seen = inroot_has_openat2() && inroot_handles_slot(d, root)->fd != INROOT_JAILED;
-    d->run.fd = fd;
-    d->run.left = d->from.names;
-    d->run.up = false;
+    const char *names = d->from.place + 1;
+    size_t length = strlen(names);
+    bool is_seen = inroot_has_openat2() && d->root != INROOT_JAILED;
+    d->run.fd = inroot_mount_stay(d, fd);
+    if (d->run.fd < 0)
+        return inroot_refused(d, errno);
     d->run.kind = INROOT_KIND_DIR;
     d->run.way = is_seen ? INROOT_SEEN_BELOW : INROOT_BY_NAME;
-    d->run.at = root;
-    d->run.passed = inroot_passed_put(d, root, d->from.place + 1, strlen(d->from.place + 1));
-    d->run.placed = true;
-    return 0;
+    d->run.passed = inroot_passed_put(d, told->handle, names, length);
+    d->ahead.at = length;
+    struct inroot_result result = inroot_run_tell(d, told, room, names, (size_t)d->from.names - 1);
+    d->from.told = result.handle;
+    return result;
+}
+
+/* The same of the first walk. */
+static struct inroot_result pass_first(struct inroot_driver *d, struct inroot_told *told, char *room)
+{
+    int fd = d->from.fd;
+    d->from.fd = INROOT_NONE;
+    d->from.first = false;
+    return pass(d, fd, told, room);
+}
+
+/* The same of the second walk of a rename, if the directory stands at the same names still. */
+static struct inroot_result pass_again(struct inroot_driver *d, struct inroot_told *told, char *room, char *text)
+{
+    struct inroot_slot slot;
+    d->from.second = false;
+    ssize_t length = find(d, d->root, d->from.dir, text, &slot);
+    if (length < 0)
+        return inroot_refused(d, (int)-length);
+    text[length] = 0;
+    if (strcmp(text, d->from.place) != 0) {
+        close(slot.fd);
+        return inroot_refused(d, EAGAIN);
+    }
+    inroot_ahead_second(&d->ahead);
+    return pass(d, slot.fd, told, room);
+}
+
+bool inroot_from_begins(struct inroot_driver *d, struct inroot_told *told, char *room, char *text,
+                        struct inroot_result *result)
+{
+    bool is_root = (uint32_t)told->handle == 0 && told->handle >> 32 == 1;
+    if (told->what != INROOT_STEP_OPEN || !is_root)
+        return false;
+    if (d->from.first)
+        *result = pass_first(d, told, room);
+    else if (d->from.second && inroot_ahead_is_done(&d->ahead))
+        *result = pass_again(d, told, room, text);
+    else
+        return false;
+    return true;
 }
 
 /* Answers by what the driver told the call last. It has made no system call since. */
@@ -126,39 +168,6 @@ bool inroot_from_tells(struct inroot_driver *d, uint64_t handle, char *text, siz
     *length = strlen(d->from.place);
     memcpy(text, d->from.place, *length + 1);
     return true;
-}
-
-int inroot_from_begin(struct inroot_driver *d, uint64_t root)
-{
-    int fd = d->from.fd;
-    if (!d->from.first || fd < 0)
-        return 0;
-    d->from.fd = INROOT_NONE;
-    d->from.first = false;
-    return pass(d, root, fd);
-}
-
-bool inroot_from_is_second(const struct inroot_driver *d, const struct inroot_told *step)
-{
-    bool is_root = (uint32_t)step->handle == 0 && step->handle >> 32 == 1;
-    return step->what == INROOT_STEP_OPEN && is_root && inroot_ahead_is_done(&d->ahead);
-}
-
-int inroot_from_again(struct inroot_driver *d, uint64_t root, char *text)
-{
-    struct inroot_slot slot;
-    d->from.second = false;
-    inroot_run_drop(d);
-    ssize_t length = find(d, inroot_handles_slot(d, root)->fd, d->from.dir, text, &slot);
-    if (length < 0)
-        return (int)-length;
-    text[length] = 0;
-    if (strcmp(text, d->from.place) != 0) {
-        close(slot.fd);
-        return EAGAIN;
-    }
-    inroot_ahead_second(&d->ahead);
-    return pass(d, root, slot.fd);
 }
 
 void inroot_from_end(struct inroot_driver *d)

@@ -77,7 +77,7 @@ bool inroot_handles_grow(struct inroot_driver *d)
 /* ---- directories whose descriptor is let go */
 
 /* The birth tells a directory from a later one with the same number. If it can't be asked, the identity is empty. */
-static void identify(int fd, struct inroot_identity *who)
+static void identify(int fd, struct inroot_birth *who)
 {
     struct stat about = {0};
     memset(who, 0, sizeof *who);
@@ -86,23 +86,19 @@ static void identify(int fd, struct inroot_identity *who)
 #ifdef STATX_BTIME
     struct statx more;
     if (statx(fd, "", AT_EMPTY_PATH, STATX_BTIME, &more) == 0 && more.stx_mask & STATX_BTIME) {
-        who->born = more.stx_btime.tv_sec;
-        who->born_part = more.stx_btime.tv_nsec;
+        who->seconds = (uint64_t)more.stx_btime.tv_sec;
+        who->nanoseconds = more.stx_btime.tv_nsec;
     }
 #endif
 }
 
-/*
- * Whether what is open now is that directory. On overlayfs it gets another birth as it is copied to the upper layer, by
- * the first change below it: there the number alone counts.
- */
-static bool is_same(int fd, const struct inroot_identity *now, const struct inroot_identity *then)
+/* Whether what is open now is that directory. */
+static bool is_same(int fd, const struct inroot_birth *now, const struct inroot_birth *before)
 {
     struct statfs about;
-    if (now->inode == 0 || now->device != then->device || now->inode != then->inode)
-        return false;
-    if (now->born == then->born && now->born_part == then->born_part)
-        return true;
+    enum inroot_same same = inroot_same_directory(now, before);
+    if (same != INROOT_SAME_ON_OVERLAYFS)
+        return same == INROOT_SAME;
     return fstatfs(fd, &about) == 0 && about.f_type == OVERLAYFS_SUPER_MAGIC;
 }
 
@@ -147,7 +143,7 @@ bool inroot_handles_spare(struct inroot_driver *d, uint64_t handle)
  */
 static void come_back(struct inroot_driver *d, struct inroot_slot *slot, int32_t at)
 {
-    struct inroot_identity now;
+    struct inroot_birth now;
     int up = INROOT_NONE;
     slot->lost = EAGAIN;
     if (d->inner >= 0 && d->inner_above == at) {
@@ -192,14 +188,18 @@ uint64_t inroot_handles_put(struct inroot_driver *d, int fd, enum inroot_kind ki
     return d->begun ? put_below(d, handle, dir) : handle;
 }
 
+uint64_t inroot_handles_passed(struct inroot_driver *d)
+{
+    return (uint64_t)++d->serial << 32 | INROOT_PASSED;
+}
+
 int inroot_handles_fd_again(struct inroot_driver *d, uint64_t handle, int *fd)
 {
     struct inroot_slot *slot = inroot_handles_slot(d, handle);
     if (slot->fd == INROOT_AWAY && slot->lost == 0)
         come_back(d, slot, index_of(handle));
     *fd = slot->fd;
-    /* By its name another directory could be opened. So the step counts as not made, as if memory had been refused. */
-    return slot->fd == INROOT_PASSED ? ENOMEM : slot->lost;
+    return slot->lost;
 }
 
 /* A directory by which the one above is to be found again stays open until that one's turn, or the next Close. */
@@ -218,6 +218,8 @@ static void close_slot(struct inroot_driver *d, const struct inroot_slot *slot)
 
 struct inroot_result inroot_handles_close(struct inroot_driver *d, uint64_t handle)
 {
+    if (inroot_handles_is_passed(handle))
+        return (struct inroot_result){.what = INROOT_ANSWER_DONE};
     struct inroot_slot *slot = inroot_handles_slot(d, handle);
     if (slot->fd >= 0 || d->inner >= 0)
         close_slot(d, slot);

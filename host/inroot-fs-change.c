@@ -65,7 +65,7 @@ static enum fs_status open_found(const struct fs_call *call, const char *path, i
     bool is_known = fstat(found, &about) == 0;
     if (is_known && is_other(&about)) {
         close(found);
-        return fs_invalid(call, path, "it is no regular file");
+        return fs_invalid(call, path, "it is not a regular file");
     }
     *file = is_known ? inroot_reopen(found, O_WRONLY | (call->append ? O_APPEND : O_TRUNC)) : -errno;
     close(found);

@@ -95,7 +95,7 @@ static enum fs_status cat_one(const struct fs_call *call, const char *path)
         : inroot_reopen(found, O_RDONLY);
     close(found);
     if (is_other)
-        return fs_invalid(call, path, "it is no regular file");
+        return fs_invalid(call, path, "it is not a regular file");
     if (file < 0)
         return fs_refused(call, path, -file);
     enum fs_status status = copy_out(call, path, file);
@@ -120,7 +120,7 @@ enum fs_status fs_readlink(const struct fs_call *call)
     struct stat about;
     int flags = call->flags | INROOT_NOFOLLOW;
     if (length == -EINVAL && inroot_stat(call->root, call->words[0], &about, flags) == 0 && !S_ISLNK(about.st_mode))
-        return fs_invalid(call, call->words[0], "it is no link");
+        return fs_invalid(call, call->words[0], "it is not a link");
     if (length < 0)
         return fs_refused(call, call->words[0], (int)-length);
     fs_print_line(call, text, (size_t)length < sizeof text ? (size_t)length : sizeof text);

@@ -29,7 +29,7 @@ static const char help[] =
     "  mkdir PATH           make a directory\n"
     "  mknod PATH KIND [MAJOR MINOR]\n"
     "                       make a file (f), a FIFO (p), a socket (s) or a device (c, b)\n"
-    "  chmod MODE PATH      change the mode of what is no link, in octal\n"
+    "  chmod MODE PATH      change the mode of anything but a link, in octal\n"
     "  chown OWNER PATH     change the owner: UID, UID:GID or :GID, in numbers\n"
     "  rm PATH              remove a non-directory\n"
     "  rmdir PATH           remove an empty directory\n"

@@ -28,7 +28,7 @@ struct fs_call {
 /* inroot-fs.c */
 /* Tells on standard error that the call on this path was answered by this error, and gives FS_REFUSED. */
 enum fs_status fs_refused(const struct fs_call *call, const char *path, int error);
-/* Tells EINVAL in these words, as that it is no regular file, and gives FS_REFUSED. */
+/* Tells EINVAL in these words, as that it is not a regular file, and gives FS_REFUSED. */
 enum fs_status fs_invalid(const struct fs_call *call, const char *path, const char *why);
 /* Tells what is wrong with the command line, about this word where there is one, and gives FS_WRONG_CALL. */
 enum fs_status fs_wrong_call(const char *what, const char *word);

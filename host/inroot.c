@@ -117,11 +117,9 @@ int inroot_mkdir(int root, const char *path, mode_t mode, int flags)
 
 int inroot_mknod(int root, const char *path, mode_t mode, dev_t dev, int flags)
 {
-    mode_t kind = mode & S_IFMT;
-    bool is_device = kind == S_IFCHR || kind == S_IFBLK;
-    if (!is_device && (dev != 0 || (kind != S_IFREG && kind != S_IFIFO && kind != S_IFSOCK)))
+    if (!inroot_is_node(mode, dev))
         return inroot_error_alone(EINVAL, "", path);
-    return make(root, INROOT_ASK_MKFILE, path, kind, mode & ~(mode_t)S_IFMT, dev, flags);
+    return make(root, INROOT_ASK_MKFILE, path, mode & S_IFMT, mode & ~(mode_t)S_IFMT, dev, flags);
 }
 
 int inroot_symlink(int root, const char *text, const char *path, int flags)

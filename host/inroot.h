@@ -1,9 +1,9 @@
 /*
- * inroot.h: paths below a directory, resolved by single directory steps (see docs/HOST.md).
+ * inroot.h: paths below a directory, resolved by single directory steps: libinroot(7), and docs/HOST.md of the sources.
  *
  * Each call walks a path as openat2(2) does with RESOLVE_IN_ROOT, where `..` at the root and an absolute link stay
  * inside, and then acts on the directory that it found, by its open descriptor. A proved library decides which step
- * comes next and what each answer means; this program makes the steps, which are system calls.
+ * comes next and what each answer means. A driver in C, which is tested and not proved, makes the steps: system calls.
  *
  * ROOT is a descriptor of the directory (O_PATH is enough). Or it is INROOT_JAIL in a thread that inroot_jail() has
  * moved below a root. Or it is a number of inroot_at_begin(), by which paths begin at a directory below the root.
@@ -15,7 +15,7 @@
  * the kernel itself, whoever renames the root or a directory above it.
  *
  * Where there is no openat2(2), before Linux 5.6 or by a filter, the text alone tells. Then the calls promise nothing
- * where the root or a directory above it is renamed meanwhile, unless in a jail. There, an object that is no
+ * where the root or a directory above it is renamed meanwhile, unless in a jail. There, an object that isn't a
  * directory and is moved out of the root, to just the path from the top that it had from the root, is taken for one
  * inside. And where ROOT is a descriptor, each call gives EOPNOTSUPP in a thread whose own root directory isn't that
  * of a mount, as after chroot(2): there the text doesn't tell what is inside from what is outside.
@@ -39,15 +39,18 @@
  *   INROOT_GIVE        of the calls that make an entry: what was made is given by a descriptor
  *   INROOT_DIRECTORY   of inroot_open_parent() alone: PATH may end in a slash
  *   INROOT_BELOW       of inroot_open(), inroot_open_parent(), inroot_openat(), inroot_stat() and EXISTING of
- *                      inroot_link() alone: the last check of what is found is openat2(2)'s with RESOLVE_BENEATH, and
- *                      no text is read for it. What is opened was reached by the path's parts at rising moments and
- *                      stood below the root at that check; at which names is not said
+ *                      inroot_link() alone: the path is walked by one openat2(2) with RESOLVE_IN_ROOT (RESOLVE_BENEATH
+ *                      under INROOT_BENEATH), where that succeeds on the root's own mount, and else by steps, whose last
+ *                      check is openat2(2)'s with RESOLVE_BENEATH. What is opened was reached by the path's parts at
+ *                      rising moments and stood below the root at the last check; at which names is not said
  *
  * INROOT_BELOW says less than a call without it: somebody may have moved the object between the moment when the path
- * led to it and the check, to other names below the root. After `..` the names are asked for as without the flag.
- * Where an entry is made, by O_CREAT, the flag says nothing of the directory in which it is made, which is found as
- * without. Without openat2(2) it changes nothing. What is removed just while the kernel looks it up may be opened, as
- * by openat2(2) itself.
+ * led to it and the check, to other names below the root. And it trusts the kernel with more: nobody is told the texts
+ * of the links through which openat2(2) went, so that it took the steps of a walk of this path is the kernel's word.
+ * Each error is that of the steps, which are made where openat2(2) fails; after `..` they ask for the names as without
+ * the flag. Where an entry is made, by O_CREAT, the flag says nothing of the directory in which it is made, which is
+ * found as without. Without openat2(2) it changes nothing. What is removed just while the kernel looks it up may be
+ * opened, as by openat2(2) itself.
  *
  * INROOT_TRUST_PROC is of inroot_jail_with() and inroot_root_open(), INROOT_ROOT_STAYS of the latter alone.
  * INROOT_NOFOLLOW is also of inroot_open_partial().
@@ -71,14 +74,14 @@
  *
  * Every call gives -errno where it fails, and then leaves no descriptor open. In this order:
  *
- *   EINVAL        a flag that is none, or that the call doesn't have; a MODE that is none
- *   EBADF         ROOT is no descriptor; INROOT_JAIL in a thread that wasn't moved; a number that was ended
+ *   EINVAL        a flag that is unknown, or that the call doesn't take; a MODE with bits that it doesn't take
+ *   EBADF         ROOT isn't a descriptor; INROOT_JAIL in a thread that wasn't moved; a number that was ended
  *   ENOTDIR       ROOT isn't a directory
  *   EOPNOTSUPP    there is no openat2(2), ROOT is a descriptor, and the thread's root directory isn't that of a mount
  *   ENOMEM        no memory for the call, here or at any step
  *   ENOENT        PATH is empty
  *   ENAMETOOLONG  PATH is longer than 4,095 bytes
- *   EINVAL        the last part of PATH is no name where an entry is changed, as `.`, `..` or none
+ *   EINVAL        the last part of PATH isn't a name where an entry is changed, as `.`, `..` or none
  *   ENOTDIR       a slash at the end of PATH, where a non-directory is made or removed
  *   ENAMETOOLONG  the last name is longer than 255 bytes, where an entry is changed
  *   EXDEV         the path leads out of the root, under INROOT_BENEATH; or to another mount, under INROOT_NO_XDEV
@@ -163,7 +166,7 @@ enum { INROOT_PLAIN = 0, INROOT_NOREPLACE = 1, INROOT_EXCHANGE = 2, INROOT_WHITE
  * PROC is a descriptor of the topmost directory of a proc(5): the calls ask that one in place of /proc. The call may
  * be made once, and before the first other call, which opens /proc otherwise. PROC may be closed afterwards.
  *
- * Gives 0; -EBADF where PROC is no descriptor, -EINVAL where it is of another file system, -EMFILE, -EBUSY where
+ * Gives 0; -EBADF where PROC isn't a descriptor, -EINVAL where it is of another file system, -EMFILE, -EBUSY where
  * there is one already. The call doesn't check whether PROC is the topmost directory: later calls give ENOSYS where
  * it isn't.
  */
@@ -191,7 +194,7 @@ int inroot_use_private_proc(void);
  * Leave alone in such a thread, and in each that it makes: the root directory, by chroot(2), pivot_root(2) or
  * setns(2). A thread that it makes shares that with it, and isn't a moved one: it gives a descriptor as ROOT.
  *
- * Gives 0; -EBUSY in a thread that was moved already, -EBADF or -ENOTDIR where ROOT is no descriptor of a directory,
+ * Gives 0; -EBUSY in a thread that was moved already, -EBADF or -ENOTDIR where ROOT isn't a descriptor of a directory,
  * -EPERM without the capability, -ENOSYS without /proc, -EMFILE, -ENOMEM, -EACCES where ROOT may not be searched.
  * After an error the thread is as before. Only where chroot(2) itself was refused, as by a security module, its
  * current directory, still the same, is its own from there on.
@@ -256,19 +259,20 @@ int inroot_root_fd(const struct inroot_root *root);
 void inroot_root_close(struct inroot_root *root);
 
 /*
- * Gives a number that calls take in place of ROOT, so that their paths begin at the directory DIR below ROOT. ROOT stays
- * the root: `..` and absolute links stop there, and a path that begins with a slash begins there. DIR is a descriptor of
- * a directory that was found below ROOT (O_PATH is enough); both stay open until inroot_at_end(). Any thread with the
- * same table of descriptors may use the number. ROOT may be INROOT_JAIL, or such a number: then it is that one's root.
+ * Gives a number that calls take in place of ROOT, so that their paths begin at the directory DIR below ROOT. ROOT
+ * stays the root: `..` and absolute links stop there, and a path that begins with a slash begins there. DIR is a
+ * descriptor of a directory that was found below ROOT (O_PATH is enough); both stay open until inroot_at_end(). Any
+ * thread with the same table of descriptors may use the number. ROOT may be INROOT_JAIL, or such a number: then it is
+ * that one's root.
  *
- * Each call asks anew where DIR stands, by both witnesses, and then walks from the root by these names, whose last one is
- * DIR itself, and by its path. So it begins at DIR, wherever that was moved to below the root. Where DIR was removed it
- * gives ENOENT, and where it stands outside EAGAIN at each try. The names and the path together have at most 4,095
- * bytes: ENAMETOOLONG beyond. These errors come behind those of ROOT. Such a call takes memory.
+ * Each call asks anew where DIR stands, by both witnesses, and then walks from the root by these names, whose last
+ * one is DIR itself, and by its path. So it begins at DIR, wherever that was moved to below the root. Where DIR was
+ * removed it gives ENOENT, and where it stands outside EAGAIN at each try. The names and the path together have at
+ * most 4,095 bytes: ENAMETOOLONG beyond. These errors come behind those of ROOT. Such a call takes memory.
  *
- * Gives 0, and the number, which is below -4,095; -EBADF or -ENOTDIR where ROOT or DIR is no descriptor of a directory,
- * ROOT's first; -EMFILE where a program has INROOT_ATS numbers. Then *AT is -1. inroot_at_end() gives a number back,
- * after all calls that were given it: 0, or -EBADF where it is none. It closes neither ROOT nor DIR.
+ * Gives 0, and the number, which is below -4,095; -EBADF or -ENOTDIR where ROOT or DIR isn't a descriptor of a
+ * directory, ROOT's first; -EMFILE where a program has INROOT_ATS numbers. Then *AT is -1. inroot_at_end() gives a
+ * number back, after all calls that were given it: 0, or -EBADF where it is none. It closes neither ROOT nor DIR.
  */
 enum { INROOT_ATS = 1024 };
 int inroot_at_begin(int root, int dir, int *at);
@@ -276,14 +280,14 @@ int inroot_at_end(int at);
 
 /*
  * Why the thread's last call failed. STEP is the last step that it made, by its name in docs/HOST.md, or empty where
- * it failed before the first; to its steps come `Reopen`, which opens for use, `Stat`, `Attribute`, which changes what
- * was found, and `Give`, which opens what was made. NAME is the name that the step was about, or empty. REST is what
- * was left of PATH then, where links were replaced by their texts: it begins with NAME where that could not be opened
- * or made. AT is where the walk had come to: the names below the root that it went by, with a slash before each, or a
- * slash of the root itself. Others may have moved these since. It is empty where no step was made, or the names are
- * longer than 4,095 bytes. Of a rename, and of a tree that is removed, both are empty. The texts end with a NUL, and are
- * cut off where they don't fit. A later version may tell more in what is reserved here, which is zero: the structure
- * doesn't get larger while the library's soname stays.
+ * it failed before the first; to its steps come `Reopen`, which opens for use, `Stat`, `Attribute`, which changes
+ * what was found, and `Give`, which opens what was made. NAME is the name that the step was about, or empty. REST is
+ * what was left of PATH then, where links were replaced by their texts: it begins with NAME where that could not be
+ * opened or made. AT is where the walk had come to: the names below the root that it went by, with a slash before
+ * each, or a slash of the root itself. Others may have moved these since. It is empty where no step was made, or the
+ * names are longer than 4,095 bytes. Of a rename, and of a tree that is removed, both are empty. The texts end with a
+ * NUL, and are cut off where they don't fit. A later version may tell more in what is reserved here, which is zero:
+ * the structure doesn't get larger while the library's soname stays.
  */
 struct inroot_error {
     int error;          /* its number, as ENOENT */
@@ -307,20 +311,21 @@ int inroot_last_error(struct inroot_error *error);
 int inroot_open(int root, const char *path, int flags);
 
 /*
- * Opens the directory in which the entry of PATH stands or is to be made, as the calls that change an entry walk to it, and
- * tells the entry's name, of at most 255 bytes and a NUL. For system calls that the library doesn't make: give them this
- * descriptor and this name, and see to it that they follow no link there. Gives a descriptor as inroot_open() does. A
- * slash at the end of PATH is refused by ENOTDIR, or under INROOT_DIRECTORY taken away. After an error the name is empty.
+ * Opens the directory in which the entry of PATH stands or is to be made, as the calls that change an entry walk to
+ * it, and tells the entry's name, of at most 255 bytes and a NUL. For system calls that the library doesn't make:
+ * give them this descriptor and this name, and see to it that they follow no link there. Gives a descriptor as
+ * inroot_open() does. A slash at the end of PATH is refused by ENOTDIR, or under INROOT_DIRECTORY taken away. After
+ * an error the name is empty.
  */
 int inroot_open_parent(int root, const char *path, int flags, char last[256]);
 
 /*
- * Opens as much of PATH as is there. Where all of it is there, gives what inroot_open() gives, and REST is empty. Else it
- * gives the directory that the longest beginning of PATH means that leads to one, and writes what is left to REST, with a
- * NUL: the first name of that isn't there, or stands for no directory where one is asked for, or is a link that leads to
- * what is missing. A part of PATH is tried by ENOENT and ENOTDIR alone; every other error is the call's. ERANGE where
- * REST doesn't fit into SIZE bytes, behind all others. Several walks may be made, so what the descriptor is of and what
- * is left were seen at moments of the call, one after another.
+ * Opens as much of PATH as is there. Where all of it is there, gives what inroot_open() gives, and REST is empty.
+ * Else it gives the directory that the longest beginning of PATH means that leads to one, and writes what is left to
+ * REST, with a NUL: the first name of that isn't there, or stands for no directory where one is asked for, or is a
+ * link that leads to what is missing. A part of PATH is tried by ENOENT and ENOTDIR alone; every other error is the
+ * call's. ERANGE where REST doesn't fit into SIZE bytes, behind all others. Several walks may be made, so what the
+ * descriptor is of and what is left were seen at moments of the call, one after another.
  */
 int inroot_open_partial(int root, const char *path, int flags, char *rest, size_t size);
 
@@ -384,7 +389,7 @@ int inroot_stat(int root, const char *path, struct stat *about, int flags);
 
 /*
  * Reads the text of the link at the end of PATH (readlinkat(2)). Gives its length in bytes, and writes as much of it
- * as fits into SIZE bytes, without a NUL. EINVAL where it is no link.
+ * as fits into SIZE bytes, without a NUL. EINVAL where it isn't a link.
  */
 ssize_t inroot_readlink(int root, const char *path, int flags, char *text, size_t size);
 
@@ -394,7 +399,7 @@ ssize_t inroot_readlink(int root, const char *path, int flags, char *text, size_
  * and 0 all. It takes one descriptor for each level and less than 10 kilobytes, and reads a directory in pieces.
  *
  * inroot_walk_open() gives 0 and the walk; or -errno, and *WALK is NULL: EINVAL where LEVELS is negative, what
- * inroot_open() gives with FLAGS, of which INROOT_NOFOLLOW is of PATH alone, ENOTDIR where it is no directory, EACCES
+ * inroot_open() gives with FLAGS, of which INROOT_NOFOLLOW is of PATH alone, ENOTDIR where it isn't a directory, EACCES
  * where it may not be read. ROOT stays open until the walk is closed; and with INROOT_JAIL the same thread goes on.
  *
  * inroot_walk_next() gives 1 and an ENTRY; 0 behind the last; or -errno where the rest of a directory's entries isn't
@@ -465,14 +470,14 @@ ssize_t inroot_flistxattr(int fd, char *names, size_t size);
 int inroot_fremovexattr(int fd, const char *name);
 
 /*
- * The calls that make an entry, from here to inroot_link_fd(), give 0. Under INROOT_GIVE they give a descriptor of what
- * they made (O_PATH and O_CLOEXEC), for its owner, mode, times and attributes. They open it by its name, in the
+ * The calls that make an entry, from here to inroot_link_fd(), give 0. Under INROOT_GIVE they give a descriptor of
+ * what they made (O_PATH and O_CLOEXEC), for its owner, mode, times and attributes. They open it by its name, in the
  * directory in which they made it and through no link, and look at it. A file, or what got a second name, is just the
- * one that was made; a link has the text, a device its number, and all have the kind. Who may rename in that directory
- * may have put another directory, FIFO, socket, link or device of just that kind there meanwhile: this is given then, and
- * is one that stood there. Else, where the entry was moved, removed or replaced, the call gives EAGAIN and isn't tried
- * again: the entry was made. So it was where EMFILE, ENFILE or ENOMEM come from this opening, or EACCES. The step of
- * such an error is `Give`.
+ * one that was made; a link has the text, a device its number, and all have the kind. Who may rename in that
+ * directory may have put another directory, FIFO, socket, link or device of just that kind there meanwhile: this is
+ * given then, and is one that stood there. Else, where the entry was moved, removed or replaced, the call gives
+ * EAGAIN and isn't tried again: the entry was made. So it was where EMFILE, ENFILE or ENOMEM come from this opening,
+ * or EACCES. The step of such an error is `Give`.
  */
 
 /*

@@ -40,7 +40,7 @@ static int ask(const struct making *m, enum inroot_op op, const char *path, mode
 /* Others came in between: whether it is tried again, 0, or -EAGAIN. */
 static int again(struct making *m)
 {
-    return inroot_again(++m->tries, m->flags) ? 0 : inroot_error_alone(EAGAIN, "MakeDir", m->text);
+    return inroot_again(++m->tries, m->flags, -EAGAIN, false) ? 0 : inroot_error_alone(EAGAIN, "MakeDir", m->text);
 }
 
 /* The directory from which the path goes on. It takes the descriptor over. */

@@ -23,7 +23,8 @@ static struct inroot_result names(void)
 
 /* Which object it is, while it is open; by which mount, where the kernel tells that; and how many names it has. */
 struct which {
-    uint64_t device, inode, mount, links;
+    struct inroot_object object;
+    uint64_t links;
     mode_t mode;
 };
 
@@ -36,9 +37,9 @@ static bool find_which(int fd, const char *name, struct which *which)
     struct statx more;
     if (statx(fd, name, how | AT_STATX_DONT_SYNC, STATX_TYPE | STATX_INO | STATX_NLINK | STATX_MNT_ID, &more) == 0) {
         *which = (struct which){
-            .device = (uint64_t)more.stx_dev_major << 32 | more.stx_dev_minor,
-            .inode = more.stx_ino,
-            .mount = more.stx_mnt_id,
+            .object.device = (uint64_t)more.stx_dev_major << 32 | more.stx_dev_minor,
+            .object.inode = more.stx_ino,
+            .object.mount = more.stx_mnt_id,
             .links = more.stx_nlink,
             .mode = more.stx_mode,
         };
@@ -48,7 +49,7 @@ static bool find_which(int fd, const char *name, struct which *which)
     if (name[0] == 0 ? fstat(fd, &about) != 0 : fstatat(fd, name, &about, how) != 0)
         return false;
     *which = (struct which){
-        .device = about.st_dev, .inode = about.st_ino, .links = about.st_nlink, .mode = about.st_mode,
+        .object.device = about.st_dev, .object.inode = about.st_ino, .links = about.st_nlink, .mode = about.st_mode,
     };
     return true;
 }
@@ -58,8 +59,8 @@ bool inroot_is_entry(int dir, const char *name, int fd, enum inroot_kind *kind)
     struct which a, b;
     if (!find_which(fd, "", &a) || !find_which(dir, name, &b))
         return false;
-    *kind = S_ISDIR(a.mode) ? INROOT_KIND_DIR : S_ISLNK(a.mode) ? INROOT_KIND_LINK : INROOT_KIND_FILE;
-    return a.device == b.device && a.inode == b.inode && a.mount == b.mount;
+    *kind = inroot_kind_of(a.mode);
+    return inroot_is_same_object(&a.object, &b.object, false);
 }
 
 /* Where the root was mounted over itself since it was opened, `..` leads to it by that mount. */
@@ -69,13 +70,7 @@ static bool is_same(int fd, int other, bool is_root, uint64_t *links)
     if (!find_which(fd, "", &a) || !find_which(other, "", &b))
         return false;
     *links = b.links;
-    return a.device == b.device && a.inode == b.inode && (is_root || a.mount == b.mount);
-}
-
-/* Whether the look-up failed for its names: others have moved or changed something. */
-static bool is_elsewhere(int error)
-{
-    return error == ENOENT || error == ENOTDIR || error == ELOOP || error == EXDEV || error == EACCES || error == EAGAIN;
+    return inroot_is_same_object(&a.object, &b.object, is_root);
 }
 
 /*
@@ -88,7 +83,7 @@ static int agrees(struct inroot_driver *d, int root, struct inroot_slot *slot, c
     bool is_root = text[1] == 0;
     int found = inroot_look_up(d, root, is_root ? "." : text + 1, O_NOFOLLOW, RESOLVE_BENEATH);
     if (found < 0)
-        return is_elsewhere(errno) ? 0 : -1;
+        return inroot_is_elsewhere((uint32_t)errno) ? 0 : -1;
     bool same = is_same(slot->fd, found, is_root, links);
     close(same ? slot->fd : found);
     if (same)

@@ -107,7 +107,7 @@ ssize_t inroot_remove_tree(int root, const struct inroot_request *asked, char *r
         /* What others removed meanwhile isn't this call's. */
         if (result >= 0 && removed == 0)
             result = -EAGAIN;
-        if (result < 0 && (result != -EAGAIN || !inroot_again(tries, asked->flags))) {
+        if (result < 0 && !inroot_again(tries, asked->flags, result, false)) {
             /* The last proved call may have been one of those that went deeper, for a request of its own. */
             d.asked = asked;
             inroot_error_of(&d, (int)-result);

@@ -1,8 +1,8 @@
 /*
  * runs.c: names of a path that follow one another are passed by one openat2(2), which follows no link. Where it
- * succeeds, each of them stood in the one before it, at moments in their order; so the single opens that the proved
- * call asks for one after another are answered by it. All but the last are told as directories without a
- * descriptor. docs/HOST-WHY.md has the argument.
+ * succeeds, each of them stood in the one before it, at moments in their order. So the proved call is told that all but
+ * the last part were passed as directories, and the step that is due behind them is answered by what was opened. The call
+ * counts the names that it was due to open, and no others. docs/HOST-WHY.md has the argument.
  */
 #define _GNU_SOURCE
 #include "driver.h"
@@ -14,7 +14,7 @@
 #include <sys/stat.h>
 #include <unistd.h>
 
-/* Names as one text, and where they end in what is left of the path. `..` may follow on the last. */
+/* Names as one text, and where it ends in what is left of the path. `..` may follow on the last. */
 struct spelled {
     int count;
     bool up;
@@ -22,62 +22,40 @@ struct spelled {
     char text[INROOT_TEXT_MAX];
 };
 
-/* Where begins what is added: behind a slash. */
-static size_t next_at(const struct spelled *run)
+/* Adds a part behind a slash, where it fits with a NUL. */
+static bool append(struct spelled *run, const char *part, size_t length)
 {
-    return run->used > 0 && run->text[run->used - 1] != '/' ? run->used + 1 : run->used;
-}
-
-/* Adds what fits with a NUL. */
-static void append(struct spelled *run, const char *names, size_t length)
-{
-    size_t at = next_at(run);
-    if (at > run->used)
+    size_t at = run->used > 0 ? run->used + 1 : 0;
+    if (at + length >= sizeof run->text)
+        return false;
+    if (at > 0)
         run->text[run->used] = '/';
-    memcpy(run->text + at, names, length);
+    memcpy(run->text + at, part, length);
     run->used = at + length;
     run->text[run->used] = 0;
+    return true;
 }
 
-/* Adds names from there on, with one slash between each two: at most so many, and while they fit. Gives where they end. */
-static size_t append_names(const struct inroot_ahead *a, size_t from, int most, struct spelled *run)
-{
-    size_t end = from, begins = next_at(run);
-    for (size_t at = from; at < a->until && run->count < most; at = end + 1) {
-        if (a->text[at] == '/' || inroot_ahead_dots(a, at) > 0)
-            break;
-        const char *slash = memchr(a->text + at, '/', a->end - at);
-        size_t behind = slash == NULL ? a->end : (size_t)(slash - a->text);
-        if (begins + (behind - from) >= sizeof run->text)
-            break;
-        run->count++;
-        end = behind;
-    }
-    if (end > from)
-        append(run, a->text + from, end - from);
-    return end;
-}
-
-/* At most so many names from the next one on, over any `.` between them. */
+/* At most so many names from the next one on, over any `.` between them, and while they fit. */
 static void spell(const struct inroot_ahead *a, int most, struct spelled *run)
 {
+    size_t length;
     run->count = 0;
     run->up = false;
     run->used = run->ends = 0;
-    for (size_t at = inroot_ahead_skip(a, a->at); at < a->until && run->count < most; at = inroot_ahead_skip(a, at)) {
+    for (size_t at = inroot_ahead_skip(a, a->at); at < a->until && run->count < most; at = inroot_ahead_skip(a, at + length)) {
+        const char *part = a->text + at;
         size_t dots = inroot_ahead_dots(a, at);
-        if (dots == 2) {
-            run->up = run->count > 0 && next_at(run) + dots < sizeof run->text;
-            if (run->up)
-                append(run, "..", dots);
+        length = (size_t)(strchrnul(part, '/') - part);
+        if (dots == 1)
+            continue;
+        if ((dots == 2 && run->count == 0) || !append(run, part, length))
             return;
-        }
-        size_t end = dots == 1 ? at + 1 : append_names(a, at, most, run);
-        if (end == at)
+        run->ends = at + length;
+        run->up = dots == 2;
+        if (run->up)
             return;
-        if (dots == 0)
-            run->ends = end;
-        at = end;
+        run->count++;
     }
 }
 
@@ -147,11 +125,7 @@ static bool pass(struct inroot_driver *d, uint64_t handle, int dir, const struct
     d->run.fd = inroot_look_up(d, dir, spelled->text, flags, resolve);
     if (d->run.fd < 0)
         return false;
-    d->run.at = handle;
-    d->run.way = way;
-    d->run.left = spelled->count;
-    d->run.up = spelled->up;
-    d->run.placed = false;
+    d->run.way = spelled->up ? INROOT_BY_PARENT : way;
     d->run.passed = stands_at(d, handle, spelled);
     d->run.kind = flags & O_DIRECTORY ? INROOT_KIND_DIR : INROOT_KIND_FILE;
     if (is_kind_left_out(d, handle, dir) || find_kind(&d->run, flags, spelled->up))
@@ -191,7 +165,7 @@ static int first_link(struct inroot_driver *d, uint64_t handle, const struct spe
 {
     const struct inroot_ahead *a = &d->ahead;
     int first = inroot_hints_first(d, handle, run->text, run->up ? run->used - 3 : run->used);
-    bool is_meant_itself = first == run->count - 1 && a->link_may_end && inroot_ahead_is_end(a, run->ends);
+    bool is_meant_itself = first == run->count - 1 && a->link_may_end && !run->up && inroot_ahead_is_end(a, run->ends);
     return is_meant_itself ? -1 : first;
 }
 
@@ -223,11 +197,7 @@ static bool pass_from_root(struct inroot_driver *d, uint64_t handle, int dir, co
         fewer(&d->ahead, 1, errno);
         return false;
     }
-    run->at = handle;
     run->way = INROOT_SEEN_BELOW;
-    run->left = 1;
-    run->up = false;
-    run->placed = false;
     if (inroot_is_entry(dir, spelled->text, run->fd, &run->kind))
         return true;
     inroot_run_drop(d);
@@ -235,20 +205,18 @@ static bool pass_from_root(struct inroot_driver *d, uint64_t handle, int dir, co
 }
 
 /* Passes as many names as it can, and whether there were any: one alone where the kernel is to see it below the root. */
-static bool begin(struct inroot_driver *d, uint64_t handle, int dir)
+static bool begin(struct inroot_driver *d, uint64_t handle, int dir, struct spelled *spelled)
 {
-    struct spelled spelled;
-    struct inroot_ahead *a = &d->ahead;
     int most = most_of(d);
     while (most > 0) {
-        spell_to_link(d, handle, most, &spelled);
-        enum inroot_way way = way_of(d, handle, &spelled);
-        bool is_alone = spelled.count < 2 && !spelled.up;
-        if (is_alone && (spelled.count == 0 || way != INROOT_SEEN_BELOW))
-            return spelled.count == 1 && pass_from_root(d, handle, dir, &spelled);
-        if (pass(d, handle, dir, &spelled, way))
+        spell_to_link(d, handle, most, spelled);
+        enum inroot_way way = way_of(d, handle, spelled);
+        bool is_alone = spelled->count < 2 && !spelled->up;
+        if (is_alone && (spelled->count == 0 || way != INROOT_SEEN_BELOW))
+            return spelled->count == 1 && pass_from_root(d, handle, dir, spelled);
+        if (pass(d, handle, dir, spelled, way))
             return true;
-        most = fewer(a, spelled.count, errno);
+        most = fewer(&d->ahead, spelled->count, errno);
     }
     return false;
 }
@@ -260,7 +228,7 @@ static bool is_whole(const struct inroot_ahead *a, const struct spelled *run)
     return run->count > 0 && !run->up && run->ends == a->end && slash + run->used == a->end;
 }
 
-bool inroot_run_whole(struct inroot_driver *d, int root)
+bool inroot_run_whole(struct inroot_driver *d, int root, int failed)
 {
     struct spelled spelled;
     if (d->asked->flags & INROOT_ONE_BY_ONE || !d->ahead.known)
@@ -268,69 +236,83 @@ bool inroot_run_whole(struct inroot_driver *d, int root)
     spell(&d->ahead, INROOT_TEXT_MAX, &spelled);
     if (!is_whole(&d->ahead, &spelled) || first_link(d, 0, &spelled) >= 0)
         return false;
-    if (pass(d, 0, root, &spelled, INROOT_SEEN_BELOW))
+    if (failed == 0 && pass(d, 0, root, &spelled, INROOT_SEEN_BELOW))
         return true;
-    d->tried_error = errno;
+    d->tried_error = failed ? failed : errno;
     d->tried = spelled.count;
     return false;
 }
 
-bool inroot_run_begin(struct inroot_driver *d, uint64_t handle)
+bool inroot_run_begin(struct inroot_driver *d, struct inroot_told *told, char *room, struct inroot_result *result)
 {
     int dir;
-    bool is_single = d->asked->flags & INROOT_ONE_BY_ONE || d->ahead.makes || !inroot_has_openat2();
-    if (is_single || !inroot_handles_reserve(d) || inroot_handles_fd(d, handle, &dir) != 0)
+    struct spelled spelled;
+    struct inroot_ahead *a = &d->ahead;
+    bool is_single = d->asked->flags & INROOT_ONE_BY_ONE || a->makes || !inroot_has_openat2();
+    if (is_single || !inroot_handles_reserve(d) || inroot_handles_fd(d, told->handle, &dir) != 0)
         return false;
-    return begin(d, handle, dir);
+    if (!begin(d, told->handle, dir, &spelled))
+        return false;
+    a->at = spelled.ends;
+    a->bad -= a->bad < spelled.count ? a->bad : spelled.count;
+    *result = inroot_run_tell(d, told, room, spelled.text, (size_t)(spelled.up ? spelled.count : spelled.count - 1));
+    return true;
 }
 
-/* Tells the next name of the run, which is so long. There is room for its handle. */
-static inline struct inroot_result tell(struct inroot_driver *d, size_t length)
+/* Whether the step that is due is the Open of this part in a directory, or the Parent of it where the part is `..`. */
+static bool is_due(const struct inroot_told *told, const char *room, uint64_t dir, const char *part, size_t length)
+{
+    if (told->handle != dir || !told->whole)
+        return false;
+    if (length == 2 && memcmp(part, "..", 2) == 0)
+        return told->what == INROOT_STEP_PARENT;
+    return told->what == INROOT_STEP_OPEN && told->first == length && memcmp(room, part, length) == 0;
+}
+
+/* Tells the call that a name was passed as a directory. Gives its handle, or zero where the name isn't due. */
+static uint64_t pass_one(struct inroot_driver *d, struct inroot_told *told, char *room, const char *name, size_t length)
+{
+    uint64_t dir = told->handle, number = inroot_handles_passed(d);
+    if (!is_due(told, room, dir, name, length))
+        return 0;
+    inroot_answer(d, inroot_opened(number, INROOT_KIND_DIR), "", 0, told, room);
+    if (told->what == INROOT_STEP_CLOSE && told->handle == dir)
+        inroot_answer(d, inroot_handles_close(d, dir), "", 0, told, room);
+    return number;
+}
+
+/* The same of several names, a slash between each two: the last one's handle, or zero where not all of them are due. */
+static uint64_t pass_names(struct inroot_driver *d, struct inroot_told *told, char *room, const char *text, size_t length,
+                           size_t names)
+{
+    struct inroot_ran ran;
+    uint64_t number = inroot_handles_passed(d);
+    inroot_pass_names(d->kept, (const unsigned char *)text, length, number, told, (unsigned char *)room, INROOT_ROOM, &ran);
+    if (ran.shut)
+        inroot_handles_close(d, ran.dir);
+    return ran.names == names ? number + names - 1 : 0;
+}
+
+struct inroot_result inroot_run_tell(struct inroot_driver *d, struct inroot_told *told, char *room, const char *parts,
+                                     size_t names)
 {
     struct inroot_run *run = &d->run;
-    int fd = INROOT_PASSED;
-    enum inroot_kind kind = INROOT_KIND_DIR;
-    enum inroot_way way = INROOT_BY_NAME;
-    inroot_ahead_pass(&d->ahead, length);
-    if (--run->left == 0 && !run->up) {
-        fd = run->fd;
-        kind = run->kind;
-        way = run->way;
-        run->fd = INROOT_NONE;
+    const uint64_t from = told->handle;
+    const char *last = names > 0 ? strrchr(parts, '/') + 1 : parts;
+    size_t before = names > 0 ? (size_t)(last - parts) - 1 : 0;
+    uint64_t dir = from;
+    /* A single one takes less time by itself. */
+    if (names > 0)
+        dir = names == 1 ? pass_one(d, told, room, parts, before) : pass_names(d, told, room, parts, before, names);
+    if (!is_due(told, room, dir, last, strlen(last)) || !inroot_handles_reserve(d)) {
+        inroot_run_drop(d);
+        return (struct inroot_result){0};
     }
-    run->at = inroot_handles_put(d, fd, kind, way, run->at);
-    if (run->placed && run->left == 0)
-        d->from.told = run->at;
-    if (run->left == 0 && !run->up)
-        inroot_passed_end(d, run->at, run->passed);
-    return inroot_opened(run->at, kind);
-}
-
-struct inroot_result inroot_run_first(struct inroot_driver *d, size_t length)
-{
-    return tell(d, length);
-}
-
-struct inroot_result inroot_run_next(struct inroot_driver *d, const struct inroot_told *step, const char *name)
-{
-    bool foreseen = inroot_ahead_is(&d->ahead, name, step->first);
-    if (foreseen)
-        inroot_error_note_next(d, step->first);
-    else
-        inroot_error_note(d, step, name);
-    if (foreseen && inroot_handles_reserve(d))
-        return tell(d, step->first);
-    /* What isn't foreseen can't be opened from a directory that was only passed. */
-    inroot_run_drop(d);
-    return inroot_unmade(d, ENOMEM);
-}
-
-struct inroot_result inroot_run_up(struct inroot_driver *d, uint64_t child)
-{
-    uint64_t handle = inroot_handles_put(d, d->run.fd, INROOT_KIND_DIR, INROOT_BY_PARENT, child);
-    inroot_passed_end(d, handle, d->run.passed);
-    d->run.fd = INROOT_NONE;
-    return inroot_opened(handle, INROOT_KIND_DIR);
+    inroot_error_note(d, told, room);
+    uint64_t handle = inroot_handles_put(d, run->fd, run->kind, run->way, from);
+    inroot_passed_end(d, handle, run->passed);
+    run->fd = INROOT_NONE;
+    return inroot_opened(handle, run->kind);
 }
 
 void inroot_run_drop(struct inroot_driver *d)

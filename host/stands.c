@@ -11,13 +11,6 @@
 /* How often it is asked, where it stands outside at once or is moved meanwhile. */
 enum { QUESTIONS = 8 };
 
-static enum inroot_kind kind_of(const struct stat *about)
-{
-    if (S_ISDIR(about->st_mode))
-        return INROOT_KIND_DIR;
-    return S_ISLNK(about->st_mode) ? INROOT_KIND_LINK : INROOT_KIND_FILE;
-}
-
 /*
  * In a jail without openat2(2) the text of what is no directory may be that from the top of what is outside. No look-up in that
  * thread leads out of its root.
@@ -36,7 +29,7 @@ static bool is_there(struct inroot_driver *d, int root, const struct stat *about
 static ssize_t ask(struct inroot_driver *d, int root, const struct stat *about, char *room)
 {
     size_t length;
-    struct inroot_slot slot = {.kind = (uint8_t)kind_of(about), .way = INROOT_BY_NAME, .above = -1};
+    struct inroot_slot slot = {.kind = inroot_kind_of(about->st_mode), .way = INROOT_BY_NAME, .above = -1};
     slot.fd = fcntl(d->asked->object, F_DUPFD_CLOEXEC, 0);
     if (slot.fd < 0)
         return -errno;

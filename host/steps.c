@@ -92,8 +92,7 @@ static struct inroot_result open_any(struct inroot_driver *d, uint64_t dir, cons
         close(fd);
         return inroot_unmade(d, error);
     }
-    enum inroot_kind other = S_ISLNK(about.st_mode) ? INROOT_KIND_LINK : INROOT_KIND_FILE;
-    return opened(d, fd, S_ISDIR(about.st_mode) ? INROOT_KIND_DIR : other, INROOT_BY_NAME, dir);
+    return opened(d, fd, inroot_kind_of(about.st_mode), INROOT_BY_NAME, dir);
 }
 
 /*
@@ -156,22 +155,19 @@ static struct inroot_result open_alone(struct inroot_driver *d, const struct inr
 }
 
 /* Opens the next name of the path, with names behind it if it can; or another name. */
-static struct inroot_result open_next(struct inroot_driver *d, const struct inroot_told *step, const char *name, char *text)
+static struct inroot_result open_next(struct inroot_driver *d, struct inroot_told *step, char *name, char *text)
 {
-    struct inroot_result link;
+    struct inroot_result result;
     bool foreseen = inroot_ahead_is(&d->ahead, name, step->first);
-    inroot_run_drop(d);
     if (!foreseen) {
         inroot_error_note(d, step, name);
         return open_alone(d, step, name, false);
     }
     inroot_error_note_next(d, step->first);
-    if (inroot_followed_open(d, step, name, text, false, &link))
-        return link;
-    if (inroot_run_begin(d, step->handle))
-        return inroot_run_first(d, step->first);
+    if (inroot_followed_open(d, step, name, text, false, &result) || inroot_run_begin(d, step, name, &result))
+        return result;
     /* Where that has met a link, it may be this one. */
-    return inroot_followed_open(d, step, name, text, true, &link) ? link : open_alone(d, step, name, true);
+    return inroot_followed_open(d, step, name, text, true, &result) ? result : open_alone(d, step, name, true);
 }
 
 /*
@@ -255,17 +251,6 @@ static struct inroot_result open_parent(struct inroot_driver *d, uint64_t handle
         return inroot_refused(d, ENOENT);
     }
     return result;
-}
-
-/* Opens the directory above the last name of a run. This ends the run. */
-static struct inroot_result go_up(struct inroot_driver *d, uint64_t child)
-{
-    if (!inroot_handles_reserve(d)) {
-        inroot_run_drop(d);
-        return inroot_unmade(d, ENOMEM);
-    }
-    inroot_ahead_pass_up(&d->ahead);
-    return inroot_run_up(d, child);
 }
 
 /* ---- other steps */
@@ -439,15 +424,12 @@ static struct inroot_result name_below(struct inroot_driver *d, const struct inr
 static struct inroot_result make_other(struct inroot_driver *d, const struct inroot_told *step, const char *room, char *text,
                                        size_t *length)
 {
-    bool goes_on = inroot_run_goes_on(d, step);
     inroot_error_note(d, step, room);
-    if (!goes_on)
-        inroot_run_drop(d);
     switch (step->what) {
     case INROOT_STEP_DUP:
         return open_root(d, step->handle);
     case INROOT_STEP_PARENT:
-        return goes_on ? go_up(d, step->handle) : open_parent(d, step->handle);
+        return open_parent(d, step->handle);
     case INROOT_STEP_READLINK:
         return read_link(d, step->handle, text, length);
     case INROOT_STEP_NAME_BELOW:
@@ -459,12 +441,21 @@ static struct inroot_result make_other(struct inroot_driver *d, const struct inr
     }
 }
 
-struct inroot_result inroot_make(struct inroot_driver *d, const struct inroot_told *step, const char *room, char *text,
-                                 size_t *length)
+/* Whether a step needs a descriptor that isn't there. By its name another directory could be opened. */
+static bool is_only_passed(const struct inroot_driver *d, const struct inroot_told *step)
+{
+    bool is_link = step->what == INROOT_STEP_READLINK && step->handle == d->link;
+    bool has_other = step->what == INROOT_STEP_RENAME && inroot_handles_is_passed(step->other);
+    return has_other || (inroot_handles_is_passed(step->handle) && !is_link);
+}
+
+struct inroot_result inroot_make(struct inroot_driver *d, struct inroot_told *step, char *room, char *text, size_t *length)
 {
     /* Only a link's text can be too long for the room. */
     if (!step->whole)
         return inroot_unmade(d, ENAMETOOLONG);
+    if (is_only_passed(d, step))
+        return inroot_unmade(d, ENOMEM);
     if (step->what != INROOT_STEP_NAME_BELOW)
         d->placed = d->from.told = 0;
     if (step->what != INROOT_STEP_READLINK && step->what != INROOT_STEP_PARENT)

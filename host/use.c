@@ -9,97 +9,63 @@
 #include <sys/stat.h>
 #include <unistd.h>
 
-enum {
-    ALWAYS = O_CLOEXEC | O_NOCTTY,
-    ACCESS = O_RDONLY | O_WRONLY | O_RDWR,
-    FOR_USE = ACCESS | O_TRUNC | O_APPEND | O_DIRECTORY | O_NONBLOCK | O_SYNC | O_DSYNC | O_DIRECT | O_NOATIME |
-              O_LARGEFILE | ALWAYS,
-    FOR_PATH = O_PATH | O_DIRECTORY | ALWAYS,
-    MODE_BITS = 07777,
-    LINKS = 40,
+enum { LINKS = 40 };
+
+/* The proved library has the numbers of open(2)'s flags, but for these four, which differ between machines. */
+static const struct inroot_machine_flags machine = {
+    .directory = O_DIRECTORY, .nofollow = O_NOFOLLOW, .direct = O_DIRECT, .largefile = O_LARGEFILE,
 };
+_Static_assert(O_RDONLY == 0 && O_WRONLY == 01 && O_RDWR == 02 && O_CREAT == 0100 && O_EXCL == 0200 && O_NOCTTY == 0400 &&
+               O_TRUNC == 01000 && O_APPEND == 02000 && O_NONBLOCK == 04000 && O_DSYNC == 010000 && O_NOATIME == 01000000 &&
+               O_CLOEXEC == 02000000 && O_SYNC == 04010000 && O_PATH == 010000000 && O_TMPFILE == (020000000 | O_DIRECTORY),
+               "the numbers of crates/system_calls");
 
 /* What is to be opened, and how; FLAGS are the call's. */
 struct use {
     const char *path;
-    int how, flags;
+    int flags;
     mode_t mode;
+    struct inroot_opening how;
 };
-
-static bool is_nameless(int how)
-{
-    return (how & O_TMPFILE) == O_TMPFILE;
-}
-
-/* Whether the same object may be opened once more with these flags. */
-static bool reopens(int how)
-{
-    if (how & O_PATH)
-        return !(how & ~FOR_PATH);
-    return !(how & ~FOR_USE) && (how & ACCESS) != (O_WRONLY | O_RDWR);
-}
-
-static bool opens(int how, mode_t mode)
-{
-    bool creates = how & O_CREAT, is_new = creates || is_nameless(how);
-    int rest = how & ~(O_CREAT | O_EXCL | O_NOFOLLOW);
-    if (is_nameless(how))
-        rest &= ~(O_TMPFILE & ~O_DIRECTORY);
-    if (!reopens(rest) || (is_nameless(how) && how & O_PATH) || (how & O_EXCL && !is_new))
-        return false;
-    if (creates && how & O_DIRECTORY)
-        return false;
-    if (is_nameless(how) && (how & ACCESS) == O_RDONLY)
-        return false;
-    return mode == 0 || (is_new && !(mode & ~(mode_t)MODE_BITS));
-}
 
 /* ---- what is found */
 
-/* The kind is asked for where opening by it, or handing it out, doesn't tell. */
 static int find(int root, const struct use *use, enum inroot_kind *kind)
 {
-    bool needs_kind = use->how & (O_CREAT | O_DIRECTORY);
     const struct inroot_request asked = {
-        .op = use->how & O_NOFOLLOW ? INROOT_ASK_RESOLVE_NOFOLLOW : INROOT_ASK_RESOLVE,
+        .op = use->how.follows ? INROOT_ASK_RESOLVE : INROOT_ASK_RESOLVE_NOFOLLOW,
         .flags = use->flags,
         .first = use->path,
         .second = "",
-        .directory = use->how & O_DIRECTORY,
-        .opened = needs_kind ? kind : NULL,
+        .directory = use->how.directory,
+        .opened = use->how.asks_kind ? kind : NULL,
     };
     return inroot_carry_out_alone(root, &asked);
 }
 
 static ssize_t open_by_name(int proc, const char *name, void *how)
 {
-    return openat(proc, name, *(const int *)how | ALWAYS);
+    return openat(proc, name, *(const int *)how);
 }
 
-static int reopened(int fd, int how)
+static int reopened(int fd, uint32_t flags)
 {
+    int how = (int)flags;
     return (int)inroot_by_proc(fd, open_by_name, &how);
-}
-
-/* Whether an object of that kind may be opened so, where opening doesn't tell: 0 or -errno. */
-static int fits(enum inroot_kind kind, int how)
-{
-    if (how & O_CREAT)
-        return kind == INROOT_KIND_DIR ? -EISDIR : 0;
-    return how & O_PATH && how & O_DIRECTORY && kind != INROOT_KIND_DIR ? -ENOTDIR : 0;
 }
 
 /* Opens by the descriptor that was found; it is that one where nothing is to be read or written. */
 static int use_found(int fd, enum inroot_kind kind, const struct use *use)
 {
-    int failed = fits(kind, use->how);
-    if (failed)
-        return failed;
-    if (use->how & O_PATH)
+    const struct inroot_opening *how = &use->how;
+    int error = kind == INROOT_KIND_DIR ? how->directory_error : how->other_error;
+    if (error)
+        return -error;
+    if (how->by_path)
         return fd;
-    if (!is_nameless(use->how))
-        return reopened(fd, use->how & ~(O_CREAT | O_NOFOLLOW));
-    int made = openat(fd, ".", (use->how & ~O_NOFOLLOW) | ALWAYS, use->mode);
+    if (!how->nameless)
+        return reopened(fd, how->found_flags);
+    int made = openat(fd, ".", (int)how->found_flags, use->mode);
     return made < 0 ? -errno : made;
 }
 
@@ -119,7 +85,7 @@ static int open_found(int root, const struct use *use)
 
 static int create(int root, const struct use *use)
 {
-    const bool is_path = use->how & O_PATH;
+    const bool is_path = use->how.by_path;
     const struct inroot_request asked = {
         .op = INROOT_ASK_MKFILE,
         .flags = use->flags & ~INROOT_BELOW,
@@ -128,7 +94,7 @@ static int create(int root, const struct use *use)
         .makes = is_path ? INROOT_MAKES_NEW : INROOT_MAKES_OPEN,
         .bits = (is_path ? S_IFREG : 0) | use->mode,
         .gives = is_path,
-        .open_flags = use->how | O_CREAT | O_EXCL | O_NOFOLLOW | ALWAYS,
+        .open_flags = (int)use->how.made_flags,
     };
     return inroot_carry_out_alone(root, &asked);
 }
@@ -170,13 +136,13 @@ static bool in_between(ssize_t followed)
 static int open_or_create(int root, struct use use)
 {
     char path[INROOT_TEXT_MAX];
-    const bool follows = !(use.how & O_NOFOLLOW) && !(use.flags & INROOT_NO_LINKS);
+    const bool follows = use.how.follows && !(use.flags & INROOT_NO_LINKS);
     bool is_again = false;
     for (int tries = 1, links = 0;;) {
         int fd = open_found(root, &use);
         if (fd != -ENOENT)
             return fd;
-        if (is_again && !inroot_again(tries++, use.flags))
+        if (is_again && !inroot_again(tries++, use.flags, -EAGAIN, false))
             return inroot_error_alone(EAGAIN, "MakeFile", use.path);
         fd = create(root, &use);
         if (fd != -EEXIST)
@@ -196,19 +162,20 @@ static int open_or_create(int root, struct use use)
 
 static int open_by(int root, const struct use *use)
 {
-    if (!(use->how & O_CREAT))
+    if (!use->how.makes)
         return open_found(root, use);
-    return use->how & O_EXCL ? create(root, use) : open_or_create(root, *use);
+    return use->how.finds ? open_or_create(root, *use) : create(root, use);
 }
 
 int inroot_openat(int root, const char *path, int open_flags, mode_t mode, int flags)
 {
     int state;
     char text[INROOT_TEXT_MAX + 1];
-    const struct use use = {.path = text, .how = open_flags, .flags = flags, .mode = mode};
+    struct use use = {.path = text, .flags = flags, .mode = mode};
     inroot_copy(text, path);
-    if (!opens(open_flags, mode))
-        return inroot_error_alone(EINVAL, "", text);
+    inroot_opening_of(&machine, (uint32_t)open_flags, mode, &use.how);
+    if (use.how.error)
+        return inroot_error_alone(use.how.error, "", text);
     pthread_setcancelstate(PTHREAD_CANCEL_DISABLE, &state);
     int result = open_by(root, &use);
     pthread_setcancelstate(state, NULL);
@@ -218,12 +185,13 @@ int inroot_openat(int root, const char *path, int open_flags, mode_t mode, int f
 int inroot_reopen(int fd, int open_flags)
 {
     int state;
-    if (!reopens(open_flags))
+    uint32_t how = inroot_reopen_flags(&machine, (uint32_t)open_flags);
+    if (how == 0)
         return inroot_error_alone(EINVAL, "", "");
     if (fcntl(fd, F_GETFD) < 0)
         return inroot_error_alone(EBADF, "", "");
     pthread_setcancelstate(PTHREAD_CANCEL_DISABLE, &state);
-    int result = reopened(fd, open_flags);
+    int result = reopened(fd, how);
     pthread_setcancelstate(state, NULL);
     return result < 0 ? inroot_error_alone(-result, "Reopen", "") : result;
 }
@@ -233,8 +201,8 @@ int inroot_stat(int root, const char *path, struct stat *about, int flags)
     int state;
     const struct use use = {
         .path = path,
-        .how = flags & INROOT_NOFOLLOW ? O_NOFOLLOW : 0,
         .flags = flags & ~INROOT_NOFOLLOW,
+        .how.follows = !(flags & INROOT_NOFOLLOW),
     };
     pthread_setcancelstate(PTHREAD_CANCEL_DISABLE, &state);
     int fd = find(root, &use, NULL);

@@ -94,7 +94,7 @@ static int open_next(struct inroot_walk *walk, const char *name)
             return fd;
         if (fd >= 0)
             close(fd);
-        if (failed == -ESTALE && inroot_again(tries, walk->flags))
+        if (failed == -ESTALE && inroot_again(tries, walk->flags, -EAGAIN, false))
             continue;
         if (failed != -ESTALE && failed != -EAGAIN)
             return failed;

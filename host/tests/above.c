@@ -54,9 +54,14 @@ ssize_t __wrap_readlinkat(int dir, const char *name, char *text, size_t size)
     return __real_readlinkat(dir, name, text, size);
 }
 
+/* The kernel walks no path through links, as where somebody renames anything meanwhile: the steps do it, also with INROOT_BELOW. */
 static long my_syscall(long number, const long *with)
 {
     const struct open_how *how = number == SYS_openat2 ? (const struct open_how *)with[2] : NULL;
+    if (how != NULL && !(how->resolve & RESOLVE_NO_SYMLINKS)) {
+        errno = EAGAIN;
+        return -1;
+    }
     if (moment == AT_LOOK && how != NULL && how->resolve & RESOLVE_BENEATH && how->flags & O_DIRECTORY)
         act_now();
     return REAL_SYSCALL(number, with);

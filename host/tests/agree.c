@@ -1,5 +1,6 @@
 /*
- * agree: inroot_open() beside openat2(2) on random trees that stand still, half of the cases by /proc and half in a jail.
+ * agree: inroot_open() beside openat2(2) on random trees that stand still, half of the cases by /proc and half in a jail, and half of
+ * them with INROOT_BELOW.
  *
  * usage: agree DIR CASES. Exits 0 where each case agrees: the same object, or the same error. 77: no openat2(2)
  * here. 78: no right to change a root.
@@ -102,7 +103,7 @@ static int same_object(int a, int b)
 static int agrees(int root, int asked)
 {
     char path[256];
-    int flags = (int)pick(&state, 8);
+    int flags = (int)pick(&state, 8) | (pick(&state, 2) ? INROOT_BELOW : 0);
     random_path(path, PARTS);
     int wanted = by_kernel(root, path, flags), got = inroot_open(asked, path, flags);
     int same = wanted < 0 || got < 0 ? wanted == got : same_object(wanted, got);

@@ -462,9 +462,66 @@ static void openings_at_once(void)
     opens_long(5000, 200, false, false);
 }
 
-/* ---- a path taken apart */
-
 #define TEXT_OF(path) path, sizeof path - 1
+
+/* ---- what the kernel may walk as a whole */
+
+struct walking {
+    bool wanted;
+    uint8_t op;
+    bool beneath, no_links;
+    const char *path;
+    size_t path_length;
+};
+
+static const struct walking walkings[] = {
+    {true, 1, false, false, TEXT_OF("a/b/f")}, {true, 2, false, false, TEXT_OF("a/b/f")}, {true, 1, false, false, TEXT_OF("/a")},
+    {true, 1, true, false, TEXT_OF("a/../b/.")}, {false, 1, true, false, TEXT_OF("/a")}, {false, 2, true, false, TEXT_OF("//a")},
+    {true, 2, true, false, TEXT_OF("a//")}, {true, 1, false, false, TEXT_OF("..")}, {true, 1, false, false, TEXT_OF("/")},
+    {true, 2, false, false, TEXT_OF("\xff/\x01")}, {false, 1, false, true, TEXT_OF("a/b/f")}, {false, 2, true, true, TEXT_OF("a")},
+    {false, 0, false, false, TEXT_OF("a")}, {false, 3, false, false, TEXT_OF("a")}, {false, 4, false, false, TEXT_OF("a")},
+    {false, 10, false, false, TEXT_OF("a")}, {false, 11, false, false, TEXT_OF("a")}, {false, 255, false, false, TEXT_OF("a")},
+    {false, 1, false, false, TEXT_OF("")}, {false, 1, false, false, TEXT_OF("a\0b")}, {false, 1, false, false, TEXT_OF("\0")},
+};
+
+static void walks(const struct walking *with)
+{
+    const struct inroot_asked asked = {.root = ROOT, .op = with->op, .beneath = with->beneath, .no_links = with->no_links};
+    rows++;
+    if (inroot_follows_at_once(&asked, (const unsigned char *)with->path, with->path_length) == with->wanted)
+        return;
+    wrong++;
+    printf("not so: operation %u, beneath %u, no links %u, %.20s of %zu bytes: walked at once is to be %u\n", with->op, with->beneath,
+           with->no_links, with->path, with->path_length, with->wanted);
+}
+
+/* A path of so many bytes, whose parts have so many each, but for a shorter last one. */
+static void walks_long(size_t length, size_t part, bool wanted)
+{
+    static char path[8192];
+    memset(path, 'n', sizeof path);
+    for (size_t at = part; at < length; at += part + 1)
+        path[at] = '/';
+    const struct walking with = {.wanted = wanted, .op = INROOT_ASK_RESOLVE, .path = path, .path_length = length};
+    walks(&with);
+}
+
+static void walked_at_once(void)
+{
+    for (size_t at = 0; at < sizeof walkings / sizeof *walkings; at++)
+        walks(&walkings[at]);
+    walks_long(255, 255, true);
+    walks_long(256, 256, false);
+    walks_long(256, 255, true);
+    walks_long(512, 255, true);
+    walks_long(513, 256, false);
+    walks_long(4095, 255, true);
+    walks_long(4095, 0, true);
+    walks_long(4096, 200, false);
+    walks_long(5000, 1, false);
+}
+
+/* ---- a path taken apart */
 
 static const struct {
     const char *path;
@@ -594,6 +651,7 @@ int main(void)
             converses(&changes[at], size);
     }
     openings_at_once();
+    walked_at_once();
     paths_taken_apart();
     errors();
     printf("conversations: %u of %u rows not as they are to be\n", wrong, rows);

@@ -28,12 +28,18 @@ static int by_kernel(int root, const char *path, int flags)
     return fd < 0 ? -errno : (int)fd;
 }
 
-/* What both give: an error, or 0 where something was opened. */
-static void both(int root, const char *path, int kernel, int here)
+/* What each gives: an error, or 0 where something was opened. */
+static void each(int root, const char *path, int kernel, int here, int below)
 {
-    int one = by_kernel(root, path, O_PATH), other = inroot_open(root, path, 0);
+    int one = by_kernel(root, path, O_PATH), other = inroot_open(root, path, 0), third = inroot_open(root, path, INROOT_BELOW);
     gives((one < 0 ? one : 0), kernel, "%s by openat2(2)", path);
     gives((other < 0 ? other : 0), here, "%s by inroot_open()", path);
+    gives((third < 0 ? third : 0), below, "%s by inroot_open() with INROOT_BELOW", path);
+}
+
+static void both(int root, const char *path, int kernel, int here)
+{
+    each(root, path, kernel, here, here);
 }
 
 static void links(void)
@@ -110,7 +116,8 @@ static void deep(void)
     for (int at = 0; at < 15; at++)
         strcat(strcat(path, at > 0 ? "/" : ""), name);
     int half = sure(inroot_open(root, path, 0), "half of the way");
-    both(half, path, 0, -ENAMETOOLONG);
+    /* The last check alone asks for no path. */
+    each(half, path, 0, -ENAMETOOLONG, 0);
     gives(inroot_remove_all(root, name, 0), 31, "what is deeper than a path is long");
 }
 

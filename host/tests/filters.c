@@ -26,7 +26,7 @@ static void is_file(int fd, const char *what)
 
 static void each(int at)
 {
-    static const int flags[] = {0, INROOT_ONE_BY_ONE, INROOT_NO_XDEV, INROOT_NO_XDEV | INROOT_ONE_BY_ONE};
+    static const int flags[] = {0, INROOT_ONE_BY_ONE, INROOT_NO_XDEV, INROOT_NO_XDEV | INROOT_ONE_BY_ONE, INROOT_BELOW};
     for (size_t one = 0; one < sizeof flags / sizeof *flags; one++) {
         is_file(inroot_open(at, "a/f", flags[one]), "plain names");
         is_file(inroot_open(at, "a/../l", flags[one]), "a link");

@@ -173,6 +173,27 @@ static void at_once(const struct inroot_asked *asked, uint8_t kind, const unsign
     free(own);
 }
 
+/* Whether each part of a path is short enough for a name. */
+static bool has_short_parts(const unsigned char *path, size_t length)
+{
+    size_t part = 0;
+    for (size_t at = 0; at < length; at++) {
+        part = path[at] == '/' ? 0 : part + 1;
+        if (part > NAME_MAX)
+            return false;
+    }
+    return true;
+}
+
+/* The path as the kernel may walk it. */
+static void walked(const struct inroot_asked *asked, const unsigned char *path, size_t length)
+{
+    bool resolves = asked->op == INROOT_ASK_RESOLVE || asked->op == INROOT_ASK_RESOLVE_NOFOLLOW;
+    bool is_path = length >= 1 && length < PATH_MAX && memchr(path, 0, length) == NULL && has_short_parts(path, length);
+    bool may = resolves && is_path && !asked->no_links && !(asked->beneath && path[0] == '/');
+    MUST(inroot_follows_at_once(asked, path, length) == may);
+}
+
 int LLVMFuzzerTestOneInput(const uint8_t *data, size_t size)
 {
     static const size_t rooms[] = {ROOM, ROOM, ROOM, 0, 1, 2, 16, 300};
@@ -189,6 +210,7 @@ int LLVMFuzzerTestOneInput(const uint8_t *data, size_t size)
         abort();
     open_count = 0;
     at_once(&asked, (uint8_t)(flags / 32), first, first_length, second, second_length);
+    walked(&asked, first, first_length);
     inroot_begin(&asked, first, first_length, second, second_length, &kept, &told, room, room_size);
     converse(&in, &kept, &told, room, room_size);
     MUST(told.what <= INROOT_REPLY_FAULT);

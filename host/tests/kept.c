@@ -3,10 +3,12 @@
  * alone (INROOT_BELOW): what is opened is what openat2(2) opens in the root, whoever breaks a promise; and links that are
  * others by now than the hints say.
  *
- * usage: kept DIR. Exits 0 where that holds. 77: no openat2(2) here. To be linked with --wrap=readlinkat.
+ * usage: kept DIR. Exits 0 where that holds. 77: no openat2(2) here. To be linked with --wrap=readlinkat and --wrap=syscall.
  */
 #define _GNU_SOURCE
+#include "../openat2.h"
 #include "support.h"
+#include "wraps.h"
 
 #include <pthread.h>
 #include <sched.h>
@@ -20,9 +22,6 @@ static char where[4096];
 static bool has_read_table;
 static void (*act)(void);
 
-ssize_t __real_readlinkat(int dir, const char *name, char *text, size_t size);
-ssize_t __wrap_readlinkat(int dir, const char *name, char *text, size_t size);
-
 ssize_t __wrap_readlinkat(int dir, const char *name, char *text, size_t size)
 {
     ssize_t got = __real_readlinkat(dir, name, text, size);
@@ -34,6 +33,20 @@ ssize_t __wrap_readlinkat(int dir, const char *name, char *text, size_t size)
     }
     return got;
 }
+
+/* The kernel walks no path through links, as where somebody renames anything meanwhile: the steps do it. */
+static bool walks_none;
+
+static long my_syscall(long number, const long *with)
+{
+    const struct open_how *how = number == SYS_openat2 ? (const struct open_how *)with[2] : NULL;
+    if (!walks_none || how == NULL || how->resolve & RESOLVE_NO_SYMLINKS)
+        return REAL_SYSCALL(number, with);
+    errno = EAGAIN;
+    return -1;
+}
+
+INSTEAD_OF_SYSCALL(my_syscall)
 
 static int made_directory(int dir, const char *name)
 {
@@ -74,7 +87,7 @@ static int by_kernel(const char *path, int flags)
     int fd;
     /* While others rename anywhere, the kernel may give that of a path with `..`. */
     do
-        fd = (int)syscall(SYS_openat2, box, path, &how, sizeof how);
+        fd = (int)__real_syscall(SYS_openat2, box, path, &how, sizeof how);
     while (fd < 0 && errno == EAGAIN);
     return fd < 0 ? -errno : fd;
 }
@@ -199,6 +212,8 @@ static void after_close(void)
 static void each_kind(void)
 {
     const int both = INROOT_ROOT_STAYS | INROOT_TRUST_PROC;
+    /* The kernel's walk asks for no place. */
+    const int reads = both | INROOT_BELOW;
     for (int kind = 0; kind < KINDS; kind++) {
         char what[64];
         int before = open_descriptors();
@@ -206,7 +221,7 @@ static void each_kind(void)
         snprintf(what, sizeof what, "a root kept by %d", kinds[kind]);
         has_read_table = false;
         compare_all(what, inroot_root_fd(kept), 0, false);
-        expect(has_read_table == ((kinds[kind] & both) == both), "%s: the table is read: %d", what, has_read_table);
+        expect(has_read_table == ((kinds[kind] & reads) == both), "%s: the table is read: %d", what, has_read_table);
         moved(kept, what);
         forked = inroot_root_fd(kept);
         apart(in_child);
@@ -258,6 +273,9 @@ static void calls_below(void)
     struct stat about;
     char text[16];
     compare_all("INROOT_BELOW", box, INROOT_BELOW, false);
+    walks_none = true;
+    compare_all("INROOT_BELOW, by steps", box, INROOT_BELOW, false);
+    walks_none = false;
     compare_all("INROOT_BELOW, one by one", box, INROOT_BELOW | INROOT_ONE_BY_ONE, false);
     gives(inroot_stat(box, "a/b/next", &about, INROOT_BELOW), 0, "inroot_stat");
     for (int turn = 0; turn < 2; turn++) {
@@ -337,6 +355,7 @@ static void directory_in_between(void)
     static const int flags[] = {0, INROOT_BELOW};
     int other = sure(openat(box, "a", O_PATH | O_DIRECTORY | O_CLOEXEC), "a"), c = made_directory(other, "c");
     sure(mknodat(c, "f", S_IFREG | 0600, 0), "f");
+    walks_none = true;
     for (int one = 0; one < 2; one++) {
         act = exchange_directories;
         int got = inroot_open(box, "a/b/next", flags[one] | INROOT_NO_RETRY);
@@ -346,6 +365,7 @@ static void directory_in_between(void)
             close(got);
         exchange_directories();
     }
+    walks_none = false;
     close(other);
     close(c);
 }

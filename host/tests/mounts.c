@@ -118,23 +118,29 @@ static int by_the_kernel(const char *path)
     return fd < 0 ? -errno : fd;
 }
 
-static void opens(const char *path)
+static void opens_by(const char *path, int flags)
 {
     struct stat one = {0}, other = {0};
     /* Without the flag first: the library then knows which names are links. */
-    int free = inroot_open(at, path, INROOT_NO_RETRY | more_flags);
+    int free = inroot_open(at, path, INROOT_NO_RETRY | flags);
     if (free >= 0)
         close(free);
-    int wanted = by_the_kernel(path), got = inroot_open(at, path, FLAGS | more_flags);
+    int wanted = by_the_kernel(path), got = inroot_open(at, path, FLAGS | flags);
     bool same = wanted < 0 ? got == wanted
                            : got >= 0 && fstat(got, &one) == 0 && fstat(wanted, &other) == 0 &&
                                  one.st_ino == other.st_ino && one.st_dev == other.st_dev;
-    expect(same, "%s, flags %d%s: wanted what openat2(2) gives, %d, got %d", path, more_flags, is_old ? ", without openat2(2)" : "",
+    expect(same, "%s, flags %d%s: wanted what openat2(2) gives, %d, got %d", path, flags, is_old ? ", without openat2(2)" : "",
            wanted, got);
     if (wanted >= 0)
         close(wanted);
     if (got >= 0)
         close(got);
+}
+
+static void opens(const char *path)
+{
+    opens_by(path, more_flags);
+    opens_by(path, more_flags | INROOT_BELOW);
 }
 
 /* ---- what is changed */
@@ -262,8 +268,9 @@ static void without(void)
 
 static void not_followed(const char *path, int wanted)
 {
-    for (int way = 0; way < 2; way++) {
-        int fd = inroot_open(at, path, way == 0 ? 0 : INROOT_ONE_BY_ONE);
+    static const int ways[] = {0, INROOT_ONE_BY_ONE, INROOT_BELOW};
+    for (size_t way = 0; way < sizeof ways / sizeof *ways; way++) {
+        int fd = inroot_open(at, path, ways[way]);
         is_refused(fd < 0 ? fd : 0, wanted, path);
         if (fd >= 0)
             close(fd);

@@ -38,9 +38,13 @@ struct resolver {
     unsigned long opened, escaped, raced, failed;
 };
 
-/* Paths that lead to `secret` or above the root only where `..` leads out of it; and two of names alone, opened at once. */
+/*
+ * Paths that lead to `secret` or above the root only where `..` leads out of it; two of names alone, opened at once; and by links whose
+ * texts have what those paths have.
+ */
 static const char *const paths[] = {
     "a/b/c/../../secret", "a/b/../secret", "a/b/c/../../../secret", "a/b/c/d/../../..", "a/b/c/../f", "a/b/f", "a/b/c/d",
+    "down/../../secret", "down/d/../../..", "down/up", "a/b/c/out", "down/d", "down/f",
 };
 enum { PATHS = sizeof paths / sizeof *paths };
 
@@ -67,6 +71,17 @@ static int by_proc_singly(const char *path)
 static int by_jail_singly(const char *path)
 {
     return inroot_open(INROOT_JAIL, path, INROOT_ONE_BY_ONE);
+}
+
+/* By the kernel's own walk of the whole path. */
+static int by_proc_below(const char *path)
+{
+    return inroot_open(root, path, INROOT_BELOW);
+}
+
+static int by_jail_below(const char *path)
+{
+    return inroot_open(INROOT_JAIL, path, INROOT_BELOW | INROOT_NO_RETRY);
 }
 
 static int by_kernel(const char *path)
@@ -140,6 +155,10 @@ static void make_tree(void)
         sure(mkdirat(base, dirs[at], 0755), dirs[at]);
     sure(mknodat(base, "out/secret", S_IFREG | 0600, 0), "out/secret");
     sure(mknodat(base, "root/a/b/f", S_IFREG | 0600, 0), "root/a/b/f");
+    sure(symlinkat("/a/b/c", base, "root/down"), "root/down");
+    sure(symlinkat("../f", base, "root/a/b/c/f"), "root/a/b/c/f");
+    sure(symlinkat("d/../../../secret", base, "root/a/b/c/out"), "root/a/b/c/out");
+    sure(symlinkat("../..", base, "root/a/b/c/up"), "root/a/b/c/up");
     root = sure(openat(base, "root", O_PATH | O_DIRECTORY | O_CLOEXEC), "root");
     out = sure(openat(base, "out", O_PATH | O_DIRECTORY | O_CLOEXEC), "out");
     sure(fstat(base, &outside[0]), "fstat");
@@ -155,10 +174,12 @@ int main(int count, char **words)
         {.name = "inroot_open by /proc", .resolve = by_proc},
         {.name = "inroot_open in a jail, name by name", .resolve = by_jail_singly, .jailed = true},
         {.name = "inroot_open by /proc, name by name", .resolve = by_proc_singly},
+        {.name = "inroot_open by /proc, INROOT_BELOW", .resolve = by_proc_below},
+        {.name = "inroot_open in a jail, INROOT_BELOW", .resolve = by_jail_below, .jailed = true},
         {.name = "openat2", .resolve = by_kernel},
         {.name = "a walk without a check", .resolve = unchecked, .control = true},
     };
-    enum { THREADS = sizeof resolvers / sizeof *resolvers, OURS = 5 };
+    enum { THREADS = sizeof resolvers / sizeof *resolvers, OURS = 7 };
     pthread_t mover, threads[THREADS];
     if (count < 3 || count > 4)
         return 2;

@@ -65,16 +65,18 @@ static void rename_root_too(void)
 
 /* ---- what workers do */
 
-static const int ways[] = {0, INROOT_ONE_BY_ONE, INROOT_NO_RETRY, INROOT_NO_RETRY | INROOT_ONE_BY_ONE};
+static const int ways[] = {
+    0, INROOT_ONE_BY_ONE, INROOT_NO_RETRY, INROOT_NO_RETRY | INROOT_ONE_BY_ONE, INROOT_BELOW, INROOT_BELOW | INROOT_NO_RETRY,
+};
 
 static int resolve(int at, uint64_t *state)
 {
-    int flags = ways[pick(state, 4)];
+    int flags = ways[pick(state, sizeof ways / sizeof *ways)];
     char path[PATH_MAX + 80];
     snprintf(path, sizeof path, "%s%s", pick(state, 2) ? "./" : "", paths[pick(state, PATHS)]);
     switch (pick(state, 16)) {
     case 0: return inroot_openat(at, path, O_WRONLY | O_TRUNC, 0, flags);
-    case 1: return inroot_mkfile(at, paths[TO_NEW], 0600, flags);
+    case 1: return inroot_mkfile(at, paths[TO_NEW], 0600, flags & ~INROOT_BELOW);
     default: return inroot_open(at, path, flags);
     }
 }
