@@ -1,6 +1,16 @@
 mod Numbers
-mod Replayed
+pub mod Replayed
 mod ToldOnes
-mod Unsurveyed
+pub mod Unsurveyed
 mod WholeCalls
 mod Sealing
+mod Settled
+mod PartData
+mod SumText
+pub mod OneLine
+pub mod PartSaid
+pub mod OnePart
+mod Reading
+mod Merged
+mod PartWritten
+mod WhoMight

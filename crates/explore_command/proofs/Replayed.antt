@@ -1,18 +1,16 @@
 -- A full list of turns without its longest tail that rises: a run of it goes on by that tail.
 use Rattle.std.specs.Prelude.{◌≡◌, ◌≢◌, ◌<◌, ◌≤◌, ◌==◌, ◌&&◌, ℕ, ◌+◌, zero, suc, List, [], ◌∷◌, ◌++◌, Bool, true, false, length, Option, Some, None, slice_get, nat_lt, nat_le, if◌then◌else◌, refl}
 use Rattle.std.proofs.Common.{sym, ap, ◌∙◌, subst, arith, eqb-true, eq-eqb}
-use Rattle.std.proofs.lemmas.Bool.{false≢true, true≢false, leb-true, le-leb}
+use Rattle.std.proofs.lemmas.Bool.{false≢true, leb-true, le-leb}
 use Rattle.tree_model.proofs.StepLaws.{slice_get-set_other}
 use Rattle.race_core.specs.declared.seat.Seat.{Seat}
 use Rattle.race_core.specs.Turns.{turned}
-use Rattle.race_core.specs.Worlds.{WorldView, turn, turn_of, is_busy_in, is_busy_at, Runs, again, GoesToEnd, AllGoToEnd, numbers_below, first_beyond, RunsTo}
-use Rattle.explore.specs.declared.limits.Scope.{Scope}
+use Rattle.race_core.specs.Worlds.{WorldView, turn, turn_of, is_busy_in, is_busy_at, Runs, AllGoToEnd, numbers_below, first_beyond}
 use Rattle.explore.specs.Alike.{full, after_turns}
-use Rattle.explore.specs.Explored.{EndingView, IsEnding}
 use Rattle.explore.specs.Search.{IsOver, IsFull}
 use Rattle.explore.proofs.Lists.SearchLaws.{all_over}
 use Rattle.explore.proofs.Lists.Told.{actors_stay}
-use Rattle.outcome_text.specs.Schedule.{begins_to_rise, rises, without_tail}
+use Rattle.outcome_text.specs.Schedule.{rises, without_tail}
 use Rattle.explore_command.specs.Replayed.{WrittenSchedulesLeadThere}
 
 both_left : (a b : Bool) → (a && b) ≡ true → a ≡ true

@@ -18,6 +18,8 @@ told_so asked said survey.TooManyStates why = why
 told_so asked said survey.TooManyTurns why = why
 told_so asked said (survey.NotBusy at) why = why
 told_so asked said (survey.TooManyCuts at) why = why
+told_so asked said (survey.TooMuchMemory most) why = why
+told_so asked said survey.NoGauge why = why
 told_so asked said survey.NoMemory why = why
 
 pub no_survey : (asked : Asked) (said : Said) (tree : State) (fault : SurveyFault) (told : ExploreFault) → tree ≡ tree_of said → told ≡ told_by fault

@@ -1,16 +1,14 @@
 -- In a list without a cut only the last turn's actor may have a call under way.
-use Rattle.std.specs.Prelude.{◌≡◌, ◌≢◌, ◌==◌, ◌&&◌, ℕ, ◌+◌, zero, suc, List, [], ◌∷◌, Bool, true, false, not, Option, Some, None, slice_get, refl}
+use Rattle.std.specs.Prelude.{◌≡◌, ◌≢◌, ◌==◌, ◌&&◌, ℕ, List, [], ◌∷◌, Bool, true, false, not, Option, Some, None, slice_get, refl}
 use Rattle.std.proofs.Common.{sym, ap, ◌∙◌, subst, arith, eqb-true, eq-eqb}
-use Rattle.std.proofs.lemmas.Bool.{false≢true, true≢false}
+use Rattle.std.proofs.lemmas.Bool.{false≢true}
 use Rattle.tree_model.proofs.StepLaws.{slice_get-set_other}
 use Rattle.race_core.specs.declared.seat.Seat.{Seat}
 use Rattle.race_core.specs.Turns.{turned}
 use Rattle.race_core.specs.Worlds.{WorldView, turn, turn_of, is_within_in, is_within_at}
-use Rattle.explore.specs.declared.limits.Scope.{Scope}
 use Rattle.explore.specs.Alike.{full}
-use Rattle.explore.specs.Lists.{plus, is_another, is_within_last, is_cut, cuts_after}
-use Rattle.explore.specs.Explored.{EndingView, IsEnding}
-use Rattle.explore_command.specs.WholeCalls.{NobodyIsWithin, AreWholeCalls, OutcomesWithoutCutsAreOfWholeCalls}
+use Rattle.explore.specs.Lists.{plus, is_cut, cuts_after}
+use Rattle.explore_command.specs.WholeCalls.{AreWholeCalls, OutcomesWithoutCutsAreOfWholeCalls}
 
 none_of : (b : Bool) (n : ℕ) → plus b n ≡ 0 → (b ≡ false) × (n ≡ 0)
 none_of true n e = absurd (omega (arith, e))

@@ -1,5 +1,5 @@
 -- What `inroot explore` writes: the text of what a search of all schedules of a script's world finds.
-use Rattle.std.specs.Prelude.{◌≢◌, ℕ, Bool, List, Option, Result, MatchResult, IsOkAnd, IfSome}
+use Rattle.std.specs.Prelude.{⊤, ◌≢◌, ℕ, Bool, List, Option, None, Result, MatchResult, IsOkAnd, IfSome}
 use Rattle.std.specs.Io.KnownBytes.{Keeps}
 use Rattle.scripts.specs.declared.fault.RunFault.TheVariants.{WriteFailed, NoMemory as OutOfMemory}
 use Rattle.scripts.specs.declared.fault.ScriptFault.{ScriptFault}
@@ -7,10 +7,11 @@ use Rattle.scripts.specs.declared.turns.TurnOrder.TheVariants.{OfScript}
 use Rattle.scripts.specs.Writing.{tree_of, IsNoRun, IsWritingFaultOf, Wrote}
 use Rattle.scripts.specs.Scenario.{Said, said_for}
 use Rattle.outcome_text.specs.declared.fault.ExploreFault.{ExploreFault}
-use Rattle.outcome_text.specs.declared.fault.ExploreFault.TheVariants.{Run, NoSuchActor, NoSuchLine, TooManyStates, TooManyTurns, NotBusy, TooManyCuts}
+use Rattle.outcome_text.specs.declared.fault.ExploreFault.TheVariants.{Run, NoSuchActor, NoSuchLine, TooManyStates, TooManyTurns, NotBusy, TooManyCuts, TooMuchMemory, NoGauge}
 use Rattle.explore_command.specs.declared.search.Asked.{Asked}
 use Rattle.explore_command.specs.declared.search.SurveyFault.{SurveyFault}
 use Rattle.explore_command.specs.declared.search.SurveyFault.TheVariants as survey
+use Rattle.explore_command.specs.Gauge.{SaysMore}
 use Rattle.explore_command.specs.Surveyed.{IsSurvey, WhyNoSurvey}
 
 -- how it is told that there is no survey
@@ -21,6 +22,8 @@ told_by survey.TooManyStates = TooManyStates
 told_by survey.TooManyTurns = TooManyTurns
 told_by (survey.NotBusy at) = NotBusy at
 told_by (survey.TooManyCuts at) = TooManyCuts at
+told_by (survey.TooMuchMemory most) = TooMuchMemory most
+told_by survey.NoGauge = NoGauge
 told_by survey.NoMemory = Run OutOfMemory
 
 -- the text of the survey of what a script says, and whether no property fails
@@ -38,6 +41,15 @@ IsNoSurvey asked said TooManyStates = WhyNoSurvey asked (tree_of said) said.plan
 IsNoSurvey asked said TooManyTurns = WhyNoSurvey asked (tree_of said) said.plans said.lines survey.TooManyTurns
 IsNoSurvey asked said (NotBusy at) = WhyNoSurvey asked (tree_of said) said.plans said.lines (survey.NotBusy at)
 IsNoSurvey asked said (TooManyCuts at) = WhyNoSurvey asked (tree_of said) said.plans said.lines (survey.TooManyCuts at)
+IsNoSurvey asked said (TooMuchMemory most) =
+    WhyNoSurvey asked (tree_of said) said.plans said.lines (survey.TooMuchMemory most)
+IsNoSurvey asked said NoGauge = WhyNoSurvey asked (tree_of said) said.plans said.lines survey.NoGauge
+
+-- what a gauge may say where too much memory was taken
+abbrev pub WhyToldTooMuch : (Option ℕ → Type 0) → ExploreFault → Type 0
+WhyToldTooMuch may_say (TooMuchMemory most) = SaysMore may_say most
+WhyToldTooMuch may_say NoGauge = may_say None
+WhyToldTooMuch may_say other = ⊤
 
 -- a fault of reading, making the world or writing; or there is no survey
 abbrev pub IsExploreFaultOf : Asked → Result Said ScriptFault → ExploreFault → Type 0
@@ -49,6 +61,8 @@ IsExploreFaultOf asked said TooManyStates = IsOkAnd said (λ s. IsNoSurvey asked
 IsExploreFaultOf asked said TooManyTurns = IsOkAnd said (λ s. IsNoSurvey asked s TooManyTurns)
 IsExploreFaultOf asked said (NotBusy at) = IsOkAnd said (λ s. IsNoSurvey asked s (NotBusy at))
 IsExploreFaultOf asked said (TooManyCuts at) = IsOkAnd said (λ s. IsNoSurvey asked s (TooManyCuts at))
+IsExploreFaultOf asked said (TooMuchMemory most) = IsOkAnd said (λ s. IsNoSurvey asked s (TooMuchMemory most))
+IsExploreFaultOf asked said NoGauge = IsOkAnd said (λ s. IsNoSurvey asked s NoGauge)
 
 -- The text of all that is found was written, and nothing else, and the answer is whether no property fails; or it
 -- failed as it should, and but for a writer that failed nothing was written. `known` is what the reader had left.

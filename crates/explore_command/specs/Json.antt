@@ -1,20 +1,13 @@
 -- JSON as it is written: texts and lists.
-use Rattle.std.specs.Prelude.{ℕ, ◌==◌, List, [], ◌∷◌, ◌++◌, if◌then◌else◌, codes, decimal}
+use Rattle.std.specs.Prelude.{ℕ, ◌==◌, List, [], ◌++◌, if◌then◌else◌, codes, decimal}
 use Rattle.std.specs.Global.{Vec}
-use Rattle.std.specs.List.{flat_map}
+use Rattle.std.specs.Str.{encode_utf8_all}
+use Rattle.json.specs.Print.{quoted}
 use Rattle.report_text.specs.Report.{numbered}
 
--- a byte of a text: a quote, a backslash and a newline after a backslash
-abbrev pub byte_words : ℕ → List ℕ
-byte_words b =
-    if b == 34 then codes "\\\""
-    else if b == 92 then codes "\\\\"
-    else if b == 10 then codes "\\n"
-    else b ∷ []
-
--- a text between its quotes
+-- a text between its quotes, as JSON escapes it: each byte as the character with its number
 abbrev pub text_words : List ℕ → List ℕ
-text_words text = codes "\"" ++ (flat_map byte_words text ++ codes "\"")
+text_words text = quoted (encode_utf8_all text)
 
 -- a comma where something comes before
 abbrev pub comma_words : ℕ → List ℕ

@@ -4,8 +4,9 @@ use Rattle.std.specs.Borrow.{Bor}
 use Rattle.std.specs.List.{list_all}
 use Rattle.explore.specs.declared.jobs.Jobs.{Jobs}
 use Rattle.outcome_text.specs.declared.asked.OptionFault.{OptionFault}
-use Rattle.outcome_text.specs.declared.asked.OptionFault.TheVariants.{Actor, Cuts, Begin, States, Jobs as JobsOption, Text, NoMemory}
+use Rattle.outcome_text.specs.declared.asked.OptionFault.TheVariants.{Actor, Cuts, Begin, States, Jobs as JobsOption, Memory, Text, NoMemory}
 use Rattle.outcome_text.specs.declared.asked.Options.{Options}
+use Rattle.explore_command.specs.declared.gauge.TheConstants.{MEMORY_MAX}
 use Rattle.explore_command.specs.declared.options.TheConstants.{CUTS_MAX, STATES_MAX, STATES}
 use Rattle.outcome_text.specs.declared.property.Property.{Property}
 use Rattle.outcome_text.specs.declared.property.Rule.{Rule}
@@ -56,6 +57,13 @@ SaysJobs None (Some jobs) = ⊥
 SaysJobs (Some text) None = ⊥
 SaysJobs (Some text) (Some jobs) = text.now ≡ decimal jobs.count
 
+-- no limit of megabytes, or the one that the text says
+abbrev pub SaysMemory : Option (Bor (List ℕ)) → Option ℕ → Type 0
+SaysMemory None None = ⊤
+SaysMemory None (Some n) = ⊥
+SaysMemory (Some text) None = ⊥
+SaysMemory (Some text) (Some n) = (text.now ≡ decimal n) × (1 ≤ n) × (n ≤ MEMORY_MAX)
+
 -- the usual number, or the one that the text says
 abbrev pub SaysMost : Option (Bor (List ℕ)) → ℕ → Type 0
 SaysMost None n = n ≡ STATES
@@ -89,6 +97,7 @@ pub record AreAsked (options : Options) (asked : Asked) : Type 0 where
   pub states : SaysMost options.states asked.limits.states
   pub turns : asked.limits.turns ≡ TURNS_MAX
   pub jobs : SaysJobs options.jobs asked.jobs
+  pub memory : SaysMemory options.memory asked.memory
   pub outside : asked.limits.scope.outside ≡ options.outside
   pub properties : asked.properties.items ≡ properties_asked options
   pub texts : are_properties options.outside (property_texts options) ≡ true
@@ -112,8 +121,11 @@ IsOptionFault options States =
 IsOptionFault options JobsOption =
     IsSaid (SaysActors options) × IsSaid (SaysCuts options.cuts) × IsSaid (SaysBegin options.begin)
     × IsSaid (SaysMost options.states) × IsUnsaid (SaysJobs options.jobs)
+IsOptionFault options Memory =
+    IsSaid (SaysActors options) × IsSaid (SaysCuts options.cuts) × IsSaid (SaysBegin options.begin)
+    × IsSaid (SaysMost options.states) × IsSaid (SaysJobs options.jobs) × IsUnsaid (SaysMemory options.memory)
 IsOptionFault options Text =
     IsSaid (SaysActors options) × IsSaid (SaysCuts options.cuts) × IsSaid (SaysBegin options.begin)
-    × IsSaid (SaysMost options.states) × IsSaid (SaysJobs options.jobs)
+    × IsSaid (SaysMost options.states) × IsSaid (SaysJobs options.jobs) × IsSaid (SaysMemory options.memory)
     × (are_properties options.outside (property_texts options) ≡ false)
 IsOptionFault options NoMemory = ⊤

@@ -1,5 +1,6 @@
 -- The outcomes of the schedules that begin with some turns.
-use Rattle.std.specs.Prelude.{◌≡◌, ◌⊎◌, ℕ, suc, List, [], length, take}
+use Rattle.std.specs.Prelude.{◌≡◌, ◌<◌, ◌⊎◌, ◌++◌, ℕ, suc, List, [], ◌∷◌, length, take, slice_get, Some}
+use Rattle.std.specs.Global.{Vec}
 use Rattle.explore.specs.declared.limits.Limits.{Limits}
 use Rattle.explore.specs.Explored.{ClassView, IsIdle, IsWithin}
 use Rattle.explore.specs.Lists.{cuts}
@@ -7,16 +8,39 @@ use Rattle.explore.specs.Opened.{opened_world}
 use Rattle.explore.specs.Promise.{IsMerged}
 use Rattle.race_core.specs.declared.plan.ActorPlan.{ActorPlan}
 use Rattle.race_core.specs.Worlds.{WorldView}
+use Rattle.schedule_graph.specs.Counted.{IsAmong}
 use Rattle.tree_model.specs.State.{State}
 use Rattle.outcome_text.specs.declared.part.Part.{Part}
 use Rattle.explore_command.specs.declared.search.Asked.{Asked}
 use Rattle.explore_command.specs.Classes.{AreTold}
 use Rattle.explore_command.specs.Surveyed.{IsOfThese}
 
--- A list can't begin so: one of the turns is of an actor who has nothing left to do then, or is a cut too many.
+-- The turn at that place can't be taken: its actor has nothing left to do then, or it is a cut too many.
+abbrev pub IsBarredAt : WorldView → Limits → List ℕ → ℕ → Type 0
+IsBarredAt w limits begin at =
+    IsIdle w begin at ⊎ (IsWithin limits.scope.cuts (cuts w (take (suc at) begin)) → ⊥)
+
+-- A list can't begin so: one of the turns can't be taken.
 abbrev pub IsBarred : WorldView → Limits → List ℕ → Type 0
-IsBarred w limits begin =
-    (at : ℕ) × (IsIdle w begin at ⊎ (IsWithin limits.scope.cuts (cuts w (take (suc at) begin)) → ⊥))
+IsBarred w limits begin = (at : ℕ) × IsBarredAt w limits begin at
+
+-- ---- who might have had a turn
+
+-- of so many actors each who isn't among these can't have the turn after those
+abbrev pub AreWhoMight : WorldView → Limits → ℕ → List ℕ → List ℕ → Type 0
+AreWhoMight w limits actors turns might =
+    (actor : ℕ) → actor < actors → IsAmong actor might ⊎ IsBarred w limits (turns ++ actor ∷ [])
+
+-- so it is of each of the first turns of a beginning
+abbrev pub AreEachWhoMight : WorldView → Limits → ℕ → List ℕ → List (Vec ℕ) → Type 0
+AreEachWhoMight w limits actors begin all = (at : ℕ) (might : Vec ℕ) → slice_get all at ≡ Some might
+    → AreWhoMight w limits actors (take at begin) might.items
+
+-- so many are all turns of the beginning, or those up to the first that can't be taken
+abbrev pub AreFarEnough : WorldView → Limits → List ℕ → ℕ → Type 0
+AreFarEnough w limits begin turns = (turns ≡ length begin) ⊎ IsBarred w limits (take turns begin)
+
+-- ---- parts
 
 -- so many lists begin so, the longest with so many turns, and the part has all that the text says of each outcome
 pub record HasLists (asked : Asked) (tree : State) (plans : List ActorPlan) (lines : ℕ) (part : Part) : Type 0 where
@@ -34,8 +58,13 @@ abbrev pub IsNone : Asked → State → List ActorPlan → ℕ → Part → Type
 IsNone asked tree plans lines part =
     IsBarred (opened_world tree plans lines) asked.limits asked.limits.scope.begin.items × HasNone part
 
--- it is the part of the lists that begin with the turns that are asked for
+-- It is the part of the lists that begin with the turns that are asked for. Of each of these turns, up to the first
+-- that can't be taken, it leaves out nobody who might have had it.
 pub record IsPart (asked : Asked) (tree : State) (plans : List ActorPlan) (lines : ℕ) (part : Part) : Type 0 where
   pub of_these : IsOfThese asked plans
   pub begin : part.begin.items ≡ asked.limits.scope.begin.items
   pub told : HasLists asked tree plans lines part ⊎ IsNone asked tree plans lines part
+  pub might : AreEachWhoMight (opened_world tree plans lines) asked.limits (length plans)
+      asked.limits.scope.begin.items part.might.items
+  pub far : AreFarEnough (opened_world tree plans lines) asked.limits asked.limits.scope.begin.items
+      (length part.might.items)

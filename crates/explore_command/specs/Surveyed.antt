@@ -9,10 +9,11 @@ use Rattle.race_core.specs.declared.plan.ActorPlan.{ActorPlan}
 use Rattle.tree_model.specs.State.{State}
 use Rattle.explore_command.specs.declared.search.Asked.{Asked}
 use Rattle.explore_command.specs.declared.search.SurveyFault.{SurveyFault}
-use Rattle.explore_command.specs.declared.search.SurveyFault.TheVariants.{NoSuchActor, NoSuchLine, TooManyStates, TooManyTurns, NotBusy, TooManyCuts, NoMemory}
+use Rattle.explore_command.specs.declared.search.SurveyFault.TheVariants.{NoSuchActor, NoSuchLine, TooManyStates, TooManyTurns, NotBusy, TooManyCuts, TooMuchMemory, NoGauge, NoMemory}
 use Rattle.outcome_text.specs.declared.survey.Told.{Told}
 use Rattle.outcome_text.specs.Order.{in_order}
-use Rattle.outcome_text.specs.Conditions.{told_text, told_holds}
+use Rattle.outcome_text.specs.declared.ranked.Survey.{Survey}
+use Rattle.outcome_text.specs.Conditions.{counted, told_text, told_holds}
 use Rattle.explore_command.specs.Classes.{AreTold}
 use Rattle.outcome_text.specs.Tellable.{first_untold}
 
@@ -49,6 +50,16 @@ pub record IsSurvey (asked : Asked) (tree : State) (plans : List ActorPlan) (lin
   pub counted : AreStates (opened_world tree plans lines) asked.limits.scope states
   pub telling : IsTelling asked tree plans classes lists states turns holds text
 
+-- its outcomes that count, in the order of their least lists: those that the text tells of
+abbrev pub outcomes_of : {asked : Asked} → {tree : State} → {plans : List ActorPlan} → {lines : ℕ} → {holds : Bool}
+    → {text : List ℕ} → IsSurvey asked tree plans lines holds text → List Told
+outcomes_of {asked} survey = counted asked.properties.items (in_order survey.telling.all)
+
+-- a survey, and the outcomes that its text tells of
+abbrev pub IsSurveyWith : Asked → State → List ActorPlan → ℕ → Survey → Type 0
+IsSurveyWith asked tree plans lines survey =
+    (is : IsSurvey asked tree plans lines survey.holds survey.text) × (survey.outcomes.items ≡ outcomes_of is)
+
 -- how it is told that a search finds nothing
 abbrev pub unfound_by : SearchFault → SurveyFault
 unfound_by search.TooManyActors = NoMemory
@@ -65,7 +76,7 @@ IsUnfound asked tree plans lines fault =
 
 -- The first of those that are named who isn't there; or else the first property that no report can have a line for;
 -- or else the first turn of the beginning that can't be taken; or a list has more turns than are gone through, or there
--- are more states than that; or a growth was refused.
+-- are more states than that; or there is a limit of memory, where alone a gauge is looked at; or a growth was refused.
 abbrev pub WhyNoSurvey : Asked → State → List ActorPlan → ℕ → SurveyFault → Type 0
 WhyNoSurvey asked tree plans lines (NoSuchActor actor) = first_foreign asked plans ≡ Some actor
 WhyNoSurvey asked tree plans lines (NoSuchLine place) =
@@ -75,4 +86,6 @@ WhyNoSurvey asked tree plans lines TooManyStates = IsUnfound asked tree plans li
 WhyNoSurvey asked tree plans lines TooManyTurns = IsUnfound asked tree plans lines search.TooManyTurns
 WhyNoSurvey asked tree plans lines (NotBusy at) = IsUnfound asked tree plans lines (search.NotBusy at)
 WhyNoSurvey asked tree plans lines (TooManyCuts at) = IsUnfound asked tree plans lines (search.TooManyCuts at)
+WhyNoSurvey asked tree plans lines (TooMuchMemory most) = asked.memory ≡ Some most
+WhyNoSurvey asked tree plans lines NoGauge = (most : ℕ) × (asked.memory ≡ Some most)
 WhyNoSurvey asked tree plans lines NoMemory = ⊤

@@ -7,7 +7,8 @@
 #![tactic(auto)]
 
 mod classes;
-mod json;
+mod gauge;
+mod json_text;
 mod laws;
 mod merge;
 mod options;
@@ -21,6 +22,7 @@ mod search;
 mod waiter;
 
 pub use explore::{JOBS_MAX, Jobs, Progress, Silent};
+pub use gauge::{Gauge, MEGABYTE, MEMORY_MAX, peak_in};
 pub use laws::{
     explore_limits_are_numbers, outcomes_without_cuts_are_of_whole_calls,
     written_schedules_lead_there,
@@ -29,6 +31,6 @@ pub use merge::{LINE_BYTES_MAX, MERGED_BYTES_MAX, MERGED_MAX, merge_parts};
 pub use options::{CUTS_MAX, STATES, STATES_MAX, read_asked};
 pub use part::part_of_scene;
 pub use parts::explore_part;
-pub use script::explore_script;
+pub use script::{explore_script, told_by};
 pub use search::{Asked, SurveyFault, TURNS_MAX, survey_scene};
 pub use waiter::Waiter;

@@ -1,4 +1,9 @@
 //! Parts read again, and made one: what `inroot explore --merge` reads and writes.
+ghost use Rattle.std.specs.Prelude.{◌≡◌, Some, IfOk, IfSome, OnOk, string_bytes};
+ghost use Rattle.serde_json.specs.Read.{read};
+ghost use Rattle.serde_json.specs.View.{view};
+ghost use Rattle.explore_command.specs.Merging.{Asks, Adds, LinesSay, lines_in, IsMerge};
+
 use crate::part_read::{PartFault, part, properties, question};
 use crate::seal::{SealFault, check_seal};
 use outcome_text::{MergeFault, Part, Property, merge};
@@ -16,7 +21,9 @@ pub const MERGED_MAX: usize = 65_536;
 pub const MERGED_BYTES_MAX: usize = 268_435_456;
 
 // All that a reader has left.
-fn read_all<R: Read>(alloc: Global, reader: &mut R) -> Result<Vec<u8>, MergeFault> {
+fn read_all<R: Read>(alloc: Global, reader: &mut R) -> Result<Vec<u8>, MergeFault>
+    ensures { IfOk result (λ all. IfSome (R.remaining reader.old) (λ input. all.items ≡ input)) }
+{
     let mut all = Vec::new(alloc);
     let mut block = [0u8; 4096];
     for _ in 0..u64::MAX {
@@ -55,7 +62,9 @@ fn unread(place: usize, fault: PartFault) -> MergeFault {
 }
 
 // The value of a line of JSON.
-fn value_of(alloc: Global, place: usize, line: &[u8]) -> Result<Value, MergeFault> {
+fn value_of(alloc: Global, place: usize, line: &[u8]) -> Result<Value, MergeFault>
+    ensures { IfOk result (λ value. read line.now ≡ Some (view value)) }
+{
     match Value::from_slice(alloc, line) {
         Ok(value) => Ok(value),
         Err(error) if error.is_memory() => Err(MergeFault::NoMemory),
@@ -71,8 +80,27 @@ struct Parts {
     properties: Vec<Property>,
 }
 
+// Sees to it that a part is of the question of those before it; the first has that question.
+fn take_question(alloc: Global, parts: &mut Parts, value: &Value) -> Result<(), MergeFault>
+    ensures { OnOk result (Asks parts.old parts.new (view value.now)) }
+{
+    let place = parts.parts.len();
+    let asked = question(alloc, value).map_err(|fault| unread(place, fault))?;
+    if place == 0 {
+        parts.properties = properties(alloc, value).map_err(|fault| unread(place, fault))?;
+        parts.question = asked;
+        return Ok(());
+    }
+    if parts.question != asked {
+        return Err(MergeFault::OtherQuestion(place));
+    }
+    Ok(())
+}
+
 // Adds the part that a line says.
-fn add_line(alloc: Global, parts: &mut Parts, line: &[u8]) -> Result<(), MergeFault> {
+fn add_line(alloc: Global, parts: &mut Parts, line: &[u8]) -> Result<(), MergeFault>
+    ensures { OnOk result (Adds parts.old parts.new line.now) }
+{
     let place = parts.parts.len();
     if place >= MERGED_MAX {
         return Err(MergeFault::TooMany);
@@ -82,13 +110,7 @@ fn add_line(alloc: Global, parts: &mut Parts, line: &[u8]) -> Result<(), MergeFa
     }
     check_seal(alloc, line).map_err(|fault| unsealed(place, fault))?;
     let value = value_of(alloc, place, line)?;
-    let asked = question(alloc, &value).map_err(|fault| unread(place, fault))?;
-    if place == 0 {
-        parts.properties = properties(alloc, &value).map_err(|fault| unread(place, fault))?;
-        parts.question = asked;
-    } else if parts.question != asked {
-        return Err(MergeFault::OtherQuestion(place));
-    }
+    take_question(alloc, parts, &value)?;
     let part = part(alloc, &value).map_err(|fault| unread(place, fault))?;
     if parts.parts.push(part).is_err() {
         return Err(MergeFault::NoMemory);
@@ -97,7 +119,10 @@ fn add_line(alloc: Global, parts: &mut Parts, line: &[u8]) -> Result<(), MergeFa
 }
 
 // The parts that lines say, one each. Empty lines are passed over.
-fn parts_in(alloc: Global, text: &[u8]) -> Result<Parts, MergeFault> {
+fn parts_in(alloc: Global, text: &[u8]) -> Result<Parts, MergeFault>
+    ensures { IfOk result (λ parts.
+        LinesSay (string_bytes parts.question) parts.properties.items (lines_in text.now) parts.parts.items) }
+{
     let mut parts = Parts {
         parts: Vec::new(alloc),
         question: String::new(alloc),
@@ -125,7 +150,9 @@ pub fn merge_parts<R: Read, W: Write>(
     alloc: Global,
     reader: &mut R,
     writer: &mut W,
-) -> Result<bool, MergeFault> {
+) -> Result<bool, MergeFault>
+    ensures { IsMerge (R.remaining reader.old) (W.contents writer.old) (W.contents writer.new) result }
+{
     let text = read_all(alloc, reader)?;
     let parts = parts_in(alloc, text.as_slice())?;
     let survey = merge(alloc, parts.parts, &parts.properties)?;

@@ -2,9 +2,10 @@
 ghost use Rattle.std.specs.Prelude.{◌≡◌, ◌≢◌, ◌≤◌, ◌<◌, ◌++◌, ℕ, true, false, length, replicate, OnOk, IfOk, MatchOption, MatchResult, decimal};
 ghost use Rattle.scripts.specs.Turns.{turns_of};
 ghost use Rattle.outcome_text.specs.declared.asked.OptionFault.TheVariants as option_fault;
-ghost use Rattle.explore_command.specs.Options.{AllSay, SaysCuts, SaysBegin, IsNoBegin, SaysMost, SaysJobs, IsUnsaid, are_properties, properties_by, property_texts, properties_asked, AreAsked, IsOptionFault};
+ghost use Rattle.explore_command.specs.Options.{AllSay, SaysCuts, SaysBegin, IsNoBegin, SaysMost, SaysJobs, SaysMemory, IsUnsaid, are_properties, properties_by, property_texts, properties_asked, AreAsked, IsOptionFault};
 ghost use Rattle.outcome_text.specs.Asked.{texts_in};
 
+use crate::gauge::MEMORY_MAX;
 use crate::search::{Asked, TURNS_MAX};
 use explore::{JOBS_MAX, Jobs, Limits, Scope};
 use outcome_text::{OptionFault, Options, Property, Rule, read_property};
@@ -137,6 +138,20 @@ fn jobs_in(text: Option<&str>) -> Result<Option<Jobs>, OptionFault>
     }
 }
 
+// How many megabytes a text says, if there is a text.
+fn memory_in(text: Option<&str>) -> Result<Option<u32>, OptionFault>
+    ensures { MatchResult result (SaysMemory text.entry)
+        (λ fault. (fault ≡ option_fault.Memory) × IsUnsaid (SaysMemory text.entry)) }
+{
+    let Some(text) = text else {
+        return Ok(None);
+    };
+    match number_within(text, 1, MEMORY_MAX) {
+        Some(most) => Ok(Some(most)),
+        None => Err(OptionFault::Memory),
+    }
+}
+
 // Adds the properties that texts say by that rule. Whether each text says one.
 fn add_properties(
     alloc: Global,
@@ -189,8 +204,9 @@ fn properties_in(alloc: Global, options: &Options) -> Result<Vec<Property>, Opti
 ///
 /// Errors, in this order: `Actor` where one of `actors` is no number below 2^32; `Cuts` where `cuts` is no number up
 /// to 1,000,000; `States` where `states` is no number from 1 to 10,000,000; `Jobs` where `jobs` is no number from 1 to
-/// 64; `Text` where one of `when`, `never` or `always` is no property's (`read_property`); `NoMemory` where room was
-/// refused, whatever else is wrong. Numbers are written in decimal digits, with no zero before them.
+/// 64; `Memory` where `memory` is no number from 1 to 1,000,000; `Text` where one of `when`, `never` or `always` is no
+/// property's (`read_property`); `NoMemory` where room was refused, whatever else is wrong. Numbers are written in
+/// decimal digits, with no zero before them.
 pub fn read_asked(alloc: Global, options: Options) -> Result<Asked, OptionFault>
     ensures { MatchResult result (AreAsked options.entry) (IsOptionFault options.entry) }
 {
@@ -201,6 +217,7 @@ pub fn read_asked(alloc: Global, options: Options) -> Result<Asked, OptionFault>
     let begin = begin_in(alloc, options.begin)?;
     let states = states_in(options.states)?;
     let jobs = jobs_in(options.jobs)?;
+    let memory = memory_in(options.memory)?;
     let properties = properties_in(alloc, &options)?;
     let scope = Scope {
         cuts,
@@ -216,6 +233,7 @@ pub fn read_asked(alloc: Global, options: Options) -> Result<Asked, OptionFault>
         named,
         limits,
         jobs,
+        memory,
         properties,
     })
 }

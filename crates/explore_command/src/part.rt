@@ -1,11 +1,13 @@
 //! The outcomes of the schedules that begin with some turns: a part of those of all.
 ghost use Rattle.std.specs.Prelude.{◌≡◌, ◌≤◌, ◌++◌, ◌∷◌, [], false, length, take, OnOk, IfOk, MatchResult};
 ghost use Rattle.race_core.specs.declared.opening.TheConstants.{ACTORS_MAX as MOST_ACTORS};
-ghost use Rattle.explore_command.specs.Part.{IsBarred, HasNone, IsPart};
-ghost use Rattle.explore_command.specs.Surveyed.{WhyNoSurvey};
+ghost use Rattle.explore_command.specs.Part.{IsBarredAt, IsBarred, AreWhoMight, AreEachWhoMight, AreFarEnough, HasNone, IsPart};
+ghost use Rattle.explore_command.specs.Gauge.{SaysNoMore, WhyTooMuch};
+ghost use Rattle.explore_command.specs.Surveyed.{IsOfThese, WhyNoSurvey, unfound_by};
 ghost use Rattle.explore.specs.Opened.{opened_world};
 
-use crate::search::{Asked, SurveyFault, check, jobs_of, told_by, told_in};
+use crate::gauge::{Bounded, Gauge, look, told_over};
+use crate::search::{Asked, SurveyFault, check, jobs_of, told_in};
 use explore::{Jobs, Limits, Progress, Scene, Scope, SearchFault, Silent, explore};
 use outcome_text::Part;
 use path_text::NoMemory;
@@ -57,7 +59,7 @@ fn may_begin<R: Threads + Sync>(
     }
 }
 
-// Who might have the turn after these.
+// Who might have the turn after these: nobody is left out who can have it.
 fn who_might<R: Threads + Sync>(
     alloc: Global,
     threads: &R,
@@ -66,6 +68,9 @@ fn who_might<R: Threads + Sync>(
     turns: &[u32],
 ) -> Result<Vec<u32>, NoMemory>
     requires { length scene.now.plans.items ≤ MOST_ACTORS }
+    ensures { IfOk result (λ might. AreWhoMight
+        (opened_world scene.now.tree scene.now.plans.items scene.now.lines) limits.now (length scene.now.plans.items)
+        turns.now might.items) }
 {
     let mut might = Vec::new(alloc);
     for actor in 0..scene.plans.len() as u32 {
@@ -88,6 +93,10 @@ fn all_might<R: Threads + Sync>(
 ) -> Result<Vec<Vec<u32>>, NoMemory>
     requires actors { length scene.now.plans.items ≤ MOST_ACTORS }
     requires turns { turns ≤ length limits.now.scope.begin.items }
+    ensures each { IfOk result (λ all. AreEachWhoMight
+        (opened_world scene.now.tree scene.now.plans.items scene.now.lines) limits.now (length scene.now.plans.items)
+        limits.now.scope.begin.items all.items) }
+    ensures many { IfOk result (λ all. length all.items ≡ turns) }
 {
     let begin = limits.scope.begin.as_slice();
     let mut all = Vec::new(alloc);
@@ -106,12 +115,24 @@ fn no_lists<R: Threads + Sync>(
     limits: &Limits,
     at: usize,
 ) -> Result<Part, NoMemory>
-    requires { length scene.now.plans.items ≤ MOST_ACTORS }
+    requires actors { length scene.now.plans.items ≤ MOST_ACTORS }
+    requires barred { IsBarredAt (opened_world scene.now.tree scene.now.plans.items scene.now.lines) limits.now
+        limits.now.scope.begin.items at }
     ensures begin { IfOk result (λ part. part.begin.items ≡ limits.now.scope.begin.items) }
     ensures none { IfOk result HasNone }
+    ensures might { IfOk result (λ part. AreEachWhoMight
+        (opened_world scene.now.tree scene.now.plans.items scene.now.lines) limits.now (length scene.now.plans.items)
+        limits.now.scope.begin.items part.might.items) }
+    ensures far { IfOk result (λ part. AreFarEnough
+        (opened_world scene.now.tree scene.now.plans.items scene.now.lines) limits.now limits.now.scope.begin.items
+        (length part.might.items)) }
 {
     let begin = copy_of(alloc, limits.scope.begin.as_slice())?;
-    let turns = begin.len().min(at.saturating_add(1));
+    let turns = if at < begin.len() {
+        at + 1
+    } else {
+        begin.len()
+    };
     Ok(Part {
         begin,
         might: all_might(alloc, threads, scene, limits, turns)?,
@@ -121,22 +142,35 @@ fn no_lists<R: Threads + Sync>(
     })
 }
 
-/// Goes through the lists that begin with the turns that are asked for: gives each outcome, and how the lists begin.
-/// Errors as of `survey_scene`, but that turns which can't be taken make a part of no lists.
-pub fn part_of_scene<R: Threads + Sync, P: Progress>(
+// The part of the lists that begin with the turns that are asked for. Errors as of `explore`. Where the gauge says too
+// much, there is no memory.
+fn searched<R: Threads + Sync, G: Gauge, P: Progress>(
     alloc: Global,
     threads: &R,
     scene: &Scene,
     asked: &Asked,
+    gauge: &G,
     progress: &mut P,
-) -> Result<Part, SurveyFault>
-    requires { length scene.now.plans.items ≤ MOST_ACTORS }
+) -> Result<Part, SearchFault>
+    requires actors { length scene.now.plans.items ≤ MOST_ACTORS }
+    requires these { IsOfThese asked.now scene.now.plans.items }
     ensures { MatchResult result (IsPart asked.now scene.now.tree scene.now.plans.items scene.now.lines)
-        (WhyNoSurvey asked.now scene.now.tree scene.now.plans.items scene.now.lines) }
+        (λ fault. WhyNoSurvey asked.now scene.now.tree scene.now.plans.items scene.now.lines (unfound_by fault)) }
 {
-    check(alloc, scene, asked)?;
     let limits = &asked.limits;
-    let found = match explore(alloc, threads, jobs_of(asked.jobs), scene, limits, progress) {
+    let bounded = Bounded {
+        scene,
+        gauge,
+        memory: asked.memory,
+    };
+    let found = match explore(
+        alloc,
+        threads,
+        jobs_of(asked.jobs),
+        &bounded,
+        limits,
+        progress,
+    ) {
         Ok(found) => found,
         Err(SearchFault::NotBusy(at)) => {
             return Ok(no_lists(alloc, threads, scene, limits, at)?);
@@ -144,7 +178,7 @@ pub fn part_of_scene<R: Threads + Sync, P: Progress>(
         Err(SearchFault::TooManyCuts(at)) => {
             return Ok(no_lists(alloc, threads, scene, limits, at)?);
         }
-        Err(fault) => return Err(told_by(fault)),
+        Err(fault) => return Err(fault),
     };
     let begin = copy_of(alloc, limits.scope.begin.as_slice())?;
     let might = all_might(alloc, threads, scene, limits, begin.len())?;
@@ -155,4 +189,31 @@ pub fn part_of_scene<R: Threads + Sync, P: Progress>(
         turns: found.turns as u64,
         all: told_in(alloc, scene, asked, &found.classes)?,
     })
+}
+
+/// Goes through the lists that begin with the turns that are asked for: gives each outcome, and how the lists begin.
+/// Errors as of `survey_scene`, but that turns which can't be taken make a part of no lists.
+pub fn part_of_scene<R: Threads + Sync, G: Gauge, P: Progress>(
+    alloc: Global,
+    threads: &R,
+    scene: &Scene,
+    asked: &Asked,
+    gauge: &G,
+    progress: &mut P,
+) -> Result<Part, SurveyFault>
+    requires { length scene.now.plans.items ≤ MOST_ACTORS }
+    ensures part { MatchResult result (IsPart asked.now scene.now.tree scene.now.plans.items scene.now.lines)
+        (WhyNoSurvey asked.now scene.now.tree scene.now.plans.items scene.now.lines) }
+    ensures memory { MatchResult result (λ _. SaysNoMore (G.may_say gauge.now) asked.now.memory)
+        (WhyTooMuch (G.may_say gauge.now)) }
+{
+    check(alloc, scene, asked)?;
+    look(gauge, asked.memory)?;
+    match searched(alloc, threads, scene, asked, gauge, progress) {
+        Ok(part) => {
+            look(gauge, asked.memory)?;
+            Ok(part)
+        }
+        Err(fault) => Err(told_over(gauge, asked.memory, fault)),
+    }
 }

@@ -4,7 +4,7 @@ ghost use Rattle.report_text.specs.Report.{numbered};
 ghost use Rattle.step_text.specs.Output.{Gains};
 ghost use Rattle.explore_command.specs.PartText.{cuts_words, flag_words, property_words, properties_words, subject_words, scope_words, wanted_words, question_words, count_words, texts_words, told_words, outcomes_words, turns_words, found_words, part_words, part_line};
 
-use crate::json::{comma, lists, numbers, text};
+use crate::json_text::{comma, lists, numbers, text};
 use crate::seal::seal;
 use crate::search::Asked;
 use outcome_text::{Part, Property, Told};
@@ -38,7 +38,7 @@ fn property(alloc: Global, out: &mut Output, at: u64, property: &Property) -> Re
     said.text(property.rule.word())?;
     said.bytes(property.text.as_slice())?;
     comma(out, at)?;
-    text(out, said.as_slice())
+    text(alloc, out, said.as_slice())
 }
 
 // Adds the properties of a list.
@@ -62,11 +62,11 @@ fn properties(alloc: Global, out: &mut Output, all: &[Property]) -> Result<(), N
 
 // Adds the script with that digest, and who is named.
 #[tactic(auto, unfolding(crate::specs::PartText::subject_words))]
-fn subject(out: &mut Output, script: &[u8], asked: &Asked) -> Result<(), NoMemory>
+fn subject(alloc: Global, out: &mut Output, script: &[u8], asked: &Asked) -> Result<(), NoMemory>
     ensures { Gains out.old out.new (subject_words script.now asked.now) result }
 {
     out.text("{\"script\":")?;
-    text(out, script)?;
+    text(alloc, out, script)?;
     out.text(",\"actors\":")?;
     numbers(out, &asked.named)
 }
@@ -97,7 +97,7 @@ fn wanted(alloc: Global, out: &mut Output, asked: &Asked) -> Result<(), NoMemory
 fn question(alloc: Global, out: &mut Output, script: &[u8], asked: &Asked) -> Result<(), NoMemory>
     ensures { Gains out.old out.new (question_words script.now asked.now) result }
 {
-    subject(out, script, asked)?;
+    subject(alloc, out, script, asked)?;
     scope(out, asked)?;
     wanted(alloc, out, asked)
 }
@@ -114,46 +114,46 @@ fn told_counts(out: &mut Output, told: &Told) -> Result<(), NoMemory>
 
 // Adds the texts of an outcome.
 #[tactic(auto, unfolding(crate::specs::PartText::texts_words))]
-fn told_texts(out: &mut Output, told: &Told) -> Result<(), NoMemory>
+fn told_texts(alloc: Global, out: &mut Output, told: &Told) -> Result<(), NoMemory>
     ensures { Gains out.old out.new (texts_words told.now) result }
 {
     out.text(",\"block\":")?;
-    text(out, told.block.as_slice())?;
+    text(alloc, out, told.block.as_slice())?;
     out.text(",\"look\":")?;
-    text(out, told.look.as_slice())?;
+    text(alloc, out, told.look.as_slice())?;
     out.text(",\"lines\":")?;
-    text(out, told.lines.as_slice())
+    text(alloc, out, told.lines.as_slice())
 }
 
 // Adds an outcome by its place.
 #[tactic(auto, unfolding(crate::specs::PartText::told_words))]
-fn told(out: &mut Output, at: u64, told: &Told) -> Result<(), NoMemory>
+fn told(alloc: Global, out: &mut Output, at: u64, told: &Told) -> Result<(), NoMemory>
     ensures { Gains out.old out.new (told_words at told.now) result }
 {
     comma(out, at)?;
     told_counts(out, told)?;
     out.text(",\"least\":")?;
     numbers(out, &told.turns)?;
-    told_texts(out, told)?;
+    told_texts(alloc, out, told)?;
     out.text("}")
 }
 
 // Adds the outcomes of a list.
-fn all_told(out: &mut Output, all: &[Told]) -> Result<(), NoMemory>
+fn all_told(alloc: Global, out: &mut Output, all: &[Told]) -> Result<(), NoMemory>
     ensures { Gains out.old out.new (numbered told_words 0 all.now) result }
 {
     for (at, one) in all.iter().enumerate() {
-        told(out, at as u64, one)?;
+        told(alloc, out, at as u64, one)?;
     }
     Ok(())
 }
 
 // Adds a list of outcomes.
-fn outcomes(out: &mut Output, all: &[Told]) -> Result<(), NoMemory>
+fn outcomes(alloc: Global, out: &mut Output, all: &[Told]) -> Result<(), NoMemory>
     ensures { Gains out.old out.new (outcomes_words all.now) result }
 {
     out.text("[")?;
-    all_told(out, all)?;
+    all_told(alloc, out, all)?;
     out.text("]")
 }
 
@@ -170,13 +170,13 @@ fn part_turns(out: &mut Output, part: &Part) -> Result<(), NoMemory>
 
 // Adds how many schedules a part has, how long they are, and their outcomes.
 #[tactic(auto, unfolding(crate::specs::PartText::found_words))]
-fn part_found(out: &mut Output, part: &Part) -> Result<(), NoMemory>
+fn part_found(alloc: Global, out: &mut Output, part: &Part) -> Result<(), NoMemory>
     ensures { Gains out.old out.new (found_words part.now) result }
 {
     numbered(out, ",\"schedules\":", part.lists)?;
     numbered(out, ",\"turns\":", part.turns)?;
     out.text(",\"outcomes\":")?;
-    outcomes(out, &part.all)
+    outcomes(alloc, out, &part.all)
 }
 
 // Adds a part of what is asked of the script with that digest: an object of JSON, but for its end.
@@ -193,7 +193,7 @@ fn part_words(
     out.text("{\"part of\":")?;
     question(alloc, out, script, asked)?;
     part_turns(out, part)?;
-    part_found(out, part)
+    part_found(alloc, out, part)
 }
 
 /// A part of what is asked of the script with that digest, as a line that ends with its own digest. NoMemory where its

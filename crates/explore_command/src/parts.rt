@@ -1,4 +1,7 @@
 //! Parts written: what `inroot explore --part` writes.
+ghost use Rattle.explore_command.specs.ExplorePart.{IsExplorePart};
+
+use crate::gauge::Gauge;
 use crate::part::part_of_scene;
 use crate::part_text::part_text;
 use crate::script::told_by;
@@ -16,14 +19,17 @@ use std::thread::Threads;
 /// to as a line of JSON that `merge_parts` reads, and that ends with its digest.
 ///
 /// Errors as of `explore_script`, but that turns which can't be taken make a part of no schedules.
-pub fn explore_part<Rt: Threads + Sync, R: Read, W: Write, P: Waiter>(
+pub fn explore_part<Rt: Threads + Sync, R: Read, W: Write, G: Gauge, P: Waiter>(
     alloc: Global,
     threads: &Rt,
     reader: &mut R,
     writer: &mut W,
     asked: &Asked,
+    gauge: &G,
     progress: &mut P,
-) -> Result<(), ExploreFault> {
+) -> Result<(), ExploreFault>
+    ensures { IsExplorePart asked.now (R.remaining reader.old) (W.contents writer.old) (W.contents writer.new) result }
+{
     let script = read_script(alloc, reader)?;
     let (scenario, tree) = read_scene(alloc, &mut script.as_slice(), &TurnOrder::OfScript)?;
     let (plans, lines) = (scenario.plans, scenario.lines);
@@ -31,7 +37,7 @@ pub fn explore_part<Rt: Threads + Sync, R: Read, W: Write, P: Waiter>(
         return Err(ExploreFault::Run(RunFault::BookFull));
     }
     let scene = Scene { tree, plans, lines };
-    let explored = part_of_scene(alloc, threads, &scene, asked, progress);
+    let explored = part_of_scene(alloc, threads, &scene, asked, gauge, progress);
     progress.over();
     let part = match explored {
         Ok(part) => part,

@@ -2,8 +2,10 @@
 ghost use Rattle.std.specs.Prelude.{◌≡◌, ◌≢◌, [], IfOk, MatchResult};
 ghost use Rattle.scripts.specs.Scenario.{said_by, IsPlayable};
 ghost use Rattle.outcome_text.specs.declared.fault.ExploreFault.TheVariants as explore_fault;
-ghost use Rattle.explore_command.specs.Explore.{told_by, IsExplore, IsNoSurvey, IsSurveyOf};
+ghost use Rattle.explore_command.specs.Explore.{told_by, IsExplore, IsNoSurvey, IsSurveyOf, WhyToldTooMuch};
+ghost use Rattle.explore_command.specs.Gauge.{SaysNoMore};
 
+use crate::gauge::Gauge;
 use crate::search::{Asked, SurveyFault, survey_scene};
 use crate::waiter::Waiter;
 use explore::{Progress, Scene};
@@ -15,7 +17,7 @@ use std::thread::Threads;
 use tree_list::ListTree;
 
 /// How it is told that there is no survey.
-pub(crate) fn told_by(fault: SurveyFault) -> ExploreFault
+pub fn told_by(fault: SurveyFault) -> ExploreFault
     ensures { result ≡ told_by fault }
 {
     match fault {
@@ -25,18 +27,21 @@ pub(crate) fn told_by(fault: SurveyFault) -> ExploreFault
         SurveyFault::TooManyTurns => ExploreFault::TooManyTurns,
         SurveyFault::NotBusy(at) => ExploreFault::NotBusy(at),
         SurveyFault::TooManyCuts(at) => ExploreFault::TooManyCuts(at),
+        SurveyFault::TooMuchMemory(most) => ExploreFault::TooMuchMemory(most),
+        SurveyFault::NoGauge => ExploreFault::NoGauge,
         SurveyFault::NoMemory => ExploreFault::Run(RunFault::NoMemory),
     }
 }
 
 // All schedules of what a script says gone through. Errors as of `explore_script`, but for those of reading and
 // writing.
-fn surveyed<Rt: Threads + Sync, P: Progress>(
+fn surveyed<Rt: Threads + Sync, G: Gauge, P: Progress>(
     alloc: Global,
     threads: &Rt,
     scenario: Scenario,
     tree: ListTree,
     asked: &Asked,
+    gauge: &G,
     progress: &mut P,
 ) -> Result<Survey, ExploreFault>
     requires same { tree ≡ scenario.tree }
@@ -45,41 +50,48 @@ fn surveyed<Rt: Threads + Sync, P: Progress>(
     ensures survey { MatchResult result (λ survey. IsSurveyOf asked.now survey.holds (said_by scenario) survey.text)
         (IsNoSurvey asked.now (said_by scenario)) }
     ensures some { IfOk result (λ survey. survey.text ≢ []) }
+    ensures memory { MatchResult result (λ _. SaysNoMore (G.may_say gauge.now) asked.now.memory)
+        (WhyToldTooMuch (G.may_say gauge.now)) }
 {
     let (plans, lines) = (scenario.plans, scenario.lines);
     if (lines as usize) < plans.len() {
         return Err(ExploreFault::Run(RunFault::BookFull));
     }
     let scene = Scene { tree, plans, lines };
-    match survey_scene(alloc, threads, &scene, asked, progress) {
+    match survey_scene(alloc, threads, &scene, asked, gauge, progress) {
         Ok(survey) => Ok(survey),
         Err(fault) => Err(told_by(fault)),
     }
 }
 
 /// Reads a script, goes through all schedules of its world, those with at most so many cuts that begin with the turns
-/// that are asked for, and writes what they come to. The script's own schedule is checked and not used. The result
-/// is whether no property fails. On the way `progress` gets the number of worlds so far, and then that the search is
+/// that are asked for, and writes what they come to. The script's own schedule is checked and not used. The result is
+/// whether no property fails. On the way `progress` gets the number of worlds so far, and then that the search is
 /// over. What is written is the same on any number of threads.
 ///
 /// Errors, in this order: those of `read_scenario`; `BookFull` where the script gives its book fewer lines than it
 /// has actors; `NoSuchActor` of the first that is named and isn't there; `NoSuchLine` of the first property that
 /// names an actor who isn't there, a call that its actor doesn't have, or a reply that begins with other words than
-/// one can; `NotBusy` and `TooManyCuts` of the first turn of the beginning that can't be taken; `TooManyStates` where
-/// there are more worlds than are gone through, and `TooManyTurns` where a schedule has more turns than the limit,
-/// whichever is met first; `NoMemory`; `WriteFailed`. Nothing is written before the text is whole.
-pub fn explore_script<Rt: Threads + Sync, R: Read, W: Write, P: Waiter>(
+/// one can; where a limit of memory is asked for, `NoGauge` where `gauge` knows nothing, and `TooMuchMemory` where it
+/// says more already; `NotBusy` and `TooManyCuts` of the first turn of the beginning that can't be taken;
+/// `TooManyStates` where there are more worlds than are gone through, `TooManyTurns` where a schedule has more turns
+/// than the limit, and `TooMuchMemory`, whichever is met first; `NoMemory`; `WriteFailed`. Nothing is written before
+/// the text is whole.
+pub fn explore_script<Rt: Threads + Sync, R: Read, W: Write, G: Gauge, P: Waiter>(
     alloc: Global,
     threads: &Rt,
     reader: &mut R,
     writer: &mut W,
     asked: &Asked,
+    gauge: &G,
     progress: &mut P,
 ) -> Result<bool, ExploreFault>
     ensures run { IsExplore asked.now (R.remaining reader.old) (W.contents writer.old) (W.contents writer.new) result }
+    ensures memory { MatchResult result (λ _. SaysNoMore (G.may_say gauge.now) asked.now.memory)
+        (WhyToldTooMuch (G.may_say gauge.now)) }
 {
     let (scenario, tree) = read_scene(alloc, reader, &TurnOrder::OfScript)?;
-    let explored = surveyed(alloc, threads, scenario, tree, asked, progress);
+    let explored = surveyed(alloc, threads, scenario, tree, asked, gauge, progress);
     progress.over();
     let survey = explored?;
     match writer.write_all(survey.text.as_slice()) {

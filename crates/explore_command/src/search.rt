@@ -1,11 +1,15 @@
 //! All schedules of a world gone through, and the text of their outcomes.
-ghost use Rattle.std.specs.Prelude.{◌≡◌, ◌≤◌, length, find, nat_le, IfOk, IfSome, MatchResult};
+ghost use Rattle.std.specs.Prelude.{◌≡◌, ◌≤◌, length, find, nat_le, IfErr, IfOk, IfSome, MatchResult};
 ghost use Rattle.race_core.specs.declared.opening.TheConstants.{ACTORS_MAX as MOST_ACTORS};
 ghost use Rattle.explore_command.specs.declared.search.SurveyFault.TheVariants as survey_fault;
-ghost use Rattle.explore_command.specs.Surveyed.{unfound_by, IsOfThese, IsTelling, IsSurvey, WhyNoSurvey};
+ghost use Rattle.explore_command.specs.Surveyed.{unfound_by, IsOfThese, IsTelling, IsSurveyWith, WhyNoSurvey};
+ghost use Rattle.outcome_text.specs.Conditions.{counted};
+ghost use Rattle.outcome_text.specs.Order.{in_order};
 ghost use Rattle.explore_command.specs.Classes.{AreTold};
+ghost use Rattle.explore_command.specs.Gauge.{IsOfNoGauge, SaysNoMore, WhyTooMuch};
 
 use crate::classes::tell_all;
+use crate::gauge::{Bounded, Gauge, look, told_over};
 use explore::{Class, Findings, Jobs, Limits, Progress, Scene, SearchFault, explore};
 use outcome_text::{Property, Survey, Told, first_untold, told_in_order};
 use path_text::NoMemory;
@@ -28,6 +32,8 @@ pub struct Asked {
     pub limits: Limits,
     /// On how many threads they are gone through; with none on one. It makes no difference to what is told.
     pub jobs: Option<Jobs>,
+    /// How many megabytes may be taken at most; with none any number.
+    pub memory: Option<u32>,
     /// Which reports count, and properties of each of these, whatever actors are named.
     pub properties: Vec<Property>,
 }
@@ -53,6 +59,12 @@ pub enum SurveyFault {
     /// With the turn at that place of the beginning, counted from 0, there are more cuts than are asked for.
     #[error("cuts {0}")]
     TooManyCuts(usize),
+    /// More than so many megabytes were taken.
+    #[error("memory")]
+    TooMuchMemory(u32),
+    /// How much memory was taken isn't known.
+    #[error("gauge")]
+    NoGauge,
     /// Room was refused.
     #[error("no memory")]
     NoMemory,
@@ -113,8 +125,9 @@ fn survey_of(
 ) -> Result<Survey, NoMemory>
     requires { length scene.now.plans.items ≤ MOST_ACTORS }
     ensures { IfOk result (λ survey.
-        IsTelling asked.now scene.now.tree scene.now.plans.items found.classes.items found.lists found.states
-        found.turns survey.holds survey.text) }
+        (is : IsTelling asked.now scene.now.tree scene.now.plans.items found.classes.items found.lists found.states
+        found.turns survey.holds survey.text)
+        × (survey.outcomes.items ≡ counted asked.now.properties.items (in_order is.all))) }
 {
     let (lists, states, turns) = (found.lists, found.states, found.turns as u64);
     let all = told_in(alloc, scene, asked, &found.classes)?;
@@ -124,8 +137,9 @@ fn survey_of(
 /// Whether all who are named are there, and each property names a line that a report can have. Errors: `NoSuchActor`
 /// and `NoSuchLine` of the first that isn't; `NoMemory`.
 pub(crate) fn check(alloc: Global, scene: &Scene, asked: &Asked) -> Result<(), SurveyFault>
-    ensures { MatchResult result (λ _. IsOfThese asked.now scene.now.plans.items)
+    ensures these { MatchResult result (λ _. IsOfThese asked.now scene.now.plans.items)
         (WhyNoSurvey asked.now scene.now.tree scene.now.plans.items scene.now.lines) }
+    ensures none { IfErr result IsOfNoGauge }
 {
     if let Some(actor) = first_foreign(&asked.named, scene.plans.len()) {
         return Err(SurveyFault::NoSuchActor(actor));
@@ -150,35 +164,72 @@ pub(crate) fn told_by(fault: SearchFault) -> SurveyFault
     }
 }
 
-/// Goes through all full lists of turns of the world of a tree and of plans, those with at most so many cuts that begin
-/// with the turns that are asked for, and says what they come to: how many there are, by how many worlds, how many
-/// turns the longest has, each outcome once with how many lead to it and a schedule for the least of them, and whether
-/// each property holds of every one. Where a property is a condition, only the lists whose report has its line count.
-/// Outcomes are compared with their new nodes numbered anew, so these numbers make no difference between them. The
-/// number of steps that acted outside does, where it is asked for. The number of threads makes none. On the way
-/// `progress` gets the number of worlds so far.
-///
-/// Errors, in this order: `NoSuchActor` of the first that is named and isn't there; `NoSuchLine` of the first
-/// property that names an actor who isn't there, a call that its actor doesn't have, or a reply that begins with other
-/// words than one can; `NotBusy` and `TooManyCuts` of the first turn of the beginning that can't be taken;
-/// `TooManyStates` and `TooManyTurns` beyond the limits, whichever is met first; `NoMemory` where room was refused, and
-/// where the world can't be made.
-pub fn survey_scene<R: Threads + Sync, P: Progress>(
+// All lists gone through, and the text of what was found. Errors as of `explore`. Where the gauge says too much, there
+// is no memory.
+fn searched<R: Threads + Sync, G: Gauge, P: Progress>(
     alloc: Global,
     threads: &R,
     scene: &Scene,
     asked: &Asked,
+    gauge: &G,
+    progress: &mut P,
+) -> Result<Survey, SearchFault>
+    requires actors { length scene.now.plans.items ≤ MOST_ACTORS }
+    requires these { IsOfThese asked.now scene.now.plans.items }
+    ensures { MatchResult result
+        (IsSurveyWith asked.now scene.now.tree scene.now.plans.items scene.now.lines)
+        (λ fault. WhyNoSurvey asked.now scene.now.tree scene.now.plans.items scene.now.lines (unfound_by fault)) }
+{
+    let jobs = jobs_of(asked.jobs);
+    let bounded = Bounded {
+        scene,
+        gauge,
+        memory: asked.memory,
+    };
+    match explore(alloc, threads, jobs, &bounded, &asked.limits, progress) {
+        Ok(found) => Ok(survey_of(alloc, scene, asked, found)?),
+        Err(fault) => Err(fault),
+    }
+}
+
+/// Goes through all full lists of turns of the world of a tree and of plans, those with at most so many cuts that
+/// begin with the turns that are asked for, and says what they come to: how many there are, by how many worlds, how
+/// many turns the longest has, each outcome once with how many lead to it and a schedule for the least of them, and
+/// whether each property holds of every one. Where a property is a condition, only the lists whose report has its line
+/// count. The outcomes that are told of come beside, in the order of their least lists. Outcomes are compared with
+/// their new nodes numbered anew, so these numbers make no difference between them. The number of steps that acted
+/// outside does, where it is asked for. The number of threads makes none. On the way `progress` gets the number of
+/// worlds so far. Where a limit of memory is asked for, `gauge` is looked at first, then before each world that is
+/// made, and after all; it isn't looked at otherwise.
+///
+/// Errors, in this order: `NoSuchActor` of the first that is named and isn't there; `NoSuchLine` of the first
+/// property that names an actor who isn't there, a call that its actor doesn't have, or a reply that begins with other
+/// words than one can; `NoGauge` where `gauge` doesn't know how much memory was taken, and `TooMuchMemory` where it
+/// says more already than the limit; `NotBusy` and `TooManyCuts` of the first turn of the beginning that can't be
+/// taken; `TooManyStates` and `TooManyTurns` beyond the limits, and `TooMuchMemory`, whichever is met first; `NoMemory`
+/// where room was refused, and where the world can't be made.
+pub fn survey_scene<R: Threads + Sync, G: Gauge, P: Progress>(
+    alloc: Global,
+    threads: &R,
+    scene: &Scene,
+    asked: &Asked,
+    gauge: &G,
     progress: &mut P,
 ) -> Result<Survey, SurveyFault>
     requires { length scene.now.plans.items ≤ MOST_ACTORS }
-    ensures { MatchResult result
-        (λ survey. IsSurvey asked.now scene.now.tree scene.now.plans.items scene.now.lines survey.holds survey.text)
+    ensures survey { MatchResult result
+        (IsSurveyWith asked.now scene.now.tree scene.now.plans.items scene.now.lines)
         (WhyNoSurvey asked.now scene.now.tree scene.now.plans.items scene.now.lines) }
+    ensures memory { MatchResult result (λ _. SaysNoMore (G.may_say gauge.now) asked.now.memory)
+        (WhyTooMuch (G.may_say gauge.now)) }
 {
     check(alloc, scene, asked)?;
-    let jobs = jobs_of(asked.jobs);
-    match explore(alloc, threads, jobs, scene, &asked.limits, progress) {
-        Ok(found) => Ok(survey_of(alloc, scene, asked, found)?),
-        Err(fault) => Err(told_by(fault)),
+    look(gauge, asked.memory)?;
+    match searched(alloc, threads, scene, asked, gauge, progress) {
+        Ok(survey) => {
+            look(gauge, asked.memory)?;
+            Ok(survey)
+        }
+        Err(fault) => Err(told_over(gauge, asked.memory, fault)),
     }
 }

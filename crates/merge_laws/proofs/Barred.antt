@@ -16,7 +16,7 @@ use Rattle.further_world_laws.specs.Parts.{IsAskedFrom, part_with, IsPart}
 use Rattle.further_world_laws.proofs.Beginnings.{plus_more, none_fewer, within_fewer}
 
 -- a turn of a full list is of an actor who has something left to do then
-busy_there : (w : WorldView) (begin rest : List ℕ) (at actor : ℕ) → IsFull w (begin ++ rest) → slice_get begin at ≡ Some actor
+pub busy_there : (w : WorldView) (begin rest : List ℕ) (at actor : ℕ) → IsFull w (begin ++ rest) → slice_get begin at ≡ Some actor
     → is_busy_at (after_turns w (take at begin)).seats actor ≡ true
 busy_there w [] rest at actor whole there = absurd (none-some actor there)
 busy_there w (i ∷ is) rest zero actor whole there = subst (λ (j : ℕ). is_busy_at w.seats j ≡ true) (same_Some i actor there) whole.0
@@ -34,7 +34,7 @@ none_capped : (cap : ℕ) → 0 ≡ min 0 cap
 none_capped cap = grind arith
 
 module _ (w : WorldView) (scope : Scope) (limits : Limits) (begin : List ℕ) (bound : scope.cuts ≡ limits.scope.cuts) (barred : IsBarred w limits begin) where
-  none_begins : (is : List ℕ) → IsAskedFrom w scope begin is → ⊥
+  pub none_begins : (is : List ℕ) → IsAskedFrom w scope begin is → ⊥
   none_begins is from =
       let whole : IsFull w (begin ++ from.1.0) = subst (λ (js : List ℕ). IsFull w js) from.1.1 from.0.whole in
       let few : IsWithin limits.scope.cuts (cuts w (begin ++ from.1.0)) =

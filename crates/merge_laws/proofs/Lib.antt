@@ -3,4 +3,10 @@ mod ToldAlike
 mod Tellings
 mod Barred
 mod Viewed
+mod CallsSayNoHandles
+mod RepliesSayNoHandles
+mod NoGaps
+mod Covered
 mod Merged
+mod OfScripts
+mod Printed

@@ -24,6 +24,8 @@ use Rattle.further_world_laws.specs.Parts as worlds
 use Rattle.further_world_laws.proofs.PartsJoined.{parts_make_the_whole}
 use Rattle.further_world_laws.proofs.WholePart.{whole_is_a_part}
 use Rattle.merge_laws.specs.Merged.{RepliesNameNoHandles, ArePartsOf, SayTheSame, MergedPartsAreTheWhole}
+use Rattle.merge_laws.proofs.Covered.{parts_without_gaps_are_all}
+use Rattle.merge_laws.proofs.RepliesSayNoHandles.{replies_say_no_handles}
 use Rattle.merge_laws.proofs.Tellings.{Piece, Telling, are_pieces}
 use Rattle.merge_laws.proofs.Viewed.{ArePaired, AreViewed, paired, endings_in, viewed_all, viewed_part}
 
@@ -107,5 +109,6 @@ module _ (asked : Asked) (tree : State) (plans : List ActorPlan) (lines : ℕ) (
           }
 
 pub merged_parts_are_the_whole : MergedPartsAreTheWhole
-merged_parts_are_the_whole asked tree plans lines parts holds answer whole text seats nameless are survey join =
-    said asked tree plans lines seats nameless parts are holds answer whole text survey join
+merged_parts_are_the_whole asked tree plans lines parts holds answer whole text seats each survey merged =
+    said asked tree plans lines seats (λ is asked. replies_say_no_handles tree plans lines is) parts
+    (parts_without_gaps_are_all asked tree plans lines parts seats each merged.apart merged.are_all) holds answer whole text survey merged.joined

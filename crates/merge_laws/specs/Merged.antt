@@ -1,5 +1,5 @@
 -- What parts of all schedules come to, merged, and what the one search of all tells: statements of laws.
-use Rattle.std.specs.Prelude.{◌≡◌, ℕ, List, [], Bool, length, map, Some, None}
+use Rattle.std.specs.Prelude.{◌≡◌, ℕ, List, [], Bool, true, length, map, Some, None, Ok}
 use Rattle.explore.specs.declared.limits.Scope.{Scope}
 use Rattle.explore.specs.Alike.{after_turns}
 use Rattle.explore.specs.Explored.{IsAsked, AgreeIn, ClassView, IsEnding}
@@ -7,6 +7,7 @@ use Rattle.explore.specs.Opened.{opened_world}
 use Rattle.explore.specs.Renamed.{replies_by}
 use Rattle.explore_command.specs.declared.search.Asked.{Asked}
 use Rattle.explore_command.specs.Classes.{IsTold}
+use Rattle.explore_command.specs.Explore.{IsSurveyOf}
 use Rattle.explore_command.specs.Part.{IsPart}
 use Rattle.explore_command.specs.Surveyed.{IsSurvey}
 use Rattle.race_core.specs.declared.plan.ActorPlan.{ActorPlan}
@@ -18,7 +19,10 @@ use Rattle.outcome_text.specs.declared.property.Property.{Property}
 use Rattle.outcome_text.specs.declared.survey.Told.{Told}
 use Rattle.outcome_text.specs.Conditions.{told_text}
 use Rattle.outcome_text.specs.InPieces.{AreAlike}
-use Rattle.outcome_text.specs.Merge.{IsJoined}
+use Rattle.outcome_text.specs.Merge.{are_apart, AreAll, IsWhole}
+use Rattle.scripts.specs.declared.turns.TurnOrder.{TurnOrder}
+use Rattle.scripts.specs.Scenario.{Said, said_for}
+use Rattle.scripts.specs.Writing.{tree_of}
 use Rattle.tree_model.specs.State.{State}
 use Rattle.further_world_laws.specs.Parts.{IsWholeOf, AreBeginnings}
 
@@ -32,6 +36,12 @@ NameNoHandles replies = (f : ℕ → ℕ) → replies_by f replies ≡ replies
 abbrev pub RepliesNameNoHandles : WorldView → Scope → Type 0
 RepliesNameNoHandles w scope = (is : List ℕ) → IsAsked w scope is
     → NameNoHandles (replies_in (ledgers_in (after_turns w is).seats))
+
+-- So it is in each world that is opened for plans, after any turns: what was opened is told by its names, and a single
+-- step that opens something is no call (EINVAL).
+abbrev pub RepliesSayNoHandles : Type 0
+RepliesSayNoHandles = (tree : State) (plans : List ActorPlan) (lines : ℕ) (is : List ℕ)
+    → NameNoHandles (replies_in (ledgers_in (after_turns (opened_world tree plans lines) is).seats))
 
 -- What is told of two least lists that lead to one outcome looks the same and has the same lines.
 abbrev pub AgreeingListsAreToldAlike : Type 0
@@ -74,13 +84,33 @@ pub record SayTheSame (properties : List Property) (holds answer : Bool) (whole 
   pub text_is : text ≡ told_text lists None longest all properties
   pub answers : answer ≡ holds
 
--- What is joined of the parts says the same as the survey of all lists. The world has a seat for each plan: its roots
--- were granted.
+-- each is a part of this question
+abbrev pub AreOfOneQuestion : Asked → State → List ActorPlan → ℕ → List Part → Type 0
+AreOfOneQuestion asked tree plans lines parts =
+    (part : Part) → IsAmong part parts → IsPartOf asked tree plans lines part
+
+-- the world has a seat for each plan: its roots were granted
+abbrev pub IsSeated : State → List ActorPlan → ℕ → Type 0
+IsSeated tree plans lines = length plans ≡ length (opened_world tree plans lines).seats
+
+-- Parts of one question that overlap nowhere, and among which there is no gap, are all: what `merge` sees to is enough.
+abbrev pub PartsWithoutGapsAreAll : Type 0
+PartsWithoutGapsAreAll = (asked : Asked) (tree : State) (plans : List ActorPlan) (lines : ℕ) (parts : List Part)
+    → IsSeated tree plans lines → AreOfOneQuestion asked tree plans lines parts → are_apart parts ≡ true → AreAll parts
+    → ArePartsOf asked tree plans lines parts
+
+-- What `merge` makes of parts of one question says the same as the survey of all lists.
 abbrev pub MergedPartsAreTheWhole : Type 0
 MergedPartsAreTheWhole = (asked : Asked) (tree : State) (plans : List ActorPlan) (lines : ℕ) (parts : List Part)
     (holds answer : Bool) (whole text : List ℕ)
-    → length plans ≡ length (opened_world tree plans lines).seats
-    → RepliesNameNoHandles (opened_world tree plans lines) asked.limits.scope
-    → ArePartsOf asked tree plans lines parts → IsSurvey asked tree plans lines holds whole
-    → IsJoined parts asked.properties.items answer text
+    → IsSeated tree plans lines → AreOfOneQuestion asked tree plans lines parts
+    → IsSurvey asked tree plans lines holds whole → IsWhole parts asked.properties.items answer text
+    → SayTheSame asked.properties.items holds answer whole text
+
+-- So it is of each script: what it says can be played, and then the roots of all actors are granted.
+abbrev pub MergedPartsOfAScriptAreTheWhole : Type 0
+MergedPartsOfAScriptAreTheWhole = (order : TurnOrder) (input : List ℕ) (said : Said) (asked : Asked) (parts : List Part)
+    (holds answer : Bool) (whole text : List ℕ)
+    → said_for order input ≡ Ok said → AreOfOneQuestion asked (tree_of said) said.plans said.lines parts
+    → IsSurveyOf asked holds said whole → IsWhole parts asked.properties.items answer text
     → SayTheSame asked.properties.items holds answer whole text

@@ -1,9 +1,12 @@
 mod Tails
 mod NewOnes
 pub mod Pieces
-mod Ordered
-mod Sums
-mod Heads
+mod AnyOrder
 mod Beginnings
+mod Below
+mod Heads
+mod Sorting
 pub mod InPieces
 pub mod SameReports
+mod Stable
+mod Sums

@@ -4,7 +4,7 @@ use Rattle.std.specs.Prelude.{codes, decimal, slice_get}
 use Rattle.std.proofs.lemmas.Option.{same_Some, none-some}
 use Rattle.node_numbering.specs.Exchanges.{after_all, before_all}
 use Rattle.node_numbering.specs.Meeting.{numbers, numbered_on}
-use Rattle.node_numbering.specs.Renumbered.{AreNodesOn, AreByNumbers, replies_on}
+use Rattle.node_numbering.specs.Renumbered.{AreNodesOn, AreByNumbers}
 use Rattle.node_numbering.proofs.Exchanging.{there_again}
 use Rattle.race_core.specs.declared.report.Outcome.{Outcome}
 use Rattle.report_text.specs.Report.{reply_lines, row_lines, held_line, held_lines}

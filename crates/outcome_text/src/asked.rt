@@ -13,6 +13,7 @@ pub struct Options<'a> {
     pub begin: Option<&'a str>,
     pub states: Option<&'a str>,
     pub jobs: Option<&'a str>,
+    pub memory: Option<&'a str>,
     pub outside: bool,
     pub when: &'a [&'a str],
     pub never: &'a [&'a str],
@@ -32,6 +33,8 @@ pub enum OptionFault {
     States,
     #[error("--jobs is a number from 1 to 64")]
     Jobs,
+    #[error("--memory is a number from 1 to 1000000")]
+    Memory,
     #[error("--when, --never and --always take a line's beginning: reply, row or held, or outside with --outside, and words after it")]
     Text,
     /// Room was refused.

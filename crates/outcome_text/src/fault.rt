@@ -28,6 +28,12 @@ pub enum ExploreFault {
     /// With the turn at that place of the beginning, counted from 0, there are more cuts than are asked for.
     #[error("explore: cuts {0}")]
     TooManyCuts(usize),
+    /// More than so many megabytes were taken.
+    #[error("explore: memory")]
+    TooMuchMemory(u32),
+    /// How much memory was taken isn't known.
+    #[error("explore: gauge")]
+    NoGauge,
 }
 
 impl From<RunFault> for ExploreFault {

@@ -10,6 +10,7 @@
 //! `explore`, and its faults.
 #![tactic(auto)]
 
+mod apart;
 mod asked;
 mod changes;
 mod conditions;
@@ -39,7 +40,7 @@ pub use merging::{MergeFault, merge};
 pub use part::Part;
 pub use property::{Property, Rule, read_property};
 pub use ranked::{Survey, told_in_order};
-pub use schedule::schedule_words;
+pub use schedule::{before_tail, schedule_words};
 pub use survey::{Told, all_hold, outcome_text};
 pub use tellable::first_untold;
 pub use telling::{Found, told_of};

@@ -3,12 +3,12 @@ ghost use Rattle.std.specs.Prelude.{◌≡◌, ◌<◌, ◌++◌, ◌∷◌, [],
 ghost use Rattle.std.specs.List.{list_any};
 ghost use Rattle.outcome_text.specs.declared.merging.MergeFault.TheVariants as merge_fault;
 ghost use Rattle.outcome_text.specs.Nearby.{AreSome};
-ghost use Rattle.outcome_text.specs.Merge.{goes_along, are_apart, has_lists, lacks_turn, has_gap, all_lists, longest, all_of, IsJoined, IsWhole, WhyNoWhole};
-ghost use Rattle.outcome_text.specs.Order.{in_order};
+ghost use Rattle.outcome_text.specs.Merge.{are_apart, has_lists, lacks_turn, has_gap, all_lists, longest, all_of, IsJoined, IsWhole, WhyNoWhole};
 
+use crate::apart::first_overlap;
 use crate::counts::plus;
-use crate::nearby::{go_along, in_word_order, is_there};
-use crate::order::put_all;
+use crate::nearby::{in_word_order, is_there};
+use crate::order::in_order;
 use crate::part::Part;
 use crate::property::Property;
 use crate::ranked::{Survey, told_ordered};
@@ -61,32 +61,6 @@ impl From<NoMemory> for MergeFault {
     fn from(_error: NoMemory) -> MergeFault {
         MergeFault::NoMemory
     }
-}
-
-// The place of the first part that goes along with that one.
-fn first_along(parts: &[Part], part: &Part) -> Option<usize>
-    ensures { MatchOption result (list_any (goes_along part.now) parts.now ≡ false)
-        (λ at. (list_any (goes_along part.now) parts.now ≡ true) × (at < length parts.now)) }
-{
-    for (at, other) in parts.iter().enumerate() {
-        if go_along(part.begin.as_slice(), other.begin.as_slice()) {
-            return Some(at);
-        }
-    }
-    None
-}
-
-// The first two parts of which one begins with the other, or as it does.
-fn first_overlap(parts: &[Part]) -> Option<(usize, usize)>
-    ensures { MatchOption result (are_apart parts.now ≡ true) (λ _. are_apart parts.now ≡ false) }
-{
-    for (at, part) in parts.iter().enumerate() {
-        let after = at + 1;
-        if let Some(place) = first_along(&parts[after..], part) {
-            return Some((at, after + place));
-        }
-    }
-    None
 }
 
 // Equal turns, and one more of that actor.
@@ -215,16 +189,16 @@ fn longest(parts: &[Part]) -> u64
     turns
 }
 
-// The outcomes of all parts, in the order of their least lists.
-fn all_in_order(alloc: Global, parts: Vec<Part>) -> Result<Vec<Told>, NoMemory>
-    ensures { IfOk result (λ ordered. ordered.items ≡ in_order (all_of parts.items)) }
+// The outcomes of all parts, of one part after another.
+fn all_of(alloc: Global, parts: Vec<Part>) -> Result<Vec<Told>, NoMemory>
+    ensures { IfOk result (λ all. all.items ≡ all_of parts.items) }
 {
-    let mut left = parts;
-    let mut ordered = Vec::new(alloc);
-    while let Some(part) = left.pop() {
-        put_all(&mut ordered, part.all)?;
+    let mut all = Vec::new(alloc);
+    for part in parts {
+        let mut told = part.all;
+        all.append(&mut told)?;
     }
-    Ok(ordered)
+    Ok(all)
 }
 
 // The text of all lists of these parts, and whether no property fails.
@@ -232,7 +206,7 @@ fn joined(alloc: Global, parts: Vec<Part>, properties: &[Property]) -> Result<Su
     ensures { IfOk result (λ survey. IsJoined parts.items properties.now survey.holds survey.text) }
 {
     let (lists, turns) = (all_lists(&parts), longest(&parts));
-    let ordered = all_in_order(alloc, parts)?;
+    let ordered = in_order(all_of(alloc, parts)?)?;
     told_ordered(alloc, lists, None, turns, ordered, properties)
 }
 
@@ -244,7 +218,7 @@ pub fn merge(alloc: Global, parts: Vec<Part>, properties: &[Property]) -> Result
     ensures { MatchResult result (λ survey. IsWhole parts.items properties.now survey.holds survey.text)
         (WhyNoWhole parts.items) }
 {
-    if let Some((one, other)) = first_overlap(&parts) {
+    if let Some((one, other)) = first_overlap(alloc, &parts)? {
         return Err(MergeFault::Overlap(one, other));
     }
     if let Some((part, turn, actor)) = first_missing(alloc, &parts)? {

@@ -1,21 +1,23 @@
 //! Outcomes told in the order of their least lists.
 ghost use Rattle.std.specs.Prelude.{◌≡◌, IfOk};
 ghost use Rattle.outcome_text.specs.Order.{in_order};
-ghost use Rattle.outcome_text.specs.Conditions.{told_text, told_holds};
+ghost use Rattle.outcome_text.specs.Conditions.{counted, told_text, told_holds};
 
 use crate::conditions::{condition_lines, counted, lists_counted};
-use crate::order::put_all;
+use crate::order::in_order;
 use crate::property::Property;
 use crate::survey::{Told, all_hold, outcome_text};
 use path_text::NoMemory;
 use std::alloc::Global;
 use step_text::Output;
 
-/// The text of a survey, and whether no property fails.
+/// The text of a survey, whether no property fails, and the outcomes that it tells of.
 #[derive(Debug, Drop)]
 pub struct Survey {
     pub text: Output,
     pub holds: bool,
+    /// Those that count, in the order of their least lists.
+    pub outcomes: Vec<Told>,
 }
 
 /// The text of these outcomes, in the order of their least lists, as `outcome_text` tells them, and whether no property
@@ -32,9 +34,9 @@ pub fn told_in_order(
     ensures text { IfOk result (λ survey.
         survey.text ≡ told_text lists states longest (in_order all.items) properties.now) }
     ensures holds { IfOk result (λ survey. survey.holds ≡ told_holds (in_order all.items) properties.now) }
+    ensures outcomes { IfOk result (λ survey. survey.outcomes.items ≡ counted properties.now (in_order all.items)) }
 {
-    let mut ordered = Vec::new(alloc);
-    put_all(&mut ordered, all)?;
+    let ordered = in_order(all)?;
     told_ordered(alloc, lists, states, longest, ordered, properties)
 }
 
@@ -50,6 +52,7 @@ pub(crate) fn told_ordered(
     ensures text { IfOk result (λ survey.
         survey.text ≡ told_text lists states longest ordered.items properties.now) }
     ensures holds { IfOk result (λ survey. survey.holds ≡ told_holds ordered.items properties.now) }
+    ensures outcomes { IfOk result (λ survey. survey.outcomes.items ≡ counted properties.now ordered.items) }
 {
     let mut conditions = Output::new(alloc);
     condition_lines(&mut conditions, lists, &ordered, properties)?;
@@ -67,5 +70,9 @@ pub(crate) fn told_ordered(
         properties,
     )?;
     let holds = all_hold(&all, properties);
-    Ok(Survey { text, holds })
+    Ok(Survey {
+        text,
+        holds,
+        outcomes: all,
+    })
 }

@@ -16,8 +16,8 @@ fn begins_to_rise(list: &[u32]) -> bool
     }
 }
 
-// How many turns come before the longest tail that rises.
-fn before_tail(list: &[u32]) -> usize
+/// How many turns come before the longest tail that rises: those of the schedule that leads to a full list.
+pub fn before_tail(list: &[u32]) -> usize
     ensures within { result ≤ length list.now }
     ensures before { take result list.now ≡ without_tail list.now }
 {
