@@ -1,8 +1,8 @@
 -- What is told in the line after a fault: the limit that was met, and what helps.
 use Rattle.std.specs.Prelude.{ℕ, List, [], ◌++◌, nat_lt, if◌then◌else◌, codes, decimal}
-use Rattle.command_line.specs.declared.advice.TheConstants.{STATES_MAX}
+use Rattle.command_line.specs.declared.advice.TheConstants.{MEMORY_MAX, STATES_MAX}
 use Rattle.command_line.specs.declared.ending.Fault.{Fault}
-use Rattle.command_line.specs.declared.ending.Fault.TheVariants.{Usage, NotUtf8, Schedule, AskedTurn, AskedTurns, Width, Color, NoRequest, Run, Options, PropertyFails, ExploreActor, ExploreProperty, ExploreStates, ExploreTurns, ExploreBegin, ExploreCuts, Merge, DrawActors, DrawLines, ReplayEvents, Service}
+use Rattle.command_line.specs.declared.ending.Fault.TheVariants.{Usage, NotUtf8, Schedule, AskedTurn, AskedTurns, Width, Color, NoRequest, Run, Options, PropertyFails, ExploreActor, ExploreProperty, ExploreStates, ExploreTurns, ExploreBegin, ExploreCuts, ExploreMemory, ExploreGauge, Merge, DrawActors, DrawLines, ReplayEvents, Service}
 use Rattle.scripts.specs.declared.fault.RunFault.TheVariants.{BookFull}
 
 -- more may be asked for, up to a limit
@@ -18,6 +18,13 @@ turn_advice at words = codes "turn " ++ (decimal at ++ words)
 abbrev pub actor_advice : ℕ → List ℕ
 actor_advice actor = codes "--actor " ++ (decimal actor ++ codes " is none of the script's; its first actor is 0")
 
+-- more may be asked for, up to a limit
+abbrev pub memory_advice : ℕ → List ℕ
+memory_advice most =
+    codes "more than " ++ (decimal most ++ (
+    if nat_lt most MEMORY_MAX then codes " MB; --memory takes up to 1000000"
+    else codes " MB; --cuts and --begin leave fewer states"))
+
 -- where there is no more to tell it is nothing
 abbrev pub advice_of : Fault → ℕ → List ℕ
 advice_of (AskedTurn at) states = codes "a turn is an actor's number, counted from 0"
@@ -31,6 +38,8 @@ advice_of (ExploreBegin at) states =
     turn_advice at (codes " of --begin, counted from 0, is of an actor who has nothing left to do")
 advice_of (ExploreCuts at) states =
     turn_advice at (codes " of --begin, counted from 0, makes more cuts than --cuts takes")
+advice_of (ExploreMemory most) states = memory_advice most
+advice_of ExploreGauge states = codes "--memory reads in /proc/self/status how much is taken, and could not"
 advice_of DrawActors states = codes "a picture has at most 4 actors"
 advice_of DrawLines states = codes "a picture has at most 2000 lines, and its run 2000 events"
 advice_of ReplayEvents states = codes "a report as JSON has at most 2000 events"

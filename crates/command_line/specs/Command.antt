@@ -76,18 +76,23 @@ pub record IsExploration (matches : ArgMatches) (options : Options) : Type 0 whe
   pub begin : option_map (λ text. text.now) options.begin ≡ first_value (found_of matches) (codes "begin")
   pub states : option_map (λ text. text.now) options.states ≡ first_value (found_of matches) (codes "states")
   pub jobs : option_map (λ text. text.now) options.jobs ≡ first_value (found_of matches) (codes "jobs")
+  pub memory : option_map (λ text. text.now) options.memory ≡ first_value (found_of matches) (codes "memory")
   pub outside : IsOption matches (codes "outside") options.outside
   pub when : texts_in options.when.now ≡ texts_given matches (codes "when")
   pub never : texts_in options.never.now ≡ texts_given matches (codes "never")
   pub always : texts_in options.always.now ≡ texts_given matches (codes "always")
 
--- `--merge` asks for a merge, `--part` for a part, and else all is explored
+-- `--merge` asks for a merge, `--part` for a part, `--html` for a page, and else all is explored
 abbrev pub IsExploreRequest : ArgMatches → Request → Type 0
 IsExploreRequest matches request.Merge = IsOption matches (codes "merge") true
 IsExploreRequest matches (request.Part options) =
     IsOption matches (codes "merge") false × IsOption matches (codes "part") true × IsExploration matches options
+IsExploreRequest matches (request.ExplorePage options) =
+    IsOption matches (codes "merge") false × IsOption matches (codes "part") false
+    × IsOption matches (codes "html") true × IsExploration matches options
 IsExploreRequest matches (request.Explore options) =
-    IsOption matches (codes "merge") false × IsOption matches (codes "part") false × IsExploration matches options
+    IsOption matches (codes "merge") false × IsOption matches (codes "part") false
+    × IsOption matches (codes "html") false × IsExploration matches options
 IsExploreRequest matches other = ⊥
 
 -- ---- the command that was named
@@ -114,6 +119,8 @@ IsRequest matches (Some (request.Run workers)) =
     (own : ArgMatches) × (AreOf matches (codes "run") own × IsWorkers own workers)
 IsRequest matches (Some (request.Explore options)) =
     (own : ArgMatches) × (AreOf matches (codes "explore") own × IsExploreRequest own (request.Explore options))
+IsRequest matches (Some (request.ExplorePage options)) =
+    (own : ArgMatches) × (AreOf matches (codes "explore") own × IsExploreRequest own (request.ExplorePage options))
 IsRequest matches (Some (request.Part options)) =
     (own : ArgMatches) × (AreOf matches (codes "explore") own × IsExploreRequest own (request.Part options))
 IsRequest matches (Some request.Merge) =

@@ -1,12 +1,15 @@
 //! What is told in the line after a fault: the limit that was met, and what helps.
 ghost use Rattle.std.specs.Prelude.{◌++◌, decimal};
 ghost use Rattle.step_text.specs.Output.{Gains};
-ghost use Rattle.command_line.specs.Advice.{states_advice, turn_advice, actor_advice, advice_of};
+ghost use Rattle.command_line.specs.Advice.{memory_advice, states_advice, turn_advice, actor_advice, advice_of};
 
 use crate::ending::Fault;
 use path_text::NoMemory;
 use scripts::RunFault;
 use step_text::Output;
+
+/// The most megabytes that may be asked for.
+const MEMORY_MAX: u32 = 1_000_000;
 
 /// The most states that may be asked for.
 const STATES_MAX: u64 = 10_000_000;
@@ -37,6 +40,27 @@ fn add_states(out: &mut Output, states: u64) -> Result<(), NoMemory>
         "more than ",
         states,
         " states; --cuts and --begin leave fewer",
+    )
+}
+
+// Adds what is told of a search that may take so many megabytes.
+fn add_memory(out: &mut Output, most: u32) -> Result<(), NoMemory>
+    ensures { Gains out.old out.new (memory_advice most) result }
+{
+    let number = u64::from(most);
+    if most < MEMORY_MAX {
+        return add_number(
+            out,
+            "more than ",
+            number,
+            " MB; --memory takes up to 1000000",
+        );
+    }
+    add_number(
+        out,
+        "more than ",
+        number,
+        " MB; --cuts and --begin leave fewer states",
     )
 }
 
@@ -86,6 +110,10 @@ pub fn advise(out: &mut Output, fault: Fault, states: u64) -> Result<(), NoMemor
             at,
             " of --begin, counted from 0, makes more cuts than --cuts takes",
         ),
+        Fault::ExploreMemory(most) => add_memory(out, most),
+        Fault::ExploreGauge => {
+            out.text("--memory reads in /proc/self/status how much is taken, and could not")
+        }
         Fault::DrawActors => out.text("a picture has at most 4 actors"),
         Fault::DrawLines => out.text("a picture has at most 2000 lines, and its run 2000 events"),
         Fault::ReplayEvents => out.text("a report as JSON has at most 2000 events"),

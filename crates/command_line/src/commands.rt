@@ -59,6 +59,8 @@ const STATES: &str = "states";
 
 const JOBS: &str = "jobs";
 
+const MEMORY: &str = "memory";
+
 const OUTSIDE: &str = "outside";
 
 const WHEN: &str = "when";
@@ -301,10 +303,22 @@ fn with_numbers<'a>(alloc: Global, command: Command<'a>) -> Result<Command<'a>, 
         ArgAction::Set,
         "Search on at most N threads: 1 to 64, or 1",
     );
-    command.arg(actor)?.arg(cuts)?.arg(states)?.arg(jobs)
+    let memory = valued(
+        alloc,
+        MEMORY,
+        "N",
+        ArgAction::Set,
+        "Give up where more than N MB are taken: 1 to 1000000, of 1000000 bytes",
+    );
+    command
+        .arg(actor)?
+        .arg(cuts)?
+        .arg(states)?
+        .arg(memory)?
+        .arg(jobs)
 }
 
-// Adds the options of `explore` that are for parts of all schedules.
+// Adds the options of `explore` that say which schedules there are, and what is printed of them.
 fn with_parts<'a>(alloc: Global, command: Command<'a>) -> Result<Command<'a>, AllocError> {
     let begin = valued(
         alloc,
@@ -313,6 +327,12 @@ fn with_parts<'a>(alloc: Global, command: Command<'a>) -> Result<Command<'a>, Al
         ArgAction::Set,
         "Only schedules that begin so: I or I*N between commas, for actor I; - for none",
     );
+    let html = option(
+        alloc,
+        HTML,
+        "Print a page for a browser, which plays the first 64 outcomes",
+    )
+    .conflicts_with(PART)?;
     let part = option(
         alloc,
         PART,
@@ -324,7 +344,7 @@ fn with_parts<'a>(alloc: Global, command: Command<'a>) -> Result<Command<'a>, Al
         "Read such lines in place of a script, and print what all schedules come to",
     )
     .exclusive(true);
-    command.arg(begin)?.arg(part)?.arg(merge)
+    command.arg(begin)?.arg(html)?.arg(part)?.arg(merge)
 }
 
 // Adds the options of `explore` that say what is told beside the replies.
@@ -425,6 +445,8 @@ pub enum Request<'a> {
     Run(usize),
     /// With the texts of its options.
     Explore(Options<'a>),
+    /// The same, as a page.
+    ExplorePage(Options<'a>),
     /// The same, as a part of all schedules.
     Part(Options<'a>),
     /// Of parts, in place of a script.
@@ -507,6 +529,7 @@ fn exploration_asked<'m>(matches: &'m ArgMatches<'_>) -> Options<'m>
         begin: matches.get_str(BEGIN),
         states: matches.get_str(STATES),
         jobs: matches.get_str(JOBS),
+        memory: matches.get_str(MEMORY),
         outside: matches.get_flag(OUTSIDE),
         when: texts_of(matches, WHEN),
         never: texts_of(matches, NEVER),
@@ -524,6 +547,8 @@ fn request_of_explore<'m>(matches: &'m ArgMatches<'_>) -> Request<'m>
     let options = exploration_asked(matches);
     if matches.get_flag(PART) {
         Request::Part(options)
+    } else if matches.get_flag(HTML) {
+        Request::ExplorePage(options)
     } else {
         Request::Explore(options)
     }

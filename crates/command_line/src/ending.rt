@@ -62,6 +62,12 @@ pub enum Fault {
     /// With the turn at that place of the beginning there are more cuts than are asked for.
     #[error("explore: cuts {0}")]
     ExploreCuts(usize),
+    /// More than so many megabytes were taken.
+    #[error("explore: memory")]
+    ExploreMemory(u32),
+    /// How much memory was taken isn't known.
+    #[error("explore: gauge")]
+    ExploreGauge,
     /// Parts make no whole.
     #[error("merge: {0}")]
     Merge(MergeFault),
@@ -144,6 +150,8 @@ impl From<ExploreFault> for Fault {
             ExploreFault::TooManyTurns => Fault::ExploreTurns,
             ExploreFault::NotBusy(at) => Fault::ExploreBegin(at),
             ExploreFault::TooManyCuts(at) => Fault::ExploreCuts(at),
+            ExploreFault::TooMuchMemory(most) => Fault::ExploreMemory(most),
+            ExploreFault::NoGauge => Fault::ExploreGauge,
         }
     }
 }
@@ -197,6 +205,8 @@ pub fn status(ended: &Result<(), Fault>) -> u8
             | Fault::ExploreTurns
             | Fault::ExploreBegin(_)
             | Fault::ExploreCuts(_)
+            | Fault::ExploreMemory(_)
+            | Fault::ExploreGauge
             | Fault::Merge(_)
             | Fault::DrawActors
             | Fault::DrawLines

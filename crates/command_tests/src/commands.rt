@@ -174,6 +174,7 @@ fn asks_explored(alloc: Global, words: &[&str], want: Options) -> bool {
         && options.begin == want.begin
         && options.states == want.states
         && options.jobs == want.jobs
+        && options.memory == want.memory
         && options.outside == want.outside
         && options.when == want.when
         && options.never == want.never
@@ -198,6 +199,8 @@ fn reads_what_is_to_be_explored(rt: HostRuntime) {
         "--states=7",
         "--jobs",
         "4",
+        "--memory",
+        "512",
         "--outside",
         "--when",
         "row",
@@ -210,6 +213,7 @@ fn reads_what_is_to_be_explored(rt: HostRuntime) {
         begin: Some("0,1*2"),
         states: Some("7"),
         jobs: Some("4"),
+        memory: Some("512"),
         outside: true,
         when: &["row"],
         never: &["held 0 2"],

@@ -1,5 +1,5 @@
 -- What is drawn of a script: its tree is read a second time, its roots are granted there, and the picture is one of its run.
-use Rattle.std.proofs.Common.{◌≡◌, ℕ, List, [], length, sym, ap, ◌∙◌, subst, arith}
+use Rattle.std.proofs.Common.{◌≡◌, ◌≢◌, ℕ, List, [], length, sym, ap, ◌∙◌, subst, arith}
 use Rattle.std.specs.Prelude.{Option, Some}
 use Rattle.std.proofs.lemmas.List.{length-map}
 use Rattle.drawings.specs.declared.picture.Closes.{Closes}
@@ -62,20 +62,20 @@ is_drawing style said t tree calls events replies picture text run h are drawn_s
 -- and where there is none, it is told why
 pub is_no_drawing : (closes : Closes) (said : Said) (t tree : State) (calls : List (List (List ℕ))) (events : List Event) (replies : List (List Outcome)) (fault : PictureFault) (told : DrawFault)
     → IsPlayable said → IsRunOf said tree events replies → opened_by (granted (tree_of said) 0 said.plans) ≡ Some t → calls ≡ calls_of said.plans
-    → IsPictureFault events (drawn_of closes t calls events replies) fault → told ≡ told_of fault → IsNoDrawing closes said told
+    → (fault ≢ picture_fault.NoMemory → IsPictureFault events (drawn_of closes t calls events replies) fault) → told ≡ told_of fault → IsNoDrawing closes said told
 is_no_drawing closes said t tree calls events replies fault told playable run h are why is = subst (IsNoDrawing closes said) (sym is) (by fault why)
   where
     counted : length calls ≡ length said.plans
     counted = ap length are ∙ length-map said.plans _
 
-    by : (fault : PictureFault) → IsPictureFault events (drawn_of closes t calls events replies) fault → IsNoDrawing closes said (told_of fault)
-    by picture_fault.Actors why = let some = playable.some in omega (arith, counted, some, why)
+    by : (fault : PictureFault) → (fault ≢ picture_fault.NoMemory → IsPictureFault events (drawn_of closes t calls events replies) fault) → IsNoDrawing closes said (told_of fault)
+    by picture_fault.Actors why = let some = playable.some in let over = why (λ e. cc (e)) in omega (arith, counted, some, over)
     by picture_fault.Lines why =
         record {
           tree = tree;
           events = events;
           replies = replies;
           run = run;
-          over = subst (IsLong events) (made closes said t tree calls events replies run h are) why.2;
+          over = subst (IsLong events) (made closes said t tree calls events replies run h are) (why (λ e. cc (e))).2;
         }
     by picture_fault.NoMemory why = tt

@@ -1,19 +1,20 @@
 -- What is told of a run as JSON, and its page: the tree in which the roots were granted again is the one that it went from.
-use Rattle.std.proofs.Common.{◌≡◌, ◌≢◌, ℕ, List, [], ◌++◌, length, sym, ap, ◌∙◌}
-use Rattle.std.specs.Prelude.{Some, codes, Result, Ok, Err, MatchResult, IfOk}
+use Rattle.std.proofs.Common.{◌≡◌, ◌≢◌, ℕ, List, [], ◌∷◌, ◌++◌, length, sym, ap, ◌∙◌}
+use Rattle.std.specs.Prelude.{Some, codes}
+use Rattle.std.specs.List.{flat_map}
 use Rattle.drawings.specs.declared.picture.Closes.{Closes}
 use Rattle.drawings.specs.Calls.{calls_of}
 use Rattle.drawings.specs.Picture.{Drawn, drawn_of}
-use Rattle.pages.specs.Page.{text_part, report_part, picture_part, ending, page_of}
+use Rattle.pages.specs.declared.played.Played.{Played}
+use Rattle.pages.specs.Page.{played_of, text_part, run_part, ending, page_of}
 use Rattle.pages.specs.Run.{opening_part, replies_part, events_part, report_json}
-use Rattle.pages.specs.Shown.{picture_json}
 use Rattle.race_core.specs.declared.report.Outcome.{Outcome}
 use Rattle.race_core.specs.Opening.{granted}
 use Rattle.report_text.specs.Report.{report_text}
 use Rattle.tree_model.specs.declared.answer.Event.{Event}
 use Rattle.tree_model.specs.State.{State}
 use Rattle.draw_command.specs.Drawing.{drawn, opened_by}
-use Rattle.draw_command.specs.Page.{IsJsonOf, IsPageOf, run_json}
+use Rattle.draw_command.specs.Page.{IsJsonOf, IsPageOf, run_json, run_played}
 use Rattle.draw_command.proofs.Drawings.{opening, made}
 use Rattle.walk_replay_command.specs.Replay.{IsRunOf}
 use Rattle.scripts.specs.Writing.{tree_of}
@@ -30,21 +31,27 @@ pub is_json : (said : Said) (t tree : State) (events : List Event) (replies : Li
 is_json said t tree events replies text run h told =
     record { tree = tree; events = events; replies = replies; run = run; is = told ∙ told_of_run said t tree events replies run h }
 
-pub is_page : (closes : Closes) (said : Said) (t tree : State) (calls : List (List (List ℕ))) (events : List Event) (replies : List (List Outcome)) (picture : Drawn) (text json page : List ℕ)
+-- so is what a page plays
+pub played_so : (closes : Closes) (said : Said) (t tree : State) (calls : List (List (List ℕ))) (events : List Event) (replies : List (List Outcome)) (run : IsRunOf said tree events replies)
+    → opened_by (granted (tree_of said) 0 said.plans) ≡ Some t → calls ≡ calls_of said.plans → played_of closes t calls events replies ≡ run_played closes said tree events replies run
+played_so closes said t tree calls events replies run h are =
+    ap (λ (bs : List ℕ). record { report = bs; picture = drawn_of closes t calls events replies }) (told_of_run said t tree events replies run h)
+    ∙ ap (λ (p : Drawn). record { report = run_json said tree events replies run; picture = p }) (made closes said t tree calls events replies run h are)
+
+pub is_page : (closes : Closes) (said : Said) (t tree : State) (calls : List (List (List ℕ))) (events : List Event) (replies : List (List Outcome)) (played : Played) (text page : List ℕ)
     → IsRunOf said tree events replies → opened_by (granted (tree_of said) 0 said.plans) ≡ Some t → calls ≡ calls_of said.plans
-    → picture ≡ drawn_of closes t calls events replies → text ≡ report_text events replies tree (length said.plans) → json ≡ report_json t events replies
-    → page ≡ page_of text json (picture_json picture) → IsPageOf closes said page
-is_page closes said t tree calls events replies picture text json page run h are drawn_so text_so json_so is =
+    → played ≡ played_of closes t calls events replies → text ≡ report_text events replies tree (length said.plans)
+    → page ≡ page_of text (played ∷ []) → IsPageOf closes said page
+is_page closes said t tree calls events replies played text page run h are played_is text_so is =
     record {
       tree = tree;
       events = events;
       replies = replies;
       run = run;
       is =
-          is ∙ ap (λ bs. page_of bs json (picture_json picture)) text_so
-          ∙ ap (λ bs. page_of (report_text events replies tree (length said.plans)) bs (picture_json picture)) (json_so ∙ told_of_run said t tree events replies run h)
-          ∙ ap (λ (p : Drawn). page_of (report_text events replies tree (length said.plans)) (run_json said tree events replies run) (picture_json p))
-          (drawn_so ∙ made closes said t tree calls events replies run h are);
+          is ∙ ap (λ bs. page_of bs (played ∷ [])) text_so
+          ∙ ap (λ (p : Played). page_of (report_text events replies tree (length said.plans)) (p ∷ []))
+          (played_is ∙ played_so closes said t tree calls events replies run h are);
     }
 
 -- ---- neither is empty
@@ -53,10 +60,9 @@ ending_some : ending ≢ []
 unfolding ending
 ending_some = λ e. cc (e)
 
-pub page_some : (text report picture : List ℕ) → page_of text report picture ≢ []
+pub page_some : (text : List ℕ) (runs : List Played) → page_of text runs ≢ []
 unfolding page_of
-page_some text report picture =
-    tail_some (text_part text) _ (tail_some (report_part report) _ (tail_some (picture_part picture) ending ending_some))
+page_some text runs = tail_some (text_part text) _ (tail_some (flat_map run_part runs) ending ending_some)
 
 opening_some : (opened : State) → opening_part opened ≢ []
 unfolding opening_part

@@ -1,12 +1,12 @@
 -- What `inroot replay --json` and `inroot draw --html` write: a report on a run of the world that the script says as
 -- JSON, and a page of it.
-use Rattle.std.specs.Prelude.{⊤, ◌≡◌, ◌≢◌, ◌<◌, ℕ, List, length, Option, Result, MatchResult, IsOkAnd, IfSome}
+use Rattle.std.specs.Prelude.{⊤, ◌≡◌, ◌≢◌, ◌<◌, ℕ, List, [], ◌∷◌, length, Option, Result, MatchResult, IsOkAnd, IfSome}
 use Rattle.std.specs.Io.KnownBytes.{Keeps}
 use Rattle.drawings.specs.declared.picture.Closes.{Closes}
 use Rattle.drawings.specs.declared.picture.TheConstants.{ACTORS_MAX}
 use Rattle.pages.specs.Page.{page_of}
 use Rattle.pages.specs.Run.{report_json}
-use Rattle.pages.specs.Shown.{picture_json}
+use Rattle.pages.specs.declared.played.Played.{Played}
 use Rattle.race_core.specs.declared.report.Outcome.{Outcome}
 use Rattle.report_text.specs.Report.{report_text}
 use Rattle.tree_model.specs.declared.answer.Event.{Event}
@@ -67,14 +67,22 @@ IsJson order known old new result = MatchResult result
 
 -- ---- the page
 
--- the page of the report on some run, as text and as JSON, and of its picture
+-- a run as a page plays it: its report as JSON, and its picture
+abbrev pub run_played : (closes : Closes) (said : Said) (tree : State) (events : List Event)
+    (replies : List (List Outcome)) → IsRunOf said tree events replies → Played
+run_played closes said tree events replies run = record {
+  report = run_json said tree events replies run;
+  picture = drawn closes said tree events replies run;
+}
+
+-- the page of the report on some run as text, and of that run
 pub record IsPageOf (closes : Closes) (said : Said) (text : List ℕ) : Type 0 where
   pub tree : State
   pub events : List Event
   pub replies : List (List Outcome)
   pub run : IsRunOf said tree events replies
   pub is : text ≡ page_of (report_text events replies tree (length said.plans))
-      (run_json said tree events replies run) (picture_json (drawn closes said tree events replies run))
+      (run_played closes said tree events replies run ∷ [])
 
 -- its faults are those of a drawing
 abbrev pub IsPageFaultOf : Closes → Result Said ScriptFault → DrawFault → Type 0

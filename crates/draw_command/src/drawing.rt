@@ -66,7 +66,7 @@ impl From<NoMemory> for DrawFault {
 }
 
 /// How it is told that there is no picture of some actors.
-pub(crate) fn told_of(fault: PictureFault) -> DrawFault
+pub fn told_of(fault: PictureFault) -> DrawFault
     ensures { result ≡ told_of fault }
 {
     match fault {
@@ -94,11 +94,7 @@ fn add_picture(
 
 /// Grants each actor its root, in the order of their numbers. `NoMemory` where room was refused; where a script's
 /// checks have passed, no root is refused otherwise.
-pub(crate) fn grant_roots(
-    alloc: Global,
-    tree: &mut ListTree,
-    plans: &[ActorPlan],
-) -> Result<(), NoMemory>
+pub fn grant_roots(alloc: Global, tree: &mut ListTree, plans: &[ActorPlan]) -> Result<(), NoMemory>
     requires { length plans.now ≤ ACTORS_MAX }
     ensures { OnOk result (opened_by (granted tree.old 0 plans.now) ≡ Some tree.new) }
 {

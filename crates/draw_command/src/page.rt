@@ -1,14 +1,15 @@
 //! A script's run as JSON, and as a page that a browser shows.
-ghost use Rattle.std.specs.Prelude.{◌≡◌, ◌≢◌, [], IfOk, MatchResult};
+ghost use Rattle.std.specs.Prelude.{◌≡◌, ◌≢◌, [], ◌∷◌, IfOk, MatchResult};
 ghost use Rattle.draw_command.specs.declared.page.JsonFault.TheVariants as json_fault;
 ghost use Rattle.scripts.specs.declared.fault.RunFault.TheVariants.{NoMemory as OutOfMemory};
 ghost use Rattle.draw_command.specs.Drawing.{IsNoDrawing};
 ghost use Rattle.draw_command.specs.Page.{IsJsonOf, IsNoJson, IsJson, IsPageOf, IsPage};
+ghost use Rattle.pages.specs.Page.{page_of};
 ghost use Rattle.scripts.specs.Scenario.{said_by, IsPlayable};
 
 use crate::drawing::{DrawFault, grant_roots, told_of};
-use drawings::{Closes, Picture, calls_of};
-use pages::{report_json, run_page};
+use drawings::{Closes, calls_of};
+use pages::{Played, report_json, runs_page};
 use path_text::NoMemory;
 use report_text::report;
 use scripts::{RunFault, Scenario, TurnOrder, read_scene};
@@ -89,6 +90,17 @@ pub fn replay_json<R: Read, W: Write>(
     }
 }
 
+// The page of a text and of one run.
+fn page_with(alloc: Global, text: &[u8], run: Played) -> Result<Output, NoMemory>
+    ensures { IfOk result (λ page. page ≡ page_of text.now (run ∷ [])) }
+{
+    let mut runs = Vec::new(alloc);
+    runs.push(run)?;
+    let mut whole = Output::new(alloc);
+    runs_page(alloc, &mut whole, text, &runs)?;
+    Ok(whole)
+}
+
 /// The page of a scenario's run. Errors as of a drawing.
 fn page_of(
     alloc: Global,
@@ -105,26 +117,15 @@ fn page_of(
     grant_roots(alloc, &mut tree, &scenario.plans)?;
     let calls = calls_of(alloc, &scenario.plans)?;
     let actors = scenario.plans.len() as u32;
-    let opening = tree.copy(alloc)?;
     let came_to = report_of(alloc, scenario)?;
     let (events, replies) = (&came_to.events, &came_to.replies);
-    let picture = match Picture::of(alloc, opening, &calls, events, replies, closes) {
-        Ok(picture) => picture,
+    let run = match Played::of(alloc, tree, &calls, events, replies, closes) {
+        Ok(run) => run,
         Err(fault) => return Err(told_of(fault)),
     };
     let mut text = Output::new(alloc);
     report(alloc, &mut text, &came_to, actors)?;
-    let mut json = Output::new(alloc);
-    report_json(alloc, &mut json, tree, &came_to.events, &came_to.replies)?;
-    let mut whole = Output::new(alloc);
-    run_page(
-        alloc,
-        &mut whole,
-        text.as_slice(),
-        json.as_slice(),
-        &picture,
-    )?;
-    Ok(whole)
+    Ok(page_with(alloc, text.as_slice(), run)?)
 }
 
 /// Reads a script, runs its world in this order of turns, and writes a page of HTML that needs nothing beside itself:

@@ -2,12 +2,13 @@
 //! explores scripts of calls that race, and lets workers make a script's calls.
 //!
 //! It hands the words of its command line to `command_line`, and standard input and output to `walk_replay_command`,
-//! `draw_command`, `run_command` and `explore_command`, where it is stated what a run writes; it ends with the status
-//! that `command_line` says of what happened.
+//! `draw_command`, `run_command`, `explore_command` and `explore_page_command`, where it is stated what a run writes;
+//! it ends with the status that `command_line` says of what happened.
 #![tactic(auto)]
 
 ghost use Rattle.std.specs.Prelude.{◌<◌, ◌≤◌};
 
+mod taken;
 mod telling;
 mod waiting;
 
@@ -19,6 +20,7 @@ use command_line::{
 use draw_command::{Style, draw, draw_page, replay_json};
 use drawings::Closes;
 use explore_command::{Asked, explore_part, explore_script, merge_parts, read_asked};
+use explore_page_command::{ExplorePageFault, explore_page};
 use run_command::run_jobs;
 use scripts::{RunFault, TurnOrder, read_script, read_strictly};
 use std::alloc::Global;
@@ -27,6 +29,7 @@ use std::process::ExitCode;
 use std::sync::Wait;
 use std::thread::Threads;
 use std::{env, io};
+use taken::Taken;
 use telling::{Told, tell};
 use waiting::Waiting;
 use walk_replay_command::{replay, walk};
@@ -74,6 +77,7 @@ enum Task<'a> {
     Page(TurnOrder, Closes),
     Run(Workers),
     Explore(Asked),
+    ExplorePage(Asked),
     Part(Asked),
     Merge,
 }
@@ -120,6 +124,7 @@ fn task_of<'m>(rt: &HostRuntime, matches: &'m ArgMatches<'_>) -> Result<Task<'m>
         ),
         Request::Run(count) => Task::Run(Workers { count }),
         Request::Explore(options) => Task::Explore(read_asked(alloc, options)?),
+        Request::ExplorePage(options) => Task::ExplorePage(read_asked(alloc, options)?),
         Request::Part(options) => Task::Part(read_asked(alloc, options)?),
         Request::Merge => Task::Merge,
     })
@@ -172,12 +177,25 @@ fn perform<R: Threads + Wait + Sync, S: Read>(
         }
         Task::Explore(asked) => {
             let mut waiting = Waiting::new(rt, asked.limits.states);
-            let holds = explore_script(alloc, threads, script, &mut output, asked, &mut waiting)?;
-            return judged(holds);
+            let taken = Taken::new(rt);
+            let (told, wait) = (&mut output, &mut waiting);
+            return judged(explore_script(alloc, threads, script, told, asked, &taken, wait)?);
+        }
+        Task::ExplorePage(asked) => {
+            let mut waiting = Waiting::new(rt, asked.limits.states);
+            let taken = Taken::new(rt);
+            let (told, wait) = (&mut output, &mut waiting);
+            return match explore_page(alloc, threads, script, told, asked, &taken, wait) {
+                Ok(holds) => judged(holds),
+                Err(ExplorePageFault::Explore(fault)) => Err(Fault::from(fault)),
+                Err(ExplorePageFault::Draw(fault)) => Err(Fault::from(fault)),
+            };
         }
         Task::Part(asked) => {
             let mut waiting = Waiting::new(rt, asked.limits.states);
-            explore_part(alloc, threads, script, &mut output, asked, &mut waiting)?;
+            let taken = Taken::new(rt);
+            let (told, wait) = (&mut output, &mut waiting);
+            explore_part(alloc, threads, script, told, asked, &taken, wait)?;
         }
         Task::Merge => return judged(merge_parts(alloc, script, &mut output)?),
     }
@@ -187,7 +205,7 @@ fn perform<R: Threads + Wait + Sync, S: Read>(
 /// How many states may be gone through.
 fn most_states(task: &Task<'_>) -> u64 {
     match task {
-        Task::Explore(asked) | Task::Part(asked) => asked.limits.states,
+        Task::Explore(asked) | Task::ExplorePage(asked) | Task::Part(asked) => asked.limits.states,
         _ => 0,
     }
 }

@@ -8,7 +8,7 @@ pub const BEGINNING: &str = "<!doctype html>
 <meta name=\"viewport\" content=\"width=device-width, initial-scale=1\">
 <meta http-equiv=\"Content-Security-Policy\"
  content=\"default-src 'none'; script-src 'unsafe-inline'; style-src 'unsafe-inline'\">
-<title>A run of calls below a root</title>
+<title>Calls below a root</title>
 <style>
 :root { color-scheme: light; --line: #8a93a5; --shade: #e3e0d8; --now: #fff3bf; }
 body { margin: 1rem; background: #fff; color: #1c1f26; font: 14px/1.45 system-ui, sans-serif; }
@@ -38,7 +38,13 @@ tr.now td:first-child::before { content: \"> \"; }
 .failed { color: #9a6700; }
 .bad { color: #c0182b; font-weight: bold; }
 #heading-pane { max-height: 25vh; padding: .2rem .4rem; }
-#heading li { white-space: pre-wrap; }
+#heading li, #outcomes li li { white-space: pre-wrap; }
+#numbers li { display: inline-block; margin-right: 1.5rem; }
+#outcomes-pane { max-height: 38vh; }
+#outcomes > li { padding: .1rem .4rem; }
+#outcomes > li + li { border-top: 1px solid var(--line); }
+#outcomes > li.chosen { background: var(--now); }
+#outcomes li li { padding-left: 1.9rem; font-size: .86em; color: #444b59; }
 #tree li, #gone li { border-left: 4px solid transparent; padding: .05rem .4rem .05rem calc(.4rem + var(--depth, 0) * 1.25rem); }
 #tree li.outside { background: var(--shade); border-left: 4px double var(--line); }
 li.changed .name { background: var(--now); outline: 1px solid #b08900; }
@@ -49,7 +55,8 @@ li.changed .name { background: var(--now); outline: 1px solid #b08900; }
 @media print {
   body { margin: 0; font-size: 11px; }
   #controls label, #controls input, #controls select { display: none; }
-  .pane, #heading-pane { overflow: visible; max-height: none; }
+  .pane, #heading-pane, #outcomes-pane { overflow: visible; max-height: none; }
+  #properties button { display: none; }
   #panes { display: block; }
   tr, li { break-inside: avoid; }
   th { position: static; }
@@ -61,7 +68,17 @@ li.changed .name { background: var(--now); outline: 1px solid #b08900; }
 </head>
 <body>
 <main>
-<h1>A run of calls below a root</h1>
+<h1>Calls below a root</h1>
+<section id=\"survey\" aria-labelledby=\"survey-name\" hidden>
+<h2 id=\"survey-name\">What all schedules come to</h2>
+<ul id=\"numbers\"></ul>
+<ul id=\"properties\"></ul>
+<h2 id=\"outcomes-name\">The outcomes, each played by its least schedule</h2>
+<div class=\"pane\" id=\"outcomes-pane\" tabindex=\"0\" role=\"region\" aria-labelledby=\"outcomes-name\">
+<ul id=\"outcomes\" role=\"radiogroup\" aria-labelledby=\"outcomes-name\"></ul>
+</div>
+<p id=\"unplayed\" hidden></p>
+</section>
 <div id=\"shown\" hidden>
 <h2 id=\"heading-name\">What the actors called for, and how it ended</h2>
 <div class=\"pane\" id=\"heading-pane\" tabindex=\"0\" role=\"region\" aria-labelledby=\"heading-name\">
@@ -88,31 +105,40 @@ li.changed .name { background: var(--now); outline: 1px solid #b08900; }
 </section>
 </div>
 </div>
-<noscript><p>A script of this page shows the run moment by moment. It doesn't run here, so this is the report as
-text.</p></noscript>
+<noscript><p>A script of this page shows the run moment by moment, or of an exploration the least run of each of the
+first 64 outcomes. It doesn't run here, so this is the report as text.</p></noscript>
 <details id=\"text\" open>
 <summary>The report as text</summary>
 <pre>
 ";
 
-/// What stands between the report as text and the report as JSON.
-pub const REPORT: &str = "</pre>
+/// What stands behind the report as text, before the runs.
+pub const RUNS: &str = "</pre>
 </details>
 </main>
-<script type=\"application/json\" id=\"report\">";
+";
 
-/// What stands between the report and the picture.
+/// What stands before the report of a run as JSON.
+pub const REPORT: &str = "<script type=\"application/json\" class=\"report\">";
+
+/// What stands between the report of a run and its picture.
 pub const PICTURE: &str = "</script>
-<script type=\"application/json\" id=\"picture\">";
+<script type=\"application/json\" class=\"picture\">";
+
+/// What stands behind the picture of a run.
+pub const RUN_END: &str = "</script>
+";
 
 /// What a page ends with: the script that shows the picture and the tree of each moment.
-pub const END: &str = "</script>
-<script>
+pub const END: &str = "<script>
 (() => {
   'use strict';
   const find = (id) => document.getElementById(id);
-  const report = JSON.parse(find('report').textContent);
-  const picture = JSON.parse(find('picture').textContent);
+
+  // The run that is shown: its report, its picture, and the nodes of the actors' roots.
+  let report;
+  let picture;
+  let roots;
 
   // An element with a text, which is never read as markup.
   const make = (tag, text, name) => {
@@ -174,8 +200,6 @@ pub const END: &str = "</script>
     }
     return rows;
   };
-
-  const roots = report.handles.slice(0, picture.actors).map(([, , node]) => node);
 
   // A node with its name, its number, and a mark for each handle that is open on it.
   const item = (tree, node, held) => {
@@ -270,12 +294,17 @@ pub const END: &str = "</script>
     });
   };
 
-  const begin = () => {
+  // The columns, the heading and the controls of a run, at its end.
+  const play = (at) => {
+    report = JSON.parse(document.querySelectorAll('script.report')[at].textContent);
+    picture = JSON.parse(document.querySelectorAll('script.picture')[at].textContent);
+    roots = report.handles.slice(0, picture.actors).map(([, , node]) => node);
     const table = make('table', '');
     const names = make('tr', '');
     const head = make('thead', '');
     const body = make('tbody', '');
     names.append(make('th', ''));
+    find('root').replaceChildren();
     for (let actor = 0; actor < picture.actors; actor += 1) {
       names.append(make('th', `actor ${actor}`, `actor${actor}`));
       const choice = make('option', `actor ${actor}`);
@@ -288,16 +317,100 @@ pub const END: &str = "</script>
     head.append(names);
     body.append(...stepRows());
     table.append(head, body);
-    find('steps').append(table);
-    find('heading').append(...picture.heading.map(({ tone, text }) => make('li', text, tone)));
+    find('steps').replaceChildren(table);
+    find('heading').replaceChildren(...picture.heading.map(({ tone, text }) => make('li', text, tone)));
     find('moment').max = report.events.length;
     find('moment').value = report.events.length;
+    show();
+  };
+
+  // What explore prints: numbers, a block for each outcome, and the lines of conditions and of properties.
+  const surveyed = (text) => {
+    const survey = { numbers: [], outcomes: [], properties: [] };
+    for (const line of text.split('\\n').filter((it) => it !== '')) {
+      const [, told, schedule] = line.match(/^outcome (\\d+ schedules .* schedule (\\S+))$/) || [];
+      if (told !== undefined) {
+        survey.outcomes.push({ told, schedule, lines: [] });
+      } else if (/^(when|never|always) /.test(line)) {
+        survey.properties.push(line);
+      } else if (survey.outcomes.length > 0) {
+        survey.outcomes[survey.outcomes.length - 1].lines.push(line);
+      } else {
+        survey.numbers.push(line);
+      }
+    }
+    return survey;
+  };
+
+  const choose = (at) => {
+    for (const [k, li] of [...find('outcomes').children].entries()) {
+      li.classList.toggle('chosen', k === at);
+      li.querySelector('input').checked = k === at;
+    }
+    play(at);
+  };
+
+  // An outcome of the list. One that isn't played can't be chosen.
+  const outcomeItem = ({ told, lines }, at, played) => {
+    const li = make('li', '');
+    const label = make('label', '');
+    const radio = make('input', '');
+    radio.type = 'radio';
+    radio.name = 'outcome';
+    radio.disabled = at >= played;
+    radio.addEventListener('change', () => choose(at));
+    label.append(radio, ` outcome ${told}`);
+    const own = make('ul', '');
+    own.append(...lines.map((line) => make('li', line)));
+    li.append(label, own);
+    return li;
+  };
+
+  // The line of a property, with a button that plays the schedule by which it fails, where that is an outcome's.
+  const propertyItem = (line, outcomes, played) => {
+    const [, failing] = line.match(/ = fails .* schedule (\\S+)$/) || [];
+    const li = make('li', line, failing !== undefined ? 'bad' : line.endsWith(' = holds') ? 'good' : '');
+    const at = outcomes.findIndex(({ schedule }) => schedule === failing);
+    if (at >= 0 && at < played) {
+      const button = make('button', `play outcome ${at}`);
+      button.addEventListener('click', () => choose(at));
+      li.append(' ', button);
+    }
+    return li;
+  };
+
+  const beginSurvey = (text, played) => {
+    const { numbers, outcomes, properties } = surveyed(text);
+    find('numbers').append(...numbers.map((line) => make('li', line)));
+    find('properties').append(...properties.map((line) => propertyItem(line, outcomes, played)));
+    find('outcomes').append(...outcomes.map((outcome, at) => outcomeItem(outcome, at, played)));
+    if (played < outcomes.length) {
+      find('unplayed').textContent = `The outcomes from ${played} on are listed alone. `
+        + 'inroot draw --html --schedule SCHEDULE plays each.';
+      find('unplayed').hidden = false;
+    }
+    find('survey').hidden = false;
+    if (played > 0) {
+      choose(0);
+    }
+  };
+
+  const begin = () => {
+    const text = find('text').querySelector('pre').textContent;
+    const isSurvey = text.startsWith('schedules ');
+    const played = document.querySelectorAll('script.report').length;
+    document.title = isSurvey ? 'All schedules of calls below a root' : 'A run of calls below a root';
+    document.querySelector('h1').textContent = document.title;
     find('moment').addEventListener('input', show);
     find('root').addEventListener('change', show);
     find('text').open = false;
-    find('shown').hidden = false;
-    show();
-    find('moment').focus();
+    find('shown').hidden = played === 0;
+    if (isSurvey) {
+      beginSurvey(text, played);
+    } else {
+      play(0);
+    }
+    (document.querySelector('#outcomes input') || find('moment')).focus();
   };
 
   begin();

@@ -1,8 +1,11 @@
 //! Runs as JSON, and pages of them. What `replay --json` and `draw --html` write is looked at by `checks/pages`.
-use drawings::{Closes, Picture, PictureFault, calls_of};
+use drawings::{Closes, PictureFault, calls_of};
 use event_log::EventLog;
 use fixtures::tree_of;
-use pages::{BEGINNING, END, PICTURE, REPORT, embedded_text_opens_no_tag, report_json, run_page};
+use pages::{
+    BEGINNING, END, PICTURE, Played, REPORT, RUN_END, RUNS, embedded_text_opens_no_tag,
+    report_json, runs_page,
+};
 use path_text::{Errno, Name, Names, NoMemory};
 use race_core::{ActorPlan, Outcome, Outcomes, Plans};
 use std::alloc::Global;
@@ -68,7 +71,7 @@ fn writes_what_each_event_changed(rt: HostRuntime) -> Result<(), Fail> {
 const SHOWN: &str =
     "{\"actors\":1,\"heading\":[{\"tone\":\"plain\",\"text\":\"actor 0 below /\"}],\"lines\":[{\"moment\":0,\"actor\":0,\"tone\":\"plain\",\"text\":\"make_dir /\\u003c\\\"\\\\x5c = done\"},{\"moment\":1,\"actor\":0,\"tone\":\"plain\",\"text\":\"open c in / = dir 1\"}]}\n";
 
-fn picture_of(alloc: Global) -> Result<Result<Picture, PictureFault>, Errno> {
+fn played(alloc: Global) -> Result<Result<Played, PictureFault>, Errno> {
     let mut plans = Vec::new(alloc);
     plans.push(ActorPlan {
         root: Names::new(alloc),
@@ -76,7 +79,7 @@ fn picture_of(alloc: Global) -> Result<Result<Picture, PictureFault>, Errno> {
     })?;
     let calls = calls_of(alloc, &plans)?;
     let log = history(alloc)?;
-    Ok(Picture::of(
+    Ok(Played::of(
         alloc,
         granted(alloc)?,
         &calls,
@@ -86,48 +89,50 @@ fn picture_of(alloc: Global) -> Result<Result<Picture, PictureFault>, Errno> {
     ))
 }
 
-/// A page of a text and of JSON with markup in them.
-fn page_of(alloc: Global, picture: &Picture) -> Result<Output, NoMemory> {
+/// The line of the history, as it stands in a page.
+const EMBEDDED: &str =
+    "{\"version\":1,\"nodes\":[[0,\"dir\"],[1,\"dir\",0,\"c\"]],\"handles\":[[0,0,0]],\"replies\":[[\"done\",\"fault ENOENT\"]],\"events\":[{\"actor\":0,\"step\":\"make_dir 0 \\u003c\\\"\\\\x5c\",\"answer\":\"done\",\"nodes\":[[2,\"dir\",0,\"\\u003c\\\"\\\\x5c\"]],\"handles\":[]},{\"actor\":0,\"step\":\"open 0 c\",\"answer\":\"opened 1 1 dir\",\"nodes\":[],\"handles\":[[1,0,1]]},{\"actor\":0,\"step\":\"close 1\",\"answer\":\"done\",\"nodes\":[],\"handles\":[[1]]}]}\n";
+
+/// A page of a text with markup in it, and of these runs.
+fn page_of(alloc: Global, runs: &[Played]) -> Result<Output, NoMemory> {
     let mut out = Output::new(alloc);
-    let text = b"</pre>&lt;\n".as_slice();
-    run_page(
-        alloc,
-        &mut out,
-        text,
-        b"[\"</script><!--\"]".as_slice(),
-        picture,
-    )?;
+    runs_page(alloc, &mut out, b"</pre>&lt;\n".as_slice(), runs)?;
     Ok(out)
 }
 
-/// What that page is.
-fn wanted(alloc: Global) -> Result<Output, NoMemory> {
+/// What the page of so many such runs is.
+fn wanted(alloc: Global, runs: usize) -> Result<Output, NoMemory> {
     let mut out = Output::new(alloc);
-    for part in [
-        BEGINNING,
-        "&lt;/pre>&amp;lt;\n",
-        REPORT,
-        "[\"\\u003c/script>\\u003c!--\"]",
-        PICTURE,
-        SHOWN,
-        END,
-    ] {
+    for part in [BEGINNING, "&lt;/pre>&amp;lt;\n", RUNS] {
         out.text(part)?;
     }
+    for run in 0..runs {
+        for part in [REPORT, EMBEDDED, PICTURE, SHOWN, RUN_END] {
+            out.text(part)?;
+        }
+    }
+    out.text(END)?;
     Ok(out)
 }
 
-fn is_wanted(alloc: Global) -> Result<bool, Errno> {
-    let Ok(picture) = picture_of(alloc)? else {
-        return Ok(false);
-    };
-    let page = page_of(alloc, &picture)?;
-    Ok(page.as_slice() == wanted(alloc)?.as_slice())
+/// Whether a page of so many such runs is that page.
+fn is_wanted(alloc: Global, count: usize) -> Result<bool, Errno> {
+    let mut runs = Vec::new(alloc);
+    for at in 0..count {
+        let Ok(run) = played(alloc)? else {
+            return Ok(false);
+        };
+        runs.push(run)?;
+    }
+    let page = page_of(alloc, &runs)?;
+    Ok(page.as_slice() == wanted(alloc, count)?.as_slice())
 }
 
 #[test]
 fn writes_a_page_in_which_no_name_is_a_tag(rt: HostRuntime) -> Result<(), Fail> {
     embedded_text_opens_no_tag();
-    assert!(rt; is_wanted(rt.alloc())?);
+    for runs in 0..3 {
+        assert!(rt; is_wanted(rt.alloc(), runs)?);
+    }
     Ok(())
 }

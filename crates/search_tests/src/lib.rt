@@ -1,7 +1,9 @@
 //! Graphs of turns, limits of searches, what they find beside each list gone through by itself, what parts of them make
-//! together, and options read, by tables. What searches tell are outputs of the program.
+//! together, limits of memory, and options read, by tables. What searches tell are outputs of the program.
 #![tactic(auto)]
 
+#[cfg(test)]
+mod gauges;
 #[cfg(test)]
 mod graphs;
 #[cfg(test)]

@@ -20,7 +20,7 @@ const PART_1: Begun = (&[1], &[&[0, 1]], 1);
 /// Parts without outcomes, and why they make no whole, if they make none.
 type Merge = (&'static [Begun], Option<MergeFault>);
 
-const MERGES: [Merge; 14] = [
+const MERGES: [Merge; 15] = [
     (&[PART_1, PART_0], None),
     (&[(&[], &[], 6)], None),
     // a part of no schedules may be there too
@@ -33,6 +33,16 @@ const MERGES: [Merge; 14] = [
         Some(MergeFault::Overlap(1, 2)),
     ),
     (&[PART_0, (&[], &[], 6)], Some(MergeFault::Overlap(0, 1))),
+    // the first part's neighbours in the order of words are the last one, with which it doesn't go along, and part 1
+    (
+        &[
+            (&[0, 2], &[&[0, 1], &[0, 1, 2]], 1),
+            PART_1,
+            PART_0,
+            (&[0, 1], &[&[0, 1], &[0, 1, 2]], 1),
+        ],
+        Some(MergeFault::Overlap(0, 2)),
+    ),
     // an overlap is told before a gap, even if one of the parts has no schedules
     (
         &[PART_0, (&[0], &[&[0, 1]], 0)],
@@ -314,6 +324,7 @@ fn untold<R: Threads + Sync>(alloc: Global, threads: &R, case: &Untold) -> Optio
         &mut reader,
         &mut written,
         &asked,
+        &Silent,
         &mut Silent,
     );
     if written.is_empty() { told.err() } else { None }
@@ -409,6 +420,7 @@ fn unread_part<R: Threads + Sync>(alloc: Global, threads: &R) -> Option<ExploreF
         &mut reader,
         &mut written,
         &asked,
+        &Silent,
         &mut Silent,
     )
     .err()
@@ -426,6 +438,7 @@ fn unwritten_part<R: Threads + Sync>(alloc: Global, threads: &R) -> Option<Explo
         &mut reader,
         &mut writer,
         &asked,
+        &Silent,
         &mut Silent,
     )
     .err()

@@ -10,6 +10,7 @@ const NONE: Options<'static> = Options {
     begin: None,
     states: None,
     jobs: None,
+    memory: None,
     outside: false,
     when: &[],
     never: &[],
@@ -22,6 +23,7 @@ const ALL: Options<'static> = Options {
     begin: Some("1,0*2"),
     states: Some("1"),
     jobs: Some("64"),
+    memory: Some("1000000"),
     outside: true,
     when: &["outside 1 0"],
     never: &["outside 0 1"],
@@ -40,6 +42,7 @@ fn reads_all(alloc: Global) -> Result<bool, OptionFault> {
             && asked.limits.scope.begin.as_slice() == [1, 0, 0].as_slice()
             && asked.limits.states == 1
             && asked.jobs == Jobs::new(64)
+            && asked.memory == Some(1_000_000)
             && asked.limits.scope.outside
             && rules == [Rule::When, Rule::Never, Rule::Always, Rule::Always],
     )
@@ -52,7 +55,8 @@ fn reads_none(alloc: Global) -> Result<bool, OptionFault> {
             && asked.limits.scope.cuts.is_none()
             && asked.limits.scope.begin.is_empty()
             && asked.limits.states == 100_000
-            && asked.jobs.is_none(),
+            && asked.jobs.is_none()
+            && asked.memory.is_none(),
     )
 }
 

@@ -120,6 +120,7 @@ pub fn asked_of(
         begin: if begin.is_empty() { None } else { Some(begin) },
         states: None,
         jobs: Some(jobs),
+        memory: None,
         outside: *outside,
         when,
         never: *never,
@@ -137,7 +138,16 @@ pub fn add_part<R: Threads + Sync>(
     asked: &Asked,
 ) -> Option<()> {
     let mut reader = script.as_bytes();
-    explore_part(alloc, threads, &mut reader, lines, asked, &mut Silent).ok()
+    explore_part(
+        alloc,
+        threads,
+        &mut reader,
+        lines,
+        asked,
+        &Silent,
+        &mut Silent,
+    )
+    .ok()
 }
 
 /// The parts of a cover as lines, in the cover's order.
@@ -176,7 +186,16 @@ fn whole<R: Threads + Sync>(
     let asked = asked_of(alloc, question, jobs, "")?;
     let mut reader = script.as_bytes();
     let mut text = Vec::new(alloc);
-    let holds = explore_script(alloc, threads, &mut reader, &mut text, &asked, &mut Silent).ok()?;
+    let holds = explore_script(
+        alloc,
+        threads,
+        &mut reader,
+        &mut text,
+        &asked,
+        &Silent,
+        &mut Silent,
+    )
+    .ok()?;
     Some((text, holds))
 }
 
@@ -250,7 +269,7 @@ fn part_of<R: Threads + Sync>(
     if scene.plans.len() > ACTORS_MAX {
         return None;
     }
-    part_of_scene(alloc, threads, scene, asked, &mut Silent).ok()
+    part_of_scene(alloc, threads, scene, asked, &Silent, &mut Silent).ok()
 }
 
 /// What is told of the whole, where there may be so many actors.
@@ -263,7 +282,7 @@ fn survey_of<R: Threads + Sync>(
     if scene.plans.len() > ACTORS_MAX {
         return None;
     }
-    survey_scene(alloc, threads, scene, asked, &mut Silent).ok()
+    survey_scene(alloc, threads, scene, asked, &Silent, &mut Silent).ok()
 }
 
 /// A script, the most cuts, and a beginning; who might have each of its turns, up to the first that can't be taken; and

@@ -21,7 +21,7 @@ returns-in-Err-clause-drawn c =
     granted_so c.args.scenario.tree c.args.tree t said.plans c.deref.result.now c.requires.same c.requires.none c.deref.ensures.value c.in_ok-grant_roots.ensures in
     let are : calls ≡ calls_of said.plans = c.deref-3.ensures.value ∙ c.in_ok-calls.ensures ∙ ap calls_of c.deref-2.ensures.value in
     is_no_drawing c.args.style.closes said t run.tree calls run.events.events run.replies.items c.in-Err.fault c.told_of.result c.requires.playable c.in_ok-came_to.ensures opened are
-    (subst (λ (rs : List (List Outcome)). IsPictureFault run.events.events (drawn_of c.args.style.closes t calls run.events.events rs) c.in-Err.fault) c.deref-4.ensures.value c.in-Err.ensures.err) c.told_of.ensures
+    (λ _. subst (λ (rs : List (List Outcome)). IsPictureFault run.events.events (drawn_of c.args.style.closes t calls run.events.events rs) c.in-Err.fault) c.deref-4.ensures.value c.in-Err.ensures.err) c.told_of.ensures
 
 pub returns-clause-drawn : goal.returns-clause-drawn
 returns-clause-drawn c =

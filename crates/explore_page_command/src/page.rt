@@ -1,0 +1,101 @@
+//! A script explored, as a page.
+ghost use Rattle.std.specs.Prelude.{◌≡◌, ◌≢◌, [], IfOk, MatchResult};
+ghost use Rattle.explore_command.specs.Gauge.{SaysNoMore};
+ghost use Rattle.explore_page_command.specs.ExplorePage.{IsExplorationPage, IsNoExplorationPage, IsExplorePage, WhyPageTookTooMuch};
+ghost use Rattle.scripts.specs.Scenario.{said_by, IsPlayable};
+
+use crate::fault::ExplorePageFault;
+use crate::runs::runs_of;
+use draw_command::DrawFault;
+use drawings::ACTORS_MAX;
+use explore::{Progress, Scene};
+use explore_command::{Asked, Gauge, Waiter, survey_scene, told_by};
+use outcome_text::{ExploreFault, Survey};
+use pages::runs_page;
+use path_text::NoMemory;
+use scripts::{RunFault, Scenario, TurnOrder, read_scene};
+use std::alloc::Global;
+use std::io::{Read, Write};
+use std::thread::Threads;
+use step_text::Output;
+use tree_list::ListTree;
+
+// A page, and whether no property fails.
+#[derive(Debug, Drop)]
+struct Exploration {
+    page: Output,
+    holds: bool,
+}
+
+// The page of all schedules of what a script says. Errors as of `explore_page`, but for those of reading and writing.
+fn explored<Rt: Threads + Sync, G: Gauge, P: Progress>(
+    alloc: Global,
+    threads: &Rt,
+    scenario: Scenario,
+    tree: ListTree,
+    asked: &Asked,
+    gauge: &G,
+    progress: &mut P,
+) -> Result<Exploration, ExplorePageFault>
+    requires same { tree ≡ scenario.tree }
+    requires none { scenario.tree.handles ≡ [] }
+    requires playable { IsPlayable (said_by scenario) }
+    ensures page { MatchResult result
+        (λ shown. IsExplorationPage asked.now shown.holds (said_by scenario) shown.page)
+        (IsNoExplorationPage asked.now (said_by scenario)) }
+    ensures memory { MatchResult result (λ _. SaysNoMore (G.may_say gauge.now) asked.now.memory)
+        (WhyPageTookTooMuch (G.may_say gauge.now)) }
+{
+    let (plans, lines) = (scenario.plans, scenario.lines);
+    if plans.len() as u64 > ACTORS_MAX {
+        return Err(ExplorePageFault::Draw(DrawFault::TooManyActors));
+    }
+    if (lines as usize) < plans.len() {
+        return Err(ExplorePageFault::Explore(ExploreFault::Run(RunFault::BookFull)));
+    }
+    let scene = Scene { tree, plans, lines };
+    let survey = match survey_scene(alloc, threads, &scene, asked, gauge, progress) {
+        Ok(survey) => survey,
+        Err(fault) => return Err(ExplorePageFault::Explore(told_by(fault))),
+    };
+    let runs = runs_of(alloc, &scene, &survey.outcomes)?;
+    let mut page = Output::new(alloc);
+    runs_page(alloc, &mut page, survey.text.as_slice(), &runs)?;
+    Ok(Exploration {
+        page,
+        holds: survey.holds,
+    })
+}
+
+/// Reads a script, goes through all schedules of its world as `explore_script` does, and writes a page of HTML that
+/// needs nothing beside itself: it has the text that `explore_script` writes, and plays the first 64 outcomes of this
+/// text, each by its least schedule: of each it has the report that `replay --json` writes, and the picture that `draw`
+/// draws. The result is whether no property fails. `gauge` is looked at, and `progress` hears, as of `explore_script`.
+///
+/// Errors, in this order: those of `read_scenario`; `TooManyActors` over the 4 that a picture has; `BookFull` and those
+/// that follow it of `explore_script`; `TooManyLines` where a run that is played has more than 2,000 events, or its
+/// picture more than 2,000 lines; `NoMemory`; `WriteFailed`. Nothing is written before the page is whole.
+#[tactic(auto, using(crate::proofs::Pages::text_some))]
+pub fn explore_page<Rt: Threads + Sync, R: Read, W: Write, G: Gauge, P: Waiter>(
+    alloc: Global,
+    threads: &Rt,
+    reader: &mut R,
+    writer: &mut W,
+    asked: &Asked,
+    gauge: &G,
+    progress: &mut P,
+) -> Result<bool, ExplorePageFault>
+    ensures run { IsExplorePage asked.now (R.remaining reader.old) (W.contents writer.old) (W.contents writer.new)
+        result }
+    ensures memory { MatchResult result (λ _. SaysNoMore (G.may_say gauge.now) asked.now.memory)
+        (WhyPageTookTooMuch (G.may_say gauge.now)) }
+{
+    let (scenario, tree) = read_scene(alloc, reader, &TurnOrder::OfScript)?;
+    let shown = explored(alloc, threads, scenario, tree, asked, gauge, progress);
+    progress.over();
+    let shown = shown?;
+    match writer.write_all(shown.page.as_slice()) {
+        Ok(()) => Ok(shown.holds),
+        Err(_) => Err(ExplorePageFault::from(RunFault::WriteFailed)),
+    }
+}
