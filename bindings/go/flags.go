@@ -21,8 +21,9 @@ const (
 	NoRetry Flags = C.INROOT_NO_RETRY
 	// OneByOne looks up each name by a system call of its own.
 	OneByOne Flags = C.INROOT_ONE_BY_ONE
-	// Below leaves the last check to openat2(2): what is opened stood below the root then, at which names is not said.
-	// OpenParentInRoot takes it, too. Functions that change an entry or read a link refuse it, with EINVAL.
+	// Below leaves the path, with its links, and the last check to one openat2(2): what is opened stood below the root then,
+	// at which names is not said. Where that fails the steps are made. OpenParentInRoot takes it, too. Functions that change
+	// an entry or read a link refuse it, with EINVAL.
 	Below Flags = C.INROOT_BELOW
 )
 

@@ -19,7 +19,7 @@ const (
 	RootStays RootFlags = C.INROOT_ROOT_STAYS
 	// TrustProc, with RootStays, keeps the directory of the program's descriptors in /proc.
 	TrustProc RootFlags = C.INROOT_TRUST_PROC
-	// RootBelow makes each function that opens what is there leave the last check to openat2(2), as by Below.
+	// RootBelow makes each function that opens what is there leave the path and the last check to openat2(2), as by Below.
 	RootBelow RootFlags = C.INROOT_BELOW
 )
 

@@ -1,4 +1,5 @@
-//! Finds libinroot: in `INROOT_LIB_DIR` where that is set, else where `pkg-config` (or `PKG_CONFIG`) says.
+//! Finds libinroot: in `INROOT_LIB_DIR` where that is set, else where `pkg-config` (or `PKG_CONFIG`) says. That one refuses
+//! a library that is older than this crate.
 //! With `INROOT_STATIC` set it is linked statically.
 
 use std::env;
@@ -26,15 +27,16 @@ fn directories() -> Vec<String> {
     }
     let command = env::var_os("PKG_CONFIG").unwrap_or_else(|| "pkg-config".into());
     // A static library is looked for in the directories that are named alone, so those of the system are named too.
+    let wanted = concat!("inroot >= ", env!("CARGO_PKG_VERSION"));
     let asked =
-        Command::new(&command).args(["--libs-only-L", "inroot"]).env("PKG_CONFIG_ALLOW_SYSTEM_LIBS", "1").output();
+        Command::new(&command).args(["--libs-only-L", wanted]).env("PKG_CONFIG_ALLOW_SYSTEM_LIBS", "1").output();
     match asked {
         Ok(told) if told.status.success() => {
             let text = String::from_utf8_lossy(&told.stdout).into_owned();
             text.split_whitespace().filter_map(|word| word.strip_prefix("-L")).map(str::to_owned).collect()
         }
         Ok(told) => panic!(
-            "libinroot isn't found. Install it (make -C host install), or set PKG_CONFIG_PATH or INROOT_LIB_DIR. {}",
+            "There is no {wanted}. Install it (make -C host install), or set PKG_CONFIG_PATH or INROOT_LIB_DIR. {}",
             String::from_utf8_lossy(&told.stderr)
         ),
         Err(error) => panic!("{command:?} can't be run: {error}. Set INROOT_LIB_DIR to the directory of libinroot."),

@@ -35,6 +35,16 @@ END
         verdict $? "a Rust program has the wrong library, static: '$kind'"
     done
     unset INROOT_STATIC
+    # A library that is older than the binding is refused as that is built.
+    mkdir "$work/older" && sed 's/^Version: .*/Version: 0.0.9/' "$prefix/lib/pkgconfig/inroot.pc" >"$work/older/inroot.pc"
+    ! PKG_CONFIG_PATH=$work/older cargo build -q --offline --manifest-path "$work/rust/Cargo.toml" >"$work/printed" 2>&1 &&
+        grep -qF "There is no inroot >= $version" "$work/printed" && grep -qF 0.0.9 "$work/printed"
+    verdict $? "Rust over an older library: $(cat "$work/printed")"
+    # What cargo packs of the crate has the licence and the readme.
+    cmp -s LICENSE bindings/rust/LICENSE &&
+        cargo package -q --list --offline --allow-dirty --manifest-path bindings/rust/Cargo.toml >"$work/printed" 2>&1 &&
+        grep -qx LICENSE "$work/printed" && grep -qx README.md "$work/printed"
+    verdict $? "what cargo packs of bindings/rust: $(cat "$work/printed")"
 fi
 has_go=
 if ! lacks go 'bindings/go and the example in Go'; then

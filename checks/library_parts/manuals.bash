@@ -24,6 +24,10 @@ for name in $wanted; do
     grep -q "^[.]Nm $name\( ,\)*$" "$prefix/share/man/man3/$name.3"
     verdict $? "there is no man page of $name"
 done
+for page in man/*.[1357]; do
+    grep -q '^[.]Sh EXAMPLES$' "$page"
+    verdict $? "$page shows no example"
+done
 # Each flag of the header is told, and how much of the stack a call takes is told alike.
 flags_told=$(grep -o '^    INROOT_[A-Z_]* = ' host/inroot.h | sed 's/ = //')
 for name in $flags_told INROOT_NOREPLACE INROOT_EXCHANGE INROOT_JAIL; do
@@ -36,6 +40,11 @@ for name in $(sed -n 's/^[.]Xr \(inroot[a-z_-]*\|libinroot\) \([1357]\).*/\1.\2/
     [ -f "$prefix/share/man/man${name##*.}/$name" ]
     verdict $? "a man page names $name, and there is none"
 done
+# The errors that come before those on a call's page stand in one order.
+ordered_in_header() { sed -n '/gives -errno where it fails/,/any other/s/^ \*   \(E[A-Z0-9]*\) .*/\1/p' host/inroot.h; }
+ordered_in_manual() { sed -n '/^[.]Ss Errors/,/^[.]Sh/s/^[.]It Bq Er //p' man/libinroot.7; }
+[ "$(ordered_in_manual | wc -l)" -ge 15 ] && [ "$(ordered_in_manual)" = "$(ordered_in_header)" ]
+verdict $? "man/libinroot.7 has another order of errors: $(diff <(ordered_in_manual) <(ordered_in_header))"
 if ! lacks mandoc 'the form of the man pages'; then
     # Which pages of others are installed here is no matter.
     told=$(mandoc -T lint man/*.[1-8] 2>/dev/null | grep -v 'referenced manual not found')
@@ -79,7 +88,7 @@ if command -v fish >/dev/null; then
         PATH=$prefix/bin:$PATH HOME=$work fish -c "source completions/inroot-fs.fish; complete -C 'inroot-fs $*'" |
             cut -f 1 | LC_ALL=C sort | tr '\n' ,
     }
-    [ "$(fished "$box" r)" = readlink,resolve,rm,rmdir, ] && [ "$(fished "$box" ls ab)" = abs, ] &&
+    [ "$(fished "$box" r)" = readlink,realpath,resolve,rm,rmdir, ] && [ "$(fished "$box" ls ab)" = abs, ] &&
         [ "$(fished "$box" cat in/f)" = in/f, ] && [ "$(fished "$box" cat abs/)" = '' ]
     verdict $? "fish completes: $(fished "$box" r) $(fished "$box" ls ab) $(fished "$box" cat in/f)"
 fi

@@ -40,7 +40,7 @@ expect 0 $'a\nabs\nin\nup' '' ls
 expect 0 f '' ls in
 expect 1 '' "inroot-fs: ls 'in/f': ENOTDIR: Not a directory" ls in/f
 expect 0 /a/../../a/b '' readlink in
-expect 1 '' "inroot-fs: readlink 'a': EINVAL: it is no link" readlink a
+expect 1 '' "inroot-fs: readlink 'a': EINVAL: it is not a link" readlink a
 expect 1 '' "inroot-fs: readlink 'none': ENOENT: No such file or directory" readlink none
 expect 0 '' '' mkdir --parents --mode 711 in/x/y
 expect 1 '' "inroot-fs: mkdir 'up/x': ENOENT: No such file or directory, at 'outside'" mkdir --parents up/x
@@ -59,8 +59,8 @@ verdict $? 'inroot-fs made other modes'
 [ "$("$fs" "$box" stat in/x/new | sed -n '1,2p;6p' | xargs)" = 'kind file mode 0600 size 6' ]
 verdict $? "inroot-fs stat: $("$fs" "$box" stat in/x/new)"
 mkfifo "$box/fifo"
-expect 1 '' "inroot-fs: cat 'fifo': EINVAL: it is no regular file" cat fifo
-expect 1 '' "inroot-fs: write 'fifo': EINVAL: it is no regular file" write fifo <<<lost
+expect 1 '' "inroot-fs: cat 'fifo': EINVAL: it is not a regular file" cat fifo
+expect 1 '' "inroot-fs: write 'fifo': EINVAL: it is not a regular file" write fifo <<<lost
 # Kinds, modes and owners; of a link itself, and of what it means.
 expect 0 '' '' mknod in/x/p p
 expect 0 '' '' mknod -m 640 in/x/s s

@@ -94,8 +94,9 @@ impl ResolverFlags {
     pub const NO_RETRY: ResolverFlags = ResolverFlags(8);
     /// Looks up each name by a system call of its own, and not several by one openat2(2).
     pub const ONE_BY_ONE: ResolverFlags = ResolverFlags(32);
-    /// Leaves the last check to openat2(2): what is found stood below the root then, at which names is not said. Calls
-    /// that change an entry or read a link refuse it, with EINVAL; of a whole root there is [`RootFlags::BELOW`].
+    /// Leaves the path, with its links, and the last check to one openat2(2): what is found stood below the root then, at
+    /// which names is not said. Where that fails the steps are made. Calls that change an entry or read a link refuse the
+    /// flag, with EINVAL; of a whole root there is [`RootFlags::BELOW`].
     pub const BELOW: ResolverFlags = ResolverFlags(4096);
 }
 
@@ -110,7 +111,7 @@ impl RootFlags {
     pub const STAYS: RootFlags = RootFlags(8192);
     /// With it: the directory of the program's descriptors in /proc is kept.
     pub const TRUST_PROC: RootFlags = RootFlags(64);
-    /// Each call that finds an object leaves the last check to openat2(2).
+    /// Each call that finds an object leaves its path and the last check to openat2(2).
     pub const BELOW: RootFlags = RootFlags(4096);
 }
 
