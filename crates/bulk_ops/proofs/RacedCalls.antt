@@ -36,9 +36,9 @@ use Rattle.bulk_ops.specs.RemoveAllTells.{TellsGivenUp, TellsRemovalFailed}
 use Rattle.bulk_ops.specs.RacedCalls.{RacedMakesNeedAChange, RacedRemovalsNeedAChange}
 use Rattle.bulk_ops.specs.WalkFirst.{LeavesEntries, walk_part, TellsWalkFailed}
 use Rattle.bulk_ops.proofs.MakeAllEnds.{makes_tell}
-use Rattle.bulk_ops.proofs.MakingAlone.NewDirectories.{stands_on}
 use Rattle.bulk_ops.proofs.RemovingAll.EachEnd.{every_call_tells}
 use Rattle.bulk_ops.proofs.WalkParts.{same_nodes, own_within}
+use Rattle.tree_model.proofs.Standing.{Stands-append}
 
 -- ---- nodes that are only added to
 
@@ -57,7 +57,7 @@ grown_on {a} {b} {c} first second = record {
 }
 
 grown_stands : {a b : List Inode} → Grown a b → (r x : ℕ) (names : List (List ℕ)) → Stands a r x names → Stands b r x names
-grown_stands {a} grown r x names stands = subst (λ ns. Stands ns r x names) (sym grown.all) (stands_on a grown.more r x names stands)
+grown_stands {a} grown r x names stands = subst (λ ns. Stands ns r x names) (sym grown.all) (Stands-append a grown.more r x names stands)
 
 -- a node that has a place, or is the top, isn't gone; it stays so
 placed : (nodes : List Inode) (x d : ℕ) (n : List ℕ) → place_at nodes x ≡ Some (entry d n) → is_gone nodes x ≡ false

@@ -12,6 +12,7 @@ use std::mem;
 use step_resolver::{Goal, Root, Turn, Walk};
 use tree_model::{Answer, LentStep};
 
+mod ahead;
 mod clearing;
 mod copy;
 mod frame;

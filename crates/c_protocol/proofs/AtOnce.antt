@@ -2,7 +2,7 @@
 use Rattle.std.proofs.Common.{◌≡◌, ℕ, Bool, true, false, not, ◌==◌, ◌&&◌, ◌||◌, nat_lt, length, get_or, List, [], ◌∷◌, ◌++◌, map, reverse, cond, refl, sym, ap, ◌∙◌, subst}
 use Rattle.std.specs.Prelude.{if◌then◌else◌, is_none, Option, Some, None}
 use Rattle.std.specs.List.{list_all, onto_first}
-use Rattle.std.proofs.lemmas.Bool.{eqb-true}
+use Rattle.std.proofs.lemmas.Bool.{eqb-true, not-true}
 use Rattle.std.proofs.lemmas.List.{append_assoc, append-nil, reverse-append, reverse-reverse}
 use Rattle.std.proofs.lemmas.List.Sums.{AllPass-from_list_all}
 use Rattle.std.proofs.lemmas.Option.{same_Some}
@@ -226,10 +226,6 @@ record IsWalk (below : Below) (op : Op) (path : List ℕ) (kind : Kind) : Type 0
   stays : is_followed (follows goal) kind ≡ false
   found : (h : Handle) (names : List (List ℕ)) → h.kind ≡ kind → lift (walk.found h names) ≡ ends (opened h names)
 
-not_true : (b : Bool) → not b ≡ true → b ≡ false
-not_true true h = cc (h)
-not_true false h = refl
-
 resolves : (below : Below) (goal : Goal) (op : Op) (path : List ℕ) (kind : Kind) → starts below true op ≡ on_path below (Opens goal) path → is_followed (follows goal) kind ≡ false
     → IsWalk below op path kind
 resolves below goal op path kind begins stays = record {
@@ -275,7 +271,7 @@ module _ (asked_for : Asked) (path second : List ℕ) (op : Op) (kind : Kind) wh
       let is : Some (Resolve path) ≡ Some op = subst (λ n. op_by n ≡ Some op) (eqb-true asked_for.op 1 f) named in
       let plain : (not (is_followed true kind) || false) ≡ true = subst (λ n. opens_kind n kind ≡ true) (eqb-true asked_for.op 1 f) h in
       resolves (below_asked asked_for) Follow op path kind (ap (starts (below_asked asked_for) true) (sym (same_Some (Resolve path) op is)))
-      (not_true (is_followed true kind) (first_or (not (is_followed true kind)) plain))
+      (not-true (is_followed true kind) (first_or (not (is_followed true kind)) plain))
   by_number false false true e f g named h k =
       let is : Some (MkdirAll path) ≡ Some op = subst (λ n. op_by n ≡ Some op) (eqb-true asked_for.op 10 g) named in
       makes_all (below_asked asked_for) op path kind (sym (same_Some (MkdirAll path) op is)) k
@@ -325,7 +321,7 @@ tells each asked_for path second place kind op ps last named at_once read =
     let whole = and_true (is_none (text_fault path)) _ inside.1 in
     let spells = and_true (has_names (names_read place)) (spells_place path place) whole.1 in
     let is = by_number asked_for path second op (kind_of kind) (asked_for.op == 2) (asked_for.op == 1) (asked_for.op == 10) refl refl refl named kinds.0 kinds.0 in
-    let led = leads asked_for path second place kind op ps last is (not_true (leads_out (begins_with_slash path) below.flags) inside.0)
+    let led = leads asked_for path second place kind op ps last is (not-true (leads_out (begins_with_slash path) below.flags) inside.0)
     (no_fault (text_fault path) whole.0) (placed place (names_passed ps last) spells.0 read) spells.1 in
     record {
       leads = led;

@@ -25,6 +25,7 @@ use Rattle.c_protocol.specs.Numbers.{op_of, below_asked, answer_of}
 use Rattle.c_protocol.specs.Turns.{call_of, IsDueTold, BeginsTo, BeginsWith, IsNext}
 use Rattle.c_protocol.specs.History.{Heard, Exchange, Hears, Conversation, last_heard, is_close, Spells, IsMade, LineOf, LinesOf, RepliesLast, IsCall, IsWantAtOnce, ConversationsAreCalls}
 use Rattle.c_protocol.specs.declared.numbers.Asked.{Asked}
+use Rattle.std.proofs.lemmas.Option.{same_Some}
 
 -- ---- whether a line is left out
 
@@ -99,9 +100,6 @@ record Led (below : Below) (turn : call.CallTurn) (heard : Heard) (xs : List Exc
   lines_of : LinesOf heard xs lines
   leads : LeadsTo below turn lines (ends (reply_view reply))
 
-some_same : (a b : CallView) → Some a ≡ Some b → a ≡ b
-some_same a b e = cc (e)
-
 -- the call that is kept was answered so, and then this was heard
 abbrev Follows : Exchange → CallView → Type 0
 Follows x at = (turn : CallTurn) × (IsNext at x.answer x.bytes turn × Hears turn x.heard)
@@ -129,7 +127,7 @@ led below (Done reply) heard [] keeps hears over = record { reply = reply; told 
 led below (Done reply) heard (x ∷ xs) keeps hears onward = cc (ap call_of hears.0, onward.0.1.0)
 led below (More now) heard [] keeps hears over = cc (ap call_of over, hears.0)
 led below (More now) heard (x ∷ xs) keeps hears onward =
-    let same : onward.0.0 ≡ now = some_same onward.0.0 now (sym onward.0.1.0 ∙ hears.0) in
+    let same : onward.0.0 ≡ now = same_Some onward.0.0 now (sym onward.0.1.0 ∙ hears.0) in
     let goes : Follows x now = subst (Follows x) same onward.0.1.1 in
     let kept : Keeps below goes.0 = subst (λ (b : Below). Keeps b goes.0) keeps goes.1.0.1.1 in
     joined below now heard x xs goes.0 keeps hears.1 goes.1.0 (led below goes.0 x.heard xs kept goes.1.1 onward.1)

@@ -11,19 +11,9 @@ use Rattle.path_text.specs.declared.name.TheConstants.{SLASH}
 use Rattle.path_text.specs.Print.{after_slashes, printed}
 use Rattle.c_protocol.specs.Numbers.{ended}
 use Rattle.c_protocol.specs.Turns.{laid}
+use Rattle.path_text.proofs.Lists.{slashes-append, put, printed_some}
 
 -- ---- one text after another
-
--- bytes are laid right after a text that lies at the room's beginning
-pub put : (text bytes old room new : List ℕ) (at : ℕ) → at ≡ length text → room ≡ text ++ drop (length text) old
-    → new ≡ take at room ++ (bytes ++ drop (at + length bytes) room) → new ≡ (text ++ bytes) ++ drop (length (text ++ bytes)) old
-put text bytes old room new at is before laid_at =
-    laid_at ∙ ap (λ (r : List ℕ). take at r ++ (bytes ++ drop (at + length bytes) r)) before
-    ∙ ap (λ (k : ℕ). take k (text ++ drop (length text) old) ++ (bytes ++ drop (k + length bytes) (text ++ drop (length text) old))) is
-    ∙ ap (λ (l : List ℕ). l ++ (bytes ++ drop (length text + length bytes) (text ++ drop (length text) old))) (take-append_seam text (drop (length text) old))
-    ∙ ap (λ (l : List ℕ). text ++ (bytes ++ l)) (drop-append-drop (length text) old text (length text + length bytes) (omega arith) refl)
-    ∙ sym (append_assoc text bytes (drop (length text + length bytes) old))
-    ∙ ap (λ (k : ℕ). (text ++ bytes) ++ drop k old) (sym (length-append text bytes))
 
 -- at the room's beginning
 pub put_first : (bytes old new : List ℕ) → new ≡ take 0 old ++ (bytes ++ drop (0 + length bytes) old) → new ≡ bytes ++ drop (length bytes) old
@@ -38,10 +28,6 @@ pub ended_length : (text : List ℕ) → length (ended text) ≡ length text + 1
 ended_length text = length-append text (0 ∷ [])
 
 -- ---- names
-
-slashes-append : (xs ys : List (List ℕ)) → after_slashes (xs ++ ys) ≡ after_slashes xs ++ after_slashes ys
-slashes-append [] ys = refl
-slashes-append (x ∷ xs) ys = ap (λ (l : List ℕ). SLASH ∷ l) (ap (λ (l : List ℕ). x ++ l) (slashes-append xs ys) ∙ sym (append_assoc x (after_slashes xs) (after_slashes ys)))
 
 left_at : (k : ℕ) (names : List (List ℕ)) (name : List ℕ) → slice_get names k ≡ Some name → drop k names ≡ name ∷ drop (k + 1) names
 left_at k names name found =
@@ -71,10 +57,6 @@ within k names name found =
     let cut_up = length-append (after_slashes (take k names)) (SLASH ∷ (name ++ after_slashes (drop (k + 1) names))) in
     let named = length-append name (after_slashes (drop (k + 1) names)) in
     omega (arith, all, cut_up, named)
-
-pub printed_some : (names : List (List ℕ)) → 0 < length names → printed names ≡ after_slashes names
-printed_some [] some = let never : ⊥ = omega (arith, some) in absurd never
-printed_some (name ∷ names) some = refl
 
 -- a name for which there is too little left is one too many
 pub too_short : (names : List (List ℕ)) (k room left : ℕ) (name : List ℕ) → slice_get names k ≡ Some name

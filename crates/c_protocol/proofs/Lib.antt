@@ -14,4 +14,6 @@ mod FollowedAtOnce
 mod Refusing
 mod RunTurns
 mod RunStates
+mod PassingWalks
+mod AheadStates
 mod RunConversing

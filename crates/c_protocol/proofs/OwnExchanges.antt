@@ -32,6 +32,7 @@ use Rattle.c_protocol.specs.declared.numbers.Answered.{Answered}
 use Rattle.c_protocol.specs.declared.numbers.Asked.{Asked}
 use Rattle.c_protocol.specs.declared.numbers.Told.{Told}
 use Rattle.c_protocol.proofs.GivingUp.{GivesUp, goes_on, is_due, ended, given_up}
+use Rattle.std.proofs.lemmas.Option.{same_Some}
 
 -- ---- what is told of a step
 
@@ -103,9 +104,6 @@ failed_by (replies.Kept standing) e = cc (e)
 abbrev Follows : Exchange → CallView → Type 0
 Follows x at = (turn : CallTurn) × (IsNext at x.answer x.bytes turn × Hears turn x.heard)
 
-some_same : (a b : CallView) → Some a ≡ Some b → a ≡ b
-some_same a b e = cc (e)
-
 -- from a turn of a call that is given up
 from_there : (turn : CallTurn) (heard : Heard) (xs : List Exchange) → GivesUp (turn_view turn) → Hears turn heard → Conversation heard xs
     → OnlyCloses heard xs
@@ -117,7 +115,7 @@ from_there (Done reply) heard [] up hears over =
 from_there (Done reply) heard (x ∷ xs) up hears onward = cc (ap call_of hears.0, onward.0.1.0)
 from_there (More now) heard [] up hears over = cc (ap call_of over, hears.0)
 from_there (More now) heard (x ∷ xs) up hears onward =
-    let same : onward.0.0 ≡ now = some_same onward.0.0 now (sym onward.0.1.0 ∙ hears.0) in
+    let same : onward.0.0 ≡ now = same_Some onward.0.0 now (sym onward.0.1.0 ∙ hears.0) in
     let goes : Follows x now = subst (Follows x) same onward.0.1.1 in
     let answer = answer_of goes.1.0.0 x.answer x.bytes in
     let taken = goes.1.0.1.0 in
@@ -134,7 +132,7 @@ module _ (x : Exchange) (after : List Exchange) where
   to_there (Done reply) heard (y ∷ ys) hears onward unmade = cc (ap call_of hears.0, onward.0.1.0)
   to_there (More now) heard (y ∷ ys) hears onward unmade = to_there onward.0.1.1.0 y.heard ys onward.0.1.1.1.1 onward.1 unmade
   to_there (More now) heard [] hears onward unmade =
-      let same : onward.0.0 ≡ now = some_same onward.0.0 now (sym onward.0.1.0 ∙ hears.0) in
+      let same : onward.0.0 ≡ now = same_Some onward.0.0 now (sym onward.0.1.0 ∙ hears.0) in
       let goes : Follows x now = subst (Follows x) same onward.0.1.1 in
       let step = due now.below now.doing in
       let stays : is_close step ≡ false =

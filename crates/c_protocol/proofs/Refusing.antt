@@ -22,6 +22,7 @@ use Rattle.tree_model.specs.Trees.{IsState}
 use Rattle.tree_model.proofs.PlaceLaws.{not_found_is_missing}
 use Rattle.c_protocol.specs.Numbers.{step_told}
 use Rattle.c_protocol.specs.Refusals.{is_refusal, IsLeftAside, not_open, no_room, no_directory, invalid, StepsAreRefusedSo}
+use Rattle.std.proofs.lemmas.Bool.{not-true}
 
 -- ---- one test after another
 
@@ -69,10 +70,6 @@ changed : (s : State) (r : Result (List Inode) Errno) (error : Errno) → (chang
 changed s (Err fault) error is = ap Err (same_error fault error is)
 changed s (Ok nodes) error is = cc (is)
 
-not_true : (b : Bool) → not b ≡ true → b ≡ false
-not_true true e = absurd (true≢false (sym e))
-not_true false e = refl
-
 -- ---- a step
 
 module _ (s : State) (a : ℕ) (step : StepWith ℕ) (error : Errno) where
@@ -100,7 +97,7 @@ module _ (s : State) (a : ℕ) (step : StepWith ℕ) (error : Errno) where
     node = x;
     of_step = of_step;
     is_held = is_held;
-    is_none = not_true (is_dir s.nodes x) none;
+    is_none = not-true (is_dir s.nodes x) none;
   }))
 
   -- what is opened by a step that may be refused by ENOENT; or of which all that is opened is there

@@ -1,6 +1,6 @@
 -- How far a call has come by names, in the midst of the loops that pass them and lay them out.
 use Rattle.std.proofs.Common.{◌≡◌, ℕ, ◌+◌, ◌-◌, ◌<◌, ◌≤◌, Bool, false, List, [], ◌∷◌, ◌++◌, length, get_or, take, drop, refl, ap, sym, ◌∙◌, subst, arith, length-append}
-use Rattle.std.proofs.lemmas.List.{append-nil, take_more}
+use Rattle.std.proofs.lemmas.List.{take_more}
 use Rattle.path_text.specs.declared.name.TheConstants.{SLASH}
 use Rattle.path_text.specs.Print.{after_slashes}
 use Rattle.path_text.specs.Text.{between_slashes}
@@ -12,8 +12,8 @@ use Rattle.root_ops.specs.View.{CallView}
 use Rattle.c_protocol.specs.Runs.{Makes, Entered, steps_of, dir_behind, is_shut, names_of, Enters, GoesUp, AsksFor, up_text, IsEnd, ComeNext, IsRun}
 use Rattle.c_protocol.specs.declared.runs.Ahead.{Ahead}
 use Rattle.c_protocol.specs.declared.runs.Ran.{Ran}
-use Rattle.c_protocol.proofs.Laying.{put}
 use Rattle.c_protocol.proofs.RunTurns.{passes_one_more, one_dir_more, one_name_more, one_longer, counts_up, slashes_more, entered}
+use Rattle.path_text.proofs.Lists.{put}
 
 -- ---- names that are passed
 
@@ -161,32 +161,3 @@ at_end call at most from number used dir next count ahead old room new was many 
       up = λ is. subst (λ d. GoesUp (More at) d) was.here (end.up is);
       ends = λ is. subst (λ d. AsksFor (More at) d) was.here (end.ends is);
     }
-
--- or up to the call's end
-pub at_reply : (call : CallView) (most from number used dir next : ℕ) (turn : CallTurn) (ahead : Ahead) (old room : List ℕ)
-    → Looking call most from number used dir next turn old room → ahead ≡ record { names = next - number; used = used; up = false; ends = false }
-    → ComeNext call most number ahead old room
-at_reply call most from number used dir next turn ahead old room was is =
-    let text = after_slashes (names_of was.so_far) in
-    let plain : Ahead = record { names = next - number; used = used; up = false; ends = false } in
-    let nothing = append-nil text in
-    let counted : next - number ≡ length was.so_far = omega (arith, was.counted) in
-    let found : ComeNext call most number plain old room = record {
-      dir = from;
-      entered = was.so_far;
-      turn = turn;
-      makes = was.makes;
-      count = counted;
-      few = omega (arith, counted, was.few);
-      laid = was.laid ∙ ap (λ k. text ++ drop k old) (sym was.ends_at) ∙ ap (λ l. l ++ drop used old) (sym nothing);
-      used = was.ends_at ∙ ap length (sym nothing);
-      up = λ is. cc (is);
-      ends = λ is. cc (is);
-    } in
-    subst (λ (a : Ahead). ComeNext call most number a old room) (sym is) found
-
--- where the call goes on
-pub goes_on : (call at : CallView) (most from number used dir next : ℕ) (turn : CallTurn) (old room : List ℕ) → turn ≡ More at
-    → Looking call most from number used dir next turn old room → Looking call most from number used dir next (More at) old room
-goes_on call at most from number used dir next turn old room is was =
-    subst (λ (t : CallTurn). Looking call most from number used dir next t old room) is was

@@ -34,7 +34,7 @@ use Rattle.step_resolver.proofs.Underway.AfterDupAndClose.{not_made_good}
 use Rattle.step_resolver.proofs.Underway.HandlesHeld.{kept_on}
 use Rattle.step_resolver.proofs.Underway.LegalHistory.{begins_as_tree, lived, lines_happen}
 use Rattle.step_resolver.proofs.Underway.OwnSteps.{only_tell, own_events_leave_nodes}
-use Rattle.step_resolver.proofs.Ends.EachEnd.{take_good}
+use Rattle.step_resolver.proofs.Ends.EachEnd.{take_good, going_first, handles_at_first, wants_told}
 use Rattle.step_resolver.proofs.Ends.EveryWalk.{tree_laws}
 use Rattle.step_resolver.proofs.Ends.EntriesLeftAlone.{steady, root_is_no_child}
 use Rattle.step_resolver.proofs.Ends.TrailsAndMeaning.{Fits, AllAlone, Followed, follow}
@@ -183,17 +183,10 @@ module _ {w : WalkInHistory} (lived : Lived w) where
   good_after (line ∷ front) tail now (partial handle names rest) mid good happens leads wants mets = absurd leads
   good_after (line ∷ front) tail now (failed error) mid good happens leads wants mets = absurd leads
 
-  wants_told : (error : Errno) → IsWant error → TellsWant error w.lines → TellsError w error
-  wants_told error (inl e) want = subst (TellsError w) (sym e) (subst (λ x. TellsWant x w.lines) e want)
-  wants_told error (inr e) want = subst (TellsError w) (sym e) (subst (λ x. TellsWant x w.lines) e want)
-
-  going_first : Going w 0 root_itself [] (parts_of_walk w) LINKS_MAX
-  going_first = record { taken = []; parts = refl; reaches = λ z next t. t; within = λ z p t. absurd (no_stop t) }
-
   begins_good : leads_out w.path.absolute w.way.flags ≡ false → Good w 0 (begins w.way w.path)
   begins_good inside =
       subst (Good w 0) (sym (ap (λ b. if b then failed CrossRoot else goes_on w.way root_itself (todo [] (parts_of_walk w) LINKS_MAX)) inside))
-      (goes_on_good lived 0 root_itself [] (parts_of_walk w) LINKS_MAX going_first tt (record { others = λ k out. refl; fresh = tt }))
+      (goes_on_good lived 0 root_itself [] (parts_of_walk w) LINKS_MAX (going_first lived) tt (handles_at_first lived))
 
   -- at the question the handle stands below the root, whatever names are told
   module _ (now t : ℕ) (handle : Handle) (names others : List (List ℕ)) (good : GoodEnd w now (holds handle names) [])

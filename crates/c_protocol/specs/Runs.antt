@@ -1,12 +1,15 @@
 -- Names of a path that a C program passes in the midst of a call by one openat2(2) with RESOLVE_NO_SYMLINKS, which
 -- looks each of them up in the one before it (path_resolution(7)). To the call these are single turns, whose answers it
 -- is told at once.
-use Rattle.std.specs.Prelude.{◌≡◌, ◌≤◌, ℕ, ◌+◌, List, [], ◌∷◌, ◌++◌, Bool, true, false, length, map, take, drop}
+use Rattle.std.specs.Prelude.{◌≡◌, ◌<◌, ◌≤◌, ℕ, ◌+◌, List, [], ◌∷◌, ◌++◌, Bool, true, false, length, map, take, drop}
 use Rattle.path_text.specs.declared.name.TheConstants.{SLASH}
+use Rattle.path_text.specs.declared.part.Part.{Part}
+use Rattle.path_text.specs.declared.part.Part.TheVariants.{Cur, Up, Named}
 use Rattle.path_text.specs.Print.{after_slashes}
 use Rattle.path_text.specs.Text.{between_slashes}
 use Rattle.tree_model.specs.declared.step.StepOf.TheVariants.{Open, Parent, NameBelow, Close}
 use Rattle.tree_model.specs.StepWith.{StepWith}
+use Rattle.step_resolver.specs.Meaning.{is_too_long}
 use Rattle.root_ops.specs.declared.call.CallTurn.{CallTurn}
 use Rattle.root_ops.specs.declared.call.CallTurn.TheVariants.{More, Done}
 use Rattle.root_ops.specs.Order.{due}
@@ -15,6 +18,7 @@ use Rattle.c_protocol.specs.Turns.{IsNext}
 use Rattle.c_protocol.specs.declared.numbers.Answered.{Answered}
 use Rattle.c_protocol.specs.declared.runs.Ahead.{Ahead}
 use Rattle.c_protocol.specs.declared.runs.Ran.{Ran}
+use Rattle.c_protocol.specs.declared.runs.Spelled.{Spelled}
 
 -- ---- turns whose answers are told at once
 
@@ -110,6 +114,15 @@ GoesUp (Done reply) dir = ⊥
 abbrev pub AsksFor : CallTurn → ℕ → Type 0
 AsksFor (More call) dir = (root : ℕ) × (due call.below call.doing ≡ NameBelow root dir)
 AsksFor (Done reply) dir = ⊥
+
+-- A part is taken to names so far: nothing at `.`; one more where it is a name, which has a place and no more bytes
+-- than a name may have, while they are fewer than that.
+abbrev pub TakesPart : Part → Spelled → ℕ → Spelled → List ℕ → List ℕ → Type 0
+TakesPart Cur so_far most next old new = (next ≡ so_far) × (new ≡ old)
+TakesPart Up so_far most next old new = ⊥
+TakesPart (Named n) so_far most next old new =
+    (so_far.names < most) × (is_too_long n ≡ false) × (next.names ≡ so_far.names + 1)
+    × LiesAt n so_far.used next.used old new
 
 -- Behind so many names that take so much of the room: `..` is laid out as well only where the call goes up, and their
 -- place is asked for where that is said.

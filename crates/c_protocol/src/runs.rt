@@ -1,17 +1,17 @@
 //! Names that follow one another in a call, for a C program that passes them by one system call.
-ghost use Rattle.std.specs.Prelude.{◌≡◌, ◌<◌, ◌≤◌, ◌↔◌, ◌∷◌, [], length, IsTrue, IfSome, IsSome, MatchOption, List, ℕ, false};
+ghost use Rattle.std.specs.Prelude.{◌≡◌, ◌<◌, ◌≤◌, ◌↔◌, ◌∷◌, ◌++◌, ◌+◌, [], length, take, drop, nat_lt, IsTrue, IfSome, IsSome, None, MatchOption, List, ℕ, false};
 ghost use Rattle.tree_model.specs.declared.step.StepOf.TheVariants.{Open, Close};
 ghost use Rattle.root_ops.specs.declared.call.CallTurn.{CallTurn};
 ghost use Rattle.root_ops.specs.Order.{due, steps_left};
 ghost use Rattle.root_ops.specs.TurnView.{turn_view, steps_to_come, Keeps, TakesTo};
-ghost use Rattle.c_protocol.specs.Runs.{steps_of, ComeNext, Enters, IsEnd, IsRun, LiesAt, Makes, Opens};
+ghost use Rattle.c_protocol.specs.Runs.{steps_of, up_text, TakesPart, ComeNext, Enters, IsRun, LiesAt, Makes, Opens};
 ghost use Rattle.c_protocol.specs.Turns.{call_of, IsTold};
 
-use crate::kept::{Kept, give_up};
+use crate::kept::Kept;
 use crate::numbers::Told;
 use crate::told::lay_at;
 use crate::turns::keep;
-use path_text::SLASH;
+use path_text::{Part, SLASH};
 use root_ops::{Call, CallTurn};
 use std::alloc::Global;
 use std::mem;
@@ -133,123 +133,111 @@ fn lay_part(part: &[u8], at: usize, room: &mut [u8]) -> Option<usize>
     Some(at + part.len() + 1)
 }
 
-// The same of the name that is due to be opened in this directory.
-fn lay_due(call: &Call, dir: u64, at: usize, room: &mut [u8]) -> Option<usize>
-    requires { at ≤ length room.old }
-    ensures { MatchOption result (room.new ≡ room.old) (λ end. (name : List ℕ)
-        × ((due call.now.below call.now.doing ≡ Open dir name) × LiesAt name at end room.old room.new)) }
+// So many names lie in the room, and take so many bytes of it.
+#[derive(Clone, Copy, Debug, PartialEq, Eq)]
+struct Spelled {
+    names: usize,
+    used: usize,
+}
+
+// Whether it is due to open a name.
+fn is_at_name(call: &Call) -> bool
+    ensures { IsTrue result → (dir : ℕ) × ((name : List ℕ) × (due call.now.below call.now.doing ≡ Open dir name)) }
 {
-    match call.due() {
-        StepOf::Open(from, name) => {
-            if from.number() != dir {
+    matches!(call.due(), StepOf::Open(_, _))
+}
+
+// So many names at most: each needs a number.
+fn most_of(most: usize, number: u64) -> usize
+    ensures { result ≤ most }
+{
+    let numbers = (u64::MAX - number) as usize;
+    if numbers < most { numbers } else { most }
+}
+
+// What lies there with one part more, where that is `.` or a name for which there is room. A name that is too long for
+// one is none that the call opens.
+fn with_part(part: &Part<'_>, so_far: Spelled, most: usize, room: &mut [u8]) -> Option<Spelled>
+    requires { so_far.used ≤ length room.old }
+    ensures { MatchOption result (room.new ≡ room.old)
+        (λ next. TakesPart part.now so_far most next room.old room.new) }
+{
+    match part {
+        Part::Cur => Some(so_far),
+        Part::Named(name) => {
+            if so_far.names >= most || name.is_too_long() {
                 return None;
             }
-            lay_part(name.bytes(), at, room)
+            let used = lay_part(name.bytes(), so_far.used, room)?;
+            Some(Spelled {
+                names: so_far.names + 1,
+                used,
+            })
         }
-        _ => None,
+        Part::Up => None,
     }
 }
 
-// What is due behind names that are laid out, of which the last was opened by this number.
-fn end_of(call: &Call, dir: u64, names: usize, used: usize, room: &mut [u8]) -> Ahead
-    requires { used ≤ length room.old }
-    ensures { IsEnd call.now dir names used result room.old room.new }
+// These names, with nothing behind them.
+fn alone(so_far: Spelled) -> Ahead
+    ensures { result ≡ record { names = so_far.names; used = so_far.used; up = false; ends = false } }
 {
-    let plain = Ahead {
-        names,
-        used,
+    Ahead {
+        names: so_far.names,
+        used: so_far.used,
         up: false,
         ends: false,
-    };
-    match call.due() {
-        StepOf::Parent(handle) => {
-            if names == 0 || handle.number() != dir {
-                return plain;
-            }
-            match lay_part(b"..", used, room) {
-                Some(used) => Ahead {
-                    used,
-                    up: true,
-                    ..plain
-                },
-                None => plain,
-            }
-        }
-        StepOf::NameBelow(_, handle) => Ahead {
-            ends: handle.number() == dir,
-            ..plain
+    }
+}
+
+// These names, and `..` behind them, where there is room for it.
+fn before_up(so_far: Spelled, room: &mut [u8]) -> Ahead
+    requires { so_far.used ≤ length room.old }
+    ensures names { result.names ≡ so_far.names }
+    ensures ends { result.ends ≡ false }
+    ensures laid { room.new ≡ take so_far.used room.old ++ (up_text result.up ++ drop result.used room.old) }
+    ensures used { result.used ≡ so_far.used + length (up_text result.up) }
+{
+    match lay_part(b"..", so_far.used, room) {
+        Some(used) => Ahead {
+            used,
+            up: true,
+            ..alone(so_far)
         },
-        _ => plain,
+        None => alone(so_far),
     }
 }
 
-// The same, and the call is let go.
-fn ended(alloc: Global, call: Call, dir: u64, names: usize, used: usize, room: &mut [u8]) -> Ahead
-    requires { used ≤ length room.old }
-    ensures { IsEnd call dir names used result room.old room.new }
+// These names, behind which no part is left.
+fn at_end(so_far: Spelled) -> Ahead
+    ensures { result ≡ record { names = so_far.names; used = so_far.used; up = false; ends = nat_lt 0 so_far.names } }
 {
-    let ahead = end_of(&call, dir, names, used, room);
-    give_up(alloc, call);
-    ahead
-}
-
-// The names that come next in a call, which is let go.
-fn look_on(alloc: Global, call: Call, most: usize, number: u64, room: &mut [u8]) -> Ahead
-    ensures { ComeNext call most number result room.old room.new }
-{
-    let mut dir = dir_of(&call);
-    let mut turn = CallTurn::More(call);
-    let mut next = number;
-    let mut used = 0;
-    loop {
-        let names = (next - number) as usize;
-        match turn {
-            CallTurn::More(call) => {
-                if names >= most {
-                    return ended(alloc, call, dir, names, used, room);
-                }
-                if next == u64::MAX {
-                    return ended(alloc, call, dir, names, used, room);
-                }
-                match lay_due(&call, dir, used, room) {
-                    Some(end) => {
-                        let Entry {
-                            turn: then,
-                            shut: _,
-                        } = enter(alloc, call, dir, next);
-                        turn = then;
-                        dir = next;
-                        next += 1;
-                        used = end;
-                    }
-                    None => return ended(alloc, call, dir, names, used, room),
-                }
-            }
-            CallTurn::Done(_reply) => {
-                return Ahead {
-                    names,
-                    used,
-                    up: false,
-                    ends: false,
-                };
-            }
-        }
+    Ahead {
+        ends: so_far.names > 0,
+        ..alone(so_far)
     }
 }
 
-// The same of a call that stays as it is. Without memory for a copy of it there are none.
-fn look(alloc: Global, call: &Call, most: usize, number: u64, room: &mut [u8]) -> Ahead
+// The names that come next in a call, each in the one before it, read where they lie in its walk.
+fn look(call: &Call, most: usize, number: u64, room: &mut [u8]) -> Ahead
     ensures { ComeNext call.now most number result room.old room.new }
 {
-    match call.copy(alloc) {
-        Ok(copy) => look_on(alloc, copy, most, number, room),
-        Err(_) => Ahead {
-            names: 0,
-            used: 0,
-            up: false,
-            ends: false,
-        },
+    let mut so_far = Spelled { names: 0, used: 0 };
+    if !is_at_name(call) {
+        return alone(so_far);
     }
+    let bound = most_of(most, number);
+    for at in 0..usize::MAX {
+        match call.ahead(at) {
+            None => return at_end(so_far),
+            Some(Part::Up) => return before_up(so_far, room),
+            Some(part) => match with_part(&part, so_far, bound, room) {
+                Some(next) => so_far = next,
+                None => break,
+            },
+        }
+    }
+    alone(so_far)
 }
 
 // What is kept, and what comes next.
@@ -258,14 +246,14 @@ struct Looked {
     ahead: Ahead,
 }
 
-fn look_in(alloc: Global, kept: Kept, most: usize, number: u64, room: &mut [u8]) -> Looked
+fn look_in(kept: Kept, most: usize, number: u64, room: &mut [u8]) -> Looked
     requires { IsSome (call_of kept.held) }
     ensures kept { result.kept.held ≡ kept.held }
     ensures ahead { IfSome (call_of kept.held) (λ call. ComeNext call most number result.ahead room.old room.new) }
 {
     let held = kept.into_box();
     let ahead = match held.call.as_ref() {
-        Some(call) => look(alloc, call, most, number, room),
+        Some(call) => look(call, most, number, room),
         // Only a call that goes on is kept.
         None => unreachable!(),
     };
@@ -275,9 +263,9 @@ fn look_in(alloc: Global, kept: Kept, most: usize, number: u64, room: &mut [u8])
 
 /// The names that a call is due to open next, one in another, if each of them is a directory: at most so many, and so
 /// many as fit in the room, with a slash before each. Behind them may come `..`, which is laid out as well; or the
-/// walk's end. The call stays as it is.
+/// walk's end. The call stays as it is, and no memory is taken: the names are read where they lie in its walk.
 ///
-/// None where no Open is due, or without memory to look ahead. `number` is that of `pass_names`.
+/// None where no Open is due. `number` is that of `pass_names`.
 pub fn names_ahead(
     alloc: Global,
     kept: &mut Kept,
@@ -290,7 +278,7 @@ pub fn names_ahead(
     ensures ahead { IfSome (call_of kept.old.held) (λ call. ComeNext call most number result room.old room.new) }
 {
     let before = mem::replace(kept, Kept::empty(alloc));
-    let Looked { kept: after, ahead } = look_in(alloc, before, most, number, room);
+    let Looked { kept: after, ahead } = look_in(before, most, number, room);
     *kept = after;
     ahead
 }

@@ -9,8 +9,8 @@ use root_ops::{Call, CallTurn, Reply};
 use std::alloc::Global;
 use tree_model::{Answer, Tree};
 
-// Tells a call that there is no memory, until it ends. Its handles are its copy's to close.
-fn give_up(alloc: Global, call: Call) {
+/// Tells a call that there is no memory, until it ends. Its handles are its copy's to close.
+pub fn give_up(alloc: Global, call: Call) {
     let mut turn = CallTurn::More(call);
     loop {
         match turn {

@@ -3,17 +3,13 @@ use Rattle.std.proofs.Common.{◌≡◌, ℕ, Bool, true, false, ◌&&◌, List,
 use Rattle.std.specs.Cmp.Lexicographic.{pointwise, same_text}
 use Rattle.std.proofs.lemmas.Cmp.{nat_list_eq_equiv}
 use Rattle.dentry_cache.specs.Cache.{same_entry}
+use Rattle.std.proofs.lemmas.Bool.{and_parts}
 
 abbrev pub Key : Type 0
 Key = ℕ × List ℕ
 
 abbrev pub key : ℕ → List ℕ → Key
 key d n = (d, n)
-
-and_parts : (a b : Bool) → (a && b) ≡ true → (a ≡ true) × (b ≡ true)
-and_parts true true e = (refl, refl)
-and_parts true false e = cc
-and_parts false b e = cc
 
 pub same_entry-true : (k l : Key) → same_entry k l ≡ true → k ≡ l
 same_entry-true k l e =

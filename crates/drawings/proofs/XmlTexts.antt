@@ -1,7 +1,7 @@
 -- What stands for a byte in a text of XML.
 use Rattle.std.proofs.Common.{◌≡◌, ◌≢◌, Bool, true, false, ℕ, ◌+◌, ◌/◌, ◌%◌, ◌<◌, ◌≤◌, List, [], ◌∷◌, ◌++◌, refl, arith}
 use Rattle.std.specs.Prelude.{◌==◌, ◌&&◌, not, nat_lt, nat_le, if◌then◌else◌, codes}
-use Rattle.std.proofs.lemmas.Bool.{eq-eqb}
+use Rattle.std.proofs.lemmas.Bool.{eq-eqb, eqb-false}
 use Rattle.std.proofs.lemmas.Bool.Decides.{nat_tests}
 use Rattle.std.proofs.lemmas.List.Elements.{All-head, All-tail}
 use Rattle.step_text.specs.Output.{hex_digit, escaped_byte}
@@ -9,9 +9,6 @@ use Rattle.drawings.specs.DrawingLaws.{XmlTextIsPlain}
 use Rattle.drawings.specs.Svg.{xml_byte, xml_text}
 use Rattle.drawings.specs.Xml.{IsPlain, IsXmlText}
 use Rattle.drawings.specs.Xml.IsXmlText.{done, plain, amp, lt, gt, quot, apos}
-
-apart : (b c : ℕ) → (b == c) ≡ false → b ≢ c
-apart b c f e = let t : (b == c) ≡ true = eq-eqb b c e in absurd (cc)
 
 -- a byte from 0x21 to 0x7e, which is none of the five
 pub plain_byte : (b : ℕ) → 0x20 ≤ b → b ≤ 0x7e → b ≢ 0x26 → b ≢ 0x3c → b ≢ 0x3e → b ≢ 0x22 → b ≢ 0x27 → IsPlain b
@@ -78,23 +75,23 @@ byte_then b small rest h = by_amp (b == 0x26) refl
 
     by_apostrophe : (t : Bool) → (b == 0x27) ≡ t → b ≢ 0x26 → b ≢ 0x3c → b ≢ 0x3e → b ≢ 0x22 → IsXmlText (apostrophe t ++ rest)
     by_apostrophe true e a l g q = apos rest h
-    by_apostrophe false e a l g q = by_blank (b == 0x20) refl a l g q (apart b 0x27 e)
+    by_apostrophe false e a l g q = by_blank (b == 0x20) refl a l g q (eqb-false b 0x27 e)
 
     by_quotation : (t : Bool) → (b == 0x22) ≡ t → b ≢ 0x26 → b ≢ 0x3c → b ≢ 0x3e → IsXmlText (quotation t ++ rest)
     by_quotation true e a l g = quot rest h
-    by_quotation false e a l g = by_apostrophe (b == 0x27) refl a l g (apart b 0x22 e)
+    by_quotation false e a l g = by_apostrophe (b == 0x27) refl a l g (eqb-false b 0x22 e)
 
     by_greater : (t : Bool) → (b == 0x3e) ≡ t → b ≢ 0x26 → b ≢ 0x3c → IsXmlText (greater t ++ rest)
     by_greater true e a l = gt rest h
-    by_greater false e a l = by_quotation (b == 0x22) refl a l (apart b 0x3e e)
+    by_greater false e a l = by_quotation (b == 0x22) refl a l (eqb-false b 0x3e e)
 
     by_less : (t : Bool) → (b == 0x3c) ≡ t → b ≢ 0x26 → IsXmlText (less t ++ rest)
     by_less true e a = lt rest h
-    by_less false e a = by_greater (b == 0x3e) refl a (apart b 0x3c e)
+    by_less false e a = by_greater (b == 0x3e) refl a (eqb-false b 0x3c e)
 
     by_amp : (t : Bool) → (b == 0x26) ≡ t → IsXmlText ((if t then codes "&amp;" else less (b == 0x3c)) ++ rest)
     by_amp true e = amp rest h
-    by_amp false e = by_less (b == 0x3c) refl (apart b 0x26 e)
+    by_amp false e = by_less (b == 0x3c) refl (eqb-false b 0x26 e)
 
 pub xml_text_is_plain : XmlTextIsPlain
 xml_text_is_plain [] small = done

@@ -8,6 +8,7 @@ use Rattle.std.proofs.lemmas.Option.{slice_get_within, get_or_from_slice_get}
 use Rattle.path_text.specs.Name.{name_fault}
 use Rattle.path_text.specs.Names.{AreNames}
 use Rattle.event_log.specs.Shapes.{pieces_of, pieces_read, first_piece, after_piece}
+use Rattle.std.proofs.lemmas.Bool.{not-false}
 
 pub length_pieces : (count : ℕ) (bytes : List ℕ) → length (pieces_read count bytes) ≡ count
 length_pieces zero bytes = refl
@@ -77,10 +78,6 @@ name_written names at name old before sized after found is_sized is_after h =
 
 -- ---- names that are compared one by one
 
-not_false : (b : Bool) → not b ≡ false → b ≡ true
-not_false true e = refl
-not_false false e = absurd (cc)
-
 pub texts_apart : (differ : Bool) (xs ys : List ℕ) → differ ≡ not (pointwise nat_eq xs ys) → differ ≡ true → xs ≡ ys → ⊥
 texts_apart differ xs ys e t q =
     let p : pointwise nat_eq xs ys ≡ true = (bytes_decides xs ys).1 q in
@@ -88,7 +85,7 @@ texts_apart differ xs ys e t q =
     absurd (cc)
 
 pub texts_same : (differ : Bool) (xs ys : List ℕ) → differ ≡ not (pointwise nat_eq xs ys) → differ ≡ false → xs ≡ ys
-texts_same differ xs ys e f = (bytes_decides xs ys).0 (not_false (pointwise nat_eq xs ys) (sym e ∙ f))
+texts_same differ xs ys e f = (bytes_decides xs ys).0 (not-false (pointwise nat_eq xs ys) (sym e ∙ f))
 
 pub counts_differ : (count k : ℕ) (bytes : List ℕ) (names : List (List ℕ)) → k ≡ length names → (k ≡ count → ⊥) → pieces_read count bytes ≡ names → ⊥
 counts_differ count k bytes names is_count apart e = apart (is_count ∙ ap length (sym e) ∙ length_pieces count bytes)

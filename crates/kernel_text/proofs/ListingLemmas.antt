@@ -20,6 +20,8 @@ use Rattle.kernel_text.specs.declared.listing.Sorted.{Sorted}
 use Rattle.kernel_text.specs.declared.records.Step.TheVariants.{Used}
 use Rattle.kernel_text.specs.Listing.{ERANGE, HEAD_SIZE, before_nul, entries_text, is_entry, is_whole, name_error, name_told, size_told, AreInOrder, IsLaidSorted, IsRefused, ReadsTo, Sorts}
 use Rattle.kernel_text.specs.Records.{Steps}
+use Rattle.path_text.proofs.Lists.{slashes-append, put, printed_some}
+use Rattle.path_text.proofs.TextLemmas.{starts, starts_bound}
 
 -- ---- records
 
@@ -40,25 +42,10 @@ told_none bytes part = ap (λ t. cond t (before_nul (take (size_told bytes - HEA
 
 -- ---- names
 
-pub slashes-append : (xs ys : List (List ℕ)) → after_slashes (xs ++ ys) ≡ after_slashes xs ++ after_slashes ys
-slashes-append [] ys = refl
-slashes-append (x ∷ xs) ys = ap (λ (l : List ℕ). SLASH ∷ l) (ap (λ (l : List ℕ). x ++ l) (slashes-append xs ys) ∙ sym (append_assoc x (after_slashes xs) (after_slashes ys)))
-
 pub entries_more : (names : List (List ℕ)) (name : List ℕ) → entries_text (names ++ name ∷ []) ≡ entries_text names ++ entries_text (name ∷ [])
 entries_more names name = ap after_slashes (filter-append is_entry names (name ∷ [])) ∙ slashes-append (filter is_entry names) (filter is_entry (name ∷ []))
 
 -- ---- a room
-
--- bytes are laid right behind a text that lies at the room's beginning
-pub put : (text bytes old room new : List ℕ) (at : ℕ) → at ≡ length text → room ≡ text ++ drop (length text) old
-    → new ≡ take at room ++ (bytes ++ drop (at + length bytes) room) → new ≡ (text ++ bytes) ++ drop (length (text ++ bytes)) old
-put text bytes old room new at is before laid =
-    laid ∙ ap (λ (r : List ℕ). take at r ++ (bytes ++ drop (at + length bytes) r)) before
-    ∙ ap (λ (k : ℕ). take k (text ++ drop (length text) old) ++ (bytes ++ drop (k + length bytes) (text ++ drop (length text) old))) is
-    ∙ ap (λ (l : List ℕ). l ++ (bytes ++ drop (length text + length bytes) (text ++ drop (length text) old))) (take-append_seam text (drop (length text) old))
-    ∙ ap (λ (l : List ℕ). text ++ (bytes ++ l)) (drop-append-drop (length text) old text (length text + length bytes) (omega arith) refl)
-    ∙ sym (append_assoc text bytes (drop (length text + length bytes) old))
-    ∙ ap (λ (k : ℕ). (text ++ bytes) ++ drop k old) (sym (length-append text bytes))
 
 -- one more record is taken
 pub taken_more : (records : List ℕ) (names : List (List ℕ)) (rest name next : List ℕ) (size used now : ℕ) (old room new : List ℕ)
@@ -117,11 +104,6 @@ counted (name ∷ names) = omega (arith, length-append name (after_slashes names
 pub same_count : (xs ys : List (List ℕ)) → IsPermutation xs ys → length (after_slashes ys) ≡ length (after_slashes xs)
 same_count xs ys same = counted ys ∙ sum_by-IsPermutation (λ name. length name + 1) xs ys same ∙ sym (counted xs)
 
--- 1 where a piece stands at the front
-abbrev starts : List (List ℕ) → ℕ
-starts [] = 0
-starts (p ∷ ps) = cond (is_empty p) 0 1
-
 abbrev kept : List (List ℕ) → ℕ
 kept parts = length (after_slashes (filter (λ p. not (is_empty p)) parts))
 
@@ -138,18 +120,9 @@ kept_bound [] = omega arith
 kept_bound (b ∷ bs) =
     simp add-one at (kept_step (b == SLASH) b (between_slashes bs) (length bs) (omega (arith, length-slice_split (λ c. c == SLASH) bs)) (kept_bound bs))
 
-starts_bound : (parts : List (List ℕ)) → starts parts ≤ 1
-starts_bound [] = omega arith
-starts_bound ([] ∷ ps) = omega arith
-starts_bound ((c ∷ cs) ∷ ps) = omega arith
-
 -- a slash before each piece takes at most a byte more than the text has
 pub pieces_bound : (text : List ℕ) → length (after_slashes (pieces text)) ≤ length text + 1
 pieces_bound text = omega (arith, kept_bound text, starts_bound (between_slashes text))
-
-pub printed_some : (names : List (List ℕ)) → 0 < length names → printed names ≡ after_slashes names
-printed_some [] some = absurd (omega (arith, some))
-printed_some (name ∷ names) some = refl
 
 pub printed_none : (names : List (List ℕ)) → length names ≡ 0 → printed names ≡ SLASH ∷ []
 printed_none [] none = refl

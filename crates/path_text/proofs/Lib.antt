@@ -1,3 +1,4 @@
+pub mod Lists
 pub mod NameBuffers
 pub mod PiecesYielded
 pub mod PlacesLemmas

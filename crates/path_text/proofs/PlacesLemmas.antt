@@ -3,10 +3,10 @@ use Rattle.std.proofs.Common.{◌≡◌, ◌≢◌, ℕ, ◌+◌, ◌-◌, ◌�
 use Rattle.std.specs.Prelude.{Option, Some, None, Result, Ok, Err, IsOk, is_ok, slice_get, if◌then◌else◌}
 use Rattle.std.specs.Option.{option_to_list}
 use Rattle.std.specs.List.{list_any, filter, onto_first}
-use Rattle.std.proofs.lemmas.Bool.{eqb-true}
+use Rattle.std.proofs.lemmas.Bool.{eqb-true, or_right}
 use Rattle.std.proofs.lemmas.Bool.Decides.{nat_tests}
 use Rattle.std.proofs.Math.Seq.{drop-append_seam, take-append_seam}
-use Rattle.std.proofs.lemmas.List.{append-nil, length-append, length-map, length-drop, length-take-le, map-append, length-reverse, reverse-append, drop-drop, drop_at, get_or-drop, take_all, take_more_same}
+use Rattle.std.proofs.lemmas.List.{append-nil, length-append, length-map, length-drop, length-take-le, map-append, length-reverse, reverse-append, drop-drop, drop_at, get_or-drop, take_all, take_more_same, append_assoc, nil_from_length}
 use Rattle.std.proofs.lemmas.List.Elements.{All-nil, All-head, All-tail, All-push, filter-append}
 use Rattle.std.proofs.lemmas.List.Folds.{list_any-append}
 use Rattle.std.proofs.lemmas.Option.{slice_get_within, get_or_from_slice_get}
@@ -23,10 +23,6 @@ use Rattle.path_text.proofs.SpellingLemmas.{slices_piece}
 use Rattle.path_text.proofs.TextLemmas.{or_false, is_piece_of}
 
 -- ---- a text taken apart at its end
-
-append_assoc : {X : Type 0} (xs ys zs : List X) → (xs ++ ys) ++ zs ≡ xs ++ (ys ++ zs)
-append_assoc [] ys zs = refl
-append_assoc (x ∷ xs) ys zs = ap (λ l. x ∷ l) (append_assoc xs ys zs)
 
 pub ends_with_last : (bs : List ℕ) (b : ℕ) → ends_with_slash (bs ++ b ∷ []) ≡ (b == SLASH)
 ends_with_last [] b = refl
@@ -131,16 +127,12 @@ parts_push buffer spans span =
     let said : Span → Part = λ s. part_said (bytes_at buffer s) in
     ap reverse (map-append said spans (span ∷ [])) ∙ reverse-append (map said spans) (said span ∷ [])
 
-empty_of : {X : Type 0} (xs : List X) → length xs ≡ 0 → xs ≡ []
-empty_of [] h = refl
-empty_of (x ∷ xs) h = absurd (omega (arith, h))
-
 -- the first part's place taken off
 pub parts_pop : (buffer : List ℕ) (old new : List Span) (last : Option Span) → old ≡ new ++ option_to_list last → new ≡ take (length old - 1) old → parts_at buffer new ≡ drop 1 (parts_at buffer old)
 parts_pop buffer old new (Some span) h k = sym (ap (λ spans. drop 1 (parts_at buffer spans)) h ∙ ap (drop 1) (parts_push buffer new span))
 parts_pop buffer old new None h k =
     let same : old ≡ new = h ∙ append-nil new in
-    let none : old ≡ [] = empty_of old (omega (arith, ap length same, ap length k, length-take-le (length old - 1) old (omega arith))) in
+    let none : old ≡ [] = nil_from_length old (omega (arith, ap length same, ap length k, length-take-le (length old - 1) old (omega arith))) in
     ap (parts_at buffer) (sym same ∙ none) ∙ ap (λ spans. drop 1 (parts_at buffer spans)) (sym none)
 
 -- where there is no place, the buffer says nothing
@@ -149,7 +141,7 @@ parts_none buffer [] parts h k = k
 parts_none buffer (span ∷ spans) parts h k = absurd (omega (arith, h))
 
 pub places_none : (buffer : List ℕ) (spans : List Span) → length spans ≡ 0 → ArePlaces buffer spans
-places_none buffer spans h = rw (empty_of spans h) (All-nil (λ span. IsPlace buffer span))
+places_none buffer spans h = rw (nil_from_length spans h) (All-nil (λ span. IsPlace buffer span))
 
 pub length_parts : (buffer : List ℕ) (spans : List Span) → length (parts_at buffer spans) ≡ length spans
 length_parts buffer spans = length-reverse (map (λ s. part_said (bytes_at buffer s)) spans) ∙ length-map spans (λ s. part_said (bytes_at buffer s))
@@ -177,10 +169,6 @@ span_bytes buffer low before piece more span h s e =
     let from : drop span.start buffer ≡ piece ++ more =
     ap (λ n. drop n buffer) (omega (arith, s)) ∙ sym (drop-drop (length before) low buffer) ∙ ap (drop (length before)) h ∙ drop-append_seam before (piece ++ more) in
     ap (λ n. take n (drop span.start buffer)) size ∙ ap (take (length piece)) from ∙ take-append_seam piece more
-
-or_true : (x y : Bool) → y ≡ true → (x || y) ≡ true
-or_true true y h = refl
-or_true false y h = h
 
 get_last : {X : Type 0} (xs : List X) (x d : X) → get_or (xs ++ x ∷ []) (length xs) d ≡ x
 get_last [] x d = refl
@@ -222,7 +210,7 @@ place_of_last buffer low text before span h =
     let size = length-append before h.cut.0 in record {
       ordered = omega (arith, h.start, h.end, ap length h.cut.1.0, size);
       within = omega (arith, h.end, h.low_within, begins_le (drop low buffer) text h.beginning, length-drop low buffer);
-      said = rw (bytes_of_last buffer low text before span h) (or_true (is_empty h.cut.0) (is_piece h.cut.0) (piece_of_last buffer low text before span h));
+      said = rw (bytes_of_last buffer low text before span h) (or_right (is_empty h.cut.0) (is_piece h.cut.0) (piece_of_last buffer low text before span h));
     }
 
 pub places_pushed : (buffer : List ℕ) (low : ℕ) (text before : List ℕ) (span : Span) (old new : List Span) → IsPlaceOfLast buffer low text before span → new ≡ old ++ span ∷ [] → ArePlaces buffer old → ArePlaces buffer new

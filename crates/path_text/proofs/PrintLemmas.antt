@@ -17,6 +17,7 @@ use Rattle.path_text.specs.Spelling.{Run, runs_text, IsNonSlash, AreSeparated, I
 use Rattle.path_text.specs.Text.{is_empty, between_slashes, part_of, reading_of, text_fault}
 use Rattle.path_text.proofs.SpellingLemmas.{spellings_read, slices_piece, some_before}
 use Rattle.path_text.proofs.TextLemmas.{and_true}
+use Rattle.std.proofs.lemmas.Bool.{not-true}
 
 -- one more name is printed
 pub printed_more : (names : List (List ℕ)) (at : ℕ) (name before slashed after : List ℕ) → slice_get names at ≡ Some name → slashed ≡ before ++ SLASH ∷ [] → after ≡ slashed ++ name
@@ -39,10 +40,6 @@ component_of : (c long : Bool) → (if not c then Some Invalid else (if long the
 component_of true long h = refl
 component_of false long h = cc
 
-not_true : (b : Bool) → not b ≡ true → b ≡ false
-not_true true h = cc
-not_true false h = refl
-
 some_byte_of : (name : List ℕ) → same_bytes name [] ≡ false → is_empty name ≡ false
 some_byte_of [] h = cc
 some_byte_of (b ∷ bs) h = refl
@@ -63,11 +60,11 @@ plain_of name h =
     let one = and_true empty dot two.0 in
     record {
       spells = record {
-        some_byte = some_byte_of name (not_true (same_bytes name []) one.0);
-        no_slash = not_true (list_any (λ b. b == SLASH) name) three.1;
+        some_byte = some_byte_of name (not-true (same_bytes name []) one.0);
+        no_slash = not-true (list_any (λ b. b == SLASH) name) three.1;
       };
-      no_nul = not_true (list_any (λ b. b == NUL) name) four.1;
-      part = part_named (same_bytes name (codes ".")) (same_bytes name (codes "..")) name (not_true (same_bytes name (codes ".")) one.1) (not_true (same_bytes name (codes "..")) two.1);
+      no_nul = not-true (list_any (λ b. b == NUL) name) four.1;
+      part = part_named (same_bytes name (codes ".")) (same_bytes name (codes "..")) name (not-true (same_bytes name (codes ".")) one.1) (not-true (same_bytes name (codes "..")) two.1);
     }
 
 head_plain : (name : List ℕ) (names : List (List ℕ)) → AreNames (name ∷ names) → IsPlain name

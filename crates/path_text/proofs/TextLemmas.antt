@@ -73,7 +73,7 @@ abbrev pub bit : Bool → ℕ
 bit b = cond b 1 0
 
 -- 1 where a piece stands at the front
-abbrev starts : List (List ℕ) → ℕ
+abbrev pub starts : List (List ℕ) → ℕ
 starts [] = 0
 starts (p ∷ ps) = cond (is_empty p) 0 1
 
@@ -139,7 +139,7 @@ few_parts true false n m h k = omega arith
 few_parts false true n m h k = omega arith
 few_parts false false n m h k = omega arith
 
-starts_bound : (xs : List (List ℕ)) → starts xs ≤ 1
+pub starts_bound : (xs : List (List ℕ)) → starts xs ≤ 1
 starts_bound [] = omega arith
 starts_bound ([] ∷ xs) = omega arith
 starts_bound ((b ∷ bs) ∷ xs) = omega arith

@@ -5,6 +5,7 @@ use Rattle.race_core.specs.declared.seat.Seat.{Seat}
 use Rattle.race_core.specs.JoinedRuns.{TakesTurns, TurnsGoOn, TurnsJoinRuns}
 use Rattle.race_core.specs.Turns.{Luck, turned}
 use Rattle.race_core.specs.Worlds.{WorldView, turn_of, turn, Runs, TakesTurn, Turns, first_beyond, AllGoToEnd, numbers_below}
+use Rattle.path_text.proofs.Lists.{length-slice_set}
 
 pub turns_go_on : TurnsGoOn
 turns_go_on w u v [] i before one = (v, subst (λ (x : WorldView). Turns x i v (Ok tt)) before one, refl)
@@ -12,18 +13,13 @@ turns_go_on w u v (j ∷ made) i before one = (before.0, before.1, turns_go_on b
 
 -- ---- what a turn leaves
 
-length-placed : {A : Type 0} (xs : List A) (i : ℕ) (x : A) → length (slice_set xs i x) ≡ length xs
-length-placed [] i x = refl
-length-placed (y ∷ xs) zero x = refl
-length-placed (y ∷ xs) (suc i) x = ap suc (length-placed xs i x)
-
 pub spent_of : (luck : Luck) (w : WorldView) (i : ℕ) (o : Option Seat) → (turn_of luck w i o).spent ≡ w.spent
 spent_of luck w i None = refl
 spent_of luck w i (Some seat) = refl
 
 pub as_many : (luck : Luck) (w : WorldView) (i : ℕ) (o : Option Seat) → length (turn_of luck w i o).seats ≡ length w.seats
 as_many luck w i None = refl
-as_many luck w i (Some seat) = length-placed w.seats i (turned luck w.book seat.ledger seat.doing).seat
+as_many luck w i (Some seat) = length-slice_set w.seats i (turned luck w.book seat.ledger seat.doing).seat
 
 -- ---- runs joined
 

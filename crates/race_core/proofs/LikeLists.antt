@@ -21,13 +21,6 @@ numbers_apart f g (x ∷ xs) (y ∷ ys) more others long e =
     let front : numbers_by f xs ≡ numbers_by g ys = apart.0 in
     (cc, apart.1)
 
--- lists that are mapped to the same are so at each place
-pub same_at : {A B : Type 0} (f : A → B) (xs ys : List A) (i : ℕ) (x y : A) → map f xs ≡ map f ys → i < length xs → x ≡ get_or xs i x → y ≡ get_or ys i y → f x ≡ f y
-same_at f [] ys i x y e lt p q = absurd (omega arith)
-same_at f (a ∷ xs) [] i x y e lt p q = cc
-same_at f (a ∷ xs) (b ∷ ys) zero x y e lt p q = cc
-same_at f (a ∷ xs) (b ∷ ys) (suc i) x y e lt p q = same_at f xs ys i x y (let r : map f xs ≡ map f ys = cc in r) (omega arith) p q
-
 module _ {A : Type 0} (by : (ℕ → ℕ) → A → A) (handles : A → List ℕ) where
   -- with other numbers it has these handles
   abbrev pub KeepsHandles : Type 0

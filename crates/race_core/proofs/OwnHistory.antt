@@ -50,18 +50,6 @@ skip a (event ∷ events) = on (event.actor == a) refl (skip a events)
       first = later.first;
     }
 
--- the own events of both
-own_one : (a : ℕ) (e : Event) (es fs : List Event) → own_events a (es ++ fs) ≡ own_events a es ++ own_events a fs
-    → (mine : Bool) → (e.actor == a) ≡ mine → own_events a (e ∷ (es ++ fs)) ≡ own_events a (e ∷ es) ++ own_events a fs
-own_one a e es fs rest true q =
-    own_first a e (es ++ fs) q ∙ ap (λ xs. e ∷ xs) rest ∙ sym (ap (λ xs. xs ++ own_events a fs) (own_first a e es q))
-own_one a e es fs rest false q =
-    own_later a e (es ++ fs) q ∙ rest ∙ sym (ap (λ xs. xs ++ own_events a fs) (own_later a e es q))
-
-pub own_both : (a : ℕ) (es fs : List Event) → own_events a (es ++ fs) ≡ own_events a es ++ own_events a fs
-own_both a [] fs = refl
-own_both a (e ∷ es) fs = own_one a e es fs (own_both a es fs) (e.actor == a) refl
-
 -- ---- events that spare a handle
 
 pub none_first : (h : ℕ) (es fs : List Event) → NoneCloses h (es ++ fs) → NoneCloses h es

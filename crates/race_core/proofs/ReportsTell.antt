@@ -20,7 +20,7 @@ use Rattle.step_resolver.specs.Order.{Way, Line, not_made, Turn, found, partial,
 use Rattle.step_resolver.specs.Order as walk
 use Rattle.step_resolver.specs.Headline.{EveryWalk}
 use Rattle.step_resolver.specs.WalkHistory.{WalkInHistory, IsWalkInHistory, own_events}
-use Rattle.bulk_ops.proofs.OwnEvents.{cut}
+use Rattle.bulk_ops.proofs.OwnEvents.{cut, own_both}
 use Rattle.root_ops.specs.CallHistory.{IsCallInHistory, RepliesWith}
 use Rattle.root_ops.specs.declared.aim.Aim.TheVariants.{Opens}
 use Rattle.root_ops.specs.declared.below.Below.{Below}
@@ -45,7 +45,7 @@ use Rattle.race_core.specs.Turns.{request_of, outcome_of}
 use Rattle.race_core.specs.WorldCalls.{WholeRun, opening_of, root_of, CallMade, IsMadeAs, kept_after, kept_after_all, AreMade, planned_of, outcomes_of, events_of_calls, ReleasesOwn, KeptAreReleased, ActorsCalls}
 use Rattle.race_core.specs.WorldLaws.{IsWindow, CallsHaveWindows, walk_in, WalkTells, WalksInReports, call_in, CallTells, CallsInReports, FourAreEnoughInReports, IsResolve, way_of_resolve, walk_of_resolve, ResolveTells, ResolvesInReports, ResolvesAlone}
 use Rattle.race_core.proofs.KeptOpen.{owners_are_one, asks_for_kept, done_at}
-use Rattle.race_core.proofs.OwnHistory.{around, skip, own_both, none_first, root_at}
+use Rattle.race_core.proofs.OwnHistory.{around, skip, none_first, root_at}
 use Rattle.race_core.proofs.WorldSoFar.{calls_in_order}
 
 -- ---- windows

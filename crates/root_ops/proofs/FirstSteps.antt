@@ -180,7 +180,7 @@ module _ (below : Below) where
   fewer_past_fault k (Some error) turn fewer = tt
   fewer_past_fault k None turn fewer = fewer refl
 
-  fewer_still : (j k : ℕ) (turn : CallTurn) → j ≤ k → IsFewer below j turn → IsFewer below k turn
+  pub fewer_still : (j k : ℕ) (turn : CallTurn) → j ≤ k → IsFewer below j turn → IsFewer below k turn
   fewer_still j k (more doing) le fewer = omega (arith, fewer, le)
   fewer_still j k (ends reply) le fewer = tt
 

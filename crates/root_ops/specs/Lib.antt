@@ -10,6 +10,7 @@ pub use Rattle.handles.specs.Objects
 pub use Rattle.step_resolver.specs.Asked
 pub mod Copies
 pub mod Order
+pub mod Ahead
 pub mod View
 pub mod TurnView
 pub mod FirstView

@@ -21,6 +21,7 @@
 #![tactic(auto)]
 
 mod acts_laws;
+mod ahead;
 mod aim;
 mod answers;
 mod begin;

@@ -1,7 +1,7 @@
 -- What the replies opened is released by calls of the sessions that opened it.
 use Rattle.std.proofs.Common.{◌≡◌, ◌==◌, ◌&&◌, ◌⊎◌, ⊎_elim, inl, inr, ℕ, zero, suc, ◌<◌, Bool, true, nat_lt, List, [], ◌∷◌, length, slice_get, slice_set, Some, refl, sym, ap, ◌∙◌, subst, get_or, eq-eqb, length-set, arith}
 use Rattle.std.specs.Prelude.{All}
-use Rattle.std.proofs.lemmas.Bool.{false≢true, cases_eq, lt-ltb}
+use Rattle.std.proofs.lemmas.Bool.{false≢true, cases_eq, lt-ltb, and_from}
 use Rattle.std.proofs.lemmas.List.Elements.{All-head, All-tail}
 use Rattle.std.proofs.lemmas.Option.{slice_get-get_or, none-some}
 use Rattle.handles.specs.declared.owner.Owner.{Owner}
@@ -31,16 +31,13 @@ closed_once session standing (Kept other) ours tells = absurd (false≢true (sym
 closed_once session standing (Fault error) ours tells = inr tells.1
 closed_once session standing other ours tells = absurd tells
 
-both_true : (a b : Bool) → a ≡ true → b ≡ true → (a && b) ≡ true
-both_true a b e f = ap (λ x. x && b) e ∙ f
-
 -- by its owner the object is the session's, and the session the service's
 same_owners : (a b : Owner) → a.tag ≡ b.tag → a.actor ≡ b.actor → same_owner a b ≡ true
-same_owners a b tag actor = both_true (a.tag == b.tag) (a.actor == b.actor) (eq-eqb a.tag b.tag tag) (eq-eqb a.actor b.actor actor)
+same_owners a b tag actor = and_from (a.tag == b.tag) (a.actor == b.actor) (eq-eqb a.tag b.tag tag) (eq-eqb a.actor b.actor actor)
 
 is_ours : (service : ServiceView) (session : SessionView) → session.owner.tag ≡ service.tag → session.owner.actor < service.count → is_of service session ≡ true
 is_ours service session tag within =
-    both_true (session.owner.tag == service.tag) (nat_lt session.owner.actor service.count) (eq-eqb session.owner.tag service.tag tag) (lt-ltb session.owner.actor service.count within)
+    and_from (session.owner.tag == service.tag) (nat_lt session.owner.actor service.count) (eq-eqb session.owner.tag service.tag tag) (lt-ltb session.owner.actor service.count within)
 
 pub released : (service : ServiceView) (standing : StandingObject) (sessions : List SessionView) (i : ℕ) (default called : SessionView) (request : Request) (told : Reply)
     → AreInPlace service sessions → IsOurs service standing → standing.owner.actor ≡ i → release_of standing ≡ request

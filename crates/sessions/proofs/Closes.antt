@@ -1,7 +1,7 @@
 -- The book's history against the sessions' logs, event by event.
 use Rattle.std.proofs.Common.{◌≡◌, ℕ, zero, suc, ◌+◌, ◌==◌, ◌<◌, ◌≤◌, ◌||◌, Bool, true, false, not, nat_lt, cond, if◌then◌else◌, List, [], ◌∷◌, ◌++◌, take, length, slice_get, Option, Some, None, IfSome, IsTrue, ◌↔◌, refl, sym, ap, ◌∙◌, subst, append-nil, arith}
 use Rattle.std.specs.List.{list_any}
-use Rattle.std.proofs.lemmas.Bool.{false≢true, eqb-true, eqb-false, ltb-true, ltb-false, eq-eqb, ne_eqb}
+use Rattle.std.proofs.lemmas.Bool.{false≢true, eqb-true, eqb-false, ltb-true, ltb-false, eq-eqb, ne_eqb, not-false}
 use Rattle.std.proofs.lemmas.List.{length-take-le, take_all}
 use Rattle.std.proofs.lemmas.List.Elements.{filter-append}
 use Rattle.std.proofs.lemmas.Option.{slice_get_past, slice_get_within}
@@ -151,10 +151,6 @@ at_the_end a at next es log past short same =
 
 -- ---- a closed service
 
-not_not : (b : Bool) → not b ≡ false → b ≡ true
-not_not true e = refl
-not_not false e = cc (e)
-
 any_found : (test : SessionView → Bool) (ss : List SessionView) → list_any test ss ≡ true → (p : ℕ) × ((s : SessionView) × ((slice_get ss p ≡ Some s) × (test s ≡ true)))
 any_found test [] e = cc (e)
 any_found test (s ∷ ss) e = on (test s) refl (any_found test ss)
@@ -174,14 +170,14 @@ module _ (z : StoppedView) (ss : List SessionView) (is : IsClosable z ss) where
       let twice = list_any (λ t. t.owner.actor == s.owner.actor) (take p ss) in
       let two = or_false (not (s.owner.tag == z.tag) || not (nat_lt s.owner.actor z.count)) twice none in
       let within = (or_false (not (s.owner.tag == z.tag)) (not (nat_lt s.owner.actor z.count)) two.0).1 in
-      ltb-true s.owner.actor z.count (not_not (nat_lt s.owner.actor z.count) within)
+      ltb-true s.owner.actor z.count (not-false (nat_lt s.owner.actor z.count) within)
 
   own_log : (p : ℕ) (s : SessionView) → slice_get ss p ≡ Some s → s.log ≡ own_events s.owner.actor z.book.events
   own_log p s at = (subst (FitsAt z s.owner.actor) at (is.fit s.owner.actor (numbered p s at) p) refl).0
 
   present : (i : ℕ) → i < z.count → (p : ℕ) × ((s : SessionView) × ((slice_get ss p ≡ Some s) × (s.owner.actor ≡ i)))
   present i within =
-      let here = any_found (λ s. s.owner.actor == i) ss (not_not (list_any (λ s. s.owner.actor == i) ss) (least_none (is_missing ss) z.count i is.none_missing within)) in
+      let here = any_found (λ s. s.owner.actor == i) ss (not-false (list_any (λ s. s.owner.actor == i) ss) (least_none (is_missing ss) z.count i is.none_missing within)) in
       (here.0, (here.1.0, (here.1.1.0, eqb-true here.1.0.owner.actor i here.1.1.1)))
 
   closes : (tree : State) (events : List Event) (opening : State) → tree ≡ tree_now z.book → events ≡ z.book.events → opening ≡ z.book.opening

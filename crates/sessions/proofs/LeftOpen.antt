@@ -1,7 +1,7 @@
 -- A handle that isn't open by an actor's own events isn't open in a legal history.
 use Rattle.std.proofs.Common.{◌≡◌, ◌≢◌, ◌==◌, ◌&&◌, ◌||◌, ℕ, zero, suc, Bool, true, false, not, List, [], ◌∷◌, ◌++◌, length, None, Some, slice_set, Option, refl, sym, ap, ◌∙◌, subst, ⊎_elim, eqb-true, ne_eqb}
 use Rattle.std.specs.Prelude.{slice_get}
-use Rattle.std.proofs.lemmas.Bool.{false≢true, eqb-false, cases_eq}
+use Rattle.std.proofs.lemmas.Bool.{false≢true, eqb-false, cases_eq, or_parts}
 use Rattle.tree_model.specs.declared.answer.Answer.{Answer}
 use Rattle.tree_model.specs.declared.answer.Answer.TheVariants.{Opened, Done}
 use Rattle.tree_model.specs.declared.answer.Event.{Event}
@@ -13,23 +13,13 @@ use Rattle.tree_model.specs.State.{State}
 use Rattle.tree_model.specs.Steps.{Outcome, held, node_held}
 use Rattle.tree_model.specs.StepLaws.{only_tells, is_on_entries}
 use Rattle.tree_model.proofs.Outcomes.{Does, does, refuses, tells, opens_on, closes, changes_to}
-use Rattle.tree_model.proofs.StepLaws.{slice_get-set_other, others_handles_stay}
+use Rattle.tree_model.proofs.StepLaws.{slice_get-set_other, others_handles_stay, held_closed}
 use Rattle.bulk_ops.proofs.OwnEvents.{own_first, own_later}
 use Rattle.step_resolver.specs.WalkHistory.{own_events}
 use Rattle.event_log.specs.Handles.{left_after, open_after}
+use Rattle.step_resolver.proofs.Underway.StepOutcomes.{slice_get-other}
 
 -- ---- one step
-
-not_last : {A : Type 0} (xs : List A) (y : A) (k : ℕ) → k ≢ length xs → slice_get (xs ++ y ∷ []) k ≡ slice_get xs k
-not_last [] y zero ne = absurd (ne refl)
-not_last [] y (suc k) ne = refl
-not_last (x ∷ xs) y zero ne = refl
-not_last (x ∷ xs) y (suc k) ne = not_last xs y k (λ e. ne (ap suc e))
-
-closed_at : (handles : List (Option OpenHandle)) (h a : ℕ) → node_held a (slice_get (slice_set handles h None) h) ≡ None
-closed_at [] h a = refl
-closed_at (first ∷ handles) zero a = refl
-closed_at (first ∷ handles) (suc h) a = closed_at handles h a
 
 -- answers and steps that leave a handle as it is
 after_telling : (answer : Answer) (step : StepWith ℕ) (h : ℕ) (was : Bool) → only_tells answer ≡ true → left_after h was answer step ≡ false → was ≡ false
@@ -41,10 +31,6 @@ after_change : (step : StepWith ℕ) (h : ℕ) (was : Bool) → is_on_entries st
 after_change (Close k) h was e out = absurd (false≢true e)
 after_change step h was e out = out
 
-neither : (was other : Bool) → (was || other) ≡ false → (was ≡ false) × (other ≡ false)
-neither true other e = absurd (false≢true (sym e))
-neither false other e = (refl, e)
-
 left_so : (was other : Bool) → other ≡ false → (was && not other) ≡ false → was ≡ false
 left_so true true f e = absurd (false≢true (sym f))
 left_so true false f e = absurd (false≢true (sym e))
@@ -55,11 +41,11 @@ step_leaves : {s : State} {a : ℕ} {step : StepWith ℕ} {o : Outcome} → Does
 step_leaves (refuses error) h was before out = before out
 step_leaves {s} {a} {step} (tells answer e') h was before out = before (after_telling answer step h was e' out)
 step_leaves {s} {a} (opens_on x what e1 e2 e3) h was before out =
-    let none = neither was (length s.handles == h) out in
-    ap (node_held a) (not_last s.handles (Some (record { actor = a; node = x })) h (λ e. eqb-false (length s.handles) h none.1 (sym e))) ∙ before none.0
+    let none = or_parts was (length s.handles == h) out in
+    ap (node_held a) (slice_get-other s.handles (Some (record { actor = a; node = x })) h (λ e. eqb-false (length s.handles) h none.1 (sym e))) ∙ before none.0
 step_leaves {s} {a} (closes k x e1) h was before out =
     ⊎_elim
-    (λ same. subst (λ i. node_held a (slice_get (slice_set s.handles k None) i) ≡ None) (sym same) (closed_at s.handles k a))
+    (λ same. subst (λ i. node_held a (slice_get (slice_set s.handles k None) i) ≡ None) (sym same) (held_closed s.handles k a))
     (λ other. ap (node_held a) (slice_get-set_other s.handles k None h other) ∙ before (left_so was (k == h) (ne_eqb k h (λ e. other (sym e))) out))
     (cases_eq h k)
 step_leaves {s} {a} {step} (changes_to nodes e1 changed) h was before out = before (after_change step h was e1 out)

@@ -11,3 +11,5 @@ pub mod DrivenWalks
 pub mod Renumbered
 pub mod LikeWalks
 pub mod Changes
+pub mod Ahead
+pub mod PassingDirectories

@@ -1,7 +1,7 @@
 -- Walks that are the same but for the numbers of their handles: by what they hold, and what their plans have to do.
 use Rattle.std.specs.Prelude.{◌≡◌, ◌≤◌, ◌↔◌, length, ℕ, ◌-◌, List, [], ◌∷◌, ◌++◌, Bool, true, false, not, ◌||◌, ◌&&◌, map, Option, Some, None, IsSome, IsTrue, refl}
 use Rattle.std.proofs.Common.{sym, ap, subst, ◌∙◌, arith}
-use Rattle.std.proofs.Math.Bool.{or-true}
+use Rattle.std.proofs.Math.Bool.{or-true, or-false}
 use Rattle.path_text.specs.declared.name.TheConstants.{NAME_MAX}
 use Rattle.path_text.specs.declared.part.Part.{Part}
 use Rattle.path_text.specs.declared.part.Part.TheVariants as part
@@ -50,15 +50,11 @@ last_followed (Up ∷ []) = true
 last_followed (Named follow n ∷ []) = follow
 last_followed (p ∷ q ∷ ps) = last_followed (q ∷ ps)
 
-or_false : (b : Bool) → (b || false) ≡ b
-or_false true = refl
-or_false false = refl
-
 asked_last : (follow : Bool) (ps : List Part) → last_followed (asked follow ps) ≡ (follow || not (is_name (last_part ps)))
 asked_last follow [] = sym (or-true follow)
 asked_last follow (part.Cur ∷ []) = sym (or-true follow)
 asked_last follow (part.Up ∷ []) = sym (or-true follow)
-asked_last follow (part.Named n ∷ []) = sym (or_false follow)
+asked_last follow (part.Named n ∷ []) = sym (or-false follow)
 asked_last follow (p ∷ q ∷ []) = asked_last follow (q ∷ [])
 asked_last follow (p ∷ q ∷ r ∷ ps) = asked_last follow (q ∷ r ∷ ps)
 
@@ -66,7 +62,7 @@ asked_as : (follow other : Bool) (ps : List Part) → (follow || not (is_name (l
 asked_as follow other [] same = refl
 asked_as follow other (part.Cur ∷ []) same = refl
 asked_as follow other (part.Up ∷ []) same = refl
-asked_as follow other (part.Named n ∷ []) same = ap (λ (b : Bool). Named b n ∷ []) (sym (or_false follow) ∙ (same ∙ or_false other))
+asked_as follow other (part.Named n ∷ []) same = ap (λ (b : Bool). Named b n ∷ []) (sym (or-false follow) ∙ (same ∙ or-false other))
 asked_as follow other (p ∷ q ∷ ps) same = ap (λ (rest : List AskedPart). ask true p ∷ rest) (asked_as follow other (q ∷ ps) same)
 
 -- ---- plans

@@ -40,3 +40,4 @@ pub mod Driver
 pub mod Renumbered
 pub mod Renamed
 pub mod Like
+pub mod Ahead

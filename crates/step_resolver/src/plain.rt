@@ -41,7 +41,7 @@ fn begins_with_slash(text: &[u8]) -> bool
     text.first() == Some(&SLASH)
 }
 
-#[tactic(auto, using(crate::proofs::Meaning::PlainResolution::ends_with_slash_last))]
+#[tactic(auto, using(path_text::proofs::TextLemmas::ends_with_slash_last))]
 fn ends_with_slash(text: &[u8]) -> bool
     ensures { result ≡ ends_with_slash text.now }
 {

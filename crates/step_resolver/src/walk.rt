@@ -18,6 +18,7 @@ use std::mem;
 use tree_model::{Answer, HandleNo, LentStep, StepOf};
 use walk_plan::{Goal, Plan};
 
+mod ahead;
 mod copy;
 mod like;
 

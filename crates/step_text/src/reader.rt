@@ -10,13 +10,10 @@ use std::alloc::Global;
 use tree_model::{HandleNo, Mode, Step, StepOf};
 
 /// The number of a handle, where the word is one.
-fn handle_of(word: &[u8]) -> Option<HandleNo>
+fn handle_of(word: &str) -> Option<HandleNo>
     ensures { (handle : ℕ) → handle < 2 ^ 64 → word.now ≡ decimal handle → result ≡ Some handle }
 {
-    let Ok(digits) = str::from_utf8(word) else {
-        return None;
-    };
-    match digits.parse::<u64>() {
+    match word.parse::<u64>() {
         Ok(number) => Some(HandleNo::new(number)),
         Err(_) => None,
     }
@@ -35,9 +32,9 @@ fn digit_of(byte: u8) -> u8
 }
 
 /// The bytes that a word stands for.
-fn bytes_of(alloc: Global, word: &[u8]) -> Result<Vec<u8>, NoMemory> {
+fn bytes_of(alloc: Global, word: &str) -> Result<Vec<u8>, NoMemory> {
     let mut bytes = Vec::new(alloc);
-    let mut left = word;
+    let mut left = word.as_bytes();
     loop {
         match left {
             [] => return Ok(bytes),
@@ -54,7 +51,7 @@ fn bytes_of(alloc: Global, word: &[u8]) -> Result<Vec<u8>, NoMemory> {
 }
 
 /// The name that a word stands for, where it is one.
-fn name_of(alloc: Global, word: &[u8]) -> Result<Option<Name>, NoMemory> {
+fn name_of(alloc: Global, word: &str) -> Result<Option<Name>, NoMemory> {
     let bytes = bytes_of(alloc, word)?;
     match Name::new(alloc, &bytes) {
         Ok(name) => Ok(Some(name)),
@@ -64,37 +61,37 @@ fn name_of(alloc: Global, word: &[u8]) -> Result<Option<Name>, NoMemory> {
 }
 
 /// How a rename treats an entry that is there already, where the word says so.
-fn mode_of(word: &[u8]) -> Option<Mode>
+fn mode_of(word: &str) -> Option<Mode>
     ensures { (mode : Mode) → word.now ≡ mode_word mode → result ≡ Some mode }
 {
     match word {
-        b"plain" => Some(Mode::Plain),
-        b"noreplace" => Some(Mode::NoReplace),
-        b"exchange" => Some(Mode::Exchange),
+        "plain" => Some(Mode::Plain),
+        "noreplace" => Some(Mode::NoReplace),
+        "exchange" => Some(Mode::Exchange),
         _ => None,
     }
 }
 
 /// The step with a handle and nothing else.
-fn step_on_handle(verb: &[u8], handle: HandleNo) -> Option<Step> {
+fn step_on_handle(verb: &str, handle: HandleNo) -> Option<Step> {
     match verb {
-        b"dup" => Some(StepOf::Dup(handle)),
-        b"parent" => Some(StepOf::Parent(handle)),
-        b"read_link" => Some(StepOf::ReadLink(handle)),
-        b"list" => Some(StepOf::List(handle)),
-        b"close" => Some(StepOf::Close(handle)),
+        "dup" => Some(StepOf::Dup(handle)),
+        "parent" => Some(StepOf::Parent(handle)),
+        "read_link" => Some(StepOf::ReadLink(handle)),
+        "list" => Some(StepOf::List(handle)),
+        "close" => Some(StepOf::Close(handle)),
         _ => None,
     }
 }
 
 /// The step with a directory and a name, and nothing else.
-fn step_on_entry(verb: &[u8], dir: HandleNo, name: Name) -> Option<Step> {
+fn step_on_entry(verb: &str, dir: HandleNo, name: Name) -> Option<Step> {
     match verb {
-        b"open" => Some(StepOf::Open(dir, name)),
-        b"make_dir" => Some(StepOf::MakeDir(dir, name)),
-        b"make_file" => Some(StepOf::MakeFile(dir, name)),
-        b"remove_file" => Some(StepOf::RemoveFile(dir, name)),
-        b"remove_dir" => Some(StepOf::RemoveDir(dir, name)),
+        "open" => Some(StepOf::Open(dir, name)),
+        "make_dir" => Some(StepOf::MakeDir(dir, name)),
+        "make_file" => Some(StepOf::MakeFile(dir, name)),
+        "remove_file" => Some(StepOf::RemoveFile(dir, name)),
+        "remove_dir" => Some(StepOf::RemoveDir(dir, name)),
         _ => None,
     }
 }
@@ -102,14 +99,14 @@ fn step_on_entry(verb: &[u8], dir: HandleNo, name: Name) -> Option<Step> {
 /// The step of two handles, or of a directory and a name.
 fn step_of_three(
     alloc: Global,
-    verb: &[u8],
-    first: &[u8],
-    second: &[u8],
+    verb: &str,
+    first: &str,
+    second: &str,
 ) -> Result<Option<Step>, NoMemory> {
     let Some(dir) = handle_of(first) else {
         return Ok(None);
     };
-    if verb == b"below".as_slice() {
+    if verb == "below" {
         return Ok(handle_of(second).map(|handle| StepOf::NameBelow(dir, handle)));
     }
     let name = name_of(alloc, second)?;
@@ -117,7 +114,7 @@ fn step_of_three(
 }
 
 /// An entry, as its directory's handle and its name.
-fn entry_of(alloc: Global, dir: &[u8], name: &[u8]) -> Result<Option<(HandleNo, Name)>, NoMemory> {
+fn entry_of(alloc: Global, dir: &str, name: &str) -> Result<Option<(HandleNo, Name)>, NoMemory> {
     let Some(dir) = handle_of(dir) else {
         return Ok(None);
     };
@@ -126,7 +123,7 @@ fn entry_of(alloc: Global, dir: &[u8], name: &[u8]) -> Result<Option<(HandleNo, 
 }
 
 /// The step that makes a link.
-fn link_of(alloc: Global, dir: &[u8], name: &[u8], text: &[u8]) -> Result<Option<Step>, NoMemory> {
+fn link_of(alloc: Global, dir: &str, name: &str, text: &str) -> Result<Option<Step>, NoMemory> {
     let Some((dir, name)) = entry_of(alloc, dir, name)? else {
         return Ok(None);
     };
@@ -134,34 +131,50 @@ fn link_of(alloc: Global, dir: &[u8], name: &[u8], text: &[u8]) -> Result<Option
     Ok(Some(StepOf::MakeLink(dir, name, text)))
 }
 
+/// The step that renames an entry, each entry as its directory's handle and its name.
+fn rename_of(
+    alloc: Global,
+    from: (&str, &str),
+    to: (&str, &str),
+    mode: &str,
+) -> Result<Option<Step>, NoMemory> {
+    let Some(mode) = mode_of(mode) else {
+        return Ok(None);
+    };
+    let Some((from, old)) = entry_of(alloc, from.0, from.1)? else {
+        return Ok(None);
+    };
+    let Some((to, new)) = entry_of(alloc, to.0, to.1)? else {
+        return Ok(None);
+    };
+    Ok(Some(StepOf::Rename(from, old, to, new, mode)))
+}
+
 /// The step that these words may be those of.
-fn step_of(alloc: Global, words: &[&[u8]]) -> Result<Option<Step>, NoMemory> {
+fn step_of(alloc: Global, words: &[&str]) -> Result<Option<Step>, NoMemory> {
     match words {
         [verb, handle] => Ok(handle_of(handle).and_then(|handle| step_on_handle(verb, handle))),
         [verb, first, second] => step_of_three(alloc, verb, first, second),
-        [b"make_link", dir, name, text] => link_of(alloc, dir, name, text),
-        [b"rename", from, old, to, new, mode] => {
-            let (Some((from, old)), Some((to, new)), Some(mode)) = (
-                entry_of(alloc, from, old)?,
-                entry_of(alloc, to, new)?,
-                mode_of(mode),
-            ) else {
-                return Ok(None);
-            };
-            Ok(Some(StepOf::Rename(from, old, to, new, mode)))
-        }
+        ["make_link", dir, name, text] => link_of(alloc, dir, name, text),
+        ["rename", from, old, to, new, mode] => rename_of(alloc, (from, old), (to, new), mode),
         _ => Ok(None),
     }
+}
+
+/// The step that this line may be that of: each byte of a step's line is a blank or printed ASCII.
+fn step_in(alloc: Global, line: &[u8]) -> Result<Option<Step>, NoMemory> {
+    let Ok(text) = str::from_utf8(line) else {
+        return Ok(None);
+    };
+    let words = text.split(' ').collect::<Vec<&str>>(alloc)?;
+    step_of(alloc, words.as_slice())
 }
 
 /// The step whose line this is, with no newline at its end. NoMemory where its room was refused.
 pub fn read_step(alloc: Global, line: &[u8]) -> Result<Option<Step>, NoMemory>
     ensures { IfOk result (λ read. IfSome read (λ step. line_of (step_words step) ≡ line.now)) }
 {
-    let words = line
-        .split(|byte| *byte == b' ')
-        .collect::<Vec<&[u8]>>(alloc)?;
-    let Some(step) = step_of(alloc, words.as_slice())? else {
+    let Some(step) = step_in(alloc, line)? else {
         return Ok(None);
     };
     let mut written = Output::new(alloc);

@@ -16,11 +16,7 @@ use Rattle.tree_model.proofs.Changed.{IfDone}
 use Rattle.tree_list.specs.Build.{top_alone, object_of, new_fault, makes_at, adds, adds_all, built, IsBuilt, IsTreeOf}
 use Rattle.tree_list.specs.declared.build.Entry.{Entry}
 use Rattle.tree_list.proofs.Built.{done, added, adds-tree, top_alone-tree}
-
-Stands-append : (nodes more : List Inode) (r x : ℕ) (names : List (List ℕ)) → Stands nodes r x names → Stands (nodes ++ more) r x names
-Stands-append nodes more r x [] s = s
-Stands-append nodes more r x (n ∷ names) s =
-    (s.0, (s.1.0, (place_at-append nodes more x _ s.1.1.0, Stands-append nodes more r s.1.0 names s.1.1.1)))
+use Rattle.tree_model.proofs.Standing.{Stands-append}
 
 -- one node more, which stands at these names
 record IsAdded (nodes : List Inode) (object : Object) (names : List (List ℕ)) (new : List Inode) : Type 0 where

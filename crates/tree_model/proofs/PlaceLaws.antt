@@ -68,7 +68,7 @@ gone_nodes_are_empty nodes t d gone =
 
 -- ---- what stands leads up
 
-Rooted-stands : {nodes : List Inode} {x : ℕ} → Rooted nodes x → is_gone nodes x ≡ false
+pub Rooted-stands : {nodes : List Inode} {x : ℕ} → Rooted nodes x → is_gone nodes x ≡ false
 Rooted-stands {nodes} {x} r = false_from_ne_true (is_gone nodes x) (λ gone. Rooted-is_gone r gone)
 
 no_parent : (nodes : List Inode) (x : ℕ) → parent nodes x ≡ None → is_gone nodes x ≡ true

@@ -1,5 +1,5 @@
 -- Chains of parents: how long one is, that it leads round no circle, and that NameBelow's names are those of the one chain there is.
-use Rattle.std.proofs.Common.{◌≡◌, ◌≢◌, ℕ, zero, suc, ◌+◌, ◌<◌, ◌≤◌, Bool, true, false, ◌==◌, eqb, cond, List, [], ◌∷◌, length, Option, Some, None, is_some, refl, sym, ap, ◌∙◌, subst, eqb-true, eq-eqb, ne_eqb, arith}
+use Rattle.std.proofs.Common.{◌≡◌, ◌≢◌, ℕ, zero, suc, ◌+◌, ◌<◌, ◌≤◌, Bool, true, false, ◌==◌, eqb, cond, List, [], ◌∷◌, length, Option, Some, None, is_some, refl, sym, ap, ◌∙◌, subst, eqb-true, eq-eqb, ne_eqb, arith, ◌++◌}
 use Rattle.std.specs.List.{list_any, AllByRecursion, IsDistinct}
 use Rattle.std.specs.Option.{option_map, option_and_then}
 use Rattle.std.proofs.lemmas.Bool.{false≢true, eqb-false, or_cases, or_left, or_right, cond-true, cond-false}
@@ -10,8 +10,14 @@ use Rattle.tree_model.specs.declared.inode.Inode.{Inode}
 use Rattle.tree_model.specs.declared.inode.Place.{Place}
 use Rattle.tree_model.specs.State.{TOP, place_at, Stands, names_within, names_below, is_within}
 use Rattle.tree_model.specs.Trees.{Rooted, IsTree, top, below}
-use Rattle.tree_model.proofs.Places.{place_at-within}
+use Rattle.tree_model.proofs.Places.{place_at-within, place_at-append}
 use Rattle.tree_model.proofs.Children.{entry}
+
+-- what stands at its names stands there with more nodes
+pub Stands-append : (nodes more : List Inode) (r x : ℕ) (names : List (List ℕ)) → Stands nodes r x names → Stands (nodes ++ more) r x names
+Stands-append nodes more r x [] s = s
+Stands-append nodes more r x (n ∷ names) s =
+    (s.0, (s.1.0, (place_at-append nodes more x (entry s.1.0 n) s.1.1.0, Stands-append nodes more r s.1.0 names s.1.1.1)))
 
 -- ---- the way up to the top
 

@@ -107,7 +107,7 @@ held_more-other (first ∷ handles) a b x zero ne = refl
 held_more-other (first ∷ handles) a b x (suc h) ne = held_more-other handles a b x h ne
 
 -- a handle that was open is the same among more
-slice_get-append : {A : Type 0} (xs ys : List A) (i : ℕ) (x : A) → slice_get xs i ≡ Some x → slice_get (xs ++ ys) i ≡ Some x
+pub slice_get-append : {A : Type 0} (xs ys : List A) (i : ℕ) (x : A) → slice_get xs i ≡ Some x → slice_get (xs ++ ys) i ≡ Some x
 slice_get-append [] ys i x e = absurd (none-some x e)
 slice_get-append (y ∷ xs) ys zero x e = e
 slice_get-append (y ∷ xs) ys (suc i) x e = slice_get-append xs ys i x e
@@ -120,7 +120,7 @@ slice_get-set_other (x ∷ xs) (suc i) y zero ne = refl
 slice_get-set_other (x ∷ xs) (suc i) y (suc k) ne = slice_get-set_other xs i y k (λ e. ne (ap suc e))
 
 -- the one that was closed is open to nobody
-held_closed : (handles : List (Option OpenHandle)) (h b : ℕ) → node_held b (slice_get (slice_set handles h None) h) ≡ None
+pub held_closed : (handles : List (Option OpenHandle)) (h b : ℕ) → node_held b (slice_get (slice_set handles h None) h) ≡ None
 held_closed [] h b = refl
 held_closed (first ∷ handles) zero b = refl
 held_closed (first ∷ handles) (suc h) b = held_closed handles h b

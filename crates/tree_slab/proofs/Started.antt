@@ -15,6 +15,7 @@ use Rattle.tree_slab.specs.Directories.{entries_at, has_map, entry_in, with_entr
 use Rattle.tree_slab.specs.Index.{is_standing_dir, Agrees, IsIndexed, HasEmptyMaps, HasParentMap, Links}
 use Rattle.tree_slab.proofs.Grown.{entry_in-more, has_map-more, length-more}
 use Rattle.tree_slab.proofs.Agreement.{alike, made_entry, unplaced_entry}
+use Rattle.tree_model.proofs.PlaceLaws.{Rooted-stands}
 
 abbrev Tables : Type 0
 Tables = List (Option (List (List ℕ × ℕ)))
@@ -67,17 +68,9 @@ all_maps nodes directories i whole most h = record { entries = h.entries; maps =
 
 -- ---- the entries
 
-rooted_stays : (nodes : List Inode) {x : ℕ} → Rooted nodes x → is_gone nodes x ≡ false
-rooted_stays nodes top = refl
-rooted_stays nodes {x} (below place p r) = ap (λ o. not (x == TOP) && not (is_some o)) p ∙ by (not (x == TOP))
-  where
-    by : (b : Bool) → (b && false) ≡ false
-    by true = refl
-    by false = refl
-
 parent_standing : (nodes : List Inode) → IsTree nodes → (x : ℕ) (place : Place) → place_at nodes x ≡ Some place → is_standing_dir nodes place.parent ≡ true
 parent_standing nodes t x place p =
-    rw (t.parents_are_dirs x place p, rooted_stays nodes (Rooted-parent nodes t x place p)) refl
+    rw (t.parents_are_dirs x place p, Rooted-stands (Rooted-parent nodes t x place p)) refl
 
 place_at-taken : (nodes : List Inode) (i y : ℕ) (place : Place) → place_at (take i nodes) y ≡ Some place → (y < i) × (place_at nodes y ≡ Some place)
 place_at-taken [] zero y place e = absurd (none-some place e)

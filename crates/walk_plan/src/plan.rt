@@ -14,6 +14,7 @@ use path_text::{Bytes, Errno, Flags, LentName, Name, Names, NoMemory, Part, Part
 use std::alloc::Global;
 use std::marker::Model;
 
+mod ahead;
 mod copy;
 mod same;
 

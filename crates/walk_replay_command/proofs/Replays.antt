@@ -113,7 +113,7 @@ told said cause fault playable opens is = subst (IsNoRun said) (sym is) (by caus
 
 -- ---- its schedule
 
-length-seats_of : (ledgers : List LedgerView) → length (seats_of ledgers) ≡ length ledgers
+pub length-seats_of : (ledgers : List LedgerView) → length (seats_of ledgers) ≡ length ledgers
 length-seats_of [] = refl
 length-seats_of (ledger ∷ ledgers) = ap suc (length-seats_of ledgers)
 

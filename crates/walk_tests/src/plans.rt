@@ -375,3 +375,42 @@ fn leaves(alloc: Global, text: &str, link: &str, words: &str) -> Result<bool, Er
 fn the_rest(rt: HostRuntime) {
     assert!(rt; leaves(rt.alloc(), "l/n/../m/", "a", "n .. m .") == Ok(true));
 }
+
+// Whether the parts to come are these, read one by one from the next one on, and none behind them.
+fn are_ahead(plan: &Plan, words: &str) -> bool {
+    let mut left = words;
+    for at in 0..99 {
+        let (word, others) = cut(left);
+        match plan.ahead(at) {
+            Some(part) => {
+                if text_of(part) != word.as_bytes() {
+                    return false;
+                }
+            }
+            None => return left.is_empty(),
+        }
+        left = others;
+    }
+    false
+}
+
+// The same of a path, before and after a link at its first part was followed, and once that part was passed.
+fn shows_ahead(
+    alloc: Global,
+    text: &str,
+    link: &str,
+    rows: (&str, &str, &str),
+) -> Result<bool, Errno> {
+    let mut plan = plan_of(alloc, text.as_bytes(), "follow")?;
+    let before = are_ahead(&plan, rows.0);
+    let after = followed(alloc, &mut plan, link.as_bytes()) && are_ahead(&plan, rows.1);
+    let passed = pass(&mut plan) && are_ahead(&plan, rows.2);
+    Ok(before && after && passed && plan.ahead(usize::MAX).is_none())
+}
+
+#[test]
+fn parts_ahead(rt: HostRuntime) {
+    let rows = ("l n .. m .", "a b n .. m .", "b n .. m .");
+    assert!(rt; shows_ahead(rt.alloc(), "l/n/../m/", "a//b", rows) == Ok(true));
+    assert!(rt; shows_ahead(rt.alloc(), "l", "/a", ("l", "a", "")) == Ok(true));
+}

@@ -19,6 +19,7 @@ use Rattle.tree_model.specs.Trees.{IsTree}
 use Rattle.tree_model.proofs.Places.{object_at-append, place_at-append, place_at-last, place_at-one_more, slice_get-last}
 use Rattle.tree_model.proofs.Children.{entry, place_at-child, child-entry}
 use Rattle.tree_model.proofs.StepsKept.{directory-within}
+use Rattle.tree_model.proofs.Standing.{Stands-append}
 
 pub length-one_more : {A : Type 0} (xs : List A) (y : A) → length (xs ++ y ∷ []) ≡ suc (length xs)
 length-one_more [] y = refl
@@ -30,11 +31,6 @@ dir_stays nodes others x e = on (object_at nodes x) refl
     on : (o : Option Object) → object_at nodes x ≡ o → is_dir (nodes ++ others) x ≡ true
     on None q = absurd (false≢true (sym (ap is_directory q) ∙ e))
     on (Some what) q = ap is_directory (object_at-append nodes others x what q) ∙ ap is_directory (sym q) ∙ e
-
-pub stands_on : (nodes others : List Inode) (r x : ℕ) (names : List (List ℕ)) → Stands nodes r x names → Stands (nodes ++ others) r x names
-stands_on nodes others r x [] st = st
-stands_on nodes others r x (n ∷ names) st =
-    (st.0, (st.1.0, (place_at-append nodes others x (entry st.1.0 n) st.1.1.0, stands_on nodes others r st.1.0 names st.1.1.1)))
 
 module _ (nodes : List Inode) (tree : IsTree nodes) (d : ℕ) (n : List ℕ) (dir : is_dir nodes d ≡ true) where
   abbrev pub new_inode : Inode
@@ -73,7 +69,7 @@ module _ (nodes : List Inode) (tree : IsTree nodes) (d : ℕ) (n : List ℕ) (di
 
   pub new_stands : (r : ℕ) (names : List (List ℕ)) → is_dir nodes r ≡ true → Stands nodes r d names → Stands with_new r (length nodes) (n ∷ names)
   new_stands r names root st =
-      (λ e. no_dir_yet (ap (λ x. is_dir nodes x) e ∙ root), (d, (new_stands_there, stands_on nodes (new_inode ∷ []) r d names st)))
+      (λ e. no_dir_yet (ap (λ x. is_dir nodes x) e ∙ root), (d, (new_stands_there, Stands-append nodes (new_inode ∷ []) r d names st)))
 
 -- what MakeDir of a missing name is answered in a directory
 pub data NewCase (s : State) (d : ℕ) (n : List ℕ) (o : Outcome) : Type 0 where

@@ -18,7 +18,7 @@ use Rattle.tree_model.specs.Trees.{IsState}
 use Rattle.tree_model.specs.History.{IsLegal, after_events}
 use Rattle.tree_model.proofs.StepsKept.{steps_keep_trees}
 use Rattle.tree_model.proofs.StepLaws.{nodes_are_left}
-use Rattle.tree_model.proofs.Standing.{names_below-Stands}
+use Rattle.tree_model.proofs.Standing.{names_below-Stands, Stands-append}
 use Rattle.tree_model.proofs.PlaceLaws.{below_is}
 use Rattle.handles.proofs.SameNames.{same_where_equal}
 use Rattle.step_resolver.specs.Order.{Way, Handle, Line, answered, no_room, not_made, IsWant, events_of}
@@ -26,7 +26,7 @@ use Rattle.step_resolver.specs.Footprint.{is_want}
 use Rattle.step_resolver.proofs.Underway.StepOutcomes.{IsMore, with_handle-is_more, IsLess, Close-is_less, Opening, too_many, no_object, is_opened, opening_of, OpenCase, no_dir, no_child, at_child, open_case}
 use Rattle.bulk_ops.specs.MakeAllOrder.{Making, walking, making, opening, leaving, ending, closing, MakeTurn, more, made, failed, gives_up, goes_down, take, due, is_closing, LeadsTo}
 use Rattle.bulk_ops.specs.MakeAllQuiet.{chain_of, last_of, MakeMeant, refuses, gives, rest_means, IsMeantEnd, IsPartOf, MakingComesTo, IsOver}
-use Rattle.bulk_ops.proofs.MakingAlone.NewDirectories.{length-one_more, dir_stays, stands_on, with_new, new_inode, new_is_dir, new_not_gone, new_is_found, new_is_empty, new_stands, NewCase, dir_gone, no_number, is_new, new_case}
+use Rattle.bulk_ops.proofs.MakingAlone.NewDirectories.{length-one_more, dir_stays, with_new, new_inode, new_is_dir, new_not_gone, new_is_found, new_is_empty, new_stands, NewCase, dir_gone, no_number, is_new, new_case}
 
 -- ---- what is known
 
@@ -165,7 +165,7 @@ module _ (a : ℕ) (way : Way) (r : ℕ) (base : List Inode) (meant : MakeMeant)
         root_dir = dir_stays s.nodes _ r ready.root_dir;
         is_open = ready.is_open;
         dir = dir_stays s.nodes _ held.node ready.dir;
-        stands = stands_on s.nodes _ r held.node names ready.stands;
+        stands = Stands-append s.nodes _ r held.node names ready.stands;
         apart = ready.apart;
         new = ready.new ++ new_inode s.nodes ready.tree.tree held.node n ready.dir ∷ [];
         grown = ap (λ ns. ns ++ new_inode s.nodes ready.tree.tree held.node n ready.dir ∷ []) ready.grown ∙ append_assoc base ready.new (new_inode s.nodes ready.tree.tree held.node n ready.dir ∷ []);

@@ -112,8 +112,11 @@ module _ {w : WalkInHistory} (lived : Lived w) where
   lines_tell (line ∷ lines) now (partial handle names rest) end good happens leads wants mets = absurd leads
   lines_tell (line ∷ lines) now (failed error) end good happens leads wants mets = absurd leads
 
-  handles_at_first : HandlesAre w 0 []
+  pub handles_at_first : HandlesAre w 0 []
   handles_at_first = record { others = λ k out. refl; fresh = tt }
+
+  pub going_first : Going w 0 root_itself [] (parts_of_walk w) LINKS_MAX
+  going_first = record { taken = []; parts = refl; reaches = λ z next t. t; within = λ z p t. absurd (no_stop t) }
 
   -- a walk that fails at once has no lines
   no_lines : (lines : List Line) (end : Turn) → LeadsTo w.way (begins w.way w.path) lines end → begins w.way w.path ≡ failed CrossRoot → lines ≡ []
@@ -123,18 +126,15 @@ module _ {w : WalkInHistory} (lived : Lived w) where
   begins_good : (begins w.way w.path ≡ failed CrossRoot → w.lines ≡ []) → Good w 0 (begins w.way w.path)
   begins_good none = on (leads_out w.path.absolute w.way.flags) refl
     where
-      going : Going w 0 root_itself [] (parts_of_walk w) LINKS_MAX
-      going = record { taken = []; parts = refl; reaches = λ z next t. t; within = λ z p t. absurd (no_stop t) }
-
       after : Bool → Turn
       after b = if b then failed CrossRoot else goes_on w.way root_itself (todo [] (parts_of_walk w) LINKS_MAX)
 
       on : (b : Bool) → leads_out w.path.absolute w.way.flags ≡ b → Good w 0 (begins w.way w.path)
       on true e = subst (Good w 0) (sym (ap after e))
           (record { beneath = (and_parts w.way.flags.beneath w.path.absolute e).0; why = inl ((and_parts w.way.flags.beneath w.path.absolute e).1, none (ap after e)) }, handles_at_first)
-      on false e = subst (Good w 0) (sym (ap after e)) (goes_on_good lived 0 root_itself [] (parts_of_walk w) LINKS_MAX going tt handles_at_first)
+      on false e = subst (Good w 0) (sym (ap after e)) (goes_on_good lived 0 root_itself [] (parts_of_walk w) LINKS_MAX going_first tt handles_at_first)
 
-  wants_told : (error : Errno) → IsWant error → TellsWant error w.lines → TellsError w error
+  pub wants_told : (error : Errno) → IsWant error → TellsWant error w.lines → TellsError w error
   wants_told error (inl e) want = subst (TellsError w) (sym e) (subst (λ x. TellsWant x w.lines) e want)
   wants_told error (inr e) want = subst (TellsError w) (sym e) (subst (λ x. TellsWant x w.lines) e want)
 

@@ -20,12 +20,6 @@ use Rattle.step_resolver.specs.Meaning.{Ground, Meant, object, fails, after_read
 use Rattle.step_resolver.specs.Plain.{meant, arrival}
 use Rattle.step_resolver.proofs.Meaning.PartsAndLinks.{LeavesAtMost, Lowers, deeper_at, deeper_at-lowers, means_by, means-lowers, part_means-lowers, parts_mean-same, nesting_does_not_matter}
 
--- the last byte tells whether a text ends with a slash
-pub ends_with_slash_last : (bs : List ℕ) → ends_with_slash bs ≡ option_eq nat_eq (slice_get bs (length bs - 1)) (Some SLASH)
-ends_with_slash_last [] = refl
-ends_with_slash_last (b ∷ []) = refl
-ends_with_slash_last (b ∷ c ∷ bs) = simp unary_clauses (simp unary_clauses at (ends_with_slash_last (c ∷ bs)))
-
 -- ---- a link's text is resolved as other parts are
 
 meant_deeper : (nested : ℕ) (g : Ground) (e : ℕ) (qs : List AskedPart) (c : ℕ) → c < nested → deeper_at nested g e qs c ≡ meant g e qs c

@@ -32,13 +32,9 @@ use Rattle.bulk_ops.proofs.RemovingAll.Quiet.Falls.{removal_events, removals-eve
 use Rattle.bulk_ops.proofs.RemovingAll.Quiet.FirstStep.{after_walk, removes_none, same_rest}
 use Rattle.bulk_ops.proofs.RemovingAll.Quiet.Shrinks.{objects, partly_cleared, none_taken, cleared_at, goes_stood, one_fewer}
 use Rattle.bulk_ops.proofs.OwnEvents.{all_own}
+use Rattle.tree_model.proofs.StepLaws.{slice_get-append}
 
 -- ---- what is in a part of a window is in the window
-
-in_front : (xs ys : List Event) (t : ℕ) (event : Event) → slice_get xs t ≡ Some event → slice_get (xs ++ ys) t ≡ Some event
-in_front [] ys t event e = absurd (none-some event e)
-in_front (x ∷ xs) ys zero event e = e
-in_front (x ∷ xs) ys (suc t) event e = in_front xs ys t event e
 
 behind : (xs ys : List Event) (t : ℕ) (event : Event) → slice_get ys t ≡ Some event → (k : ℕ) × (slice_get (xs ++ ys) k ≡ Some event)
 behind [] ys t event e = (t, e)
@@ -67,7 +63,7 @@ module _ (w : WalkInHistory) (target : List ℕ) (is : IsWalkInHistory w) (quiet
   dir = parts.handle.node
 
   first_quiet : IsQuiet first
-  first_quiet t event e = quiet t event (ap (λ es. slice_get es t) parts.walked.windows ∙ in_front parts.walked.window parts.walked.later t event e)
+  first_quiet t event e = quiet t event (ap (λ es. slice_get es t) parts.walked.windows ∙ slice_get-append parts.walked.window parts.walked.later t event e)
 
   second_quiet : IsQuiet second
   second_quiet t event e =

@@ -1,8 +1,9 @@
 use Rattle.std.proofs.Common.{◌≡◌, ◌++◌, List, ℕ, [], ◌∷◌, take, drop, length, ap, arith, sym, ◌∙◌, subst, append_assoc, length-append}
 use Rattle.path_text.specs.declared.name.TheConstants.{SLASH}
 use Rattle.path_text.specs.Print.{after_slashes}
-use Rattle.c_protocol.proofs.Laying.{put, cut, within}
+use Rattle.c_protocol.proofs.Laying.{cut, within}
 use Rattle.c_protocol.proofs.told.lay_names.Goals as goal
+use Rattle.path_text.proofs.Lists.{put}
 
 pub lay_at-requires : goal.lay_at-requires
 lay_at-requires c =

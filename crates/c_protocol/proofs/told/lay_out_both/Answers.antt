@@ -1,7 +1,8 @@
 use Rattle.std.proofs.Common.{◌≡◌, ◌++◌, List, ℕ, [], ◌∷◌, drop, length, arith, refl, sym, subst, append_assoc, length-append}
 use Rattle.c_protocol.specs.Numbers.{ended}
-use Rattle.c_protocol.proofs.Laying.{put, put_first, laid_there, ended_length}
+use Rattle.c_protocol.proofs.Laying.{put_first, laid_there, ended_length}
 use Rattle.c_protocol.proofs.told.lay_out_both.Goals as goal
+use Rattle.path_text.proofs.Lists.{put}
 
 pub returns-clause-bytes : goal.returns-clause-bytes
 returns-clause-bytes c =

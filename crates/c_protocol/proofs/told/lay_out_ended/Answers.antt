@@ -1,6 +1,7 @@
 use Rattle.std.proofs.Common.{[], ◌∷◌, arith, refl}
-use Rattle.c_protocol.proofs.Laying.{put, put_first, laid_there, ended_length}
+use Rattle.c_protocol.proofs.Laying.{put_first, laid_there, ended_length}
 use Rattle.c_protocol.proofs.told.lay_out_ended.Goals as goal
+use Rattle.path_text.proofs.Lists.{put}
 
 pub returns-clause-bytes : goal.returns-clause-bytes
 returns-clause-bytes c =

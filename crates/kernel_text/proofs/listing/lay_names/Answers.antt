@@ -1,8 +1,9 @@
 use Rattle.std.proofs.Common.{◌≡◌, ◌+◌, ◌++◌, [], ◌∷◌, List, ℕ, length, get_or, take, drop, ap, subst, sym, ◌∙◌, arith, length-append}
 use Rattle.path_text.specs.declared.name.TheConstants.{SLASH}
 use Rattle.path_text.specs.Print.{after_slashes}
-use Rattle.kernel_text.proofs.ListingLemmas.{laid_more, names_of, no_longer, put}
+use Rattle.kernel_text.proofs.ListingLemmas.{laid_more, names_of, no_longer}
 use Rattle.kernel_text.proofs.listing.lay_names.Goals as goal
+use Rattle.path_text.proofs.Lists.{put}
 
 pub lay_name-requires : goal.lay_name-requires
 lay_name-requires c =

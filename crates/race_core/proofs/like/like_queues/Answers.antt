@@ -1,6 +1,6 @@
 use Rattle.std.proofs.Common.{◌≡◌, ◌<◌, length, ◌∙◌, sym, arith}
 use Rattle.std.proofs.lemmas.Bool.{true≢false, false≢true}
-use Rattle.race_core.proofs.LikeLists.{same_at}
+use Rattle.bulk_ops.proofs.MappedLists.{same_at}
 use Rattle.race_core.proofs.like.like_queues.Goals as goal
 
 pub returns-then-not-is_like : goal.returns-then-not-is_like

@@ -1,0 +1,35 @@
+-- Facts about lists, and about texts that are laid one after another.
+use Rattle.std.proofs.Common.{◌≡◌, ℕ, zero, suc, ◌+◌, ◌<◌, List, [], ◌∷◌, ◌++◌, length, take, drop, refl, sym, ap, ◌∙◌, arith, length-append, append_assoc}
+use Rattle.std.specs.Prelude.{slice_set}
+use Rattle.std.proofs.Math.Seq.{take-append_seam}
+use Rattle.std.proofs.lemmas.Slice.{drop-append-drop}
+use Rattle.path_text.specs.declared.name.TheConstants.{SLASH}
+use Rattle.path_text.specs.Print.{after_slashes, printed}
+
+-- a write keeps the length
+pub length-slice_set : {A : Type 0} (xs : List A) (i : ℕ) (x : A) → length (slice_set xs i x) ≡ length xs
+length-slice_set [] i x = refl
+length-slice_set (y ∷ ys) zero x = refl
+length-slice_set (y ∷ ys) (suc i) x = ap suc (length-slice_set ys i x)
+
+-- bytes are laid right after a text that lies at a room's beginning
+pub put : (text bytes old room new : List ℕ) (at : ℕ) → at ≡ length text → room ≡ text ++ drop (length text) old
+    → new ≡ take at room ++ (bytes ++ drop (at + length bytes) room) → new ≡ (text ++ bytes) ++ drop (length (text ++ bytes)) old
+put text bytes old room new at is before laid =
+    laid ∙ ap (λ (r : List ℕ). take at r ++ (bytes ++ drop (at + length bytes) r)) before
+    ∙ ap (λ (k : ℕ). take k (text ++ drop (length text) old) ++ (bytes ++ drop (k + length bytes) (text ++ drop (length text) old))) is
+    ∙ ap (λ (l : List ℕ). l ++ (bytes ++ drop (length text + length bytes) (text ++ drop (length text) old))) (take-append_seam text (drop (length text) old))
+    ∙ ap (λ (l : List ℕ). text ++ (bytes ++ l)) (drop-append-drop (length text) old text (length text + length bytes) (omega arith) refl)
+    ∙ sym (append_assoc text bytes (drop (length text + length bytes) old))
+    ∙ ap (λ (k : ℕ). (text ++ bytes) ++ drop k old) (sym (length-append text bytes))
+
+-- names after slashes
+
+pub slashes-append : (xs ys : List (List ℕ)) → after_slashes (xs ++ ys) ≡ after_slashes xs ++ after_slashes ys
+slashes-append [] ys = refl
+slashes-append (x ∷ xs) ys =
+    ap (λ (l : List ℕ). SLASH ∷ l) (ap (λ (l : List ℕ). x ++ l) (slashes-append xs ys) ∙ sym (append_assoc x (after_slashes xs) (after_slashes ys)))
+
+pub printed_some : (names : List (List ℕ)) → 0 < length names → printed names ≡ after_slashes names
+printed_some [] some = absurd (omega (arith, some))
+printed_some (name ∷ names) some = refl
