@@ -2,7 +2,11 @@
 use Rattle.std.specs.Prelude.{ℕ, List, [], ◌++◌, nat_lt, if◌then◌else◌, codes, decimal}
 use Rattle.command_line.specs.declared.advice.TheConstants.{MEMORY_MAX, STATES_MAX}
 use Rattle.command_line.specs.declared.ending.Fault.{Fault}
-use Rattle.command_line.specs.declared.ending.Fault.TheVariants.{Usage, NotUtf8, Schedule, AskedTurn, AskedTurns, Width, Color, NoRequest, Run, Options, PropertyFails, ExploreActor, ExploreProperty, ExploreStates, ExploreTurns, ExploreBegin, ExploreCuts, ExploreMemory, ExploreGauge, Merge, DrawActors, DrawLines, ReplayEvents, Service}
+use Rattle.command_line.specs.declared.ending.Fault.TheVariants.{Usage, NotUtf8, Schedule, AskedTurn, AskedTurns, Width, Color, NoRequest, Run, Options, PropertyFails, Explore, Merge, DrawActors, DrawLines, ReplayEvents, Service}
+use Rattle.outcome_text.specs.declared.fault.ExploreFault.{ExploreFault}
+use Rattle.outcome_text.specs.declared.fault.ExploreFault.TheVariants.{NoSuchActor, NoSuchLine, Search, TooMuchMemory, NoGauge}
+use Rattle.schedule_graph.specs.declared.fault.SearchFault.{SearchFault}
+use Rattle.schedule_graph.specs.declared.fault.SearchFault.TheVariants.{TooManyStates, TooManyTurns, NotBusy, TooManyCuts}
 use Rattle.scripts.specs.declared.fault.RunFault.TheVariants.{BookFull}
 
 -- more may be asked for, up to a limit
@@ -25,21 +29,30 @@ memory_advice most =
     if nat_lt most MEMORY_MAX then codes " MB; --memory takes up to 1000000"
     else codes " MB; --cuts and --begin leave fewer states"))
 
+-- what is told of a search, by its bounds
+abbrev pub search_advice : SearchFault → ℕ → List ℕ
+search_advice TooManyStates states = states_advice states
+search_advice TooManyTurns states = codes "a schedule has more than 100000 turns, and no option takes more"
+search_advice (NotBusy at) states =
+    turn_advice at (codes " of --begin, counted from 0, is of an actor who has nothing left to do")
+search_advice (TooManyCuts at) states =
+    turn_advice at (codes " of --begin, counted from 0, makes more cuts than --cuts takes")
+search_advice other states = []
+
+abbrev pub explore_advice : ExploreFault → ℕ → List ℕ
+explore_advice (NoSuchActor actor) states = actor_advice actor
+explore_advice (NoSuchLine place) states =
+    codes "no report of the script has such a line; properties count from 0, those of --when first, then those of --never"
+explore_advice (Search fault) states = search_advice fault states
+explore_advice (TooMuchMemory most) states = memory_advice most
+explore_advice NoGauge states = codes "--memory reads in /proc/self/status how much is taken, and could not"
+explore_advice other states = []
+
 -- where there is no more to tell it is nothing
 abbrev pub advice_of : Fault → ℕ → List ℕ
 advice_of (AskedTurn at) states = codes "a turn is an actor's number, counted from 0"
 advice_of AskedTurns states = codes "a schedule has at most 100000 turns"
-advice_of (ExploreActor actor) states = actor_advice actor
-advice_of (ExploreProperty place) states =
-    codes "no report of the script has such a line; properties count from 0, those of --when first, then those of --never"
-advice_of ExploreStates states = states_advice states
-advice_of ExploreTurns states = codes "a schedule has more than 100000 turns, and no option takes more"
-advice_of (ExploreBegin at) states =
-    turn_advice at (codes " of --begin, counted from 0, is of an actor who has nothing left to do")
-advice_of (ExploreCuts at) states =
-    turn_advice at (codes " of --begin, counted from 0, makes more cuts than --cuts takes")
-advice_of (ExploreMemory most) states = memory_advice most
-advice_of ExploreGauge states = codes "--memory reads in /proc/self/status how much is taken, and could not"
+advice_of (Explore fault) states = explore_advice fault states
 advice_of DrawActors states = codes "a picture has at most 4 actors"
 advice_of DrawLines states = codes "a picture has at most 2000 lines, and its run 2000 events"
 advice_of ReplayEvents states = codes "a report as JSON has at most 2000 events"

@@ -6,7 +6,7 @@ use Rattle.scripts.specs.declared.fault.ScriptFault.TheVariants.{Turn, TooManyTu
 use Rattle.outcome_text.specs.declared.merging.MergeFault.{MergeFault}
 use Rattle.outcome_text.specs.declared.merging.MergeFault.TheVariants as merge
 use Rattle.command_line.specs.declared.ending.Fault.{Fault}
-use Rattle.command_line.specs.declared.ending.Fault.TheVariants.{Usage, NotUtf8, Schedule, AskedTurn, AskedTurns, Width, Color, NoRequest, Run, Options, PropertyFails, ExploreActor, ExploreProperty, ExploreStates, ExploreTurns, ExploreBegin, ExploreCuts, ExploreMemory, ExploreGauge, Merge, DrawActors, DrawLines, ReplayEvents, Service}
+use Rattle.command_line.specs.declared.ending.Fault.TheVariants.{Usage, NotUtf8, Schedule, AskedTurn, AskedTurns, Width, Color, NoRequest, Run, Options, PropertyFails, Explore, Merge, DrawActors, DrawLines, ReplayEvents, Service}
 use Rattle.draw_command.specs.declared.drawing.DrawFault.{DrawFault}
 use Rattle.draw_command.specs.declared.page.JsonFault.{JsonFault}
 use Rattle.draw_command.specs.declared.page.JsonFault.TheVariants as json
@@ -55,14 +55,7 @@ status_of (Err (Run BookFull)) = FAILED
 status_of (Err PropertyFails) = PROPERTY_FAILS
 status_of (Err (Options option.NoMemory)) = FAILED
 status_of (Err (Options other)) = USAGE
-status_of (Err (ExploreActor actor)) = FAILED
-status_of (Err (ExploreProperty place)) = FAILED
-status_of (Err ExploreStates) = FAILED
-status_of (Err ExploreTurns) = FAILED
-status_of (Err (ExploreBegin at)) = FAILED
-status_of (Err (ExploreCuts at)) = FAILED
-status_of (Err (ExploreMemory most)) = FAILED
-status_of (Err ExploreGauge) = FAILED
+status_of (Err (Explore fault)) = FAILED
 status_of (Err (Merge fault)) = FAILED
 status_of (Err DrawActors) = FAILED
 status_of (Err DrawLines) = FAILED
@@ -93,14 +86,7 @@ options_told_of other = Options other
 -- how it tells why nothing was explored
 abbrev pub explore_told_of : ExploreFault → Fault
 explore_told_of (explore.Run fault) = Run fault
-explore_told_of (explore.NoSuchActor actor) = ExploreActor actor
-explore_told_of (explore.NoSuchLine place) = ExploreProperty place
-explore_told_of explore.TooManyStates = ExploreStates
-explore_told_of explore.TooManyTurns = ExploreTurns
-explore_told_of (explore.NotBusy at) = ExploreBegin at
-explore_told_of (explore.TooManyCuts at) = ExploreCuts at
-explore_told_of (explore.TooMuchMemory most) = ExploreMemory most
-explore_told_of explore.NoGauge = ExploreGauge
+explore_told_of other = Explore other
 
 -- how it tells why parts make no whole
 abbrev pub merge_told_of : MergeFault → Fault

@@ -1,9 +1,10 @@
 //! What is told in the line after a fault: the limit that was met, and what helps.
 ghost use Rattle.std.specs.Prelude.{◌++◌, decimal};
 ghost use Rattle.step_text.specs.Output.{Gains};
-ghost use Rattle.command_line.specs.Advice.{memory_advice, states_advice, turn_advice, actor_advice, advice_of};
+ghost use Rattle.command_line.specs.Advice.{memory_advice, states_advice, turn_advice, actor_advice, search_advice, explore_advice, advice_of};
 
 use crate::ending::Fault;
+use outcome_text::{ExploreFault, SearchFault};
 use path_text::NoMemory;
 use scripts::RunFault;
 use step_text::Output;
@@ -84,6 +85,47 @@ fn add_actor(out: &mut Output, actor: u32) -> Result<(), NoMemory>
     )
 }
 
+// Adds what is told of a search that gives nothing.
+fn advise_search(out: &mut Output, fault: SearchFault, states: u64) -> Result<(), NoMemory>
+    ensures { Gains out.old out.new (search_advice fault states) result }
+{
+    match fault {
+        SearchFault::TooManyStates => add_states(out, states),
+        SearchFault::TooManyTurns => {
+            out.text("a schedule has more than 100000 turns, and no option takes more")
+        }
+        SearchFault::NotBusy(at) => add_turn(
+            out,
+            at,
+            " of --begin, counted from 0, is of an actor who has nothing left to do",
+        ),
+        SearchFault::TooManyCuts(at) => add_turn(
+            out,
+            at,
+            " of --begin, counted from 0, makes more cuts than --cuts takes",
+        ),
+        _ => Ok(()),
+    }
+}
+
+// Adds what is told of an exploration that gives no answer.
+fn advise_explore(out: &mut Output, fault: ExploreFault, states: u64) -> Result<(), NoMemory>
+    ensures { Gains out.old out.new (explore_advice fault states) result }
+{
+    match fault {
+        ExploreFault::NoSuchActor(actor) => add_actor(out, actor),
+        ExploreFault::NoSuchLine(_) => out.text(
+            "no report of the script has such a line; properties count from 0, those of --when first, then those of --never",
+        ),
+        ExploreFault::Search(fault) => advise_search(out, fault, states),
+        ExploreFault::TooMuchMemory(most) => add_memory(out, most),
+        ExploreFault::NoGauge => {
+            out.text("--memory reads in /proc/self/status how much is taken, and could not")
+        }
+        ExploreFault::Run(_) => Ok(()),
+    }
+}
+
 /// Adds what is told in the line after a fault, without the line's end, and nothing where there is no more to tell.
 /// `states` is how many states a search may go through. NoMemory where room was refused.
 pub fn advise(out: &mut Output, fault: Fault, states: u64) -> Result<(), NoMemory>
@@ -92,28 +134,7 @@ pub fn advise(out: &mut Output, fault: Fault, states: u64) -> Result<(), NoMemor
     match fault {
         Fault::AskedTurn(_) => out.text("a turn is an actor's number, counted from 0"),
         Fault::AskedTurns => out.text("a schedule has at most 100000 turns"),
-        Fault::ExploreActor(actor) => add_actor(out, actor),
-        Fault::ExploreProperty(_) => out.text(
-            "no report of the script has such a line; properties count from 0, those of --when first, then those of --never",
-        ),
-        Fault::ExploreStates => add_states(out, states),
-        Fault::ExploreTurns => {
-            out.text("a schedule has more than 100000 turns, and no option takes more")
-        }
-        Fault::ExploreBegin(at) => add_turn(
-            out,
-            at,
-            " of --begin, counted from 0, is of an actor who has nothing left to do",
-        ),
-        Fault::ExploreCuts(at) => add_turn(
-            out,
-            at,
-            " of --begin, counted from 0, makes more cuts than --cuts takes",
-        ),
-        Fault::ExploreMemory(most) => add_memory(out, most),
-        Fault::ExploreGauge => {
-            out.text("--memory reads in /proc/self/status how much is taken, and could not")
-        }
+        Fault::Explore(fault) => advise_explore(out, fault, states),
         Fault::DrawActors => out.text("a picture has at most 4 actors"),
         Fault::DrawLines => out.text("a picture has at most 2000 lines, and its run 2000 events"),
         Fault::ReplayEvents => out.text("a report as JSON has at most 2000 events"),

@@ -44,30 +44,9 @@ pub enum Fault {
     /// A property of `explore` fails. The answer says so.
     #[error("a property fails")]
     PropertyFails,
-    /// The first actor that is named and isn't there.
-    #[error("explore: actor {0}")]
-    ExploreActor(u32),
-    /// The first property that names an actor who isn't there, or a call that its actor doesn't have.
-    #[error("explore: property {0}")]
-    ExploreProperty(usize),
-    /// There are more worlds than are gone through.
-    #[error("explore: states")]
-    ExploreStates,
-    /// A schedule has more turns than are gone through.
-    #[error("explore: turns")]
-    ExploreTurns,
-    /// The turn at that place of the beginning is of an actor who has nothing left to do then.
-    #[error("explore: begin {0}")]
-    ExploreBegin(usize),
-    /// With the turn at that place of the beginning there are more cuts than are asked for.
-    #[error("explore: cuts {0}")]
-    ExploreCuts(usize),
-    /// More than so many megabytes were taken.
-    #[error("explore: memory")]
-    ExploreMemory(u32),
-    /// How much memory was taken isn't known.
-    #[error("explore: gauge")]
-    ExploreGauge,
+    /// Schedules aren't explored.
+    #[error("{0}")]
+    Explore(ExploreFault),
     /// Parts make no whole.
     #[error("merge: {0}")]
     Merge(MergeFault),
@@ -144,14 +123,7 @@ impl From<ExploreFault> for Fault {
     fn from(fault: ExploreFault) -> Fault {
         match fault {
             ExploreFault::Run(fault) => Fault::Run(fault),
-            ExploreFault::NoSuchActor(actor) => Fault::ExploreActor(actor),
-            ExploreFault::NoSuchLine(place) => Fault::ExploreProperty(place),
-            ExploreFault::TooManyStates => Fault::ExploreStates,
-            ExploreFault::TooManyTurns => Fault::ExploreTurns,
-            ExploreFault::NotBusy(at) => Fault::ExploreBegin(at),
-            ExploreFault::TooManyCuts(at) => Fault::ExploreCuts(at),
-            ExploreFault::TooMuchMemory(most) => Fault::ExploreMemory(most),
-            ExploreFault::NoGauge => Fault::ExploreGauge,
+            other => Fault::Explore(other),
         }
     }
 }
@@ -199,14 +171,7 @@ pub fn status(ended: &Result<(), Fault>) -> u8
             Fault::NoRequest
             | Fault::Run(_)
             | Fault::Options(OptionFault::NoMemory)
-            | Fault::ExploreActor(_)
-            | Fault::ExploreProperty(_)
-            | Fault::ExploreStates
-            | Fault::ExploreTurns
-            | Fault::ExploreBegin(_)
-            | Fault::ExploreCuts(_)
-            | Fault::ExploreMemory(_)
-            | Fault::ExploreGauge
+            | Fault::Explore(_)
             | Fault::Merge(_)
             | Fault::DrawActors
             | Fault::DrawLines

@@ -5,13 +5,18 @@ use command_line::{
 };
 use draw_command::Form;
 use drawings::{Closes, Colours, Legend};
-use outcome_text::{OptionFault, Options};
+use outcome_text::{ExploreFault, OptionFault, Options, SearchFault};
 use path_text::Errno;
 use run_command::ServiceFault;
 use scripts::{Cause, RunFault, ScriptFault, TurnOrder};
 use serde_json::Value;
 use std::alloc::Global;
 use step_text::Output;
+
+/// The fault of a search that gives nothing.
+fn searched(fault: SearchFault) -> Fault {
+    Fault::from(ExploreFault::from(fault))
+}
 
 #[test]
 fn ends_with_its_statuses(rt: HostRuntime) {
@@ -22,12 +27,12 @@ fn ends_with_its_statuses(rt: HostRuntime) {
         (Err(Fault::Options(OptionFault::Begin)), 2),
         (Err(Fault::Options(OptionFault::Jobs)), 2),
         (Err(Fault::Options(OptionFault::NoMemory)), 4),
-        (Err(Fault::ExploreActor(0)), 4),
-        (Err(Fault::ExploreProperty(0)), 4),
-        (Err(Fault::ExploreStates), 4),
-        (Err(Fault::ExploreTurns), 4),
-        (Err(Fault::ExploreBegin(0)), 4),
-        (Err(Fault::ExploreCuts(0)), 4),
+        (Err(Fault::Explore(ExploreFault::NoSuchActor(0))), 4),
+        (Err(Fault::Explore(ExploreFault::NoSuchLine(0))), 4),
+        (Err(searched(SearchFault::TooManyStates)), 4),
+        (Err(searched(SearchFault::TooManyTurns)), 4),
+        (Err(searched(SearchFault::NotBusy(0))), 4),
+        (Err(searched(SearchFault::TooManyCuts(0))), 4),
         (Err(Fault::Usage), 2),
         (Err(Fault::NotUtf8), 2),
         (Err(Fault::Schedule), 2),
@@ -433,12 +438,12 @@ fn is_advised(alloc: Global, fault: Fault, states: u64, want: &str) -> bool {
 fn tells_limits_and_what_helps(rt: HostRuntime) {
     for (fault, states, want) in [
         (
-            Fault::ExploreStates,
+            searched(SearchFault::TooManyStates),
             7,
             "more than 7 states; --states takes up to 10000000",
         ),
         (
-            Fault::ExploreStates,
+            searched(SearchFault::TooManyStates),
             10_000_000,
             "more than 10000000 states; --cuts and --begin leave fewer",
         ),

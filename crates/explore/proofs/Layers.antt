@@ -1,4 +1,4 @@
--- The layers of a search, the ways between them, and the graph that they make.
+-- The layers of a search, the edges between them, and the graph that they make.
 pub mod Reached
 pub mod SoFar
 pub mod Beginning
@@ -7,11 +7,11 @@ pub mod Endings
 pub mod Grown
 pub mod Passing
 pub mod Choosing
-pub mod WaysGrown
-pub mod WaysFound
-pub mod Marks
+pub mod EdgesGrown
+pub mod EdgesFound
+pub mod Markings
 pub mod Kept
-pub mod Went
+pub mod Expanded
 pub mod Going
 pub mod OnWay
 pub mod Among

@@ -1,6 +1,6 @@
 pub mod Alike
 pub mod Local
-pub mod Wants
+pub mod OutOfMemory
 pub mod Lists
 pub mod Keyed
 pub mod Layers

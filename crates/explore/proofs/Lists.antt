@@ -1,4 +1,4 @@
--- Lists of turns: their marks, and what stands where in them.
+-- Lists of turns: their cost, and what stands where in them.
 pub mod SearchLaws
 pub mod Along
 pub mod Told

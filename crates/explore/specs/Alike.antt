@@ -8,7 +8,7 @@ use Rattle.race_core.specs.declared.seat.Seat.{Seat}
 use Rattle.race_core.specs.Worlds.{WorldView, turn}
 use Rattle.explore.specs.Renamed.{step_by, answer_by, seat_by}
 
--- ---- handles that stand for one another
+-- ---- handles that configuration for one another
 
 -- whether the handle of the one number, in the one world, is that of the other number in the other
 abbrev pub Pairs : Type 0

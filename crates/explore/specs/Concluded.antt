@@ -2,7 +2,7 @@
 use Rattle.std.specs.Prelude.{◌≡◌, ◌<◌, ◌^◌, ℕ, List, length, slice_get, Some}
 use Rattle.std.specs.Global.{Vec}
 use Rattle.race_core.specs.Worlds.{WorldView}
-use Rattle.schedule_graph.specs.declared.graph.Spot.{Spot}
+use Rattle.schedule_graph.specs.declared.graph.Node.{Node}
 use Rattle.schedule_graph.specs.declared.count.Count.{Count}
 use Rattle.schedule_graph.specs.declared.count.Counts.{Counts}
 use Rattle.schedule_graph.specs.Words as words
@@ -73,7 +73,7 @@ pub record HasLeast (w : WorldView) (scope : Scope) (class : ClassView) (count :
 
 -- Each outcome that was found has a least list among those that a fitting graph counts.
 abbrev pub FoundClassesHaveLeasts : Type 0
-FoundClassesHaveLeasts = (w : WorldView) (scope : Scope) (layers : List (Vec Spot)) (found : List ClassView)
+FoundClassesHaveLeasts = (w : WorldView) (scope : Scope) (layers : List (Vec Node)) (found : List ClassView)
     (at : Places) (counts : Counts)
     → IsFit w scope layers found at → AreFound w scope found → AreCounts layers counts
     → (k : ℕ) (class : ClassView) (count : Count) → slice_get found k ≡ Some class
@@ -81,7 +81,7 @@ FoundClassesHaveLeasts = (w : WorldView) (scope : Scope) (layers : List (Vec Spo
 
 -- And classes that are told by these counts are what all lists that are asked for come to.
 abbrev pub CountsConclude : Type 0
-CountsConclude = (w : WorldView) (scope : Scope) (layers : List (Vec Spot)) (found : List ClassView) (at : Places)
+CountsConclude = (w : WorldView) (scope : Scope) (layers : List (Vec Node)) (found : List ClassView) (at : Places)
     (counts : Counts) (classes : List ClassView)
     → IsFit w scope layers found at → AreFound w scope found → AreCounts layers counts
     → AreToldBy w scope found counts.classes.items classes

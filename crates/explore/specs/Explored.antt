@@ -11,8 +11,8 @@ use Rattle.race_core.specs.Worlds.{WorldView, turn, is_busy_at, ledgers_in, repl
 use Rattle.explore.specs.declared.limits.Bounds.{Bounds}
 use Rattle.explore.specs.declared.limits.Scope.{Scope}
 use Rattle.explore.specs.declared.limits.Limits.{Limits}
-use Rattle.explore.specs.declared.limits.SearchFault.{SearchFault}
-use Rattle.explore.specs.declared.limits.SearchFault.TheVariants as fault
+use Rattle.schedule_graph.specs.declared.fault.SearchFault.{SearchFault}
+use Rattle.schedule_graph.specs.declared.fault.SearchFault.TheVariants as fault
 use Rattle.explore.specs.Renamed.{replies_by}
 use Rattle.explore.specs.Alike.{full, after_turns}
 use Rattle.explore.specs.Search.{IsFull}

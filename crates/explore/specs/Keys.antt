@@ -5,13 +5,13 @@ use Rattle.tree_model.specs.declared.inode.Inode.{Inode}
 use Rattle.tree_model.specs.StepLaws.{open_count}
 use Rattle.race_core.specs.Book.{tree_now}
 use Rattle.race_core.specs.Worlds.{WorldView}
-use Rattle.explore.specs.declared.keys.Deed.{Deed}
+use Rattle.explore.specs.declared.keys.Effect.{Effect}
 use Rattle.explore.specs.declared.keys.Key.{Key}
 use Rattle.explore.specs.declared.keys.Own.{Own}
 use Rattle.explore.specs.Fingerprint.{mixed}
 use Rattle.explore.specs.Layers.{Keeps}
 use Rattle.explore.specs.Local.{SamePartAt, AreNumbered, AreAllGiven}
-use Rattle.explore.specs.Met.{AreEachOnce}
+use Rattle.explore.specs.Distinct.{AreEachOnce}
 use Rattle.explore.specs.Outside.{roots_of, outside_of}
 
 -- ---- components
@@ -44,7 +44,7 @@ pub record AreRows (parts : List PartsView) (actors : ℕ) : Type 0 where
   pub own : (i : ℕ) (row : PartsView) → slice_get parts i ≡ Some row → row.actor ≡ i
 
 -- each of the rows is that of its actor; no two lists of nodes are equal, and no two parts of an actor the same
-pub record AreMet (lists : List (List Inode)) (parts : List PartsView) : Type 0 where
+pub record AreInterned (lists : List (List Inode)) (parts : List PartsView) : Type 0 where
   pub rows : AreRows parts (length parts)
   pub lists_once : AreEachOnce lists
   pub parts_once : (i : ℕ) (row : PartsView) → slice_get parts i ≡ Some row → AreApartParts row
@@ -129,14 +129,14 @@ pub record AreSameKeysButParts (key other : Key) : Type 0 where
 -- ---- a turn
 
 -- the actor's own after a turn of it
-abbrev pub own_after : Own → Deed → Own
-own_after own deed = record { part = deed.part; outside = own.outside + from_bool deed.outside }
+abbrev pub own_after : Own → Effect → Own
+own_after own effect = record { part = effect.part; outside = own.outside + from_bool effect.outside }
 
 -- it is the key after that turn of the actor
-pub record IsKeyAfter (key : Key) (i : ℕ) (deed : Deed) (new : Key) : Type 0 where
-  pub nodes : new.nodes ≡ deed.nodes
-  pub events : new.events ≡ key.events + from_bool deed.event
-  pub opened : new.opened ≡ key.opened + from_bool deed.opens
-  pub closed : new.closed ≡ key.closed + from_bool deed.closes
+pub record IsKeyAfter (key : Key) (i : ℕ) (effect : Effect) (new : Key) : Type 0 where
+  pub nodes : new.nodes ≡ effect.nodes
+  pub events : new.events ≡ key.events + from_bool effect.event
+  pub opened : new.opened ≡ key.opened + from_bool effect.opens
+  pub closed : new.closed ≡ key.closed + from_bool effect.closes
   pub own : new.own.items ≡ slice_set key.own.items i
-      (own_after (slice_index_or key.own.items i (record { part = 0; outside = 0 })) deed)
+      (own_after (slice_index_or key.own.items i (record { part = 0; outside = 0 })) effect)

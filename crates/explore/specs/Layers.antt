@@ -1,26 +1,26 @@
--- Layers of worlds, one of those that are the same each, and where lists of turns stand among them.
+-- Layers of worlds, one of those that are the same each, and the configurations on them.
 use Rattle.std.specs.Prelude.{◌≡◌, ◌<◌, ◌≤◌, ◌⊎◌, ℕ, suc, List, [], ◌∷◌, ◌++◌, Bool, true, length, Option, Some, None, slice_get}
 use Rattle.std.specs.Global.{Vec}
 use Rattle.race_core.specs.declared.opening.TheConstants.{ACTORS_MAX}
 use Rattle.race_core.specs.Turns.{Luck}
 use Rattle.race_core.specs.Worlds.{WorldView, turn, is_busy_at, ledgers_in, Reports}
-use Rattle.schedule_graph.specs.declared.graph.Way.{Way}
-use Rattle.schedule_graph.specs.declared.graph.Spot.{Spot}
-use Rattle.schedule_graph.specs.declared.graph.Spot.TheVariants.{Ends, Goes}
-use Rattle.schedule_graph.specs.Words.{way_of, AreApart}
+use Rattle.schedule_graph.specs.declared.graph.Edge.{Edge}
+use Rattle.schedule_graph.specs.declared.graph.Node.{Node}
+use Rattle.schedule_graph.specs.declared.graph.Node.TheVariants.{Ends, Goes}
+use Rattle.schedule_graph.specs.Words.{edge_of, AreApart}
 use Rattle.explore.specs.declared.limits.Bounds.{Bounds}
 use Rattle.explore.specs.declared.limits.Scope.{Scope}
-use Rattle.explore.specs.declared.layer.Stand.{Stand}
-use Rattle.explore.specs.declared.marks.Marks.{Marks}
+use Rattle.explore.specs.declared.layer.Configuration.{Configuration}
+use Rattle.explore.specs.declared.cost.Cost.{Cost}
 use Rattle.explore.specs.Explored.{AreBusy, EndingView, ClassView, bounds_at}
 use Rattle.explore.specs.Lists.{is_another, is_cut}
 use Rattle.explore.specs.Merged.{bounded_cuts}
 use Rattle.explore.specs.Outside.{outside_of}
-use Rattle.explore.specs.Points.{Point, no_marks, marks_after, start, along, AreWithin, MayGo}
+use Rattle.explore.specs.Points.{Point, no_cost, cost_after, start, along, AreWithin, MayGo}
 use Rattle.explore.specs.Points as points
 use Rattle.explore.specs.Search.{IsOver, IsLike}
 use Rattle.explore.specs.Tally.{SameOutcome}
-use Rattle.explore.specs.Want.{EndsWell}
+use Rattle.explore.specs.OutOfMemory.{EndsWell}
 
 -- what was there stays in its place
 abbrev pub Keeps : {A : Type 0} → List A → List A → Type 0
@@ -30,184 +30,194 @@ Keeps {A} old new = (k : ℕ) (x : A) → slice_get old k ≡ Some x → slice_g
 
 -- a world, a list of turns that leads to one like it, what counted in that, whether changes outside of roots are
 -- told, and whether the world counts as a state
-pub record LiveView : Type 0 where
+pub record VisitedView : Type 0 where
   pub told : Bool
   pub world : WorldView
-  pub marks : Marks
+  pub cost : Cost
   pub turns : List ℕ
   pub is_state : Bool
 
-abbrev pub point_of : LiveView → Point
-point_of live = record { world = live.world; marks = live.marks }
+abbrev pub point_of : VisitedView → Point
+point_of visited = record { world = visited.world; cost = visited.cost }
 
 -- it is the world after these turns, as luck had it
-abbrev pub IsLed : WorldView → LiveView → Type 0
-IsLed w live = points.Goes (start w) live.turns (point_of live)
+abbrev pub IsReplayed : WorldView → VisitedView → Type 0
+IsReplayed w visited = points.Goes (start w) visited.turns (point_of visited)
 
 -- with memory for all
-abbrev pub IsSure : WorldView → LiveView → Type 0
-IsSure w live = point_of live ≡ along (start w) live.turns
+abbrev pub IsSure : WorldView → VisitedView → Type 0
+IsSure w visited = point_of visited ≡ along (start w) visited.turns
 
 -- those in which nobody has anything left to do tell of no want of memory
-abbrev pub AreWell : List LiveView → Type 0
-AreWell lives = (m : ℕ) (live : LiveView) → slice_get lives m ≡ Some live → IsOver live.world → EndsWell live.world
+abbrev pub AreWell : List VisitedView → Type 0
+AreWell all_visited = (m : ℕ) (visited : VisitedView) → slice_get all_visited m ≡ Some visited → IsOver visited.world
+    → EndsWell visited.world
 
 -- the actor's turn from that world, as luck had it, leads to one like that at place k
-pub record Leads (from : LiveView) (i : ℕ) (next : List LiveView) (k : ℕ) : Type 0 where
-  pub to : LiveView
+pub record Leads (from : VisitedView) (i : ℕ) (next : List VisitedView) (k : ℕ) : Type 0 where
+  pub to : VisitedView
   pub there : slice_get next k ≡ Some to
   pub luck : Luck
   pub like : IsLike from.told (turn luck from.world i) to.world
 
 -- ---- layers
 
--- the worlds that lists of one length lead to, and the stands on them: where the lists differ in what counts from
--- then on
+-- the worlds that lists of one length lead to, and the configurations on them: where the lists differ in what counts
+-- from then on
 pub record LayerView : Type 0 where
-  pub worlds : List LiveView
-  pub stands : List Stand
+  pub worlds : List VisitedView
+  pub configurations : List Configuration
 
--- the stand is on one of the worlds, and its list has so many turns
-pub record IsOn (n : ℕ) (worlds : List LiveView) (stand : Stand) : Type 0 where
-  pub on : stand.world < length worlds
-  pub long : length stand.turns.items ≡ n
-  pub few : AreWithin stand.marks n
+-- the configuration is on one of the worlds, and its list has so many turns
+pub record IsOn (n : ℕ) (worlds : List VisitedView) (configuration : Configuration) : Type 0 where
+  pub on : configuration.world < length worlds
+  pub long : length configuration.turns.items ≡ n
+  pub few : AreWithin configuration.cost n
 
--- so it is with each stand, and there are no more actors than there may be
+-- so it is with each configuration, and there are no more actors than there may be
 pub record AreOn (n : ℕ) (layer : LayerView) : Type 0 where
-  pub stands : (s : ℕ) (stand : Stand) → slice_get layer.stands s ≡ Some stand → IsOn n layer.worlds stand
-  pub actors : (m : ℕ) (live : LiveView) → slice_get layer.worlds m ≡ Some live → length live.world.seats ≤ ACTORS_MAX
+  pub configurations : (s : ℕ) (configuration : Configuration) → slice_get layer.configurations s ≡ Some configuration
+      → IsOn n layer.worlds configuration
+  pub actors : (m : ℕ) (visited : VisitedView) → slice_get layer.worlds m ≡ Some visited
+      → length visited.world.seats ≤ ACTORS_MAX
 
 -- the first layer: no turns
 pub record IsFirst (w : WorldView) (scope : Scope) (layer : LayerView) : Type 0 where
   pub worlds : layer.worlds
-      ≡ record { told = scope.outside; world = w; marks = no_marks; turns = []; is_state = true } ∷ []
-  pub stand : Stand
-  pub stands : layer.stands ≡ stand ∷ []
-  pub on : stand.world ≡ 0
-  pub turns : stand.turns.items ≡ []
-  pub marks : stand.marks ≡ no_marks
+      ≡ record { told = scope.outside; world = w; cost = no_cost; turns = []; is_state = true } ∷ []
+  pub configuration : Configuration
+  pub configurations : layer.configurations ≡ configuration ∷ []
+  pub on : configuration.world ≡ 0
+  pub turns : configuration.turns.items ≡ []
+  pub cost : configuration.cost ≡ no_cost
 
--- what is gone on from: a stand and its world
-abbrev pub point_at : LiveView → Stand → Point
-point_at live stand = record { world = live.world; marks = stand.marks }
+-- what is gone on from: a configuration and its world
+abbrev pub point_at : VisitedView → Configuration → Point
+point_at visited configuration = record { world = visited.world; cost = configuration.cost }
 
--- a stand of the layer, the world that it is on, and an actor who may have the next turn there
-pub record IsOnward (bounds : Bounds) (layer : LayerView) (stand : Stand) (live : LiveView) (i : ℕ) : Type 0 where
+-- a configuration of the layer, the world that it is on, and an actor who may have the next turn there
+pub record IsOnward (bounds : Bounds) (layer : LayerView) (configuration : Configuration) (visited : VisitedView)
+    (i : ℕ) : Type 0 where
   pub at : ℕ
-  pub there : slice_get layer.stands at ≡ Some stand
-  pub on : slice_get layer.worlds stand.world ≡ Some live
-  pub may : MayGo bounds (point_at live stand) i
+  pub there : slice_get layer.configurations at ≡ Some configuration
+  pub on : slice_get layer.worlds configuration.world ≡ Some visited
+  pub may : MayGo bounds (point_at visited configuration) i
 
 -- the actor's turn from the world at place m leads to the next layer's world at place k
-pub record IsMove (layer : LayerView) (m i : ℕ) (next : List LiveView) (k : ℕ) : Type 0 where
-  pub from : LiveView
+pub record IsTransition (layer : LayerView) (m i : ℕ) (next : List VisitedView) (k : ℕ) : Type 0 where
+  pub from : VisitedView
   pub here : slice_get layer.worlds m ≡ Some from
   pub leads : Leads from i next k
 
 -- ---- from one layer to the next
 
--- a world like that after the actor's turn from that stand, as luck had it
-pub record IsBorn (stand : Stand) (live : LiveView) (i : ℕ) (born : LiveView) : Type 0 where
+-- a world like that after the actor's turn from that configuration, as luck had it
+pub record IsSuccessor (configuration : Configuration) (visited : VisitedView) (i : ℕ)
+    (successor : VisitedView) : Type 0 where
   pub luck : Luck
-  pub like : IsLike live.told (turn luck live.world i) born.world
-  pub turns : born.turns ≡ stand.turns.items ++ i ∷ []
-  pub told : born.told ≡ live.told
+  pub like : IsLike visited.told (turn luck visited.world i) successor.world
+  pub turns : successor.turns ≡ configuration.turns.items ++ i ∷ []
+  pub told : successor.told ≡ visited.told
 
--- it is that after one turn from some stand
-pub record IsBornWorld (bounds : Bounds) (layer : LayerView) (born : LiveView) : Type 0 where
-  pub stand : Stand
-  pub live : LiveView
+-- it is that after one turn from some configuration
+pub record IsSuccessorWorld (bounds : Bounds) (layer : LayerView) (successor : VisitedView) : Type 0 where
+  pub configuration : Configuration
+  pub visited : VisitedView
   pub i : ℕ
-  pub onward : IsOnward bounds layer stand live i
-  pub is : IsBorn stand live i born
+  pub onward : IsOnward bounds layer configuration visited i
+  pub is : IsSuccessor configuration visited i successor
 
-abbrev pub AreBornWorlds : Bounds → LayerView → List LiveView → Type 0
-AreBornWorlds bounds layer next =
-    (k : ℕ) (born : LiveView) → slice_get next k ≡ Some born → IsBornWorld bounds layer born
+abbrev pub AreSuccessorWorlds : Bounds → LayerView → List VisitedView → Type 0
+AreSuccessorWorlds bounds layer next =
+    (k : ℕ) (successor : VisitedView) → slice_get next k ≡ Some successor → IsSuccessorWorld bounds layer successor
 
--- the stand is one turn after another
-pub record IsBornStand (bounds : Bounds) (layer : LayerView) (next : List LiveView) (born : Stand) : Type 0 where
-  pub stand : Stand
-  pub live : LiveView
+-- the configuration is one turn after another
+pub record IsSuccessorConfiguration (bounds : Bounds) (layer : LayerView) (next : List VisitedView)
+    (successor : Configuration) : Type 0 where
+  pub configuration : Configuration
+  pub visited : VisitedView
   pub i : ℕ
-  pub onward : IsOnward bounds layer stand live i
-  pub turns : born.turns.items ≡ stand.turns.items ++ i ∷ []
-  pub marks : born.marks ≡ marks_after live.world.seats stand.marks i
-  pub move : IsMove layer stand.world i next born.world
+  pub onward : IsOnward bounds layer configuration visited i
+  pub turns : successor.turns.items ≡ configuration.turns.items ++ i ∷ []
+  pub cost : successor.cost ≡ cost_after visited.world.seats configuration.cost i
+  pub transition : IsTransition layer configuration.world i next successor.world
 
-abbrev pub AreBornStands : Bounds → LayerView → LayerView → Type 0
-AreBornStands bounds layer next =
-    (t : ℕ) (born : Stand) → slice_get next.stands t ≡ Some born → IsBornStand bounds layer next.worlds born
+abbrev pub AreSuccessorConfigurations : Bounds → LayerView → LayerView → Type 0
+AreSuccessorConfigurations bounds layer next =
+    (t : ℕ) (successor : Configuration) → slice_get next.configurations t ≡ Some successor
+    → IsSuccessorConfiguration bounds layer next.worlds successor
 
 pub record AreJoined (bounds : Bounds) (layer next : LayerView) : Type 0 where
-  pub worlds : AreBornWorlds bounds layer next.worlds
-  pub stands : AreBornStands bounds layer next
+  pub worlds : AreSuccessorWorlds bounds layer next.worlds
+  pub configurations : AreSuccessorConfigurations bounds layer next
 
--- ---- ways
+-- ---- edges
 
--- the stand of the next layer after the actor's turn: on a world that it leads to, with what counts there
-pub record IsAfter (bounds : Bounds) (layer next : LayerView) (stand : Stand) (live : LiveView)
+-- the configuration of the next layer after the actor's turn: on a world that it leads to, with what counts there
+pub record IsAfter (bounds : Bounds) (layer next : LayerView) (configuration : Configuration) (visited : VisitedView)
     (i t : ℕ) : Type 0 where
-  pub after : Stand
-  pub there : slice_get next.stands t ≡ Some after
-  pub last : after.marks.last ≡ Some i
-  pub cuts : bounded_cuts bounds.cuts after.marks.cuts
-      ≡ bounded_cuts bounds.cuts (marks_after live.world.seats stand.marks i).cuts
-  pub move : IsMove layer stand.world i next.worlds after.world
+  pub after : Configuration
+  pub there : slice_get next.configurations t ≡ Some after
+  pub last : after.cost.last ≡ Some i
+  pub cuts : bounded_cuts bounds.cuts after.cost.cuts
+      ≡ bounded_cuts bounds.cuts (cost_after visited.world.seats configuration.cost i).cuts
+  pub transition : IsTransition layer configuration.world i next.worlds after.world
 
--- the way is the actor's turn from that stand
-pub record IsWayBy (bounds : Bounds) (layer next : LayerView) (stand : Stand) (live : LiveView)
-    (i : ℕ) (way : Way) : Type 0 where
-  pub may : MayGo bounds (point_at live stand) i
-  pub letter : way.letter ≡ i
-  pub cut : way.cut ≡ is_cut live.world.seats stand.marks.last i
-  pub change : way.change ≡ is_another stand.marks.last i
-  pub after : IsAfter bounds layer next stand live i way.to
+-- the edge is the actor's turn from that configuration
+pub record IsEdgeBy (bounds : Bounds) (layer next : LayerView) (configuration : Configuration) (visited : VisitedView)
+    (i : ℕ) (edge : Edge) : Type 0 where
+  pub may : MayGo bounds (point_at visited configuration) i
+  pub label : edge.label ≡ i
+  pub cut : edge.cut ≡ is_cut visited.world.seats configuration.cost.last i
+  pub change : edge.change ≡ is_another configuration.cost.last i
+  pub after : IsAfter bounds layer next configuration visited i edge.to
 
--- the ways are the turns from that stand of all who may have the next one, each once
-pub record AreWaysBy (bounds : Bounds) (layer next : LayerView) (stand : Stand) (live : LiveView)
-    (ways : List Way) : Type 0 where
-  pub all : (i : ℕ) → MayGo bounds (point_at live stand) i → (way : Way) × (way_of ways i ≡ Some way)
-  pub each : (k : ℕ) (way : Way) → slice_get ways k ≡ Some way → IsWayBy bounds layer next stand live way.letter way
-  pub apart : AreApart ways
+-- the edges are the turns from that configuration of all who may have the next one, each once
+pub record AreEdgesBy (bounds : Bounds) (layer next : LayerView) (configuration : Configuration) (visited : VisitedView)
+    (edges : List Edge) : Type 0 where
+  pub all : (i : ℕ) → MayGo bounds (point_at visited configuration) i → (edge : Edge) × (edge_of edges i ≡ Some edge)
+  pub each : (k : ℕ) (edge : Edge) → slice_get edges k ≡ Some edge
+      → IsEdgeBy bounds layer next configuration visited edge.label edge
+  pub apart : AreApart edges
 
--- of each stand, in order
-pub record AreAllWays (bounds : Bounds) (layer next : LayerView) (all : List (Vec Way)) : Type 0 where
-  pub many : length all ≡ length layer.stands
-  pub each : (s : ℕ) (stand : Stand) (live : LiveView) (ways : Vec Way) → slice_get layer.stands s ≡ Some stand
-      → slice_get layer.worlds stand.world ≡ Some live
-      → slice_get all s ≡ Some ways → AreWaysBy bounds layer next stand live ways.items
+-- of each configuration, in order
+pub record AreAllEdges (bounds : Bounds) (layer next : LayerView) (all : List (Vec Edge)) : Type 0 where
+  pub many : length all ≡ length layer.configurations
+  pub each : (s : ℕ) (configuration : Configuration) (visited : VisitedView) (edges : Vec Edge)
+      → slice_get layer.configurations s ≡ Some configuration
+      → slice_get layer.worlds configuration.world ≡ Some visited
+      → slice_get all s ≡ Some edges → AreEdgesBy bounds layer next configuration visited edges.items
 
 -- ---- ends
 
 -- what the world comes to, in which nobody has anything left to do
-pub record IsReportOf (live : LiveView) (ending : EndingView) : Type 0 where
-  pub over : IsOver live.world
-  pub turns : ending.turns ≡ live.turns
-  pub cuts : ending.cuts ≡ live.marks.cuts
-  pub changes : ending.changes ≡ live.marks.changes
-  pub report : Reports live.world.book
-      (ledgers_in live.world.seats) ending.tree ending.events ending.replies ending.kept
-  pub outside : ending.outside ≡ outside_of live.told live.world
+pub record IsReportOf (visited : VisitedView) (ending : EndingView) : Type 0 where
+  pub over : IsOver visited.world
+  pub turns : ending.turns ≡ visited.turns
+  pub cuts : ending.cuts ≡ visited.cost.cuts
+  pub changes : ending.changes ≡ visited.cost.changes
+  pub report : Reports visited.world.book
+      (ledgers_in visited.world.seats) ending.tree ending.events ending.replies ending.kept
+  pub outside : ending.outside ≡ outside_of visited.told visited.world
 
 -- it comes to the outcome of that class
-pub record IsPlaced (classes : List ClassView) (live : LiveView) (at : ℕ) : Type 0 where
+pub record IsPlaced (classes : List ClassView) (visited : VisitedView) (at : ℕ) : Type 0 where
   pub ending : EndingView
-  pub is : IsReportOf live ending
+  pub is : IsReportOf visited ending
   pub class : ClassView
   pub there : slice_get classes at ≡ Some class
   pub same : SameOutcome class.least ending
 
 -- whether the world is over, and then its class
-abbrev pub IsTop : List ClassView → LiveView → Option ℕ → Type 0
-IsTop classes live None = (i : ℕ) × (is_busy_at live.world.seats i ≡ true)
-IsTop classes live (Some at) = IsPlaced classes live at
+abbrev pub IsEndClass : List ClassView → VisitedView → Option ℕ → Type 0
+IsEndClass classes visited None = (i : ℕ) × (is_busy_at visited.world.seats i ≡ true)
+IsEndClass classes visited (Some at) = IsPlaced classes visited at
 
-pub record AreTops (classes : List ClassView) (lives : List LiveView) (tops : List (Option ℕ)) : Type 0 where
-  pub many : length tops ≡ length lives
-  pub each : (m : ℕ) (live : LiveView) (top : Option ℕ) → slice_get lives m ≡ Some live
-      → slice_get tops m ≡ Some top → IsTop classes live top
+pub record AreEndClasses (classes : List ClassView) (all_visited : List VisitedView)
+    (end_classes : List (Option ℕ)) : Type 0 where
+  pub many : length end_classes ≡ length all_visited
+  pub each : (m : ℕ) (visited : VisitedView) (end_class : Option ℕ) → slice_get all_visited m ≡ Some visited
+      → slice_get end_classes m ≡ Some end_class → IsEndClass classes visited end_class
 
 -- no two classes have the same outcome
 abbrev pub AreApartClasses : List ClassView → Type 0
@@ -215,69 +225,72 @@ AreApartClasses classes = (k l : ℕ) (c d : ClassView) → slice_get classes k 
     → SameOutcome c.least d.least → k ≡ l
 
 -- each class was there before, or tells what one of these worlds comes to
-pub record IsFoundIn (lives : List LiveView) (class : ClassView) : Type 0 where
+pub record IsFoundIn (all_visited : List VisitedView) (class : ClassView) : Type 0 where
   pub at : ℕ
-  pub live : LiveView
-  pub there : slice_get lives at ≡ Some live
-  pub is : IsReportOf live class.least
+  pub visited : VisitedView
+  pub there : slice_get all_visited at ≡ Some visited
+  pub is : IsReportOf visited class.least
 
-abbrev pub AreFoundIn : List LiveView → List ClassView → List ClassView → Type 0
-AreFoundIn lives old new =
-    (k : ℕ) (c : ClassView) → slice_get new k ≡ Some c → (slice_get old k ≡ Some c) ⊎ IsFoundIn lives c
+abbrev pub AreFoundIn : List VisitedView → List ClassView → List ClassView → Type 0
+AreFoundIn all_visited old new =
+    (k : ℕ) (c : ClassView) → slice_get new k ≡ Some c → (slice_get old k ≡ Some c) ⊎ IsFoundIn all_visited c
 
--- ---- stands that are the same
+-- ---- configurations that are the same
 
--- the stand at that place is on that world, with what counts from then on
-pub record IsThere (bounds : Bounds) (world : ℕ) (marks : Marks) (stands : List Stand) (t : ℕ) : Type 0 where
-  pub other : Stand
-  pub there : slice_get stands t ≡ Some other
+-- the configuration at that place is on that world, with what counts from then on
+pub record IsThere (bounds : Bounds) (world : ℕ) (cost : Cost) (configurations : List Configuration)
+    (t : ℕ) : Type 0 where
+  pub other : Configuration
+  pub there : slice_get configurations t ≡ Some other
   pub on : other.world ≡ world
-  pub last : other.marks.last ≡ marks.last
-  pub cuts : bounded_cuts bounds.cuts other.marks.cuts ≡ bounded_cuts bounds.cuts marks.cuts
+  pub last : other.cost.last ≡ cost.last
+  pub cuts : bounded_cuts bounds.cuts other.cost.cuts ≡ bounded_cuts bounds.cuts cost.cuts
 
--- ---- spots
+-- ---- graph nodes
 
--- an end of that class, if there is one, and else these ways
-abbrev pub spot_by : Option ℕ → Vec Way → Spot
-spot_by None ways = Goes ways
-spot_by (Some class) ways = Ends class
+-- an end of that class, if there is one, and else these edges
+abbrev pub graph_node_by : Option ℕ → Vec Edge → Node
+graph_node_by None edges = Goes edges
+graph_node_by (Some class) edges = Ends class
 
 -- there is one, where the turn is to be that actor's
-abbrev pub HasWay : Option ℕ → List Way → Type 0
-HasWay None ways = Unit {0}
-HasWay (Some i) ways = 0 < length ways
+abbrev pub HasEdge : Option ℕ → List Edge → Type 0
+HasEdge None edges = Unit {0}
+HasEdge (Some i) edges = 0 < length edges
 
--- the stand's spot: an end of its world's class, or the ways from it
-abbrev pub IsSpot : Bounds → LayerView → LayerView → List ClassView → Stand → LiveView → Spot → Type 0
-IsSpot bounds layer next classes stand live (Ends class) = IsPlaced classes live class
-IsSpot bounds layer next classes stand live (Goes ways) =
-    ((i : ℕ) × (is_busy_at live.world.seats i ≡ true))
-    × (HasWay bounds.only ways.items × AreWaysBy bounds layer next stand live ways.items)
+-- the configuration's graph node: an end of its world's class, or the edges from it
+abbrev pub IsGraphNode : Bounds → LayerView → LayerView → List ClassView → Configuration → VisitedView → Node → Type 0
+IsGraphNode bounds layer next classes configuration visited (Ends class) = IsPlaced classes visited class
+IsGraphNode bounds layer next classes configuration visited (Goes edges) =
+    ((i : ℕ) × (is_busy_at visited.world.seats i ≡ true))
+    × (HasEdge bounds.only edges.items × AreEdgesBy bounds layer next configuration visited edges.items)
 
-pub record AreSpots (bounds : Bounds) (layer next : LayerView) (classes : List ClassView)
-    (spots : List Spot) : Type 0 where
-  pub many : length spots ≡ length layer.stands
-  pub each : (s : ℕ) (stand : Stand) (live : LiveView) (spot : Spot) → slice_get layer.stands s ≡ Some stand
-      → slice_get layer.worlds stand.world ≡ Some live
-      → slice_get spots s ≡ Some spot → IsSpot bounds layer next classes stand live spot
+pub record AreGraphNodes (bounds : Bounds) (layer next : LayerView) (classes : List ClassView)
+    (graph_nodes : List Node) : Type 0 where
+  pub many : length graph_nodes ≡ length layer.configurations
+  pub each : (s : ℕ) (configuration : Configuration) (visited : VisitedView) (graph_node : Node)
+      → slice_get layer.configurations s ≡ Some configuration
+      → slice_get layer.worlds configuration.world ≡ Some visited
+      → slice_get graph_nodes s ≡ Some graph_node
+      → IsGraphNode bounds layer next classes configuration visited graph_node
 
 -- ---- a layer gone through
 
-pub record IsPassed (bounds : Bounds) (n : ℕ) (layer next : LayerView) (here : List Spot)
+pub record IsPassed (bounds : Bounds) (n : ℕ) (layer next : LayerView) (here : List Node)
     (old new : List ClassView) : Type 0 where
   pub joined : AreJoined bounds layer next
   pub on : AreOn (suc n) next
   pub well : AreWell layer.worlds
-  pub spots : AreSpots bounds layer next new here
+  pub graph_nodes : AreGraphNodes bounds layer next new here
   pub keeps : Keeps old new
   pub found : AreFoundIn layer.worlds old new
   pub apart : AreApartClasses old → AreApartClasses new
 
 -- ---- all layers so far
 
--- These are the layers, of which all but the last were gone through, with the spots of each and the classes that
+-- These are the layers, of which all but the last were gone through, with the graph nodes of each and the classes that
 -- were found. The turns that all lists begin with are of actors who have something left to do then.
-pub record IsSearched (w : WorldView) (scope : Scope) (layers : List LayerView) (graph : List (Vec Spot))
+pub record IsSearched (w : WorldView) (scope : Scope) (layers : List LayerView) (graph : List (Vec Node))
     (classes : List ClassView) : Type 0 where
   pub first : LayerView
   pub can_begin : AreBusy w scope.begin.items
@@ -288,16 +301,16 @@ pub record IsSearched (w : WorldView) (scope : Scope) (layers : List LayerView) 
   pub joined : (k : ℕ) (layer next : LayerView) → slice_get layers k ≡ Some layer
       → slice_get layers (suc k) ≡ Some next → AreJoined (bounds_at scope k) layer next
   pub well : (k : ℕ) (layer : LayerView) → k < length graph → slice_get layers k ≡ Some layer → AreWell layer.worlds
-  pub spots : (k : ℕ) (layer next : LayerView) (spots : Vec Spot) → slice_get layers k ≡ Some layer
+  pub graph_nodes : (k : ℕ) (layer next : LayerView) (graph_nodes : Vec Node) → slice_get layers k ≡ Some layer
       → slice_get layers (suc k) ≡ Some next
-      → slice_get graph k ≡ Some spots → AreSpots (bounds_at scope k) layer next classes spots.items
+      → slice_get graph k ≡ Some graph_nodes → AreGraphNodes (bounds_at scope k) layer next classes graph_nodes.items
   pub found : (c : ℕ) (class : ClassView) → slice_get classes c ≡ Some class
       → (k : ℕ) × ((layer : LayerView)
       × ((k < length graph) × ((slice_get layers k ≡ Some layer) × IsFoundIn layer.worlds class)))
   pub apart : AreApartClasses classes
 
 -- and this is the last of them
-pub record HasSearched (w : WorldView) (scope : Scope) (last : LayerView) (graph : List (Vec Spot))
+pub record HasSearched (w : WorldView) (scope : Scope) (last : LayerView) (graph : List (Vec Node))
     (classes : List ClassView) : Type 0 where
   pub layers : List LayerView
   pub searched : IsSearched w scope layers graph classes

@@ -4,7 +4,7 @@ use Rattle.race_core.specs.declared.seat.Seat.{Seat}
 use Rattle.race_core.specs.Turns.{Luck}
 use Rattle.race_core.specs.Worlds.{WorldView, turn, is_busy_at}
 use Rattle.explore.specs.declared.limits.Bounds.{Bounds}
-use Rattle.explore.specs.declared.marks.Marks.{Marks}
+use Rattle.explore.specs.declared.cost.Cost.{Cost}
 use Rattle.explore.specs.Alike.{full}
 use Rattle.explore.specs.Lists.{is_another, is_cut, plus}
 use Rattle.explore.specs.Explored.{IsWithin, IsOnly}
@@ -12,23 +12,23 @@ use Rattle.explore.specs.Explored.{IsWithin, IsOnly}
 -- a world after some turns, and what counted in them
 pub record Point : Type 0 where
   pub world : WorldView
-  pub marks : Marks
+  pub cost : Cost
 
-abbrev pub no_marks : Marks
-no_marks = record { last = None; cuts = 0; changes = 0 }
+abbrev pub no_cost : Cost
+no_cost = record { last = None; cuts = 0; changes = 0 }
 
-abbrev pub marks_after : List Seat → Marks → ℕ → Marks
-marks_after seats marks i = record {
+abbrev pub cost_after : List Seat → Cost → ℕ → Cost
+cost_after seats cost i = record {
   last = Some i;
-  cuts = plus (is_cut seats marks.last i) marks.cuts;
-  changes = plus (is_another marks.last i) marks.changes;
+  cuts = plus (is_cut seats cost.last i) cost.cuts;
+  changes = plus (is_another cost.last i) cost.changes;
 }
 
 abbrev pub start : WorldView → Point
-start w = record { world = w; marks = no_marks }
+start w = record { world = w; cost = no_cost }
 
 abbrev pub onward : Luck → Point → ℕ → Point
-onward luck p i = record { world = turn luck p.world i; marks = marks_after p.world.seats p.marks i }
+onward luck p i = record { world = turn luck p.world i; cost = cost_after p.world.seats p.cost i }
 
 -- after these turns, with memory for all
 abbrev pub along : Point → List ℕ → Point
@@ -45,9 +45,9 @@ abbrev pub IsTurn : Point → ℕ → Point → Type 0
 IsTurn p i q = (luck : Luck) × (q ≡ onward luck p i)
 
 -- neither of the two counts is more than that
-pub record AreWithin (marks : Marks) (n : ℕ) : Type 0 where
-  pub cuts : marks.cuts ≤ n
-  pub changes : marks.changes ≤ n
+pub record AreWithin (cost : Cost) (n : ℕ) : Type 0 where
+  pub cuts : cost.cuts ≤ n
+  pub changes : cost.changes ≤ n
 
 -- ---- who may have the next turn
 
@@ -55,4 +55,4 @@ pub record AreWithin (marks : Marks) (n : ℕ) : Type 0 where
 pub record MayGo (bounds : Bounds) (p : Point) (i : ℕ) : Type 0 where
   pub only : IsOnly bounds.only i
   pub busy : is_busy_at p.world.seats i ≡ true
-  pub few : IsWithin bounds.cuts (marks_after p.world.seats p.marks i).cuts
+  pub few : IsWithin bounds.cuts (cost_after p.world.seats p.cost i).cuts

@@ -9,7 +9,7 @@ use Rattle.race_core.specs.Worlds.{WorldView, turn, is_busy_at, ledgers_in, repl
 use Rattle.explore.specs.Alike.{full, after_turns}
 use Rattle.explore.specs.Local.{TellAlike}
 use Rattle.explore.specs.Same.{IsSame}
-use Rattle.explore.specs.Want.{replies_want}
+use Rattle.explore.specs.OutOfMemory.{replies_out_of_memory}
 
 -- nobody has anything left to do
 abbrev pub IsOver : WorldView → Type 0
@@ -46,7 +46,7 @@ ChosenListsStandForAll =
 abbrev pub ReportsAreOfFullLists : Type 0
 ReportsAreOfFullLists = (w : WorldView) (schedule : List ℕ) (tree : State) (events : List Event)
     (replies : List (List Outcome)) (kept : List StandingObject)
-    → RunsTo w schedule tree events replies kept → replies_want replies ≡ false
+    → RunsTo w schedule tree events replies kept → replies_out_of_memory replies ≡ false
     → (is : List ℕ) × (IsFull w is
     × ((tree ≡ tree_now (after_turns w is).book)
     × (replies ≡ replies_in (ledgers_in (after_turns w is).seats))))
@@ -55,5 +55,5 @@ ReportsAreOfFullLists = (w : WorldView) (schedule : List ℕ) (tree : State) (ev
 abbrev pub FullListsAreReported : Type 0
 FullListsAreReported = (w : WorldView) (is : List ℕ) (tree : State) (events : List Event)
     (replies : List (List Outcome)) (kept : List StandingObject)
-    → IsFull w is → RunsTo w is tree events replies kept → replies_want replies ≡ false
+    → IsFull w is → RunsTo w is tree events replies kept → replies_out_of_memory replies ≡ false
     → (tree ≡ tree_now (after_turns w is).book) × (replies ≡ replies_in (ledgers_in (after_turns w is).seats))

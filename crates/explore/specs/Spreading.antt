@@ -1,134 +1,149 @@
--- The stands of the next layer, and the ways to them.
+-- The configurations of the next layer, and the edges to them.
 use Rattle.std.specs.Prelude.{◌≡◌, ◌<◌, ◌⊎◌, ◌==◌, ℕ, List, [], ◌∷◌, ◌++◌, not, length, Option, Some, None, slice_get}
 use Rattle.std.specs.Global.{Vec}
-use Rattle.schedule_graph.specs.declared.graph.Spot.{Spot}
-use Rattle.schedule_graph.specs.declared.graph.Way.{Way}
+use Rattle.schedule_graph.specs.declared.graph.Node.{Node}
+use Rattle.schedule_graph.specs.declared.graph.Edge.{Edge}
 use Rattle.explore.specs.declared.limits.Bounds.{Bounds}
-use Rattle.explore.specs.declared.layer.Stand.{Stand}
-use Rattle.explore.specs.declared.marks.Marks.{Marks}
-use Rattle.explore.specs.declared.moves.Choice.{Choice}
+use Rattle.explore.specs.declared.layer.Configuration.{Configuration}
+use Rattle.explore.specs.declared.cost.Cost.{Cost}
+use Rattle.explore.specs.declared.transitions.Choice.{Choice}
 use Rattle.explore.specs.Merged.{bounded_cuts}
-use Rattle.explore.specs.Layers.{IsThere, spot_by}
+use Rattle.explore.specs.Layers.{IsThere, graph_node_by}
 
--- ---- stands
+-- ---- configurations
 
--- the stand is on that world, with what counts from then on
-pub record StandsAs (bounds : Bounds) (world : ℕ) (marks : Marks) (stand : Stand) : Type 0 where
-  pub on : stand.world ≡ world
-  pub last : stand.marks.last ≡ marks.last
-  pub cuts : bounded_cuts bounds.cuts stand.marks.cuts ≡ bounded_cuts bounds.cuts marks.cuts
+-- the configuration is on that world, with what counts from then on
+pub record IsConfigurationAs (bounds : Bounds) (world : ℕ) (cost : Cost) (configuration : Configuration) : Type 0 where
+  pub on : configuration.world ≡ world
+  pub last : configuration.cost.last ≡ cost.last
+  pub cuts : bounded_cuts bounds.cuts configuration.cost.cuts ≡ bounded_cuts bounds.cuts cost.cuts
 
--- the stand after that choice, on that world of the next layer
-pub record IsStandBy (stand : Stand) (choice : Choice) (world : ℕ) (born : Stand) : Type 0 where
-  pub on : born.world ≡ world
-  pub turns : born.turns.items ≡ stand.turns.items ++ choice.actor ∷ []
-  pub marks : born.marks ≡ choice.marks
+-- the configuration after that choice, on that world of the next layer
+pub record IsConfigurationBy (configuration : Configuration) (choice : Choice) (world : ℕ)
+    (successor : Configuration) : Type 0 where
+  pub on : successor.world ≡ world
+  pub turns : successor.turns.items ≡ configuration.turns.items ++ choice.actor ∷ []
+  pub cost : successor.cost ≡ choice.cost
 
--- ---- ways
+-- ---- edges
 
--- the way is that of the choice from that stand, and leads to whoever stands on that world as after the choice
-pub record IsWayTo (bounds : Bounds) (stand : Stand) (choice : Choice) (world : ℕ) (next : List Stand)
-    (way : Way) : Type 0 where
-  pub letter : way.letter ≡ choice.actor
-  pub cut : way.cut ≡ not (choice.marks.cuts == stand.marks.cuts)
-  pub change : way.change ≡ not (choice.marks.changes == stand.marks.changes)
-  pub there : IsThere bounds world choice.marks next way.to
+-- the edge is that of the choice from that configuration, and leads to the configuration on that world that the choice
+-- makes
+pub record IsEdgeTo (bounds : Bounds) (configuration : Configuration) (choice : Choice) (world : ℕ)
+    (next : List Configuration)
+    (edge : Edge) : Type 0 where
+  pub label : edge.label ≡ choice.actor
+  pub cut : edge.cut ≡ not (choice.cost.cuts == configuration.cost.cuts)
+  pub change : edge.change ≡ not (choice.cost.changes == configuration.cost.changes)
+  pub there : IsThere bounds world choice.cost next edge.to
 
--- the ways of these choices, in order, to worlds at the places of their moves
-abbrev pub AreEachWay : Bounds → Stand → List Choice → List ℕ → List Stand → List Way → Type 0
-AreEachWay bounds stand choices places next ways = (k : ℕ) (choice : Choice) (world : ℕ) (way : Way)
-    → slice_get choices k ≡ Some choice → slice_get places choice.at ≡ Some world → slice_get ways k ≡ Some way
-    → IsWayTo bounds stand choice world next way
+-- the edges of these choices, in order, to worlds at the places of their transitions
+abbrev pub AreEachEdge : Bounds → Configuration → List Choice → List ℕ → List Configuration → List Edge → Type 0
+AreEachEdge bounds configuration choices places next edges = (k : ℕ) (choice : Choice) (world : ℕ) (edge : Edge)
+    → slice_get choices k ≡ Some choice → slice_get places choice.at ≡ Some world → slice_get edges k ≡ Some edge
+    → IsEdgeTo bounds configuration choice world next edge
 
-pub record AreWaysTo (bounds : Bounds) (stand : Stand) (choices : List Choice) (places : List ℕ) (next : List Stand)
-    (ways : List Way) : Type 0 where
-  pub many : length ways ≡ length choices
-  pub each : AreEachWay bounds stand choices places next ways
+pub record AreEdgesTo (bounds : Bounds) (configuration : Configuration) (choices : List Choice) (places : List ℕ)
+    (next : List Configuration)
+    (edges : List Edge) : Type 0 where
+  pub many : length edges ≡ length choices
+  pub each : AreEachEdge bounds configuration choices places next edges
 
--- it is the stand after one of these choices
-pub record IsStandOf (stand : Stand) (choices : List Choice) (places : List ℕ) (born : Stand) : Type 0 where
+-- it is the configuration after one of these choices
+pub record IsConfigurationOf (configuration : Configuration) (choices : List Choice) (places : List ℕ)
+    (successor : Configuration) : Type 0 where
   pub at : ℕ
   pub choice : Choice
   pub there : slice_get choices at ≡ Some choice
   pub world : ℕ
   pub place : slice_get places choice.at ≡ Some world
-  pub is : IsStandBy stand choice world born
+  pub is : IsConfigurationBy configuration choice world successor
 
--- of the next layer's stands each was there before or is such a one
-abbrev pub AreStandsBy : Stand → List Choice → List ℕ → List Stand → List Stand → Type 0
-AreStandsBy stand choices places old new = (t : ℕ) (born : Stand) → slice_get new t ≡ Some born
-    → (slice_get old t ≡ Some born) ⊎ IsStandOf stand choices places born
+-- of the next layer's configurations each was there before or is such a one
+abbrev pub AreConfigurationsBy : Configuration → List Choice → List ℕ → List Configuration → List Configuration → Type 0
+AreConfigurationsBy configuration choices places old new = (t : ℕ) (successor : Configuration)
+    → slice_get new t ≡ Some successor
+    → (slice_get old t ≡ Some successor) ⊎ IsConfigurationOf configuration choices places successor
 
--- ---- stands that are gone on from
+-- ---- configurations that are gone on from
 
 -- its world is over, and then has a class, or there is a choice
 abbrev pub GoesOn : Option ℕ → List Choice → Type 0
 GoesOn None choices = 0 < length choices
 GoesOn (Some class) choices = Unit {0}
 
-abbrev pub HaveChoices : List Stand → List (Vec Choice) → List (Option ℕ) → Type 0
-HaveChoices stands choices tops = (s : ℕ) (stand : Stand) (those : Vec Choice) (top : Option ℕ)
-    → slice_get stands s ≡ Some stand → slice_get choices s ≡ Some those → slice_get tops stand.world ≡ Some top
-    → GoesOn top those.items
+abbrev pub HaveChoices : List Configuration → List (Vec Choice) → List (Option ℕ) → Type 0
+HaveChoices configurations choices end_classes =
+    (s : ℕ) (configuration : Configuration) (those : Vec Choice) (end_class : Option ℕ)
+    → slice_get configurations s ≡ Some configuration → slice_get choices s ≡ Some those
+    → slice_get end_classes configuration.world ≡ Some end_class
+    → GoesOn end_class those.items
 
 -- so it is with each, where the turn may be only one actor's
-abbrev pub AllGoOn : Option ℕ → List Stand → List (Vec Choice) → List (Option ℕ) → Type 0
-AllGoOn None stands choices tops = Unit {0}
-AllGoOn (Some i) stands choices tops = HaveChoices stands choices tops
+abbrev pub AllGoOn : Option ℕ → List Configuration → List (Vec Choice) → List (Option ℕ) → Type 0
+AllGoOn None configurations choices end_classes = Unit {0}
+AllGoOn (Some i) configurations choices end_classes = HaveChoices configurations choices end_classes
 
--- ---- the ways from all stands
+-- ---- the edges from all configurations
 
--- no two choices of a stand are of one actor
+-- no two choices of a configuration are of one actor
 abbrev pub AreApartChoices : List (Vec Choice) → Type 0
 AreApartChoices all = (s : ℕ) (choices : Vec Choice) (k l : ℕ) (choice other : Choice) → slice_get all s ≡ Some choices
     → slice_get choices.items k ≡ Some choice → slice_get choices.items l ≡ Some other → choice.actor ≡ other.actor
     → k ≡ l
 
--- each choice's move has its place among those from the stand's world
+-- each choice's transition has its place among those from the configuration's world
 abbrev pub IsFitting : List Choice → List ℕ → Type 0
 IsFitting choices places = (k : ℕ) (choice : Choice) → slice_get choices k ≡ Some choice → choice.at < length places
 
-abbrev pub AreFit : List Stand → List (Vec Choice) → List (Vec ℕ) → Type 0
-AreFit stands choices places = (s : ℕ) (stand : Stand) (those : Vec Choice) → slice_get stands s ≡ Some stand
+abbrev pub AreFit : List Configuration → List (Vec Choice) → List (Vec ℕ) → Type 0
+AreFit configurations choices places = (s : ℕ) (configuration : Configuration) (those : Vec Choice)
+    → slice_get configurations s ≡ Some configuration
     → slice_get choices s ≡ Some those
-    → (row : Vec ℕ) × ((slice_get places stand.world ≡ Some row) × IsFitting those.items row.items)
+    → (row : Vec ℕ) × ((slice_get places configuration.world ≡ Some row) × IsFitting those.items row.items)
 
--- the stand is one turn after one of these
-pub record IsStandFrom (stands : List Stand) (choices : List (Vec Choice)) (places : List (Vec ℕ))
-    (born : Stand) : Type 0 where
+-- the configuration is one turn after one of these
+pub record IsConfigurationFrom (configurations : List Configuration) (choices : List (Vec Choice))
+    (places : List (Vec ℕ))
+    (successor : Configuration) : Type 0 where
   pub s : ℕ
-  pub stand : Stand
-  pub there : slice_get stands s ≡ Some stand
+  pub configuration : Configuration
+  pub there : slice_get configurations s ≡ Some configuration
   pub those : Vec Choice
   pub chosen : slice_get choices s ≡ Some those
   pub row : Vec ℕ
-  pub places_there : slice_get places stand.world ≡ Some row
-  pub is : IsStandOf stand those.items row.items born
+  pub places_there : slice_get places configuration.world ≡ Some row
+  pub is : IsConfigurationOf configuration those.items row.items successor
 
-abbrev pub AreStandsFrom : List Stand → List (Vec Choice) → List (Vec ℕ) → List Stand → Type 0
-AreStandsFrom stands choices places next =
-    (t : ℕ) (born : Stand) → slice_get next t ≡ Some born → IsStandFrom stands choices places born
+abbrev pub AreConfigurationsFrom : List Configuration → List (Vec Choice) → List (Vec ℕ) → List Configuration → Type 0
+AreConfigurationsFrom configurations choices places next =
+    (t : ℕ) (successor : Configuration) → slice_get next t ≡ Some successor
+    → IsConfigurationFrom configurations choices places successor
 
--- the ways of all choices from the first stands
-abbrev pub AreFirstWays : Bounds → List Stand → List (Vec Choice) → List (Vec ℕ) → List Stand → List (Vec Way) → Type 0
-AreFirstWays bounds stands choices places next all = (s : ℕ) (stand : Stand) (those : Vec Choice) (row : Vec ℕ)
-    (ways : Vec Way) → slice_get stands s ≡ Some stand → slice_get choices s ≡ Some those
-    → slice_get places stand.world ≡ Some row → slice_get all s ≡ Some ways
-    → AreWaysTo bounds stand those.items row.items next ways.items
+-- the edges of all choices from the first configurations
+abbrev pub AreFirstEdges : Bounds → List Configuration → List (Vec Choice) → List (Vec ℕ) → List Configuration
+    → List (Vec Edge) → Type 0
+AreFirstEdges bounds configurations choices places next all =
+    (s : ℕ) (configuration : Configuration) (those : Vec Choice) (row : Vec ℕ)
+    (edges : Vec Edge) → slice_get configurations s ≡ Some configuration → slice_get choices s ≡ Some those
+    → slice_get places configuration.world ≡ Some row → slice_get all s ≡ Some edges
+    → AreEdgesTo bounds configuration those.items row.items next edges.items
 
 -- and from all of them
-pub record AreWaysOfAll (bounds : Bounds) (stands : List Stand) (choices : List (Vec Choice)) (places : List (Vec ℕ))
-    (next : List Stand) (all : List (Vec Way)) : Type 0 where
-  pub many : length all ≡ length stands
-  pub ways : AreFirstWays bounds stands choices places next all
-  pub born : AreStandsFrom stands choices places next
+pub record AreEdgesOfAll (bounds : Bounds) (configurations : List Configuration) (choices : List (Vec Choice))
+    (places : List (Vec ℕ))
+    (next : List Configuration) (all : List (Vec Edge)) : Type 0 where
+  pub many : length all ≡ length configurations
+  pub edges : AreFirstEdges bounds configurations choices places next all
+  pub successor : AreConfigurationsFrom configurations choices places next
 
--- ---- spots
+-- ---- graph nodes
 
--- each stand's spot: an end of its world's class, if that has one, and else the ways from it
-pub record AreSpotsBy (stands : List Stand) (tops : List (Option ℕ)) (all : List (Vec Way))
-    (spots : List Spot) : Type 0 where
-  pub many : length spots ≡ length stands
-  pub each : (s : ℕ) (stand : Stand) (ways : Vec Way) (top : Option ℕ) → slice_get stands s ≡ Some stand
-      → slice_get all s ≡ Some ways → slice_get tops stand.world ≡ Some top
-      → slice_get spots s ≡ Some (spot_by top ways)
+-- each configuration's graph node: an end of its world's class, if that has one, and else the edges from it
+pub record AreGraphNodesBy (configurations : List Configuration) (end_classes : List (Option ℕ)) (all : List (Vec Edge))
+    (graph_nodes : List Node) : Type 0 where
+  pub many : length graph_nodes ≡ length configurations
+  pub each : (s : ℕ) (configuration : Configuration) (edges : Vec Edge) (end_class : Option ℕ)
+      → slice_get configurations s ≡ Some configuration
+      → slice_get all s ≡ Some edges → slice_get end_classes configuration.world ≡ Some end_class
+      → slice_get graph_nodes s ≡ Some (graph_node_by end_class edges)

@@ -2,13 +2,13 @@
 ghost use Rattle.std.specs.Prelude.{IfErr, OnOk};
 ghost use Rattle.explore.specs.Counting.{IsTally};
 ghost use Rattle.explore.specs.Explored.{AreBusy, WhyNot};
-ghost use Rattle.explore.specs.Want.{EndsWell};
+ghost use Rattle.explore.specs.OutOfMemory.{EndsWell};
 
 use crate::beginnings::Beginnings;
-use crate::led::{take_turn, told};
+use crate::cost::{is_within, no_cost};
 use crate::limits::{Limits, SearchFault};
-use crate::marks::{is_within, no_marks};
 use crate::outside::Tally;
+use crate::replayed::{take_turn, told};
 use path_text::NoMemory;
 use race_core::{ACTORS_MAX, World};
 use std::alloc::Global;
@@ -29,7 +29,7 @@ fn follow<T: Tree>(
     ensures err { IfErr result (λ fault. EndsWell world.new → WhyNot world.old limits.now fault) }
 {
     let begin = limits.scope.begin.as_slice();
-    let mut marks = no_marks();
+    let mut cost = no_cost();
     for at in 0..begin.len() {
         let actor = begin[at];
         if at > limits.turns as usize {
@@ -38,10 +38,10 @@ fn follow<T: Tree>(
         if !world.has_turns(actor) {
             return Err(SearchFault::NotBusy(at));
         }
-        if take_turn(alloc, world, &mut marks, tally, actor).is_err() {
+        if take_turn(alloc, world, &mut cost, tally, actor).is_err() {
             return Err(SearchFault::NoMemory);
         }
-        if !is_within(limits.scope.cuts, marks.cuts) {
+        if !is_within(limits.scope.cuts, cost.cuts) {
             return Err(SearchFault::TooManyCuts(at));
         }
     }

@@ -4,7 +4,7 @@ ghost use Rattle.tree_model.specs.declared.inode.Inode.{Inode};
 ghost use Rattle.race_core.specs.Book.{tree_now};
 ghost use Rattle.race_core.specs.declared.opening.TheConstants.{ACTORS_MAX};
 ghost use Rattle.race_core.specs.Worlds.{WorldView, is_busy_at, is_within_at};
-ghost use Rattle.explore.specs.Keys.{PartsView, AreApartParts, AreRows, AreMet, Grows, IsKey, IsPartAt};
+ghost use Rattle.explore.specs.Keys.{PartsView, AreApartParts, AreRows, AreInterned, Grows, IsKey, IsPartAt};
 ghost use Rattle.explore.specs.Local.{AreNumbered};
 
 use crate::keys::Key;
@@ -24,13 +24,13 @@ pub(crate) struct Components<T: Tree> {
 }
 
 impl<T: Tree> Model for Components<T> {
-    ghost use Rattle.explore.specs.Keys.{ComponentsView, AreMet};
+    ghost use Rattle.explore.specs.Keys.{ComponentsView, AreInterned};
 
     ghost Value = { ComponentsView };
 
     ghost view = { λ c. record { told = c.told; lists = c.lists; parts = c.parts.items } };
 
-    ghost invariant = { λ c. AreMet c.lists c.parts.items };
+    ghost invariant = { λ c. AreInterned c.lists c.parts.items };
 }
 
 // No part yet of so many actors. NoMemory where room was refused.
@@ -68,8 +68,8 @@ impl<T: Tree> Components<T> {
     }
 
     /// No two lists of nodes are equal, and no two parts of an actor the same.
-    pub(crate) fn are_met(&self)
-        ensures { AreMet self.now.lists self.now.parts }
+    pub(crate) fn are_interned(&self)
+        ensures { AreInterned self.now.lists self.now.parts }
     {
         let _ = &self.lists;
     }
@@ -151,7 +151,7 @@ impl<T: CopyTree + Drop> Components<T> {
 }
 
 impl<T: Tree + Drop> Components<T> {
-    /// Gives up the worlds that stand for parts.
+    /// Gives up the worlds that configuration for parts.
     pub(crate) fn give_up(self, alloc: Global) {
         let Components {
             told: _,

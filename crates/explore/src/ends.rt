@@ -1,24 +1,24 @@
-//! The classes of what worlds come to, and the spots of stands.
+//! The classes of what worlds come to, and the graph nodes of configurations.
 ghost use Rattle.std.specs.Prelude.{◌≡◌, ◌⊎◌, ◌<◌, ◌≤◌, ℕ, length, Option, Some, None, slice_get, IfOk};
 ghost use Rattle.std.specs.Global.{Vec};
 ghost use Rattle.race_core.specs.Worlds.{WorldView};
 ghost use Rattle.race_core.specs.declared.opening.TheConstants.{ACTORS_MAX};
-ghost use Rattle.schedule_graph.specs.declared.graph.Way.{Way};
+ghost use Rattle.schedule_graph.specs.declared.graph.Edge.{Edge};
 ghost use Rattle.schedule_graph.specs.Words.{AreApart, IsLayer};
-ghost use Rattle.explore.specs.declared.layer.Stand.{Stand};
+ghost use Rattle.explore.specs.declared.layer.Configuration.{Configuration};
 ghost use Rattle.explore.specs.Explored.{ClassView};
 ghost use Rattle.explore.specs.Keys.{IsKey};
 ghost use Rattle.explore.specs.Tally.{SameOutcome};
-ghost use Rattle.explore.specs.Went.{IsEnd};
-ghost use Rattle.explore.specs.Layers.{Keeps, AreApartClasses, spot_by};
+ghost use Rattle.explore.specs.Expanded.{IsEnd};
+ghost use Rattle.explore.specs.Layers.{Keeps, AreApartClasses, graph_node_by};
 
 use crate::components::Components;
 use crate::found::{Class, Ending};
 use crate::keys::Key;
-use crate::layer::Stand;
+use crate::layer::Configuration;
 use crate::tally::place_of;
 use path_text::NoMemory;
-use schedule_graph::{Spot, Way};
+use schedule_graph::{Edge, Node};
 use std::alloc::Global;
 use tree_model::Tree;
 
@@ -58,35 +58,38 @@ pub(crate) fn class_at<T: Tree + Drop>(
     Ok(at)
 }
 
-// An end of that class, if there is one, and else these ways.
-fn spot_by(top: Option<usize>, ways: Vec<Way>) -> Spot
-    ensures { result ≡ spot_by top ways }
+// An end of that class, if there is one, and else these edges.
+fn graph_node_by(end_class: Option<usize>, edges: Vec<Edge>) -> Node
+    ensures { result ≡ graph_node_by end_class edges }
 {
-    match top {
-        Some(class) => Spot::Ends(class),
-        None => Spot::Goes(ways),
+    match end_class {
+        Some(class) => Node::Ends(class),
+        None => Node::Goes(edges),
     }
 }
 
-/// The spot of each stand: an end of its world's class, if that is over, and else the ways from it.
-pub(crate) fn spots_of(
+/// The graph node of each configuration: an end of its world's class, if that is over, and else the edges from it.
+pub(crate) fn graph_nodes_of(
     alloc: Global,
-    stands: &[Stand],
-    tops: &[Option<usize>],
-    all: Vec<Vec<Way>>,
-) -> Result<Vec<Spot>, NoMemory>
-    requires many { length all.items ≡ length stands.now }
-    requires on { (s : ℕ) (stand : Stand) → slice_get stands.now s ≡ Some stand → stand.world < length tops.now }
-    requires apart { (s : ℕ) (ways : Vec Way) → slice_get all.items s ≡ Some ways → AreApart ways.items }
-    ensures many { IfOk result (λ spots. length spots.items ≡ length stands.now) }
-    ensures each { IfOk result (λ spots. (s : ℕ) (stand : Stand) (ways : Vec Way) (top : Option ℕ)
-        → slice_get stands.now s ≡ Some stand → slice_get all.items s ≡ Some ways
-        → slice_get tops.now stand.world ≡ Some top → slice_get spots.items s ≡ Some (spot_by top ways)) }
-    ensures apart { IfOk result (λ spots. IsLayer spots.items) }
+    configurations: &[Configuration],
+    end_classes: &[Option<usize>],
+    all: Vec<Vec<Edge>>,
+) -> Result<Vec<Node>, NoMemory>
+    requires many { length all.items ≡ length configurations.now }
+    requires on { (s : ℕ) (configuration : Configuration) → slice_get configurations.now s ≡ Some configuration
+        → configuration.world < length end_classes.now }
+    requires apart { (s : ℕ) (edges : Vec Edge) → slice_get all.items s ≡ Some edges → AreApart edges.items }
+    ensures many { IfOk result (λ graph_nodes. length graph_nodes.items ≡ length configurations.now) }
+    ensures each { IfOk result (λ graph_nodes.
+        (s : ℕ) (configuration : Configuration) (edges : Vec Edge) (end_class : Option ℕ)
+        → slice_get configurations.now s ≡ Some configuration → slice_get all.items s ≡ Some edges
+        → slice_get end_classes.now configuration.world ≡ Some end_class
+        → slice_get graph_nodes.items s ≡ Some (graph_node_by end_class edges)) }
+    ensures apart { IfOk result (λ graph_nodes. IsLayer graph_nodes.items) }
 {
-    let mut spots = Vec::new(alloc);
-    for (stand, ways) in stands.iter().zip(all) {
-        spots.push(spot_by(tops[stand.world], ways))?;
+    let mut graph_nodes = Vec::with_capacity(alloc, configurations.len())?;
+    for (configuration, edges) in configurations.iter().zip(all) {
+        graph_nodes.push(graph_node_by(end_classes[configuration.world], edges))?;
     }
-    Ok(spots)
+    Ok(graph_nodes)
 }

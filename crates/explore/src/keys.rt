@@ -9,7 +9,7 @@ use std::alloc::Global;
 /// What a turn comes to, as far as it is its actor's own. This is what the search remembers of a turn: with it the key
 /// before the turn makes the key after it (`Key::after`), without a run.
 #[derive(Clone, Copy, Debug, PartialEq, Eq)]
-pub(crate) struct Deed {
+pub(crate) struct Effect {
     /// The place of the list of nodes after it.
     pub(crate) nodes: usize,
     /// The place of the actor's part after it.
@@ -121,20 +121,25 @@ impl Key {
     }
 
     /// The key after that turn of the actor. NoMemory where its room was refused.
-    pub(crate) fn after(&self, alloc: Global, actor: usize, deed: &Deed) -> Result<Key, NoMemory>
+    pub(crate) fn after(
+        &self,
+        alloc: Global,
+        actor: usize,
+        effect: &Effect,
+    ) -> Result<Key, NoMemory>
         requires here { actor < length self.now.own.items }
         requires few { (n : ℕ) × ((n < 2 ^ 40) × AreFew n self.now) }
-        ensures { IfOk result (λ key. IsKeyAfter self.now actor deed.now key) }
+        ensures { IfOk result (λ key. IsKeyAfter self.now actor effect.now key) }
     {
         let mut key = self.copy(alloc)?;
         let outside = key.own[actor].outside;
-        key.nodes = deed.nodes;
-        key.events += u64::from(deed.event);
-        key.opened += u64::from(deed.opens);
-        key.closed += u64::from(deed.closes);
+        key.nodes = effect.nodes;
+        key.events += u64::from(effect.event);
+        key.opened += u64::from(effect.opens);
+        key.closed += u64::from(effect.closes);
         key.own[actor] = Own {
-            part: deed.part,
-            outside: outside + u64::from(deed.outside),
+            part: effect.part,
+            outside: outside + u64::from(effect.outside),
         };
         Ok(key)
     }

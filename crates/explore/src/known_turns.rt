@@ -5,23 +5,23 @@ ghost use Rattle.race_core.specs.declared.opening.TheConstants.{ACTORS_MAX};
 ghost use Rattle.race_core.specs.Turns.{Luck};
 ghost use Rattle.race_core.specs.Worlds.{WorldView, turn};
 ghost use Rattle.explore.specs.declared.keys.Own.{Own};
-ghost use Rattle.explore.specs.declared.memo.Ask.{Ask};
+ghost use Rattle.explore.specs.declared.memo.MemoKey.{MemoKey};
 ghost use Rattle.explore.specs.Alike.{full, after_turns};
 ghost use Rattle.explore.specs.Counting.{IsTally};
-ghost use Rattle.explore.specs.Deeds.{AreCompared, IsDeedFrom, IsStart, IsAskOf, IsRemembered, IsSound};
-ghost use Rattle.explore.specs.Keys.{AreFew, AreMet, AreRows, Grows, IsKey, IsPartAt};
+ghost use Rattle.explore.specs.Effects.{AreCompared, IsEffectFrom, IsStart, IsMemoKeyOf, IsRemembered, IsSound};
+ghost use Rattle.explore.specs.Keys.{AreFew, AreInterned, AreRows, Grows, IsKey, IsPartAt};
 ghost use Rattle.explore.specs.Local.{AreNumbered};
 ghost use Rattle.explore.specs.Points.{AreWithin};
-ghost use Rattle.explore.specs.Want.{EndsWell};
+ghost use Rattle.explore.specs.OutOfMemory.{EndsWell};
 
 use crate::beginnings::Beginnings;
 use crate::components::Components;
-use crate::keys::{Deed, Key, Own};
-use crate::layer::Live;
-use crate::led::{Led, lead, take_turn, told};
-use crate::marks::Marks;
-use crate::memo::{Ask, Memo};
+use crate::cost::Cost;
+use crate::keys::{Effect, Key, Own};
+use crate::layer::Visited;
+use crate::memo::{Memo, MemoKey};
 use crate::outside::Tally;
+use crate::replayed::{Replayed, replay, take_turn, told, turns_of};
 use crate::world_counts::{Counts, Start, are_given, open_count, wide};
 use path_text::NoMemory;
 use race_core::{CopyTree, World};
@@ -41,7 +41,7 @@ pub(crate) struct KnownTurns<T: Tree> {
 }
 
 impl<T: Tree> Model for KnownTurns<T> {
-    ghost use Rattle.explore.specs.Deeds.{KnownView};
+    ghost use Rattle.explore.specs.Effects.{KnownView};
 
     ghost Value = { KnownView };
 
@@ -90,13 +90,13 @@ impl<T: Tree + Drop> KnownTurns<T> {
     }
 
     /// No two lists of nodes are equal, and no two parts of an actor the same.
-    pub(crate) fn are_met(&self)
-        ensures { AreMet self.now.components.lists self.now.components.parts }
+    pub(crate) fn are_interned(&self)
+        ensures { AreInterned self.now.components.lists self.now.components.parts }
     {
-        self.components.are_met();
+        self.components.are_interned();
     }
 
-    /// Gives up the worlds that stand for parts.
+    /// Gives up the worlds that configuration for parts.
     pub(crate) fn give_up(self, alloc: Global) {
         let KnownTurns {
             components,
@@ -118,14 +118,14 @@ impl<T: Tree + Drop> KnownTurns<T> {
     }
 
     // All that the actor's turn from the world of that key depends on.
-    fn ask(&self, key: &Key, actor: usize) -> Ask
+    fn memo_key(&self, key: &Key, actor: usize) -> MemoKey
         requires { actor < length key.now.own.items }
         ensures actor { result.actor ≡ actor }
         ensures is { (w v : WorldView) → IsStart self.now.start w → IsKey self.now.components w v key.now
-            → IsAskOf self.now.components w v result }
+            → IsMemoKeyOf self.now.components w v result }
     {
         let given = wide(self.start.numbers as u64) + wide(key.opened);
-        Ask {
+        MemoKey {
             nodes: key.nodes,
             actor,
             part: key.own[actor].part,
@@ -135,18 +135,18 @@ impl<T: Tree + Drop> KnownTurns<T> {
     }
 
     // What the actor's turn comes to, if it is known.
-    fn known_deed(&self, key: &Key, actor: usize) -> Option<Deed>
+    fn known_effect(&self, key: &Key, actor: usize) -> Option<Effect>
         requires { actor < length key.now.own.items }
         ensures given { OnSome result (self.now.are_given ≡ true) }
-        ensures known { IfSome result (λ deed. (w v : WorldView) → IsSound w self.now
+        ensures known { IfSome result (λ effect. (w v : WorldView) → IsSound w self.now
             → IsKey self.now.components w v key.now
-            → (ask : Ask) × ((ask.actor ≡ actor) × (IsAskOf self.now.components w v ask
-            × IsRemembered self.now.components w (record { ask = ask; deed = deed })))) }
+            → (memo_key : MemoKey) × ((memo_key.actor ≡ actor) × (IsMemoKeyOf self.now.components w v memo_key
+            × IsRemembered self.now.components w (record { memo_key = memo_key; effect = effect })))) }
     {
         if !self.are_given {
             return None;
         }
-        self.memo.deed(&self.ask(key, actor))
+        self.memo.effect(&self.memo_key(key, actor))
     }
 
     /// Whether a turn is its actor's own affair, so that it is remembered.
@@ -155,33 +155,33 @@ impl<T: Tree + Drop> KnownTurns<T> {
     }
 
     /// What the actor's turn depends on, if it isn't known what it comes to.
-    pub(crate) fn unknown(&self, key: &Key, actor: usize) -> Option<Ask>
+    pub(crate) fn unknown(&self, key: &Key, actor: usize) -> Option<MemoKey>
         requires { actor < length key.now.own.items }
     {
-        let ask = self.ask(key, actor);
-        match self.memo.deed(&ask) {
+        let memo_key = self.memo_key(key, actor);
+        match self.memo.effect(&memo_key) {
             Some(_) => None,
-            None => Some(ask),
+            None => Some(memo_key),
         }
     }
 
     // Remembers what the actor's turn from the world of that key comes to. NoMemory where its room was refused.
-    fn remember(&mut self, key: &Key, actor: usize, deed: Deed) -> Result<(), NoMemory>
+    fn remember(&mut self, key: &Key, actor: usize, effect: Effect) -> Result<(), NoMemory>
         requires { actor < length key.now.own.items }
         ensures components { self.new.components ≡ self.old.components }
         ensures given { self.new.are_given ≡ self.old.are_given }
         ensures sound { (w v : WorldView) → IsSound w self.old → IsKey self.old.components w v key.now
-            → IsDeedFrom self.old.components v actor deed → IsSound w self.new }
+            → IsEffectFrom self.old.components v actor effect → IsSound w self.new }
     {
-        let ask = self.ask(key, actor);
-        self.memo.put(ask, deed)
+        let memo_key = self.memo_key(key, actor);
+        self.memo.put(memo_key, effect)
     }
 }
 
 impl<T: CopyTree + Drop> KnownTurns<T> {
     // What the actor's turn came to, to this world, by the numbers before and after it. NoMemory where room was
     // refused.
-    fn deed_to(
+    fn effect_to(
         &mut self,
         alloc: Global,
         mostly: usize,
@@ -190,19 +190,19 @@ impl<T: CopyTree + Drop> KnownTurns<T> {
         world: &World<T>,
         tree: &Snapshot,
         actor: usize,
-    ) -> Result<Deed, NoMemory>
+    ) -> Result<Effect, NoMemory>
         requires rows { AreRows self.old.components.parts (length world.now.seats) }
         requires numbered { AreNumbered world.now.seats }
         requires there { actor < length world.now.seats }
         requires tree { tree.now ≡ tree_now world.now.book }
         ensures grows { OnOk result (Grows self.old.components self.new.components) }
         ensures rest { self.new ≡ record self.old { components = self.new.components } }
-        ensures nodes { IfOk result (λ deed.
-            slice_get self.new.components.lists deed.nodes ≡ Some (tree_now world.now.book).nodes) }
-        ensures part { IfOk result (λ deed. IsPartAt self.new.components world.now actor deed.part) }
-        ensures compared { IfOk result (λ deed. AreCompared before after deed) }
+        ensures nodes { IfOk result (λ effect.
+            slice_get self.new.components.lists effect.nodes ≡ Some (tree_now world.now.book).nodes) }
+        ensures part { IfOk result (λ effect. IsPartAt self.new.components world.now actor effect.part) }
+        ensures compared { IfOk result (λ effect. AreCompared before after effect) }
     {
-        Ok(Deed {
+        Ok(Effect {
             nodes: self.components.put_nodes(alloc, tree.nodes(), mostly)?,
             part: self
                 .components
@@ -247,7 +247,7 @@ impl<T: CopyTree + Drop> KnownTurns<T> {
         alloc: Global,
         key: &Key,
         world: &mut World<T>,
-        marks: &mut Marks,
+        cost: &mut Cost,
         tally: &mut Tally,
         actor: u32,
     ) -> Result<Key, NoMemory>
@@ -256,7 +256,7 @@ impl<T: CopyTree + Drop> KnownTurns<T> {
         requires there { actor < length world.old.seats }
         requires many { length key.now.own.items ≡ length world.old.seats }
         requires few { (n : ℕ) × ((n < 2 ^ 40) × AreFew n key.now) }
-        requires within { AreWithin marks.old (2 ^ 40) }
+        requires within { AreWithin cost.old (2 ^ 40) }
         requires tally { IsTally world.old tally.old }
         requires told { tally.old.told ≡ self.old.components.told }
         ensures turned { OnOk result ((luck : Luck) × (world.new ≡ turn luck world.old actor)) }
@@ -271,13 +271,13 @@ impl<T: CopyTree + Drop> KnownTurns<T> {
         let number = actor as usize;
         let tree = world.book().tree().snapshot(alloc)?;
         let before = Counts::of(world, &tree, tally, number);
-        take_turn(alloc, world, marks, tally, actor)?;
+        take_turn(alloc, world, cost, tally, actor)?;
         let tree = world.book().tree().snapshot(alloc)?;
         let after = Counts::of(world, &tree, tally, number);
-        let deed = self.deed_to(alloc, key.nodes, before, after, world, &tree, number)?;
-        let mut next = key.after(alloc, number, &deed)?;
+        let effect = self.effect_to(alloc, key.nodes, before, after, world, &tree, number)?;
+        let mut next = key.after(alloc, number, &effect)?;
         if self.are_given {
-            self.remember(key, number, deed)?;
+            self.remember(key, number, effect)?;
         } else {
             self.put_parts(alloc, world, &tree, next.own.as_mut_slice())?;
         }
@@ -290,32 +290,39 @@ impl<T: CopyTree + Drop> KnownTurns<T> {
         &mut self,
         alloc: Global,
         beginnings: &B,
-        live: &Live,
+        visited: &Visited,
         actor: u32,
     ) -> Result<Key, NoMemory>
         requires sound { IsSound (B.opening beginnings.now) self.old }
         requires here { IsKey self.old.components (B.opening beginnings.now)
-            (after_turns (B.opening beginnings.now) live.now.turns.items) live.now.key }
+            (after_turns (B.opening beginnings.now) visited.now.turns.items) visited.now.key }
         requires there { actor < length (B.opening beginnings.now).seats }
-        requires few { (n : ℕ) × ((n < 2 ^ 40) × AreFew n live.now.key) }
-        requires short { length live.now.turns.items < 2 ^ 40 }
+        requires few { (n : ℕ) × ((n < 2 ^ 40) × AreFew n visited.now.key) }
+        requires short { length visited.now.turns.items < 2 ^ 40 }
         ensures grows { OnOk result (Grows self.old.components self.new.components) }
         ensures sound { OnOk result (IsSound (B.opening beginnings.now) self.new) }
         ensures key { IfOk result (λ key. IsKey self.new.components (B.opening beginnings.now)
-            (turn full (after_turns (B.opening beginnings.now) live.now.turns.items) actor) key) }
-        ensures few { IfOk result (λ key. (n : ℕ) → AreFew n live.now.key → AreFew (n + 1) key) }
+            (turn full (after_turns (B.opening beginnings.now) visited.now.turns.items) actor) key) }
+        ensures few { IfOk result (λ key. (n : ℕ) → AreFew n visited.now.key → AreFew (n + 1) key) }
     {
-        let turns = Vec::from_slice(alloc, live.turns.as_slice())?;
-        let Ok(led) = lead(alloc, beginnings, self.components.told(), turns) else {
+        let turns = turns_of(alloc, visited.turns.as_slice())?;
+        let Ok(replayed) = replay(alloc, beginnings, self.components.told(), turns) else {
             return Err(NoMemory);
         };
-        let Led {
+        let Replayed {
             mut world,
             turns: _,
-            mut marks,
+            mut cost,
             mut tally,
-        } = led;
-        let key = self.key_by(alloc, &live.key, &mut world, &mut marks, &mut tally, actor);
+        } = replayed;
+        let key = self.key_by(
+            alloc,
+            &visited.key,
+            &mut world,
+            &mut cost,
+            &mut tally,
+            actor,
+        );
         let Ok(key) = key else {
             world.give_up(alloc);
             return Err(NoMemory);
@@ -330,26 +337,26 @@ impl<T: CopyTree + Drop> KnownTurns<T> {
         &mut self,
         alloc: Global,
         beginnings: &B,
-        live: &Live,
+        visited: &Visited,
         actor: u32,
     ) -> Result<Key, NoMemory>
         requires sound { IsSound (B.opening beginnings.now) self.old }
         requires here { IsKey self.old.components (B.opening beginnings.now)
-            (after_turns (B.opening beginnings.now) live.now.turns.items) live.now.key }
+            (after_turns (B.opening beginnings.now) visited.now.turns.items) visited.now.key }
         requires there { actor < length (B.opening beginnings.now).seats }
-        requires few { (n : ℕ) × ((n < 2 ^ 40) × AreFew n live.now.key) }
-        requires short { length live.now.turns.items < 2 ^ 40 }
+        requires few { (n : ℕ) × ((n < 2 ^ 40) × AreFew n visited.now.key) }
+        requires short { length visited.now.turns.items < 2 ^ 40 }
         ensures grows { OnOk result (Grows self.old.components self.new.components) }
         ensures sound { OnOk result (IsSound (B.opening beginnings.now) self.new) }
         ensures key { IfOk result (λ key. (v : WorldView)
-            → IsKey self.old.components (B.opening beginnings.now) v live.now.key
+            → IsKey self.old.components (B.opening beginnings.now) v visited.now.key
             → IsKey self.new.components (B.opening beginnings.now) (turn full v actor) key) }
-        ensures few { IfOk result (λ key. (n : ℕ) → AreFew n live.now.key → AreFew (n + 1) key) }
+        ensures few { IfOk result (λ key. (n : ℕ) → AreFew n visited.now.key → AreFew (n + 1) key) }
     {
-        if let Some(deed) = self.known_deed(&live.key, actor as usize) {
-            return live.key.after(alloc, actor as usize, &deed);
+        if let Some(effect) = self.known_effect(&visited.key, actor as usize) {
+            return visited.key.after(alloc, actor as usize, &effect);
         }
-        self.find(alloc, beginnings, live, actor)
+        self.find(alloc, beginnings, visited, actor)
     }
 
     /// The key of the opening world. NoMemory where room was refused.

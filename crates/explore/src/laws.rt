@@ -4,14 +4,14 @@ ghost use Rattle.explore.specs.declared.jobs.TheConstants.{JOBS_MAX};
 ghost use Rattle.explore.specs.Concluded.{FoundClassesHaveLeasts, CountsConclude};
 ghost use Rattle.explore.specs.Search.{ChosenListsStandForAll, ReportsAreOfFullLists, FullListsAreReported};
 ghost use Rattle.explore.specs.Merged.{WordsAreLists};
-ghost use Rattle.explore.specs.Want.{WantIsTold, WantStays, RunsWithoutWantAreFull};
+ghost use Rattle.explore.specs.OutOfMemory.{OutOfMemoryIsTold, OutOfMemoryStays, RunsWithoutOutOfMemoryAreFull};
 
 /// Want of memory is told: a turn that lacked some is the turn with memory, or else its actor's call closes what it
 /// holds and fails so, whatever comes. So a run to the end without such a reply is the run with memory for all.
-pub fn want_is_told()
-    ensures told { WantIsTold }
-    ensures stays { WantStays }
-    ensures runs { RunsWithoutWantAreFull }
+pub fn out_of_memory_is_told()
+    ensures told { OutOfMemoryIsTold }
+    ensures stays { OutOfMemoryStays }
+    ensures runs { RunsWithoutOutOfMemoryAreFull }
 {}
 
 /// What all schedules come to. A full list of turns has only turns of actors who have something left to do, and
@@ -25,10 +25,10 @@ pub fn chosen_lists_stand_for_all()
     ensures lists { FullListsAreReported }
 {}
 
-/// What a layered graph stands for. Where its first spot is for the world, each spot that ends words for worlds in
-/// which nobody has anything left to do, and the ways from each other spot are the turns of all actors who may have
-/// the next one, there the graph's words are exactly the lists that are asked for: of each the class says the
-/// outcome, and the ways the cuts and the changes of actor.
+/// What a layered graph stands for. Where its first graph node is for the world, each graph node that ends words for
+/// worlds in which nobody has anything left to do, and the edges from each other graph node are the turns of all actors
+/// who may have the next one, there the graph's words are exactly the lists that are asked for: of each the class says
+/// the outcome, and the edges the cuts and the changes of actor.
 pub fn words_are_lists()
     ensures { WordsAreLists }
 {}

@@ -1,30 +1,32 @@
-//! The worlds that lists of so many turns lead to, one of those with the same parts each, and the stands on them.
+//! The worlds that lists of so many turns lead to, one of those with the same parts each, and the configurations on
+//! them.
+use crate::cost::Cost;
 use crate::keys::Key;
-use crate::marks::Marks;
 
 /// A world, by its key, and a list of turns that leads to it.
 #[derive(Drop)]
-pub(crate) struct Live {
+pub(crate) struct Visited {
     pub(crate) key: Key,
-    pub(crate) turns: Vec<u32>,
+    /// The actors of the turns, a byte each: there are at most 64.
+    pub(crate) turns: Vec<u8>,
     /// Whether no world before it has the same parts, whatever was done outside of the roots.
     pub(crate) is_state: bool,
 }
 
-/// Where some lists of turns stand: on a world, with the last actor and the cuts before, where they are bounded.
+/// What some lists of turns lead to: a world, with the last actor and the cuts before, where they are bounded.
 #[derive(Drop)]
-pub(crate) struct Stand {
+pub(crate) struct Configuration {
     /// The place of the world among those of the layer.
     pub(crate) world: usize,
-    /// One of the lists.
-    pub(crate) turns: Vec<u32>,
+    /// One of the lists, a byte each turn.
+    pub(crate) turns: Vec<u8>,
     /// What counted in it.
-    pub(crate) marks: Marks,
+    pub(crate) cost: Cost,
 }
 
-/// Worlds that lists of one length lead to, no two of them the same, and the stands on them.
+/// Worlds that lists of one length lead to, no two of them the same, and the configurations on them.
 #[derive(Drop)]
 pub(crate) struct Layer {
-    pub(crate) worlds: Vec<Live>,
-    pub(crate) stands: Vec<Stand>,
+    pub(crate) worlds: Vec<Visited>,
+    pub(crate) configurations: Vec<Configuration>,
 }

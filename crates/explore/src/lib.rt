@@ -12,11 +12,11 @@
 //!
 //! The search goes on with one of the worlds that have one key, layer by layer (`specs/Layers.antt`). It keeps the key
 //! and a list of turns that leads there (`layer.rt`). What a turn comes to depends on the nodes, the actor's part, and
-//! how full the book is (`world_counts.rt`); so the search remembers it by these (`memo.rt`, `specs/Deeds.antt`). It
-//! finds a turn that it doesn't know by a run from the beginning (`led.rt`), and on to the end: whoever lacked memory
-//! tells so there (`known_turns.rt`). Where it has several threads, they make the runs for a layer before it is gone on
-//! from (`learning.rt`, `runs.rt`). The stands of lists on the worlds make a graph, and the laws say that its words are
-//! the lists.
+//! how full the book is (`world_counts.rt`); so the search remembers it by these (`memo.rt`, `specs/Effects.antt`). It
+//! finds a turn that it doesn't know by a run from the beginning (`replayed.rt`), and on to the end: whoever lacked
+//! memory tells so there (`known_turns.rt`). Where it has several threads, they make the runs for a layer before it is
+//! gone on from (`prefetching.rt`, `runs.rt`). The configurations of lists on the worlds make a graph, and the laws say
+//! that its words are the lists.
 //!
 //! Where it is asked for, what an actor changes outside of its root (`specs/Outside.antt`) is a part of an outcome:
 //! worlds are taken for one then only where each actor has made as many such changes.
@@ -25,28 +25,28 @@
 mod begin;
 mod beginnings;
 mod components;
+mod cost;
+mod edges;
 mod ends;
 mod fingerprint;
 mod found;
-mod grips;
+mod handle_tables;
 mod jobs;
 mod keys;
-mod known;
 mod known_turns;
 mod laws;
 mod layer;
-mod learning;
-mod led;
 mod limits;
 mod local_laws;
-mod marks;
 mod memo;
-mod moves;
 mod nodes;
+mod out_of_memory;
 mod outside;
 mod parts;
 mod passing;
+mod prefetching;
 mod progress;
+mod replayed;
 mod report_laws;
 mod runs;
 mod same;
@@ -54,20 +54,20 @@ mod scene;
 mod search;
 mod table;
 mod tally;
-mod want;
-mod ways;
+mod transitions;
+mod visited_set;
 mod world_counts;
 
 pub use beginnings::Beginnings;
 pub use found::{Class, Ending, Findings};
 pub use jobs::{JOBS_MAX, Jobs};
 pub use laws::{
-    chosen_lists_stand_for_all, counts_conclude, jobs_limit_is_a_number, want_is_told,
+    chosen_lists_stand_for_all, counts_conclude, jobs_limit_is_a_number, out_of_memory_is_told,
     words_are_lists,
 };
 pub use limits::{Limits, Scope, SearchFault};
 pub use local_laws::{same_parts_go_alike, turns_are_local};
 pub use progress::{Progress, Silent};
-pub use report_laws::reports_without_want_are_one;
+pub use report_laws::reports_without_out_of_memory_are_one;
 pub use scene::Scene;
 pub use search::explore;

@@ -1,10 +1,8 @@
-//! What a search is bounded by, and why it tells nothing.
+//! What a search is bounded by.
 ghost use Rattle.std.specs.Prelude.{◌≡◌};
-ghost use Rattle.explore.specs.declared.limits.SearchFault.TheVariants as search_fault;
 ghost use Rattle.explore.specs.Explored.{bounds_at};
 
-use path_text::NoMemory;
-use thiserror::Error;
+pub use schedule_graph::SearchFault;
 
 /// Which lists are gone through, and what tells their outcomes apart.
 #[derive(Debug, Drop)]
@@ -47,35 +45,4 @@ pub struct Limits {
     pub turns: u32,
     /// Which lists.
     pub scope: Scope,
-}
-
-/// Why a search gives no findings.
-#[derive(Clone, Copy, Debug, PartialEq, Eq, Error)]
-pub enum SearchFault {
-    /// There are more than 64 actors.
-    #[error("more than 64 actors")]
-    TooManyActors,
-    /// A list has more turns than the limit.
-    #[error("too many turns")]
-    TooManyTurns,
-    /// There are more states than the limit: worlds, of those with the same parts after as many turns one.
-    #[error("too many states")]
-    TooManyStates,
-    /// The turn at that place of the beginning, counted from 0, is of an actor who has nothing left to do then.
-    #[error("turn {0} of the beginning is of an actor who has nothing left to do")]
-    NotBusy(usize),
-    /// With the turn at that place of the beginning, counted from 0, there are more cuts than are asked for.
-    #[error("turn {0} of the beginning is one cut too many")]
-    TooManyCuts(usize),
-    /// Room was refused.
-    #[error("out of memory")]
-    NoMemory,
-}
-
-impl From<NoMemory> for SearchFault {
-    ghost from_gives = { λ _ fault. fault ≡ search_fault.NoMemory };
-
-    fn from(_error: NoMemory) -> SearchFault {
-        SearchFault::NoMemory
-    }
 }

@@ -1,19 +1,19 @@
 //! What turns come to, remembered.
 ghost use Rattle.std.specs.Prelude.{◌≡◌, ◌⊎◌, [], ℕ, Some, slice_get, IfSome};
 ghost use Rattle.explore.specs.declared.memo.Entry.{Entry};
-ghost use Rattle.explore.specs.Deeds.{IsEntry};
+ghost use Rattle.explore.specs.Effects.{IsEntry};
 
 use crate::fingerprint::Fingerprint;
-use crate::keys::Deed;
+use crate::keys::Effect;
 use path_text::NoMemory;
 use std::alloc::Global;
 use std::collections::HashMap;
 use std::marker::Model;
 
 /// All that a turn depends on: the nodes, its actor, the actor's part, and how full the book is. By it a turn is looked
-/// up: what one turn came to, another with an equal ask comes to as well.
+/// up: what one turn came to, another with an equal key comes to as well.
 #[derive(Clone, Copy, Debug, PartialEq, Eq, Hash)]
-pub(crate) struct Ask {
+pub(crate) struct MemoKey {
     /// The place of the list of nodes.
     pub(crate) nodes: usize,
     /// Whose turn it is.
@@ -26,7 +26,7 @@ pub(crate) struct Ask {
     pub(crate) is_full: bool,
 }
 
-impl Ask {
+impl MemoKey {
     // A number by which it is looked up.
     fn print(&self) -> u64 {
         Fingerprint::new()
@@ -43,16 +43,16 @@ impl Ask {
 #[derive(Clone, Copy, Debug, PartialEq, Eq)]
 pub(crate) struct Entry {
     /// What it depends on.
-    pub(crate) ask: Ask,
+    pub(crate) memo_key: MemoKey,
     /// What it comes to.
-    pub(crate) deed: Deed,
+    pub(crate) effect: Effect,
 }
 
 /// The turns that are known. Contracts see them as the list of entries.
 #[derive(Drop)]
 pub(crate) struct Memo {
     entries: Vec<Entry>,
-    // Of each ask's number the place of an entry. What is found there is compared, so a wrong place costs time alone.
+    // Of each key's number the place of an entry. What is found there is compared, so a wrong place costs time alone.
     places: HashMap<u64, usize>,
 }
 
@@ -77,25 +77,25 @@ impl Memo {
     }
 
     /// What that turn comes to, if it is known.
-    pub(crate) fn deed(&self, ask: &Ask) -> Option<Deed>
-        ensures { IfSome result (λ deed. IsEntry self.now ask.now deed) }
+    pub(crate) fn effect(&self, memo_key: &MemoKey) -> Option<Effect>
+        ensures { IfSome result (λ effect. IsEntry self.now memo_key.now effect) }
     {
-        let at = self.places.get(&ask.print()).copied()?;
+        let at = self.places.get(&memo_key.print()).copied()?;
         let entry = self.entries.get(at)?;
-        if entry.ask == *ask {
-            return Some(entry.deed);
+        if entry.memo_key == *memo_key {
+            return Some(entry.effect);
         }
         None
     }
 
     /// Remembers it. NoMemory where its room was refused: what was known is known then.
-    pub(crate) fn put(&mut self, ask: Ask, deed: Deed) -> Result<(), NoMemory>
+    pub(crate) fn put(&mut self, memo_key: MemoKey, effect: Effect) -> Result<(), NoMemory>
         ensures { (at : ℕ) (entry : Entry) → slice_get self.new at ≡ Some entry
-            → (slice_get self.old at ≡ Some entry) ⊎ (entry ≡ record { ask = ask; deed = deed }) }
+            → (slice_get self.old at ≡ Some entry) ⊎ (entry ≡ record { memo_key = memo_key; effect = effect }) }
     {
         self.entries.reserve(1)?;
-        self.places.insert(ask.print(), self.entries.len())?;
-        self.entries.push_reserved(Entry { ask, deed });
+        self.places.insert(memo_key.print(), self.entries.len())?;
+        self.entries.push_reserved(Entry { memo_key, effect });
         Ok(())
     }
 }

@@ -1,7 +1,7 @@
 //! Lists of nodes, each once.
 ghost use Rattle.std.specs.Prelude.{◌≡◌, ◌↔◌, [], ℕ, length, Some, slice_get, IsTrue, IfOk, IfSome, IfNone};
 ghost use Rattle.explore.specs.Layers.{Keeps};
-ghost use Rattle.explore.specs.Met.{AreEachOnce};
+ghost use Rattle.explore.specs.Distinct.{AreEachOnce};
 
 use path_text::NoMemory;
 use std::alloc::Global;
@@ -19,7 +19,7 @@ impl Model for NodeLists {
     ghost use Rattle.std.specs.Prelude.{List, map};
     ghost use Rattle.std.specs.Global.{Vec};
     ghost use Rattle.tree_model.specs.declared.inode.Inode.{Inode};
-    ghost use Rattle.explore.specs.Met.{AreEachOnce};
+    ghost use Rattle.explore.specs.Distinct.{AreEachOnce};
 
     ghost Value = { List (List Inode) };
 

@@ -2,12 +2,12 @@
 ghost use Rattle.std.specs.Prelude.{◌≡◌, ◌↔◌, ◌<◌, [], ◌∷◌, ◌++◌, ℕ, length, IsTrue, IfOk, IfSome, IfNone, OnOk, OnErr};
 ghost use Rattle.race_core.specs.Book.{tree_now};
 ghost use Rattle.race_core.specs.Worlds.{WorldView, is_busy_at, is_within_at};
-ghost use Rattle.explore.specs.Grips.{HasGrip};
+ghost use Rattle.explore.specs.HandleTables.{HasHandleTable};
 ghost use Rattle.explore.specs.Keys.{AreApartParts, IsPartIn};
 ghost use Rattle.explore.specs.Layers.{Keeps};
 ghost use Rattle.explore.specs.Local.{AreNumbered, SamePartAt};
 
-use crate::grips::Grip;
+use crate::handle_tables::HandleTable;
 use path_text::NoMemory;
 use race_core::{CopyTree, World};
 use std::alloc::Global;
@@ -18,18 +18,18 @@ use tree_model::{OpenHandle, Tree};
 /// as a `PartView`.
 struct Part<T: Tree> {
     world: World<T>,
-    grip: Grip,
+    handle_table: HandleTable,
     // Whether the actor has something left to do, and a call under way.
     busy: bool,
     within: bool,
 }
 
 impl<T: Tree> Model for Part<T> {
-    ghost use Rattle.explore.specs.Grips.{PartView};
+    ghost use Rattle.explore.specs.HandleTables.{PartView};
 
     ghost Value = { PartView };
 
-    ghost view = { λ p. record { world = p.world; grip = p.grip; busy = p.busy; within = p.within } };
+    ghost view = { λ p. record { world = p.world; handle_table = p.handle_table; busy = p.busy; within = p.within } };
 }
 
 /// The parts of the actor of that number, no two of them the same, each known by its place. Contracts see them as a
@@ -41,7 +41,7 @@ pub(crate) struct Parts<T: Tree> {
 
 impl<T: Tree> Model for Parts<T> {
     ghost use Rattle.std.specs.Prelude.{map};
-    ghost use Rattle.explore.specs.Grips.{PartView, ArePartsOf};
+    ghost use Rattle.explore.specs.HandleTables.{PartView, ArePartsOf};
     ghost use Rattle.explore.specs.Keys.{PartsView};
 
     ghost Value = { PartsView };
@@ -53,12 +53,12 @@ impl<T: Tree> Model for Parts<T> {
 
 impl<T: Tree> Part<T> {
     // Whether the actor of that number, who holds that in the world, has this part there.
-    fn is_in(&self, world: &World<T>, grip: &Grip, actor: u32) -> bool
-        requires here { HasGrip world.now actor grip.now }
-        requires there { HasGrip self.now.world actor self.now.grip }
+    fn is_in(&self, world: &World<T>, handle_table: &HandleTable, actor: u32) -> bool
+        requires here { HasHandleTable world.now actor handle_table.now }
+        requires there { HasHandleTable self.now.world actor self.now.handle_table }
         ensures { IsTrue result ↔ SamePartAt world.now self.now.world actor }
     {
-        if !grip.is_like(&self.grip) {
+        if !handle_table.is_like(&self.handle_table) {
             return false;
         }
         world.is_like_at(&self.world, actor as usize)
@@ -111,14 +111,14 @@ impl<T: Tree> Parts<T> {
     }
 
     // The place of the part that the actor, who holds that, has in the world. Where there is none, no part is the same.
-    fn place_of(&self, world: &World<T>, grip: &Grip) -> Option<usize>
-        requires { HasGrip world.now self.now.actor grip.now }
+    fn place_of(&self, world: &World<T>, handle_table: &HandleTable) -> Option<usize>
+        requires { HasHandleTable world.now self.now.actor handle_table.now }
         ensures there { IfSome result (λ at. IsPartIn self.now world.now at) }
         ensures nowhere { IfNone result ((at : ℕ) → IsPartIn self.now world.now at → ⊥) }
     {
         for at in 0..self.parts.len() {
             let part = &self.parts[at];
-            if part.is_in(world, grip, self.actor) {
+            if part.is_in(world, handle_table, self.actor) {
                 return Some(at);
             }
         }
@@ -127,8 +127,8 @@ impl<T: Tree> Parts<T> {
 
     // Puts a new part, which the actor, who holds that, has in the world, after the others. The world comes back where
     // room was refused.
-    fn push(&mut self, world: World<T>, grip: Grip) -> Result<(), World<T>>
-        requires grip { HasGrip world self.old.actor grip }
+    fn push(&mut self, world: World<T>, handle_table: HandleTable) -> Result<(), World<T>>
+        requires handle_table { HasHandleTable world self.old.actor handle_table }
         requires new { (at : ℕ) → IsPartIn self.old world at → ⊥ }
         ensures actor { self.new.actor ≡ self.old.actor }
         ensures added { OnOk result (self.new.worlds ≡ self.old.worlds ++ world ∷ []) }
@@ -143,7 +143,7 @@ impl<T: Tree> Parts<T> {
         }
         self.parts.push_reserved(Part {
             world,
-            grip,
+            handle_table,
             busy,
             within,
         });
@@ -153,15 +153,20 @@ impl<T: Tree> Parts<T> {
 
 impl<T: CopyTree + Drop> Parts<T> {
     // Puts it there, of a copy of the world. NoMemory where room was refused.
-    fn add(&mut self, alloc: Global, world: &World<T>, grip: Grip) -> Result<(), NoMemory>
-        requires grip { HasGrip world.now self.old.actor grip }
+    fn add(
+        &mut self,
+        alloc: Global,
+        world: &World<T>,
+        handle_table: HandleTable,
+    ) -> Result<(), NoMemory>
+        requires handle_table { HasHandleTable world.now self.old.actor handle_table }
         requires new { (at : ℕ) → IsPartIn self.old world.now at → ⊥ }
         ensures actor { self.new.actor ≡ self.old.actor }
         ensures added { OnOk result (self.new.worlds ≡ self.old.worlds ++ world.now ∷ []) }
         ensures kept { OnErr result (self.new.worlds ≡ self.old.worlds) }
     {
         let copy = world.copy(alloc)?;
-        match self.push(copy, grip) {
+        match self.push(copy, handle_table) {
             Ok(()) => Ok(()),
             Err(copy) => {
                 copy.give_up(alloc);
@@ -185,18 +190,18 @@ impl<T: CopyTree + Drop> Parts<T> {
         ensures keeps { Keeps self.old.worlds self.new.worlds }
         ensures there { IfOk result (λ at. IsPartIn self.new world.now at) }
     {
-        let grip = Grip::of(alloc, world, opened, self.actor)?;
-        if let Some(at) = self.place_of(world, &grip) {
+        let handle_table = HandleTable::of(alloc, world, opened, self.actor)?;
+        if let Some(at) = self.place_of(world, &handle_table) {
             return Ok(at);
         }
         let at = self.len();
-        self.add(alloc, world, grip)?;
+        self.add(alloc, world, handle_table)?;
         Ok(at)
     }
 }
 
 impl<T: Tree + Drop> Parts<T> {
-    /// Gives up the worlds that stand for the parts.
+    /// Gives up the worlds that configuration for the parts.
     pub(crate) fn give_up(self, alloc: Global) {
         let Parts {
             actor: _,
@@ -205,7 +210,7 @@ impl<T: Tree + Drop> Parts<T> {
         while let Some(part) = parts.pop() {
             let Part {
                 world,
-                grip: _,
+                handle_table: _,
                 busy: _,
                 within: _,
             } = part;

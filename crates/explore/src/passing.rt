@@ -3,21 +3,21 @@ ghost use Rattle.std.specs.Prelude.{◌≡◌, ◌<◌, ◌≤◌, ◌+◌, ◌^
 ghost use Rattle.explore.specs.declared.limits.Limits.{Limits};
 ghost use Rattle.explore.specs.Alike.{after_turns};
 ghost use Rattle.explore.specs.Explored.{WhyNot, bounds_at};
-ghost use Rattle.explore.specs.Kept.{live_of};
+ghost use Rattle.explore.specs.Kept.{visited_of};
 ghost use Rattle.explore.specs.Layers.{Keeps};
 ghost use Rattle.explore.specs.Search.{IsOver};
 ghost use Rattle.explore.specs.States.{AreStatesAmong, IsCounted};
-ghost use Rattle.explore.specs.Went.{Course, IsCourse, CanGoOn, AreThere, IsTaken, AreTaken, IsToppedBy, IsNext, AreWent};
+ghost use Rattle.explore.specs.Expanded.{Expansion, IsExpansion, CanGoOn, AreThere, IsTaken, AreTaken, IsEndClassBy, IsNext, AreExpanded};
 
 use crate::beginnings::Beginnings;
 use crate::ends::{class_at, is_over};
 use crate::found::Class;
-use crate::known::{Known, count_states};
 use crate::known_turns::KnownTurns;
-use crate::layer::{Layer, Live, Stand};
-use crate::led::{ended, lead};
+use crate::layer::{Configuration, Layer, Visited};
 use crate::limits::SearchFault;
-use crate::moves::Move;
+use crate::replayed::{ended, replay, turns_of};
+use crate::transitions::Transition;
+use crate::visited_set::{VisitedSet, count_states};
 use path_text::NoMemory;
 use race_core::CopyTree;
 use std::alloc::Global;
@@ -27,54 +27,63 @@ use tree_model::Tree;
 #[derive(Drop)]
 pub(crate) struct Passed {
     /// The next layer's worlds.
-    pub(crate) known: Known,
+    pub(crate) known: VisitedSet,
     /// Of each world the class of what it comes to, where nobody had anything left to do.
-    pub(crate) tops: Vec<Option<usize>>,
-    /// Of each world the places, among the next layer's, of those after its moves.
+    pub(crate) end_classes: Vec<Option<usize>>,
+    /// Of each world the places, among the next layer's, of those after its transitions.
     pub(crate) places: Vec<Vec<usize>>,
     /// How many of the next layer's worlds have none before them with the same parts.
     pub(crate) states: u64,
 }
 
-// The place of the world after that move of the world. NoMemory where memory ran short.
+// The place of the world after that transition of the world. NoMemory where memory ran short.
 fn place_after<T: CopyTree + Drop, B: Beginnings<T>>(
     alloc: Global,
     beginnings: &B,
     turns: &mut KnownTurns<T>,
-    live: &Live,
-    stand: &Stand,
-    actor: u32,
-    known: &mut Known,
+    visited: &Visited,
+    configuration: &Configuration,
+    actor: u8,
+    known: &mut VisitedSet,
 ) -> Result<usize, NoMemory>
-    requires can { CanGoOn (B.opening beginnings.now) turns.old live.now }
+    requires can { CanGoOn (B.opening beginnings.now) turns.old visited.now }
     requires there { actor < length (B.opening beginnings.now).seats }
     ensures { IfOk result (λ at.
-        IsTaken (B.opening beginnings.now) live.now stand.now actor turns.old turns.new known.old known.new at) }
+        IsTaken (B.opening beginnings.now) visited.now configuration.now actor turns.old turns.new known.old known.new
+        at) }
 {
-    let key = turns.key_after(alloc, beginnings, live, actor)?;
-    known.put(alloc, key, stand.turns.as_slice(), actor)
+    let key = turns.key_after(alloc, beginnings, visited, actor as u32)?;
+    known.put(alloc, key, configuration.turns.as_slice(), actor)
 }
 
-// The places of the worlds after these moves of the world. NoMemory where memory ran short.
+// The places of the worlds after these transitions of the world. NoMemory where memory ran short.
 fn places_of<T: CopyTree + Drop, B: Beginnings<T>>(
     alloc: Global,
     beginnings: &B,
     turns: &mut KnownTurns<T>,
-    stands: &[Stand],
-    live: &Live,
-    moves: &[Move],
-    known: &mut Known,
+    configurations: &[Configuration],
+    visited: &Visited,
+    transitions: &[Transition],
+    known: &mut VisitedSet,
 ) -> Result<Vec<usize>, NoMemory>
-    requires can { CanGoOn (B.opening beginnings.now) turns.old live.now }
-    requires there { AreThere (B.opening beginnings.now) stands.now moves.now }
-    ensures { IfOk result (λ places. AreTaken (B.opening beginnings.now) stands.now live.now moves.now
+    requires can { CanGoOn (B.opening beginnings.now) turns.old visited.now }
+    requires there { AreThere (B.opening beginnings.now) configurations.now transitions.now }
+    ensures { IfOk result (λ places. AreTaken (B.opening beginnings.now) configurations.now visited.now transitions.now
         turns.old turns.new known.old known.new places.items) }
 {
-    let mut places = Vec::with_capacity(alloc, moves.len())?;
-    for at in 0..moves.len() {
-        let one = moves[at];
-        let stand = &stands[one.stand];
-        let place = place_after(alloc, beginnings, turns, live, stand, one.actor, known)?;
+    let mut places = Vec::with_capacity(alloc, transitions.len())?;
+    for at in 0..transitions.len() {
+        let one = transitions[at];
+        let configuration = &configurations[one.configuration];
+        let place = place_after(
+            alloc,
+            beginnings,
+            turns,
+            visited,
+            configuration,
+            one.actor,
+            known,
+        )?;
         places.push(place)?;
     }
     Ok(places)
@@ -85,78 +94,82 @@ fn class_of<T: Tree + Drop, B: Beginnings<T>>(
     alloc: Global,
     beginnings: &B,
     told: bool,
-    live: &Live,
+    visited: &Visited,
     classes: &mut Vec<Class<T>>,
 ) -> Result<usize, NoMemory>
-    requires short { length live.now.turns.items < 2 ^ 40 }
-    ensures { IfOk result (λ at. IsOver (after_turns (B.opening beginnings.now) live.now.turns.items)
-        → IsToppedBy classes.old.items classes.new.items (live_of (B.opening beginnings.now) told live.now) (Some at)) }
+    requires short { length visited.now.turns.items < 2 ^ 40 }
+    ensures { IfOk result (λ at. IsOver (after_turns (B.opening beginnings.now) visited.now.turns.items)
+        → IsEndClassBy classes.old.items classes.new.items (visited_of (B.opening beginnings.now) told visited.now)
+        (Some at)) }
 {
-    let turns = Vec::from_slice(alloc, live.turns.as_slice())?;
-    let Ok(led) = lead(alloc, beginnings, told, turns) else {
+    let turns = turns_of(alloc, visited.turns.as_slice())?;
+    let Ok(replayed) = replay(alloc, beginnings, told, turns) else {
         return Err(NoMemory);
     };
-    let ending = ended(alloc, led)?;
+    let ending = ended(alloc, replayed)?;
     class_at(alloc, classes, ending)
 }
 
 // The same, where nobody has anything left to do. NoMemory where memory ran short.
-fn top_of<T: Tree + Drop, B: Beginnings<T>>(
+fn end_class_of<T: Tree + Drop, B: Beginnings<T>>(
     alloc: Global,
     beginnings: &B,
     turns: &KnownTurns<T>,
-    live: &Live,
+    visited: &Visited,
     classes: &mut Vec<Class<T>>,
 ) -> Result<Option<usize>, NoMemory>
-    requires can { CanGoOn (B.opening beginnings.now) turns.now live.now }
-    ensures { IfOk result (λ top. IsToppedBy classes.old.items classes.new.items
-        (live_of (B.opening beginnings.now) turns.now.components.told live.now) top) }
+    requires can { CanGoOn (B.opening beginnings.now) turns.now visited.now }
+    ensures { IfOk result (λ end_class. IsEndClassBy classes.old.items classes.new.items
+        (visited_of (B.opening beginnings.now) turns.now.components.told visited.now) end_class) }
 {
-    if !is_over(turns.components(), &live.key) {
+    if !is_over(turns.components(), &visited.key) {
         return Ok(None);
     }
     let told = turns.components().told();
-    let class = class_of(alloc, beginnings, told, live, classes)?;
+    let class = class_of(alloc, beginnings, told, visited, classes)?;
     Ok(Some(class))
 }
 
-// The world is gone on from by these moves. NoMemory where memory ran short.
+// The world is gone on from by these transitions. NoMemory where memory ran short.
 fn take_in<T: CopyTree + Drop, B: Beginnings<T>>(
     alloc: Global,
     beginnings: &B,
     turns: &mut KnownTurns<T>,
-    stands: &[Stand],
-    live: &Live,
-    moves: &[Move],
+    configurations: &[Configuration],
+    visited: &Visited,
+    transitions: &[Transition],
     passed: &mut Passed,
     classes: &mut Vec<Class<T>>,
 ) -> Result<(), NoMemory>
-    requires can { CanGoOn (B.opening beginnings.now) turns.old live.now }
-    requires there { AreThere (B.opening beginnings.now) stands.now moves.now }
-    ensures went { OnOk result ((g : Course)
-        → AreWent g turns.old passed.old.known passed.old.tops.items passed.old.places.items classes.old.items
-        → IsNext g (B.opening beginnings.now) stands.now (length passed.old.tops.items) live.now moves.now
-        → AreWent g turns.new passed.new.known passed.new.tops.items passed.new.places.items classes.new.items) }
-    ensures more { OnOk result (length passed.new.tops.items ≡ suc (length passed.old.tops.items)) }
+    requires can { CanGoOn (B.opening beginnings.now) turns.old visited.now }
+    requires there { AreThere (B.opening beginnings.now) configurations.now transitions.now }
+    ensures expanded { OnOk result ((g : Expansion)
+        → AreExpanded g turns.old passed.old.known passed.old.end_classes.items passed.old.places.items
+        classes.old.items
+        → IsNext g (B.opening beginnings.now) configurations.now (length passed.old.end_classes.items) visited.now
+        transitions.now
+        → AreExpanded g turns.new passed.new.known passed.new.end_classes.items passed.new.places.items
+        classes.new.items) }
+    ensures more { OnOk result (length passed.new.end_classes.items ≡ suc (length passed.old.end_classes.items)) }
     ensures keeps { OnOk result (Keeps passed.old.known passed.new.known) }
     ensures states { OnOk result (passed.new.states ≡ passed.old.states) }
 {
-    let top = top_of(alloc, beginnings, turns, live, classes)?;
+    let end_class = end_class_of(alloc, beginnings, turns, visited, classes)?;
     let places = places_of(
         alloc,
         beginnings,
         turns,
-        stands,
-        live,
-        moves,
+        configurations,
+        visited,
+        transitions,
         &mut passed.known,
     )?;
     passed.places.push(places)?;
-    passed.tops.push(top)?;
+    passed.end_classes.push(end_class)?;
     Ok(())
 }
 
-/// Goes on from the worlds of the layer by these moves.
+/// Goes on from the worlds of the layer by these transitions.
 ///
 /// Errors: TooManyStates where the next layer would have more than so many; NoMemory where memory ran short.
 pub(crate) fn go_on<T: CopyTree + Drop, B: Beginnings<T>>(
@@ -164,46 +177,47 @@ pub(crate) fn go_on<T: CopyTree + Drop, B: Beginnings<T>>(
     beginnings: &B,
     room: u64,
     layer: &Layer,
-    moves: &[Vec<Move>],
+    transitions: &[Vec<Transition>],
     turns: &mut KnownTurns<T>,
     classes: &mut Vec<Class<T>>,
 ) -> Result<Passed, SearchFault>
-    requires course { (g : Course)
-        × IsCourse g (B.opening beginnings.now) turns.old layer.now moves.now classes.old.items }
-    ensures went { IfOk result (λ passed. (g : Course) → IsCourse g (B.opening beginnings.now) turns.old layer.now
-        moves.now classes.old.items
-        → AreWent g turns.new passed.known passed.tops.items passed.places.items classes.new.items
-        × (length passed.tops.items ≡ length layer.now.worlds.items)) }
+    requires expansion { (g : Expansion)
+        × IsExpansion g (B.opening beginnings.now) turns.old layer.now transitions.now classes.old.items }
+    ensures expanded { IfOk result (λ passed. (g : Expansion)
+        → IsExpansion g (B.opening beginnings.now) turns.old layer.now
+        transitions.now classes.old.items
+        → AreExpanded g turns.new passed.known passed.end_classes.items passed.places.items classes.new.items
+        × (length passed.end_classes.items ≡ length layer.now.worlds.items)) }
     ensures room { IfOk result (λ passed. passed.states ≤ room) }
     ensures states { IfOk result (λ passed. AreStatesAmong passed.known (length passed.known) passed.states) }
-    ensures err { (limits : Limits) (g : Course) (states : ℕ) → IsCourse g (B.opening beginnings.now) turns.old
-        layer.now moves.now classes.old.items → g.bounds ≡ bounds_at limits.scope g.n
+    ensures err { (limits : Limits) (g : Expansion) (states : ℕ) → IsExpansion g (B.opening beginnings.now) turns.old
+        layer.now transitions.now classes.old.items → g.bounds ≡ bounds_at limits.scope g.n
         → IsCounted turns.old.components (B.opening beginnings.now) limits.scope g.n states layer.now
         → states + room ≡ limits.states → IfErr result (WhyNot (B.opening beginnings.now) limits) }
 {
     let mut passed = Passed {
-        known: Known::new(alloc),
-        tops: Vec::new(alloc),
+        known: VisitedSet::new(alloc),
+        end_classes: Vec::new(alloc),
         places: Vec::new(alloc),
         states: 0,
     };
-    let stands = layer.stands.as_slice();
+    let configurations = layer.configurations.as_slice();
     for at in 0..layer.worlds.len() {
-        let (live, those) = (&layer.worlds[at], moves[at].as_slice());
+        let (visited, those) = (&layer.worlds[at], transitions[at].as_slice());
         let had = passed.known.worlds().len();
         take_in(
             alloc,
             beginnings,
             turns,
-            stands,
-            live,
+            configurations,
+            visited,
             those,
             &mut passed,
             classes,
         )?;
         passed.states += count_states(passed.known.worlds(), had);
         if passed.states > room {
-            turns.are_met();
+            turns.are_interned();
             return Err(SearchFault::TooManyStates);
         }
     }

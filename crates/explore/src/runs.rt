@@ -1,13 +1,13 @@
 //! Runs from the beginning, made in several threads: each to the turn that isn't known, and from it to the end.
 ghost use Rattle.std.specs.Prelude.{◌≡◌, length, IsTrue};
 ghost use Rattle.explore.specs.Runs.{AreAimed, AreDone, HasGone, HaveGone, HasEnded, HaveEnded, IsAimed};
-ghost use Rattle.explore.specs.Want.{EndsWell};
+ghost use Rattle.explore.specs.OutOfMemory.{EndsWell};
 
+use crate::cost::Cost;
 use crate::jobs::Jobs;
-use crate::layer::Live;
-use crate::led::{take_turns, told};
-use crate::marks::Marks;
+use crate::layer::Visited;
 use crate::outside::Tally;
+use crate::replayed::{take_turns, told, turns_of};
 use race_core::World;
 use std::alloc::Global;
 use std::marker::{Model, Send, Sync};
@@ -18,7 +18,7 @@ use tree_model::Tree;
 pub(crate) struct Run<T: Tree> {
     /// The world, until it has gone to its end.
     pub(crate) world: Option<World<T>>,
-    pub(crate) marks: Marks,
+    pub(crate) cost: Cost,
     pub(crate) tally: Tally,
     /// The place of the layer's world.
     pub(crate) at: usize,
@@ -34,7 +34,7 @@ impl<T: Tree> Model for Run<T> {
 
     ghost view = { λ r. record {
       world = r.world;
-      marks = r.marks;
+      cost = r.cost;
       tally = r.tally;
       at = r.at;
       actor = r.actor;
@@ -43,13 +43,17 @@ impl<T: Tree> Model for Run<T> {
 }
 
 // Has the world go through the turns that lead to the layer's.
-fn go<T: Tree + Drop>(alloc: Global, worlds: &[Live], run: &mut Run<T>)
+fn go<T: Tree + Drop>(alloc: Global, worlds: &[Visited], run: &mut Run<T>)
     requires { IsAimed worlds.now run.old }
     ensures { HasGone worlds.now run.old run.new }
 {
-    let turns = worlds[run.at].turns.as_slice();
+    let Ok(turns) = turns_of(alloc, worlds[run.at].turns.as_slice()) else {
+        run.is_well = false;
+        return;
+    };
+    let turns = turns.as_slice();
     run.is_well = match &mut run.world {
-        Some(world) => take_turns(alloc, world, &mut run.marks, &mut run.tally, turns).is_ok(),
+        Some(world) => take_turns(alloc, world, &mut run.cost, &mut run.tally, turns).is_ok(),
         None => false,
     };
 }
@@ -59,7 +63,7 @@ pub(crate) fn go_all<T: Tree + Drop + Send, R: Threads + Sync>(
     alloc: Global,
     threads: &R,
     jobs: Jobs,
-    worlds: &[Live],
+    worlds: &[Visited],
     runs: &mut [Run<T>],
 )
     requires { AreAimed worlds.now runs.old }
@@ -134,7 +138,7 @@ impl<T: Tree + Drop> Run<T> {
     fn give_up(self, alloc: Global) {
         let Run {
             world,
-            marks: _,
+            cost: _,
             tally: _,
             at: _,
             actor: _,

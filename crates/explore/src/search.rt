@@ -2,14 +2,14 @@
 ghost use Rattle.std.specs.Prelude.{◌≡◌, ◌<◌, ◌≤◌, ◌+◌, ◌^◌, ◌++◌, ◌∷◌, [], ℕ, List, Option, Some, length, slice_get, IsTrue, IfOk, IfErr, OnOk};
 ghost use Rattle.std.specs.Global.{Vec};
 ghost use Rattle.race_core.specs.declared.opening.TheConstants.{ACTORS_MAX};
-ghost use Rattle.schedule_graph.specs.declared.graph.Spot.{Spot};
-ghost use Rattle.schedule_graph.specs.declared.graph.Way.{Way};
-ghost use Rattle.explore.specs.declared.layer.Stand.{Stand};
-ghost use Rattle.explore.specs.declared.layer.Live.{Live};
+ghost use Rattle.schedule_graph.specs.declared.graph.Node.{Node};
+ghost use Rattle.schedule_graph.specs.declared.graph.Edge.{Edge};
+ghost use Rattle.explore.specs.declared.layer.Configuration.{Configuration};
+ghost use Rattle.explore.specs.declared.layer.Visited.{Visited};
 ghost use Rattle.explore.specs.declared.limits.Limits.{Limits};
 ghost use Rattle.explore.specs.declared.limits.Scope.{Scope};
 ghost use Rattle.explore.specs.Alike.{after_turns};
-ghost use Rattle.explore.specs.Deeds.{IsSound};
+ghost use Rattle.explore.specs.Effects.{IsSound};
 ghost use Rattle.explore.specs.Keys.{IsKey, AreFew};
 ghost use Rattle.explore.specs.Kept.{AreKept, IsFirstOf, layer_of};
 ghost use Rattle.explore.specs.Local.{AreNumbered};
@@ -17,26 +17,26 @@ ghost use Rattle.explore.specs.Explored.{AreBusy, AreStates, WhyNot, bounds_at};
 ghost use Rattle.explore.specs.Promise.{IsMerged};
 ghost use Rattle.explore.specs.Concluded.{IsToldBy, HasShort, AsksIn, AreShort, AskIn, AreToldIn};
 ghost use Rattle.explore.specs.Layers.{LayerView, AreOn, IsPassed, HasSearched};
-ghost use Rattle.explore.specs.Spreading.{AreApartChoices, AreFit, AreWaysOfAll, AreSpotsBy};
+ghost use Rattle.explore.specs.Spreading.{AreApartChoices, AreFit, AreEdgesOfAll, AreGraphNodesBy};
 ghost use Rattle.explore.specs.States.{IsCounted};
-ghost use Rattle.explore.specs.Want.{EndsWell};
+ghost use Rattle.explore.specs.OutOfMemory.{EndsWell};
 
 use crate::begin::can_begin;
 use crate::beginnings::Beginnings;
-use crate::ends::spots_of;
+use crate::cost::no_cost;
+use crate::edges::{all_edges, all_go_on};
+use crate::ends::graph_nodes_of;
 use crate::found::{Class, Findings};
 use crate::jobs::Jobs;
 use crate::keys::Key;
 use crate::known_turns::KnownTurns;
-use crate::layer::{Layer, Live, Stand};
-use crate::learning::learn;
-use crate::led::{ended, lead};
+use crate::layer::{Configuration, Layer, Visited};
 use crate::limits::{Bounds, Limits, Scope, SearchFault};
-use crate::marks::no_marks;
-use crate::moves::{Choice, listed};
 use crate::passing::{Passed, go_on};
+use crate::prefetching::prefetch;
 use crate::progress::Progress;
-use crate::ways::{all_go_on, all_ways};
+use crate::replayed::{ended, replay, turns_of};
+use crate::transitions::{Choice, listed};
 use path_text::NoMemory;
 use race_core::{ACTORS_MAX, CopyTree, World};
 use schedule_graph::{Count, Graph};
@@ -47,19 +47,19 @@ use tree_model::Tree;
 
 // Whether the world of a layer that came first goes to its end with memory for it.
 fn ends_well<T: Tree + Drop, B: Beginnings<T>>(alloc: Global, beginnings: &B, layer: &Layer) -> bool
-    requires { (m : ℕ) (live : Live) → slice_get layer.now.worlds.items m ≡ Some live
-        → length live.turns.items < 2 ^ 40 }
-    ensures { IsTrue result → (m : ℕ) × ((live : Live) × ((slice_get layer.now.worlds.items m ≡ Some live)
-        × EndsWell (after_turns (B.opening beginnings.now) live.turns.items))) }
+    requires { (m : ℕ) (visited : Visited) → slice_get layer.now.worlds.items m ≡ Some visited
+        → length visited.turns.items < 2 ^ 40 }
+    ensures { IsTrue result → (m : ℕ) × ((visited : Visited) × ((slice_get layer.now.worlds.items m ≡ Some visited)
+        × EndsWell (after_turns (B.opening beginnings.now) visited.turns.items))) }
 {
-    let Some(live) = layer.worlds.get(0) else {
+    let Some(visited) = layer.worlds.get(0) else {
         return false;
     };
-    let Ok(turns) = Vec::from_slice(alloc, live.turns.as_slice()) else {
+    let Ok(turns) = turns_of(alloc, visited.turns.as_slice()) else {
         return false;
     };
-    match lead(alloc, beginnings, false, turns) {
-        Ok(led) => ended(alloc, led).is_ok(),
+    match replay(alloc, beginnings, false, turns) {
+        Ok(replayed) => ended(alloc, replayed).is_ok(),
         Err(_) => false,
     }
 }
@@ -120,50 +120,55 @@ fn begun<T: CopyTree + Drop, B: Beginnings<T>>(
 fn first(alloc: Global, key: Key) -> Result<Layer, NoMemory>
     ensures { IfOk result (IsFirstOf key) }
 {
-    let stand = Stand {
+    let configuration = Configuration {
         world: 0,
         turns: Vec::new(alloc),
-        marks: no_marks(),
+        cost: no_cost(),
     };
-    let mut stands = Vec::new(alloc);
-    stands.push(stand)?;
-    let live = Live {
+    let mut configurations = Vec::new(alloc);
+    configurations.push(configuration)?;
+    let visited = Visited {
         key,
         turns: Vec::new(alloc),
         is_state: true,
     };
     let mut worlds = Vec::new(alloc);
-    worlds.push(live)?;
-    Ok(Layer { worlds, stands })
+    worlds.push(visited)?;
+    Ok(Layer {
+        worlds,
+        configurations,
+    })
 }
 
-// The next layer's stands. The spots of this layer's stands are added to the graph: an end where the stand's world has
-// a class, and else the ways of its choices. NoMemory where room was refused.
+// The next layer's configurations. The graph nodes of this layer's configurations are added to the graph: an end where
+// the configuration's world has a class, and else the edges of its choices. NoMemory where room was refused.
 fn spread(
     alloc: Global,
     bounds: Bounds,
-    stands: &[Stand],
+    configurations: &[Configuration],
     choices: &[Vec<Choice>],
     places: &[Vec<usize>],
-    tops: &[Option<usize>],
+    end_classes: &[Option<usize>],
     graph: &mut Graph,
-) -> Result<Vec<Stand>, NoMemory>
-    requires many { length choices.now ≡ length stands.now }
-    requires fit { AreFit stands.now choices.now places.now }
+) -> Result<Vec<Configuration>, NoMemory>
+    requires many { length choices.now ≡ length configurations.now }
+    requires fit { AreFit configurations.now choices.now places.now }
     requires apart { AreApartChoices choices.now }
-    requires on { (s : ℕ) (stand : Stand) → slice_get stands.now s ≡ Some stand → stand.world < length tops.now }
-    ensures { IfOk result (λ next. (all : List (Vec Way)) × ((spots : Vec Spot) × ((graph.new ≡ graph.old ++ spots ∷ [])
-        × (AreWaysOfAll bounds stands.now choices.now places.now next.items all
-        × AreSpotsBy stands.now tops.now all spots.items)))) }
+    requires on { (s : ℕ) (configuration : Configuration) → slice_get configurations.now s ≡ Some configuration
+        → configuration.world < length end_classes.now }
+    ensures { IfOk result (λ next. (all : List (Vec Edge))
+        × ((graph_nodes : Vec Node) × ((graph.new ≡ graph.old ++ graph_nodes ∷ [])
+        × (AreEdgesOfAll bounds configurations.now choices.now places.now next.items all
+        × AreGraphNodesBy configurations.now end_classes.now all graph_nodes.items)))) }
 {
-    let (ways, next) = all_ways(alloc, bounds, stands, choices, places)?;
-    let spots = spots_of(alloc, stands, tops, ways)?;
-    graph.push_layer(spots)?;
+    let (edges, next) = all_edges(alloc, bounds, configurations, choices, places)?;
+    let graph_nodes = graph_nodes_of(alloc, configurations, end_classes, edges)?;
+    graph.push_layer(graph_nodes)?;
     Ok(next)
 }
 
-// Goes from one layer on to the next: it is told what its worlds come to, and the spots of its stands are added to the
-// graph. The next layer, and how many states it has.
+// Goes from one layer on to the next: it is told what its worlds come to, and the graph nodes of its configurations are
+// added to the graph. The next layer, and how many states it has.
 //
 // Errors: TooManyStates where it would have more than so many; NoMemory where room was refused, and where the actor
 // who alone may have the turn can't have it: memory ran short on the way then.
@@ -184,12 +189,12 @@ fn pass<T: CopyTree + Drop + Send, B: Beginnings<T>, R: Threads + Sync>(
     requires kept { AreKept turns.old (B.opening beginnings.now) (length graph.old) layer.now }
     ensures told { OnOk result (turns.new.components.told ≡ turns.old.components.told) }
     ensures kept { IfOk result (λ next. AreKept turns.new (B.opening beginnings.now) (length graph.old + 1) next.0) }
-    ensures passed { IfOk result (λ next. (spots : Vec Spot)
-        × ((graph.new ≡ graph.old ++ spots ∷ [])
+    ensures passed { IfOk result (λ next. (graph_nodes : Vec Node)
+        × ((graph.new ≡ graph.old ++ graph_nodes ∷ [])
         × IsPassed bounds (length graph.old)
         (layer_of (B.opening beginnings.now) turns.old.components.told layer.now)
         (layer_of (B.opening beginnings.now) turns.old.components.told next.0)
-        spots.items classes.old.items classes.new.items)) }
+        graph_nodes.items classes.old.items classes.new.items)) }
     ensures room { IfOk result (λ next. next.1 ≤ room) }
     ensures counted { IfOk result (λ next. (scope : Scope) (states : ℕ) → bounds ≡ bounds_at scope (length graph.old)
         → IsCounted turns.old.components (B.opening beginnings.now) scope (length graph.old) states layer.now
@@ -199,25 +204,35 @@ fn pass<T: CopyTree + Drop + Send, B: Beginnings<T>, R: Threads + Sync>(
         → IsCounted turns.old.components (B.opening beginnings.now) limits.scope (length graph.old) states layer.now
         → states + room ≡ limits.states → IfErr result (WhyNot (B.opening beginnings.now) limits) }
 {
-    let (moves, choices) = listed(alloc, bounds, turns.components(), layer)?;
-    let (worlds, moves) = (layer.worlds.as_slice(), moves.as_slice());
-    learn(alloc, threads, jobs, beginnings, worlds, moves, turns)?;
-    let passed = go_on(alloc, beginnings, room, layer, moves, turns, classes)?;
-    turns.are_met();
+    let (transitions, choices) = listed(alloc, bounds, turns.components(), layer)?;
+    let (worlds, transitions) = (layer.worlds.as_slice(), transitions.as_slice());
+    prefetch(alloc, threads, jobs, beginnings, worlds, transitions, turns)?;
+    let passed = go_on(alloc, beginnings, room, layer, transitions, turns, classes)?;
+    turns.are_interned();
     let Passed {
         known,
-        tops,
+        end_classes,
         places,
         states,
     } = passed;
     let worlds = known.into_worlds();
-    let (choices, places, tops) = (choices.as_slice(), places.as_slice(), tops.as_slice());
-    let those = layer.stands.as_slice();
-    if !all_go_on(bounds.only, those, choices, tops) {
+    let (choices, places, end_classes) = (
+        choices.as_slice(),
+        places.as_slice(),
+        end_classes.as_slice(),
+    );
+    let those = layer.configurations.as_slice();
+    if !all_go_on(bounds.only, those, choices, end_classes) {
         return Err(SearchFault::NoMemory);
     }
-    let stands = spread(alloc, bounds, those, choices, places, tops, graph)?;
-    Ok((Layer { worlds, stands }, states))
+    let configurations = spread(alloc, bounds, those, choices, places, end_classes, graph)?;
+    Ok((
+        Layer {
+            worlds,
+            configurations,
+        },
+        states,
+    ))
 }
 
 // Goes from layer to layer until nobody may have a turn; how many states there were.
@@ -246,7 +261,7 @@ fn layers<T: CopyTree + Drop + Send, B: Beginnings<T>, P: Progress, R: Threads +
     requires classes { classes.old.items ≡ [] }
     requires states { 1 ≤ limits.now.states }
     ensures searched { OnOk result ((last : LayerView)
-        × ((last.stands ≡ [])
+        × ((last.configurations ≡ [])
         × HasSearched (B.opening beginnings.now) limits.now.scope last graph.new classes.new.items)) }
     ensures states { IfOk result (λ states. states ≤ limits.now.states) }
     ensures counted { IfOk result (λ states. AreStates (B.opening beginnings.now) limits.now.scope states) }
@@ -255,7 +270,7 @@ fn layers<T: CopyTree + Drop + Send, B: Beginnings<T>, P: Progress, R: Threads +
 {
     let mut states = 1;
     let mut layer = first(alloc, key)?;
-    'layers: while !layer.stands.is_empty() && graph.depth() <= limits.turns as usize {
+    'layers: while !layer.configurations.is_empty() && graph.depth() <= limits.turns as usize {
         let room = limits.states - states;
         let bounds = limits.scope.bounds(graph.depth());
         let (next, more) = pass(
@@ -265,7 +280,7 @@ fn layers<T: CopyTree + Drop + Send, B: Beginnings<T>, P: Progress, R: Threads +
         states += more;
         progress.passed(states);
     }
-    if layer.stands.is_empty() {
+    if layer.configurations.is_empty() {
         return Ok(states);
     }
     // The lists of the layer are too long, if there was memory on the way.
@@ -293,7 +308,7 @@ fn search<T: CopyTree + Drop + Send, B: Beginnings<T>, P: Progress, R: Threads +
     requires graph { graph.old ≡ [] }
     requires classes { classes.old.items ≡ [] }
     ensures searched { OnOk result ((last : LayerView)
-        × ((last.stands ≡ [])
+        × ((last.configurations ≡ [])
         × HasSearched (B.opening beginnings.now) limits.now.scope last graph.new classes.new.items)) }
     ensures states { IfOk result (λ states. states ≤ limits.now.states) }
     ensures counted { IfOk result (λ states. AreStates (B.opening beginnings.now) limits.now.scope states) }
@@ -328,10 +343,10 @@ fn told_class<T: Tree + Drop, B: Beginnings<T>>(
     };
     let mut turns = Vec::new(alloc);
     turns.extend_from_slice(least.word.as_slice())?;
-    let Ok(led) = lead(alloc, beginnings, scope.outside, turns) else {
+    let Ok(replayed) = replay(alloc, beginnings, scope.outside, turns) else {
         return Err(NoMemory);
     };
-    let ending = ended(alloc, led)?;
+    let ending = ended(alloc, replayed)?;
     let nodes = ending.snapshot(alloc)?;
     Ok(Class {
         least: ending,

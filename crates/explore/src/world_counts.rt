@@ -4,7 +4,7 @@
 ghost use Rattle.std.specs.Prelude.{◌≡◌, ◌<◌, ◌^◌, ℕ, is_some, count_by, length, Some, slice_get, IfOk, IsTrue};
 ghost use Rattle.race_core.specs.Book.{tree_now};
 ghost use Rattle.explore.specs.Counting.{IsTally};
-ghost use Rattle.explore.specs.Deeds.{AreCountsIn};
+ghost use Rattle.explore.specs.Effects.{AreCountsIn};
 ghost use Rattle.explore.specs.Local.{AreAllGiven};
 
 use crate::outside::Tally;

@@ -11,7 +11,8 @@ use Rattle.outcome_text.specs.declared.property.Property.{Property}
 use Rattle.outcome_text.specs.declared.survey.Told.{Told}
 use Rattle.outcome_text.specs.Property.{rule_word}
 use Rattle.explore_command.specs.declared.search.Asked.{Asked}
-use Rattle.explore_command.specs.Json.{text_words, comma_words, numbers_words, lists_words}
+use Rattle.json_text.specs.Json.{text_words, comma_words}
+use Rattle.explore_command.specs.Lists.{numbers_words, lists_words}
 use Rattle.explore_command.specs.PartText.{cuts_words, flag_words, subject_words, scope_words, wanted_words, question_words, count_words, texts_words, told_words, outcomes_words, turns_words, found_words, part_words}
 use Rattle.explore_command.specs.Seal.{with_sum}
 

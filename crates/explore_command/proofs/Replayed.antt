@@ -1,7 +1,7 @@
 -- A full list of turns without its longest tail that rises: a run of it goes on by that tail.
 use Rattle.std.specs.Prelude.{◌≡◌, ◌≢◌, ◌<◌, ◌≤◌, ◌==◌, ◌&&◌, ℕ, ◌+◌, zero, suc, List, [], ◌∷◌, ◌++◌, Bool, true, false, length, Option, Some, None, slice_get, nat_lt, nat_le, if◌then◌else◌, refl}
 use Rattle.std.proofs.Common.{sym, ap, ◌∙◌, subst, arith, eqb-true, eq-eqb}
-use Rattle.std.proofs.lemmas.Bool.{false≢true, leb-true, le-leb}
+use Rattle.std.proofs.lemmas.Bool.{false≢true, leb-true, le-leb, and_parts, and_from}
 use Rattle.tree_model.proofs.StepLaws.{slice_get-set_other}
 use Rattle.race_core.specs.declared.seat.Seat.{Seat}
 use Rattle.race_core.specs.Turns.{turned}
@@ -13,21 +13,9 @@ use Rattle.explore.proofs.Lists.Told.{actors_stay}
 use Rattle.outcome_text.specs.Schedule.{rises, without_tail}
 use Rattle.explore_command.specs.Replayed.{WrittenSchedulesLeadThere}
 
-both_left : (a b : Bool) → (a && b) ≡ true → a ≡ true
-both_left true b e = refl
-both_left false b e = e
-
-both_right : (a b : Bool) → (a && b) ≡ true → b ≡ true
-both_right true b e = e
-both_right false b e = absurd (false≢true e)
-
-both_true : (a b : Bool) → a ≡ true → b ≡ true → (a && b) ≡ true
-both_true true b p q = q
-both_true false b p q = absurd (false≢true p)
-
 -- ---- who has something left to do is an actor, and another's turn leaves that
 
-busy_within : (seats : List Seat) (i : ℕ) → is_busy_at seats i ≡ true → i < length seats
+pub busy_within : (seats : List Seat) (i : ℕ) → is_busy_at seats i ≡ true → i < length seats
 busy_within [] i busy = absurd (false≢true busy)
 busy_within (seat ∷ seats) zero busy = omega arith
 busy_within (seat ∷ seats) (suc i) busy = let rest = busy_within seats i busy in omega (arith, rest)
@@ -54,9 +42,9 @@ before_first : (a i : ℕ) (w : WorldView) (is : List ℕ) → a < i → rises (
     → is_busy_at w.seats a ≡ false
 before_first a i w [] less e whole = sym (others_stay w i a (λ q. absurd (omega (arith, less, q)))) ∙ whole.1 a
 before_first a i w (j ∷ is) less e whole =
-    let next : i ≤ j = leb-true i j (both_left (nat_le i j) (rises (j ∷ is)) e) in
+    let next : i ≤ j = leb-true i j (and_parts (nat_le i j) (rises (j ∷ is)) e).0 in
     sym (others_stay w i a (λ q. absurd (omega (arith, less, q))))
-    ∙ before_first a j (turn full w i) is (omega (arith, less, next)) (both_right (nat_le i j) (rises (j ∷ is)) e) whole.1
+    ∙ before_first a j (turn full w i) is (omega (arith, less, next)) (and_parts (nat_le i j) (rises (j ∷ is)) e).1 whole.1
 
 -- so many numbers from one on
 abbrev from : ℕ → ℕ → List ℕ
@@ -92,7 +80,7 @@ nobody_left : (a : ℕ) → GoesOn a zero
 nobody_left a w [] whole e few = refl
 nobody_left a w (i ∷ is) whole e few =
     let actor = busy_within w.seats i whole.0 in
-    let late : a ≤ i = leb-true a i (both_left (nat_le a i) (rises (i ∷ is)) e) in
+    let late : a ≤ i = leb-true a i (and_parts (nat_le a i) (rises (i ∷ is)) e).0 in
     absurd (omega (arith, actor, late, few))
 
 one_after_another : (a k : ℕ) → GoesOn (suc a) k → GoesOn a (suc k)
@@ -101,10 +89,10 @@ one_after_another a k others w (i ∷ is) whole e few =
     by (λ u more rising enough. one_after_another a k others u is more rising enough) (i == a) refl
   where
     late : a ≤ i
-    late = leb-true a i (both_left (nat_le a i) (rises (i ∷ is)) e)
+    late = leb-true a i (and_parts (nat_le a i) (rises (i ∷ is)) e).0
 
     onward : rises (i ∷ is) ≡ true
-    onward = both_right (nat_le a i) (rises (i ∷ is)) e
+    onward = (and_parts (nat_le a i) (rises (i ∷ is)) e).1
 
     by : ((u : WorldView) → IsFull u is → rises (a ∷ is) ≡ true → length u.seats ≤ a + suc k → AllGoToEnd u (from a (suc k)) (after_turns u is))
         → (b : Bool) → (i == a) ≡ b → AllGoToEnd w (from a (suc k)) (after_turns (turn full w i) is)
@@ -119,7 +107,7 @@ one_after_another a k others w (i ∷ is) whole e few =
         let ne : i ≢ a = λ q. false≢true (sym apart ∙ eq-eqb i a q) in
         let less : a < i = omega (arith, late, ne) in
         no_turn w (after_turns w (i ∷ is)) a k (before_first a i w is less onward whole)
-        (others w (i ∷ is) whole (both_true (nat_le (suc a) i) (rises (i ∷ is)) (le-leb (suc a) i less) onward) (omega (arith, few)))
+        (others w (i ∷ is) whole (and_from (nat_le (suc a) i) (rises (i ∷ is)) (le-leb (suc a) i less) onward) (omega (arith, few)))
 
 all_go_on : (k a : ℕ) → GoesOn a k
 all_go_on zero a = nobody_left a
@@ -132,7 +120,7 @@ rising_ends w is whole e =
   where
     begins : (js : List ℕ) → rises js ≡ true → rises (0 ∷ js) ≡ true
     begins [] p = refl
-    begins (j ∷ js) p = both_true (nat_le 0 j) (rises (j ∷ js)) (le-leb 0 j (omega arith)) p
+    begins (j ∷ js) p = and_from (nat_le 0 j) (rises (j ∷ js)) (le-leb 0 j (omega arith)) p
 
 -- ---- the tail of any full list
 

@@ -2,7 +2,7 @@ pub mod Classes
 pub mod Explore
 pub mod ExplorePart
 pub mod Gauge
-pub mod Json
+pub mod Lists
 pub mod Merging
 pub mod Options
 pub mod Part

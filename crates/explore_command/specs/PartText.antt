@@ -5,7 +5,8 @@ use Rattle.outcome_text.specs.declared.part.Part.{Part}
 use Rattle.outcome_text.specs.declared.property.Property.{Property}
 use Rattle.outcome_text.specs.declared.survey.Told.{Told}
 use Rattle.explore_command.specs.declared.search.Asked.{Asked}
-use Rattle.explore_command.specs.Json.{text_words, comma_words, numbers_words, lists_words}
+use Rattle.json_text.specs.Json.{text_words, comma_words}
+use Rattle.explore_command.specs.Lists.{numbers_words, lists_words}
 use Rattle.explore_command.specs.Seal.{sealed}
 use Rattle.outcome_text.specs.Property.{rule_word}
 

@@ -1,21 +1,21 @@
 -- The text of what a search of all schedules finds.
 use Rattle.std.specs.Prelude.{⊤, ◌≡◌, ◌≤◌, ℕ, Bool, List, length, find, nat_le, Option, Some, None}
-use Rattle.explore.specs.declared.limits.SearchFault.{SearchFault}
-use Rattle.explore.specs.declared.limits.SearchFault.TheVariants as search
 use Rattle.explore.specs.Promise.{IsMerged}
 use Rattle.explore.specs.Explored.{ClassView, AreStates, WhyNot}
 use Rattle.explore.specs.Opened.{opened_world}
 use Rattle.race_core.specs.declared.plan.ActorPlan.{ActorPlan}
 use Rattle.tree_model.specs.State.{State}
 use Rattle.explore_command.specs.declared.search.Asked.{Asked}
-use Rattle.explore_command.specs.declared.search.SurveyFault.{SurveyFault}
-use Rattle.explore_command.specs.declared.search.SurveyFault.TheVariants.{NoSuchActor, NoSuchLine, TooManyStates, TooManyTurns, NotBusy, TooManyCuts, TooMuchMemory, NoGauge, NoMemory}
+use Rattle.outcome_text.specs.declared.fault.ExploreFault.{ExploreFault}
+use Rattle.outcome_text.specs.declared.fault.ExploreFault.TheVariants.{Run, NoSuchActor, NoSuchLine, Search, TooMuchMemory, NoGauge}
 use Rattle.outcome_text.specs.declared.survey.Told.{Told}
 use Rattle.outcome_text.specs.Order.{in_order}
 use Rattle.outcome_text.specs.declared.ranked.Survey.{Survey}
 use Rattle.outcome_text.specs.Conditions.{counted, told_text, told_holds}
 use Rattle.explore_command.specs.Classes.{AreTold}
 use Rattle.outcome_text.specs.Tellable.{first_untold}
+use Rattle.schedule_graph.specs.declared.fault.SearchFault.TheVariants as search
+use Rattle.scripts.specs.declared.fault.RunFault.TheVariants.{NoMemory}
 
 -- the first of those that are named who isn't there
 abbrev pub first_foreign : Asked → List ActorPlan → Option ℕ
@@ -60,32 +60,18 @@ abbrev pub IsSurveyWith : Asked → State → List ActorPlan → ℕ → Survey 
 IsSurveyWith asked tree plans lines survey =
     (is : IsSurvey asked tree plans lines survey.holds survey.text) × (survey.outcomes.items ≡ outcomes_of is)
 
--- how it is told that a search finds nothing
-abbrev pub unfound_by : SearchFault → SurveyFault
-unfound_by search.TooManyActors = NoMemory
-unfound_by search.TooManyTurns = TooManyTurns
-unfound_by search.TooManyStates = TooManyStates
-unfound_by (search.NotBusy at) = NotBusy at
-unfound_by (search.TooManyCuts at) = TooManyCuts at
-unfound_by search.NoMemory = NoMemory
-
--- all that is asked for is there, and this is known of why a search tells nothing
-abbrev pub IsUnfound : Asked → State → List ActorPlan → ℕ → SearchFault → Type 0
-IsUnfound asked tree plans lines fault =
-    IsOfThese asked plans × WhyNot (opened_world tree plans lines) asked.limits fault
-
 -- The first of those that are named who isn't there; or else the first property that no report can have a line for;
 -- or else the first turn of the beginning that can't be taken; or a list has more turns than are gone through, or there
 -- are more states than that; or there is a limit of memory, where alone a gauge is looked at; or a growth was refused.
-abbrev pub WhyNoSurvey : Asked → State → List ActorPlan → ℕ → SurveyFault → Type 0
+abbrev pub WhyNoSurvey : Asked → State → List ActorPlan → ℕ → ExploreFault → Type 0
+WhyNoSurvey asked tree plans lines (Run NoMemory) = ⊤
+WhyNoSurvey asked tree plans lines (Run other) = ⊥
 WhyNoSurvey asked tree plans lines (NoSuchActor actor) = first_foreign asked plans ≡ Some actor
 WhyNoSurvey asked tree plans lines (NoSuchLine place) =
     (first_foreign asked plans ≡ None)
     × (first_untold asked.limits.scope.outside plans asked.properties.items ≡ Some place)
-WhyNoSurvey asked tree plans lines TooManyStates = IsUnfound asked tree plans lines search.TooManyStates
-WhyNoSurvey asked tree plans lines TooManyTurns = IsUnfound asked tree plans lines search.TooManyTurns
-WhyNoSurvey asked tree plans lines (NotBusy at) = IsUnfound asked tree plans lines (search.NotBusy at)
-WhyNoSurvey asked tree plans lines (TooManyCuts at) = IsUnfound asked tree plans lines (search.TooManyCuts at)
+WhyNoSurvey asked tree plans lines (Search search.NoMemory) = ⊥
+WhyNoSurvey asked tree plans lines (Search fault) =
+    IsOfThese asked plans × WhyNot (opened_world tree plans lines) asked.limits fault
 WhyNoSurvey asked tree plans lines (TooMuchMemory most) = asked.memory ≡ Some most
 WhyNoSurvey asked tree plans lines NoGauge = (most : ℕ) × (asked.memory ≡ Some most)
-WhyNoSurvey asked tree plans lines NoMemory = ⊤

@@ -3,8 +3,8 @@ ghost use Rattle.std.specs.Prelude.{◌≡◌, IfSome, MatchResult};
 ghost use Rattle.explore.specs.Opened.{opened_world};
 ghost use Rattle.explore_command.specs.Gauge.{IsOver, IsToldOver, SaysNoMore, SaysPeak};
 
-use crate::search::{SurveyFault, told_by};
 use explore::{Beginnings, Scene, SearchFault, Silent};
+use outcome_text::ExploreFault;
 use path_text::NoMemory;
 use race_core::World;
 use std::alloc::Global;
@@ -40,31 +40,35 @@ impl Gauge for Silent {
 
 /// Looks whether more than so many megabytes were taken, where there is a limit. Errors: `NoGauge` where that isn't
 /// known, and `TooMuchMemory`.
-pub(crate) fn look<G: Gauge>(gauge: &G, memory: Option<u32>) -> Result<(), SurveyFault>
+pub(crate) fn look<G: Gauge>(gauge: &G, memory: Option<u32>) -> Result<(), ExploreFault>
     ensures { MatchResult result (λ _. SaysNoMore (G.may_say gauge.now) memory) (IsOver (G.may_say gauge.now) memory) }
 {
     let Some(most) = memory else {
         return Ok(());
     };
     let Some(bytes) = gauge.most_taken() else {
-        return Err(SurveyFault::NoGauge);
+        return Err(ExploreFault::NoGauge);
     };
     if bytes > u64::from(most) * MEGABYTE {
-        return Err(SurveyFault::TooMuchMemory(most));
+        return Err(ExploreFault::TooMuchMemory(most));
     }
     Ok(())
 }
 
 /// How it is told that a search finds nothing: where it has no memory, and the gauge says more than the limit, by this.
-pub(crate) fn told_over<G: Gauge>(gauge: &G, memory: Option<u32>, fault: SearchFault) -> SurveyFault
+pub(crate) fn told_over<G: Gauge>(
+    gauge: &G,
+    memory: Option<u32>,
+    fault: SearchFault,
+) -> ExploreFault
     ensures { IsToldOver (G.may_say gauge.now) memory fault result }
 {
     if let SearchFault::NoMemory = fault {
-        if let Err(SurveyFault::TooMuchMemory(most)) = look(gauge, memory) {
-            return SurveyFault::TooMuchMemory(most);
+        if let Err(ExploreFault::TooMuchMemory(most)) = look(gauge, memory) {
+            return ExploreFault::TooMuchMemory(most);
         }
     }
-    told_by(fault)
+    ExploreFault::from(fault)
 }
 
 /// A scene whose worlds are made only while the gauge says no more than the limit, where there is one.

@@ -8,8 +8,8 @@
 
 mod classes;
 mod gauge;
-mod json_text;
 mod laws;
+mod lists;
 mod merge;
 mod options;
 mod part;
@@ -31,6 +31,6 @@ pub use merge::{LINE_BYTES_MAX, MERGED_BYTES_MAX, MERGED_MAX, merge_parts};
 pub use options::{CUTS_MAX, STATES, STATES_MAX, read_asked};
 pub use part::part_of_scene;
 pub use parts::explore_part;
-pub use script::{explore_script, told_by};
-pub use search::{Asked, SurveyFault, TURNS_MAX, survey_scene};
+pub use script::explore_script;
+pub use search::{Asked, TURNS_MAX, survey_scene};
 pub use waiter::Waiter;

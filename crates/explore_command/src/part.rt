@@ -3,13 +3,14 @@ ghost use Rattle.std.specs.Prelude.{◌≡◌, ◌≤◌, ◌++◌, ◌∷◌, [
 ghost use Rattle.race_core.specs.declared.opening.TheConstants.{ACTORS_MAX as MOST_ACTORS};
 ghost use Rattle.explore_command.specs.Part.{IsBarredAt, IsBarred, AreWhoMight, AreEachWhoMight, AreFarEnough, HasNone, IsPart};
 ghost use Rattle.explore_command.specs.Gauge.{SaysNoMore, WhyTooMuch};
-ghost use Rattle.explore_command.specs.Surveyed.{IsOfThese, WhyNoSurvey, unfound_by};
+ghost use Rattle.explore_command.specs.Surveyed.{IsOfThese, WhyNoSurvey};
+ghost use Rattle.outcome_text.specs.Unfound.{unfound_by};
 ghost use Rattle.explore.specs.Opened.{opened_world};
 
 use crate::gauge::{Bounded, Gauge, look, told_over};
-use crate::search::{Asked, SurveyFault, check, jobs_of, told_in};
+use crate::search::{Asked, check, jobs_of, told_in};
 use explore::{Jobs, Limits, Progress, Scene, Scope, SearchFault, Silent, explore};
-use outcome_text::Part;
+use outcome_text::{ExploreFault, Part};
 use path_text::NoMemory;
 use std::alloc::Global;
 use std::thread::Threads;
@@ -200,7 +201,7 @@ pub fn part_of_scene<R: Threads + Sync, G: Gauge, P: Progress>(
     asked: &Asked,
     gauge: &G,
     progress: &mut P,
-) -> Result<Part, SurveyFault>
+) -> Result<Part, ExploreFault>
     requires { length scene.now.plans.items ≤ MOST_ACTORS }
     ensures part { MatchResult result (IsPart asked.now scene.now.tree scene.now.plans.items scene.now.lines)
         (WhyNoSurvey asked.now scene.now.tree scene.now.plans.items scene.now.lines) }

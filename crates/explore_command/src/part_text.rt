@@ -4,9 +4,10 @@ ghost use Rattle.report_text.specs.Report.{numbered};
 ghost use Rattle.step_text.specs.Output.{Gains};
 ghost use Rattle.explore_command.specs.PartText.{cuts_words, flag_words, property_words, properties_words, subject_words, scope_words, wanted_words, question_words, count_words, texts_words, told_words, outcomes_words, turns_words, found_words, part_words, part_line};
 
-use crate::json_text::{comma, lists, numbers, text};
+use crate::lists::{lists, numbers};
 use crate::seal::seal;
 use crate::search::Asked;
+use json_text::{comma, text};
 use outcome_text::{Part, Property, Told};
 use path_text::NoMemory;
 use report_text::numbered;
@@ -31,14 +32,14 @@ fn flag(out: &mut Output, flag: bool) -> Result<(), NoMemory>
 }
 
 // Adds a property by its place.
-fn property(alloc: Global, out: &mut Output, at: u64, property: &Property) -> Result<(), NoMemory>
+fn property(alloc: Global, out: &mut Output, at: usize, property: &Property) -> Result<(), NoMemory>
     ensures { Gains out.old out.new (property_words at property.now) result }
 {
     let mut said = Output::new(alloc);
     said.text(property.rule.word())?;
     said.bytes(property.text.as_slice())?;
     comma(out, at)?;
-    text(alloc, out, said.as_slice())
+    text(out, said.as_slice())
 }
 
 // Adds the properties of a list.
@@ -46,7 +47,7 @@ fn all_properties(alloc: Global, out: &mut Output, all: &[Property]) -> Result<(
     ensures { Gains out.old out.new (numbered property_words 0 all.now) result }
 {
     for (at, one) in all.iter().enumerate() {
-        property(alloc, out, at as u64, one)?;
+        property(alloc, out, at, one)?;
     }
     Ok(())
 }
@@ -62,11 +63,11 @@ fn properties(alloc: Global, out: &mut Output, all: &[Property]) -> Result<(), N
 
 // Adds the script with that digest, and who is named.
 #[tactic(auto, unfolding(crate::specs::PartText::subject_words))]
-fn subject(alloc: Global, out: &mut Output, script: &[u8], asked: &Asked) -> Result<(), NoMemory>
+fn subject(out: &mut Output, script: &[u8], asked: &Asked) -> Result<(), NoMemory>
     ensures { Gains out.old out.new (subject_words script.now asked.now) result }
 {
     out.text("{\"script\":")?;
-    text(alloc, out, script)?;
+    text(out, script)?;
     out.text(",\"actors\":")?;
     numbers(out, &asked.named)
 }
@@ -97,7 +98,7 @@ fn wanted(alloc: Global, out: &mut Output, asked: &Asked) -> Result<(), NoMemory
 fn question(alloc: Global, out: &mut Output, script: &[u8], asked: &Asked) -> Result<(), NoMemory>
     ensures { Gains out.old out.new (question_words script.now asked.now) result }
 {
-    subject(alloc, out, script, asked)?;
+    subject(out, script, asked)?;
     scope(out, asked)?;
     wanted(alloc, out, asked)
 }
@@ -114,46 +115,46 @@ fn told_counts(out: &mut Output, told: &Told) -> Result<(), NoMemory>
 
 // Adds the texts of an outcome.
 #[tactic(auto, unfolding(crate::specs::PartText::texts_words))]
-fn told_texts(alloc: Global, out: &mut Output, told: &Told) -> Result<(), NoMemory>
+fn told_texts(out: &mut Output, told: &Told) -> Result<(), NoMemory>
     ensures { Gains out.old out.new (texts_words told.now) result }
 {
     out.text(",\"block\":")?;
-    text(alloc, out, told.block.as_slice())?;
+    text(out, told.block.as_slice())?;
     out.text(",\"look\":")?;
-    text(alloc, out, told.look.as_slice())?;
+    text(out, told.look.as_slice())?;
     out.text(",\"lines\":")?;
-    text(alloc, out, told.lines.as_slice())
+    text(out, told.lines.as_slice())
 }
 
 // Adds an outcome by its place.
 #[tactic(auto, unfolding(crate::specs::PartText::told_words))]
-fn told(alloc: Global, out: &mut Output, at: u64, told: &Told) -> Result<(), NoMemory>
+fn told(out: &mut Output, at: usize, told: &Told) -> Result<(), NoMemory>
     ensures { Gains out.old out.new (told_words at told.now) result }
 {
     comma(out, at)?;
     told_counts(out, told)?;
     out.text(",\"least\":")?;
     numbers(out, &told.turns)?;
-    told_texts(alloc, out, told)?;
+    told_texts(out, told)?;
     out.text("}")
 }
 
 // Adds the outcomes of a list.
-fn all_told(alloc: Global, out: &mut Output, all: &[Told]) -> Result<(), NoMemory>
+fn all_told(out: &mut Output, all: &[Told]) -> Result<(), NoMemory>
     ensures { Gains out.old out.new (numbered told_words 0 all.now) result }
 {
     for (at, one) in all.iter().enumerate() {
-        told(alloc, out, at as u64, one)?;
+        told(out, at, one)?;
     }
     Ok(())
 }
 
 // Adds a list of outcomes.
-fn outcomes(alloc: Global, out: &mut Output, all: &[Told]) -> Result<(), NoMemory>
+fn outcomes(out: &mut Output, all: &[Told]) -> Result<(), NoMemory>
     ensures { Gains out.old out.new (outcomes_words all.now) result }
 {
     out.text("[")?;
-    all_told(alloc, out, all)?;
+    all_told(out, all)?;
     out.text("]")
 }
 
@@ -170,13 +171,13 @@ fn part_turns(out: &mut Output, part: &Part) -> Result<(), NoMemory>
 
 // Adds how many schedules a part has, how long they are, and their outcomes.
 #[tactic(auto, unfolding(crate::specs::PartText::found_words))]
-fn part_found(alloc: Global, out: &mut Output, part: &Part) -> Result<(), NoMemory>
+fn part_found(out: &mut Output, part: &Part) -> Result<(), NoMemory>
     ensures { Gains out.old out.new (found_words part.now) result }
 {
     numbered(out, ",\"schedules\":", part.lists)?;
     numbered(out, ",\"turns\":", part.turns)?;
     out.text(",\"outcomes\":")?;
-    outcomes(alloc, out, &part.all)
+    outcomes(out, &part.all)
 }
 
 // Adds a part of what is asked of the script with that digest: an object of JSON, but for its end.
@@ -193,7 +194,7 @@ fn part_words(
     out.text("{\"part of\":")?;
     question(alloc, out, script, asked)?;
     part_turns(out, part)?;
-    part_found(alloc, out, part)
+    part_found(out, part)
 }
 
 /// A part of what is asked of the script with that digest, as a line that ends with its own digest. NoMemory where its

@@ -4,7 +4,6 @@ ghost use Rattle.explore_command.specs.ExplorePart.{IsExplorePart};
 use crate::gauge::Gauge;
 use crate::part::part_of_scene;
 use crate::part_text::part_text;
-use crate::script::told_by;
 use crate::seal::sum_of;
 use crate::search::Asked;
 use crate::waiter::Waiter;
@@ -41,7 +40,7 @@ pub fn explore_part<Rt: Threads + Sync, R: Read, W: Write, G: Gauge, P: Waiter>(
     progress.over();
     let part = match explored {
         Ok(part) => part,
-        Err(fault) => return Err(told_by(fault)),
+        Err(fault) => return Err(fault),
     };
     let Ok(digest) = sum_of(alloc, script.as_slice()) else {
         return Err(ExploreFault::Run(RunFault::NoMemory));

@@ -1,12 +1,11 @@
 //! A script explored: all schedules of its world are gone through, and what they come to is written.
 ghost use Rattle.std.specs.Prelude.{◌≡◌, ◌≢◌, [], IfOk, MatchResult};
 ghost use Rattle.scripts.specs.Scenario.{said_by, IsPlayable};
-ghost use Rattle.outcome_text.specs.declared.fault.ExploreFault.TheVariants as explore_fault;
-ghost use Rattle.explore_command.specs.Explore.{told_by, IsExplore, IsNoSurvey, IsSurveyOf, WhyToldTooMuch};
-ghost use Rattle.explore_command.specs.Gauge.{SaysNoMore};
+ghost use Rattle.explore_command.specs.Explore.{IsExplore, IsNoSurvey, IsSurveyOf};
+ghost use Rattle.explore_command.specs.Gauge.{SaysNoMore, WhyTooMuch};
 
 use crate::gauge::Gauge;
-use crate::search::{Asked, SurveyFault, survey_scene};
+use crate::search::{Asked, survey_scene};
 use crate::waiter::Waiter;
 use explore::{Progress, Scene};
 use outcome_text::{ExploreFault, Survey};
@@ -15,23 +14,6 @@ use std::alloc::Global;
 use std::io::{Read, Write};
 use std::thread::Threads;
 use tree_list::ListTree;
-
-/// How it is told that there is no survey.
-pub fn told_by(fault: SurveyFault) -> ExploreFault
-    ensures { result ≡ told_by fault }
-{
-    match fault {
-        SurveyFault::NoSuchActor(actor) => ExploreFault::NoSuchActor(actor),
-        SurveyFault::NoSuchLine(place) => ExploreFault::NoSuchLine(place),
-        SurveyFault::TooManyStates => ExploreFault::TooManyStates,
-        SurveyFault::TooManyTurns => ExploreFault::TooManyTurns,
-        SurveyFault::NotBusy(at) => ExploreFault::NotBusy(at),
-        SurveyFault::TooManyCuts(at) => ExploreFault::TooManyCuts(at),
-        SurveyFault::TooMuchMemory(most) => ExploreFault::TooMuchMemory(most),
-        SurveyFault::NoGauge => ExploreFault::NoGauge,
-        SurveyFault::NoMemory => ExploreFault::Run(RunFault::NoMemory),
-    }
-}
 
 // All schedules of what a script says gone through. Errors as of `explore_script`, but for those of reading and
 // writing.
@@ -51,7 +33,7 @@ fn surveyed<Rt: Threads + Sync, G: Gauge, P: Progress>(
         (IsNoSurvey asked.now (said_by scenario)) }
     ensures some { IfOk result (λ survey. survey.text ≢ []) }
     ensures memory { MatchResult result (λ _. SaysNoMore (G.may_say gauge.now) asked.now.memory)
-        (WhyToldTooMuch (G.may_say gauge.now)) }
+        (WhyTooMuch (G.may_say gauge.now)) }
 {
     let (plans, lines) = (scenario.plans, scenario.lines);
     if (lines as usize) < plans.len() {
@@ -60,7 +42,7 @@ fn surveyed<Rt: Threads + Sync, G: Gauge, P: Progress>(
     let scene = Scene { tree, plans, lines };
     match survey_scene(alloc, threads, &scene, asked, gauge, progress) {
         Ok(survey) => Ok(survey),
-        Err(fault) => Err(told_by(fault)),
+        Err(fault) => Err(fault),
     }
 }
 
@@ -88,7 +70,7 @@ pub fn explore_script<Rt: Threads + Sync, R: Read, W: Write, G: Gauge, P: Waiter
 ) -> Result<bool, ExploreFault>
     ensures run { IsExplore asked.now (R.remaining reader.old) (W.contents writer.old) (W.contents writer.new) result }
     ensures memory { MatchResult result (λ _. SaysNoMore (G.may_say gauge.now) asked.now.memory)
-        (WhyToldTooMuch (G.may_say gauge.now)) }
+        (WhyTooMuch (G.may_say gauge.now)) }
 {
     let (scenario, tree) = read_scene(alloc, reader, &TurnOrder::OfScript)?;
     let explored = surveyed(alloc, threads, scenario, tree, asked, gauge, progress);

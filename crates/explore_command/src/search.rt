@@ -1,21 +1,20 @@
 //! All schedules of a world gone through, and the text of their outcomes.
 ghost use Rattle.std.specs.Prelude.{◌≡◌, ◌≤◌, length, find, nat_le, IfErr, IfOk, IfSome, MatchResult};
 ghost use Rattle.race_core.specs.declared.opening.TheConstants.{ACTORS_MAX as MOST_ACTORS};
-ghost use Rattle.explore_command.specs.declared.search.SurveyFault.TheVariants as survey_fault;
-ghost use Rattle.explore_command.specs.Surveyed.{unfound_by, IsOfThese, IsTelling, IsSurveyWith, WhyNoSurvey};
+ghost use Rattle.explore_command.specs.Surveyed.{IsOfThese, IsTelling, IsSurveyWith, WhyNoSurvey};
 ghost use Rattle.outcome_text.specs.Conditions.{counted};
 ghost use Rattle.outcome_text.specs.Order.{in_order};
+ghost use Rattle.outcome_text.specs.Unfound.{unfound_by};
 ghost use Rattle.explore_command.specs.Classes.{AreTold};
 ghost use Rattle.explore_command.specs.Gauge.{IsOfNoGauge, SaysNoMore, WhyTooMuch};
 
 use crate::classes::tell_all;
 use crate::gauge::{Bounded, Gauge, look, told_over};
 use explore::{Class, Findings, Jobs, Limits, Progress, Scene, SearchFault, explore};
-use outcome_text::{Property, Survey, Told, first_untold, told_in_order};
+use outcome_text::{ExploreFault, Property, Survey, Told, first_untold, told_in_order};
 use path_text::NoMemory;
 use std::alloc::Global;
 use std::thread::Threads;
-use thiserror::Error;
 use tree_list::ListTree;
 use tree_model::Tree;
 
@@ -36,46 +35,6 @@ pub struct Asked {
     pub memory: Option<u32>,
     /// Which reports count, and properties of each of these, whatever actors are named.
     pub properties: Vec<Property>,
-}
-
-/// Why there is no survey.
-#[derive(Clone, Copy, Debug, PartialEq, Eq, Error)]
-pub enum SurveyFault {
-    /// The first actor that is named and isn't there.
-    #[error("actor {0}")]
-    NoSuchActor(u32),
-    /// The first property that no report can have a line for, by its place, counted from 0.
-    #[error("property {0}")]
-    NoSuchLine(usize),
-    /// There are more worlds than are gone through.
-    #[error("states")]
-    TooManyStates,
-    /// A list has more turns than the limit.
-    #[error("turns")]
-    TooManyTurns,
-    /// The turn at that place of the beginning, counted from 0, is of an actor who has nothing left to do then.
-    #[error("begin {0}")]
-    NotBusy(usize),
-    /// With the turn at that place of the beginning, counted from 0, there are more cuts than are asked for.
-    #[error("cuts {0}")]
-    TooManyCuts(usize),
-    /// More than so many megabytes were taken.
-    #[error("memory")]
-    TooMuchMemory(u32),
-    /// How much memory was taken isn't known.
-    #[error("gauge")]
-    NoGauge,
-    /// Room was refused.
-    #[error("no memory")]
-    NoMemory,
-}
-
-impl From<NoMemory> for SurveyFault {
-    ghost from_gives = { λ _ fault. fault ≡ survey_fault.NoMemory };
-
-    fn from(_error: NoMemory) -> SurveyFault {
-        SurveyFault::NoMemory
-    }
 }
 
 // The first of these that is none of so many actors.
@@ -136,32 +95,19 @@ fn survey_of(
 
 /// Whether all who are named are there, and each property names a line that a report can have. Errors: `NoSuchActor`
 /// and `NoSuchLine` of the first that isn't; `NoMemory`.
-pub(crate) fn check(alloc: Global, scene: &Scene, asked: &Asked) -> Result<(), SurveyFault>
+pub(crate) fn check(alloc: Global, scene: &Scene, asked: &Asked) -> Result<(), ExploreFault>
     ensures these { MatchResult result (λ _. IsOfThese asked.now scene.now.plans.items)
         (WhyNoSurvey asked.now scene.now.tree scene.now.plans.items scene.now.lines) }
     ensures none { IfErr result IsOfNoGauge }
 {
     if let Some(actor) = first_foreign(&asked.named, scene.plans.len()) {
-        return Err(SurveyFault::NoSuchActor(actor));
+        return Err(ExploreFault::NoSuchActor(actor));
     }
     let outside = asked.limits.scope.outside;
     if let Some(place) = first_untold(alloc, outside, &scene.plans, &asked.properties)? {
-        return Err(SurveyFault::NoSuchLine(place));
+        return Err(ExploreFault::NoSuchLine(place));
     }
     Ok(())
-}
-
-/// How it is told that a search finds nothing. A world never has more actors than it may have.
-pub(crate) fn told_by(fault: SearchFault) -> SurveyFault
-    ensures { result ≡ unfound_by fault }
-{
-    match fault {
-        SearchFault::TooManyTurns => SurveyFault::TooManyTurns,
-        SearchFault::TooManyStates => SurveyFault::TooManyStates,
-        SearchFault::NotBusy(at) => SurveyFault::NotBusy(at),
-        SearchFault::TooManyCuts(at) => SurveyFault::TooManyCuts(at),
-        SearchFault::TooManyActors | SearchFault::NoMemory => SurveyFault::NoMemory,
-    }
 }
 
 // All lists gone through, and the text of what was found. Errors as of `explore`. Where the gauge says too much, there
@@ -215,7 +161,7 @@ pub fn survey_scene<R: Threads + Sync, G: Gauge, P: Progress>(
     asked: &Asked,
     gauge: &G,
     progress: &mut P,
-) -> Result<Survey, SurveyFault>
+) -> Result<Survey, ExploreFault>
     requires { length scene.now.plans.items ≤ MOST_ACTORS }
     ensures survey { MatchResult result
         (IsSurveyWith asked.now scene.now.tree scene.now.plans.items scene.now.lines)

@@ -11,7 +11,7 @@ use Rattle.explore_page_command.specs.ExplorePage.{IsExplorationPage, IsNoExplor
 use Rattle.explore_page_command.specs.Played.{AreTaken, ArePlayed, chosen}
 use Rattle.explore_page_command.proofs.Plays.{by_any}
 use Rattle.explore_page_command.proofs.Taken.{outcomes_taken}
-use Rattle.outcome_text.specs.declared.fault.ExploreFault.TheVariants.{Run, NoSuchActor, NoSuchLine, TooManyStates, TooManyTurns, NotBusy, TooManyCuts, TooMuchMemory, NoGauge}
+use Rattle.outcome_text.specs.declared.fault.ExploreFault.TheVariants.{Run, NoSuchActor, NoSuchLine, Search, TooMuchMemory, NoGauge}
 use Rattle.outcome_text.specs.declared.ranked.Survey.{Survey}
 use Rattle.outcome_text.specs.declared.survey.Told.{Told}
 use Rattle.pages.specs.declared.played.Played.{Played}
@@ -65,10 +65,7 @@ no_page asked said (Explore (Run run.NoMemory)) why = tt
 no_page asked said (Explore (Run run.BookFull)) why = why
 no_page asked said (Explore (NoSuchActor actor)) why = why
 no_page asked said (Explore (NoSuchLine place)) why = why
-no_page asked said (Explore TooManyStates) why = why
-no_page asked said (Explore TooManyTurns) why = why
-no_page asked said (Explore (NotBusy at)) why = why
-no_page asked said (Explore (TooManyCuts at)) why = why
+no_page asked said (Explore (Search fault)) why = why
 no_page asked said (Explore (TooMuchMemory most)) why = why
 no_page asked said (Explore NoGauge) why = why
 no_page asked said (Draw fault) why = why

@@ -24,7 +24,7 @@ use Rattle.race_core.specs.Worlds.{WorldView, first_beyond}
 use Rattle.scripts.specs.Scenario.{Said, IsPlayable}
 use Rattle.scripts.specs.Writing.{tree_of}
 use Rattle.tree_model.specs.State.{State}
-use Rattle.walk_replay_command.proofs.Replays.{said_roots}
+use Rattle.walk_replay_command.proofs.Replays.{said_roots, length-seats_of}
 
 -- ---- a list whose first number beyond is none
 
@@ -74,10 +74,6 @@ told_taken named opening actors n (c ∷ classes) [] are each = absurd are
 told_taken named opening actors n (c ∷ classes) (told ∷ all) are each =
     All-cons (AreTaken n) told all (subst (λ (is : List ℕ). All (λ i. i < n) (without_tail is)) (sym are.0.least) (each 0 c refl))
     (told_taken named opening actors n classes all are.1 (λ k d e. each (suc k) d e))
-
-length-seats_of : (ledgers : List LedgerView) → length (seats_of ledgers) ≡ length ledgers
-length-seats_of [] = refl
-length-seats_of (ledger ∷ ledgers) = ap suc (length-seats_of ledgers)
 
 -- the world has a seat for each actor, and memory
 record IsSeated (said : Said) : Type 0 where

@@ -3,7 +3,8 @@
 use Rattle.std.specs.Prelude.{⊤, ◌≡◌, ◌≢◌, ℕ, Bool, List, Option, Result, MatchResult, IsOkAnd, IfSome}
 use Rattle.std.specs.Io.KnownBytes.{Keeps}
 use Rattle.explore_command.specs.declared.search.Asked.{Asked}
-use Rattle.explore_command.specs.Explore.{IsNoSurvey, IsExploreFaultOf, WhyToldTooMuch}
+use Rattle.explore_command.specs.Explore.{IsNoSurvey, IsExploreFaultOf}
+use Rattle.explore_command.specs.Gauge.{WhyTooMuch}
 use Rattle.explore_command.specs.Surveyed.{IsSurvey, outcomes_of}
 use Rattle.explore_page_command.specs.declared.fault.ExplorePageFault.{ExplorePageFault}
 use Rattle.explore_page_command.specs.declared.fault.ExplorePageFault.TheVariants.{Explore, Draw}
@@ -33,7 +34,7 @@ IsNoExplorationPage asked said (Draw fault) = IsNoPlay said fault
 
 -- what a gauge may say where the search took too much memory
 abbrev pub WhyPageTookTooMuch : (Option ℕ → Type 0) → ExplorePageFault → Type 0
-WhyPageTookTooMuch may_say (Explore fault) = WhyToldTooMuch may_say fault
+WhyPageTookTooMuch may_say (Explore fault) = WhyTooMuch may_say fault
 WhyPageTookTooMuch may_say (Draw fault) = ⊤
 
 -- a fault of exploring, or a run isn't played

@@ -9,7 +9,7 @@ use crate::runs::runs_of;
 use draw_command::DrawFault;
 use drawings::ACTORS_MAX;
 use explore::{Progress, Scene};
-use explore_command::{Asked, Gauge, Waiter, survey_scene, told_by};
+use explore_command::{Asked, Gauge, Waiter, survey_scene};
 use outcome_text::{ExploreFault, Survey};
 use pages::runs_page;
 use path_text::NoMemory;
@@ -56,7 +56,7 @@ fn explored<Rt: Threads + Sync, G: Gauge, P: Progress>(
     let scene = Scene { tree, plans, lines };
     let survey = match survey_scene(alloc, threads, &scene, asked, gauge, progress) {
         Ok(survey) => survey,
-        Err(fault) => return Err(ExplorePageFault::Explore(told_by(fault))),
+        Err(fault) => return Err(ExplorePageFault::Explore(fault)),
     };
     let runs = runs_of(alloc, &scene, &survey.outcomes)?;
     let mut page = Output::new(alloc);

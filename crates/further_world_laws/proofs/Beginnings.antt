@@ -36,7 +36,7 @@ within_fewer (Some k) m n le few = at_most k m n le few
     at_most k m n le few = omega arith
 
 -- a full list doesn't go on
-ends_there : (w : WorldView) (is rest : List ℕ) → IsFull w is → IsFull w (is ++ rest) → rest ≡ []
+pub ends_there : (w : WorldView) (is rest : List ℕ) → IsFull w is → IsFull w (is ++ rest) → rest ≡ []
 ends_there w [] [] over whole = refl
 ends_there w [] (i ∷ rest) over whole = absurd (true≢false (sym whole.0 ∙ over i))
 ends_there w (i ∷ is) rest first whole = ends_there (turn full w i) is rest first.1 whole.1

@@ -37,19 +37,19 @@ use Rattle.root_ops.specs.declared.op.Op.{Op}
 use Rattle.root_ops.specs.declared.op.Op.TheVariants.{Resolve, ResolveNoFollow, ReadLink, CreateFile, CreateDir, CreateLink, RemoveFile, RemoveDir, Rename, MkdirAll, RemoveAll, Single, Release}
 use Rattle.root_ops.specs.Order.{Reply, fault, kept, Doing, walking, acting, checking, closing, making, removing, releasing, CallTurn, more, ends, rename_step, reply_to, way_of, make_way, makes, removing_turn, reached, checked, is_single, same_owner, starts, take}
 use Rattle.root_ops.specs.Order as call
-use Rattle.explore.specs.Want.{is_want, walk_wants, walk_turn_wants, making_wants, make_turn_wants, removing_wants, remove_turn_wants, reply_wants, doing_wants, turn_wants}
+use Rattle.explore.specs.OutOfMemory.{is_out_of_memory, walk_out_of_memory, walk_turn_out_of_memory, making_out_of_memory, make_turn_out_of_memory, removing_out_of_memory, remove_turn_out_of_memory, reply_out_of_memory, doing_out_of_memory, turn_out_of_memory}
 use Rattle.further_world_laws.proofs.CalmSteps.{fault_wants, result_wants, text_calm, split_calm, rest_calm, answer_wants, refusal_calm}
 
 -- ---- a walk
 
 abbrev IsCalm : walk.Turn → Type 0
-IsCalm turn = walk_turn_wants turn ≡ false
+IsCalm turn = walk_turn_out_of_memory turn ≡ false
 
 either : (b : Bool) (t u : walk.Turn) → IsCalm t → IsCalm u → IsCalm (if b then t else u)
 either true t u one other = one
 either false t u one other = other
 
-given_up : (hs : List ℕ) (error : Errno) → is_want error ≡ false → IsCalm (walk.gives_up hs error)
+given_up : (hs : List ℕ) (error : Errno) → is_out_of_memory error ≡ false → IsCalm (walk.gives_up hs error)
 given_up [] error calm = calm
 given_up (h ∷ hs) error calm = calm
 
@@ -90,7 +90,7 @@ module _ (way : Way) where
       let own = asked (follows way.goal) path.parts in
       either (leads_out path.absolute way.flags) (failed CrossRoot) (walk.goes_on way root_itself (todo [] own LINKS_MAX)) refl (onwards root_itself (todo [] own LINKS_MAX))
 
-  closings : (h : ℕ) (hs : List ℕ) (after : After) → walk_wants (walk.closing h hs after) ≡ false → IsCalm (walk.closes way hs after)
+  closings : (h : ℕ) (hs : List ℕ) (after : After) → walk_out_of_memory (walk.closing h hs after) ≡ false → IsCalm (walk.closes way hs after)
   closings h [] (gives error) calm = calm
   closings h (k ∷ hs) (gives error) calm = calm
   closings h [] (onward position rest) calm = onwards position rest
@@ -107,7 +107,7 @@ module _ (way : Way) where
   at_a_link position link (todo inner own (suc b)) =
       either way.flags.no_links (walk.gives_up (link.number ∷ handles_of position) Loop) (walk.more (walk.reading position link (todo inner own b))) refl refl
 
-  refused_open : (position : Position) (own follow : Bool) (n : List ℕ) (rest : Todo) (error : Errno) → is_want error ≡ false
+  refused_open : (position : Position) (own follow : Bool) (n : List ℕ) (rest : Todo) (error : Errno) → is_out_of_memory error ≡ false
       → IsCalm (walk.refused_open way position own follow n rest error)
   refused_open position own follow n (todo inner rest b) NotFound calm =
       either (is_deepest way.goal && own) (walk.at_end position (Named follow n ∷ rest)) (walk.gives_up (handles_of position) NotFound)
@@ -133,11 +133,11 @@ module _ (way : Way) where
   end_of handle names [] = refl
   end_of handle names (p ∷ rest) = refl
 
-  refused_rise : (handle : Handle) (error : Errno) → is_want error ≡ false → IsCalm (walk.refused_rise handle error)
+  refused_rise : (handle : Handle) (error : Errno) → is_out_of_memory error ≡ false → IsCalm (walk.refused_rise handle error)
   refused_rise handle NotFound calm = refl
   refused_rise handle error calm = calm
 
-  pub walk_takes : (w : Walking) (answer : Answer) → walk_wants w ≡ false → answer_wants answer ≡ false → IsCalm (walk.take way true w answer)
+  pub walk_takes : (w : Walking) (answer : Answer) → walk_out_of_memory w ≡ false → answer_wants answer ≡ false → IsCalm (walk.take way true w answer)
   walk_takes (walk.opening position own follow n rest) (Opened h x kind) calm told =
       let new : Handle = record { number = h; node = x; kind = kind } in
       either (is_followed follow kind) (walk.follows_link way position new rest) (walk.enters way true position n new rest)
@@ -160,13 +160,13 @@ module _ (way : Way) where
 -- ---- a MkdirAll
 
 abbrev MakesCalm : make.MakeTurn → Type 0
-MakesCalm turn = make_turn_wants turn ≡ false
+MakesCalm turn = make_turn_out_of_memory turn ≡ false
 
 make_either : (b : Bool) (t u : make.MakeTurn) → MakesCalm t → MakesCalm u → MakesCalm (if b then t else u)
 make_either true t u one other = one
 make_either false t u one other = other
 
-make_given_up : (hs : List ℕ) (error : Errno) → is_want error ≡ false → MakesCalm (make.gives_up hs error)
+make_given_up : (hs : List ℕ) (error : Errno) → is_out_of_memory error ≡ false → MakesCalm (make.gives_up hs error)
 make_given_up [] error calm = calm
 make_given_up (h ∷ hs) error calm = calm
 
@@ -186,17 +186,17 @@ make_walked (found handle names) calm =
 make_walked (partial handle names rest) calm = begins_to_make handle names rest (make.rest_fault rest) (rest_calm rest)
 make_walked (failed error) calm = calm
 
-raced_calm : (error : Errno) → is_want error ≡ false → is_want (make.raced_if_missing error) ≡ false
+raced_calm : (error : Errno) → is_out_of_memory error ≡ false → is_out_of_memory (make.raced_if_missing error) ≡ false
 raced_calm NotFound calm = refl
 raced_calm error calm = calm
 
-refused_make : (held : Handle) (names : List (List ℕ)) (n : List ℕ) (left : List (List ℕ)) (error : Errno) → is_want error ≡ false
+refused_make : (held : Handle) (names : List (List ℕ)) (n : List ℕ) (left : List (List ℕ)) (error : Errno) → is_out_of_memory error ≡ false
     → MakesCalm (make.refused_make held names n left error)
 refused_make held names n left Exists calm = refl
 refused_make held names n left NotFound calm = refl
 refused_make held names n left error calm = calm
 
-make_takes : (way : Way) (m : make.Making) (answer : Answer) → making_wants m ≡ false → answer_wants answer ≡ false → MakesCalm (make.take way true m answer)
+make_takes : (way : Way) (m : make.Making) (answer : Answer) → making_out_of_memory m ≡ false → answer_wants answer ≡ false → MakesCalm (make.take way true m answer)
 make_takes way (make.walking w) answer calm told = make_walked (walk.take way true w answer) (walk_takes way w answer calm told)
 make_takes way (make.making held names n left) Done calm told = refl
 make_takes way (make.making held names n left) answer calm told = refused_make held names n left (refusal_of answer) (refusal_calm answer told)
@@ -214,9 +214,9 @@ make_takes way (make.closing h hs error) answer calm told = make_given_up hs err
 -- ---- a RemoveAll
 
 abbrev ClearsCalm : remove.Turn → Type 0
-ClearsCalm turn = remove_turn_wants turn ≡ false
+ClearsCalm turn = remove_turn_out_of_memory turn ≡ false
 
-clear_closes : (hs : List ℕ) (error : Errno) → is_want error ≡ false → ClearsCalm (remove.closes hs (remove.fails error))
+clear_closes : (hs : List ℕ) (error : Errno) → is_out_of_memory error ≡ false → ClearsCalm (remove.closes hs (remove.fails error))
 clear_closes [] error calm = calm
 clear_closes (h ∷ hs) error calm = calm
 
@@ -240,7 +240,7 @@ cleared_walk way target (partial handle names rest) calm = refl
 cleared_walk way target (failed error) calm = calm
 
 module _ (level : Level) (above : List Level) (count left : ℕ) where
-  clear_given_up : (stage : Stage) (error : Errno) → is_want error ≡ false → ClearsCalm (remove.gives_up stage level above error)
+  clear_given_up : (stage : Stage) (error : Errno) → is_out_of_memory error ≡ false → ClearsCalm (remove.gives_up stage level above error)
   clear_given_up stage error calm = clear_closes (before stage (dirs (level ∷ above))) error calm
 
   finished : (n : ℕ) → ClearsCalm (remove.finished level above n left)
@@ -273,12 +273,12 @@ module _ (level : Level) (above : List Level) (count left : ℕ) where
   dir_removed (Refused NotDir) told = is_due removes_file level above count left
   dir_removed answer told = clear_given_up removes_dir (refusal_of answer) (refusal_calm answer told)
 
-clear_ends : (h : ℕ) (hs : List ℕ) (end : remove.End) → removing_wants (remove.closing h hs end) ≡ false → ClearsCalm (remove.closes hs end)
+clear_ends : (h : ℕ) (hs : List ℕ) (end : remove.End) → removing_out_of_memory (remove.closing h hs end) ≡ false → ClearsCalm (remove.closes hs end)
 clear_ends h hs (remove.fails error) calm = clear_closes hs error calm
 clear_ends h [] (remove.removes count) calm = refl
 clear_ends h (k ∷ hs) (remove.removes count) calm = refl
 
-clear_takes : (r : remove.Removing) (answer : Answer) → removing_wants r ≡ false → answer_wants answer ≡ false → ClearsCalm (remove.take true r answer)
+clear_takes : (r : remove.Removing) (answer : Answer) → removing_out_of_memory r ≡ false → answer_wants answer ≡ false → ClearsCalm (remove.take true r answer)
 clear_takes (remove.walking way target w) answer calm told = cleared_walk way target (walk.take way true w answer) (walk_takes way w answer calm told)
 clear_takes (remove.clearing removes_file level above count left) answer calm told = file_removed level above count left answer told
 clear_takes (remove.clearing opens level above count left) answer calm told = clear_opened level above count left answer told
@@ -291,13 +291,13 @@ clear_takes (remove.closing h hs end) answer calm told = clear_ends h hs end cal
 -- ---- a call
 
 abbrev pub TurnIsCalm : CallTurn → Type 0
-TurnIsCalm turn = turn_wants turn ≡ false
+TurnIsCalm turn = turn_out_of_memory turn ≡ false
 
 call_either : (b : Bool) (t u : CallTurn) → TurnIsCalm t → TurnIsCalm u → TurnIsCalm (if b then t else u)
 call_either true t u one other = one
 call_either false t u one other = other
 
-replies : (wanted : Wanted) (answer : Answer) → answer_wants answer ≡ false → reply_wants (reply_to wanted answer) ≡ false
+replies : (wanted : Wanted) (answer : Answer) → answer_wants answer ≡ false → reply_out_of_memory (reply_to wanted answer) ≡ false
 replies wants.Done Done told = refl
 replies wants.Done answer told = refusal_calm answer told
 replies wants.Text (Text bytes) told = refl
@@ -305,11 +305,11 @@ replies wants.Text answer told = refusal_calm answer told
 replies wants.Any (Refused error) told = told
 replies wants.Any answer told = refl
 
-call_closes : (hs : List ℕ) (reply : Reply) → reply_wants reply ≡ false → TurnIsCalm (call.closes hs (call.gives reply))
+call_closes : (hs : List ℕ) (reply : Reply) → reply_out_of_memory reply ≡ false → TurnIsCalm (call.closes hs (call.gives reply))
 call_closes [] reply calm = calm
 call_closes (h ∷ hs) reply calm = calm
 
-call_ends : (h : ℕ) (hs : List ℕ) (after : call.After) → doing_wants (closing h hs after) ≡ false → TurnIsCalm (call.closes hs after)
+call_ends : (h : ℕ) (hs : List ℕ) (after : call.After) → doing_out_of_memory (closing h hs after) ≡ false → TurnIsCalm (call.closes hs after)
 call_ends h hs (call.gives reply) calm = call_closes hs reply calm
 call_ends h [] (call.acts wanted step ks) calm = refl
 call_ends h (k ∷ hs) (call.acts wanted step ks) calm = refl
@@ -356,7 +356,7 @@ cleared (remove.more r) calm = calm
 cleared (remove.removed n) calm = refl
 cleared (remove.failed error) calm = calm
 
-pub take_calm : (below : Below) (doing : Doing) (answer : Answer) → doing_wants doing ≡ false → answer_wants answer ≡ false → TurnIsCalm (take below true doing answer)
+pub take_calm : (below : Below) (doing : Doing) (answer : Answer) → doing_out_of_memory doing ≡ false → answer_wants answer ≡ false → TurnIsCalm (take below true doing answer)
 take_calm below (walking w aim) answer calm told =
     walked below aim (walk.take (way_of below aim) true w answer) (walk_takes (way_of below aim) w answer calm told)
 take_calm below (acting wanted step hs) answer calm told = call_closes hs (reply_to wanted answer) (replies wanted answer told)

@@ -33,17 +33,17 @@ use Rattle.step_resolver.specs.Order.{refusal_of}
 use Rattle.bulk_ops.specs.MakeAllOrder.{rest_fault}
 use Rattle.race_core.specs.Book.{BookedHistory, tree_now, free_lines, lines_needed, closes_nothing}
 use Rattle.race_core.specs.Turns.{unless_refused, stepped_by}
-use Rattle.explore.specs.Want.{is_want}
+use Rattle.explore.specs.OutOfMemory.{is_out_of_memory}
 
 -- ---- texts
 
 abbrev pub fault_wants : Option Errno → Bool
 fault_wants None = false
-fault_wants (Some error) = is_want error
+fault_wants (Some error) = is_out_of_memory error
 
 abbrev pub result_wants : {A : Type 0} → Result A Errno → Bool
 result_wants (Ok value) = false
-result_wants (Err error) = is_want error
+result_wants (Err error) = is_out_of_memory error
 
 pub text_calm : (text : List ℕ) → fault_wants (text_fault text) ≡ false
 text_calm text = on (is_empty text) (list_any (λ b. b == NUL) text) (nat_lt TEXT_MAX (length text))
@@ -80,11 +80,11 @@ rest_calm (asked.Named follow n ∷ rest) = too_long_or (is_too_long n) (rest_fa
 
 -- ---- changes
 
-if_calm : {A : Type 0} (b : Bool) (error : Errno) (others : Result A Errno) → is_want error ≡ false → result_wants others ≡ false → result_wants (refuse_if b (Err error) others) ≡ false
+if_calm : {A : Type 0} (b : Bool) (error : Errno) (others : Result A Errno) → is_out_of_memory error ≡ false → result_wants others ≡ false → result_wants (refuse_if b (Err error) others) ≡ false
 if_calm true error others calm rest = calm
 if_calm false error others calm rest = rest
 
-some_calm : {A : Type 0} (o : Option ℕ) (error : Errno) (next : ℕ → Result A Errno) → is_want error ≡ false → ((x : ℕ) → result_wants (next x) ≡ false)
+some_calm : {A : Type 0} (o : Option ℕ) (error : Errno) (next : ℕ → Result A Errno) → is_out_of_memory error ≡ false → ((x : ℕ) → result_wants (next x) ≡ false)
     → result_wants (with_some o (Err error) next) ≡ false
 some_calm None error next calm rest = calm
 some_calm (Some x) error next calm rest = rest x
@@ -154,9 +154,9 @@ answer_wants (Names names) = false
 answer_wants NotBelow = false
 answer_wants (Listed names) = false
 answer_wants Done = false
-answer_wants (Refused error) = is_want error
+answer_wants (Refused error) = is_out_of_memory error
 
-pub refusal_calm : (answer : Answer) → answer_wants answer ≡ false → is_want (refusal_of answer) ≡ false
+pub refusal_calm : (answer : Answer) → answer_wants answer ≡ false → is_out_of_memory (refusal_of answer) ≡ false
 refusal_calm (Opened h x kind) calm = refl
 refusal_calm (Text text) calm = refl
 refusal_calm (Names names) calm = refl
@@ -169,11 +169,11 @@ abbrev IsCalm : Outcome → Type 0
 IsCalm o = answer_wants o.answer ≡ false
 
 module _ (s : State) where
-  unless_calm : (b : Bool) (error : Errno) (others : Outcome) → is_want error ≡ false → IsCalm others → IsCalm (refuse_if b (refused s error) others)
+  unless_calm : (b : Bool) (error : Errno) (others : Outcome) → is_out_of_memory error ≡ false → IsCalm others → IsCalm (refuse_if b (refused s error) others)
   unless_calm true error others calm rest = calm
   unless_calm false error others calm rest = rest
 
-  with_calm : {A : Type 0} (o : Option A) (error : Errno) (next : A → Outcome) → is_want error ≡ false → ((x : A) → IsCalm (next x)) → IsCalm (with_some o (refused s error) next)
+  with_calm : {A : Type 0} (o : Option A) (error : Errno) (next : A → Outcome) → is_out_of_memory error ≡ false → ((x : A) → IsCalm (next x)) → IsCalm (with_some o (refused s error) next)
   with_calm None error next calm rest = calm
   with_calm (Some x) error next calm rest = rest x
 

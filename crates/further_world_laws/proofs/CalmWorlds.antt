@@ -22,7 +22,7 @@ use Rattle.race_core.specs.OneReport.{full, HadMemory, AllHadMemory}
 use Rattle.race_core.specs.Turns.{Luck, stepped_by, outcome_of, comes, begins, begins_next, begun, goes_on, turned, request_of, left_by}
 use Rattle.race_core.specs.Worlds.{WorldView, turn_of, turn, Runs, again, AllGoToEnd, numbers_below, ledgers_in, replies_in}
 use Rattle.race_core.proofs.WorldSoFar.{placed_there}
-use Rattle.explore.specs.Want.{reply_wants, outcome_wants, any_wants, call_wants, seat_wants, seats_want, replies_want}
+use Rattle.explore.specs.OutOfMemory.{reply_out_of_memory, outcome_out_of_memory, any_out_of_memory, call_out_of_memory, seat_out_of_memory, seats_out_of_memory, replies_out_of_memory}
 use Rattle.further_world_laws.specs.WantCauses.{BringsNoWant, MemoryBringsNoWant, LackedMemory, WantHasATurn, ReportsWithMemoryTellNone}
 use Rattle.further_world_laws.proofs.CalmCalls.{TurnIsCalm, take_calm, starts_calm}
 use Rattle.further_world_laws.proofs.CalmSteps.{stepped_calm}
@@ -33,15 +33,15 @@ neither : (a b : Bool) → a ≡ false → b ≡ false → (a || b) ≡ false
 neither true b e f = absurd (false≢true (sym e))
 neither false b e f = f
 
-any_both : (before after : List Outcome) → any_wants before ≡ false → any_wants after ≡ false → any_wants (before ++ after) ≡ false
+any_both : (before after : List Outcome) → any_out_of_memory before ≡ false → any_out_of_memory after ≡ false → any_out_of_memory (before ++ after) ≡ false
 any_both [] after e f = f
 any_both (o ∷ before) after e f =
-    neither (outcome_wants o) (any_wants (before ++ after)) (or_false (outcome_wants o) (any_wants before) e).0
-    (any_both before after (or_false (outcome_wants o) (any_wants before) e).1 f)
+    neither (outcome_out_of_memory o) (any_out_of_memory (before ++ after)) (or_false (outcome_out_of_memory o) (any_out_of_memory before) e).0
+    (any_both before after (or_false (outcome_out_of_memory o) (any_out_of_memory before) e).1 f)
 
 -- ---- a turn
 
-same_want : (reply : Reply) → outcome_wants (outcome_of reply) ≡ reply_wants reply
+same_want : (reply : Reply) → outcome_out_of_memory (outcome_of reply) ≡ reply_out_of_memory reply
 same_want (call.opened handle names) = refl
 same_want (call.link_text text) = refl
 same_want call.done = refl
@@ -50,8 +50,8 @@ same_want (call.stepped answer) = refl
 same_want (call.kept standing) = refl
 same_want (call.fault error) = refl
 
-one_calm : (outcome : Outcome) → outcome_wants outcome ≡ false → any_wants (outcome ∷ []) ≡ false
-one_calm outcome e = neither (outcome_wants outcome) false e refl
+one_calm : (outcome : Outcome) → outcome_out_of_memory outcome ≡ false → any_out_of_memory (outcome ∷ []) ≡ false
+one_calm outcome e = neither (outcome_out_of_memory outcome) false e refl
 
 -- what is added to this ledger's outcomes
 abbrev Brings : LedgerView → Seat → Type 0
@@ -78,11 +78,11 @@ next_calm ledger (next ∷ others) =
     let brought = begins_calm begun_ledger (request_of ledger.root ledger.standings next) in
     record { news = brought.news; told = brought.told; none = brought.none; under_way = brought.under_way }
 
-begun_calm : (ledger : LedgerView) (doing : Option CallView) → call_wants doing ≡ false → Brings ledger (begun true ledger doing)
+begun_calm : (ledger : LedgerView) (doing : Option CallView) → call_out_of_memory doing ≡ false → Brings ledger (begun true ledger doing)
 begun_calm ledger None calm = next_calm ledger ledger.to_come
 begun_calm ledger (Some view) calm = record { news = []; told = sym (append-nil ledger.outcomes); none = refl; under_way = calm }
 
-goes_calm : (book : BookedHistory) (ledger : LedgerView) (doing : Option CallView) → call_wants doing ≡ false → Brings ledger (goes_on true true book ledger doing).seat
+goes_calm : (book : BookedHistory) (ledger : LedgerView) (doing : Option CallView) → call_out_of_memory doing ≡ false → Brings ledger (goes_on true true book ledger doing).seat
 goes_calm book ledger None calm = record { news = []; told = sym (append-nil ledger.outcomes); none = refl; under_way = refl }
 goes_calm book ledger (Some view) calm =
     let answer : Answer = (stepped_by true book ledger.root.owner.actor (due view.below view.doing)).answer in
@@ -103,12 +103,12 @@ memory_brings_no_want book seat calm =
 
 -- ---- worlds
 
-seat_calm : (book : BookedHistory) (seat : Seat) → seat_wants seat ≡ false → seat_wants (turned full book seat.ledger seat.doing).seat ≡ false
+seat_calm : (book : BookedHistory) (seat : Seat) → seat_out_of_memory seat ≡ false → seat_out_of_memory (turned full book seat.ledger seat.doing).seat ≡ false
 seat_calm book seat calm =
-    let brought = memory_brings_no_want book seat (or_false (any_wants seat.ledger.outcomes) (call_wants seat.doing) calm).1 in
+    let brought = memory_brings_no_want book seat (or_false (any_out_of_memory seat.ledger.outcomes) (call_out_of_memory seat.doing) calm).1 in
     let new : Seat = (turned full book seat.ledger seat.doing).seat in
-    neither (any_wants new.ledger.outcomes) (call_wants new.doing)
-    (ap any_wants brought.told ∙ any_both seat.ledger.outcomes brought.news (or_false (any_wants seat.ledger.outcomes) (call_wants seat.doing) calm).0 brought.none)
+    neither (any_out_of_memory new.ledger.outcomes) (call_out_of_memory new.doing)
+    (ap any_out_of_memory brought.told ∙ any_both seat.ledger.outcomes brought.news (or_false (any_out_of_memory seat.ledger.outcomes) (call_out_of_memory seat.doing) calm).0 brought.none)
     brought.under_way
 
 -- ---- one actor
@@ -127,10 +127,10 @@ turn_elsewhere : (luck : Luck) (w : WorldView) (j i : ℕ) (o : Option Seat) →
 turn_elsewhere luck w j i None ne = refl
 turn_elsewhere luck w j i (Some seat) ne = slice_get-set_other w.seats j (turned luck w.book seat.ledger seat.doing).seat i ne
 
-module _ (j : ℕ) (is : List ℕ) (w v : WorldView) (ran : Runs w (j ∷ is) v) (i : ℕ) (old : Seat) (at : slice_get w.seats i ≡ Some old) (calm : seat_wants old ≡ false) where
+module _ (j : ℕ) (is : List ℕ) (w v : WorldView) (ran : Runs w (j ∷ is) v) (i : ℕ) (old : Seat) (at : slice_get w.seats i ≡ Some old) (calm : seat_out_of_memory old ≡ false) where
   -- what follows from the seat after the first turn
   abbrev Onward : Type 0
-  Onward = (next : Seat) → slice_get (turn ran.0 w j).seats i ≡ Some next → seat_wants next ≡ false → LackedMemory i (turn ran.0 w j) is v ran.1
+  Onward = (next : Seat) → slice_get (turn ran.0 w j).seats i ≡ Some next → seat_out_of_memory next ≡ false → LackedMemory i (turn ran.0 w j) is v ran.1
 
   its_turn : j ≡ i → Onward → (ran.0 ≡ full) ⊎ (ran.0 ≢ full) → LackedMemory i w (j ∷ is) v ran
   its_turn mine onward (inr lacked) = inl (mine, lacked)
@@ -139,8 +139,8 @@ module _ (j : ℕ) (is : List ℕ) (w v : WorldView) (ran : Runs w (j ∷ is) v)
       let there : slice_get (turn ran.0 w j).seats i ≡ Some next =
       subst (λ (k : ℕ). slice_get (turn ran.0 w k).seats i ≡ Some next) (sym mine)
       (ap (λ (o : Option Seat). slice_get (turn_of ran.0 w i o).seats i) at ∙ placed_there w.seats i old next at) in
-      let still : seat_wants next ≡ false =
-      subst (λ (luck : Luck). seat_wants (turned luck w.book old.ledger old.doing).seat ≡ false) (sym had) (seat_calm w.book old calm) in
+      let still : seat_out_of_memory next ≡ false =
+      subst (λ (luck : Luck). seat_out_of_memory (turned luck w.book old.ledger old.doing).seat ≡ false) (sym had) (seat_calm w.book old calm) in
       inr (onward next there still)
 
   one_turn : Onward → (i ≡ j) ⊎ (i ≢ j) → LackedMemory i w (j ∷ is) v ran
@@ -150,48 +150,48 @@ module _ (j : ℕ) (is : List ℕ) (w v : WorldView) (ran : Runs w (j ∷ is) v)
 pub want_has_a_turn : WantHasATurn
 want_has_a_turn [] w v ran i old new at then calm wants =
     let same : old ≡ new = same_Some old new (sym at ∙ (ap (λ (u : WorldView). slice_get u.seats i) (sym ran) ∙ then)) in
-    absurd (false≢true (sym calm ∙ (ap seat_wants same ∙ wants)))
+    absurd (false≢true (sym calm ∙ (ap seat_out_of_memory same ∙ wants)))
 want_has_a_turn (j ∷ is) w v ran i old new at then calm wants =
     one_turn j is w v ran i old at calm (λ next there still. want_has_a_turn is (turn ran.0 w j) v ran.1 i next new there then still wants) (cases_eq i j)
 
 -- ---- all actors
 
-set_calm : (seats : List Seat) (i : ℕ) (old new : Seat) → slice_get seats i ≡ Some old → (seat_wants old ≡ false → seat_wants new ≡ false) → seats_want seats ≡ false
-    → seats_want (slice_set seats i new) ≡ false
+set_calm : (seats : List Seat) (i : ℕ) (old new : Seat) → slice_get seats i ≡ Some old → (seat_out_of_memory old ≡ false → seat_out_of_memory new ≡ false) → seats_out_of_memory seats ≡ false
+    → seats_out_of_memory (slice_set seats i new) ≡ false
 set_calm [] i old new e keeps calm = refl
 set_calm (s ∷ seats) zero old new e keeps calm =
-    neither (seat_wants new) (seats_want seats) (keeps (sym (ap seat_wants (same_Some s old e)) ∙ (or_false (seat_wants s) (seats_want seats) calm).0))
-    (or_false (seat_wants s) (seats_want seats) calm).1
+    neither (seat_out_of_memory new) (seats_out_of_memory seats) (keeps (sym (ap seat_out_of_memory (same_Some s old e)) ∙ (or_false (seat_out_of_memory s) (seats_out_of_memory seats) calm).0))
+    (or_false (seat_out_of_memory s) (seats_out_of_memory seats) calm).1
 set_calm (s ∷ seats) (suc i) old new e keeps calm =
-    neither (seat_wants s) (seats_want (slice_set seats i new)) (or_false (seat_wants s) (seats_want seats) calm).0
-    (set_calm seats i old new e keeps (or_false (seat_wants s) (seats_want seats) calm).1)
+    neither (seat_out_of_memory s) (seats_out_of_memory (slice_set seats i new)) (or_false (seat_out_of_memory s) (seats_out_of_memory seats) calm).0
+    (set_calm seats i old new e keeps (or_false (seat_out_of_memory s) (seats_out_of_memory seats) calm).1)
 
-turn_calm : (w : WorldView) (i : ℕ) → seats_want w.seats ≡ false → seats_want (turn full w i).seats ≡ false
+turn_calm : (w : WorldView) (i : ℕ) → seats_out_of_memory w.seats ≡ false → seats_out_of_memory (turn full w i).seats ≡ false
 turn_calm w i calm = on (slice_get w.seats i) refl
   where
-    on : (o : Option Seat) → slice_get w.seats i ≡ o → seats_want (turn_of full w i o).seats ≡ false
+    on : (o : Option Seat) → slice_get w.seats i ≡ o → seats_out_of_memory (turn_of full w i o).seats ≡ false
     on None e = calm
     on (Some seat) e = set_calm w.seats i seat (turned full w.book seat.ledger seat.doing).seat e (λ before. seat_calm w.book seat before) calm
 
-run_calm : (is : List ℕ) (w v : WorldView) (ran : Runs w is v) → HadMemory w is v ran → seats_want w.seats ≡ false → seats_want v.seats ≡ false
-run_calm [] w v ran had calm = ap (λ (u : WorldView). seats_want u.seats) ran ∙ calm
+run_calm : (is : List ℕ) (w v : WorldView) (ran : Runs w is v) → HadMemory w is v ran → seats_out_of_memory w.seats ≡ false → seats_out_of_memory v.seats ≡ false
+run_calm [] w v ran had calm = ap (λ (u : WorldView). seats_out_of_memory u.seats) ran ∙ calm
 run_calm (i ∷ is) w v ran had calm =
-    run_calm is (turn ran.0 w i) v ran.1 had.1 (subst (λ (luck : Luck). seats_want (turn luck w i).seats ≡ false) (sym had.0) (turn_calm w i calm))
+    run_calm is (turn ran.0 w i) v ran.1 had.1 (subst (λ (luck : Luck). seats_out_of_memory (turn luck w i).seats ≡ false) (sym had.0) (turn_calm w i calm))
 
-all_calm : (is : List ℕ) (w v : WorldView) (gone : AllGoToEnd w is v) → AllHadMemory w is v gone → seats_want w.seats ≡ false → seats_want v.seats ≡ false
-all_calm [] w v gone had calm = ap (λ (u : WorldView). seats_want u.seats) gone ∙ calm
+all_calm : (is : List ℕ) (w v : WorldView) (gone : AllGoToEnd w is v) → AllHadMemory w is v gone → seats_out_of_memory w.seats ≡ false → seats_out_of_memory v.seats ≡ false
+all_calm [] w v gone had calm = ap (λ (u : WorldView). seats_out_of_memory u.seats) gone ∙ calm
 all_calm (i ∷ is) w v gone had calm = all_calm is gone.0 v gone.2 had.1 (run_calm (again i gone.1.turns) w gone.0 gone.1.run had.0 calm)
 
-told_calm : (seats : List Seat) → seats_want seats ≡ false → replies_want (replies_in (ledgers_in seats)) ≡ false
+told_calm : (seats : List Seat) → seats_out_of_memory seats ≡ false → replies_out_of_memory (replies_in (ledgers_in seats)) ≡ false
 told_calm [] calm = refl
 told_calm (s ∷ seats) calm =
-    neither (any_wants s.ledger.outcomes) (replies_want (replies_in (ledgers_in seats)))
-    (or_false (any_wants s.ledger.outcomes) (call_wants s.doing) (or_false (seat_wants s) (seats_want seats) calm).0).0
-    (told_calm seats (or_false (seat_wants s) (seats_want seats) calm).1)
+    neither (any_out_of_memory s.ledger.outcomes) (replies_out_of_memory (replies_in (ledgers_in seats)))
+    (or_false (any_out_of_memory s.ledger.outcomes) (call_out_of_memory s.doing) (or_false (seat_out_of_memory s) (seats_out_of_memory seats) calm).0).0
+    (told_calm seats (or_false (seat_out_of_memory s) (seats_out_of_memory seats) calm).1)
 
 pub reports_with_memory_tell_none : ReportsWithMemoryTellNone
 reports_with_memory_tell_none w schedule tree events replies kept ran calm had =
-    ap replies_want ran.reports.are_replies
+    ap replies_out_of_memory ran.reports.are_replies
     ∙ told_calm ran.end.seats
     (all_calm (numbers_below (length w.seats)) ran.runs.middle ran.end ran.runs.rest had.rest
     (run_calm schedule w ran.runs.middle ran.runs.scheduled had.scheduled calm))

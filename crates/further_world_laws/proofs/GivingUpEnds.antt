@@ -15,6 +15,7 @@ use Rattle.race_core.specs.GivenUp.{GoesWithout, closed_all, GivesCallUp}
 use Rattle.race_core.specs.Turns.{Stepped, unless_refused, stepped_by}
 use Rattle.race_core.proofs.GivenUp.{closed_both}
 use Rattle.further_world_laws.specs.GivenUpWorlds.{GivingUpEnds}
+use Rattle.root_ops.proofs.FirstSteps.{fewer_still}
 
 -- ---- a step without memory
 
@@ -46,10 +47,6 @@ record GoesOut (a : ℕ) (below : Below) (book : BookedHistory) (t : CallTurn) :
   pub goes : GoesWithout a below book t rooms after
   pub closed : List ℕ
   pub is : after ≡ closed_all a book closed
-
-fewer_still : (below : Below) (j k : ℕ) (t : CallTurn) → j ≤ k → IsFewer below j t → IsFewer below k t
-fewer_still below j k (more doing) less few = omega (arith, less, few)
-fewer_still below j k (ends reply) less few = tt
 
 goes_out : (k a : ℕ) (below : Below) (book : BookedHistory) (t : CallTurn) → IsFewer below k t → GoesOut a below book t
 goes_out k a below book (ends reply) few = record { rooms = []; after = book; goes = refl; closed = []; is = refl }

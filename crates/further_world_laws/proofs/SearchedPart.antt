@@ -13,7 +13,7 @@ use Rattle.schedule_graph.proofs.Summing.{so_many_as}
 
 -- ---- lists that begin so
 
-begins_to : (begin is : List ℕ) → BeginsWith begin is → Begins begin is
+pub begins_to : (begin is : List ℕ) → BeginsWith begin is → Begins begin is
 begins_to [] is h = (is, refl)
 begins_to (j ∷ js) [] h = absurd h
 begins_to (j ∷ js) (i ∷ is) h = let rest = begins_to js is h.1 in (rest.0, (λ k. h.0 k ∷ rest.1 k))

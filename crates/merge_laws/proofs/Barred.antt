@@ -14,6 +14,7 @@ use Rattle.race_core.specs.Worlds.{WorldView, turn, is_busy_at}
 use Rattle.schedule_graph.specs.declared.count.TheConstants.{COUNT_CAP}
 use Rattle.further_world_laws.specs.Parts.{IsAskedFrom, part_with, IsPart}
 use Rattle.further_world_laws.proofs.Beginnings.{plus_more, none_fewer, within_fewer}
+use Rattle.schedule_graph.proofs.Summing.{none_capped}
 
 -- a turn of a full list is of an actor who has something left to do then
 pub busy_there : (w : WorldView) (begin rest : List ℕ) (at actor : ℕ) → IsFull w (begin ++ rest) → slice_get begin at ≡ Some actor
@@ -29,9 +30,6 @@ cuts_more w last [] rest (suc n) = none_fewer (cuts_after w last rest)
 cuts_more w last (i ∷ is) rest (suc n) =
     plus_more (is_cut w.seats last i) (cuts_after (turn full w i) (Some i) (take n is)) (cuts_after (turn full w i) (Some i) (is ++ rest))
     (cuts_more (turn full w i) (Some i) is rest n)
-
-none_capped : (cap : ℕ) → 0 ≡ min 0 cap
-none_capped cap = grind arith
 
 module _ (w : WorldView) (scope : Scope) (limits : Limits) (begin : List ℕ) (bound : scope.cuts ≡ limits.scope.cuts) (barred : IsBarred w limits begin) where
   pub none_begins : (is : List ℕ) → IsAskedFrom w scope begin is → ⊥

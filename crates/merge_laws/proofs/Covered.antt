@@ -22,24 +22,13 @@ use Rattle.further_world_laws.specs.Parts.{Begins, BeginsWithOne}
 use Rattle.merge_laws.specs.Merged.{IsPartOf, AreOfOneQuestion, IsSeated, PartsWithoutGapsAreAll, begins_in}
 use Rattle.merge_laws.proofs.Barred.{busy_there, none_begins}
 use Rattle.merge_laws.proofs.NoGaps.{MightHave, begins_with_one, each_once, found}
+use Rattle.further_world_laws.proofs.SearchedPart.{begins_to}
+use Rattle.further_world_laws.proofs.Beginnings.{ends_there}
+use Rattle.explore_command.proofs.Replayed.{busy_within}
+use Rattle.tree_model.proofs.Places.{slice_get-last}
+use Rattle.step_resolver.proofs.Meaning.PlainResolution.{slice_get-some}
 
 -- ---- full lists
-
-begins_to : (begin is : List ℕ) → BeginsWith begin is → Begins begin is
-begins_to [] is h = (is, refl)
-begins_to (j ∷ js) [] h = absurd h
-begins_to (j ∷ js) (i ∷ is) h = let rest = begins_to js is h.1 in (rest.0, (λ k. h.0 k ∷ rest.1 k))
-
--- a full list doesn't go on
-ends_there : (w : WorldView) (is rest : List ℕ) → IsFull w is → IsFull w (is ++ rest) → rest ≡ []
-ends_there w [] [] over whole = refl
-ends_there w [] (i ∷ rest) over whole = absurd (true≢false (sym whole.0 ∙ over i))
-ends_there w (i ∷ is) rest first whole = ends_there (turn full w i) is rest first.1 whole.1
-
-busy_within : (seats : List Seat) (i : ℕ) → is_busy_at seats i ≡ true → i < length seats
-busy_within [] i busy = absurd (false≢true busy)
-busy_within (seat ∷ seats) zero busy = omega arith
-busy_within (seat ∷ seats) (suc i) busy = let rest = busy_within seats i busy in omega (arith, rest)
 
 none_first : (more rest : List ℕ) → more ++ rest ≡ [] → more ≡ []
 none_first [] rest e = refl
@@ -47,15 +36,6 @@ none_first (x ∷ more) rest e = absurd (no_end e)
   where
     no_end : x ∷ (more ++ rest) ≡ [] → ⊥
     no_end p = absurd (omega (arith, ap length p))
-
-last_there : (before : List ℕ) (actor : ℕ) → slice_get (before ++ actor ∷ []) (length before) ≡ Some actor
-last_there [] actor = refl
-last_there (b ∷ before) actor = last_there before actor
-
-is_some_at : {A : Type 0} (xs : List A) (at : ℕ) → at < length xs → (x : A) × (slice_get xs at ≡ Some x)
-is_some_at [] at lt = absurd (omega (arith, lt))
-is_some_at (x ∷ xs) zero lt = (x, refl)
-is_some_at (x ∷ xs) (suc at) lt = is_some_at xs at (omega (arith, lt))
 
 no_list : (lists : ℕ) → nat_lt 0 lists ≡ true → lists ≡ 0 → ⊥
 no_list lists some none = true≢false (sym some ∙ ap (nat_lt 0) none)
@@ -76,7 +56,7 @@ module _ (asked : Asked) (tree : State) (plans : List ActorPlan) (lines : ℕ) (
     subst (λ (n : ℕ). actor < n) (actors_stay world (take (length before) (before ++ actor ∷ [])) ∙ sym seats)
         (busy_within (after_turns world (take (length before) (before ++ actor ∷ []))).seats actor
         (busy_there world (before ++ actor ∷ []) rest (length before) actor
-        (subst (λ (js : List ℕ). IsFull world js) joined whole.whole) (last_there before actor))),
+        (subst (λ (js : List ℕ). IsFull world js) joined whole.whole) (slice_get-last before actor))),
     (λ limits bound barred. none_begins world asked.limits.scope limits (before ++ actor ∷ []) bound barred is (whole, (rest, joined))),
   )
     where
@@ -119,7 +99,7 @@ module _ (asked : Asked) (tree : State) (plans : List ActorPlan) (lines : ℕ) (
     -- whoever can have a turn might have had it
     tells : (at actor : ℕ) → at < length part.begin.items → Can (take at part.begin.items) actor → MightHave part at actor
     tells at actor short can =
-        let there = is_some_at part.might.items at (subst (λ (n : ℕ). at < n) (sym far) short) in
+        let there = slice_get-some part.might.items at (subst (λ (n : ℕ). at < n) (sym far) short) in
         ⊎_elim (λ among. (there.0, (there.1, among)))
         (λ barred.
         absurd

@@ -5,7 +5,7 @@ use Rattle.std.specs.List.{list_any, starts_with}
 use Rattle.std.proofs.Common.{◌∙◌, ◌+◌, inl, inr, sym, ap, subst, ⊎_elim, arith, drop}
 use Rattle.std.proofs.Math.Bool.{or-true}
 use Rattle.std.proofs.Math.Seq.{take-append_seam}
-use Rattle.std.proofs.lemmas.Bool.{true≢false, false≢true, and_parts}
+use Rattle.std.proofs.lemmas.Bool.{true≢false, false≢true, and_parts, or_cases, or_parts, not-false, not-true}
 use Rattle.std.proofs.lemmas.Bool.Decides.{Decides-eqb}
 use Rattle.std.proofs.lemmas.List.{append-nil, append_assoc}
 use Rattle.std.proofs.lemmas.Option.{same_Some, none-some}
@@ -23,34 +23,18 @@ MightHave part at actor = (might : Vec ℕ) × ((slice_get part.might.items at �
 
 -- ---- tests
 
-either : (a b : Bool) → (a || b) ≡ true → (a ≡ true) ⊎ (b ≡ true)
-either true b e = inl refl
-either false b e = inr e
-
-neither : (a b : Bool) → (a || b) ≡ false → (a ≡ false) × (b ≡ false)
-neither true b e = absurd (true≢false e)
-neither false b e = (refl, e)
-
-not_false : (b : Bool) → not b ≡ false → b ≡ true
-not_false true e = refl
-not_false false e = absurd (true≢false e)
-
-not_true : (b : Bool) → not b ≡ true → b ≡ false
-not_true true e = absurd (false≢true e)
-not_true false e = refl
-
 -- a test that passes somewhere
 pub found : {A : Type 0} (test : A → Bool) (xs : List A) → list_any test xs ≡ true → (x : A) × (IsAmong x xs × (test x ≡ true))
 found test [] e = absurd (false≢true e)
 found test (x ∷ xs) e =
     ⊎_elim (λ here. (x, (inl refl, here))) (λ rest. let at = found test xs rest in (at.0, (inr at.1.0, at.1.1)))
-    (either (test x) (list_any test xs) e)
+    (or_cases (test x) (list_any test xs) e)
 
 -- one that passes nowhere
 fails : {A : Type 0} (test : A → Bool) (xs : List A) → list_any test xs ≡ false → (x : A) → IsAmong x xs → test x ≡ false
 fails test [] e x h = absurd h
 fails test (y ∷ ys) e x h =
-    let both = neither (test y) (list_any test ys) e in
+    let both = or_parts (test y) (list_any test ys) e in
     ⊎_elim (λ same. ap test same ∙ both.0) (λ rest. fails test ys both.1 x rest) h
 
 -- counted from k on
@@ -59,9 +43,9 @@ fails_numbered : {A : Type 0} (test : ℕ → A → Bool) (k : ℕ) (xs : List A
 fails_numbered test k [] e at n x same there = absurd (none-some x there)
 fails_numbered test k (y ∷ ys) e zero n x same there =
     let first : n ≡ k = omega (arith, same) in
-    ap (λ m. test m x) first ∙ (ap (test k) (sym (same_Some y x there)) ∙ (neither (test k y) (any_numbered test (suc k) ys) e).0)
+    ap (λ m. test m x) first ∙ (ap (test k) (sym (same_Some y x there)) ∙ (or_parts (test k y) (any_numbered test (suc k) ys) e).0)
 fails_numbered test k (y ∷ ys) e (suc at) n x same there =
-    fails_numbered test (suc k) ys (neither (test k y) (any_numbered test (suc k) ys) e).1 at n x (omega (arith, same)) there
+    fails_numbered test (suc k) ys (or_parts (test k y) (any_numbered test (suc k) ys) e).1 at n x (omega (arith, same)) there
 
 -- ---- lists of which one begins with the other
 
@@ -77,7 +61,7 @@ Along begin is = Begins begin is ⊎ Begins is begin
 along_so : (begin is : List ℕ) → go_along begin is ≡ true → Along begin is
 along_so begin is e =
     ⊎_elim (λ a. inr (begins_so begin is a)) (λ b. inl (begins_so is begin b))
-    (either (starts_with nat_eq begin is) (starts_with nat_eq is begin) e)
+    (or_cases (starts_with nat_eq begin is) (starts_with nat_eq is begin) e)
 
 goes_so : (begin is : List ℕ) → Along begin is → go_along begin is ≡ true
 goes_so begin is (inl begins) =
@@ -117,7 +101,7 @@ module _ (parts : List Part) where
       let here : lacks parts part at might.0 ≡ false =
       fails_numbered (lacks parts part) 0 part.might.items none at at might.0 (omega arith) might.1.0 in
       there_so (take at part.begin.items ++ actor ∷ [])
-      (not_false (is_there parts (take at part.begin.items ++ actor ∷ []))
+      (not-false (is_there parts (take at part.begin.items ++ actor ∷ []))
       (fails (lacks_turn parts (take at part.begin.items)) might.0.items here actor might.1.1))
 
   module _ (Can : List ℕ → ℕ → Type 0) (gaps : list_any (has_gap parts) parts ≡ false)
@@ -176,7 +160,7 @@ first_apart part parts apart other h along =
     let both = and_parts (not (list_any (goes_along part) parts)) (are_apart parts) apart in
     true≢false
     (sym (goes_so part.begin.items other.begin.items along)
-    ∙ fails (goes_along part) parts (not_true (list_any (goes_along part) parts) both.0) other h)
+    ∙ fails (goes_along part) parts (not-true (list_any (goes_along part) parts) both.0) other h)
 
 turned : (a b : List ℕ) → Along a b → Along b a
 turned a b (inl begins) = inr begins

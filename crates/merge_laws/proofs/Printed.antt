@@ -20,7 +20,7 @@ use Rattle.explore_command.specs.PartText.{part_words, part_line}
 use Rattle.explore_command.specs.ReadBack.{AreSameTold, AreSame, AreScheduled}
 use Rattle.explore_command.specs.Seal.{sum_of, sealed}
 use Rattle.explore_command.proofs.OneLine.{first_line}
-use Rattle.explore_command.proofs.OnePart.{values_say_one_part, values_say_one_question}
+use Rattle.explore_command.proofs.OnePart.{values_say_one_part, values_say_one_question, zip_length}
 use Rattle.explore_command.proofs.PartSaid.{line_read, line_says, line_asks, line_is_one}
 use Rattle.race_core.specs.declared.plan.ActorPlan.{ActorPlan}
 use Rattle.outcome_text.specs.declared.part.Part.{Part}
@@ -71,12 +71,6 @@ module _ (named : List ℕ) (tree : State) (actors : ℕ) where
 
 abbrev SameActors : Vec ℕ → Vec ℕ → Type 0
 SameActors v w = v.items ≡ w.items
-
-zip_length : {A B : Type 0} (R : A → B → Type 0) (xs : List A) (ys : List B) → AllZip R xs ys → length xs ≡ length ys
-zip_length R [] [] h = refl
-zip_length R [] (y ∷ ys) h = absurd h
-zip_length R (x ∷ xs) [] h = absurd h
-zip_length R (x ∷ xs) (y ∷ ys) h = ap suc (zip_length R xs ys h.1)
 
 zip_get : {A B : Type 0} (R : A → B → Type 0) (xs : List A) (ys : List B) → AllZip R xs ys → (at : ℕ) (y : B) → slice_get ys at ≡ Some y
     → (x : A) × ((slice_get xs at ≡ Some x) × R x y)

@@ -10,7 +10,7 @@ use Rattle.explore_command.specs.Classes.{IsTold}
 use Rattle.race_core.specs.Worlds.{WorldView}
 use Rattle.schedule_graph.specs.declared.count.TheConstants.{COUNT_CAP}
 use Rattle.schedule_graph.specs.Counted.{IsAmong, EachOnce, AreSoMany}
-use Rattle.schedule_graph.proofs.Summing.{so_many_as}
+use Rattle.schedule_graph.proofs.Summing.{so_many_as, none_capped}
 use Rattle.outcome_text.specs.declared.survey.Told.{Told}
 use Rattle.outcome_text.specs.InPieces.{AreAlike, AreOneBut, IsByOutcome, ArePieces}
 use Rattle.outcome_text.specs.Order.{rank_of, in_order}
@@ -27,9 +27,6 @@ use Rattle.further_world_laws.proofs.PickedOnce.{mapped, unmapped, once_unmapped
 use Rattle.further_world_laws.proofs.Sums.{InSome, sum_many}
 use Rattle.merge_laws.specs.Merged.{RepliesNameNoHandles}
 use Rattle.merge_laws.proofs.ToldAlike.{told_alike}
-
-none_capped : (cap : ℕ) → 0 ≡ min 0 cap
-none_capped cap = grind arith
 
 module _ (w : WorldView) (scope : Scope) (named : List ℕ) (opening : State) (actors : ℕ) where
   -- a class, with what is told of it

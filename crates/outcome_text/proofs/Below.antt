@@ -13,15 +13,7 @@ use Rattle.outcome_text.specs.declared.part.Part.{Part}
 use Rattle.outcome_text.specs.Apart.{is_below, rise_after, rise}
 use Rattle.outcome_text.specs.Merge.{go_along, goes_along, are_apart}
 use Rattle.outcome_text.proofs.AnyOrder.{apart_in, apart_in_any_order}
-
-less_cases : (m n : ℕ) (b : Bool) → is_less_or m n b ≡ true → (m < n) ⊎ ((m ≡ n) × (b ≡ true))
-less_cases m n b e = grind (arith, nat_tests)
-
-less_by : (m n : ℕ) (b : Bool) → m < n → is_less_or m n b ≡ true
-less_by m n b e = grind (arith, nat_tests)
-
-same_by : (m : ℕ) (b : Bool) → b ≡ true → is_less_or m m b ≡ true
-same_by m b e = grind (arith, nat_tests)
+use Rattle.schedule_graph.proofs.Ranks.{less_cases, less_by, same_by}
 
 -- ---- lists of which one is below the other
 

@@ -2,7 +2,7 @@
 use Rattle.std.proofs.Common.{◌≡◌, ℕ, suc, ◌+◌, Bool, true, false, cond, List, [], ◌∷◌, ◌++◌, ◌⊎◌, length, refl, sym, ap, ◌∙◌, inl, inr, subst, ⊎_elim, arith}
 use Rattle.std.specs.List.{list_any}
 use Rattle.std.specs.Prelude.{⊤, ◌||◌, ◌&&◌, not, min, sum_by, filter, find, is_none, nat_lt, if◌then◌else◌, codes, decimal, Option, Some, None}
-use Rattle.std.proofs.lemmas.Bool.{false≢true, true≢false}
+use Rattle.std.proofs.lemmas.Bool.{false≢true, true≢false, or_right}
 use Rattle.std.proofs.lemmas.Bool.Decides.{nat_tests}
 use Rattle.std.proofs.lemmas.List.{append-nil}
 use Rattle.std.proofs.lemmas.List.Elements.{filter-append}
@@ -20,6 +20,7 @@ use Rattle.outcome_text.specs.Property.{fails, is_condition, rule_word}
 use Rattle.outcome_text.specs.Survey.{looks_like, is_new, new_among, new_ones, lists_where, lists_to, witness_words, block_words, block_text, blocks_text, breaks, lists_breaking, status_words, property_text, properties_text, holds, all_hold, numbers_text}
 use Rattle.outcome_text.specs.Conditions.{is_met, counts, counted, lists_counted, condition_text, conditions_text}
 use Rattle.outcome_text.specs.InPieces.{AreAlike, AreOneBut, IsByOutcome, IsAgain, AreFirst, ArePieces, PiecesTellTheWhole}
+use Rattle.std.proofs.Math.Bool.{or-false}
 
 -- ---- tests by outcome
 
@@ -45,24 +46,16 @@ by_both f g by also t u h = ap (λ (b : Bool). b && g t) (by t u h) ∙ ap (λ (
 
 -- ---- what is among the earlier ones
 
-or_true : (b c : Bool) → c ≡ true → (b || c) ≡ true
-or_true true c e = refl
-or_true false c e = e
-
-or_false : (b : Bool) → (b || false) ≡ b
-or_false true = refl
-or_false false = refl
-
 found_among : (test : Told → Bool) (x : Told) (xs : List Told) → IsAmong x xs → test x ≡ true → list_any test xs ≡ true
 found_among test x [] h e = absurd h
 found_among test x (y ∷ ys) h e =
-    ⊎_elim (λ q. ap (λ (b : Bool). b || list_any test ys) (sym (ap test q) ∙ e)) (λ q. or_true (test y) (list_any test ys) (found_among test x ys q e)) h
+    ⊎_elim (λ q. ap (λ (b : Bool). b || list_any test ys) (sym (ap test q) ∙ e)) (λ q. or_right (test y) (list_any test ys) (found_among test x ys q e)) h
 
 again_found : (test : Told → Bool) (earlier : List Told) (told : Told) → IsByOutcome test → IsAgain earlier told → test told ≡ true → list_any test earlier ≡ true
 again_found test earlier told by h e = found_among test h.0 earlier h.1.0 (by h.0 told h.1.1 ∙ e)
 
 more_any : (test : Told → Bool) (xs : List Told) (x : Told) → list_any test (xs ++ x ∷ []) ≡ (list_any test xs || test x)
-more_any test xs x = list_any-append test xs (x ∷ []) ∙ ap (λ (b : Bool). list_any test xs || b) (or_false (test x))
+more_any test xs x = list_any-append test xs (x ∷ []) ∙ ap (λ (b : Bool). list_any test xs || b) (or-false (test x))
 
 -- the earlier pieces and the earlier ones of the whole pass each test alike
 abbrev AreAsFound : List Told → List Told → Type 0

@@ -2,6 +2,7 @@
 use Rattle.std.proofs.Common.{◌≡◌, ℕ, zero, suc, Bool, true, false, List, [], ◌∷◌, take, drop, refl, sym, ap, ◌∙◌}
 use Rattle.std.specs.Prelude.{◌&&◌, if◌then◌else◌}
 use Rattle.outcome_text.specs.Schedule.{begins_to_rise, rises, without_tail}
+use Rattle.std.proofs.lemmas.Bool.{and_parts}
 
 -- a list rises from a place on where it begins to, and does from the next on
 pub rises_from : (list : List ℕ) (k : ℕ) → begins_to_rise (drop k list) ≡ true → rises (drop (suc k) list) ≡ true → rises (drop k list) ≡ true
@@ -15,17 +16,12 @@ rises_from (i ∷ is) zero begins rest = by (begins_to_rise (i ∷ is)) (rises i
     by false b x y = x
 rises_from (i ∷ is) (suc k) begins rest = rises_from is k begins rest
 
-both_right : (a b : Bool) → (a && b) ≡ true → b ≡ true
-both_right true b e = e
-both_right false true e = refl
-both_right false false e = e
-
 -- what rises does so from each place on
 tail_rises : (list : List ℕ) (k : ℕ) → rises list ≡ true → rises (drop k list) ≡ true
 tail_rises [] zero e = refl
 tail_rises [] (suc k) e = refl
 tail_rises (i ∷ is) zero e = e
-tail_rises (i ∷ is) (suc k) e = tail_rises is k (both_right (begins_to_rise (i ∷ is)) (rises is) e)
+tail_rises (i ∷ is) (suc k) e = tail_rises is k (and_parts (begins_to_rise (i ∷ is)) (rises is) e).1
 
 -- of what rises nothing is left
 pub none_left : (list : List ℕ) → rises list ≡ true → [] ≡ without_tail list
@@ -49,5 +45,5 @@ left_before (i ∷ is) (suc k) stops rest = by (rises (i ∷ is)) refl (left_bef
 
     by : (b : Bool) → rises (i ∷ is) ≡ b → take (suc k) is ≡ without_tail is → take (suc (suc k)) (i ∷ is) ≡ without_tail (i ∷ is)
     by true e shorter =
-        absurd (never (rises (drop k is)) (tail_rises is k (both_right (begins_to_rise (i ∷ is)) (rises is) e)) (stays (drop k is) stops))
+        absurd (never (rises (drop k is)) (tail_rises is k (and_parts (begins_to_rise (i ∷ is)) (rises is) e).1) (stays (drop k is) stops))
     by false e shorter = ap (λ xs. i ∷ xs) shorter ∙ sym (ap (λ (b : Bool). if b then [] else i ∷ without_tail is) e)

@@ -14,3 +14,4 @@ pub mod Schedule
 pub mod Survey
 pub mod Tellable
 pub mod Telling
+pub mod Unfound

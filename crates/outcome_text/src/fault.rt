@@ -1,7 +1,11 @@
 //! Why `explore` gives no answer.
 ghost use Rattle.std.specs.Prelude.{◌≡◌};
 ghost use Rattle.outcome_text.specs.declared.fault.ExploreFault.TheVariants as explore_fault;
+ghost use Rattle.outcome_text.specs.Unfound.{unfound_by};
+ghost use Rattle.scripts.specs.declared.fault.RunFault.TheVariants.{NoMemory as OutOfMemory};
 
+use path_text::NoMemory;
+pub use schedule_graph::SearchFault;
 use scripts::RunFault;
 use thiserror::Error;
 
@@ -16,18 +20,9 @@ pub enum ExploreFault {
     /// The first property that no report can have a line for, by its place, counted from 0.
     #[error("explore: property {0}")]
     NoSuchLine(usize),
-    /// There are more worlds than are gone through.
-    #[error("explore: states")]
-    TooManyStates,
-    /// A schedule has more turns than the limit.
-    #[error("explore: turns")]
-    TooManyTurns,
-    /// The turn at that place of the beginning, counted from 0, is of an actor who has nothing left to do then.
-    #[error("explore: begin {0}")]
-    NotBusy(usize),
-    /// With the turn at that place of the beginning, counted from 0, there are more cuts than are asked for.
-    #[error("explore: cuts {0}")]
-    TooManyCuts(usize),
+    /// The search gives nothing. Want of memory is `Run`'s.
+    #[error("explore: {0}")]
+    Search(SearchFault),
     /// More than so many megabytes were taken.
     #[error("explore: memory")]
     TooMuchMemory(u32),
@@ -41,5 +36,27 @@ impl From<RunFault> for ExploreFault {
 
     fn from(fault: RunFault) -> ExploreFault {
         ExploreFault::Run(fault)
+    }
+}
+
+impl From<NoMemory> for ExploreFault {
+    ghost from_gives = { λ _ told. told ≡ explore_fault.Run OutOfMemory };
+
+    fn from(_error: NoMemory) -> ExploreFault {
+        ExploreFault::Run(RunFault::NoMemory)
+    }
+}
+
+impl From<SearchFault> for ExploreFault {
+    ghost from_gives = { λ fault told. told ≡ unfound_by fault };
+
+    /// A world never has more actors than it may have, so they are no fault of their own.
+    fn from(fault: SearchFault) -> ExploreFault {
+        match fault {
+            SearchFault::TooManyActors | SearchFault::NoMemory => {
+                ExploreFault::Run(RunFault::NoMemory)
+            }
+            other => ExploreFault::Search(other),
+        }
     }
 }

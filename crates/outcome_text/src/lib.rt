@@ -32,7 +32,7 @@ mod telling;
 
 pub use asked::{OptionFault, Options};
 pub use counts::COUNT_MAX;
-pub use fault::ExploreFault;
+pub use fault::{ExploreFault, SearchFault};
 pub use laws::{
     count_limit_is_a_number, pieces_tell_the_whole, replies_have_heads, same_reports_are_told_alike,
 };

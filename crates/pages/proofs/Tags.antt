@@ -1,17 +1,14 @@
 -- What stands for a byte in a page begins no tag.
 use Rattle.std.proofs.Common.{◌≡◌, ◌≢◌, Bool, true, false, ℕ, List, [], ◌∷◌, refl, arith}
 use Rattle.std.specs.Prelude.{◌==◌, if◌then◌else◌, codes, All}
-use Rattle.std.proofs.lemmas.Bool.{eq-eqb}
+use Rattle.std.proofs.lemmas.Bool.{eq-eqb, eqb-false}
 use Rattle.std.proofs.lemmas.List.Elements.{All-nil, All-cons, All-append, All-from_recursion}
 use Rattle.pages.specs.Page.{html_byte, html_text, script_byte, script_text}
 use Rattle.pages.specs.PageLaws.{BeginsNoTag, TextOpensNoTag, DataOpensNoTag}
 
-apart : (b c : ℕ) → (b == c) ≡ false → b ≢ c
-apart b c f e = let t : (b == c) ≡ true = eq-eqb b c e in absurd (cc)
-
 -- a byte that stands for itself
 itself : (b : ℕ) → (b == 0x3c) ≡ false → All BeginsNoTag (b ∷ [])
-itself b e = All-cons BeginsNoTag b [] (apart b 0x3c e) (All-nil BeginsNoTag)
+itself b e = All-cons BeginsNoTag b [] (eqb-false b 0x3c e) (All-nil BeginsNoTag)
 
 ampersand : All BeginsNoTag (codes "&amp;")
 ampersand = All-from_recursion BeginsNoTag (codes "&amp;") (omega arith, (omega arith, (omega arith, (omega arith, (omega arith, tt)))))

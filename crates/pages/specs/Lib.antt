@@ -1,6 +1,5 @@
 pub use Rattle.report_text.specs.Report
 pub use Rattle.drawings.specs.Picture
-pub mod Json
 pub mod Changes
 pub mod History
 pub mod Run

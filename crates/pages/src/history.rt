@@ -6,8 +6,8 @@ ghost use Rattle.tree_model.specs.History.{after_event};
 ghost use Rattle.pages.specs.History.{step_part, answer_part, deed_words, event_words, events_from};
 
 use crate::changes::changes;
-use crate::json::{comma, text};
 use event_log::EventLog;
+use json_text::{comma, text};
 use path_text::NoMemory;
 use report_text::numbered;
 use std::alloc::Global;

@@ -10,7 +10,6 @@ mod changes;
 mod embedded;
 mod fixed;
 mod history;
-mod json;
 mod laws;
 mod page;
 mod picture;

@@ -5,8 +5,8 @@ ghost use Rattle.pages.specs.Run.{reply_at, replies_at, replies_words, replies_p
 
 use crate::changes::changes;
 use crate::history::add_events;
-use crate::json::{comma, text};
 use event_log::EventLog;
+use json_text::{comma, text};
 use path_text::NoMemory;
 use race_core::{Outcome, Outcomes};
 use report_text::reply_words;

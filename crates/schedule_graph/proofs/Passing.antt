@@ -1,19 +1,19 @@
--- From a layer to the next: what leads to each spot, and the words that end on the way.
+-- From a layer to the next: what leads to each node, and the words that end on the way.
 use Rattle.std.specs.Prelude.{◌≡◌, ◌<◌, ◌+◌, ◌++◌, ℕ, zero, suc, List, [], ◌∷◌, length, replicate, true, Some, None, slice_get, slice_set, refl}
 use Rattle.std.specs.Global.{Vec}
 use Rattle.std.proofs.Common.{◌⊎◌, ◌∙◌, inl, inr, sym, ap, subst, ⊎_elim, arith, take, drop, get_or, length-append}
 use Rattle.std.proofs.lemmas.List.{length-replicate, get_or-replicate}
 use Rattle.std.proofs.lemmas.Option.{same_Some, none-some, slice_get_within, get_or_from_slice_get}
-use Rattle.schedule_graph.specs.declared.graph.Spot.{Spot}
-use Rattle.schedule_graph.specs.declared.graph.Spot.TheVariants.{Ends}
+use Rattle.schedule_graph.specs.declared.graph.Node.{Node}
+use Rattle.schedule_graph.specs.declared.graph.Node.TheVariants.{Ends}
 use Rattle.schedule_graph.specs.declared.count.Count.{Count}
 use Rattle.schedule_graph.specs.declared.count.Counts.{Counts}
-use Rattle.schedule_graph.specs.Words.{Rank, is_at_most, spot_at, IsWord, IsWordOf, IsSomeWord, rank}
+use Rattle.schedule_graph.specs.Words.{Rank, is_at_most, node_at, IsWord, IsWordOf, IsSomeWord, rank}
 use Rattle.schedule_graph.specs.Counted.{IsCount, AreCounts}
 use Rattle.schedule_graph.specs.Adding.{added}
 use Rattle.schedule_graph.specs.Led.{width_at, led, LeadsTo, IsTable, Came, IsBefore, IsNext, Ended, AreTold}
 use Rattle.schedule_graph.proofs.Summing.{moved, counted_none}
-use Rattle.schedule_graph.proofs.Leading.{spot_within, layer_within, from_within, led_more, led_split, word_led, led_word, last_of}
+use Rattle.schedule_graph.proofs.Leading.{node_within, layer_within, from_within, led_more, led_split, word_led, led_word, last_of}
 use Rattle.schedule_graph.proofs.Spreading.{get_set}
 
 -- nothing counted yet
@@ -26,23 +26,23 @@ blank_there n xs is t c there =
     let lt : t < n = omega (arith, slice_get_within (replicate n blank) t c here, length-replicate n blank) in
     sym (get_or_from_slice_get (replicate n blank) t c blank here) ∙ get_or-replicate n t blank blank lt
 
-all_none : (layers : List (Vec Spot)) (P : List ℕ → Type 0) (c : Count) → c ≡ blank → ((w : List ℕ) → P w → ⊥) → IsCount (rank layers) P c
+all_none : (layers : List (Vec Node)) (P : List ℕ → Type 0) (c : Count) → c ≡ blank → ((w : List ℕ) → P w → ⊥) → IsCount (rank layers) P c
 all_none layers P c e none = subst (λ (d : Count). IsCount (rank layers) P d) (sym e) (counted_none (rank layers) P none)
 
 -- ---- the next layer
 
-pub next_first : (layers : List (Vec Spot)) (k n : ℕ) (next : List Count) → next ≡ replicate n blank → IsNext layers k 0 next
-next_first layers k n next is = λ t c there. all_none layers (Came layers k (IsBefore 0) t) c (blank_there n next is t c there) (λ w came. none came.spot came.early)
+pub next_first : (layers : List (Vec Node)) (k n : ℕ) (next : List Count) → next ≡ replicate n blank → IsNext layers k 0 next
+next_first layers k n next is = λ t c there. all_none layers (Came layers k (IsBefore 0) t) c (blank_there n next is t c there) (λ w came. none came.node came.early)
   where
     none : (a : ℕ) → a < 0 → ⊥
     none a lt = omega arith
 
-module _ (layers : List (Vec Spot)) (k : ℕ) where
+module _ (layers : List (Vec Node)) (k : ℕ) where
   came_led : (n t : ℕ) (w : List ℕ) → Came layers k (IsBefore n) t w → LeadsTo layers (suc k) t w
   came_led n t w came = record {
-    long = ap length came.is ∙ (length-append came.before (came.letter ∷ []) ∙ one_more (length came.before) came.leads.long);
+    long = ap length came.is ∙ (length-append came.before (came.label ∷ []) ∙ one_more (length came.before) came.leads.long);
     there = ap (led layers 0 0) came.is
-        ∙ (led_more layers 0 0 came.before k came.spot came.letter came.way came.leads.there (from_start (length came.before) came.leads.long) came.by
+        ∙ (led_more layers 0 0 came.before k came.node came.label came.edge came.leads.there (from_start (length came.before) came.leads.long) came.by
         ∙ ap (λ u. Some u) came.to);
   }
     where
@@ -58,9 +58,9 @@ module _ (layers : List (Vec Spot)) (k : ℕ) where
       let split = led_split layers 0 0 last.0 k t last.1.0 (ap (led layers 0 0) (sym last.1.1.0) ∙ leads.there) (from_start (length last.0) last.1.1.1) in
       record {
         before = last.0;
-        letter = last.1.0;
-        spot = split.0;
-        way = split.1.0;
+        label = last.1.0;
+        node = split.0;
+        edge = split.1.0;
         is = last.1.1.0;
         leads = record { long = last.1.1.1; there = split.1.1.0 };
         early = within split.0 (from_within layers k split.0 last.1.0 split.1.0 split.1.1.1.0);
@@ -74,7 +74,7 @@ module _ (layers : List (Vec Spot)) (k : ℕ) where
       within : (a : ℕ) → a < width_at layers k → a < n
       within a lt = omega arith
 
-  -- all ways of the layer were taken
+  -- all edges of the layer were taken
   pub next_last : (n : ℕ) (next : List Count) → n ≡ width_at layers k → IsNext layers k n next → IsTable layers (suc k) next
   next_last n next all is = λ t c there.
       moved (rank layers) (Came layers k (IsBefore n) t) (LeadsTo layers (suc k) t) c (came_led n t) (led_came n t all) (is t c there)
@@ -129,10 +129,10 @@ module _ (layers : List (Vec Spot)) (k : ℕ) where
         within : (a : ℕ) → a < width_at layers k → a < n
         within a lt = omega arith
 
-        ends : (class : ℕ) → Class class → length w ≡ k → (t : ℕ) × ((led layers 0 0 w ≡ Some t) × (spot_at layers k t ≡ Some (Ends class)))
-            → (d : ℕ) × ((spot : ℕ) × (Class d × ((spot < n) × (LeadsTo layers k spot w × (spot_at layers k spot ≡ Some (Ends d))))))
+        ends : (class : ℕ) → Class class → length w ≡ k → (t : ℕ) × ((led layers 0 0 w ≡ Some t) × (node_at layers k t ≡ Some (Ends class)))
+            → (d : ℕ) × ((node : ℕ) × (Class d × ((node < n) × (LeadsTo layers k node w × (node_at layers k node ≡ Some (Ends d))))))
         ends class such e end =
-            (class, (end.0, (such, (within end.0 (spot_within layers k end.0 (Ends class) end.1.1), (record { long = e; there = end.1.0 }, end.1.1)))))
+            (class, (end.0, (such, (within end.0 (node_within layers k end.0 (Ends class) end.1.1), (record { long = e; there = end.1.0 }, end.1.1)))))
 
     ended_counted : (c : Count) → IsCount (rank layers) (Ended layers k n Class) c → IsCount (rank layers) (Ended layers (suc k) 0 Class) c
     ended_counted c is = moved (rank layers) (Ended layers k n Class) (Ended layers (suc k) 0 Class) c ended_on ended_back is
@@ -145,26 +145,26 @@ module _ (layers : List (Vec Spot)) (k : ℕ) where
 
 -- ---- the first layer, and after the last one
 
-never : (layers : List (Vec Spot)) (Class : ℕ → Type 0) (w : List ℕ) → Ended layers 0 0 Class w → ⊥
+never : (layers : List (Vec Node)) (Class : ℕ → Type 0) (w : List ℕ) → Ended layers 0 0 Class w → ⊥
 never layers Class w h = ⊎_elim (λ short. none (length w) short.1.1.0) (λ here. none here.1.0 here.1.1.1.0) h
   where
     none : (a : ℕ) → a < 0 → ⊥
     none a lt = omega arith
 
-pub told_first : (layers : List (Vec Spot)) (n : ℕ) (counts : Counts) → counts.classes.items ≡ replicate n blank → counts.all ≡ blank → AreTold layers 0 0 counts
+pub told_first : (layers : List (Vec Node)) (n : ℕ) (counts : Counts) → counts.classes.items ≡ replicate n blank → counts.all ≡ blank → AreTold layers 0 0 counts
 told_first layers n counts classes all = record {
   each = λ class c there. all_none layers (Ended layers 0 0 (λ d. d ≡ class)) c (blank_there n counts.classes.items classes class c there) (never layers (λ d. d ≡ class));
   all = all_none layers (Ended layers 0 0 (λ d. Unit {0})) counts.all all (never layers (λ d. Unit {0}));
 }
 
--- a word has fewer letters than there are layers
-word_short : (layers : List (Vec Spot)) (w : List ℕ) (class : ℕ) → IsWord layers 0 0 w class → length w < length layers
+-- a word has fewer labels than there are layers
+word_short : (layers : List (Vec Node)) (w : List ℕ) (class : ℕ) → IsWord layers 0 0 w class → length w < length layers
 word_short layers w class h =
     let e : length w ≡ 0 + length w = omega arith in
     let end = word_led layers 0 0 w class (length w) h e in
     layer_within layers (length w) end.0 (Ends class) end.1.1
 
-pub told_all : (layers : List (Vec Spot)) (counts : Counts) → AreTold layers (length layers) 0 counts → AreCounts layers counts
+pub told_all : (layers : List (Vec Node)) (counts : Counts) → AreTold layers (length layers) 0 counts → AreCounts layers counts
 told_all layers counts told = record {
   each = λ class c there.
       moved (rank layers) (Ended layers (length layers) 0 (λ d. d ≡ class)) (IsWordOf layers class) c
@@ -181,19 +181,19 @@ told_all layers counts told = record {
     none : (a : ℕ) → a < 0 → ⊥
     none a lt = omega arith
 
--- ---- the word of no letters
+-- ---- the word of no labels
 
 abbrev pub start : Rank
 start = record { cuts = 0; changes = 0; turns = [] }
 
--- It leads to the first spot, and nothing else does so with no letters.
-start_counted : (layers : List (Vec Spot)) → IsCount (rank layers) (LeadsTo layers 0 0) (added blank 1 start)
+-- It leads to the first node, and nothing else does so with no labels.
+start_counted : (layers : List (Vec Node)) → IsCount (rank layers) (LeadsTo layers 0 0) (added blank 1 start)
 start_counted layers = record {
   words = record {
     words = [] ∷ [];
     are_all = record {
       each = λ w h. ⊎_elim (λ e. subst (LeadsTo layers 0 0) (sym e) empty) (λ q. absurd q) h;
-      all = λ w h. inl (no_letters w h.long);
+      all = λ w h. inl (no_labels w h.long);
       once = ((λ q. q), tt);
     };
     count = refl;
@@ -205,33 +205,33 @@ start_counted layers = record {
   least = record {
     is = empty;
     ranked = refl;
-    below = λ w h. subst (λ v. is_at_most (rank layers []) (rank layers v) ≡ true) (sym (no_letters w h.long)) refl;
+    below = λ w h. subst (λ v. is_at_most (rank layers []) (rank layers v) ≡ true) (sym (no_labels w h.long)) refl;
   };
 }
   where
     empty : LeadsTo layers 0 0 []
     empty = record { long = refl; there = refl }
 
-    no_letters : (w : List ℕ) → length w ≡ 0 → w ≡ []
-    no_letters [] e = refl
-    no_letters (a ∷ w) e = absurd (omega arith)
+    no_labels : (w : List ℕ) → length w ≡ 0 → w ≡ []
+    no_labels [] e = refl
+    no_labels (a ∷ w) e = absurd (omega arith)
 
-elsewhere : (layers : List (Vec Spot)) (s : ℕ) → (s ≡ 0 → ⊥) → (w : List ℕ) → LeadsTo layers 0 s w → ⊥
+elsewhere : (layers : List (Vec Node)) (s : ℕ) → (s ≡ 0 → ⊥) → (w : List ℕ) → LeadsTo layers 0 s w → ⊥
 elsewhere layers s ne [] leads = ne (sym (same_Some 0 s leads.there))
 elsewhere layers s ne (a ∷ w) leads = let e = leads.long in absurd (omega arith)
 
-pub table_first : (layers : List (Vec Spot)) (n : ℕ) (table : List Count) → table ≡ slice_set (replicate n blank) 0 (added blank 1 start) → IsTable layers 0 table
+pub table_first : (layers : List (Vec Node)) (n : ℕ) (table : List Count) → table ≡ slice_set (replicate n blank) 0 (added blank 1 start) → IsTable layers 0 table
 table_first layers n table is = λ s c there.
     ⊎_elim
     (λ own. subst (λ (d : Count). IsCount (rank layers) (LeadsTo layers 0 s) d) (sym own.1) (subst (λ u. IsCount (rank layers) (LeadsTo layers 0 u) (added blank 1 start)) (sym own.0) (start_counted layers)))
     (λ old. all_none layers (LeadsTo layers 0 s) c (blank_there n (replicate n blank) refl s c old.1) (elsewhere layers s old.0))
     (get_set (replicate n blank) 0 s (added blank 1 start) c (ap (λ ys. slice_get ys s) (sym is) ∙ there))
 
-pub table_none : (layers : List (Vec Spot)) (table : List Count) → table ≡ [] → IsTable layers 0 table
+pub table_none : (layers : List (Vec Node)) (table : List Count) → table ≡ [] → IsTable layers 0 table
 table_none layers table is = λ s c there. absurd (none-some c (ap (λ ys. slice_get ys s) (sym is) ∙ there))
 
 -- as the function has it
-pub table_begun : (layers : List (Vec Spot)) (n : ℕ) (table old : List Count) (first new : Count) (r : Rank) → table ≡ slice_set old 0 new → old ≡ replicate n blank
+pub table_begun : (layers : List (Vec Node)) (n : ℕ) (table old : List Count) (first new : Count) (r : Rank) → table ≡ slice_set old 0 new → old ≡ replicate n blank
     → new ≡ added first 1 r → first ≡ get_or old 0 first → r ≡ start → 0 < n → IsTable layers 0 table
 table_begun layers n table old first new r set olds is_added read starts lt =
     let none : first ≡ blank = read ∙ (ap (λ xs. get_or xs 0 first) olds ∙ get_or-replicate n 0 blank first lt) in

@@ -1,19 +1,19 @@
--- Words are in one order, which stays where both go on by one way.
+-- Words are in one order, which stays where both go on by one edge.
 use Rattle.std.specs.Prelude.{◌≡◌, ◌<◌, ◌≤◌, ℕ, zero, suc, length, List, [], ◌∷◌, ◌++◌, Bool, true, false, refl}
 use Rattle.std.proofs.Common.{◌⊎◌, ◌∙◌, subst, ⊎_elim, arith, drop}
 use Rattle.std.proofs.lemmas.Bool.Decides.{nat_tests}
 use Rattle.std.proofs.lemmas.Bool.{true≢false, false≢true}
-use Rattle.schedule_graph.specs.declared.graph.Way.{Way}
+use Rattle.schedule_graph.specs.declared.graph.Edge.{Edge}
 use Rattle.schedule_graph.specs.Words.{plus, is_less_or, is_not_after, Rank, is_at_most}
 use Rattle.schedule_graph.specs.Adding.{went}
 
 pub less_cases : (m n : ℕ) (b : Bool) → is_less_or m n b ≡ true → (m < n) ⊎ ((m ≡ n) × (b ≡ true))
 less_cases m n b e = grind (arith, nat_tests)
 
-less_by : (m n : ℕ) (b : Bool) → m < n → is_less_or m n b ≡ true
+pub less_by : (m n : ℕ) (b : Bool) → m < n → is_less_or m n b ≡ true
 less_by m n b e = grind (arith, nat_tests)
 
-same_by : (m : ℕ) (b : Bool) → b ≡ true → is_less_or m m b ≡ true
+pub same_by : (m : ℕ) (b : Bool) → b ≡ true → is_less_or m m b ≡ true
 same_by m b e = grind (arith, nat_tests)
 
 more_cases : (m n : ℕ) (b : Bool) → is_less_or m n b ≡ false → (n < m) ⊎ ((m ≡ n) × (b ≡ false))
@@ -83,9 +83,9 @@ not_after_more (i ∷ is) (j ∷ js) l long e =
     (same_by i (is_not_after (is ++ l ∷ []) (js ++ l ∷ [])) (not_after_more is js l (omega arith) q.1)))
     (less_cases i j (is_not_after is js) e)
 
-pub went_at_most : (a b : Rank) (way : Way) → length a.turns ≡ length b.turns → is_at_most a b ≡ true → is_at_most (went a way) (went b way) ≡ true
-went_at_most a b way long e =
-    less_plus way.cut a.cuts b.cuts _ _ (λ f. less_plus way.change a.changes b.changes _ _ (λ g. not_after_more a.turns b.turns way.letter long g) f) e
+pub went_at_most : (a b : Rank) (edge : Edge) → length a.turns ≡ length b.turns → is_at_most a b ≡ true → is_at_most (went a edge) (went b edge) ≡ true
+went_at_most a b edge long e =
+    less_plus edge.cut a.cuts b.cuts _ _ (λ f. less_plus edge.change a.changes b.changes _ _ (λ g. not_after_more a.turns b.turns edge.label long g) f) e
 
 -- ---- where one list has ended
 

@@ -3,8 +3,8 @@ use Rattle.std.specs.Prelude.{◌≡◌, ◌≤◌, ◌+◌, ◌++◌, ℕ, suc,
 use Rattle.std.specs.Global.{Vec}
 use Rattle.std.proofs.Common.{◌⊎◌, ◌∙◌, inl, inr, sym, ap, subst, ⊎_elim, arith, length-append}
 use Rattle.std.proofs.lemmas.List.{append_cancel_right, length-map}
-use Rattle.schedule_graph.specs.declared.graph.Way.{Way}
-use Rattle.schedule_graph.specs.declared.graph.Spot.{Spot}
+use Rattle.schedule_graph.specs.declared.graph.Edge.{Edge}
+use Rattle.schedule_graph.specs.declared.graph.Node.{Node}
 use Rattle.schedule_graph.specs.declared.count.Count.{Count}
 use Rattle.schedule_graph.specs.declared.count.TheConstants.{COUNT_CAP}
 use Rattle.schedule_graph.specs.Words.{Rank, is_at_most, rank}
@@ -37,9 +37,9 @@ moved rk P Q c to from is = record {
   least = least_moved rk P Q to from c.least is.least;
 }
 
--- ---- none, and the word of no letters
+-- ---- none, and the word of no labels
 
-none_capped : (cap : ℕ) → 0 ≡ min 0 cap
+pub none_capped : (cap : ℕ) → 0 ≡ min 0 cap
 none_capped cap = grind arith
 
 pub counted_none : (rk : List ℕ → Rank) (P : List ℕ → Type 0) → ((w : List ℕ) → P w → ⊥) → IsCount rk P (record { words = 0; longest = 0; least = None })
@@ -147,51 +147,51 @@ module _ (rk : List ℕ → Rank) (P Q : List ℕ → Type 0) (c m : Count) (r :
   pub counted_both : IsCount rk (λ w. P w ⊎ Q w) (added c m.words r)
   counted_both = record { words = both_many; longest = both_longest; least = both_least c.least is.least }
 
--- ---- words that go on by a way
+-- ---- words that go on by an edge
 
--- such a word, and that letter
+-- such a word, and that label
 abbrev pub Onward : (List ℕ → Type 0) → ℕ → List ℕ → Type 0
-Onward Q letter w = (q : List ℕ) × (Q q × (w ≡ q ++ letter ∷ []))
+Onward Q label w = (q : List ℕ) × (Q q × (w ≡ q ++ label ∷ []))
 
-module _ (layers : List (Vec Spot)) (Q : List ℕ → Type 0) (m : Count) (r : Rank) (way : Way) (n : ℕ) (is : IsCount (rank layers) Q m) (least : m.least ≡ Some r)
-    (long : (w : List ℕ) → Q w → length w ≡ n) (goes : (w : List ℕ) → Q w → rank layers (w ++ way.letter ∷ []) ≡ went (rank layers w) way) where
+module _ (layers : List (Vec Node)) (Q : List ℕ → Type 0) (m : Count) (r : Rank) (edge : Edge) (n : ℕ) (is : IsCount (rank layers) Q m) (least : m.least ≡ Some r)
+    (long : (w : List ℕ) → Q w → length w ≡ n) (goes : (w : List ℕ) → Q w → rank layers (w ++ edge.label ∷ []) ≡ went (rank layers w) edge) where
   old : IsLeastWord (rank layers) Q r
   old = subst (IsLeast (rank layers) Q) least is.least
 
-  onward_many : AreSoMany (Onward Q way.letter) m.words
+  onward_many : AreSoMany (Onward Q edge.label) m.words
   onward_many = record {
-    words = map (λ v. v ++ way.letter ∷ []) is.words.words;
+    words = map (λ v. v ++ edge.label ∷ []) is.words.words;
     are_all = record {
-      each = λ w h. let found = among_unmapped (λ v. v ++ way.letter ∷ []) w is.words.words h in (found.0, (is.words.are_all.each found.0 found.1.0, found.1.1));
-      all = λ w h. subst (λ v. IsAmong v (map (λ u. u ++ way.letter ∷ []) is.words.words)) (sym h.1.1)
-          (among_mapped (λ v. v ++ way.letter ∷ []) h.0 is.words.words (is.words.are_all.all h.0 h.1.0));
-      once = once_mapped (λ v. v ++ way.letter ∷ []) (λ x y e. append_cancel_right x y (way.letter ∷ []) e) is.words.words is.words.are_all.once;
+      each = λ w h. let found = among_unmapped (λ v. v ++ edge.label ∷ []) w is.words.words h in (found.0, (is.words.are_all.each found.0 found.1.0, found.1.1));
+      all = λ w h. subst (λ v. IsAmong v (map (λ u. u ++ edge.label ∷ []) is.words.words)) (sym h.1.1)
+          (among_mapped (λ v. v ++ edge.label ∷ []) h.0 is.words.words (is.words.are_all.all h.0 h.1.0));
+      once = once_mapped (λ v. v ++ edge.label ∷ []) (λ x y e. append_cancel_right x y (edge.label ∷ []) e) is.words.words is.words.are_all.once;
     };
-    count = is.words.count ∙ ap (λ k. min k COUNT_CAP) (sym (length-map is.words.words (λ v. v ++ way.letter ∷ [])));
+    count = is.words.count ∙ ap (λ k. min k COUNT_CAP) (sym (length-map is.words.words (λ v. v ++ edge.label ∷ [])));
   }
 
-  one_more : (q : List ℕ) → Q q → length (q ++ way.letter ∷ []) ≡ suc n
-  one_more q h = let l = length-append q (way.letter ∷ []) in let k = long q h in omega arith
+  one_more : (q : List ℕ) → Q q → length (q ++ edge.label ∷ []) ≡ suc n
+  one_more q h = let l = length-append q (edge.label ∷ []) in let k = long q h in omega arith
 
-  onward_longest : IsLongest (Onward Q way.letter) (suc n)
+  onward_longest : IsLongest (Onward Q edge.label) (suc n)
   onward_longest = record {
     bounded = λ w h. let e : length w ≡ suc n = ap length h.1.1 ∙ one_more h.0 h.1.0 in omega arith;
-    reached = inr (r.turns ++ way.letter ∷ [], ((r.turns, (old.is, refl)), one_more r.turns old.is));
+    reached = inr (r.turns ++ edge.label ∷ [], ((r.turns, (old.is, refl)), one_more r.turns old.is));
   }
 
-  onward_below : (q : List ℕ) → Q q → is_at_most (rank layers (r.turns ++ way.letter ∷ [])) (rank layers (q ++ way.letter ∷ [])) ≡ true
+  onward_below : (q : List ℕ) → Q q → is_at_most (rank layers (r.turns ++ edge.label ∷ [])) (rank layers (q ++ edge.label ∷ [])) ≡ true
   onward_below q h =
-      subst (λ s. is_at_most s (rank layers (q ++ way.letter ∷ [])) ≡ true) (sym (goes r.turns old.is))
-      (subst (λ s. is_at_most (went (rank layers r.turns) way) s ≡ true) (sym (goes q h))
-      (went_at_most (rank layers r.turns) (rank layers q) way (long r.turns old.is ∙ sym (long q h)) (old.below q h)))
+      subst (λ s. is_at_most s (rank layers (q ++ edge.label ∷ [])) ≡ true) (sym (goes r.turns old.is))
+      (subst (λ s. is_at_most (went (rank layers r.turns) edge) s ≡ true) (sym (goes q h))
+      (went_at_most (rank layers r.turns) (rank layers q) edge (long r.turns old.is ∙ sym (long q h)) (old.below q h)))
 
-  onward_least : IsLeastWord (rank layers) (Onward Q way.letter) (went r way)
+  onward_least : IsLeastWord (rank layers) (Onward Q edge.label) (went r edge)
   onward_least = record {
     is = (r.turns, (old.is, refl));
-    ranked = ap (λ s. went s way) old.ranked ∙ sym (goes r.turns old.is);
-    below = λ w h. subst (λ v. is_at_most (rank layers (r.turns ++ way.letter ∷ [])) (rank layers v) ≡ true) (sym h.1.1) (onward_below h.0 h.1.0);
+    ranked = ap (λ s. went s edge) old.ranked ∙ sym (goes r.turns old.is);
+    below = λ w h. subst (λ v. is_at_most (rank layers (r.turns ++ edge.label ∷ [])) (rank layers v) ≡ true) (sym h.1.1) (onward_below h.0 h.1.0);
   }
 
   -- they are as many, and the least is the one before that goes on
-  pub counted_onward : IsCount (rank layers) (Onward Q way.letter) (record { words = m.words; longest = suc n; least = Some (went r way) })
+  pub counted_onward : IsCount (rank layers) (Onward Q edge.label) (record { words = m.words; longest = suc n; least = Some (went r edge) })
   counted_onward = record { words = onward_many; longest = onward_longest; least = onward_least }

@@ -1,46 +1,46 @@
--- What leads to a spot where words end is counted in its class.
+-- What leads to a node where words end is counted in its class.
 use Rattle.std.specs.Prelude.{◌≡◌, ◌<◌, ◌≤◌, ℕ, suc, List, length, Some, None, slice_get, slice_set, refl}
 use Rattle.std.specs.Global.{Vec}
 use Rattle.std.proofs.Common.{◌⊎◌, ◌∙◌, inl, inr, sym, ap, subst, ⊎_elim, arith}
 use Rattle.std.proofs.lemmas.Option.{same_Some, slice_get_within}
-use Rattle.schedule_graph.specs.declared.graph.Way.{Way}
-use Rattle.schedule_graph.specs.declared.graph.Spot.{Spot}
-use Rattle.schedule_graph.specs.declared.graph.Spot.TheVariants.{Ends, Goes}
+use Rattle.schedule_graph.specs.declared.graph.Edge.{Edge}
+use Rattle.schedule_graph.specs.declared.graph.Node.{Node}
+use Rattle.schedule_graph.specs.declared.graph.Node.TheVariants.{Ends, Goes}
 use Rattle.schedule_graph.specs.declared.count.Count.{Count}
 use Rattle.schedule_graph.specs.declared.count.Counts.{Counts}
-use Rattle.schedule_graph.specs.Words.{Rank, spot_at, rank}
+use Rattle.schedule_graph.specs.Words.{Rank, node_at, rank}
 use Rattle.schedule_graph.specs.Counted.{IsLeast, IsCount}
 use Rattle.schedule_graph.specs.Adding.{added}
 use Rattle.schedule_graph.specs.Led.{LeadsTo, Ended, AreTold}
 use Rattle.schedule_graph.proofs.Summing.{moved, counted_both}
-use Rattle.schedule_graph.proofs.Spreading.{get_set, last_or, one_spot, none_least}
+use Rattle.schedule_graph.proofs.Spreading.{get_set, last_or, one_node, none_least}
 
-module _ (layers : List (Vec Spot)) (k s : ℕ) (Class : ℕ → Type 0) where
+module _ (layers : List (Vec Node)) (k s : ℕ) (Class : ℕ → Type 0) where
   ended_more : (w : List ℕ) → Ended layers k s Class w → Ended layers k (suc s) Class w
   ended_more w h = ⊎_elim (λ short. inl short) (λ here. inr (here.0, (here.1.0, (here.1.1.0, (up here.1.0 here.1.1.1.0, here.1.1.1.1))))) h
     where
       up : (a : ℕ) → a < s → a < suc s
       up a lt = omega arith
 
-  -- it ended before, or ends at this spot
+  -- it ended before, or ends at this node
   ended_or : (w : List ℕ) → Ended layers k (suc s) Class w
-      → Ended layers k s Class w ⊎ ((class : ℕ) × (Class class × (LeadsTo layers k s w × (spot_at layers k s ≡ Some (Ends class)))))
+      → Ended layers k s Class w ⊎ ((class : ℕ) × (Class class × (LeadsTo layers k s w × (node_at layers k s ≡ Some (Ends class)))))
   ended_or w h =
       ⊎_elim (λ short. inl (inl short))
       (λ here. ⊎_elim
       (λ (lt : here.1.0 < s). inl (inr (here.0, (here.1.0, (here.1.1.0, (lt, here.1.1.1.1))))))
-      (λ (e : here.1.0 ≡ s). inr (here.0, (here.1.1.0, (subst (λ u. LeadsTo layers k u w) e here.1.1.1.1.0, subst (λ u. spot_at layers k u ≡ Some (Ends here.0)) e here.1.1.1.1.1))))
+      (λ (e : here.1.0 ≡ s). inr (here.0, (here.1.1.0, (subst (λ u. LeadsTo layers k u w) e here.1.1.1.1.0, subst (λ u. node_at layers k u ≡ Some (Ends here.0)) e here.1.1.1.1.1))))
       (last_or here.1.0 s here.1.1.1.0))
       h
 
-  -- no word of such a class ends at the spot
-  pub told_none : (c : Count) → ((class : ℕ) (w : List ℕ) → Class class → LeadsTo layers k s w → spot_at layers k s ≡ Some (Ends class) → ⊥)
+  -- no word of such a class ends at the node
+  pub told_none : (c : Count) → ((class : ℕ) (w : List ℕ) → Class class → LeadsTo layers k s w → node_at layers k s ≡ Some (Ends class) → ⊥)
       → IsCount (rank layers) (Ended layers k s Class) c → IsCount (rank layers) (Ended layers k (suc s) Class) c
   told_none c none is =
       moved (rank layers) (Ended layers k s Class) (Ended layers k (suc s) Class) c ended_more
       (λ w h. ⊎_elim (λ old. old) (λ new. absurd (none new.0 w new.1.0 new.1.1.0 new.1.1.1)) (ended_or w h)) is
 
-  module _ (class : ℕ) (ends : spot_at layers k s ≡ Some (Ends class)) (such : Class class) (m : Count) (r : Rank)
+  module _ (class : ℕ) (ends : node_at layers k s ≡ Some (Ends class)) (such : Class class) (m : Count) (r : Rank)
       (count : IsCount (rank layers) (LeadsTo layers k s) m) (least : m.least ≡ Some r) where
     own_least : IsLeast (rank layers) (LeadsTo layers k s) (Some r)
     own_least = subst (IsLeast (rank layers) (LeadsTo layers k s)) least count.least
@@ -48,7 +48,7 @@ module _ (layers : List (Vec Spot)) (k s : ℕ) (Class : ℕ → Type 0) where
     new : (w : List ℕ) → Ended layers k s Class w → LeadsTo layers k s w → ⊥
     new w h leads =
         ⊎_elim (λ short. early short.1.1.0 leads.long)
-        (λ here. before here.1.0 here.1.1.1.0 (one_spot layers k here.1.0 s w w here.1.1.1.1.0 leads refl)) h
+        (λ here. before here.1.0 here.1.1.1.0 (one_node layers k here.1.0 s w w here.1.1.1.1.0 leads refl)) h
       where
         early : length w < k → length w ≡ k → ⊥
         early lt e = omega arith
@@ -69,9 +69,9 @@ module _ (layers : List (Vec Spot)) (k s : ℕ) (Class : ℕ → Type 0) where
 
 -- ---- the counts of each class and of all
 
-module _ (layers : List (Vec Spot)) (k s : ℕ) (counts : Counts) (told : AreTold layers k s counts) where
-  -- nothing leads to the spot, or words go on from it
-  pub all_told_none : ((class : ℕ) (w : List ℕ) → LeadsTo layers k s w → spot_at layers k s ≡ Some (Ends class) → ⊥) → AreTold layers k (suc s) counts
+module _ (layers : List (Vec Node)) (k s : ℕ) (counts : Counts) (told : AreTold layers k s counts) where
+  -- nothing leads to the node, or words go on from it
+  pub all_told_none : ((class : ℕ) (w : List ℕ) → LeadsTo layers k s w → node_at layers k s ≡ Some (Ends class) → ⊥) → AreTold layers k (suc s) counts
   all_told_none none = record {
     each = λ class c there. told_none layers k s (λ d. d ≡ class) c (λ d w same leads ends. none d w leads ends) (told.each class c there);
     all = told_none layers k s (λ d. Unit {0}) counts.all (λ d w such leads ends. none d w leads ends) told.all;
@@ -80,15 +80,15 @@ module _ (layers : List (Vec Spot)) (k s : ℕ) (counts : Counts) (told : AreTol
   pub told_unreached : (m : Count) → IsCount (rank layers) (LeadsTo layers k s) m → m.least ≡ None → AreTold layers k (suc s) counts
   told_unreached m count none = all_told_none (λ class w leads ends. none_least (rank layers) (LeadsTo layers k s) m count none w leads)
 
-  pub told_goes : (ways : Vec Way) → spot_at layers k s ≡ Some (Goes ways) → AreTold layers k (suc s) counts
-  told_goes ways goes = all_told_none (λ class w leads ends. apart class (same_Some (Goes ways) (Ends class) (sym goes ∙ ends)))
+  pub told_goes : (edges : Vec Edge) → node_at layers k s ≡ Some (Goes edges) → AreTold layers k (suc s) counts
+  told_goes edges goes = all_told_none (λ class w leads ends. apart class (same_Some (Goes edges) (Ends class) (sym goes ∙ ends)))
     where
-      apart : (class : ℕ) → Goes ways ≡ Ends class → ⊥
+      apart : (class : ℕ) → Goes edges ≡ Ends class → ⊥
       apart class e = cc
 
-  module _ (class : ℕ) (ends : spot_at layers k s ≡ Some (Ends class)) (m : Count) (r : Rank)
+  module _ (class : ℕ) (ends : node_at layers k s ≡ Some (Ends class)) (m : Count) (r : Rank)
       (count : IsCount (rank layers) (LeadsTo layers k s) m) (least : m.least ≡ Some r) where
-    one_class : (d : ℕ) → spot_at layers k s ≡ Some (Ends d) → d ≡ class
+    one_class : (d : ℕ) → node_at layers k s ≡ Some (Ends d) → d ≡ class
     one_class d also = same d (same_Some (Ends class) (Ends d) (sym ends ∙ also))
       where
         same : (d : ℕ) → Ends class ≡ Ends d → d ≡ class

@@ -1,16 +1,16 @@
 -- Words are counted one lot after another.
 use Rattle.std.specs.Prelude.{◌++◌, ◌+◌, ℕ, min, max, [], ◌∷◌, length, Option, Some, None, if◌then◌else◌}
 use Rattle.schedule_graph.specs.Words.{Rank, is_at_most, plus}
-use Rattle.schedule_graph.specs.declared.graph.Way.{Way}
+use Rattle.schedule_graph.specs.declared.graph.Edge.{Edge}
 use Rattle.schedule_graph.specs.declared.count.Count.{Count}
 use Rattle.schedule_graph.specs.declared.count.TheConstants.{COUNT_CAP}
 
--- the rank of a word that goes on by that way
-abbrev pub went : Rank → Way → Rank
-went r way = record {
-  cuts = plus way.cut r.cuts;
-  changes = plus way.change r.changes;
-  turns = r.turns ++ way.letter ∷ [];
+-- the rank of a word that goes on by that edge
+abbrev pub went : Rank → Edge → Rank
+went r edge = record {
+  cuts = plus edge.cut r.cuts;
+  changes = plus edge.change r.changes;
+  turns = r.turns ++ edge.label ∷ [];
 }
 
 -- the lesser of the two

@@ -2,7 +2,7 @@
 use Rattle.std.specs.Prelude.{◌≡◌, ◌≤◌, ◌⊎◌, ℕ, min, List, [], ◌∷◌, true, length, Option, Some, None, slice_get}
 use Rattle.std.specs.Global.{Vec}
 use Rattle.schedule_graph.specs.Words.{Rank, is_at_most, rank, IsWordOf, IsSomeWord}
-use Rattle.schedule_graph.specs.declared.graph.Spot.{Spot}
+use Rattle.schedule_graph.specs.declared.graph.Node.{Node}
 use Rattle.schedule_graph.specs.declared.count.Count.{Count}
 use Rattle.schedule_graph.specs.declared.count.Counts.{Counts}
 use Rattle.schedule_graph.specs.declared.count.TheConstants.{COUNT_CAP}
@@ -55,7 +55,7 @@ pub record IsCount (rank : List ℕ → Rank) (P : List ℕ → Type 0) (count :
 -- ---- what a graph comes to
 
 -- each class's words, and all words, are counted
-pub record AreCounts (layers : List (Vec Spot)) (counts : Counts) : Type 0 where
+pub record AreCounts (layers : List (Vec Node)) (counts : Counts) : Type 0 where
   pub each : (class : ℕ) (count : Count) → slice_get counts.classes.items class ≡ Some count
       → IsCount (rank layers) (IsWordOf layers class) count
   pub all : IsCount (rank layers) (IsSomeWord layers) counts.all

@@ -2,73 +2,73 @@
 use Rattle.std.specs.Prelude.{◌≡◌, ◌==◌, ◌&&◌, ◌||◌, ℕ, suc, List, [], ◌∷◌, Bool, true, false, Option, Some, None, nat_lt, slice_get, if◌then◌else◌}
 use Rattle.std.specs.Global.{Vec}
 use Rattle.std.specs.Option.{option_map_or}
-use Rattle.schedule_graph.specs.declared.graph.Way.{Way}
-use Rattle.schedule_graph.specs.declared.graph.Spot.{Spot}
-use Rattle.schedule_graph.specs.declared.graph.Spot.TheVariants.{Ends, Goes}
+use Rattle.schedule_graph.specs.declared.graph.Edge.{Edge}
+use Rattle.schedule_graph.specs.declared.graph.Node.{Node}
+use Rattle.schedule_graph.specs.declared.graph.Node.TheVariants.{Ends, Goes}
 
 -- ---- what stands in a graph
 
--- that spot of a layer, if the layer has it
-abbrev pub spot_in : Option (Vec Spot) → ℕ → Option Spot
-spot_in None s = None
-spot_in (Some layer) s = slice_get layer.items s
+-- that node of a layer, if the layer has it
+abbrev pub node_in : Option (Vec Node) → ℕ → Option Node
+node_in None s = None
+node_in (Some layer) s = slice_get layer.items s
 
--- that spot of that layer, if there is one
-abbrev pub spot_at : List (Vec Spot) → ℕ → ℕ → Option Spot
-spot_at layers k s = spot_in (slice_get layers k) s
+-- that node of that layer, if there is one
+abbrev pub node_at : List (Vec Node) → ℕ → ℕ → Option Node
+node_at layers k s = node_in (slice_get layers k) s
 
--- the ways from a spot
-abbrev pub ways_from : Option Spot → List Way
-ways_from None = []
-ways_from (Some (Ends class)) = []
-ways_from (Some (Goes ways)) = ways.items
+-- the edges from a node
+abbrev pub edges_from : Option Node → List Edge
+edges_from None = []
+edges_from (Some (Ends class)) = []
+edges_from (Some (Goes edges)) = edges.items
 
--- the first of the ways with that letter
-abbrev pub way_of : List Way → ℕ → Option Way
-way_of [] letter = None
-way_of (way ∷ ways) letter = if way.letter == letter then Some way else way_of ways letter
+-- the first of the edges with that label
+abbrev pub edge_of : List Edge → ℕ → Option Edge
+edge_of [] label = None
+edge_of (edge ∷ edges) label = if edge.label == label then Some edge else edge_of edges label
 
--- the way by that letter from that spot of that layer
-abbrev pub way_at : List (Vec Spot) → ℕ → ℕ → ℕ → Option Way
-way_at layers k s letter = way_of (ways_from (spot_at layers k s)) letter
+-- the edge by that label from that node of that layer
+abbrev pub edge_at : List (Vec Node) → ℕ → ℕ → ℕ → Option Edge
+edge_at layers k s label = edge_of (edges_from (node_at layers k s)) label
 
--- No two of the ways have the same letter.
-abbrev pub AreApart : List Way → Type 0
-AreApart ways = (i j : ℕ) (v w : Way) → slice_get ways i ≡ Some v → slice_get ways j ≡ Some w → v.letter ≡ w.letter
+-- No two of the edges have the same label.
+abbrev pub AreApart : List Edge → Type 0
+AreApart edges = (i j : ℕ) (v w : Edge) → slice_get edges i ≡ Some v → slice_get edges j ≡ Some w → v.label ≡ w.label
     → i ≡ j
 
--- No two ways from one spot of the layer have the same letter.
-abbrev pub IsLayer : List Spot → Type 0
-IsLayer layer = (s : ℕ) → AreApart (ways_from (slice_get layer s))
+-- No two edges from one node of the layer have the same label.
+abbrev pub IsLayer : List Node → Type 0
+IsLayer layer = (s : ℕ) → AreApart (edges_from (slice_get layer s))
 
 -- so in each layer
-abbrev pub AreLayers : List (Vec Spot) → Type 0
-AreLayers layers = (k : ℕ) (layer : Vec Spot) → slice_get layers k ≡ Some layer → IsLayer layer.items
+abbrev pub AreLayers : List (Vec Node) → Type 0
+AreLayers layers = (k : ℕ) (layer : Vec Node) → slice_get layers k ≡ Some layer → IsLayer layer.items
 
 -- ---- words
 
--- The letters lead from spot s of layer k to one where a word is whole, of that class.
-abbrev pub IsWord : List (Vec Spot) → ℕ → ℕ → List ℕ → ℕ → Type 0
-IsWord layers k s [] class = spot_at layers k s ≡ Some (Ends class)
-IsWord layers k s (letter ∷ rest) class =
-    (way : Way) × ((way_at layers k s letter ≡ Some way) × IsWord layers (suc k) way.to rest class)
+-- The labels lead from node s of layer k to one where a word is whole, of that class.
+abbrev pub IsWord : List (Vec Node) → ℕ → ℕ → List ℕ → ℕ → Type 0
+IsWord layers k s [] class = node_at layers k s ≡ Some (Ends class)
+IsWord layers k s (label ∷ rest) class =
+    (edge : Edge) × ((edge_at layers k s label ≡ Some edge) × IsWord layers (suc k) edge.to rest class)
 
 -- one more, where it is so
 abbrev pub plus : Bool → ℕ → ℕ
 plus true n = suc n
 plus false n = n
 
--- how many ways of the word, from spot s of layer k, are a cut
-abbrev pub cuts : List (Vec Spot) → ℕ → ℕ → List ℕ → ℕ
+-- how many edges of the word, from node s of layer k, are a cut
+abbrev pub cuts : List (Vec Node) → ℕ → ℕ → List ℕ → ℕ
 cuts layers k s [] = 0
-cuts layers k s (letter ∷ rest) =
-    option_map_or (λ way. plus way.cut (cuts layers (suc k) way.to rest)) (way_at layers k s letter) 0
+cuts layers k s (label ∷ rest) =
+    option_map_or (λ edge. plus edge.cut (cuts layers (suc k) edge.to rest)) (edge_at layers k s label) 0
 
--- how many ways of the word, from spot s of layer k, are a change
-abbrev pub changes : List (Vec Spot) → ℕ → ℕ → List ℕ → ℕ
+-- how many edges of the word, from node s of layer k, are a change
+abbrev pub changes : List (Vec Node) → ℕ → ℕ → List ℕ → ℕ
 changes layers k s [] = 0
-changes layers k s (letter ∷ rest) =
-    option_map_or (λ way. plus way.change (changes layers (suc k) way.to rest)) (way_at layers k s letter) 0
+changes layers k s (label ∷ rest) =
+    option_map_or (λ edge. plus edge.change (changes layers (suc k) edge.to rest)) (edge_at layers k s label) 0
 
 -- ---- which is less
 
@@ -92,18 +92,18 @@ pub record Rank : Type 0 where
 abbrev pub is_at_most : Rank → Rank → Bool
 is_at_most a b = is_less_or a.cuts b.cuts (is_less_or a.changes b.changes (is_not_after a.turns b.turns))
 
--- the rank of a word from spot s of layer k
-abbrev pub rank_from : List (Vec Spot) → ℕ → ℕ → List ℕ → Rank
+-- the rank of a word from node s of layer k
+abbrev pub rank_from : List (Vec Node) → ℕ → ℕ → List ℕ → Rank
 rank_from layers k s word = record { cuts = cuts layers k s word; changes = changes layers k s word; turns = word }
 
--- ---- the words of a graph: those from the first spot of the first layer
+-- ---- the words of a graph: those from the first node of the first layer
 
-abbrev pub IsWordOf : List (Vec Spot) → ℕ → List ℕ → Type 0
+abbrev pub IsWordOf : List (Vec Node) → ℕ → List ℕ → Type 0
 IsWordOf layers class word = IsWord layers 0 0 word class
 
 -- of any class
-abbrev pub IsSomeWord : List (Vec Spot) → List ℕ → Type 0
+abbrev pub IsSomeWord : List (Vec Node) → List ℕ → Type 0
 IsSomeWord layers word = (class : ℕ) × IsWord layers 0 0 word class
 
-abbrev pub rank : List (Vec Spot) → List ℕ → Rank
+abbrev pub rank : List (Vec Node) → List ℕ → Rank
 rank layers word = rank_from layers 0 0 word

@@ -3,7 +3,7 @@ ghost use Rattle.std.specs.Prelude.{◌≡◌, ◌<◌, ◌+◌, ◌^◌, [], So
 ghost use Rattle.schedule_graph.specs.Words.{is_not_after, is_at_most};
 ghost use Rattle.schedule_graph.specs.Adding.{went, lesser, added};
 
-use crate::graph::Way;
+use crate::graph::Edge;
 use path_text::NoMemory;
 use std::alloc::Global;
 use std::marker::Model;
@@ -14,11 +14,11 @@ pub const COUNT_CAP: u64 = 1_000_000_000_000_000_000;
 /// A word, and what it is ordered by. Contracts see it as a `Rank`.
 #[derive(Debug, Drop)]
 pub struct Least {
-    /// How many of its ways are a cut.
+    /// How many of its edges are a cut.
     pub cuts: u64,
-    /// How many of its ways are a change.
+    /// How many of its edges are a change.
     pub changes: u64,
-    /// Its letters.
+    /// Its labels.
     pub word: Vec<u32>,
 }
 
@@ -35,7 +35,7 @@ impl Model for Least {
 pub struct Count {
     /// How many there are, or `COUNT_CAP` where they are more.
     pub words: u64,
-    /// How many letters the longest of them has, and 0 where there is none.
+    /// How many labels the longest of them has, and 0 where there is none.
     pub longest: usize,
     /// The one with the fewest cuts, of these one with the fewest changes, and of these the first one as lists of
     /// numbers go. None where there is none.
@@ -52,24 +52,24 @@ pub struct Counts {
 }
 
 /// Whether the first list isn't after the second, in the order of words: the two are equal, or the first ends where the
-/// second goes on, or its letter is less where they first differ.
-pub fn is_not_after(letters: &[u32], others: &[u32]) -> bool
-    ensures { result ≡ is_not_after letters.now others.now }
+/// second goes on, or its label is less where they first differ.
+pub fn is_not_after(labels: &[u32], others: &[u32]) -> bool
+    ensures { result ≡ is_not_after labels.now others.now }
 {
-    for (at, letter) in letters.iter().enumerate() {
+    for (at, label) in labels.iter().enumerate() {
         if at >= others.len() {
             return false;
         }
         let other = others[at];
-        if *letter != other {
-            return *letter < other;
+        if *label != other {
+            return *label < other;
         }
     }
     true
 }
 
 impl Least {
-    // The word of no letters.
+    // The word of no labels.
     pub(crate) fn start(alloc: Global) -> Least
         ensures { result ≡ record { cuts = 0; changes = 0; turns = [] } }
     {
@@ -106,18 +106,18 @@ impl Least {
         })
     }
 
-    // The word that goes on by that way. NoMemory where its room was refused.
-    pub(crate) fn then(&self, alloc: Global, way: &Way) -> Result<Least, NoMemory>
+    // The word that goes on by that edge. NoMemory where its room was refused.
+    pub(crate) fn then(&self, alloc: Global, edge: &Edge) -> Result<Least, NoMemory>
         requires cuts { self.now.cuts + 1 < 2 ^ 64 }
         requires changes { self.now.changes + 1 < 2 ^ 64 }
-        ensures { IfOk result (λ least. least ≡ went self.now way.now) }
+        ensures { IfOk result (λ least. least ≡ went self.now edge.now) }
     {
         let mut word = Vec::with_capacity(alloc, self.word.len() + 1)?;
         word.extend_from_slice(self.word.as_slice())?;
-        word.push(way.letter)?;
+        word.push(edge.label)?;
         Ok(Least {
-            cuts: self.cuts + u64::from(way.cut),
-            changes: self.changes + u64::from(way.change),
+            cuts: self.cuts + u64::from(edge.cut),
+            changes: self.changes + u64::from(edge.change),
             word,
         })
     }

@@ -1,11 +1,11 @@
-//! The words are counted along the layers: for each spot of a layer what leads to it.
+//! The words are counted along the layers: for each node of a layer what leads to it.
 ghost use Rattle.std.specs.Prelude.{◌≡◌, ◌<◌, ◌+◌, ◌^◌, suc, Some, None, length, replicate, IfOk, OnOk};
-ghost use Rattle.schedule_graph.specs.Words.{rank, spot_at, AreLayers};
+ghost use Rattle.schedule_graph.specs.Words.{rank, node_at, AreLayers};
 ghost use Rattle.schedule_graph.specs.Counted.{IsCount, AreCounts};
 ghost use Rattle.schedule_graph.specs.Led.{width_at, LeadsTo, IsTable, IsNext, AreTold};
 
 use crate::count::{Count, Counts, Least};
-use crate::graph::Spot;
+use crate::graph::Node;
 use path_text::NoMemory;
 use std::alloc::Global;
 
@@ -21,24 +21,24 @@ fn blank(alloc: Global, width: usize) -> Result<Vec<Count>, NoMemory>
     Ok(counts)
 }
 
-// How many spots that layer has.
-fn width_at(layers: &[Vec<Spot>], k: usize) -> usize
+// How many nodes that layer has.
+fn width_at(layers: &[Vec<Node>], k: usize) -> usize
     ensures { result ≡ width_at layers.now k }
 {
     if k < layers.len() { layers[k].len() } else { 0 }
 }
 
-// That spot of that layer.
-fn spot_at(layers: &[Vec<Spot>], k: usize, s: usize) -> &Spot
+// That node of that layer.
+fn node_at(layers: &[Vec<Node>], k: usize, s: usize) -> &Node
     requires { s < width_at layers.now k }
-    ensures { spot_at layers.now k s ≡ Some result.now }
+    ensures { node_at layers.now k s ≡ Some result.now }
 {
     let layer = layers[k].as_slice();
     &layer[s]
 }
 
-// What leads to each spot of the first layer: the word of no letters to the first one.
-fn first_table(alloc: Global, layers: &[Vec<Spot>]) -> Result<Vec<Count>, NoMemory>
+// What leads to each node of the first layer: the word of no labels to the first one.
+fn first_table(alloc: Global, layers: &[Vec<Node>]) -> Result<Vec<Count>, NoMemory>
     ensures width { IfOk result (λ table. length table.items ≡ width_at layers.now 0) }
     ensures table { IfOk result (λ table. IsTable layers.now 0 table.items) }
 {
@@ -50,10 +50,10 @@ fn first_table(alloc: Global, layers: &[Vec<Spot>]) -> Result<Vec<Count>, NoMemo
     Ok(table)
 }
 
-// Counts what leads to that spot in the spots that its ways lead to.
+// Counts what leads to that node in the nodes that its edges lead to.
 fn spread(
     alloc: Global,
-    layers: &[Vec<Spot>],
+    layers: &[Vec<Node>],
     k: usize,
     s: usize,
     count: &Count,
@@ -61,41 +61,41 @@ fn spread(
 ) -> Result<(), NoMemory>
     requires layers { AreLayers layers.now }
     requires depth { k + 1 < 2 ^ 64 }
-    requires spot { s < width_at layers.now k }
+    requires node { s < width_at layers.now k }
     requires count { IsCount (rank layers.now) (LeadsTo layers.now k s) count.now }
     requires next { IsNext layers.now k s next.old }
     ensures { OnOk result (IsNext layers.now k (suc s) next.new) }
 {
-    let Spot::Goes(ways) = spot_at(layers, k, s) else {
+    let Node::Goes(edges) = node_at(layers, k, s) else {
         return Ok(());
     };
     let Some(least) = &count.least else {
         return Ok(());
     };
-    for way in ways {
-        if way.to < next.len() {
-            next[way.to].add(count.words, least.then(alloc, way)?);
+    for edge in edges {
+        if edge.to < next.len() {
+            next[edge.to].add(count.words, least.then(alloc, edge)?);
         }
     }
     Ok(())
 }
 
-// Counts what leads to that spot in its class, where words end there.
+// Counts what leads to that node in its class, where words end there.
 fn tell(
     alloc: Global,
-    layers: &[Vec<Spot>],
+    layers: &[Vec<Node>],
     k: usize,
     s: usize,
     count: &Count,
     counts: &mut Counts,
 ) -> Result<(), NoMemory>
-    requires spot { s < width_at layers.now k }
+    requires node { s < width_at layers.now k }
     requires count { IsCount (rank layers.now) (LeadsTo layers.now k s) count.now }
     requires counts { AreTold layers.now k s counts.old }
     ensures classes { OnOk result (length counts.new.classes.items ≡ length counts.old.classes.items) }
     ensures counts { OnOk result (AreTold layers.now k (suc s) counts.new) }
 {
-    let Spot::Ends(class) = spot_at(layers, k, s) else {
+    let Node::Ends(class) = node_at(layers, k, s) else {
         return Ok(());
     };
     let Some(least) = &count.least else {
@@ -108,10 +108,10 @@ fn tell(
     Ok(())
 }
 
-// Counts on from a layer to the next: what leads to each spot of that. The words that end here are told.
+// Counts on from a layer to the next: what leads to each node of that. The words that end here are told.
 fn passed(
     alloc: Global,
-    layers: &[Vec<Spot>],
+    layers: &[Vec<Node>],
     k: usize,
     table: &[Count],
     counts: &mut Counts,
@@ -137,7 +137,7 @@ fn passed(
 /// Counts the words of the layers. NoMemory where room was refused.
 pub(crate) fn count_layers(
     alloc: Global,
-    layers: &[Vec<Spot>],
+    layers: &[Vec<Node>],
     classes: usize,
 ) -> Result<Counts, NoMemory>
     requires { AreLayers layers.now }

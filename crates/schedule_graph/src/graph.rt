@@ -9,42 +9,42 @@ use path_text::NoMemory;
 use std::alloc::Global;
 use std::marker::Model;
 
-/// A way from a spot to one of the next layer.
+/// An edge from a node to one of the next layer.
 #[derive(Clone, Copy, Debug, PartialEq, Eq)]
-pub struct Way {
-    /// The letter of this way.
-    pub letter: u32,
+pub struct Edge {
+    /// The label of this edge.
+    pub label: u32,
     /// Whether it counts as a cut.
     pub cut: bool,
     /// Whether it counts as a change.
     pub change: bool,
-    /// The number of the spot that it leads to, among those of the next layer.
+    /// The number of the node that it leads to, among those of the next layer.
     pub to: usize,
 }
 
-/// A spot of a layer.
+/// A node of a layer.
 #[derive(Debug, Drop)]
-pub enum Spot {
+pub enum Node {
     /// A word that comes here is whole, and of the class with that number.
     Ends(usize),
-    /// A word that comes here goes on by one of these ways, no two of them with the same letter.
-    Goes(Vec<Way>),
+    /// A word that comes here goes on by one of these edges, no two of them with the same label.
+    Goes(Vec<Edge>),
 }
 
-/// A layered graph. Its words are those from the first spot of its first layer. Contracts see it as the list of its
+/// A layered graph. Its words are those from the first node of its first layer. Contracts see it as the list of its
 /// layers.
 #[derive(Debug, Drop)]
 pub struct Graph {
-    layers: Vec<Vec<Spot>>,
+    layers: Vec<Vec<Node>>,
 }
 
 impl Model for Graph {
     ghost use Rattle.std.specs.Prelude.{List};
     ghost use Rattle.std.specs.Global.{Vec};
-    ghost use Rattle.schedule_graph.specs.declared.graph.Spot.{Spot};
+    ghost use Rattle.schedule_graph.specs.declared.graph.Node.{Node};
     ghost use Rattle.schedule_graph.specs.Words.{AreLayers};
 
-    ghost Value = { List (Vec Spot) };
+    ghost Value = { List (Vec Node) };
 
     ghost view = { λ graph. graph.layers.items };
 
@@ -68,9 +68,9 @@ impl Graph {
         self.layers.len()
     }
 
-    /// Adds the next layer. The ways of the layer before lead to its spots; one that leads to none is no part of a
+    /// Adds the next layer. The edges of the layer before lead to its nodes; one that leads to none is no part of a
     /// word. NoMemory where its room was refused; the graph is unchanged then.
-    pub fn push_layer(&mut self, layer: Vec<Spot>) -> Result<(), NoMemory>
+    pub fn push_layer(&mut self, layer: Vec<Node>) -> Result<(), NoMemory>
         requires { IsLayer layer.items }
         ensures ok { OnOk result (self.new ≡ self.old ++ layer ∷ []) }
         ensures err { OnErr result (self.new ≡ self.old) }
@@ -80,7 +80,7 @@ impl Graph {
     }
 
     /// For each of the first classes, as many as that, how many words it has, and the least of them; and the same for
-    /// the words of all classes together. Takes about as long as there are ways, and letters in a word, together.
+    /// the words of all classes together. Takes about as long as there are edges, and labels in a word, together.
     /// NoMemory where room was refused.
     pub fn counted(&self, alloc: Global, classes: usize) -> Result<Counts, NoMemory>
         ensures each { IfOk result (λ counts. length counts.classes.items ≡ classes) }

@@ -1,20 +1,20 @@
 //! Small graphs, with the counts that are wanted.
 ghost use Rattle.std.specs.Prelude.{Some, IfOk};
-ghost use Rattle.schedule_graph.specs.Words.{AreApart, IsLayer, ways_from};
+ghost use Rattle.schedule_graph.specs.Words.{AreApart, IsLayer, edges_from};
 
 use path_text::NoMemory;
-use schedule_graph::{COUNT_CAP, Count, Counts, Graph, Spot, Way, is_not_after};
+use schedule_graph::{COUNT_CAP, Count, Counts, Edge, Graph, Node, is_not_after};
 use std::alloc::Global;
 use std::test::Fail;
 
-/// A spot: the ways by letters 0, 1, ..., each with its mark (1 a cut, 2 a change, 3 both) and where it leads to; or,
+/// A node: the edges by labels 0, 1, ..., each with its mark (1 a cut, 2 a change, 3 both) and where it leads to; or,
 /// where there are none, the class of the words that end there.
 type Drawn<'a> = (usize, &'a [(u8, usize)]);
 
-/// The number of words, the longest one's length, and the least one's cuts, changes and letters.
+/// The number of words, the longest one's length, and the least one's cuts, changes and labels.
 type Wanted<'a> = (u64, usize, Option<(u64, u64, &'a [u32])>);
 
-/// The spots of each layer, and what they come to: of each of two classes, and of all.
+/// The nodes of each layer, and what they come to: of each of two classes, and of all.
 type Case<'a> = (&'a [&'a [Drawn<'a>]], Wanted<'a>, Wanted<'a>, Wanted<'a>);
 
 const END: &[(u8, usize)] = &[];
@@ -24,9 +24,9 @@ const NONE: Wanted<'_> = (0, 0, None);
 const CASES: &[Case<'_>] = &[
     // no layers
     (&[], NONE, NONE, NONE),
-    // no spots
+    // no nodes
     (&[&[]], NONE, NONE, NONE),
-    // the word of no letters
+    // the word of no labels
     (
         &[&[(1, END)]],
         NONE,
@@ -78,7 +78,7 @@ const CASES: &[Case<'_>] = &[
         NONE,
         (4, 3, Some((0, 0, &[1, 0, 0]))),
     ),
-    // a way to no spot is of no word, and a class that isn't asked for is in none but all
+    // an edge to no node is of no word, and a class that isn't asked for is in none but all
     (
         &[&[(0, &[(0, 5), (0, 1), (0, 0)])], &[(2, END), (0, END)]],
         (1, 1, Some((0, 0, &[1]))),
@@ -89,48 +89,48 @@ const CASES: &[Case<'_>] = &[
     (&[&[(0, &[(0, 0)])], &[(0, &[(0, 0)])]], NONE, NONE, NONE),
 ];
 
-fn ways_of(alloc: Global, drawn: &[(u8, usize)]) -> Result<Vec<Way>, NoMemory>
-    ensures { IfOk result (λ ways. AreApart ways.items) }
+fn edges_of(alloc: Global, drawn: &[(u8, usize)]) -> Result<Vec<Edge>, NoMemory>
+    ensures { IfOk result (λ edges. AreApart edges.items) }
 {
-    let mut ways = Vec::new(alloc);
+    let mut edges = Vec::new(alloc);
     for (at, (mark, to)) in drawn.iter().enumerate() {
-        let Ok(letter) = u32::try_from(at) else {
+        let Ok(label) = u32::try_from(at) else {
             break;
         };
-        ways.push(Way {
-            letter,
+        edges.push(Edge {
+            label,
             cut: *mark % 2 == 1,
             change: *mark >= 2,
             to: *to,
         })?;
     }
-    Ok(ways)
+    Ok(edges)
 }
 
-fn spot_of(alloc: Global, drawn: &Drawn<'_>) -> Result<Spot, NoMemory>
-    ensures { IfOk result (λ spot. AreApart (ways_from (Some spot))) }
+fn node_of(alloc: Global, drawn: &Drawn<'_>) -> Result<Node, NoMemory>
+    ensures { IfOk result (λ node. AreApart (edges_from (Some node))) }
 {
-    let (class, ways) = drawn;
-    if ways.is_empty() {
-        return Ok(Spot::Ends(*class));
+    let (class, edges) = drawn;
+    if edges.is_empty() {
+        return Ok(Node::Ends(*class));
     }
-    Ok(Spot::Goes(ways_of(alloc, ways)?))
+    Ok(Node::Goes(edges_of(alloc, edges)?))
 }
 
-fn layer_of(alloc: Global, spots: &[Drawn<'_>]) -> Result<Vec<Spot>, NoMemory>
+fn layer_of(alloc: Global, nodes: &[Drawn<'_>]) -> Result<Vec<Node>, NoMemory>
     ensures { IfOk result (λ layer. IsLayer layer.items) }
 {
     let mut layer = Vec::new(alloc);
-    for drawn in spots {
-        layer.push(spot_of(alloc, drawn)?)?;
+    for drawn in nodes {
+        layer.push(node_of(alloc, drawn)?)?;
     }
     Ok(layer)
 }
 
 fn graph_of(alloc: Global, layers: &[&[Drawn<'_>]]) -> Result<Graph, NoMemory> {
     let mut graph = Graph::new(alloc);
-    for spots in layers {
-        graph.push_layer(layer_of(alloc, spots)?)?;
+    for nodes in layers {
+        graph.push_layer(layer_of(alloc, nodes)?)?;
     }
     Ok(graph)
 }
@@ -172,7 +172,7 @@ fn graphs_are_counted(rt: HostRuntime) -> Result<(), Fail> {
     Ok(())
 }
 
-/// So many layers, each of one spot with two ways, the second of them a change; and the end.
+/// So many layers, each of one node with two edges, the second of them a change; and the end.
 fn doubled(alloc: Global, layers: usize) -> Result<Graph, NoMemory> {
     let mut graph = Graph::new(alloc);
     for _ in 0..layers {
@@ -233,9 +233,9 @@ const IN_ORDER: [(&[u32], &[u32]); 8] = [
 
 /// The place of the first two that are told otherwise. Of two that differ, the other is after the first.
 fn first_out_of_order() -> Option<usize> {
-    for (at, (letters, others)) in IN_ORDER.iter().enumerate() {
-        let are_equal = *letters == *others;
-        if !is_not_after(letters, others) || is_not_after(others, letters) != are_equal {
+    for (at, (labels, others)) in IN_ORDER.iter().enumerate() {
+        let are_equal = *labels == *others;
+        if !is_not_after(labels, others) || is_not_after(others, labels) != are_equal {
             return Some(at);
         }
     }

@@ -2,7 +2,7 @@
 use crate::parts::{Question, add_part, all_within, asked_of, merged};
 use crate::scenes::{REMOVED, TWO_RESOLVE};
 use explore_command::{Silent, explore_part, merge_parts};
-use outcome_text::{ExploreFault, MergeFault, Part, merge};
+use outcome_text::{ExploreFault, MergeFault, Part, SearchFault, merge};
 use scripts::{RunFault, ScriptFault};
 use std::alloc::Global;
 use std::io::{self, ErrorKind, Read};
@@ -307,7 +307,7 @@ const UNTOLD: [Untold; 5] = [
         REMOVED,
         (&["1"], None, false, &["held 1"], &[]),
         14,
-        ExploreFault::TooManyStates,
+        ExploreFault::Search(SearchFault::TooManyStates),
     ),
 ];
 

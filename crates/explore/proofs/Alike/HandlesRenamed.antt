@@ -74,7 +74,7 @@ module _ (f : ℕ → ℕ) where
   levels_numbers (l ∷ ls) = ap (λ ks. f l.dir ∷ ks) (levels_numbers ls)
 
   removing_numbers : (r : remove.Removing) → removing_handles (removing_by f r) ≡ numbers_by f (removing_handles r)
-  removing_numbers (remove.walking way target w) = ap (λ ks. f way.root ∷ ks) (walking_numbers w)
+  removing_numbers (remove.walking edge target w) = ap (λ ks. f edge.root ∷ ks) (walking_numbers w)
   removing_numbers (remove.clearing stage level above count left) =
       join (stage_handles stage) (level.dir ∷ levels_handles above) _ _ (stage_numbers stage) (ap (λ ks. f level.dir ∷ ks) (levels_numbers above))
   removing_numbers (remove.closing h hs end) = refl

@@ -4,7 +4,7 @@ use Rattle.std.specs.Global.{Vec}
 use Rattle.std.proofs.Common.{sym, ap, ◌∙◌, subst, ⊎_elim, arith}
 use Rattle.std.proofs.lemmas.Option.{same_Some, slice_get_within}
 use Rattle.race_core.specs.Worlds.{WorldView}
-use Rattle.schedule_graph.specs.declared.graph.Spot.{Spot}
+use Rattle.schedule_graph.specs.declared.graph.Node.{Node}
 use Rattle.schedule_graph.specs.declared.count.Count.{Count}
 use Rattle.schedule_graph.specs.declared.count.Counts.{Counts}
 use Rattle.schedule_graph.specs.Words.{IsWordOf, IsSomeWord}
@@ -25,7 +25,7 @@ use Rattle.explore.proofs.Layers.Reached.{some_word}
 
 -- ---- words, and the lists that they are
 
-module _ (w : WorldView) (scope : Scope) (layers : List (Vec Spot)) (found : List ClassView) (at : Places) (fit : IsFit w scope layers found at) (are_found : AreFound w scope found) where
+module _ (w : WorldView) (scope : Scope) (layers : List (Vec Node)) (found : List ClassView) (at : Places) (fit : IsFit w scope layers found at) (are_found : AreFound w scope found) where
   -- ---- a class's words and its lists
 
   listed : (is : List ℕ) (k : ℕ) → IsWordOf layers k is → IsListOf w scope layers found k is

@@ -1,4 +1,5 @@
--- Keys and deeds as they are found: the opening world's key, and what a turn comes to by the numbers before and after it.
+-- Keys and effects as they are found: the opening world's key, and what a turn comes to by the numbers before and after
+-- it.
 use Rattle.std.specs.Prelude.{◌≡◌, ◌≤◌, ◌<◌, ◌⊎◌, ℕ, suc, ◌+◌, List, [], ◌∷◌, Bool, true, false, length, map, nat_lt, Some, Result, Ok, Err, IfOk, OnOk, slice_get, slice_set, slice_index_or, refl}
 use Rattle.std.specs.Int.{from_bool}
 use Rattle.std.specs.List.{All}
@@ -15,28 +16,28 @@ use Rattle.race_core.specs.declared.seat.Seat.{Seat}
 use Rattle.race_core.specs.Book.{BookedHistory, tree_now}
 use Rattle.race_core.specs.Turns.{Luck}
 use Rattle.race_core.specs.Worlds.{WorldView, turn}
-use Rattle.explore.specs.declared.keys.Deed.{Deed}
+use Rattle.explore.specs.declared.keys.Effect.{Effect}
 use Rattle.explore.specs.declared.keys.Key.{Key}
 use Rattle.explore.specs.declared.keys.Own.{Own}
-use Rattle.explore.specs.declared.memo.Ask.{Ask}
+use Rattle.explore.specs.declared.memo.MemoKey.{MemoKey}
 use Rattle.explore.specs.declared.memo.Entry.{Entry}
 use Rattle.explore.specs.declared.world_counts.Counts.{Counts}
 use Rattle.explore.specs.Alike.{full, after_turns}
-use Rattle.explore.specs.Deeds.{AreCountsIn, AreCompared, IsDeedFrom, IsAskOf, IsRemembered, KnownView, IsSound}
+use Rattle.explore.specs.Effects.{AreCountsIn, AreCompared, IsEffectFrom, IsMemoKeyOf, IsRemembered, KnownView, IsSound}
 use Rattle.explore.specs.Keys.{ComponentsView, Grows, IsPartAt, IsKey, IsKeyAfter, AreSameKeysButParts, AreFew, outside_in, own_after}
-use Rattle.explore.specs.Layers.{LiveView, IsLed, point_of}
+use Rattle.explore.specs.Layers.{VisitedView, IsReplayed, point_of}
 use Rattle.explore.specs.Local.{AreNumbered}
 use Rattle.explore.specs.Outside.{outside_after, outside_from, outside_of, roots_from}
 use Rattle.explore.specs.Points.{Point, start, onward, AreWithin, Goes}
-use Rattle.explore.specs.Want.{EndsWell}
+use Rattle.explore.specs.OutOfMemory.{EndsWell}
 use Rattle.explore.proofs.Alike.PairedLists.{there_is, there_was}
 use Rattle.explore.proofs.Alike.Steps.{set_at, set_other}
-use Rattle.explore.proofs.Keyed.Growing.{part_grows, deed_grows, sound_grows, grows_on}
+use Rattle.explore.proofs.Keyed.Growing.{part_grows, effect_grows, sound_grows, grows_on}
 use Rattle.explore.proofs.Keyed.KnownTurn.{same_outside, found_turn, found_whole}
 use Rattle.explore.proofs.Keyed.OneTurn.{grown_by, numbered_stays}
 use Rattle.explore.proofs.Lists.Along.{along_world}
 use Rattle.explore.proofs.Lists.Turning.{turn_within}
-use Rattle.explore.proofs.Wants.Lucky.{full_turn, well_turned, goes_full}
+use Rattle.explore.proofs.OutOfMemory.Lucky.{full_turn, well_turned, goes_full}
 
 -- ---- the opening world
 
@@ -102,16 +103,16 @@ one_more : (n m k : ℕ) (so : Bool) → k ≡ m + from_bool so → m ≤ n → 
 one_more n m k true e le = omega arith
 one_more n m k false e le = omega arith
 
-pub few_after : (n : ℕ) (key next : Key) (i : ℕ) (deed : Deed) → i < length key.own.items → AreFew n key → IsKeyAfter key i deed next → AreFew (n + 1) next
-few_after n key next i deed lt few after = record {
-  events = one_more n key.events next.events deed.event after.events few.events;
-  opened = one_more n key.opened next.opened deed.opens after.opened few.opened;
-  closed = one_more n key.closed next.closed deed.closes after.closed few.closed;
+pub few_after : (n : ℕ) (key next : Key) (i : ℕ) (effect : Effect) → i < length key.own.items → AreFew n key → IsKeyAfter key i effect next → AreFew (n + 1) next
+few_after n key next i effect lt few after = record {
+  events = one_more n key.events next.events effect.event after.events few.events;
+  opened = one_more n key.opened next.opened effect.opens after.opened few.opened;
+  closed = one_more n key.closed next.closed effect.closes after.closed few.closed;
   outside = λ j own there. ⊎_elim (λ same. here j own same (at j own there)) (λ ne. elsewhere j own ne (at j own there)) (cases_eq j i);
 }
   where
     new : Own
-    new = own_after (slice_index_or key.own.items i no_own) deed
+    new = own_after (slice_index_or key.own.items i no_own) effect
 
     at : (j : ℕ) (own : Own) → slice_get next.own.items j ≡ Some own → slice_get (slice_set key.own.items i new) j ≡ Some own
     at j own there = ap (λ items. slice_get items j) (sym after.own) ∙ there
@@ -121,7 +122,7 @@ few_after n key next i deed lt few after = record {
         let was = there_is key.own.items i lt in
         let is : own ≡ new = same_Some own new (sym there ∙ (ap (λ k. slice_get (slice_set key.own.items i new) k) same ∙ set_at key.own.items i new lt)) in
         let old : slice_index_or key.own.items i no_own ≡ was.0 = get_or_from_slice_get key.own.items i was.0 no_own was.1 in
-        one_more n was.0.outside own.outside deed.outside (ap (λ (o : Own). o.outside) is ∙ ap (λ (o : Own). o.outside + from_bool deed.outside) old) (few.outside i was.0 was.1)
+        one_more n was.0.outside own.outside effect.outside (ap (λ (o : Own). o.outside) is ∙ ap (λ (o : Own). o.outside + from_bool effect.outside) old) (few.outside i was.0 was.1)
 
     elsewhere : (j : ℕ) (own : Own) → (j ≡ i → ⊥) → slice_get (slice_set key.own.items i new) j ≡ Some own → own.outside ≤ n + 1
     elsewhere j own ne there =
@@ -138,13 +139,13 @@ few_again n mid next same few = record {
       subst (λ k. k ≤ n) (sym was.1.1) (few.outside j was.0 was.1.0);
 }
 
-pub deed_found : (d : ComponentsView) (told : Bool) (luck : Luck) (i : ℕ) (v after : WorldView) (deed : Deed) (before now : Counts) → d.told ≡ told
-    → AreNumbered v.seats → i < length v.seats → after ≡ turn luck v i → EndsWell after → AreCountsIn told v i before → AreCountsIn told after i now → AreCompared before now deed
-    → slice_get d.lists deed.nodes ≡ Some (tree_now after.book).nodes → IsPartAt d after i deed.part → IsDeedFrom d v i deed
-deed_found d told luck i v after deed before now own numbered lt is well before_is now_is compared nodes part = record {
-  nodes = subst (λ (u : WorldView). slice_get d.lists deed.nodes ≡ Some (tree_now u.book).nodes) all nodes;
-  part = subst (λ u. IsPartAt d u i deed.part) all part;
-  grown = grown_by d.told full i v deed numbered lt (compared.event ∙ (λ k. nat_lt (were.events k) (are_now.events k)))
+pub effect_found : (d : ComponentsView) (told : Bool) (luck : Luck) (i : ℕ) (v after : WorldView) (effect : Effect) (before now : Counts) → d.told ≡ told
+    → AreNumbered v.seats → i < length v.seats → after ≡ turn luck v i → EndsWell after → AreCountsIn told v i before → AreCountsIn told after i now → AreCompared before now effect
+    → slice_get d.lists effect.nodes ≡ Some (tree_now after.book).nodes → IsPartAt d after i effect.part → IsEffectFrom d v i effect
+effect_found d told luck i v after effect before now own numbered lt is well before_is now_is compared nodes part = record {
+  nodes = subst (λ (u : WorldView). slice_get d.lists effect.nodes ≡ Some (tree_now u.book).nodes) all nodes;
+  part = subst (λ u. IsPartAt d u i effect.part) all part;
+  grown = grown_by d.told full i v effect numbered lt (compared.event ∙ (λ k. nat_lt (were.events k) (are_now.events k)))
       (compared.opens ∙ (λ k. nat_lt (were.numbers k) (are_now.numbers k)))
       (compared.closes ∙ (λ k. nat_lt (are_now.open_handles k) (were.open_handles k)))
       (compared.outside ∙ (λ k. nat_lt (were.outside k) (are_now.outside k)));
@@ -180,13 +181,13 @@ module _ (c d : ComponentsView) (w : WorldView) (own : List Own) (n at : ℕ) (g
       elsewhere ne = part_grows grows (below i one (omega arith) (sym (set_other own n put i ne) ∙ there))
 
 -- one more is remembered
-pub remembered_more : (c : ComponentsView) (w v : WorldView) (ask : Ask) (deed : Deed) (old new : List Entry)
-    → ((at : ℕ) (entry : Entry) → slice_get new at ≡ Some entry → (slice_get old at ≡ Some entry) ⊎ (entry ≡ record { ask = ask; deed = deed }))
-    → IsAskOf c w v ask → IsDeedFrom c v ask.actor deed → ((at : ℕ) (entry : Entry) → slice_get old at ≡ Some entry → IsRemembered c w entry)
+pub remembered_more : (c : ComponentsView) (w v : WorldView) (memo_key : MemoKey) (effect : Effect) (old new : List Entry)
+    → ((at : ℕ) (entry : Entry) → slice_get new at ≡ Some entry → (slice_get old at ≡ Some entry) ⊎ (entry ≡ record { memo_key = memo_key; effect = effect }))
+    → IsMemoKeyOf c w v memo_key → IsEffectFrom c v memo_key.actor effect → ((at : ℕ) (entry : Entry) → slice_get old at ≡ Some entry → IsRemembered c w entry)
     → (at : ℕ) (entry : Entry) → slice_get new at ≡ Some entry → IsRemembered c w entry
-remembered_more c w v ask deed old new put asked found was at entry there =
+remembered_more c w v memo_key effect old new put asked found was at entry there =
     ⊎_elim (λ old_there. was at entry old_there)
-    (λ is. subst (λ e. IsRemembered c w e) (sym is) (record { from = v; ask = asked; deed = found })) (put at entry there)
+    (λ is. subst (λ e. IsRemembered c w e) (sym is) (record { from = v; memo_key = asked; effect = found })) (put at entry there)
 
 -- ---- a world gone through by turns, as luck has it
 
@@ -194,10 +195,10 @@ pub goes_numbered : (p q : Point) (is : List ℕ) → Goes p is q → AreNumbere
 goes_numbered p q [] goes numbered = subst (λ (x : Point). AreNumbered x.world.seats) (sym goes) numbered
 goes_numbered p q (i ∷ is) goes numbered = goes_numbered (onward goes.0 p i) q is goes.1 (numbered_stays goes.0 p.world i numbered)
 
-pub goes_within : (p q : Point) (is : List ℕ) (n : ℕ) → Goes p is q → AreWithin p.marks n → AreWithin q.marks (n + length is)
+pub goes_within : (p q : Point) (is : List ℕ) (n : ℕ) → Goes p is q → AreWithin p.cost n → AreWithin q.cost (n + length is)
 goes_within p q [] n goes within = record {
-  cuts = let few = within.cuts in let same = ap (λ (x : Point). x.marks.cuts) goes in omega arith;
-  changes = let few = within.changes in let same = ap (λ (x : Point). x.marks.changes) goes in omega arith;
+  cuts = let few = within.cuts in let same = ap (λ (x : Point). x.cost.cuts) goes in omega arith;
+  changes = let few = within.changes in let same = ap (λ (x : Point). x.cost.changes) goes in omega arith;
 }
 goes_within p q (i ∷ is) n goes within =
     let rest = goes_within (onward goes.0 p i) q is (n + 1) goes.1 (turn_within p (onward goes.0 p i) i n (goes.0, refl) within) in
@@ -208,12 +209,12 @@ goes_within p q (i ∷ is) n goes within =
 
 -- Where a turn is taken after these, and all comes to an end that tells of no want, the world before that turn is the one
 -- after them.
-pub before_there : (w : WorldView) (inside live : LiveView) (turns : List ℕ) → inside ≡ live → IsLed w live → live.turns ≡ turns → (i : ℕ) (after : WorldView)
+pub before_there : (w : WorldView) (inside visited : VisitedView) (turns : List ℕ) → inside ≡ visited → IsReplayed w visited → visited.turns ≡ turns → (i : ℕ) (after : WorldView)
     → (luck : Luck) × (after ≡ turn luck inside.world i) → EndsWell after → inside.world ≡ after_turns w turns
-before_there w inside live turns is led same i after turned well =
-    let goes : IsLed w inside = subst (λ (l : LiveView). IsLed w l) (sym is) led in
+before_there w inside visited turns is replayed same i after turned well =
+    let goes : IsReplayed w inside = subst (λ (l : VisitedView). IsReplayed w l) (sym is) replayed in
     ap (λ (x : Point). x.world) (goes_full (start w) (point_of inside) inside.turns goes (well_turned turned.0 inside.world i (subst (λ u. EndsWell u) turned.1 well)))
-    ∙ (along_world (start w) inside.turns ∙ ap (after_turns w) (ap (λ (l : LiveView). l.turns) is ∙ same))
+    ∙ (along_world (start w) inside.turns ∙ ap (after_turns w) (ap (λ (l : VisitedView). l.turns) is ∙ same))
 
 -- what is said of a success, given what is known where there was one
 pub ok_with : {T E P : Type 0} {Q R : T → Type 0} (r : Result T E) → (P → (x : T) → Q x → R x) → OnOk r P → IfOk r Q → IfOk r R
@@ -222,9 +223,9 @@ ok_with (Err e) on p q = q
 
 -- ---- the key after a turn that was found
 
-module _ (old mid : KnownView) (w v : WorldView) (i : ℕ) (deed : Deed) (key next : Key) (sound : IsSound w old)
+module _ (old mid : KnownView) (w v : WorldView) (i : ℕ) (effect : Effect) (key next : Key) (sound : IsSound w old)
     (is : IsKey old.components w v key) (grows : Grows old.components mid.components) (rest : mid ≡ record old { components = mid.components })
-    (lt : i < length v.seats) (found : IsDeedFrom mid.components v i deed) (key_after : IsKeyAfter key i deed next) where
+    (lt : i < length v.seats) (found : IsEffectFrom mid.components v i effect) (key_after : IsKeyAfter key i effect next) where
   pub sound_mid : IsSound w mid
   sound_mid = subst (λ (k : KnownView). IsSound w k) (sym rest) (sound_grows grows sound)
 
@@ -232,7 +233,7 @@ module _ (old mid : KnownView) (w v : WorldView) (i : ℕ) (deed : Deed) (key ne
   pub key_known : (new : KnownView) → old.are_given ≡ true → new.components ≡ mid.components → IsKey new.components w (turn full v i) next
   key_known new given same =
       subst (λ (c : ComponentsView). IsKey c w (turn full v i) next) (sym same)
-      (found_turn old.components mid.components w v i deed key next is grows found key_after lt sound.rows (sound.given given))
+      (found_turn old.components mid.components w v i effect key next is grows found key_after lt sound.rows (sound.given given))
 
   -- or all actors' parts are put anew
   pub sound_whole : (new : KnownView) → Grows mid.components new.components → new ≡ record mid { components = new.components } → IsSound w new
@@ -242,4 +243,4 @@ module _ (old mid : KnownView) (w v : WorldView) (i : ℕ) (deed : Deed) (key ne
       → ((j : ℕ) (own : Own) → slice_get last.own.items j ≡ Some own → IsPartAt new.components (turn full v i) j own.part)
       → IsKey new.components w (turn full v i) last
   key_whole new last more same parts =
-      found_whole old.components new.components w v i deed key next is (grows_on grows more) (deed_grows more found) key_after lt last same parts
+      found_whole old.components new.components w v i effect key next is (grows_on grows more) (effect_grows more found) key_after lt last same parts

@@ -3,12 +3,12 @@ use Rattle.std.specs.Prelude.{◌≡◌, ◌<◌, ℕ, length, refl}
 use Rattle.std.proofs.Common.{sym, ap, ◌∙◌, subst, arith}
 use Rattle.std.proofs.lemmas.Option.{same_Some}
 use Rattle.race_core.specs.Worlds.{WorldView, turn}
-use Rattle.explore.specs.declared.keys.Deed.{Deed}
+use Rattle.explore.specs.declared.keys.Effect.{Effect}
 use Rattle.explore.specs.declared.keys.Key.{Key}
-use Rattle.explore.specs.declared.memo.Ask.{Ask}
+use Rattle.explore.specs.declared.memo.MemoKey.{MemoKey}
 use Rattle.explore.specs.declared.memo.Entry.{Entry}
 use Rattle.explore.specs.Alike.{full}
-use Rattle.explore.specs.Deeds.{HasGrown, IsDeedFrom, IsAskOf, IsRemembered, KnownView, IsSound}
+use Rattle.explore.specs.Effects.{HasGrown, IsEffectFrom, IsMemoKeyOf, IsRemembered, KnownView, IsSound}
 use Rattle.explore.specs.Keys.{PartsView, ComponentsView, AreRows, Grows, IsPartAt, IsKey, outside_in}
 use Rattle.explore.specs.Local.{SamePartAt}
 use Rattle.explore.specs.Outside.{roots_of, outside_of}
@@ -77,9 +77,9 @@ key_grows {c} {d} {w} {v} {key} grows is =
       untold = λ none. is.untold (told ∙ none);
     }
 
-pub ask_grows : {c d : ComponentsView} {w v : WorldView} {ask : Ask} → Grows c d → IsAskOf c w v ask → IsAskOf d w v ask
-ask_grows {c} {d} {w} {v} {ask} grows is = record {
-  nodes = grows.lists ask.nodes _ is.nodes;
+pub memo_key_grows : {c d : ComponentsView} {w v : WorldView} {memo_key : MemoKey} → Grows c d → IsMemoKeyOf c w v memo_key → IsMemoKeyOf d w v memo_key
+memo_key_grows {c} {d} {w} {v} {memo_key} grows is = record {
+  nodes = grows.lists memo_key.nodes _ is.nodes;
   part = part_grows grows is.part;
   room = is.room;
   numbers = is.numbers;
@@ -87,15 +87,15 @@ ask_grows {c} {d} {w} {v} {ask} grows is = record {
   roots = subst (λ told. roots_of told v ≡ roots_of told w) (sym grows.told) is.roots;
 }
 
-pub deed_grows : {c d : ComponentsView} {v : WorldView} {i : ℕ} {deed : Deed} → Grows c d → IsDeedFrom c v i deed → IsDeedFrom d v i deed
-deed_grows {c} {d} {v} {i} {deed} grows is = record {
-  nodes = grows.lists deed.nodes _ is.nodes;
+pub effect_grows : {c d : ComponentsView} {v : WorldView} {i : ℕ} {effect : Effect} → Grows c d → IsEffectFrom c v i effect → IsEffectFrom d v i effect
+effect_grows {c} {d} {v} {i} {effect} grows is = record {
+  nodes = grows.lists effect.nodes _ is.nodes;
   part = part_grows grows is.part;
-  grown = subst (λ told. HasGrown told i v (turn full v i) deed) (sym grows.told) is.grown;
+  grown = subst (λ told. HasGrown told i v (turn full v i) effect) (sym grows.told) is.grown;
 }
 
 pub remembered_grows : {c d : ComponentsView} {w : WorldView} {entry : Entry} → Grows c d → IsRemembered c w entry → IsRemembered d w entry
-remembered_grows grows is = record { from = is.from; ask = ask_grows grows is.ask; deed = deed_grows grows is.deed }
+remembered_grows grows is = record { from = is.from; memo_key = memo_key_grows grows is.memo_key; effect = effect_grows grows is.effect }
 
 -- what is known stays so where its components grow
 pub sound_grows : {w : WorldView} {known : KnownView} {d : ComponentsView} → Grows known.components d → IsSound w known

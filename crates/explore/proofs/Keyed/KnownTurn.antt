@@ -10,14 +10,14 @@ use Rattle.tree_model.specs.declared.tree.TheConstants.{NUMBERS_MAX}
 use Rattle.race_core.specs.declared.seat.Seat.{Seat}
 use Rattle.race_core.specs.Book.{BookedHistory, tree_now, free_lines}
 use Rattle.race_core.specs.Worlds.{WorldView, turn}
-use Rattle.explore.specs.declared.keys.Deed.{Deed}
+use Rattle.explore.specs.declared.keys.Effect.{Effect}
 use Rattle.explore.specs.declared.keys.Key.{Key}
 use Rattle.explore.specs.declared.keys.Own.{Own}
-use Rattle.explore.specs.declared.memo.Ask.{Ask}
+use Rattle.explore.specs.declared.memo.MemoKey.{MemoKey}
 use Rattle.explore.specs.declared.world_counts.Start.{Start}
 use Rattle.explore.specs.Alike.{full}
 use Rattle.explore.specs.Counting.{bumped}
-use Rattle.explore.specs.Deeds.{HasGrown, IsDeedFrom, IsAskOf, IsRemembered, IsStart}
+use Rattle.explore.specs.Effects.{HasGrown, IsEffectFrom, IsMemoKeyOf, IsRemembered, IsStart}
 use Rattle.explore.specs.Keys.{ComponentsView, AreRows, Grows, IsPartAt, IsKey, IsKeyAfter, AreSameKeysButParts, outside_in, own_after}
 use Rattle.explore.specs.Lists.{plus}
 use Rattle.explore.specs.Local.{actor_of, SamePartAt, AreAllGiven, GrownAlike, SameGround, changes_outside}
@@ -68,37 +68,37 @@ by_that m' n' m n more e e' = omega arith
 by_those : (m' n' m n more less : ℕ) → m' + n ≡ n' + m → n' + less ≡ n + more → m' + less ≡ m + more
 by_those m' n' m n more less e e' = omega arith
 
-grown_alike : (told : Bool) (i : ℕ) (v o : WorldView) (deed : Deed) → GrownAlike v.book o.book (turn full v i).book (turn full o i).book
-    → roots_of told v ≡ roots_of told o → HasGrown told i o (turn full o i) deed → HasGrown told i v (turn full v i) deed
-grown_alike told i v o deed alike roots grown = record {
+grown_alike : (told : Bool) (i : ℕ) (v o : WorldView) (effect : Effect) → GrownAlike v.book o.book (turn full v i).book (turn full o i).book
+    → roots_of told v ≡ roots_of told o → HasGrown told i o (turn full o i) effect → HasGrown told i v (turn full v i) effect
+grown_alike told i v o effect alike roots grown = record {
   events = by_that _ _ _ _ _ alike.events grown.events;
   numbers = by_that _ _ _ _ _ alike.numbers grown.numbers;
   open_handles = by_those _ _ _ _ _ _ alike.open_handles grown.open_handles;
   outside =
       ap (λ roots. outside_from (turn full v i).book 0 roots) (roots_stay told full v i)
-      ∙ bumped_alike v.book o.book (turn full v i).book (turn full o i).book alike deed.outside i 0 (roots_of told v)
-      (subst (λ roots. outside_from (turn full o i).book 0 roots ≡ bumped deed.outside i (outside_from o.book 0 roots)) (sym roots)
+      ∙ bumped_alike v.book o.book (turn full v i).book (turn full o i).book alike effect.outside i 0 (roots_of told v)
+      (subst (λ roots. outside_from (turn full o i).book 0 roots ≡ bumped effect.outside i (outside_from o.book 0 roots)) (sym roots)
       (ap (λ roots. outside_from (turn full o i).book 0 roots) (sym (roots_stay told full o i)) ∙ grown.outside));
   untold = grown.untold;
 }
 
-same_ask : (c : ComponentsView) (w v o : WorldView) (ask : Ask) → IsAskOf c w v ask → IsAskOf c w o ask → SameGround v.book o.book
-same_ask c w v o ask here there = record {
+same_memo_key : (c : ComponentsView) (w v o : WorldView) (memo_key : MemoKey) → IsMemoKeyOf c w v memo_key → IsMemoKeyOf c w o memo_key → SameGround v.book o.book
+same_memo_key c w v o memo_key here there = record {
   nodes = same_Some _ _ (sym here.nodes ∙ there.nodes);
   numbers = here.numbers ∙ sym there.numbers;
   lines = λ n few. here.room n few ∙ sym (there.room n few);
 }
 
 -- what the turn comes to in the one world it comes to in the other
-pub deed_alike : (c : ComponentsView) (w v o : WorldView) (ask : Ask) (deed : Deed) → AreRows c.parts (length w.seats)
-    → IsAskOf c w v ask → IsAskOf c w o ask → IsDeedFrom c o ask.actor deed → IsDeedFrom c v ask.actor deed
-deed_alike c w v o ask deed rows here there is =
-    let same : SamePartAt v o ask.actor = one_part c v o ask.actor ask.part (length w.seats) rows here.part there.part in
-    let gone = turns_are_local v o full ask.actor (same_ask c w v o ask here there) same in
+pub effect_alike : (c : ComponentsView) (w v o : WorldView) (memo_key : MemoKey) (effect : Effect) → AreRows c.parts (length w.seats)
+    → IsMemoKeyOf c w v memo_key → IsMemoKeyOf c w o memo_key → IsEffectFrom c o memo_key.actor effect → IsEffectFrom c v memo_key.actor effect
+effect_alike c w v o memo_key effect rows here there is =
+    let same : SamePartAt v o memo_key.actor = one_part c v o memo_key.actor memo_key.part (length w.seats) rows here.part there.part in
+    let gone = turns_are_local v o full memo_key.actor (same_memo_key c w v o memo_key here there) same in
     record {
       nodes = is.nodes ∙ ap Some (sym gone.nodes);
-      part = part_of_same c (turn full v ask.actor) (turn full o ask.actor) ask.actor deed.part (length w.seats) rows gone.part is.part;
-      grown = grown_alike c.told ask.actor v o deed gone.grown (here.roots ∙ sym there.roots) is.grown;
+      part = part_of_same c (turn full v memo_key.actor) (turn full o memo_key.actor) memo_key.actor effect.part (length w.seats) rows gone.part is.part;
+      grown = grown_alike c.told memo_key.actor v o effect gone.grown (here.roots ∙ sym there.roots) is.grown;
     }
 
 -- ---- the others' parts
@@ -135,19 +135,19 @@ from_plus : (so : Bool) (n : ℕ) → n + from_bool so ≡ plus so n
 from_plus true n = omega arith
 from_plus false n = omega arith
 
-outside_set : (deed : Deed) (xs : List Own) (i : ℕ) (none : Own)
-    → map (λ (o : Own). o.outside) (slice_set xs i (own_after (slice_index_or xs i none) deed)) ≡ bumped deed.outside i (map (λ (o : Own). o.outside) xs)
-outside_set deed [] i none = sym (bumped_none deed.outside i)
-outside_set deed (x ∷ xs) zero none =
-    ap (λ n. n ∷ map (λ (o : Own). o.outside) xs) (from_plus deed.outside x.outside)
-    ∙ sym (bumped_first deed.outside x.outside (map (λ (o : Own). o.outside) xs))
-outside_set deed (x ∷ xs) (suc i) none =
-    ap (λ ns. x.outside ∷ ns) (outside_set deed xs i none) ∙ sym (bumped_next deed.outside i x.outside (map (λ (o : Own). o.outside) xs))
+outside_set : (effect : Effect) (xs : List Own) (i : ℕ) (none : Own)
+    → map (λ (o : Own). o.outside) (slice_set xs i (own_after (slice_index_or xs i none) effect)) ≡ bumped effect.outside i (map (λ (o : Own). o.outside) xs)
+outside_set effect [] i none = sym (bumped_none effect.outside i)
+outside_set effect (x ∷ xs) zero none =
+    ap (λ n. n ∷ map (λ (o : Own). o.outside) xs) (from_plus effect.outside x.outside)
+    ∙ sym (bumped_first effect.outside x.outside (map (λ (o : Own). o.outside) xs))
+outside_set effect (x ∷ xs) (suc i) none =
+    ap (λ ns. x.outside ∷ ns) (outside_set effect xs i none) ∙ sym (bumped_next effect.outside i x.outside (map (λ (o : Own). o.outside) xs))
 
-outside_after_it : (told : Bool) (deed : Deed) (xs : List Own) (i : ℕ) (none : Own)
-    → outside_in told (slice_set xs i (own_after (slice_index_or xs i none) deed)) ≡ bumped deed.outside i (outside_in told xs)
-outside_after_it true deed xs i none = outside_set deed xs i none
-outside_after_it false deed xs i none = sym (bumped_none deed.outside i)
+outside_after_it : (told : Bool) (effect : Effect) (xs : List Own) (i : ℕ) (none : Own)
+    → outside_in told (slice_set xs i (own_after (slice_index_or xs i none) effect)) ≡ bumped effect.outside i (outside_in told xs)
+outside_after_it true effect xs i none = outside_set effect xs i none
+outside_after_it false effect xs i none = sym (bumped_none effect.outside i)
 
 outside_again : (told : Bool) (xs ys : List Own) → map (λ (o : Own). o.outside) xs ≡ map (λ (o : Own). o.outside) ys → outside_in told xs ≡ outside_in told ys
 outside_again true xs ys e = e
@@ -167,8 +167,8 @@ same_outside (a ∷ xs) (b ∷ ys) e (suc j) x is =
 
 -- ---- the key after a turn
 
-module _ (c d : ComponentsView) (w v : WorldView) (i : ℕ) (deed : Deed) (key mid : Key) (is : IsKey c w v key) (grows : Grows c d)
-    (found : IsDeedFrom d v i deed) (after : IsKeyAfter key i deed mid) (lt : i < length v.seats) where
+module _ (c d : ComponentsView) (w v : WorldView) (i : ℕ) (effect : Effect) (key mid : Key) (is : IsKey c w v key) (grows : Grows c d)
+    (found : IsEffectFrom d v i effect) (after : IsKeyAfter key i effect mid) (lt : i < length v.seats) where
   abbrev none : Own
   none = record { part = 0; outside = 0 }
 
@@ -178,15 +178,15 @@ module _ (c d : ComponentsView) (w v : WorldView) (i : ℕ) (deed : Deed) (key m
   within : i < length key.own.items
   within = subst (λ n. i < n) (sym is.many) lt
 
-  -- what has another place in the key after it is as it was, and what has the actor's is the actor's after the deed
-  own_there : (own : Own) → slice_get mid.own.items i ≡ Some own → own_after (slice_index_or key.own.items i none) deed ≡ own
+  -- what has another place in the key after it is as it was, and what has the actor's is the actor's after the effect
+  own_there : (own : Own) → slice_get mid.own.items i ≡ Some own → own_after (slice_index_or key.own.items i none) effect ≡ own
   own_there own e =
-      same_Some _ _ (sym (set_at key.own.items i (own_after (slice_index_or key.own.items i none) deed) within)
+      same_Some _ _ (sym (set_at key.own.items i (own_after (slice_index_or key.own.items i none) effect) within)
       ∙ (ap (λ items. slice_get items i) (sym after.own) ∙ e))
 
   other_there : (j : ℕ) (own : Own) → i ≢ j → slice_get mid.own.items j ≡ Some own → slice_get key.own.items j ≡ Some own
   other_there j own ne e =
-      sym (set_other key.own.items i (own_after (slice_index_or key.own.items i none) deed) j (λ q. ne (sym q)))
+      sym (set_other key.own.items i (own_after (slice_index_or key.own.items i none) effect) j (λ q. ne (sym q)))
       ∙ (ap (λ items. slice_get items j) (sym after.own) ∙ e)
 
   mid_untold : d.told ≡ false → (j : ℕ) (own : Own) → slice_get mid.own.items j ≡ Some own → own.outside ≡ 0
@@ -197,7 +197,7 @@ module _ (c d : ComponentsView) (w v : WorldView) (i : ℕ) (deed : Deed) (key m
           let was = there_is key.own.items i within in
           let zero_was : was.0.outside ≡ 0 = old.untold untold i was.0 was.1 in
           let is_was : slice_index_or key.own.items i none ≡ was.0 = get_or_from_slice_get key.own.items i was.0 none was.1 in
-          let not_outside : deed.outside ≡ false = found.grown.untold untold in
+          let not_outside : effect.outside ≡ false = found.grown.untold untold in
           let now = own_there own (subst (λ n. slice_get mid.own.items n ≡ Some own) (sym q) e) in
           ap (λ (o : Own). o.outside) (sym now)
           ∙ (λ k. (is_was k).outside + from_bool (not_outside k))
@@ -226,12 +226,12 @@ module _ (c d : ComponentsView) (w v : WorldView) (i : ℕ) (deed : Deed) (key m
     given = λ all. given_stay v full i (old.given all);
     many =
         (sym (length-map next.own.items (λ (o : Own). o.outside)) ∙ ap length (sym same.outside) ∙ length-map mid.own.items (λ (o : Own). o.outside))
-        ∙ (ap length after.own ∙ length-set key.own.items i (own_after (slice_index_or key.own.items i none) deed))
+        ∙ (ap length after.own ∙ length-set key.own.items i (own_after (slice_index_or key.own.items i none) effect))
         ∙ (old.many ∙ sym (turn_stays full v i));
     parts = parts;
     roots = roots_stay d.told full v i ∙ old.roots;
     outside =
-        found.grown.outside ∙ ap (bumped deed.outside i) old.outside ∙ sym (outside_after_it d.told deed key.own.items i none)
+        found.grown.outside ∙ ap (bumped effect.outside i) old.outside ∙ sym (outside_after_it d.told effect key.own.items i none)
         ∙ ap (outside_in d.told) (sym after.own) ∙ outside_again d.told mid.own.items next.own.items same.outside;
     untold = λ untold j own e.
         let there = same_outside next.own.items mid.own.items (sym same.outside) j own e in
@@ -254,12 +254,12 @@ module _ (c d : ComponentsView) (w v : WorldView) (i : ℕ) (deed : Deed) (key m
           there ne =
               others_part d v i j own.part (length w.seats) (rows_grow grows rows) ne lt old.numbered (old.given given) (old.parts j own (other_there j own ne e))
 
-pub known_turn : (c : ComponentsView) (w v : WorldView) (ask : Ask) (deed : Deed) (key next : Key) → AreRows c.parts (length w.seats) → AreAllGiven w
-    → IsKey c w v key → IsAskOf c w v ask → IsRemembered c w (record { ask = ask; deed = deed }) → IsKeyAfter key ask.actor deed next
-    → ask.actor < length v.seats → IsKey c w (turn full v ask.actor) next
-known_turn c w v ask deed key next rows given is asked remembered after lt =
-    found_turn c c w v ask.actor deed key next is grows_same
-    (deed_alike c w v remembered.from ask deed rows asked remembered.ask remembered.deed) after lt rows given
+pub known_turn : (c : ComponentsView) (w v : WorldView) (memo_key : MemoKey) (effect : Effect) (key next : Key) → AreRows c.parts (length w.seats) → AreAllGiven w
+    → IsKey c w v key → IsMemoKeyOf c w v memo_key → IsRemembered c w (record { memo_key = memo_key; effect = effect }) → IsKeyAfter key memo_key.actor effect next
+    → memo_key.actor < length v.seats → IsKey c w (turn full v memo_key.actor) next
+known_turn c w v memo_key effect key next rows given is asked remembered after lt =
+    found_turn c c w v memo_key.actor effect key next is grows_same
+    (effect_alike c w v remembered.from memo_key effect rows asked remembered.memo_key remembered.effect) after lt rows given
 
 -- ---- what is asked
 
@@ -267,14 +267,14 @@ known_turn c w v ask deed key next rows given is asked remembered after lt =
 few_free : (free room n : ℕ) → room ≡ min free 2 → n ≤ 2 → nat_lt free n ≡ nat_lt room n
 few_free free room n e le = grind (arith, nat_tests)
 
-pub ask_of_key : (c : ComponentsView) (w v : WorldView) (start : Start) (key : Key) (i : ℕ) (own : Own) (ask : Ask) → IsStart start w → IsKey c w v key
-    → slice_get key.own.items i ≡ Some own → ask.nodes ≡ key.nodes → ask.actor ≡ i → ask.part ≡ own.part
-    → ask.room ≡ min (start.lines - (((start.open_handles + key.opened) - key.closed) + key.events)) 2
-    → ask.is_full ≡ nat_le NUMBERS_MAX (start.numbers + key.opened) → IsAskOf c w v ask
-ask_of_key c w v start key i own ask begun is there nodes actor part room is_full = record {
+pub memo_key_of : (c : ComponentsView) (w v : WorldView) (start : Start) (key : Key) (i : ℕ) (own : Own) (memo_key : MemoKey) → IsStart start w → IsKey c w v key
+    → slice_get key.own.items i ≡ Some own → memo_key.nodes ≡ key.nodes → memo_key.actor ≡ i → memo_key.part ≡ own.part
+    → memo_key.room ≡ min (start.lines - (((start.open_handles + key.opened) - key.closed) + key.events)) 2
+    → memo_key.is_full ≡ nat_le NUMBERS_MAX (start.numbers + key.opened) → IsMemoKeyOf c w v memo_key
+memo_key_of c w v start key i own memo_key begun is there nodes actor part room is_full = record {
   nodes = ap (λ n. slice_get c.lists n) nodes ∙ is.nodes;
-  part = subst (λ n. IsPartAt c v n ask.part) (sym actor) (subst (λ n. IsPartAt c v i n) (sym part) (is.parts i own there));
-  room = λ n few. few_free (free_lines v.book) ask.room n (room ∙ ap (λ m. min m 2) (sym free)) few;
+  part = subst (λ n. IsPartAt c v n memo_key.part) (sym actor) (subst (λ n. IsPartAt c v i n) (sym part) (is.parts i own there));
+  room = λ n few. few_free (free_lines v.book) memo_key.room n (room ∙ ap (λ m. min m 2) (sym free)) few;
   numbers = ap (nat_le NUMBERS_MAX) (is.numbers ∙ ap (λ n. n + key.opened) (sym begun.numbers)) ∙ sym is_full;
   numbered = is.numbered;
   roots = is.roots;

@@ -17,9 +17,9 @@ use Rattle.race_core.specs.declared.seat.Seat.{Seat}
 use Rattle.race_core.specs.Book.{BookedHistory, tree_now, answer_now, booked}
 use Rattle.race_core.specs.Turns.{Luck, turned}
 use Rattle.race_core.specs.Worlds.{WorldView, turn_of, turn}
-use Rattle.explore.specs.declared.keys.Deed.{Deed}
+use Rattle.explore.specs.declared.keys.Effect.{Effect}
 use Rattle.explore.specs.Counting.{bumped}
-use Rattle.explore.specs.Deeds.{HasGrown}
+use Rattle.explore.specs.Effects.{HasGrown}
 use Rattle.explore.specs.Local.{AreNumbered, SameParts}
 use Rattle.explore.specs.Outside.{acts_outside, outside_from, outside_of, roots_from, roots_of}
 use Rattle.explore.proofs.Alike.OutsideAlike.{IsOneOn, as_it_was, one_more, turn_books, roots_stay}
@@ -95,9 +95,9 @@ handles_grow s a step = by_step (does s a step) (handles_are_counted s a step).1
 
 -- some numbers by which all has grown, and no handle was given and another closed at once
 pub record GrowsBy (told : Bool) (i : ℕ) (v after : WorldView) : Type 0 where
-  pub deed : Deed
-  pub one : (deed.opens && deed.closes) ≡ false
-  pub grown : HasGrown told i v after deed
+  pub effect : Effect
+  pub one : (effect.opens && effect.closes) ≡ false
+  pub grown : HasGrown told i v after effect
 
 and_told : (told acts : Bool) → told ≡ false → (told && acts) ≡ false
 and_told told acts e = ap (λ t. t && acts) e
@@ -106,7 +106,7 @@ module _ (told : Bool) (luck : Luck) (v : WorldView) (i : ℕ) where
   by_book : (after : BookedHistory) (seats : List Seat) → IsOneBy i v.book after
       → roots_of told (record { book = after; seats = seats; spent = v.spent }) ≡ roots_of told v → GrowsBy told i v (record { book = after; seats = seats; spent = v.spent })
   by_book after seats parts.as_it_was roots = record {
-    deed = record { nodes = 0; part = 0; event = false; opens = false; closes = false; outside = false };
+    effect = record { nodes = 0; part = 0; event = false; opens = false; closes = false; outside = false };
     one = refl;
     grown = record {
       events = omega arith;
@@ -123,7 +123,7 @@ module _ (told : Bool) (luck : Luck) (v : WorldView) (i : ℕ) where
       subst (λ t. HandlesGrow (tree_now v.book) t) (sym tree) (handles_grow (tree_now v.book) i step) in
       let acts : Bool = acts_outside (slice_index_or (roots_of told v) i None) (tree_now v.book) event in
       record {
-        deed = record { nodes = 0; part = 0; event = true; opens = handles.opens; closes = handles.closes; outside = told && acts };
+        effect = record { nodes = 0; part = 0; event = true; opens = handles.opens; closes = handles.closes; outside = told && acts };
         one = handles.one;
         grown = record {
           events = length_push v.book.events event;
@@ -184,19 +184,19 @@ outside_lt false so i v lt untold = ap (λ ns. nat_lt 0 (slice_index_or ns i 0))
     none_here zero = refl
     none_here (suc i) = refl
 
--- a deed by comparisons of the numbers before and after
-pub grown_by : (told : Bool) (luck : Luck) (i : ℕ) (v : WorldView) (deed : Deed) → AreNumbered v.seats → i < length v.seats
-    → deed.event ≡ nat_lt (length v.book.events) (length (turn luck v i).book.events)
-    → deed.opens ≡ nat_lt (length (tree_now v.book).handles) (length (tree_now (turn luck v i).book).handles)
-    → deed.closes ≡ nat_lt (open_count (tree_now (turn luck v i).book)) (open_count (tree_now v.book))
-    → deed.outside ≡ nat_lt (slice_index_or (outside_of told v) i 0) (slice_index_or (outside_of told (turn luck v i)) i 0)
-    → HasGrown told i v (turn luck v i) deed
-grown_by told luck i v deed numbered lt event opens closed outside = record {
+-- an effect by comparisons of the numbers before and after
+pub grown_by : (told : Bool) (luck : Luck) (i : ℕ) (v : WorldView) (effect : Effect) → AreNumbered v.seats → i < length v.seats
+    → effect.event ≡ nat_lt (length v.book.events) (length (turn luck v i).book.events)
+    → effect.opens ≡ nat_lt (length (tree_now v.book).handles) (length (tree_now (turn luck v i).book).handles)
+    → effect.closes ≡ nat_lt (open_count (tree_now (turn luck v i).book)) (open_count (tree_now v.book))
+    → effect.outside ≡ nat_lt (slice_index_or (outside_of told v) i 0) (slice_index_or (outside_of told (turn luck v i)) i 0)
+    → HasGrown told i v (turn luck v i) effect
+grown_by told luck i v effect numbered lt event opens closed outside = record {
   events = subst (λ so. length after.book.events ≡ length v.book.events + from_bool so) event_is by.grown.events;
   numbers = subst (λ so. length (tree_now after.book).handles ≡ length (tree_now v.book).handles + from_bool so) opens_is by.grown.numbers;
   open_handles =
-      subst (λ so. open_count (tree_now after.book) + from_bool so ≡ open_count (tree_now v.book) + from_bool deed.opens) closes_is
-      (subst (λ so. open_count (tree_now after.book) + from_bool by.deed.closes ≡ open_count (tree_now v.book) + from_bool so) opens_is by.grown.open_handles);
+      subst (λ so. open_count (tree_now after.book) + from_bool so ≡ open_count (tree_now v.book) + from_bool effect.opens) closes_is
+      (subst (λ so. open_count (tree_now after.book) + from_bool by.effect.closes ≡ open_count (tree_now v.book) + from_bool so) opens_is by.grown.open_handles);
   outside = subst (λ so. outside_of told after ≡ bumped so i (outside_of told v)) outside_is by.grown.outside;
   untold = λ e. sym outside_is ∙ by.grown.untold e;
 }
@@ -207,16 +207,16 @@ grown_by told luck i v deed numbered lt event opens closed outside = record {
     by : GrowsBy told i v after
     by = turn_grows told luck v i numbered lt
 
-    event_is : by.deed.event ≡ deed.event
-    event_is = sym (event ∙ lt_by by.deed.event _ _ by.grown.events)
+    event_is : by.effect.event ≡ effect.event
+    event_is = sym (event ∙ lt_by by.effect.event _ _ by.grown.events)
 
-    opens_is : by.deed.opens ≡ deed.opens
-    opens_is = sym (opens ∙ lt_by by.deed.opens _ _ by.grown.numbers)
+    opens_is : by.effect.opens ≡ effect.opens
+    opens_is = sym (opens ∙ lt_by by.effect.opens _ _ by.grown.numbers)
 
-    closes_is : by.deed.closes ≡ deed.closes
-    closes_is = sym (closed ∙ lt_closed by.deed.opens by.deed.closes _ _ by.one by.grown.open_handles)
+    closes_is : by.effect.closes ≡ effect.closes
+    closes_is = sym (closed ∙ lt_closed by.effect.opens by.effect.closes _ _ by.one by.grown.open_handles)
 
-    outside_is : by.deed.outside ≡ deed.outside
+    outside_is : by.effect.outside ≡ effect.outside
     outside_is =
         sym (outside ∙ ap (λ ns. nat_lt (slice_index_or (outside_of told v) i 0) (slice_index_or ns i 0)) by.grown.outside
-        ∙ outside_lt told by.deed.outside i v lt by.grown.untold)
+        ∙ outside_lt told by.effect.outside i v lt by.grown.untold)

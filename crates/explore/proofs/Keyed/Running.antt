@@ -6,22 +6,22 @@ use Rattle.std.proofs.Common.{◌≢◌, take, drop, sym, ap, ◌∙◌, subst, 
 use Rattle.race_core.specs.Turns.{Luck}
 use Rattle.race_core.specs.Worlds.{WorldView, turn}
 use Rattle.explore.specs.declared.layer.Layer.{Layer}
-use Rattle.explore.specs.declared.layer.Live.{Live}
+use Rattle.explore.specs.declared.layer.Visited.{Visited}
 use Rattle.explore.specs.declared.limits.Bounds.{Bounds}
 use Rattle.explore.specs.declared.limits.Scope.{Scope}
-use Rattle.explore.specs.declared.moves.Move.{Move}
+use Rattle.explore.specs.declared.transitions.Transition.{Transition}
 use Rattle.explore.specs.Alike.{after_turns}
 use Rattle.explore.specs.Counting.{IsTally}
-use Rattle.explore.specs.Deeds.{KnownView, IsSound}
-use Rattle.explore.specs.Kept.{live_of, layer_of, AreKept}
+use Rattle.explore.specs.Effects.{KnownView, IsSound}
+use Rattle.explore.specs.Kept.{visited_of, layer_of, AreKept}
 use Rattle.explore.specs.Keys.{ComponentsView, AreRows, Grows, IsKey}
-use Rattle.explore.specs.Layers.{LiveView, point_of}
+use Rattle.explore.specs.Layers.{VisitedView, point_of}
 use Rattle.explore.specs.Local.{AreNumbered}
-use Rattle.explore.specs.Moves.{AreMoves}
+use Rattle.explore.specs.Transitions.{AreTransitions}
 use Rattle.explore.specs.Points.{Point, start, onward, AreWithin, Goes}
 use Rattle.explore.specs.Runs.{RunView, AreLayers, IsBegun, AreBegun, AreAimed, HaveGone, HasComeTo, IsReady, AreReady, AreTheirs, EndsTurned, AllEndTurned, HaveEnded, AreDone}
-use Rattle.explore.specs.States.{HasStand, IsCounted}
-use Rattle.explore.specs.Want.{EndsWell}
+use Rattle.explore.specs.States.{HasConfiguration, IsCounted}
+use Rattle.explore.specs.OutOfMemory.{EndsWell}
 use Rattle.explore.proofs.Alike.PairedLists.{there_is, there_was}
 use Rattle.explore.proofs.Alike.Steps.{set_at, set_other}
 use Rattle.explore.proofs.Keyed.Found.{goes_numbered, goes_within, before_there}
@@ -31,11 +31,11 @@ use Rattle.explore.proofs.Layers.Kept.{view_at}
 use Rattle.explore.proofs.Lists.Told.{get_push}
 use Rattle.explore.proofs.Lists.Turning.{turn_actors}
 
-pub layers_grow : {c d : ComponentsView} {w : WorldView} {worlds : List Live} → Grows c d → AreLayers c w worlds → AreLayers d w worlds
+pub layers_grow : {c d : ComponentsView} {w : WorldView} {worlds : List Visited} → Grows c d → AreLayers c w worlds → AreLayers d w worlds
 layers_grow grows layers = record {
   rows = rows_grow grows layers.rows;
   numbered = layers.numbered;
-  here = λ m live e. key_grows grows (layers.here m live e);
+  here = λ m visited e. key_grows grows (layers.here m visited e);
   few = layers.few;
   short = layers.short;
 }
@@ -47,8 +47,8 @@ pub kept_grows : (w : WorldView) (n : ℕ) (known new : KnownView) (layer : Laye
 kept_grows w n known new layer grows sound kept = record {
   sound = sound;
   actors = kept.actors;
-  keys = λ m live there. key_grows grows (kept.keys m live there);
-  stands = λ s stand live there on. key_grows grows (kept.stands s stand live there on);
+  keys = λ m visited there. key_grows grows (kept.keys m visited there);
+  configurations = λ s configuration visited there on. key_grows grows (kept.configurations s configuration visited there on);
   after = kept.after;
 }
 
@@ -57,11 +57,11 @@ pub counted_grows : (w : WorldView) (scope : Scope) (n states : ℕ) (c d : Comp
 counted_grows w scope n states c d layer grows counted = record {
   on_way = record {
     each = counted.on_way.each;
-    all = λ is way long. let has : HasStand c w scope layer is = counted.on_way.all is way long in record {
+    all = λ is edge long. let has : HasConfiguration c w scope layer is = counted.on_way.all is edge long in record {
       at = has.at;
-      stand = has.stand;
+      configuration = has.configuration;
       there = has.there;
-      live = has.live;
+      visited = has.visited;
       on = has.on;
       key = key_grows grows has.key;
       last = has.last;
@@ -77,59 +77,59 @@ layers_kept w n known layer short kept = record {
   rows = kept.sound.rows;
   numbered = kept.sound.numbered;
   here = kept.keys;
-  few = λ m live there. (n, (omega (arith, short), kept.after.few m live there));
-  short = λ m live there. let long = kept.after.long m live there in omega (arith, short, long);
+  few = λ m visited there. (n, (omega (arith, short), kept.after.few m visited there));
+  short = λ m visited there. let long = kept.after.long m visited there in omega (arith, short, long);
 }
 
-pub are_theirs : (w : WorldView) (n : ℕ) (known : KnownView) (layer : Layer) → AreKept known w n layer → (bounds : Bounds) (told : Bool) (moves : List (Vec Move))
-    → AreMoves bounds (layer_of w told layer) moves → AreTheirs layer.worlds.items moves
-are_theirs w n known layer kept bounds told moves listed m live those j one here there is =
+pub are_theirs : (w : WorldView) (n : ℕ) (known : KnownView) (layer : Layer) → AreKept known w n layer → (bounds : Bounds) (told : Bool) (transitions : List (Vec Transition))
+    → AreTransitions bounds (layer_of w told layer) transitions → AreTheirs layer.worlds.items transitions
+are_theirs w n known layer kept bounds told transitions listed m visited those j one here there is =
     let its = listed.each m those j one there is in
-    let same : its.live ≡ live_of w told live =
-    same_Some its.live (live_of w told live) (sym its.on ∙ view_at w told layer.worlds.items m live here) in
-    let busy : one.actor < length its.live.world.seats = busy_within bounds (point_of its.live) its.live.world.seats one.actor its.may.busy in
-    let lt : one.actor < length (after_turns w live.turns.items).seats = subst (λ (l : LiveView). one.actor < length l.world.seats) same busy in
-    let many = (kept.keys m live here).many in
+    let same : its.visited ≡ visited_of w told visited =
+    same_Some its.visited (visited_of w told visited) (sym its.on ∙ view_at w told layer.worlds.items m visited here) in
+    let busy : one.actor < length its.visited.world.seats = busy_within bounds (point_of its.visited) its.visited.world.seats one.actor its.may.busy in
+    let lt : one.actor < length (after_turns w visited.turns.items).seats = subst (λ (l : VisitedView). one.actor < length l.world.seats) same busy in
+    let many = (kept.keys m visited here).many in
     omega (arith, lt, many)
 
 -- ---- runs
 
-pub begun_more : (w : WorldView) (told : Bool) (worlds : List Live) (runs new : List RunView) (run : RunView) → new ≡ runs ++ run ∷ []
+pub begun_more : (w : WorldView) (told : Bool) (worlds : List Visited) (runs new : List RunView) (run : RunView) → new ≡ runs ++ run ∷ []
     → AreBegun w told worlds runs → IsBegun w told worlds run → AreBegun w told worlds new
 begun_more w told worlds runs new run pushed were is k one there =
     ⊎_elim (λ before. were k one before) (λ last. subst (λ (r : RunView). IsBegun w told worlds r) (sym last.1) is)
     (get_push runs run k one (ap (λ (xs : List RunView). slice_get xs k) (sym pushed) ∙ there))
 
-pub are_aimed : (c : ComponentsView) (w : WorldView) (told : Bool) (worlds : List Live) (runs : List RunView) → AreLayers c w worlds
+pub are_aimed : (c : ComponentsView) (w : WorldView) (told : Bool) (worlds : List Visited) (runs : List RunView) → AreLayers c w worlds
     → AreBegun w told worlds runs → AreAimed worlds runs
 are_aimed c w told worlds runs layers begun k run there =
     let one = begun k run there in
     record {
-      live = one.from.live;
+      visited = one.from.visited;
       there = one.from.there;
-      short = layers.short run.at one.from.live one.from.there;
+      short = layers.short run.at one.from.visited one.from.there;
       none = one.none;
       tally = λ v is. (one.world v is).1;
     }
 
-pub are_ready : (w : WorldView) (told : Bool) (worlds : List Live) (runs after : List RunView) → length after ≡ length runs → AreBegun w told worlds runs
+pub are_ready : (w : WorldView) (told : Bool) (worlds : List Visited) (runs after : List RunView) → length after ≡ length runs → AreBegun w told worlds runs
     → HaveGone worlds runs after → AreReady w told worlds after
 are_ready w told worlds runs after many begun gone k is there =
     let lt : k < length runs = let less = there_was after k is there in omega arith in
     let was = there_is runs k lt in
     let one = begun k was.0 was.1 in
-    let went = gone k was.0 is was.1 there in
-    let live : Live = one.from.live in
+    let expanded = gone k was.0 is was.1 there in
+    let visited : Visited = one.from.visited in
     record {
       from = record {
-        live = live;
-        there = ap (λ n. slice_get worlds n) went.at ∙ one.from.there;
-        own = subst (λ n. n < length live.key.own.items) (sym went.actor) one.from.own;
+        visited = visited;
+        there = ap (λ n. slice_get worlds n) expanded.at ∙ one.from.there;
+        own = subst (λ n. n < length visited.key.own.items) (sym expanded.actor) one.from.own;
       };
-      told_is = λ well. went.told well ∙ one.told_is;
+      told_is = λ well. expanded.told well ∙ one.told_is;
       came = λ u well holds.
-          let came = went.came live u one.from.there well holds in
-          subst (λ (v : WorldView). HasComeTo v live.turns.items is u) (one.world came.0 came.1.0).0 came.1.1;
+          let came = expanded.came visited u one.from.there well holds in
+          subst (λ (v : WorldView). HasComeTo v visited.turns.items is u) (one.world came.0 came.1.0).0 came.1.1;
     }
 
 pub all_end : (runs after : List RunView) → length after ≡ length runs → HaveEnded runs after → AreDone after → AllEndTurned runs
@@ -180,54 +180,54 @@ pub record ToTurn : Type 0 where
   pub c : ComponentsView
   pub w : WorldView
   pub told : Bool
-  pub worlds : List Live
+  pub worlds : List Visited
   pub run : RunView
-  pub live : Live
+  pub visited : Visited
   pub v : WorldView
   pub layers : AreLayers c w worlds
   pub ready : IsReady w told worlds run
   pub well : run.is_well ≡ true
   pub holds : run.world ≡ Some v
-  pub here : slice_get worlds run.at ≡ Some live
+  pub here : slice_get worlds run.at ≡ Some visited
 
 module _ (s : ToTurn) where
-  same_live : s.ready.from.live ≡ s.live
-  same_live = same_Some s.ready.from.live s.live (sym s.ready.from.there ∙ s.here)
+  same_visited : s.ready.from.visited ≡ s.visited
+  same_visited = same_Some s.ready.from.visited s.visited (sym s.ready.from.there ∙ s.here)
 
-  came : HasComeTo s.w s.live.turns.items s.run s.v
-  came = subst (λ (l : Live). HasComeTo s.w l.turns.items s.run s.v) same_live (s.ready.came s.v s.well s.holds)
+  came : HasComeTo s.w s.visited.turns.items s.run s.v
+  came = subst (λ (l : Visited). HasComeTo s.w l.turns.items s.run s.v) same_visited (s.ready.came s.v s.well s.holds)
 
   abbrev there : Point
-  there = record { world = s.v; marks = s.run.marks }
+  there = record { world = s.v; cost = s.run.cost }
 
   pub run_seats : length s.v.seats ≡ length s.w.seats
-  run_seats = goes_actors (start s.w) there s.live.turns.items came.goes
+  run_seats = goes_actors (start s.w) there s.visited.turns.items came.goes
 
   pub run_rows : AreRows s.c.parts (length s.v.seats)
   run_rows = subst (λ n. AreRows s.c.parts n) (sym run_seats) s.layers.rows
 
   pub run_numbered : AreNumbered s.v.seats
-  run_numbered = goes_numbered (start s.w) there s.live.turns.items came.goes s.layers.numbered
+  run_numbered = goes_numbered (start s.w) there s.visited.turns.items came.goes s.layers.numbered
 
-  pub run_many : length s.live.key.own.items ≡ length s.v.seats
-  run_many = let is = s.layers.here s.run.at s.live s.here in is.many ∙ (is.seats ∙ sym run_seats)
+  pub run_many : length s.visited.key.own.items ≡ length s.v.seats
+  run_many = let is = s.layers.here s.run.at s.visited s.here in is.many ∙ (is.seats ∙ sym run_seats)
 
   pub run_actor : s.run.actor < length s.v.seats
-  run_actor = subst (λ n. s.run.actor < n) run_many (subst (λ (l : Live). s.run.actor < length l.key.own.items) same_live s.ready.from.own)
+  run_actor = subst (λ n. s.run.actor < n) run_many (subst (λ (l : Visited). s.run.actor < length l.key.own.items) same_visited s.ready.from.own)
 
-  pub run_within : AreWithin s.run.marks (2 ^ 40)
+  pub run_within : AreWithin s.run.cost (2 ^ 40)
   run_within =
-      let within : AreWithin s.run.marks (0 + length s.live.turns.items) =
-      goes_within (start s.w) there s.live.turns.items 0 came.goes (record { cuts = omega arith; changes = omega arith }) in
-      let short = s.layers.short s.run.at s.live s.here in
+      let within : AreWithin s.run.cost (0 + length s.visited.turns.items) =
+      goes_within (start s.w) there s.visited.turns.items 0 came.goes (record { cuts = omega arith; changes = omega arith }) in
+      let short = s.layers.short s.run.at s.visited s.here in
       record { cuts = let few = within.cuts in omega arith; changes = let few = within.changes in omega arith }
 
   pub run_tally : IsTally s.v s.run.tally
   run_tally = came.tally
 
   -- where the world after the turn comes to an end that tells of no want, it was that of the key
-  pub run_key : (after : WorldView) → (luck : Luck) × (after ≡ turn luck s.v s.run.actor) → EndsWell after → IsKey s.c s.w s.v s.live.key
+  pub run_key : (after : WorldView) → (luck : Luck) × (after ≡ turn luck s.v s.run.actor) → EndsWell after → IsKey s.c s.w s.v s.visited.key
   run_key after turned ends =
-      let led : LiveView = record { told = s.told; world = s.v; marks = s.run.marks; turns = s.live.turns.items; is_state = true } in
-      subst (λ (u : WorldView). IsKey s.c s.w u s.live.key) (sym (before_there s.w led led s.live.turns.items refl came.goes refl s.run.actor after turned ends))
-      (s.layers.here s.run.at s.live s.here)
+      let replayed : VisitedView = record { told = s.told; world = s.v; cost = s.run.cost; turns = s.visited.turns.items; is_state = true } in
+      subst (λ (u : WorldView). IsKey s.c s.w u s.visited.key) (sym (before_there s.w replayed replayed s.visited.turns.items refl came.goes refl s.run.actor after turned ends))
+      (s.layers.here s.run.at s.visited s.here)

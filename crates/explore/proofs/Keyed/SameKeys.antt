@@ -10,7 +10,7 @@ use Rattle.race_core.specs.Worlds.{WorldView, turn}
 use Rattle.explore.specs.declared.keys.Key.{Key}
 use Rattle.explore.specs.declared.keys.Own.{Own}
 use Rattle.explore.specs.Alike.{full}
-use Rattle.explore.specs.Keys.{PartsView, IsPartIn, ComponentsView, AreRows, AreMet, IsPartAt, IsKey, AreSameKeys, AreSameKeysButOutside, outside_in}
+use Rattle.explore.specs.Keys.{PartsView, IsPartIn, ComponentsView, AreRows, AreInterned, IsPartAt, IsKey, AreSameKeys, AreSameKeysButOutside, outside_in}
 use Rattle.explore.specs.Local.{actor_of, SamePart, SamePartAt, AreGiven, AreAllGiven, AreNumbered, SameParts}
 use Rattle.explore.specs.Same.{IsSame}
 use Rattle.explore.proofs.Alike.PairedLists.{there_is, there_was}
@@ -206,7 +206,7 @@ module _ (c : ComponentsView) (w u v : WorldView) (key other : Key) (rows : AreR
   }
 
   -- and such worlds have such keys
-  pub parts_same_but_outside : AreMet c.lists c.parts → SameParts u v → AreSameKeysButOutside key other
+  pub parts_same_but_outside : AreInterned c.lists c.parts → SameParts u v → AreSameKeysButOutside key other
   parts_same_but_outside met same = record {
     nodes = met.lists_once key.nodes other.nodes _ here.nodes (there.nodes ∙ ap Some (sym same.nodes));
     events = let one = here.events in let two = there.events in let both = same.events in omega arith;

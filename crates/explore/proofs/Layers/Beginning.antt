@@ -9,9 +9,9 @@ use Rattle.explore.specs.Alike.{after_turns}
 use Rattle.explore.specs.Lists.{cuts}
 use Rattle.explore.specs.Explored.{IsWithin, GoAlong, AreBusy, IsIdle, IsTooLong}
 use Rattle.explore.specs.Points.{Point, start, Goes, IsTurn}
-use Rattle.explore.specs.Want.{EndsWell}
-use Rattle.explore.proofs.Wants.Lucky.{well_turned, goes_full}
-use Rattle.explore.proofs.Wants.Followed.{cuts_there}
+use Rattle.explore.specs.OutOfMemory.{EndsWell}
+use Rattle.explore.proofs.OutOfMemory.Lucky.{well_turned, goes_full}
+use Rattle.explore.proofs.OutOfMemory.Followed.{cuts_there}
 use Rattle.explore.proofs.Lists.Along.{along_world}
 use Rattle.explore.proofs.Counts.Begun.{along_take}
 use Rattle.explore.proofs.Layers.SoFar.{busy_append}
@@ -22,8 +22,8 @@ module _ (w : WorldView) (is : List ℕ) (q : Point) (goes : Goes (start w) is q
   pub world_there : q.world ≡ after_turns w is
   world_there = ap (λ (x : Point). x.world) (goes_full (start w) q is goes well) ∙ along_world (start w) is
 
-  pub cuts_so_far : q.marks.cuts ≡ cuts w is
-  cuts_so_far = ap (λ (x : Point). x.marks.cuts) (goes_full (start w) q is goes well) ∙ cuts_there w is
+  pub cuts_so_far : q.cost.cuts ≡ cuts w is
+  cuts_so_far = ap (λ (x : Point). x.cost.cuts) (goes_full (start w) q is goes well) ∙ cuts_there w is
 
 module _ (w : WorldView) (begin : List ℕ) (k : ℕ) (q : Point) (goes : Goes (start w) (take k begin) q) where
   -- the next one is of an actor who has nothing left to do
@@ -35,7 +35,7 @@ module _ (w : WorldView) (begin : List ℕ) (k : ℕ) (q : Point) (goes : Goes (
   }
 
   -- there are too many of them
-  pub begins_long : (scope : Scope) (turns : ℕ) → scope.begin.items ≡ begin → k ≤ length begin → turns < k → IsWithin scope.cuts q.marks.cuts
+  pub begins_long : (scope : Scope) (turns : ℕ) → scope.begin.items ≡ begin → k ≤ length begin → turns < k → IsWithin scope.cuts q.cost.cuts
       → (EndsWell q.world → AreBusy w (take k begin)) → EndsWell q.world → IsTooLong w scope turns (take k begin)
   begins_long scope turns own le more few busy well = record {
     busy = busy well;
@@ -55,7 +55,7 @@ module _ (w : WorldView) (begin : List ℕ) (k : ℕ) (q : Point) (goes : Goes (
         (busy_append w (take k begin) (get_or begin k 0 ∷ []) (so_far (before well))
         (subst (λ (u : WorldView). is_busy_at u.seats (get_or begin k 0) ≡ true) (world_there w (take k begin) q goes (before well)) busy, tt))
 
-    pub cuts_many : (most : Option ℕ) → (IsWithin most r.marks.cuts → ⊥) → EndsWell r.world → IsWithin most (cuts w (take (suc k) begin)) → ⊥
+    pub cuts_many : (most : Option ℕ) → (IsWithin most r.cost.cuts → ⊥) → EndsWell r.world → IsWithin most (cuts w (take (suc k) begin)) → ⊥
     cuts_many most not_so well few =
         let next : k + 1 ≡ suc k = omega arith in
         let all : Goes (start w) (take (k + 1) begin) r = goes_turn_at (start w) q r begin k lt goes turned in

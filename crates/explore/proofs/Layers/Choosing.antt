@@ -1,4 +1,4 @@
--- The moves from a layer, and who may have the next turn from its stands.
+-- The transitions from a layer, and who may have the next turn from its configurations.
 use Rattle.std.specs.Prelude.{◌≡◌, ◌<◌, ◌≤◌, ◌+◌, ◌^◌, ◌⊎◌, ◌++◌, ℕ, zero, suc, List, [], ◌∷◌, length, true, Option, Some, None, slice_get, slice_set, refl}
 use Rattle.std.specs.Global.{Vec}
 use Rattle.std.proofs.Common.{inl, inr, ⊎_elim, sym, ap, ◌∙◌, subst, arith}
@@ -9,49 +9,49 @@ use Rattle.race_core.specs.declared.seat.Seat.{Seat}
 use Rattle.race_core.specs.Worlds.{is_busy_in, is_busy_at}
 use Rattle.schedule_graph.proofs.Spreading.{get_set}
 use Rattle.explore.specs.declared.limits.Bounds.{Bounds}
-use Rattle.explore.specs.declared.layer.Stand.{Stand}
-use Rattle.explore.specs.declared.marks.Marks.{Marks}
-use Rattle.explore.specs.declared.moves.Move.{Move}
-use Rattle.explore.specs.declared.moves.Choice.{Choice}
-use Rattle.explore.specs.Layers.{LiveView, LayerView, Keeps, point_at}
-use Rattle.explore.specs.Moves.{IsOf, IsOneOf, IsChoice, IsChosen, AreChoices, AreFirstChoices, IsMoveFrom, AreMoves}
+use Rattle.explore.specs.declared.layer.Configuration.{Configuration}
+use Rattle.explore.specs.declared.cost.Cost.{Cost}
+use Rattle.explore.specs.declared.transitions.Transition.{Transition}
+use Rattle.explore.specs.declared.transitions.Choice.{Choice}
+use Rattle.explore.specs.Layers.{VisitedView, LayerView, Keeps, point_at}
+use Rattle.explore.specs.Transitions.{IsOf, IsOneOf, IsChoice, IsChosen, AreChoices, AreFirstChoices, IsTransitionFrom, AreTransitions}
 use Rattle.explore.specs.Points.{Point, AreWithin, MayGo}
 use Rattle.explore.proofs.Lists.Indices.{at_or_below}
 use Rattle.explore.proofs.Lists.Told.{get_push, length_set}
-use Rattle.explore.proofs.Layers.WaysGrown.{keeps_push}
+use Rattle.explore.proofs.Layers.EdgesGrown.{keeps_push}
 
--- ---- the move of an actor
+-- ---- the transition of an actor
 
-pub of_on : (moves new : List Move) (i at : ℕ) → Keeps moves new → IsOf moves i at → IsOf new i at
-of_on moves new i at keeps is = (is.0, (keeps at is.0 is.1.0, is.1.1))
+pub of_on : (transitions new : List Transition) (i at : ℕ) → Keeps transitions new → IsOf transitions i at → IsOf new i at
+of_on transitions new i at keeps is = (is.0, (keeps at is.0 is.1.0, is.1.1))
 
 -- ---- one actor after another is asked
 
 -- those below n who may have the next turn there
-pub record AreChoicesBelow (bounds : Bounds) (p : Point) (moves : List Move) (n : ℕ) (choices : List Choice) : Type 0 where
+pub record AreChoicesBelow (bounds : Bounds) (p : Point) (transitions : List Transition) (n : ℕ) (choices : List Choice) : Type 0 where
   pub all : (i : ℕ) → i < n → MayGo bounds p i → IsChosen choices i
-  pub each : (k : ℕ) (choice : Choice) → slice_get choices k ≡ Some choice → IsChoice bounds p moves choice
+  pub each : (k : ℕ) (choice : Choice) → slice_get choices k ≡ Some choice → IsChoice bounds p transitions choice
   pub below : (k : ℕ) (choice : Choice) → slice_get choices k ≡ Some choice → choice.actor < n
   pub apart : (k l : ℕ) (choice other : Choice) → slice_get choices k ≡ Some choice → slice_get choices l ≡ Some other → choice.actor ≡ other.actor → k ≡ l
 
-choice_on : (bounds : Bounds) (p : Point) (moves new : List Move) (choice : Choice) → Keeps moves new → IsChoice bounds p moves choice → IsChoice bounds p new choice
-choice_on bounds p moves new choice keeps is = record { may = is.may; marks = is.marks; move = of_on moves new choice.actor choice.at keeps is.move }
+choice_on : (bounds : Bounds) (p : Point) (transitions new : List Transition) (choice : Choice) → Keeps transitions new → IsChoice bounds p transitions choice → IsChoice bounds p new choice
+choice_on bounds p transitions new choice keeps is = record { may = is.may; cost = is.cost; transition = of_on transitions new choice.actor choice.at keeps is.transition }
 
 module _ (bounds : Bounds) (p : Point) where
-  -- whom a stand may have next, when its world's moves have grown
-  pub choices_on : (moves new : List Move) (choices : List Choice) → Keeps moves new → AreChoices bounds p moves choices → AreChoices bounds p new choices
-  choices_on moves new choices keeps are = record {
+  -- whom a configuration may have next, when its world's transitions have grown
+  pub choices_on : (transitions new : List Transition) (choices : List Choice) → Keeps transitions new → AreChoices bounds p transitions choices → AreChoices bounds p new choices
+  choices_on transitions new choices keeps are = record {
     all = are.all;
-    each = λ k choice there. choice_on bounds p moves new choice keeps (are.each k choice there);
+    each = λ k choice there. choice_on bounds p transitions new choice keeps (are.each k choice there);
     apart = are.apart;
   }
 
-  module _ (moves : List Move) (n : ℕ) (choices : List Choice) (are : AreChoicesBelow bounds p moves n choices) where
+  module _ (transitions : List Transition) (n : ℕ) (choices : List Choice) (are : AreChoicesBelow bounds p transitions n choices) where
     less : (k : ℕ) (choice : Choice) → slice_get choices k ≡ Some choice → choice.actor < n + 1
     less k choice there = let lt : choice.actor < n = are.below k choice there in omega arith
 
     -- that actor may not have the next turn
-    pub choices_other : (MayGo bounds p n → ⊥) → AreChoicesBelow bounds p moves (n + 1) choices
+    pub choices_other : (MayGo bounds p n → ⊥) → AreChoicesBelow bounds p transitions (n + 1) choices
     choices_other not_so = record {
       all = λ i lt may. ⊎_elim (λ l. are.all i l may) (λ e. absurd (not_so (subst (λ j. MayGo bounds p j) e may))) (at_or_below i n lt);
       each = are.each;
@@ -60,7 +60,7 @@ module _ (bounds : Bounds) (p : Point) where
     }
 
     -- it may, and this is its choice
-    module _ (new : List Move) (keeps : Keeps moves new) (choice : Choice) (is : IsChoice bounds p new choice) (own : choice.actor ≡ n) where
+    module _ (new : List Transition) (keeps : Keeps transitions new) (choice : Choice) (is : IsChoice bounds p new choice) (own : choice.actor ≡ n) where
       later : (i : ℕ) → IsChosen choices i → IsChosen (choices ++ choice ∷ []) i
       later i found = (found.0, (found.1.0, (keeps_push choices choice found.0 found.1.0 found.1.1.0, found.1.1.1)))
 
@@ -74,7 +74,7 @@ module _ (bounds : Bounds) (p : Point) where
       choices_more = record {
         all = λ i lt may. ⊎_elim (λ l. later i (are.all i l may))
             (λ e. (length choices, (choice, (slice_get-last choices choice, own ∙ sym e)))) (at_or_below i n lt);
-        each = λ k c there. ⊎_elim (λ was. choice_on bounds p moves new c keeps (are.each k c was))
+        each = λ k c there. ⊎_elim (λ was. choice_on bounds p transitions new c keeps (are.each k c was))
             (λ last. subst (λ (x : Choice). IsChoice bounds p new x) (sym last.1) is) (get_push choices choice k c there);
         below = λ k c there. ⊎_elim (less k c)
             (λ last. let e : c.actor ≡ n = ap (λ (x : Choice). x.actor) last.1 ∙ own in omega (arith, e)) (get_push choices choice k c there);
@@ -93,104 +93,104 @@ module _ (bounds : Bounds) (p : Point) where
       by (Some seat) e b = slice_get_within seats i seat e
 
   -- all actors have been asked
-  pub choices_all : (moves : List Move) (n : ℕ) (choices : List Choice) → n ≡ length p.world.seats → AreChoicesBelow bounds p moves n choices → AreChoices bounds p moves choices
-  choices_all moves n choices e are = record {
+  pub choices_all : (transitions : List Transition) (n : ℕ) (choices : List Choice) → n ≡ length p.world.seats → AreChoicesBelow bounds p transitions n choices → AreChoices bounds p transitions choices
+  choices_all transitions n choices e are = record {
     all = λ i may. are.all i (subst (λ m. i < m) (sym e) (busy_within p.world.seats i may.busy)) may;
     each = are.each;
     apart = are.apart;
   }
 
--- a move from a stand is one that was there, or its own
-pub one_of : (bounds : Bounds) (stand : ℕ) (p : Point) (i : ℕ) (one : Move) → MayGo bounds p i → one ≡ record { stand = stand; actor = i } → IsOneOf bounds stand p one
-one_of bounds stand p i one may is = record {
-  from = ap (λ (x : Move). x.stand) is;
-  may = subst (λ j. MayGo bounds p j) (sym (ap (λ (x : Move). x.actor) is)) may;
+-- a transition from a configuration is one that was there, or its own
+pub one_of : (bounds : Bounds) (configuration : ℕ) (p : Point) (i : ℕ) (one : Transition) → MayGo bounds p i → one ≡ record { configuration = configuration; actor = i } → IsOneOf bounds configuration p one
+one_of bounds configuration p i one may is = record {
+  from = ap (λ (x : Transition). x.configuration) is;
+  may = subst (λ j. MayGo bounds p j) (sym (ap (λ (x : Transition). x.actor) is)) may;
 }
 
--- ---- no moves yet
+-- ---- no transitions yet
 
--- ---- one stand after another
+-- ---- one configuration after another
 
-module _ (bounds : Bounds) (layer : LayerView) (moves new : List (Vec Move)) (m : ℕ) (row grown : Vec Move) (was : slice_get moves m ≡ Some row)
-    (set : new ≡ slice_set moves m grown) (keeps : Keeps row.items grown.items) where
-  each_row : (k : ℕ) (those : Vec Move) → slice_get new k ≡ Some those → ((k ≡ m) × (those ≡ grown)) ⊎ (slice_get moves k ≡ Some those)
+module _ (bounds : Bounds) (layer : LayerView) (transitions new : List (Vec Transition)) (m : ℕ) (row grown : Vec Transition) (was : slice_get transitions m ≡ Some row)
+    (set : new ≡ slice_set transitions m grown) (keeps : Keeps row.items grown.items) where
+  each_row : (k : ℕ) (those : Vec Transition) → slice_get new k ≡ Some those → ((k ≡ m) × (those ≡ grown)) ⊎ (slice_get transitions k ≡ Some those)
   each_row k those there =
-      ⊎_elim (λ h. inl h) (λ h. inr h.1) (get_set moves m k grown those (ap (λ (xs : List (Vec Move)). slice_get xs k) (sym set) ∙ there))
+      ⊎_elim (λ h. inl h) (λ h. inr h.1) (get_set transitions m k grown those (ap (λ (xs : List (Vec Transition)). slice_get xs k) (sym set) ∙ there))
 
-  module _ (s : ℕ) (stand : Stand) (live : LiveView) (here : slice_get layer.stands s ≡ Some stand) (at : stand.world ≡ m)
-      (on : slice_get layer.worlds stand.world ≡ Some live)
-      (own : (j : ℕ) (one : Move) → slice_get grown.items j ≡ Some one → (slice_get row.items j ≡ Some one) ⊎ IsOneOf bounds s (point_at live stand) one) where
-    from_here : (one : Move) → IsOneOf bounds s (point_at live stand) one → IsMoveFrom bounds layer m one
+  module _ (s : ℕ) (configuration : Configuration) (visited : VisitedView) (here : slice_get layer.configurations s ≡ Some configuration) (at : configuration.world ≡ m)
+      (on : slice_get layer.worlds configuration.world ≡ Some visited)
+      (own : (j : ℕ) (one : Transition) → slice_get grown.items j ≡ Some one → (slice_get row.items j ≡ Some one) ⊎ IsOneOf bounds s (point_at visited configuration) one) where
+    from_here : (one : Transition) → IsOneOf bounds s (point_at visited configuration) one → IsTransitionFrom bounds layer m one
     from_here one is = record {
-      stand = stand;
-      live = live;
-      there = ap (slice_get layer.stands) is.from ∙ here;
+      configuration = configuration;
+      visited = visited;
+      there = ap (slice_get layer.configurations) is.from ∙ here;
       same = at;
       on = ap (slice_get layer.worlds) (sym at) ∙ on;
       may = is.may;
     }
 
-    pub moves_more : AreMoves bounds layer moves → AreMoves bounds layer new
-    moves_more are = record {
-      many = ap length set ∙ (length_set moves m grown ∙ are.many);
+    pub transitions_more : AreTransitions bounds layer transitions → AreTransitions bounds layer new
+    transitions_more are = record {
+      many = ap length set ∙ (length_set transitions m grown ∙ are.many);
       each = λ k those j one there there_in. ⊎_elim
-          (λ h. subst (λ n. IsMoveFrom bounds layer n one) (sym h.0)
+          (λ h. subst (λ n. IsTransitionFrom bounds layer n one) (sym h.0)
           (⊎_elim (are.each m row j one was) (from_here one)
-          (own j one (ap (λ (v : Vec Move). slice_get v.items j) (sym h.1) ∙ there_in))))
+          (own j one (ap (λ (v : Vec Transition). slice_get v.items j) (sym h.1) ∙ there_in))))
           (λ h. are.each k those j one h there_in)
           (each_row k those there);
     }
 
-  -- the choices of the stands before
-  pub first_on : (all : List (Vec Choice)) → AreFirstChoices bounds layer moves all → AreFirstChoices bounds layer new all
-  first_on all are s stand live those choices here on there is = ⊎_elim
-      (λ h. choices_on bounds (point_at live stand) row.items those.items choices.items
-      (subst (λ (v : Vec Move). Keeps row.items v.items) (sym h.1) keeps)
-      (are s stand live row choices here on (ap (slice_get moves) h.0 ∙ was) is))
-      (λ h. are s stand live those choices here on h is)
-      (each_row stand.world those there)
+  -- the choices of the configurations before
+  pub first_on : (all : List (Vec Choice)) → AreFirstChoices bounds layer transitions all → AreFirstChoices bounds layer new all
+  first_on all are s configuration visited those choices here on there is = ⊎_elim
+      (λ h. choices_on bounds (point_at visited configuration) row.items those.items choices.items
+      (subst (λ (v : Vec Transition). Keeps row.items v.items) (sym h.1) keeps)
+      (are s configuration visited row choices here on (ap (slice_get transitions) h.0 ∙ was) is))
+      (λ h. are s configuration visited those choices here on h is)
+      (each_row configuration.world those there)
 
-pub first_more : (bounds : Bounds) (layer : LayerView) (moves : List (Vec Move)) (all new : List (Vec Choice)) (choices : Vec Choice) (stand : Stand) (live : LiveView) (those : Vec Move)
-    → new ≡ all ++ choices ∷ [] → slice_get layer.stands (length all) ≡ Some stand → slice_get layer.worlds stand.world ≡ Some live → slice_get moves stand.world ≡ Some those
-    → AreChoices bounds (point_at live stand) those.items choices.items → AreFirstChoices bounds layer moves all → AreFirstChoices bounds layer moves new
-first_more bounds layer moves all new choices stand live those is here on there own are s st l mvs cs st_here l_on mvs_there cs_there = ⊎_elim
+pub first_more : (bounds : Bounds) (layer : LayerView) (transitions : List (Vec Transition)) (all new : List (Vec Choice)) (choices : Vec Choice) (configuration : Configuration) (visited : VisitedView) (those : Vec Transition)
+    → new ≡ all ++ choices ∷ [] → slice_get layer.configurations (length all) ≡ Some configuration → slice_get layer.worlds configuration.world ≡ Some visited → slice_get transitions configuration.world ≡ Some those
+    → AreChoices bounds (point_at visited configuration) those.items choices.items → AreFirstChoices bounds layer transitions all → AreFirstChoices bounds layer transitions new
+first_more bounds layer transitions all new choices configuration visited those is here on there own are s st l mvs cs st_here l_on mvs_there cs_there = ⊎_elim
     (are s st l mvs cs st_here l_on mvs_there)
     (λ last.
-    let same : stand ≡ st = same_Some stand st (sym here ∙ (ap (slice_get layer.stands) (sym last.0) ∙ st_here)) in
-    let alive : live ≡ l = same_Some live l (sym on ∙ (ap (λ (x : Stand). slice_get layer.worlds x.world) same ∙ l_on)) in
-    let row : those ≡ mvs = same_Some those mvs (sym there ∙ (ap (λ (x : Stand). slice_get moves x.world) same ∙ mvs_there)) in
+    let same : configuration ≡ st = same_Some configuration st (sym here ∙ (ap (slice_get layer.configurations) (sym last.0) ∙ st_here)) in
+    let alive : visited ≡ l = same_Some visited l (sym on ∙ (ap (λ (x : Configuration). slice_get layer.worlds x.world) same ∙ l_on)) in
+    let row : those ≡ mvs = same_Some those mvs (sym there ∙ (ap (λ (x : Configuration). slice_get transitions x.world) same ∙ mvs_there)) in
     subst (λ (c : Vec Choice). AreChoices bounds (point_at l st) mvs.items c.items) (sym last.1)
-    (subst (λ (x : Stand). AreChoices bounds (point_at l x) mvs.items choices.items) same
-    (subst (λ (x : LiveView). AreChoices bounds (point_at x stand) mvs.items choices.items) alive
-    (subst (λ (x : Vec Move). AreChoices bounds (point_at live stand) x.items choices.items) row own))))
+    (subst (λ (x : Configuration). AreChoices bounds (point_at l x) mvs.items choices.items) same
+    (subst (λ (x : VisitedView). AreChoices bounds (point_at x configuration) mvs.items choices.items) alive
+    (subst (λ (x : Vec Transition). AreChoices bounds (point_at visited configuration) x.items choices.items) row own))))
     (get_push all choices s cs (ap (λ (xs : List (Vec Choice)). slice_get xs s) (sym is) ∙ cs_there))
 
--- ---- what the moves allow
+-- ---- what the transitions allow
 
-pub few_up : (marks : Marks) (n : ℕ) → n + 1 < 2 ^ 40 → AreWithin marks n → AreWithin marks (2 ^ 40)
-few_up marks n lt within =
-    let a : marks.cuts ≤ n = within.cuts in
-    let b : marks.changes ≤ n = within.changes in
+pub few_up : (cost : Cost) (n : ℕ) → n + 1 < 2 ^ 40 → AreWithin cost n → AreWithin cost (2 ^ 40)
+few_up cost n lt within =
+    let a : cost.cuts ≤ n = within.cuts in
+    let b : cost.changes ≤ n = within.changes in
     record { cuts = omega (arith, a, lt); changes = omega (arith, b, lt) }
 
--- ---- one stand of the layer, and its world
+-- ---- one configuration of the layer, and its world
 
 pub set_there : {A : Type 0} (xs : List A) (i : ℕ) (x y : A) → slice_get xs i ≡ Some y → slice_get (slice_set xs i x) i ≡ Some x
 set_there [] i x y e = absurd (none-some y e)
 set_there (z ∷ zs) zero x y e = refl
 set_there (z ∷ zs) (suc i) x y e = set_there zs i x y e
 
-module _ (bounds : Bounds) (layer : LayerView) (moves : List (Vec Move)) (s : ℕ) (stand : Stand) (live : LiveView) (row grown : Vec Move)
-    (here : slice_get layer.stands s ≡ Some stand) (on : slice_get layer.worlds stand.world ≡ Some live) (was : slice_get moves stand.world ≡ Some row)
+module _ (bounds : Bounds) (layer : LayerView) (transitions : List (Vec Transition)) (s : ℕ) (configuration : Configuration) (visited : VisitedView) (row grown : Vec Transition)
+    (here : slice_get layer.configurations s ≡ Some configuration) (on : slice_get layer.worlds configuration.world ≡ Some visited) (was : slice_get transitions configuration.world ≡ Some row)
     (keeps : Keeps row.items grown.items)
-    (own : (j : ℕ) (one : Move) → slice_get grown.items j ≡ Some one → (slice_get row.items j ≡ Some one) ⊎ IsOneOf bounds s (point_at live stand) one) where
-  pub moves_grown : AreMoves bounds layer moves → AreMoves bounds layer (slice_set moves stand.world grown)
-  moves_grown are = moves_more bounds layer moves (slice_set moves stand.world grown) stand.world row grown was refl keeps s stand live here refl on own are
+    (own : (j : ℕ) (one : Transition) → slice_get grown.items j ≡ Some one → (slice_get row.items j ≡ Some one) ⊎ IsOneOf bounds s (point_at visited configuration) one) where
+  pub transitions_grown : AreTransitions bounds layer transitions → AreTransitions bounds layer (slice_set transitions configuration.world grown)
+  transitions_grown are = transitions_more bounds layer transitions (slice_set transitions configuration.world grown) configuration.world row grown was refl keeps s configuration visited here refl on own are
 
   pub choices_grown : (all new : List (Vec Choice)) (choices : Vec Choice) → length all ≡ s → new ≡ all ++ choices ∷ []
-      → AreChoices bounds (point_at live stand) grown.items choices.items → AreFirstChoices bounds layer moves all
-      → AreFirstChoices bounds layer (slice_set moves stand.world grown) new
+      → AreChoices bounds (point_at visited configuration) grown.items choices.items → AreFirstChoices bounds layer transitions all
+      → AreFirstChoices bounds layer (slice_set transitions configuration.world grown) new
   choices_grown all new choices long is are before =
-      first_more bounds layer (slice_set moves stand.world grown) all new choices stand live grown is (ap (slice_get layer.stands) long ∙ here) on
-      (set_there moves stand.world grown row was) are
-      (first_on bounds layer moves (slice_set moves stand.world grown) stand.world row grown was refl keeps all before)
+      first_more bounds layer (slice_set transitions configuration.world grown) all new choices configuration visited grown is (ap (slice_get layer.configurations) long ∙ here) on
+      (set_there transitions configuration.world grown row was) are
+      (first_on bounds layer transitions (slice_set transitions configuration.world grown) configuration.world row grown was refl keeps all before)

@@ -1,17 +1,17 @@
--- The worlds of a layer are ended: the classes of what they come to, and the spots of the stands.
+-- The worlds of a layer are ended: the classes of what they come to, and the graph nodes of the configurations.
 use Rattle.std.specs.Prelude.{◌≡◌, ◌<◌, ◌≤◌, ℕ, zero, suc, List, [], ◌∷◌, ◌++◌, false, length, Option, Some, None, slice_get, refl}
 use Rattle.std.specs.Global.{Vec}
 use Rattle.std.proofs.Common.{◌⊎◌, ◌∙◌, inl, inr, sym, ap, subst, ⊎_elim, arith, length-append, get_or, drop}
 use Rattle.std.proofs.lemmas.Option.{same_Some, none-some, slice_get_within, slice_get-get_or}
 use Rattle.race_core.specs.declared.seat.Seat.{Seat}
 use Rattle.race_core.specs.Worlds.{is_busy_in, is_busy_at}
-use Rattle.schedule_graph.specs.declared.graph.Way.{Way}
-use Rattle.schedule_graph.specs.declared.graph.Spot.{Spot}
-use Rattle.schedule_graph.specs.Words.{AreApart, IsLayer, ways_from}
-use Rattle.explore.specs.declared.layer.Stand.{Stand}
+use Rattle.schedule_graph.specs.declared.graph.Edge.{Edge}
+use Rattle.schedule_graph.specs.declared.graph.Node.{Node}
+use Rattle.schedule_graph.specs.Words.{AreApart, IsLayer, edges_from}
+use Rattle.explore.specs.declared.layer.Configuration.{Configuration}
 use Rattle.explore.specs.Explored.{EndingView, ClassView}
 use Rattle.explore.specs.Tally.{SameOutcome, IsPlace}
-use Rattle.explore.specs.Layers.{Keeps, AreApartClasses, spot_by}
+use Rattle.explore.specs.Layers.{Keeps, AreApartClasses, graph_node_by}
 use Rattle.explore.proofs.Lists.Indices.{at_or_below}
 use Rattle.explore.proofs.Lists.Indices.{within_some}
 use Rattle.explore.proofs.Lists.Mapped.{other_reply_lengths}
@@ -113,78 +113,79 @@ module _ (classes new : List ClassView) (e : EndingView) (at : ℕ) (place : IsP
       (new_or l d there))
       (new_or k c here)
 
--- ---- the spots of the stands
+-- ---- the graph nodes of the configurations
 
--- These are the spots of the first stands; the stands and the ways that are left are of the others.
-pub record AreSpotted (stands left : List Stand) (tops : List (Option ℕ)) (all others : List (Vec Way)) (spots : List Spot) : Type 0 where
-  pub fits : length spots ≤ length stands
-  pub left_are : left ≡ drop (length spots) stands
-  pub others_are : others ≡ drop (length spots) all
-  pub each : (s : ℕ) (stand : Stand) (ways : Vec Way) (top : Option ℕ) → s < length spots → slice_get stands s ≡ Some stand → slice_get all s ≡ Some ways
-      → slice_get tops stand.world ≡ Some top → slice_get spots s ≡ Some (spot_by top ways)
-  pub apart : IsLayer spots
+-- These are the graph nodes of the first configurations; the configurations and the edges that are left are of the
+-- others.
+pub record AreSpotted (configurations left : List Configuration) (end_classes : List (Option ℕ)) (all others : List (Vec Edge)) (graph_nodes : List Node) : Type 0 where
+  pub fits : length graph_nodes ≤ length configurations
+  pub left_are : left ≡ drop (length graph_nodes) configurations
+  pub others_are : others ≡ drop (length graph_nodes) all
+  pub each : (s : ℕ) (configuration : Configuration) (edges : Vec Edge) (end_class : Option ℕ) → s < length graph_nodes → slice_get configurations s ≡ Some configuration → slice_get all s ≡ Some edges
+      → slice_get end_classes configuration.world ≡ Some end_class → slice_get graph_nodes s ≡ Some (graph_node_by end_class edges)
+  pub apart : IsLayer graph_nodes
 
-no_ways : AreApart []
-no_ways i j v w e = absurd (none-some v e)
+no_edges : AreApart []
+no_edges i j v w e = absurd (none-some v e)
 
-spot_apart : (top : Option ℕ) (ways : Vec Way) → AreApart ways.items → AreApart (ways_from (Some (spot_by top ways)))
-spot_apart None ways apart = apart
-spot_apart (Some class) ways apart = no_ways
+graph_node_apart : (end_class : Option ℕ) (edges : Vec Edge) → AreApart edges.items → AreApart (edges_from (Some (graph_node_by end_class edges)))
+graph_node_apart None edges apart = apart
+graph_node_apart (Some class) edges apart = no_edges
 
-pub spotted_none : (stands left : List Stand) (tops : List (Option ℕ)) (all others : List (Vec Way)) (spots : List Spot) → spots ≡ [] → left ≡ stands → others ≡ all
-    → AreSpotted stands left tops all others spots
-spotted_none stands left tops all others spots none e f = subst (AreSpotted stands left tops all others) (sym none) (record {
+pub spotted_none : (configurations left : List Configuration) (end_classes : List (Option ℕ)) (all others : List (Vec Edge)) (graph_nodes : List Node) → graph_nodes ≡ [] → left ≡ configurations → others ≡ all
+    → AreSpotted configurations left end_classes all others graph_nodes
+spotted_none configurations left end_classes all others graph_nodes none e f = subst (AreSpotted configurations left end_classes all others) (sym none) (record {
   fits = omega arith;
   left_are = e;
   others_are = f;
-  each = λ s stand ways top lt. absurd (omega (arith, lt));
-  apart = λ s. no_ways;
+  each = λ s configuration edges end_class lt. absurd (omega (arith, lt));
+  apart = λ s. no_edges;
 })
 
-pub spotted_more : (stands left : List Stand) (tops : List (Option ℕ)) (all others : List (Vec Way)) (spots : List Spot)
-    → ((s : ℕ) (stand : Stand) → slice_get stands s ≡ Some stand → stand.world < length tops)
-    → ((s : ℕ) (ways : Vec Way) → slice_get all s ≡ Some ways → AreApart ways.items)
-    → AreSpotted stands left tops all others spots → (stand : Stand) (left' : List Stand) (ways : Vec Way) (others' : List (Vec Way)) (new : List Spot)
-    → left ≡ stand ∷ left' → others ≡ ways ∷ others' → new ≡ spots ++ spot_by (get_or tops stand.world None) ways ∷ []
-    → AreSpotted stands left' tops all others' new
-spotted_more stands left tops all others spots on are_apart so stand left' ways others' new e f is =
-    let top : Option ℕ = get_or tops stand.world None in
-    let here = front_of (length spots) stands stand left' (sym e ∙ so.left_are) in
-    let there = front_of (length spots) all ways others' (sym f ∙ so.others_are) in
-    let at : slice_get tops stand.world ≡ Some top = slice_get-get_or tops stand.world None (on (length spots) stand here.0) in
-    let within : length spots < length stands = slice_get_within stands (length spots) stand here.0 in
-    let more : length (spots ++ spot_by top ways ∷ []) ≡ suc (length spots) = let l = length-append spots (spot_by top ways ∷ []) in omega (arith, l) in
-    subst (AreSpotted stands left' tops all others') (sym is) (record {
+pub spotted_more : (configurations left : List Configuration) (end_classes : List (Option ℕ)) (all others : List (Vec Edge)) (graph_nodes : List Node)
+    → ((s : ℕ) (configuration : Configuration) → slice_get configurations s ≡ Some configuration → configuration.world < length end_classes)
+    → ((s : ℕ) (edges : Vec Edge) → slice_get all s ≡ Some edges → AreApart edges.items)
+    → AreSpotted configurations left end_classes all others graph_nodes → (configuration : Configuration) (left' : List Configuration) (edges : Vec Edge) (others' : List (Vec Edge)) (new : List Node)
+    → left ≡ configuration ∷ left' → others ≡ edges ∷ others' → new ≡ graph_nodes ++ graph_node_by (get_or end_classes configuration.world None) edges ∷ []
+    → AreSpotted configurations left' end_classes all others' new
+spotted_more configurations left end_classes all others graph_nodes on are_apart so configuration left' edges others' new e f is =
+    let end_class : Option ℕ = get_or end_classes configuration.world None in
+    let here = front_of (length graph_nodes) configurations configuration left' (sym e ∙ so.left_are) in
+    let there = front_of (length graph_nodes) all edges others' (sym f ∙ so.others_are) in
+    let at : slice_get end_classes configuration.world ≡ Some end_class = slice_get-get_or end_classes configuration.world None (on (length graph_nodes) configuration here.0) in
+    let within : length graph_nodes < length configurations = slice_get_within configurations (length graph_nodes) configuration here.0 in
+    let more : length (graph_nodes ++ graph_node_by end_class edges ∷ []) ≡ suc (length graph_nodes) = let l = length-append graph_nodes (graph_node_by end_class edges ∷ []) in omega (arith, l) in
+    subst (AreSpotted configurations left' end_classes all others') (sym is) (record {
       fits = omega (arith, more, within);
-      left_are = here.1 ∙ ap (λ n. drop n stands) (sym more);
+      left_are = here.1 ∙ ap (λ n. drop n configurations) (sym more);
       others_are = there.1 ∙ ap (λ n. drop n all) (sym more);
-      each = λ s one by t lt stand_is ways_are top_is. ⊎_elim
-          (λ (below : s < length spots). keeps_push spots (spot_by top ways) s (spot_by t by) (so.each s one by t below stand_is ways_are top_is))
-          (λ (last : s ≡ length spots).
-          let same_stand : stand ≡ one = same_Some stand one (sym here.0 ∙ (ap (slice_get stands) (sym last) ∙ stand_is)) in
-          let same_ways : ways ≡ by = same_Some ways by (sym there.0 ∙ (ap (slice_get all) (sym last) ∙ ways_are)) in
-          let same_top : top ≡ t = same_Some top t (sym at ∙ (ap (λ (x : Stand). slice_get tops x.world) same_stand ∙ top_is)) in
-          ap (slice_get (spots ++ spot_by top ways ∷ [])) last ∙ (last_there spots (spot_by top ways)
-          ∙ (ap (λ x. Some (spot_by x ways)) same_top ∙ ap (λ (v : Vec Way). Some (spot_by t v)) same_ways)))
-          (at_or_below s (length spots) (omega (arith, lt, more)));
+      each = λ s one by t lt configuration_is edges_are end_class_is. ⊎_elim
+          (λ (below : s < length graph_nodes). keeps_push graph_nodes (graph_node_by end_class edges) s (graph_node_by t by) (so.each s one by t below configuration_is edges_are end_class_is))
+          (λ (last : s ≡ length graph_nodes).
+          let same_configuration : configuration ≡ one = same_Some configuration one (sym here.0 ∙ (ap (slice_get configurations) (sym last) ∙ configuration_is)) in
+          let same_edges : edges ≡ by = same_Some edges by (sym there.0 ∙ (ap (slice_get all) (sym last) ∙ edges_are)) in
+          let same_end_class : end_class ≡ t = same_Some end_class t (sym at ∙ (ap (λ (x : Configuration). slice_get end_classes x.world) same_configuration ∙ end_class_is)) in
+          ap (slice_get (graph_nodes ++ graph_node_by end_class edges ∷ [])) last ∙ (last_there graph_nodes (graph_node_by end_class edges)
+          ∙ (ap (λ x. Some (graph_node_by x edges)) same_end_class ∙ ap (λ (v : Vec Edge). Some (graph_node_by t v)) same_edges)))
+          (at_or_below s (length graph_nodes) (omega (arith, lt, more)));
       apart = λ s. ⊎_elim
-          (λ old. subst (λ o. AreApart (ways_from o)) (sym old) (so.apart s))
-          (λ last. subst (λ o. AreApart (ways_from o)) (sym last) (spot_apart top ways (are_apart (length spots) ways there.0)))
-          (pushed_or spots (spot_by top ways) s);
+          (λ old. subst (λ o. AreApart (edges_from o)) (sym old) (so.apart s))
+          (λ last. subst (λ o. AreApart (edges_from o)) (sym last) (graph_node_apart end_class edges (are_apart (length graph_nodes) edges there.0)))
+          (pushed_or graph_nodes (graph_node_by end_class edges) s);
     })
 
 -- nothing is left of one of the two
-pub spotted_all : (stands left : List Stand) (tops : List (Option ℕ)) (all others : List (Vec Way)) (spots : List Spot) → length all ≡ length stands
-    → AreSpotted stands left tops all others spots → (length left ≡ 0) ⊎ (length others ≡ 0) → length spots ≡ length stands
-spotted_all stands left tops all others spots many so none =
-    let past : length stands ≤ length spots = ⊎_elim
-    (λ e. none_left (length spots) stands (ap length (sym so.left_are) ∙ e))
-    (λ e. subst (λ n. n ≤ length spots) many (none_left (length spots) all (ap length (sym so.others_are) ∙ e)))
+pub spotted_all : (configurations left : List Configuration) (end_classes : List (Option ℕ)) (all others : List (Vec Edge)) (graph_nodes : List Node) → length all ≡ length configurations
+    → AreSpotted configurations left end_classes all others graph_nodes → (length left ≡ 0) ⊎ (length others ≡ 0) → length graph_nodes ≡ length configurations
+spotted_all configurations left end_classes all others graph_nodes many so none =
+    let past : length configurations ≤ length graph_nodes = ⊎_elim
+    (λ e. none_left (length graph_nodes) configurations (ap length (sym so.left_are) ∙ e))
+    (λ e. subst (λ n. n ≤ length graph_nodes) many (none_left (length graph_nodes) all (ap length (sym so.others_are) ∙ e)))
     none in
     omega (arith, past, so.fits)
 
-pub spotted_each : (stands left : List Stand) (tops : List (Option ℕ)) (all others : List (Vec Way)) (spots : List Spot) → length all ≡ length stands
-    → AreSpotted stands left tops all others spots → (length left ≡ 0) ⊎ (length others ≡ 0) → (s : ℕ) (stand : Stand) (ways : Vec Way) (top : Option ℕ)
-    → slice_get stands s ≡ Some stand → slice_get all s ≡ Some ways → slice_get tops stand.world ≡ Some top → slice_get spots s ≡ Some (spot_by top ways)
-spotted_each stands left tops all others spots many so none s stand ways top there =
-    so.each s stand ways top (subst (λ n. s < n) (sym (spotted_all stands left tops all others spots many so none)) (slice_get_within stands s stand there)) there
+pub spotted_each : (configurations left : List Configuration) (end_classes : List (Option ℕ)) (all others : List (Vec Edge)) (graph_nodes : List Node) → length all ≡ length configurations
+    → AreSpotted configurations left end_classes all others graph_nodes → (length left ≡ 0) ⊎ (length others ≡ 0) → (s : ℕ) (configuration : Configuration) (edges : Vec Edge) (end_class : Option ℕ)
+    → slice_get configurations s ≡ Some configuration → slice_get all s ≡ Some edges → slice_get end_classes configuration.world ≡ Some end_class → slice_get graph_nodes s ≡ Some (graph_node_by end_class edges)
+spotted_each configurations left end_classes all others graph_nodes many so none s configuration edges end_class there =
+    so.each s configuration edges end_class (subst (λ n. s < n) (sym (spotted_all configurations left end_classes all others graph_nodes many so none)) (slice_get_within configurations s configuration there)) there

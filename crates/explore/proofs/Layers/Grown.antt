@@ -10,14 +10,14 @@ use Rattle.race_core.specs.declared.report.Outcome.{Outcome}
 use Rattle.race_core.specs.Worlds.{WorldView, RunsTo, Reports, ledgers_in}
 use Rattle.explore.specs.Alike.{after_turns}
 use Rattle.explore.specs.Outside.{outside_of}
-use Rattle.explore.specs.Layers.{LiveView, IsReportOf}
+use Rattle.explore.specs.Layers.{VisitedView, IsReportOf}
 use Rattle.explore.specs.Points.{Point, IsTurn, Goes}
 use Rattle.explore.specs.Search.{IsOver}
-use Rattle.explore.specs.Want.{replies_want}
-use Rattle.explore.proofs.Wants.Lucky.{goes_push}
+use Rattle.explore.specs.OutOfMemory.{replies_out_of_memory}
+use Rattle.explore.proofs.OutOfMemory.Lucky.{goes_push}
 use Rattle.explore.proofs.Lists.SearchLaws.{over_rests, reported}
 use Rattle.explore.proofs.Lists.Told.{replies_of_seats, actors_stay}
-use Rattle.explore.proofs.Wants.WantWorlds.{ap_at, join}
+use Rattle.explore.proofs.OutOfMemory.OutOfMemoryWorlds.{ap_at, join}
 
 -- the turn at that place of the list
 pub goes_turn_at : (p q r : Point) (turns : List ℕ) (k : ℕ) → k < length turns → Goes p (take k turns) q → IsTurn q (get_or turns k 0) r
@@ -36,16 +36,16 @@ where_ok (Err x) e h = absurd (false≢true e)
 
 -- ---- a world that has ended, and its report tells of no want
 
-module _ (live : LiveView) (tree : State) (events : List Event) (replies : List (List Outcome)) (kept : List StandingObject)
-    (ran : RunsTo live.world [] tree events replies kept) (none : replies_want replies ≡ false) where
+module _ (visited : VisitedView) (tree : State) (events : List Event) (replies : List (List Outcome)) (kept : List StandingObject)
+    (ran : RunsTo visited.world [] tree events replies kept) (none : replies_out_of_memory replies ≡ false) where
   -- one in which nobody had anything left to do is as it was
-  end_is : IsOver live.world → ran.end ≡ live.world
+  end_is : IsOver visited.world → ran.end ≡ visited.world
   end_is over =
-      let all = reported live.world [] tree events replies kept ran none in
-      join ran.end (after_turns live.world ([] ++ all.0)) live.world all.1.0 (over_rests live.world ([] ++ all.0) over)
+      let all = reported visited.world [] tree events replies kept ran none in
+      join ran.end (after_turns visited.world ([] ++ all.0)) visited.world all.1.0 (over_rests visited.world ([] ++ all.0) over)
 
-  pub is_report : (outside : List ℕ) → outside ≡ outside_of live.told live.world → IsOver live.world
-      → IsReportOf live (record { turns = live.turns; cuts = live.marks.cuts; changes = live.marks.changes; tree = tree; events = events; replies = replies; kept = kept; outside = outside })
+  pub is_report : (outside : List ℕ) → outside ≡ outside_of visited.told visited.world → IsOver visited.world
+      → IsReportOf visited (record { turns = visited.turns; cuts = visited.cost.cuts; changes = visited.cost.changes; tree = tree; events = events; replies = replies; kept = kept; outside = outside })
   is_report outside counted over = record {
     over = over;
     turns = refl;
@@ -56,9 +56,9 @@ module _ (live : LiveView) (tree : State) (events : List Event) (replies : List 
   }
 
   -- each actor has its replies
-  pub replies_many : length replies ≡ length live.world.seats
+  pub replies_many : length replies ≡ length visited.world.seats
   replies_many =
-      let all = reported live.world [] tree events replies kept ran none in
+      let all = reported visited.world [] tree events replies kept ran none in
       ap length ran.reports.are_replies
       ∙ (replies_of_seats ran.end.seats
-      ∙ (ap_at (λ (v : WorldView). length v.seats) ran.end (after_turns live.world ([] ++ all.0)) all.1.0 ∙ actors_stay live.world ([] ++ all.0)))
+      ∙ (ap_at (λ (v : WorldView). length v.seats) ran.end (after_turns visited.world ([] ++ all.0)) all.1.0 ∙ actors_stay visited.world ([] ++ all.0)))

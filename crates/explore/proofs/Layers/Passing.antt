@@ -5,16 +5,16 @@ use Rattle.std.proofs.Common.{◌⊎◌, inl, inr, sym, ap, ◌∙◌, subst, �
 use Rattle.std.proofs.lemmas.Option.{same_Some, none-some, slice_get_within}
 use Rattle.race_core.specs.declared.opening.TheConstants.{ACTORS_MAX}
 use Rattle.race_core.specs.Worlds.{WorldView}
-use Rattle.schedule_graph.specs.declared.graph.Spot.{Spot}
-use Rattle.schedule_graph.specs.declared.graph.Spot.TheVariants.{Ends, Goes}
+use Rattle.schedule_graph.specs.declared.graph.Node.{Node}
+use Rattle.schedule_graph.specs.declared.graph.Node.TheVariants.{Ends, Goes}
 use Rattle.explore.specs.declared.limits.Bounds.{Bounds}
 use Rattle.explore.specs.declared.limits.Scope.{Scope}
-use Rattle.explore.specs.declared.layer.Stand.{Stand}
-use Rattle.explore.specs.declared.marks.Marks.{Marks}
+use Rattle.explore.specs.declared.layer.Configuration.{Configuration}
+use Rattle.explore.specs.declared.cost.Cost.{Cost}
 use Rattle.explore.specs.Explored.{AreBusy, ClassView, IsTooLong, bounds_at}
-use Rattle.explore.specs.Layers.{Keeps, LiveView, LayerView, IsSpot, AreSpots, AreJoined, AreWell, IsOn, AreOn, IsFirst, IsFoundIn, IsPassed, HasSearched}
-use Rattle.explore.specs.Points.{no_marks, AreWithin}
-use Rattle.explore.specs.Want.{EndsWell}
+use Rattle.explore.specs.Layers.{Keeps, VisitedView, LayerView, IsGraphNode, AreGraphNodes, AreJoined, AreWell, IsOn, AreOn, IsFirst, IsFoundIn, IsPassed, HasSearched}
+use Rattle.explore.specs.Points.{no_cost, AreWithin}
+use Rattle.explore.specs.OutOfMemory.{EndsWell}
 use Rattle.explore.proofs.Layers.SoFar.{too_long}
 use Rattle.explore.proofs.Lists.Told.{get_push, get_left, get_last}
 
@@ -28,25 +28,25 @@ less_or_same zero (suc n) lt = inl (omega arith)
 less_or_same (suc m) zero lt = absurd (omega arith)
 less_or_same (suc m) (suc n) lt = ⊎_elim (λ h. inl (omega arith)) (λ e. inr (ap suc e)) (less_or_same m n (omega arith))
 
--- ---- spots stay what they are as classes are added
+-- ---- graph nodes stay what they are as classes are added
 
-spot_kept : (bounds : Bounds) (layer next : LayerView) (old new : List ClassView) → Keeps old new
-    → (stand : Stand) (live : LiveView) (spot : Spot) → IsSpot bounds layer next old stand live spot → IsSpot bounds layer next new stand live spot
-spot_kept bounds layer next old new keeps stand live (Ends class) h =
+graph_node_kept : (bounds : Bounds) (layer next : LayerView) (old new : List ClassView) → Keeps old new
+    → (configuration : Configuration) (visited : VisitedView) (graph_node : Node) → IsGraphNode bounds layer next old configuration visited graph_node → IsGraphNode bounds layer next new configuration visited graph_node
+graph_node_kept bounds layer next old new keeps configuration visited (Ends class) h =
     record { ending = h.ending; is = h.is; class = h.class; there = keeps class h.class h.there; same = h.same }
-spot_kept bounds layer next old new keeps stand live (Goes ways) h = h
+graph_node_kept bounds layer next old new keeps configuration visited (Goes edges) h = h
 
-spots_kept : (bounds : Bounds) (layer next : LayerView) (old new : List ClassView) → Keeps old new
-    → (spots : List Spot) → AreSpots bounds layer next old spots → AreSpots bounds layer next new spots
-spots_kept bounds layer next old new keeps spots are = record {
+graph_nodes_kept : (bounds : Bounds) (layer next : LayerView) (old new : List ClassView) → Keeps old new
+    → (graph_nodes : List Node) → AreGraphNodes bounds layer next old graph_nodes → AreGraphNodes bounds layer next new graph_nodes
+graph_nodes_kept bounds layer next old new keeps graph_nodes are = record {
   many = are.many;
-  each = λ s stand live spot on at there. spot_kept bounds layer next old new keeps stand live spot (are.each s stand live spot on at there);
+  each = λ s configuration visited graph_node on at there. graph_node_kept bounds layer next old new keeps configuration visited graph_node (are.each s configuration visited graph_node on at there);
 }
 
 -- ---- one layer more
 
-module _ (w : WorldView) (scope : Scope) (layer next : LayerView) (graph : List (Vec Spot)) (spots : Vec Spot) (old new : List ClassView)
-    (so_far : HasSearched w scope layer graph old) (passed : IsPassed (bounds_at scope (length graph)) (length graph) layer next spots.items old new) where
+module _ (w : WorldView) (scope : Scope) (layer next : LayerView) (graph : List (Vec Node)) (graph_nodes : Vec Node) (old new : List ClassView)
+    (so_far : HasSearched w scope layer graph old) (passed : IsPassed (bounds_at scope (length graph)) (length graph) layer next graph_nodes.items old new) where
   abbrev layers : List LayerView
   layers = so_far.layers
 
@@ -93,39 +93,39 @@ module _ (w : WorldView) (scope : Scope) (layer next : LayerView) (graph : List 
       last : (k : ℕ) → suc k ≡ length layers → length layers ≡ suc (length graph) → k ≡ length graph
       last k p q = omega arith
 
-  well : (k : ℕ) (a : LayerView) → k < length (graph ++ spots ∷ []) → slice_get (layers ++ next ∷ []) k ≡ Some a → AreWell a.worlds
-  well k a lt e = by (less_or_same k (length graph) (subst (λ n. k < n) (length_push graph spots) lt))
+  well : (k : ℕ) (a : LayerView) → k < length (graph ++ graph_nodes ∷ []) → slice_get (layers ++ next ∷ []) k ≡ Some a → AreWell a.worlds
+  well k a lt e = by (less_or_same k (length graph) (subst (λ n. k < n) (length_push graph graph_nodes) lt))
     where
       by : (k < length graph) ⊎ (k ≡ length graph) → AreWell a.worlds
       by (inl l) = so_far.searched.well k a l (before k a (omega arith) e)
       by (inr q) = subst (λ (b : LayerView). AreWell b.worlds) (sym (last_before k a q e)) passed.well
 
-  all_spots : (k : ℕ) (a b : LayerView) (s : Vec Spot) → slice_get (layers ++ next ∷ []) k ≡ Some a → slice_get (layers ++ next ∷ []) (suc k) ≡ Some b
-      → slice_get (graph ++ spots ∷ []) k ≡ Some s → AreSpots (bounds_at scope k) a b new s.items
-  all_spots k a b s here there e =
+  all_graph_nodes : (k : ℕ) (a b : LayerView) (s : Vec Node) → slice_get (layers ++ next ∷ []) k ≡ Some a → slice_get (layers ++ next ∷ []) (suc k) ≡ Some b
+      → slice_get (graph ++ graph_nodes ∷ []) k ≡ Some s → AreGraphNodes (bounds_at scope k) a b new s.items
+  all_graph_nodes k a b s here there e =
       ⊎_elim
       (λ h. let lt = slice_get_within graph k s h in
-      spots_kept (bounds_at scope k) a b old new passed.keeps s.items
-      (so_far.searched.spots k a b s (before k a (omega arith) here) (before (suc k) b (omega arith) there) h))
-      (λ h. subst (λ (c : LayerView). AreSpots (bounds_at scope k) c b new s.items) (sym (last_before k a h.0 here))
-      (subst (λ (c : LayerView). AreSpots (bounds_at scope k) layer c new s.items) (sym (newest (suc k) b (ap suc h.0) there))
-      (subst (λ (v : Vec Spot). AreSpots (bounds_at scope k) layer next new v.items) (sym h.1)
-      (subst (λ n. AreSpots (bounds_at scope n) layer next new spots.items) (sym h.0) passed.spots))))
-      (get_push graph spots k s e)
+      graph_nodes_kept (bounds_at scope k) a b old new passed.keeps s.items
+      (so_far.searched.graph_nodes k a b s (before k a (omega arith) here) (before (suc k) b (omega arith) there) h))
+      (λ h. subst (λ (c : LayerView). AreGraphNodes (bounds_at scope k) c b new s.items) (sym (last_before k a h.0 here))
+      (subst (λ (c : LayerView). AreGraphNodes (bounds_at scope k) layer c new s.items) (sym (newest (suc k) b (ap suc h.0) there))
+      (subst (λ (v : Vec Node). AreGraphNodes (bounds_at scope k) layer next new v.items) (sym h.1)
+      (subst (λ n. AreGraphNodes (bounds_at scope n) layer next new graph_nodes.items) (sym h.0) passed.graph_nodes))))
+      (get_push graph graph_nodes k s e)
 
   found : (c : ℕ) (class : ClassView) → slice_get new c ≡ Some class
-      → (k : ℕ) × ((a : LayerView) × ((k < length (graph ++ spots ∷ [])) × ((slice_get (layers ++ next ∷ []) k ≡ Some a) × IsFoundIn a.worlds class)))
+      → (k : ℕ) × ((a : LayerView) × ((k < length (graph ++ graph_nodes ∷ [])) × ((slice_get (layers ++ next ∷ []) k ≡ Some a) × IsFoundIn a.worlds class)))
   found c class there =
       ⊎_elim
       (λ h. let f = so_far.searched.found c class h in
       (f.0, (f.1.0, (longer f.0 f.1.1.0, (get_left layers next f.0 f.1.0 f.1.1.1.0, f.1.1.1.1)))))
-      (λ h. (length graph, (layer, (subst (λ n. length graph < n) (sym (length_push graph spots)) (omega arith), (get_left layers next (length graph) layer so_far.is_last, h)))))
+      (λ h. (length graph, (layer, (subst (λ n. length graph < n) (sym (length_push graph graph_nodes)) (omega arith), (get_left layers next (length graph) layer so_far.is_last, h)))))
       (passed.found c class there)
     where
-      longer : (k : ℕ) → k < length graph → k < length (graph ++ spots ∷ [])
-      longer k lt = subst (λ n. k < n) (sym (length_push graph spots)) (omega arith)
+      longer : (k : ℕ) → k < length graph → k < length (graph ++ graph_nodes ∷ [])
+      longer k lt = subst (λ n. k < n) (sym (length_push graph graph_nodes)) (omega arith)
 
-  pub passes : HasSearched w scope next (graph ++ spots ∷ []) new
+  pub passes : HasSearched w scope next (graph ++ graph_nodes ∷ []) new
   passes = record {
     layers = layers ++ next ∷ [];
     searched = record {
@@ -133,15 +133,15 @@ module _ (w : WorldView) (scope : Scope) (layer next : LayerView) (graph : List 
       can_begin = so_far.searched.can_begin;
       begins = get_left layers next 0 so_far.searched.first so_far.searched.begins;
       is_first = so_far.searched.is_first;
-      many = length_push layers next ∙ (ap suc many ∙ ap suc (sym (length_push graph spots)));
+      many = length_push layers next ∙ (ap suc many ∙ ap suc (sym (length_push graph graph_nodes)));
       on = on;
       joined = joined;
       well = well;
-      spots = all_spots;
+      graph_nodes = all_graph_nodes;
       found = found;
       apart = passed.apart so_far.searched.apart;
     };
-    is_last = ap (λ n. slice_get (layers ++ next ∷ []) n) (length_push graph spots ∙ sym many) ∙ get_last layers next;
+    is_last = ap (λ n. slice_get (layers ++ next ∷ []) n) (length_push graph graph_nodes ∙ sym many) ∙ get_last layers next;
   }
 
 -- ---- and the first one
@@ -164,14 +164,14 @@ module _ (w : WorldView) (scope : Scope) (layer : LayerView) (busy : AreBusy w s
           subst (λ (b : LayerView). AreOn k b) (sym one.1) (subst (λ n. AreOn n layer) (sym one.0) on);
       joined = λ k a b here there. let z = (only_one layer (suc k) b there).0 in absurd (omega (arith, z));
       well = λ k a lt e. absurd (omega (arith, lt));
-      spots = λ k a b s here there e. let z = (only_one layer (suc k) b there).0 in absurd (omega (arith, z));
+      graph_nodes = λ k a b s here there e. let z = (only_one layer (suc k) b there).0 in absurd (omega (arith, z));
       found = λ c class e. absurd (none-some class e);
       apart = λ k l c d here there same. absurd (none-some c here);
     };
     is_last = refl;
   }
 
-pub last_on : (w : WorldView) (scope : Scope) (last : LayerView) (graph : List (Vec Spot)) (classes : List ClassView)
+pub last_on : (w : WorldView) (scope : Scope) (last : LayerView) (graph : List (Vec Node)) (classes : List ClassView)
     → HasSearched w scope last graph classes → AreOn (length graph) last
 last_on w scope last graph classes so_far = so_far.searched.on (length graph) last so_far.is_last
 
@@ -180,28 +180,28 @@ none_left [] e = refl
 none_left (x ∷ xs) e = absurd (omega arith)
 
 -- a world that is left after so many layers has a list of too many turns, if it ends well
-pub left_long : (w : WorldView) (scope : Scope) (last : LayerView) (graph : List (Vec Spot)) (classes : List ClassView) → HasSearched w scope last graph classes
-    → (turns : ℕ) → turns < length graph → (m : ℕ) × ((live : LiveView) × ((slice_get last.worlds m ≡ Some live) × EndsWell live.world)) → (is : List ℕ) × IsTooLong w scope turns is
+pub left_long : (w : WorldView) (scope : Scope) (last : LayerView) (graph : List (Vec Node)) (classes : List ClassView) → HasSearched w scope last graph classes
+    → (turns : ℕ) → turns < length graph → (m : ℕ) × ((visited : VisitedView) × ((slice_get last.worlds m ≡ Some visited) × EndsWell visited.world)) → (is : List ℕ) × IsTooLong w scope turns is
 left_long w scope last graph classes so_far turns more left =
-    let live = left.1.0 in
-    (live.turns, too_long w scope so_far.layers graph classes so_far.searched (length graph) left.0 turns last live (omega arith) more so_far.is_last left.1.1.0 left.1.1.1)
+    let visited = left.1.0 in
+    (visited.turns, too_long w scope so_far.layers graph classes so_far.searched (length graph) left.0 turns last visited (omega arith) more so_far.is_last left.1.1.0 left.1.1.1)
 
 pub first_on : (w : WorldView) (scope : Scope) (layer : LayerView) → IsFirst w scope layer → length w.seats ≤ ACTORS_MAX → AreOn 0 layer
-first_on w scope layer first few = record { stands = stands; actors = actors }
+first_on w scope layer first few = record { configurations = configurations; actors = actors }
   where
-    own : IsOn 0 layer.worlds first.stand
+    own : IsOn 0 layer.worlds first.configuration
     own = record {
       on = let many = ap length first.worlds in let at = first.on in omega arith;
       long = ap length first.turns;
-      few = subst (λ (m : Marks). AreWithin m 0) (sym first.marks) (record { cuts = omega arith; changes = omega arith });
+      few = subst (λ (m : Cost). AreWithin m 0) (sym first.cost) (record { cuts = omega arith; changes = omega arith });
     }
 
-    stands : (s : ℕ) (stand : Stand) → slice_get layer.stands s ≡ Some stand → IsOn 0 layer.worlds stand
-    stands s stand e =
-        let one = only_one first.stand s stand (ap (λ (xs : List Stand). slice_get xs s) (sym first.stands) ∙ e) in
-        subst (λ (x : Stand). IsOn 0 layer.worlds x) (sym one.1) own
+    configurations : (s : ℕ) (configuration : Configuration) → slice_get layer.configurations s ≡ Some configuration → IsOn 0 layer.worlds configuration
+    configurations s configuration e =
+        let one = only_one first.configuration s configuration (ap (λ (xs : List Configuration). slice_get xs s) (sym first.configurations) ∙ e) in
+        subst (λ (x : Configuration). IsOn 0 layer.worlds x) (sym one.1) own
 
-    actors : (m : ℕ) (live : LiveView) → slice_get layer.worlds m ≡ Some live → length live.world.seats ≤ ACTORS_MAX
-    actors m live e =
-        let one = only_one (record { told = scope.outside; world = w; marks = no_marks; turns = []; is_state = true }) m live (ap (λ (xs : List LiveView). slice_get xs m) (sym first.worlds) ∙ e) in
-        subst (λ (l : LiveView). length l.world.seats ≤ ACTORS_MAX) (sym one.1) few
+    actors : (m : ℕ) (visited : VisitedView) → slice_get layer.worlds m ≡ Some visited → length visited.world.seats ≤ ACTORS_MAX
+    actors m visited e =
+        let one = only_one (record { told = scope.outside; world = w; cost = no_cost; turns = []; is_state = true }) m visited (ap (λ (xs : List VisitedView). slice_get xs m) (sym first.worlds) ∙ e) in
+        subst (λ (l : VisitedView). length l.world.seats ≤ ACTORS_MAX) (sym one.1) few

@@ -1,4 +1,4 @@
--- From each spot of a graph that fits a world some word leads to an end.
+-- From each graph node of a graph that fits a world some word leads to an end.
 use Rattle.std.specs.Prelude.{◌≡◌, ◌<◌, ◌≤◌, ◌+◌, ℕ, zero, suc, List, [], ◌∷◌, Bool, true, false, ◌&&◌, length, slice_get, Option, Some, None, refl}
 use Rattle.std.specs.Global.{Vec}
 use Rattle.std.proofs.Common.{sym, ap, ◌∙◌, subst, arith}
@@ -8,14 +8,14 @@ use Rattle.std.proofs.lemmas.Option.{none-some, slice_get_within}
 use Rattle.race_core.specs.declared.seat.Seat.{Seat}
 use Rattle.race_core.specs.TurnView.{are_some}
 use Rattle.race_core.specs.Worlds.{WorldView, is_busy_in, is_busy_at, is_within_in, is_within_at}
-use Rattle.schedule_graph.specs.declared.graph.Spot.{Spot}
-use Rattle.schedule_graph.specs.declared.graph.Spot.TheVariants.{Ends, Goes}
-use Rattle.schedule_graph.specs.Words.{spot_in, spot_at, ways_from, way_of, IsWord, IsSomeWord}
+use Rattle.schedule_graph.specs.declared.graph.Node.{Node}
+use Rattle.schedule_graph.specs.declared.graph.Node.TheVariants.{Ends, Goes}
+use Rattle.schedule_graph.specs.Words.{node_in, node_at, edges_from, edge_of, IsWord, IsSomeWord}
 use Rattle.explore.specs.declared.limits.Bounds.{Bounds}
 use Rattle.explore.specs.declared.limits.Scope.{Scope}
 use Rattle.explore.specs.Lists.{is_another, is_cut, plus}
 use Rattle.explore.specs.Explored.{IsWithin, IsOnly, ClassView}
-use Rattle.explore.specs.Merged.{Place, Places, MayFollow, IsWay, IsFit}
+use Rattle.explore.specs.Merged.{Place, Places, MayFollow, IsEdge, IsFit}
 
 -- ---- some turn that cuts no call
 
@@ -50,25 +50,25 @@ may_some bounds p free few somebody = by p.last refl
 
 -- ---- a word
 
-spot_within : (layers : List (Vec Spot)) (k s : ℕ) (spot : Spot) → spot_at layers k s ≡ Some spot → k < length layers
-spot_within layers k s spot there = by (slice_get layers k) refl there
+graph_node_within : (layers : List (Vec Node)) (k s : ℕ) (graph_node : Node) → node_at layers k s ≡ Some graph_node → k < length layers
+graph_node_within layers k s graph_node there = by (slice_get layers k) refl there
   where
-    by : (layer : Option (Vec Spot)) → slice_get layers k ≡ layer → spot_in layer s ≡ Some spot → k < length layers
-    by None e there = absurd (none-some spot there)
+    by : (layer : Option (Vec Node)) → slice_get layers k ≡ layer → node_in layer s ≡ Some graph_node → k < length layers
+    by None e there = absurd (none-some graph_node there)
     by (Some layer) e there = slice_get_within layers k layer e
 
-module _ (w : WorldView) (scope : Scope) (layers : List (Vec Spot)) (classes : List ClassView) (at : Places) (fit : IsFit w scope layers classes at) where
-  some_rest : (n k s : ℕ) (spot : Spot) → length layers ≤ k + n → spot_at layers k s ≡ Some spot
+module _ (w : WorldView) (scope : Scope) (layers : List (Vec Node)) (classes : List ClassView) (at : Places) (fit : IsFit w scope layers classes at) where
+  some_rest : (n k s : ℕ) (graph_node : Node) → length layers ≤ k + n → node_at layers k s ≡ Some graph_node
       → (is : List ℕ) × ((class : ℕ) × IsWord layers k s is class)
-  some_rest zero k s spot le there = let lt = spot_within layers k s spot there in absurd (omega arith)
+  some_rest zero k s graph_node le there = let lt = graph_node_within layers k s graph_node there in absurd (omega arith)
   some_rest (suc n) k s (Ends class) le there = ([], (class, there))
-  some_rest (suc n) k s (Goes ways) le there =
-      let here = fit.goes k s ways there in
+  some_rest (suc n) k s (Goes edges) le there =
+      let here = fit.goes k s edges there in
       let i = here.some.0 in
-      let way = here.some.1 in
-      let goes : IsWay scope layers at k s i way.0 = here.each i way.0 way.1 in
-      let rest = some_rest n (suc k) way.0.to goes.spot (omega arith) goes.there in
-      (i ∷ rest.0, (rest.1.0, (way.0, (ap (λ (spot : Option Spot). way_of (ways_from spot) i) there ∙ way.1, rest.1.1))))
+      let edge = here.some.1 in
+      let goes : IsEdge scope layers at k s i edge.0 = here.each i edge.0 edge.1 in
+      let rest = some_rest n (suc k) edge.0.to goes.graph_node (omega arith) goes.there in
+      (i ∷ rest.0, (rest.1.0, (edge.0, (ap (λ (graph_node : Option Node). edge_of (edges_from graph_node) i) there ∙ edge.1, rest.1.1))))
 
   pub some_word : (is : List ℕ) × IsSomeWord layers is
-  some_word = some_rest (length layers) 0 0 fit.spot (omega arith) fit.there
+  some_word = some_rest (length layers) 0 0 fit.graph_node (omega arith) fit.there

@@ -6,27 +6,27 @@ use Rattle.std.proofs.Common.{inl, inr, ⊎_elim, sym, ap, ◌∙◌, subst, ari
 use Rattle.std.proofs.lemmas.List.{length-map}
 use Rattle.std.proofs.lemmas.Option.{same_Some, none-some, slice_get-map}
 use Rattle.race_core.specs.Worlds.{WorldView}
-use Rattle.schedule_graph.specs.declared.graph.Way.{Way}
+use Rattle.schedule_graph.specs.declared.graph.Edge.{Edge}
 use Rattle.explore.specs.declared.keys.Key.{Key}
 use Rattle.explore.specs.declared.layer.Layer.{Layer}
-use Rattle.explore.specs.declared.layer.Live.{Live}
-use Rattle.explore.specs.declared.layer.Stand.{Stand}
+use Rattle.explore.specs.declared.layer.Visited.{Visited}
+use Rattle.explore.specs.declared.layer.Configuration.{Configuration}
 use Rattle.explore.specs.declared.limits.Scope.{Scope}
-use Rattle.explore.specs.declared.marks.Marks.{Marks}
-use Rattle.explore.specs.declared.moves.Choice.{Choice}
-use Rattle.explore.specs.declared.moves.Move.{Move}
+use Rattle.explore.specs.declared.cost.Cost.{Cost}
+use Rattle.explore.specs.declared.transitions.Choice.{Choice}
+use Rattle.explore.specs.declared.transitions.Transition.{Transition}
 use Rattle.explore.specs.Alike.{after_turns}
-use Rattle.explore.specs.Deeds.{KnownView}
+use Rattle.explore.specs.Effects.{KnownView}
 use Rattle.explore.specs.Explored.{ClassView, bounds_at, IsOnWay, HaveOneState, AreApartStates, HasItsState, AreStates, HasMoreStates}
-use Rattle.explore.specs.Keys.{ComponentsView, AreRows, AreMet, IsKey}
+use Rattle.explore.specs.Keys.{ComponentsView, AreRows, AreInterned, IsKey}
 use Rattle.explore.specs.Kept.{layer_of, HaveKeys, IsFirstOf}
 use Rattle.explore.specs.Local.{SameParts}
 use Rattle.explore.specs.Merged.{bounded_cuts}
-use Rattle.explore.specs.Moves.{AreAllChoices}
-use Rattle.explore.specs.Points.{no_marks}
-use Rattle.explore.specs.Spreading.{AreWaysOfAll}
-use Rattle.explore.specs.States.{AreStatesAmong, IsSoFar, HasStand, AreAllOnWay, AreStatesUpTo, IsCounted}
-use Rattle.explore.specs.Went.{Course, IsCourse, AreWent}
+use Rattle.explore.specs.Transitions.{AreAllChoices}
+use Rattle.explore.specs.Points.{no_cost}
+use Rattle.explore.specs.Spreading.{AreEdgesOfAll}
+use Rattle.explore.specs.States.{AreStatesAmong, IsSoFar, HasConfiguration, AreAllOnWay, AreStatesUpTo, IsCounted}
+use Rattle.explore.specs.Expanded.{Expansion, IsExpansion, AreExpanded}
 use Rattle.explore.proofs.Alike.PairedLists.{there_was}
 use Rattle.explore.proofs.Layers.OnWay.{on_way_of, on_way_front, born_on_way, all_on_way}
 use Rattle.explore.proofs.Layers.SoFar.{none_so_far, only}
@@ -54,30 +54,30 @@ get_either (z ∷ zs) ys (suc k) x e = ⊎_elim (λ h. inl h)
 
 -- ---- the states of one layer more
 
-abbrev turns_of : List Live → List (List ℕ)
-turns_of lives = map (λ (live : Live). live.turns.items) lives
+abbrev turns_of : List Visited → List (List ℕ)
+turns_of all_visited = map (λ (visited : Visited). visited.turns.items) all_visited
 
-turns_at : (lives : List Live) (k : ℕ) (live : Live) → slice_get lives k ≡ Some live → slice_get (turns_of lives) k ≡ Some live.turns.items
-turns_at lives k live e = slice_get-map (λ (l : Live). l.turns.items) lives k
-    ∙ ap (λ (o : Option Live). option_map (λ (l : Live). l.turns.items) o) e
+turns_at : (all_visited : List Visited) (k : ℕ) (visited : Visited) → slice_get all_visited k ≡ Some visited → slice_get (turns_of all_visited) k ≡ Some visited.turns.items
+turns_at all_visited k visited e = slice_get-map (λ (l : Visited). l.turns.items) all_visited k
+    ∙ ap (λ (o : Option Visited). option_map (λ (l : Visited). l.turns.items) o) e
 
-turned_at : (lives : List Live) (k : ℕ) (is : List ℕ) → slice_get (turns_of lives) k ≡ Some is
-    → (live : Live) × ((slice_get lives k ≡ Some live) × (live.turns.items ≡ is))
+turned_at : (all_visited : List Visited) (k : ℕ) (is : List ℕ) → slice_get (turns_of all_visited) k ≡ Some is
+    → (visited : Visited) × ((slice_get all_visited k ≡ Some visited) × (visited.turns.items ≡ is))
 turned_at [] k is e = absurd (none-some is e)
-turned_at (live ∷ lives) zero is e = (live, (refl, same_Some live.turns.items is e))
-turned_at (live ∷ lives) (suc k) is e = turned_at lives k is e
+turned_at (visited ∷ all_visited) zero is e = (visited, (refl, same_Some visited.turns.items is e))
+turned_at (visited ∷ all_visited) (suc k) is e = turned_at all_visited k is e
 
 -- worlds that lists of n + 1 turns lead to, by their keys
-module _ (c : ComponentsView) (w : WorldView) (scope : Scope) (n m states found : ℕ) (lives : List Live)
-    (rows : AreRows c.parts (length w.seats)) (met : AreMet c.lists c.parts)
-    (keys : HaveKeys c w lives) (long : (k : ℕ) (live : Live) → slice_get lives k ≡ Some live → length live.turns.items ≡ n + 1)
-    (on_way : (k : ℕ) (live : Live) → slice_get lives k ≡ Some live → IsOnWay w scope live.turns.items)
-    (among : AreStatesAmong lives m states) (so_far : AreStatesUpTo w scope n found) where
+module _ (c : ComponentsView) (w : WorldView) (scope : Scope) (n m states found : ℕ) (all_visited : List Visited)
+    (rows : AreRows c.parts (length w.seats)) (met : AreInterned c.lists c.parts)
+    (keys : HaveKeys c w all_visited) (long : (k : ℕ) (visited : Visited) → slice_get all_visited k ≡ Some visited → length visited.turns.items ≡ n + 1)
+    (on_way : (k : ℕ) (visited : Visited) → slice_get all_visited k ≡ Some visited → IsOnWay w scope visited.turns.items)
+    (among : AreStatesAmong all_visited m states) (so_far : AreStatesUpTo w scope n found) where
   abbrev lists : List (List ℕ)
   lists = so_far.lists ++ turns_of among.chosen
 
   one_at : (j : ℕ) (is : List ℕ) → slice_get (turns_of among.chosen) j ≡ Some is
-      → (k : ℕ) × ((live : Live) × ((slice_get among.chosen j ≡ Some live) × ((slice_get lives k ≡ Some live) × (live.turns.items ≡ is))))
+      → (k : ℕ) × ((visited : Visited) × ((slice_get among.chosen j ≡ Some visited) × ((slice_get all_visited k ≡ Some visited) × (visited.turns.items ≡ is))))
   one_at j is e =
       let own = turned_at among.chosen j is e in
       let from = among.from j own.0 own.1.0 in
@@ -126,7 +126,7 @@ module _ (c : ComponentsView) (w : WorldView) (scope : Scope) (n m states found 
   lists_many : length lists ≡ found + states
   lists_many =
       let sum = length-append so_far.lists (turns_of among.chosen) in
-      let mapped = length-map among.chosen (λ (live : Live). live.turns.items) in
+      let mapped = length-map among.chosen (λ (visited : Visited). visited.turns.items) in
       let old = so_far.many in
       let new = among.many in
       omega (arith, sum, mapped, old, new)
@@ -135,20 +135,20 @@ module _ (c : ComponentsView) (w : WorldView) (scope : Scope) (n m states found 
   pub more_states : (limit : ℕ) → limit < found + states → HasMoreStates w scope limit
   more_states limit more = record { lists = lists; more = subst (λ n. limit < n) (sym lists_many) more; apart = are_apart }
 
-  module _ (whole : m ≡ length lives) (layer : Layer) (worlds_are : layer.worlds.items ≡ lives)
+  module _ (whole : m ≡ length all_visited) (layer : Layer) (worlds_are : layer.worlds.items ≡ all_visited)
       (all : AreAllOnWay c w scope (n + 1) layer) where
     its_state : (is : List ℕ) → IsOnWay w scope is → length is ≡ n + 1 → HasItsState w lists is
     its_state is on e =
-        let stand : HasStand c w scope layer is = all.all is on e in
-        let there : slice_get lives stand.stand.world ≡ Some stand.live =
-        ap (λ (xs : List Live). slice_get xs stand.stand.world) (sym worlds_are) ∙ stand.on in
-        let lt : stand.stand.world < m = subst (λ k. stand.stand.world < k) (sym whole)
-        (there_was lives stand.stand.world stand.live there) in
-        let one = among.all stand.stand.world stand.live lt there in
+        let configuration : HasConfiguration c w scope layer is = all.all is on e in
+        let there : slice_get all_visited configuration.configuration.world ≡ Some configuration.visited =
+        ap (λ (xs : List Visited). slice_get xs configuration.configuration.world) (sym worlds_are) ∙ configuration.on in
+        let lt : configuration.configuration.world < m = subst (λ k. configuration.configuration.world < k) (sym whole)
+        (there_was all_visited configuration.configuration.world configuration.visited there) in
+        let one = among.all configuration.configuration.world configuration.visited lt there in
         let from = among.from one.0 one.1.0 one.1.1.0 in
         let its : List ℕ = one.1.0.turns.items in
         let same = same_but_outside_parts c w (after_turns w is)
-        (after_turns w its) stand.live.key one.1.0.key rows stand.key (keys from.0 one.1.0 from.1.1) one.1.1.1 in (
+        (after_turns w its) configuration.visited.key one.1.0.key rows configuration.key (keys from.0 one.1.0 from.1.1) one.1.1.1 in (
           length so_far.lists + one.0,
           (
             its,
@@ -176,7 +176,7 @@ module _ (c : ComponentsView) (w : WorldView) (scope : Scope) (n m states found 
 
 module _ (w : WorldView) (scope : Scope) where
   none_on_way : IsOnWay w scope []
-  none_on_way = on_way_of w scope [] no_marks (none_so_far w scope)
+  none_on_way = on_way_of w scope [] no_cost (none_so_far w scope)
 
   only_none : (k : ℕ) (is : List ℕ) → slice_get ([] ∷ []) k ≡ Some is → (k ≡ 0) × (is ≡ [])
   only_none zero is e = (refl, sym (same_Some [] is e))
@@ -211,33 +211,33 @@ module _ (w : WorldView) (scope : Scope) where
         itself : SameParts w w
         itself = same_itself w is_key.numbered
 
-    -- the only stand of the first layer is that of the empty list
+    -- the only configuration of the first layer is that of the empty list
     first_on_way : (layer : Layer) → IsFirstOf key layer → AreAllOnWay c w scope 0 layer
     first_on_way layer first = record {
       each = λ s x e.
-          let same : first.stand ≡ x = only first.stand x layer.stands.items s first.stands e in
-          subst (λ (y : Stand). IsSoFar w scope y.turns.items y.marks) same
-          (subst (λ (is : List ℕ). IsSoFar w scope is first.stand.marks) (sym first.none)
-          (subst (λ (m : Marks). IsSoFar w scope [] m) (sym first.marks) (none_so_far w scope)));
+          let same : first.configuration ≡ x = only first.configuration x layer.configurations.items s first.configurations e in
+          subst (λ (y : Configuration). IsSoFar w scope y.turns.items y.cost) same
+          (subst (λ (is : List ℕ). IsSoFar w scope is first.configuration.cost) (sym first.none)
+          (subst (λ (m : Cost). IsSoFar w scope [] m) (sym first.cost) (none_so_far w scope)));
       all = λ is on_way long.
           let none = none_left is (omega (arith, long)) in
-          subst (λ (xs : List ℕ). HasStand c w scope layer xs) (sym none) (record {
+          subst (λ (xs : List ℕ). HasConfiguration c w scope layer xs) (sym none) (record {
             at = 0;
-            stand = first.stand;
-            there = ap (λ (xs : List Stand). slice_get xs 0) first.stands;
-            live = first.live;
-            on = ap (slice_get layer.worlds.items) first.on ∙ ap (λ (xs : List Live). slice_get xs 0) first.worlds;
+            configuration = first.configuration;
+            there = ap (λ (xs : List Configuration). slice_get xs 0) first.configurations;
+            visited = first.visited;
+            on = ap (slice_get layer.worlds.items) first.on ∙ ap (λ (xs : List Visited). slice_get xs 0) first.worlds;
             key = subst (λ (k : Key). IsKey c w w k) (sym first.key_is) is_key;
-            last = ap (λ (m : Marks). m.last) first.marks;
-            cuts = ap (λ (m : Marks). bounded_cuts scope.cuts m.cuts) first.marks;
+            last = ap (λ (m : Cost). m.last) first.cost;
+            cuts = ap (λ (m : Cost). bounded_cuts scope.cuts m.cuts) first.cost;
           });
     }
 
     pub first_counted : (layer : Layer) → IsFirstOf key layer → IsCounted c w scope 0 1 layer
     first_counted layer first = record { on_way = first_on_way layer first; found = first_states }
 
-  -- where nobody stands in the last layer no list is longer
-  pub all_states : (c : ComponentsView) (n states : ℕ) (layer : Layer) → layer.stands.items ≡ []
+  -- where the last layer has no configuration no list is longer
+  pub all_states : (c : ComponentsView) (n states : ℕ) (layer : Layer) → layer.configurations.items ≡ []
       → IsCounted c w scope n states layer → AreStates w scope states
   all_states c n states layer nobody counted = record {
     lists = so_far.lists;
@@ -259,52 +259,52 @@ module _ (w : WorldView) (scope : Scope) where
       by is on (inl le) = so_far.all is on le
       by is on (inr more) =
           let front = on_way_front w scope n more.0 is more.1 on in
-          let stand : HasStand c w scope layer front.0 = counted.on_way.all front.0 front.1.0 front.1.1 in
-          absurd (none-some stand.stand (ap (λ (xs : List Stand). slice_get xs stand.at) (sym nobody) ∙ stand.there))
+          let configuration : HasConfiguration c w scope layer front.0 = counted.on_way.all front.0 front.1.0 front.1.1 in
+          absurd (none-some configuration.configuration (ap (λ (xs : List Configuration). slice_get xs configuration.at) (sym nobody) ∙ configuration.there))
 
 -- ---- a layer that is gone on from
 
-module _ (g : Course) (scope : Scope) (known : KnownView) (next : List Live) (tops : List (Option ℕ))
+module _ (g : Expansion) (scope : Scope) (known : KnownView) (next : List Visited) (end_classes : List (Option ℕ))
     (places : List (Vec ℕ)) (classes : List ClassView)
-    (went : AreWent g known next tops places classes) (bounds_are : g.bounds ≡ bounds_at scope g.n) (states found : ℕ)
-    (counted : IsCounted g.before g.w scope g.n found g.layer) (met : AreMet known.components.lists known.components.parts)
+    (expanded : AreExpanded g known next end_classes places classes) (bounds_are : g.bounds ≡ bounds_at scope g.n) (states found : ℕ)
+    (counted : IsCounted g.before g.w scope g.n found g.layer) (met : AreInterned known.components.lists known.components.parts)
     (among : AreStatesAmong next (length next) states) where
   -- with those of its worlds that were met there are more states than so many
-  pub went_more_states : (limit : ℕ) → limit < found + states → HasMoreStates g.w scope limit
-  went_more_states limit more =
-      more_states known.components g.w scope g.n (length next) states found next went.sound.rows met went.keys went.after.long
-      (born_on_way g scope known next tops places classes went bounds_are counted.on_way) among counted.found limit more
+  pub expanded_more_states : (limit : ℕ) → limit < found + states → HasMoreStates g.w scope limit
+  expanded_more_states limit more =
+      more_states known.components g.w scope g.n (length next) states found next expanded.sound.rows met expanded.keys expanded.after.long
+      (born_on_way g scope known next end_classes places classes expanded bounds_are counted.on_way) among counted.found limit more
 
   -- and once all were met the next layer's are counted
-  pub went_counted : (choices : List (Vec Choice))
-      → AreAllChoices g.bounds (layer_of g.w g.before.told g.layer) g.moves choices
-      → (all : List (Vec Way)) (after : Layer)
-      → after.worlds.items ≡ next → length tops ≡ length g.layer.worlds.items
-      → AreWaysOfAll g.bounds g.layer.stands.items choices places after.stands.items all
+  pub expanded_counted : (choices : List (Vec Choice))
+      → AreAllChoices g.bounds (layer_of g.w g.before.told g.layer) g.transitions choices
+      → (all : List (Vec Edge)) (after : Layer)
+      → after.worlds.items ≡ next → length end_classes ≡ length g.layer.worlds.items
+      → AreEdgesOfAll g.bounds g.layer.configurations.items choices places after.configurations.items all
       → IsCounted known.components g.w scope (g.n + 1) (found + states) after
-  went_counted choices are all after worlds_are whole ways = record { on_way = on_way; found = found_next }
+  expanded_counted choices are all after worlds_are whole edges = record { on_way = on_way; found = found_next }
     where
       on_way : AreAllOnWay known.components g.w scope (g.n + 1) after
-      on_way = all_on_way g scope known next tops places classes went bounds_are counted.on_way choices are all after worlds_are whole ways
+      on_way = all_on_way g scope known next end_classes places classes expanded bounds_are counted.on_way choices are all after worlds_are whole edges
 
       found_next : AreStatesUpTo g.w scope (g.n + 1) (found + states)
       found_next =
-          next_states known.components g.w scope g.n (length next) states found next went.sound.rows met went.keys went.after.long
-          (born_on_way g scope known next tops places classes went bounds_are counted.on_way) among counted.found refl
+          next_states known.components g.w scope g.n (length next) states found next expanded.sound.rows met expanded.keys expanded.after.long
+          (born_on_way g scope known next end_classes places classes expanded bounds_are counted.on_way) among counted.found refl
           after worlds_are on_way
 
--- the course is that of what was known, found and listed before
-pub course_more_states : (g : Course) (w : WorldView) (known after : KnownView) (layer : Layer)
-    (moves : List (Vec Move)) (found : List ClassView) (scope : Scope) (next : List Live)
-    (tops : List (Option ℕ)) (places : List (Vec ℕ)) (classes : List ClassView) → IsCourse g w known layer moves found
-    → AreWent g after next tops places classes
+-- the expansion is that of what was known, found and listed before
+pub expansion_more_states : (g : Expansion) (w : WorldView) (known after : KnownView) (layer : Layer)
+    (transitions : List (Vec Transition)) (found : List ClassView) (scope : Scope) (next : List Visited)
+    (end_classes : List (Option ℕ)) (places : List (Vec ℕ)) (classes : List ClassView) → IsExpansion g w known layer transitions found
+    → AreExpanded g after next end_classes places classes
     → g.bounds ≡ bounds_at scope g.n → (states count : ℕ) → IsCounted known.components w scope g.n states layer
-    → AreMet after.components.lists after.components.parts
+    → AreInterned after.components.lists after.components.parts
     → AreStatesAmong next (length next) count → (limit : ℕ) → limit < states + count → HasMoreStates w scope limit
-course_more_states g w known after layer moves found scope next tops places classes is went bounds_are states count
+expansion_more_states g w known after layer transitions found scope next end_classes places classes is expanded bounds_are states count
     counted met among limit more =
     subst (λ (u : WorldView). HasMoreStates u scope limit) is.w_is
-    (went_more_states g scope after next tops places classes went bounds_are count states
+    (expanded_more_states g scope after next end_classes places classes expanded bounds_are count states
     (subst (λ (u : WorldView). IsCounted g.before u scope g.n states g.layer) (sym is.w_is)
     (subst (λ (c : ComponentsView). IsCounted c w scope g.n states g.layer) (sym is.before_is)
     (subst (λ (l : Layer). IsCounted known.components w scope g.n states l) (sym is.layer_is) counted)))

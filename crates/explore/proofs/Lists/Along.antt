@@ -8,17 +8,17 @@ use Rattle.explore.specs.Points.{Point, onward, along}
 
 -- ---- cuts and changes on the way
 
-plus_moves : (b : Bool) (m n : ℕ) → plus b m + n ≡ m + plus b n
-plus_moves true m n = omega arith
-plus_moves false m n = refl
+plus_transitions : (b : Bool) (m n : ℕ) → plus b m + n ≡ m + plus b n
+plus_transitions true m n = omega arith
+plus_transitions false m n = refl
 
-pub cuts_along : (p : Point) (is : List ℕ) → (along p is).marks.cuts ≡ p.marks.cuts + cuts_after p.world p.marks.last is
+pub cuts_along : (p : Point) (is : List ℕ) → (along p is).cost.cuts ≡ p.cost.cuts + cuts_after p.world p.cost.last is
 cuts_along p [] = omega arith
-cuts_along p (i ∷ is) = cuts_along (onward full p i) is ∙ plus_moves (is_cut p.world.seats p.marks.last i) p.marks.cuts (cuts_after (turn full p.world i) (Some i) is)
+cuts_along p (i ∷ is) = cuts_along (onward full p i) is ∙ plus_transitions (is_cut p.world.seats p.cost.last i) p.cost.cuts (cuts_after (turn full p.world i) (Some i) is)
 
-pub changes_along : (p : Point) (is : List ℕ) → (along p is).marks.changes ≡ p.marks.changes + changes_after p.marks.last is
+pub changes_along : (p : Point) (is : List ℕ) → (along p is).cost.changes ≡ p.cost.changes + changes_after p.cost.last is
 changes_along p [] = omega arith
-changes_along p (i ∷ is) = changes_along (onward full p i) is ∙ plus_moves (is_another p.marks.last i) p.marks.changes (changes_after (Some i) is)
+changes_along p (i ∷ is) = changes_along (onward full p i) is ∙ plus_transitions (is_another p.cost.last i) p.cost.changes (changes_after (Some i) is)
 
 pub along_append : (p : Point) (is js : List ℕ) → along p (is ++ js) ≡ along (along p is) js
 along_append p [] js = refl

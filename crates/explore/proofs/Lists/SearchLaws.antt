@@ -11,12 +11,12 @@ use Rattle.race_core.specs.Worlds.{WorldView, turn, is_busy_at, ledgers_in, repl
 use Rattle.race_core.proofs.OneEnd.{idle_turn_by}
 use Rattle.explore.specs.Alike.{full, after_turns}
 use Rattle.explore.specs.Local.{TellAlike}
-use Rattle.explore.specs.Want.{replies_want}
+use Rattle.explore.specs.OutOfMemory.{replies_out_of_memory}
 use Rattle.explore.specs.Search.{IsOver, IsFull, IsLike, same, onward, IsClosed, ChosenListsStandForAll, ReportsAreOfFullLists, FullListsAreReported}
 use Rattle.explore.specs.Outside.{outside_of}
 use Rattle.explore.proofs.Local.OutsideSame.{same_worlds_act}
 use Rattle.explore.proofs.Local.Wholes.{busy_alike, tell_alike}
-use Rattle.explore.proofs.Wants.WantWorlds.{runs_are_full, ap_at, join}
+use Rattle.explore.proofs.OutOfMemory.OutOfMemoryWorlds.{runs_are_full, ap_at, join}
 
 -- ---- turns one after another
 
@@ -63,21 +63,21 @@ like_outside (same u) = refl
 like_outside {told} (onward w u v is like) = join (outside_of told w) (outside_of told u) (outside_of told v) is.outside (like_outside {w = u} {v = v} like)
 
 module _ (told : Bool) (w : WorldView) (chosen : List ℕ → Bool) (closed : IsClosed told w chosen) where
-  stands : (u : WorldView) (is js : List ℕ) → chosen js ≡ true → IsLike told u (after_turns w js) → IsFull u is
+  configurations : (u : WorldView) (is js : List ℕ) → chosen js ≡ true → IsLike told u (after_turns w js) → IsFull u is
       → (ks : List ℕ) × ((chosen ks ≡ true) × (IsOver (after_turns w ks) × TellAlike (after_turns u is) (after_turns w ks)))
-  stands u [] js e like over =
+  configurations u [] js e like over =
       (js, (e, ((λ i. sym (like_busy {w = u} {v = after_turns w js} i like) ∙ over i), like_tells {w = u} {v = after_turns w js} like)))
-  stands u (i ∷ is) js e like rest =
+  configurations u (i ∷ is) js e like rest =
       let next = closed.goes_on js i e (sym (like_busy {w = u} {v = after_turns w js} i like) ∙ rest.0) in
       let moved : IsLike told (turn full u i) (turn full (after_turns w js) i) = like_turns {w = u} {v = after_turns w js} i like in
       let here : IsLike told (turn full u i) (after_turns w (js ++ i ∷ [])) =
       subst (λ x. IsLike told (turn full u i) x) (sym (after_append w js (i ∷ []))) moved in
       let there : IsLike told (turn full u i) (after_turns w next.0) =
       like_trans {w = turn full u i} {u = after_turns w (js ++ i ∷ [])} {v = after_turns w next.0} here next.1.1 in
-      stands (turn full u i) is next.0 next.1.0 there rest.1
+      configurations (turn full u i) is next.0 next.1.0 there rest.1
 
 pub chosen_lists_stand : ChosenListsStandForAll
-chosen_lists_stand told w chosen closed is whole = stands told w chosen closed w is [] closed.begins (same w) whole
+chosen_lists_stand told w chosen closed is whole = configurations told w chosen closed w is [] closed.begins (same w) whole
 
 -- ---- idle turns
 
@@ -122,12 +122,12 @@ all_over (seat ∷ seats) none = (none 0, all_over seats (λ i. none (suc i)))
 
 -- what a report is of: the turns of the schedule and more, with memory for all
 pub reported : (w : WorldView) (schedule : List ℕ) (tree : State) (events : List Event) (replies : List (List Outcome)) (kept : List StandingObject)
-    → (ran : RunsTo w schedule tree events replies kept) → replies_want replies ≡ false
+    → (ran : RunsTo w schedule tree events replies kept) → replies_out_of_memory replies ≡ false
     → (js : List ℕ) × ((ran.end ≡ after_turns w (schedule ++ js)) × IsOver (after_turns w (schedule ++ js)))
 reported w schedule tree events replies kept ran none =
     let rest = ends_run ran.runs.middle ran.end (numbers_below (length w.seats)) ran.runs.rest in
     let whole = runs_append w ran.runs.middle ran.end schedule rest.0 ran.runs.scheduled rest.1 in
-    let quiet : replies_want (replies_in (ledgers_in ran.end.seats)) ≡ false = sym (ap replies_want ran.reports.are_replies) ∙ none in
+    let quiet : replies_out_of_memory (replies_in (ledgers_in ran.end.seats)) ≡ false = sym (ap replies_out_of_memory ran.reports.are_replies) ∙ none in
     let is = runs_are_full w ran.end (schedule ++ rest.0) whole ran.over quiet in
     (rest.0, (is, subst (λ (u : WorldView). IsOver u) is (λ i. over_at ran.end.seats i ran.over)))
 

@@ -12,7 +12,7 @@ use Rattle.explore.specs.declared.limits.Scope.{Scope}
 use Rattle.explore.specs.Renamed.{replies_by}
 use Rattle.explore.specs.Alike.{full, after_turns}
 use Rattle.explore.specs.Explored.{TellAlike, AgreeIn, EndingView}
-use Rattle.explore.specs.Layers.{LiveView, IsReportOf}
+use Rattle.explore.specs.Layers.{VisitedView, IsReportOf}
 use Rattle.explore.specs.Outside.{outside_of}
 use Rattle.explore.specs.Tally.{SameOutcome}
 use Rattle.explore.proofs.Lists.Mapped.{other_reply_lengths}
@@ -75,8 +75,8 @@ pub agree_on : (w : WorldView) (scope : Scope) (is js ks : List ℕ) → AgreeIn
 agree_on w scope is js ks h k = tell_on scope.outside (after_turns w is) (after_turns w js) (after_turns w ks) h k
 
 -- two worlds that are told of
-module _ (live other : LiveView) (e d : EndingView) (is : IsReportOf live e) (are : IsReportOf other d) (told : live.told ≡ other.told) where
-  pub worlds_tell : SameOutcome e d → TellAlike live.told live.world other.world
+module _ (visited other : VisitedView) (e d : EndingView) (is : IsReportOf visited e) (are : IsReportOf other d) (told : visited.told ≡ other.told) where
+  pub worlds_tell : SameOutcome e d → TellAlike visited.told visited.world other.world
   worlds_tell h = record {
     replies = ap (replies_by (λ h. 0)) (sym is.report.are_replies) ∙ (h.replies ∙ ap (replies_by (λ h. 0)) are.report.are_replies);
     nodes = ap (λ s. s.nodes) (sym is.report.is_tree) ∙ (h.nodes ∙ ap (λ s. s.nodes) are.report.is_tree);
@@ -87,10 +87,10 @@ module _ (live other : LiveView) (e d : EndingView) (is : IsReportOf live e) (ar
     outside = sym is.outside ∙ (h.outside ∙ (are.outside ∙ ap (λ b. outside_of b other.world) (sym told)));
   }
     where
-      many : length live.world.seats ≡ length d.replies
-      many = sym (replies_of_seats live.world.seats) ∙ (ap length (sym is.report.are_replies) ∙ other_reply_lengths (λ h. 0) e.replies d.replies h.replies)
+      many : length visited.world.seats ≡ length d.replies
+      many = sym (replies_of_seats visited.world.seats) ∙ (ap length (sym is.report.are_replies) ∙ other_reply_lengths (λ h. 0) e.replies d.replies h.replies)
 
-  pub worlds_same : TellAlike live.told live.world other.world → SameOutcome e d
+  pub worlds_same : TellAlike visited.told visited.world other.world → SameOutcome e d
   worlds_same h = record {
     replies = ap (replies_by (λ h. 0)) is.report.are_replies ∙ (h.replies ∙ ap (replies_by (λ h. 0)) (sym are.report.are_replies));
     held = λ a lt.
@@ -101,8 +101,8 @@ module _ (live other : LiveView) (e d : EndingView) (is : IsReportOf live e) (ar
     outside = is.outside ∙ (h.outside ∙ (ap (λ b. outside_of b other.world) told ∙ sym are.outside));
   }
     where
-      many : length d.replies ≡ length live.world.seats
-      many = ap length are.report.are_replies ∙ (replies_of_seats other.world.seats ∙ sym (tell_actors live.told live.world other.world h))
+      many : length d.replies ≡ length visited.world.seats
+      many = ap length are.report.are_replies ∙ (replies_of_seats other.world.seats ∙ sym (tell_actors visited.told visited.world other.world h))
 
 -- ---- places
 

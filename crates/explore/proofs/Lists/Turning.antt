@@ -1,4 +1,4 @@
--- A turn taken, and the marks after it.
+-- A turn taken, and the cost after it.
 use Rattle.std.specs.Prelude.{◌≡◌, ◌≤◌, ℕ, ◌+◌, Bool, true, false, Option, Some, None, length, slice_get, refl}
 use Rattle.std.proofs.Common.{sym, ap, ◌∙◌, subst, arith}
 use Rattle.race_core.specs.declared.seat.Seat.{Seat}
@@ -22,9 +22,9 @@ plus_few : (b : Bool) (m n : ℕ) → m ≤ n → plus b m ≤ n + 1
 plus_few true m n le = omega arith
 plus_few false m n le = omega arith
 
-pub turn_within : (p q : Point) (i n : ℕ) → IsTurn p i q → AreWithin p.marks n → AreWithin q.marks (n + 1)
+pub turn_within : (p q : Point) (i n : ℕ) → IsTurn p i q → AreWithin p.cost n → AreWithin q.cost (n + 1)
 turn_within p q i n turned within =
-    subst (λ (x : Point). AreWithin x.marks (n + 1)) (sym turned.1) (record {
-      cuts = plus_few (is_cut p.world.seats p.marks.last i) p.marks.cuts n within.cuts;
-      changes = plus_few (is_another p.marks.last i) p.marks.changes n within.changes;
+    subst (λ (x : Point). AreWithin x.cost (n + 1)) (sym turned.1) (record {
+      cuts = plus_few (is_cut p.world.seats p.cost.last i) p.cost.cuts n within.cuts;
+      changes = plus_few (is_another p.cost.last i) p.cost.changes n within.changes;
     })

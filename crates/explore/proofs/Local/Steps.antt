@@ -70,9 +70,9 @@ module _ (a : ℕ) (pairs : Pairs) (s : State) (handles : List (Option OpenHandl
       on_both pairs s handles a _ _ (own_held a pairs s (other s handles) part h k p) _ _
       (λ d. reads_both pairs s handles a (object_at s.nodes d))
   own_both x y same (below' r q h k p p') =
-      on_both pairs s handles a _ _ (own_held a pairs s (other s handles) part r q p) _ _ (λ top.
+      on_both pairs s handles a _ _ (own_held a pairs s (other s handles) part r q p) _ _ (λ end_class.
       on_both pairs s handles a _ _ (own_held a pairs s (other s handles) part h k p') _ _
-      (λ d. shows_both pairs s handles a (names_below s.nodes top d)))
+      (λ d. shows_both pairs s handles a (names_below s.nodes end_class d)))
   own_both x y same (list' h k p) =
       on_both pairs s handles a _ _ (own_held a pairs s (other s handles) part h k p) _ _ (λ d.
       if_both pairs s handles a (not (is_dir s.nodes d)) _ refl NotDir _ _ (tells (Listed (sorted_names (names_in s.nodes d))) refl))

@@ -2,7 +2,7 @@
 use Rattle.std.specs.Prelude.{◌≡◌, ℕ, List, [], ◌∷◌, ◌++◌, map, Some, slice_get}
 use Rattle.std.proofs.Common.{sym, ap, ◌∙◌, ⊎_elim}
 use Rattle.std.proofs.lemmas.List.{map-append}
-use Rattle.explore.specs.Met.{AreEachOnce}
+use Rattle.explore.specs.Distinct.{AreEachOnce}
 use Rattle.explore.proofs.Lists.Told.{get_push}
 
 pub once_more : {A : Type 0} (xs : List A) (y : A) → AreEachOnce xs → ((k : ℕ) → slice_get xs k ≡ Some y → ⊥) → AreEachOnce (xs ++ y ∷ [])

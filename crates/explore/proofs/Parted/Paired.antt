@@ -1,8 +1,8 @@
--- Lists of handles, place by place: what the comparison of two grips goes through.
+-- Lists of handles, place by place: what the comparison of two handle tables goes through.
 use Rattle.std.specs.Prelude.{◌≡◌, ◌<◌, ◌≤◌, ℕ, ◌+◌, List, length, slice_get, Some, refl}
 use Rattle.std.proofs.Common.{sym, ap, ◌∙◌, subst, ⊎_elim, arith, get_or}
 use Rattle.std.proofs.lemmas.Option.{same_Some, slice_get_within, slice_get_read}
-use Rattle.explore.specs.Grips.{AreGivenAs, AreGivenPairs}
+use Rattle.explore.specs.HandleTables.{AreGivenAs, AreGivenPairs}
 use Rattle.explore.specs.Paired.{AreAt, IsApartBefore}
 use Rattle.explore.proofs.Lists.Indices.{at_or_below}
 

@@ -10,8 +10,8 @@ use Rattle.race_core.specs.Book.{tree_now}
 use Rattle.race_core.specs.declared.seat.Seat.{Seat}
 use Rattle.race_core.specs.Renamed.{seat_handles, LikeSeats}
 use Rattle.race_core.specs.Worlds.{WorldView, is_busy_in, is_busy_at, is_within_in, is_within_at}
-use Rattle.explore.specs.declared.grips.Grip.{Grip}
-use Rattle.explore.specs.Grips.{IsGripOf, HasGrip, AreGivenPairs, LikeGrips, PartView, IsPartOf, ArePartsOf}
+use Rattle.explore.specs.declared.handle_tables.HandleTable.{HandleTable}
+use Rattle.explore.specs.HandleTables.{IsHandleTableOf, HasHandleTable, AreGivenPairs, LikeHandleTables, PartView, IsPartOf, ArePartsOf}
 use Rattle.explore.specs.Keys.{AreApartParts, IsPartIn}
 use Rattle.explore.specs.Local.{actor_of, AreNumbered, SamePart, SamePartAt}
 use Rattle.explore.specs.Paired.{AreAt}
@@ -21,7 +21,7 @@ use Rattle.explore.proofs.Lists.Told.{get_push}
 use Rattle.explore.proofs.Local.Parts.{one_actor, part_itself, part_back}
 use Rattle.explore.proofs.Local.Worlds.{parts_busy}
 
--- ---- grips
+-- ---- handle tables
 
 map_at : {A B : Type 0} (f : A → B) (xs : List A) (at : ℕ) (x : A) → slice_get xs at ≡ Some x → slice_get (map f xs) at ≡ Some (f x)
 map_at f xs at x e = slice_get-map f xs at ∙ ap (option_map f) e
@@ -44,9 +44,9 @@ given_onto n m p q hs ks xs ys e f g h are =
     (subst (λ z. AreGivenPairs p q z ks) g
     (subst (λ z. AreGivenPairs p z hs ks) f (subst (λ z. AreGivenPairs z m hs ks) e are)))
 
-pub part_of_grips : (s t : State) (x y : Seat) (g h : Grip) → IsGripOf s x g → IsGripOf t y h → LikeSeats x y
-    → LikeGrips g h → SamePart s t x y
-part_of_grips s t x y g h here there like alike =
+pub part_of_handle_tables : (s t : State) (x y : Seat) (g h : HandleTable) → IsHandleTableOf s x g → IsHandleTableOf t y h → LikeSeats x y
+    → LikeHandleTables g h → SamePart s t x y
+part_of_handle_tables s t x y g h here there like alike =
     let actor : actor_of x ≡ actor_of y = one_actor x y like in
     let pairs = given_onto g.given h.given (length s.handles) (length t.handles) g.handles.items h.handles.items
     (seat_handles x) (seat_handles y)
@@ -63,8 +63,8 @@ part_of_grips s t x y g h here there like alike =
       held_handles = sym here.held_handles ∙ (alike.held_handles ∙ (there.held_handles ∙ ap (λ a. held_count t a) (sym actor)));
     }
 
-pub grips_of_part : (s t : State) (x y : Seat) (g h : Grip) → IsGripOf s x g → IsGripOf t y h → SamePart s t x y → LikeGrips g h
-grips_of_part s t x y g h here there part =
+pub handle_tables_of_part : (s t : State) (x y : Seat) (g h : HandleTable) → IsHandleTableOf s x g → IsHandleTableOf t y h → SamePart s t x y → LikeHandleTables g h
+handle_tables_of_part s t x y g h here there part =
     let actor : actor_of x ≡ actor_of y = one_actor x y part.like in
     let many : length (seat_handles x) ≡ length (seat_handles y) = same_numbers x y part.like in record {
       held_handles = here.held_handles ∙ (part.held_handles ∙ (ap (λ a. held_count t a) actor ∙ sym there.held_handles));
@@ -85,23 +85,23 @@ nodes_are s x opened number hs ns o n h e =
     e ∙ (ap (λ (os : List (Option OpenHandle)). map (λ h. node_held number (slice_get os h)) hs) o
     ∙ (ap (λ (a : ℕ). map (λ h. node_held a (slice_get s.handles h)) hs) n ∙ ap (λ (ks : List ℕ). map (held s (actor_of x)) ks) h))
 
--- what was found of an actor's handles is its grip
-pub has_grip : (w : WorldView) (actor : ℕ) (grip : Grip) (opened : List (Option OpenHandle)) (number : ℕ)
+-- what was found of an actor's handles is its handle table
+pub has_handle_table : (w : WorldView) (actor : ℕ) (handle_table : HandleTable) (opened : List (Option OpenHandle)) (number : ℕ)
     (old : List ℕ) → actor < length w.seats → AreNumbered w.seats
     → opened ≡ (tree_now w.book).handles → number ≡ actor → old ≡ []
-    → ((seat : Seat) → slice_get w.seats actor ≡ Some seat → grip.handles.items ≡ old ++ seat_handles seat)
-    → grip.nodes.items ≡ map (λ h. node_held number (slice_get opened h)) grip.handles.items
-    → grip.given ≡ length opened → grip.held ≡ held_count (tree_now w.book) number → HasGrip w actor grip
-has_grip w actor grip opened number old lt numbered o n empty handles nodes given count =
+    → ((seat : Seat) → slice_get w.seats actor ≡ Some seat → handle_table.handles.items ≡ old ++ seat_handles seat)
+    → handle_table.nodes.items ≡ map (λ h. node_held number (slice_get opened h)) handle_table.handles.items
+    → handle_table.given ≡ length opened → handle_table.held ≡ held_count (tree_now w.book) number → HasHandleTable w actor handle_table
+has_handle_table w actor handle_table opened number old lt numbered o n empty handles nodes given count =
     let seat = within_some w.seats actor lt in
     let is : actor_of seat.0 ≡ actor = numbered actor seat.0 seat.1 in
-    let hs : grip.handles.items ≡ seat_handles seat.0 = handles seat.0 seat.1 ∙ ap (λ ks. ks ++ seat_handles seat.0) empty in record {
+    let hs : handle_table.handles.items ≡ seat_handles seat.0 = handles seat.0 seat.1 ∙ ap (λ ks. ks ++ seat_handles seat.0) empty in record {
       seat = seat.0;
       there = seat.1;
       numbered = is;
       is = record {
         handles = hs;
-        nodes = nodes_are (tree_now w.book) seat.0 opened number grip.handles.items grip.nodes.items o (n ∙ sym is) hs nodes;
+        nodes = nodes_are (tree_now w.book) seat.0 opened number handle_table.handles.items handle_table.nodes.items o (n ∙ sym is) hs nodes;
         given = given ∙ ap length o;
         held_handles = count ∙ ap (λ a. held_count (tree_now w.book) a) (n ∙ sym is);
       };
@@ -109,18 +109,18 @@ has_grip w actor grip opened number old lt numbered o n empty handles nodes give
 
 -- ---- parts of worlds
 
-pub same_of : (w v : WorldView) (a : ℕ) (g h : Grip) (here : HasGrip w a g) (there : HasGrip v a h) → LikeGrips g h
+pub same_of : (w v : WorldView) (a : ℕ) (g h : HandleTable) (here : HasHandleTable w a g) (there : HasHandleTable v a h) → LikeHandleTables g h
     → LikeSeats here.seat there.seat → SamePartAt w v a
 same_of w v a g h here there alike like = record {
   here = here.seat;
   there = there.seat;
   is_here = here.there;
   is_there = there.there;
-  part = part_of_grips (tree_now w.book) (tree_now v.book) here.seat there.seat g h here.is there.is like alike;
+  part = part_of_handle_tables (tree_now w.book) (tree_now v.book) here.seat there.seat g h here.is there.is like alike;
 }
 
--- the part that is the same, of the seats that hold the grips
-part_at : (w v : WorldView) (a : ℕ) (g h : Grip) (here : HasGrip w a g) (there : HasGrip v a h) → SamePartAt w v a
+-- the part that is the same, of the seats that hold the handle tables
+part_at : (w v : WorldView) (a : ℕ) (g h : HandleTable) (here : HasHandleTable w a g) (there : HasHandleTable v a h) → SamePartAt w v a
     → SamePart (tree_now w.book) (tree_now v.book) here.seat there.seat
 part_at w v a g h here there same =
     let x : same.here ≡ here.seat = same_Some _ _ (sym same.is_here ∙ here.there) in
@@ -128,13 +128,13 @@ part_at w v a g h here there same =
     subst (λ z. SamePart (tree_now w.book) (tree_now v.book) here.seat z) y
     (subst (λ z. SamePart (tree_now w.book) (tree_now v.book) z same.there) x same.part)
 
-pub seats_of : (w v : WorldView) (a : ℕ) (g h : Grip) (here : HasGrip w a g) (there : HasGrip v a h)
+pub seats_of : (w v : WorldView) (a : ℕ) (g h : HandleTable) (here : HasHandleTable w a g) (there : HasHandleTable v a h)
     → SamePartAt w v a → LikeSeats here.seat there.seat
 seats_of w v a g h here there same = (part_at w v a g h here there same).like
 
-pub grips_of : (w v : WorldView) (a : ℕ) (g h : Grip) (here : HasGrip w a g) (there : HasGrip v a h) → SamePartAt w v a → LikeGrips g h
-grips_of w v a g h here there same =
-    grips_of_part (tree_now w.book) (tree_now v.book) here.seat there.seat g h here.is there.is (part_at w v a g h here there same)
+pub handle_tables_of : (w v : WorldView) (a : ℕ) (g h : HandleTable) (here : HasHandleTable w a g) (there : HasHandleTable v a h) → SamePartAt w v a → LikeHandleTables g h
+handle_tables_of w v a g h here there same =
+    handle_tables_of_part (tree_now w.book) (tree_now v.book) here.seat there.seat g h here.is there.is (part_at w v a g h here there same)
 
 pub same_back : (w v : WorldView) (a : ℕ) → SamePartAt w v a → SamePartAt v w a
 same_back w v a same = record {
@@ -214,8 +214,8 @@ parts_apart actor parts are k l v other e q same =
     (subst (λ (u : WorldView). SamePartAt u two.0.world actor) (sym one.1.1)
     (subst (λ (u : WorldView). SamePartAt v u actor) (sym two.1.1) same))
 
-pub part_itself_at : (w : WorldView) (actor : ℕ) (grip : Grip) → HasGrip w actor grip → SamePartAt w w actor
-part_itself_at w actor grip has = record {
+pub part_itself_at : (w : WorldView) (actor : ℕ) (handle_table : HandleTable) → HasHandleTable w actor handle_table → SamePartAt w w actor
+part_itself_at w actor handle_table has = record {
   here = has.seat;
   there = has.seat;
   is_here = has.there;

@@ -7,7 +7,7 @@ use Rattle.tree_model.specs.declared.inode.Inode.{Inode}
 use Rattle.race_core.specs.Worlds.{WorldView}
 use Rattle.schedule_graph.proofs.Spreading.{get_set}
 use Rattle.explore.specs.Layers.{Keeps}
-use Rattle.explore.specs.Keys.{PartsView, AreApartParts, AreMet, ComponentsView, AreRows, AreMoreParts, IsPartIn, IsPartAt}
+use Rattle.explore.specs.Keys.{PartsView, AreApartParts, AreInterned, ComponentsView, AreRows, AreMoreParts, IsPartIn, IsPartAt}
 use Rattle.explore.proofs.Lists.Indices.{within_some}
 use Rattle.explore.proofs.Lists.Told.{get_push}
 
@@ -63,9 +63,9 @@ apart_push parts new row e apart none i one q = ⊎_elim (λ h. apart i one h)
     (λ h k l v other there its same. absurd (none-some v (ap (λ (ws : List WorldView). slice_get ws k) (sym (ap (λ (r : PartsView). r.worlds) h.1 ∙ none)) ∙ there)))
     (get_push parts row i one (subst (λ (ps : List PartsView). slice_get ps i ≡ Some one) e q))
 
-pub met_put : (lists : List (List Inode)) (rows : List PartsView) (i : ℕ) (new : PartsView) → AreMoreParts rows (slice_set rows i new) → AreApartParts new → AreMet lists rows
-    → AreMet lists (slice_set rows i new)
-met_put lists rows i new more apart met = record {
+pub interned_put : (lists : List (List Inode)) (rows : List PartsView) (i : ℕ) (new : PartsView) → AreMoreParts rows (slice_set rows i new) → AreApartParts new → AreInterned lists rows
+    → AreInterned lists (slice_set rows i new)
+interned_put lists rows i new more apart met = record {
   rows = rows_more rows (slice_set rows i new) _ more (subst (λ n. AreRows rows n) (sym more.many) met.rows);
   lists_once = met.lists_once;
   parts_once = λ k row e. ⊎_elim (λ own. subst (λ (r : PartsView). AreApartParts r) (sym own.1) apart) (λ old. met.parts_once k row old.1) (get_set rows i k new row e);

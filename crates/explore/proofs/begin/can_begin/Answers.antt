@@ -1,7 +1,7 @@
 use Rattle.std.proofs.Common.{OnOk, IfErr, subst}
 use Rattle.race_core.specs.Worlds.{WorldView}
 use Rattle.explore.specs.Explored.{AreBusy, WhyNot}
-use Rattle.explore.specs.Want.{EndsWell}
+use Rattle.explore.specs.OutOfMemory.{EndsWell}
 use Rattle.explore.proofs.Layers.Beginning.{on_given, err_given}
 use Rattle.explore.proofs.begin.can_begin.Goals as goal
 

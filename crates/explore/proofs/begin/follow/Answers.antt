@@ -2,22 +2,22 @@ use Rattle.std.proofs.Common.{◌≡◌, ◌<◌, ℕ, suc, List, ◌∙◌, sym
 use Rattle.std.proofs.lemmas.Bool.{true≢false}
 use Rattle.std.proofs.lemmas.List.{take_all}
 use Rattle.race_core.specs.Worlds.{WorldView, is_busy_at}
-use Rattle.explore.specs.declared.marks.Marks.{Marks}
+use Rattle.explore.specs.declared.cost.Cost.{Cost}
 use Rattle.explore.specs.Lists.{cuts}
 use Rattle.explore.specs.Explored.{AreBusy, IsWithin, IsIdle}
 use Rattle.explore.specs.Points.{Point, start, IsTurn, AreWithin}
 use Rattle.explore.proofs.Layers.Beginning.{is_idle, begins_long, busy_more, cuts_many}
 use Rattle.explore.proofs.Layers.Grown.{goes_turn_at, at_ok}
-use Rattle.explore.proofs.Wants.Followed.{within_none}
+use Rattle.explore.proofs.OutOfMemory.Followed.{within_none}
 use Rattle.explore.proofs.Lists.Turning.{turn_within}
 use Rattle.explore.proofs.begin.follow.Goals as goal
 
 pub loop-at-init : goal.loop-at-init
 loop-at-init g c = record {
-  went = ap (λ (marks : Marks). record { world = c.args.world.now; marks = marks }) c.no_marks-marks.ensures;
+  expanded = ap (λ (cost : Cost). record { world = c.args.world.now; cost = cost }) c.no_cost-cost.ensures;
   busy = λ well. tt;
-  few = subst (λ (marks : Marks). IsWithin c.args.limits.now.scope.cuts marks.cuts) (sym c.no_marks-marks.ensures) (within_none c.args.limits.now.scope.cuts);
-  within = subst (λ (marks : Marks). AreWithin marks 0) (sym c.no_marks-marks.ensures) (record { cuts = omega arith; changes = omega arith });
+  few = subst (λ (cost : Cost). IsWithin c.args.limits.now.scope.cuts cost.cuts) (sym c.no_cost-cost.ensures) (within_none c.args.limits.now.scope.cuts);
+  within = subst (λ (cost : Cost). AreWithin cost 0) (sym c.no_cost-cost.ensures) (record { cuts = omega arith; changes = omega arith });
   tally = c.requires.tally;
 }
 
@@ -27,11 +27,11 @@ returns-then-at-limits-clause-err g c =
     let begin : List ℕ = c.as_slice-begin.result.now in
     let own : begin ≡ c.args.limits.now.scope.begin.items = c.as_slice-begin.ensures.value in
     let at : ℕ = c.loop-at.at in
-    let q : Point = record { world = c.loop-at.world; marks = c.loop-at.marks } in
+    let q : Point = record { world = c.loop-at.world; cost = c.loop-at.cost } in
     let lt : at < length begin = omega (arith, c.loop-at-test.true, c.loop-at.auto.at-end) in
     λ well. (
       take at begin,
-      begins_long w begin at q c.loop-at.invariant.went c.args.limits.now.scope c.args.limits.now.turns (sym own) (omega arith) (omega (arith, c.if-at-limits.true))
+      begins_long w begin at q c.loop-at.invariant.expanded c.args.limits.now.scope c.args.limits.now.turns (sym own) (omega arith) (omega (arith, c.if-at-limits.true))
           c.loop-at.invariant.few c.loop-at.invariant.busy well,
     )
 
@@ -41,11 +41,11 @@ returns-then-not-has_turns-clause-err g c =
     let begin : List ℕ = c.as_slice-begin.result.now in
     let own : begin ≡ c.args.limits.now.scope.begin.items = c.as_slice-begin.ensures.value in
     let at : ℕ = c.loop-at.at in
-    let q : Point = record { world = c.loop-at.world; marks = c.loop-at.marks } in
+    let q : Point = record { world = c.loop-at.world; cost = c.loop-at.cost } in
     let lt : at < length begin = omega (arith, c.loop-at-test.true, c.loop-at.auto.at-end) in
     let idle : is_busy_at c.loop-at.world.seats (get_or begin at 0) ≡ false =
     sym c.has_turns.ensures ∙ c.if-not-has_turns.true in
-    λ well. subst (λ (js : List ℕ). IsIdle w js at) own (is_idle w begin at q c.loop-at.invariant.went lt idle well)
+    λ well. subst (λ (js : List ℕ). IsIdle w js at) own (is_idle w begin at q c.loop-at.invariant.expanded lt idle well)
 
 pub returns-then-not-is_within-clause-err : goal.returns-then-not-is_within-clause-err
 returns-then-not-is_within-clause-err g c =
@@ -53,14 +53,14 @@ returns-then-not-is_within-clause-err g c =
     let begin : List ℕ = c.as_slice-begin.result.now in
     let own : begin ≡ c.args.limits.now.scope.begin.items = c.as_slice-begin.ensures.value in
     let at : ℕ = c.loop-at.at in
-    let q : Point = record { world = c.loop-at.world; marks = c.loop-at.marks } in
+    let q : Point = record { world = c.loop-at.world; cost = c.loop-at.cost } in
     let lt : at < length begin = omega (arith, c.loop-at-test.true, c.loop-at.auto.at-end) in
-    let r : Point = record { world = c.take_turn.new.world; marks = c.take_turn.new.marks } in
+    let r : Point = record { world = c.take_turn.new.world; cost = c.take_turn.new.cost } in
     let turned : IsTurn q (get_or begin at 0) r =
     at_ok c.take_turn.result (sym c.is_err.ensures.value ∙ c.if-is_err.false) c.take_turn.ensures.turned in
-    let not_so : IsWithin c.args.limits.now.scope.cuts c.take_turn.new.marks.cuts → ⊥ =
+    let not_so : IsWithin c.args.limits.now.scope.cuts c.take_turn.new.cost.cuts → ⊥ =
     (λ few. true≢false (sym (c.is_within.ensures.1 few) ∙ c.if-not-is_within.true)) in
-    λ well few. cuts_many w begin at q c.loop-at.invariant.went r lt turned c.args.limits.now.scope.cuts not_so well
+    λ well few. cuts_many w begin at q c.loop-at.invariant.expanded r lt turned c.args.limits.now.scope.cuts not_so well
     (subst (λ (js : List ℕ). IsWithin c.args.limits.now.scope.cuts (cuts w (take (suc at) js))) (sym own) few)
 
 pub loop-at-preserved : goal.loop-at-preserved
@@ -69,16 +69,16 @@ loop-at-preserved g c =
     let begin : List ℕ = c.as_slice-begin.result.now in
     let own : begin ≡ c.args.limits.now.scope.begin.items = c.as_slice-begin.ensures.value in
     let at : ℕ = c.loop-at.at in
-    let q : Point = record { world = c.loop-at.world; marks = c.loop-at.marks } in
+    let q : Point = record { world = c.loop-at.world; cost = c.loop-at.cost } in
     let lt : at < length begin = omega (arith, c.loop-at-test.true, c.loop-at.auto.at-end) in
-    let r : Point = record { world = c.take_turn.new.world; marks = c.take_turn.new.marks } in
+    let r : Point = record { world = c.take_turn.new.world; cost = c.take_turn.new.cost } in
     let turned : IsTurn q (get_or begin at 0) r =
     at_ok c.take_turn.result (sym c.is_err.ensures.value ∙ c.if-is_err.false) c.take_turn.ensures.turned in
     let busy : is_busy_at c.loop-at.world.seats (get_or begin at 0) ≡ true =
     sym c.has_turns.ensures ∙ c.if-not-has_turns.false in
     record {
-      went = goes_turn_at (start w) q r begin at lt c.loop-at.invariant.went turned;
-      busy = busy_more w begin at q c.loop-at.invariant.went r lt turned busy c.loop-at.invariant.busy;
+      expanded = goes_turn_at (start w) q r begin at lt c.loop-at.invariant.expanded turned;
+      busy = busy_more w begin at q c.loop-at.invariant.expanded r lt turned busy c.loop-at.invariant.busy;
       few = c.is_within.ensures.0 c.if-not-is_within.false;
       within = turn_within q r (get_or begin at 0) at turned c.loop-at.invariant.within;
       tally = at_ok c.take_turn.result (sym c.is_err.ensures.value ∙ c.if-is_err.false) c.take_turn.ensures.tally;

@@ -1,4 +1,4 @@
-use Rattle.explore.proofs.Wants.Followed.{ends_well}
+use Rattle.explore.proofs.OutOfMemory.Followed.{ends_well}
 use Rattle.explore.proofs.begin.goes_well.Goals as goal
 
 pub returns : goal.returns

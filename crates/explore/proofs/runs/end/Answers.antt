@@ -4,7 +4,7 @@ use Rattle.std.proofs.lemmas.Bool.{false≢true}
 use Rattle.std.proofs.lemmas.Option.{same_Some}
 use Rattle.race_core.specs.Worlds.{WorldView}
 use Rattle.explore.specs.Runs.{RunView}
-use Rattle.explore.specs.Want.{EndsWell}
+use Rattle.explore.specs.OutOfMemory.{EndsWell}
 use Rattle.explore.proofs.runs.end.Goals as goal
 use Rattle.explore.proofs.runs.end.Goals.{in-Some, in-None}
 

@@ -2,33 +2,33 @@ use Rattle.std.proofs.Common.{◌≡◌, ◌<◌, List, length, ltb-true, ◌∙
 use Rattle.std.proofs.lemmas.Option.{slice_get_read}
 use Rattle.std.specs.Prelude.{slice_get}
 use Rattle.race_core.specs.Worlds.{WorldView}
-use Rattle.explore.specs.declared.layer.Live.{Live}
+use Rattle.explore.specs.declared.layer.Visited.{Visited}
 use Rattle.explore.specs.Alike.{after_turns}
 use Rattle.explore.specs.Layers.{IsSure, point_of}
 use Rattle.explore.specs.Points.{Point, start}
-use Rattle.explore.specs.Want.{EndsWell}
+use Rattle.explore.specs.OutOfMemory.{EndsWell}
 use Rattle.explore.proofs.Layers.Grown.{where_ok}
 use Rattle.explore.proofs.Lists.Along.{along_world}
-use Rattle.explore.proofs.Wants.Lucky.{goes_full}
+use Rattle.explore.proofs.OutOfMemory.Lucky.{goes_full}
 use Rattle.explore.proofs.search.ends_well.Goals as goal
 
-pub returns-in-Ok-lead : goal.returns-in-Ok-lead
-returns-in-Ok-lead g c = λ ok.
+pub returns-in-Ok-replay : goal.returns-in-Ok-replay
+returns-in-Ok-replay g c = λ ok.
     let w : WorldView = g.B.Beginnings.opening c.args.beginnings.now in
-    let led = c.in-Ok-lead.led in
-    let turns : led.turns ≡ c.in-Some.live.now.turns.items = c.in-Ok-lead.ensures.turns ∙ (c.in-Ok.ensures.items ∙ c.as_slice.ensures.value) in
-    let well : EndsWell led.world = where_ok c.ended.result (sym c.is_ok.ensures.value ∙ ok) c.ended.ensures.well in
-    let sure : IsSure w led = goes_full (start w) (point_of led) led.turns c.in-Ok-lead.ensures.led well in
-    let world : led.world ≡ after_turns w c.in-Some.live.now.turns.items =
-    ap (λ (p : Point). p.world) sure ∙ (along_world (start w) led.turns ∙ ap (after_turns w) turns) in
+    let replayed = c.in-Ok-replay.replayed in
+    let turns : replayed.turns ≡ c.in-Some.visited.now.turns.items = c.in-Ok-replay.ensures.turns ∙ (c.in-Ok.ensures ∙ c.as_slice.ensures.value) in
+    let well : EndsWell replayed.world = where_ok c.ended.result (sym c.is_ok.ensures.value ∙ ok) c.ended.ensures.well in
+    let sure : IsSure w replayed = goes_full (start w) (point_of replayed) replayed.turns c.in-Ok-replay.ensures.replayed well in
+    let world : replayed.world ≡ after_turns w c.in-Some.visited.now.turns.items =
+    ap (λ (p : Point). p.world) sure ∙ (along_world (start w) replayed.turns ∙ ap (after_turns w) turns) in
     let lookup = c.in-Some.ensures.lookup in
     let some : 0 < length c.deref.result.now = ltb-true 0 (length c.deref.result.now) (sym lookup.0) in
-    let there = slice_get_read c.deref.result.now (length c.deref.result.now) 0 c.in-Some.live.now refl some lookup.1 in (
+    let there = slice_get_read c.deref.result.now (length c.deref.result.now) 0 c.in-Some.visited.now refl some lookup.1 in (
       0,
       (
-        c.in-Some.live.now,
+        c.in-Some.visited.now,
         (
-          ap (λ (lives : List Live). slice_get lives 0) (sym c.deref.ensures.value) ∙ there,
+          ap (λ (all_visited : List Visited). slice_get all_visited 0) (sym c.deref.ensures.value) ∙ there,
           subst (λ (v : WorldView). EndsWell v) world well,
         ),
       ),

@@ -1,18 +1,18 @@
-use Rattle.explore.proofs.Layers.WaysFound.{ways_apart}
+use Rattle.explore.proofs.Layers.EdgesFound.{edges_apart}
 use Rattle.explore.proofs.search.spread.Goals as goal
 
-pub spots_of-requires-clause-apart : goal.spots_of-requires-clause-apart
-spots_of-requires-clause-apart c =
-    ways_apart c.args.bounds c.args.stands.now c.args.choices.now c.args.places.now c.in_ok-ways.next.items c.in_ok-ways.ways.items c.requires.many c.requires.fit c.requires.apart c.in_ok-ways.ensures
+pub graph_nodes_of-requires-clause-apart : goal.graph_nodes_of-requires-clause-apart
+graph_nodes_of-requires-clause-apart c =
+    edges_apart c.args.bounds c.args.configurations.now c.args.choices.now c.args.places.now c.in_ok-edges.next.items c.in_ok-edges.edges.items c.requires.many c.requires.fit c.requires.apart c.in_ok-edges.ensures
 
 pub returns : goal.returns
 returns c = (
-  c.in_ok-ways.ways.items,
+  c.in_ok-edges.edges.items,
   (
-    c.in_ok-spots.spots,
+    c.in_ok-graph_nodes.graph_nodes,
     (
       c.in_ok-push_layer.ensures.ok,
-      (c.in_ok-ways.ensures, record { many = c.in_ok-spots.ensures.many; each = c.in_ok-spots.ensures.each }),
+      (c.in_ok-edges.ensures, record { many = c.in_ok-graph_nodes.ensures.many; each = c.in_ok-graph_nodes.ensures.each }),
     ),
   ),
 )

@@ -4,7 +4,7 @@ use Rattle.schedule_graph.specs.Words.{Rank}
 use Rattle.explore.specs.Explored.{IsAsked}
 use Rattle.explore.specs.Layers.{IsSure, point_of}
 use Rattle.explore.specs.Points.{start}
-use Rattle.explore.proofs.Wants.Lucky.{goes_full}
+use Rattle.explore.proofs.OutOfMemory.Lucky.{goes_full}
 use Rattle.explore.proofs.Counts.Merges.{asked_ends}
 use Rattle.explore.proofs.search.told_class.Goals as goal
 
@@ -13,14 +13,14 @@ returns g c = record {
   told = λ asks.
       let scope = c.args.scope.now in
       let w : WorldView = g.B.Beginnings.opening c.args.beginnings.now in
-      let turns : c.in-Ok.led.turns ≡ c.in-Some.least.turns =
+      let turns : c.in-Ok.replayed.turns ≡ c.in-Some.least.turns =
       c.in-Ok.ensures.turns
       ∙ (c.in_ok-extend_from_slice.ensures.items
       ∙ (ap (λ (xs : List ℕ). xs ++ c.as_slice.result.now) c.new-turns.ensures.items
       ∙ (c.as_slice.ensures.value ∙ ap (λ (r : Rank). r.turns) c.least.view_is))) in
-      let asked : IsAsked w scope c.in-Ok.led.turns =
+      let asked : IsAsked w scope c.in-Ok.replayed.turns =
       subst (λ (is : List ℕ). IsAsked w scope is) (sym turns) (asks c.in-Some.least c.in-Some.is) in
-      let sure : IsSure w c.in-Ok.led = goes_full (start w) (point_of c.in-Ok.led) c.in-Ok.led.turns c.in-Ok.ensures.led c.in_ok-ending.ensures.well in
-      let told = asked_ends w scope c.in-Ok.led c.in_ok-ending.ending c.in-Ok.ensures.told sure asked c.in_ok-ending.ensures.report in
+      let sure : IsSure w c.in-Ok.replayed = goes_full (start w) (point_of c.in-Ok.replayed) c.in-Ok.replayed.turns c.in-Ok.ensures.replayed c.in_ok-ending.ensures.well in
+      let told = asked_ends w scope c.in-Ok.replayed c.in_ok-ending.ending c.in-Ok.ensures.told sure asked c.in_ok-ending.ensures.report in
       record { ending = told.0; least = c.in-Some.least; counted = c.in-Some.is; turns = told.1 ∙ turns; lists = refl };
 }

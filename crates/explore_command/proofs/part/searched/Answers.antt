@@ -1,5 +1,5 @@
 use Rattle.std.proofs.Common.{rules, subst, inr}
-use Rattle.explore.specs.declared.limits.SearchFault.{SearchFault}
+use Rattle.schedule_graph.specs.declared.fault.SearchFault.{SearchFault}
 use Rattle.explore.specs.Explored.{WhyNot}
 use Rattle.explore.specs.Opened.{opened_world}
 use Rattle.explore_command.proofs.part.searched.Goals as goal

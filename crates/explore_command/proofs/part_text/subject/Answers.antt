@@ -1,7 +1,8 @@
 use Rattle.std.proofs.Common.{ℕ, List, subst}
 use Rattle.std.specs.Prelude.{codes}
 use Rattle.step_text.specs.Output.{Gains}
-use Rattle.explore_command.specs.Json.{text_words, numbers_words}
+use Rattle.json_text.specs.Json.{text_words}
+use Rattle.explore_command.specs.Lists.{numbers_words}
 use Rattle.explore_command.specs.PartText.{subject_words}
 use Rattle.outcome_text.proofs.Pieces.{four_added}
 use Rattle.explore_command.proofs.part_text.subject.Goals as goal

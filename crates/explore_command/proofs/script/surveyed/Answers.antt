@@ -8,5 +8,5 @@ pub returns-clause-survey : goal.returns-clause-survey
 returns-clause-survey g c =
     let whole : c.args.scenario.tree ≡ tree_of (said_by c.args.scenario) =
     (λ i. record { nodes = c.args.scenario.tree.nodes; handles = c.requires.none i }) in
-    no_survey c.args.asked.now (said_by c.args.scenario) c.args.tree c.in-Err.fault c.told_by.result
-    (c.requires.same ∙ whole) c.told_by.ensures c.in-Err.ensures.survey
+    no_survey c.args.asked.now (said_by c.args.scenario) c.args.tree c.in-Err.fault
+    (c.requires.same ∙ whole) c.in-Err.ensures.survey

@@ -3,7 +3,7 @@ use Rattle.std.specs.Prelude.{slice_set}
 use Rattle.std.proofs.lemmas.Result.{IfOk-weaker}
 use Rattle.explore.specs.Keys.{ComponentsView, AreRows, AreMoreParts, Grows}
 use Rattle.explore.proofs.Alike.Steps.{set_at}
-use Rattle.explore.proofs.Parted.Rows.{rows_more, row_put, met_put}
+use Rattle.explore.proofs.Parted.Rows.{rows_more, row_put, interned_put}
 use Rattle.explore.proofs.components.Components.put_part.Goals as goal
 
 pub invariant_of-self : goal.invariant_of-self
@@ -12,7 +12,7 @@ invariant_of-self g c =
     let many : length parts ≡ length c.args.self.now.parts = ap (λ (k : ComponentsView). length k.parts) c.self.view_is in
     let more : AreMoreParts parts (slice_set parts c.args.actor c.put-place.new.self) =
     row_put parts c.args.actor c.index_mut-parts.result.now c.put-place.new.self (omega (arith, many)) c.index_mut-parts.ensures.value c.put-place.ensures.actor c.put-place.ensures.keeps in
-    met_put c.self.inside.lists parts c.args.actor c.put-place.new.self more c.are_apart.ensures c.self.invariant
+    interned_put c.self.inside.lists parts c.args.actor c.put-place.new.self more c.are_apart.ensures c.self.invariant
 
 pub returns-clause-grows : goal.returns-clause-grows
 returns-clause-grows g c =

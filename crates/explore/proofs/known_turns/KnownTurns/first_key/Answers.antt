@@ -7,7 +7,7 @@ use Rattle.tree_model.specs.State.{State}
 use Rattle.tree_model.specs.declared.inode.Inode.{Inode}
 use Rattle.race_core.specs.Book.{BookedHistory, tree_now}
 use Rattle.explore.specs.declared.keys.Own.{Own}
-use Rattle.explore.specs.Deeds.{KnownView, IsSound}
+use Rattle.explore.specs.Effects.{KnownView, IsSound}
 use Rattle.explore.specs.Keys.{IsPartAt}
 use Rattle.explore.proofs.Keyed.Found.{first_is, first_few}
 use Rattle.explore.proofs.Keyed.Growing.{part_grows, sound_grows}

@@ -5,21 +5,21 @@ use Rattle.race_core.specs.Worlds.{turn}
 use Rattle.explore.specs.declared.keys.Key.{Key}
 use Rattle.explore.specs.declared.keys.Own.{Own}
 use Rattle.explore.specs.Alike.{full}
-use Rattle.explore.specs.Deeds.{KnownView, IsSound, IsDeedFrom, AreCountsIn}
+use Rattle.explore.specs.Effects.{KnownView, IsSound, IsEffectFrom, AreCountsIn}
 use Rattle.explore.specs.Keys.{AreRows, AreFew, Grows, IsKey, IsPartAt}
 use Rattle.explore.specs.Local.{AreNumbered}
 use Rattle.explore.specs.Points.{Point}
-use Rattle.explore.specs.Want.{EndsWell}
-use Rattle.explore.proofs.Keyed.Found.{deed_found, few_after, few_again, sound_mid, sound_whole, key_known, key_whole}
+use Rattle.explore.specs.OutOfMemory.{EndsWell}
+use Rattle.explore.proofs.Keyed.Found.{effect_found, few_after, few_again, sound_mid, sound_whole, key_known, key_whole}
 use Rattle.explore.proofs.Keyed.Growing.{grows_on, key_grows, rows_grow}
 use Rattle.explore.proofs.Keyed.OneTurn.{numbered_stays}
 use Rattle.explore.proofs.Lists.Turning.{turn_actors}
-use Rattle.explore.proofs.Wants.Lucky.{full_turn}
+use Rattle.explore.proofs.OutOfMemory.Lucky.{full_turn}
 use Rattle.explore.proofs.known_turns.KnownTurns.key_by.Goals as goal
 use Rattle.explore.proofs.known_turns.KnownTurns.key_by.Goals.{then-self+in_ok-remember, else-self+in_ok-put_parts}
 
-pub deed_to-requires-clause-numbered : goal.deed_to-requires-clause-numbered
-deed_to-requires-clause-numbered g c =
+pub effect_to-requires-clause-numbered : goal.effect_to-requires-clause-numbered
+effect_to-requires-clause-numbered g c =
     let turned = c.in_ok-take_turn.ensures.turned in
     subst (λ (x : Point). AreNumbered x.world.seats) (sym turned.1) (numbered_stays turned.0 c.args.world.now c.args.actor c.requires.numbered)
 
@@ -30,25 +30,25 @@ put_parts-requires-clause-numbered g c =
 
 pub put_parts-requires-clause-rows : goal.put_parts-requires-clause-rows
 put_parts-requires-clause-rows g c =
-    let p : Point = record { world = c.args.world.now; marks = c.args.marks.now } in
-    let q : Point = record { world = c.take_turn.new.world; marks = c.take_turn.new.marks } in
+    let p : Point = record { world = c.args.world.now; cost = c.args.cost.now } in
+    let q : Point = record { world = c.take_turn.new.world; cost = c.take_turn.new.cost } in
     let many : length q.world.seats ≡ length p.world.seats = turn_actors p q c.args.actor c.in_ok-take_turn.ensures.turned in
-    subst (λ n. AreRows c.deed_to.new.self.components.parts n) (sym many) (rows_grow c.in_ok-deed.ensures.grows c.requires.rows)
+    subst (λ n. AreRows c.effect_to.new.self.components.parts n) (sym many) (rows_grow c.in_ok-effect.ensures.grows c.requires.rows)
 
 pub returns-clause-grows : goal.returns-clause-grows
 returns-clause-grows g c =
     elim c.if-self.branch [
       | then-self+in_ok-remember w ↦
-          subst (λ d. Grows c.args.self.now.components d) (sym (ap (λ (k : KnownView). k.components) w.self-is ∙ w.remember.ensures.components)) c.in_ok-deed.ensures.grows
+          subst (λ d. Grows c.args.self.now.components d) (sym (ap (λ (k : KnownView). k.components) w.self-is ∙ w.remember.ensures.components)) c.in_ok-effect.ensures.grows
       | else-self+in_ok-put_parts w ↦
           subst (λ d. Grows c.args.self.now.components d) (sym (ap (λ (k : KnownView). k.components) w.self-is))
-          (grows_on c.in_ok-deed.ensures.grows w.in_ok-put_parts.ensures.grows)
+          (grows_on c.in_ok-effect.ensures.grows w.in_ok-put_parts.ensures.grows)
     ]
 
 pub returns-clause-few : goal.returns-clause-few
 returns-clause-few g c = λ n few.
     let lt : c.args.actor < length c.args.key.now.own.items = let there = c.requires.there in let many = c.requires.many in omega arith in
-    let mid : AreFew (n + 1) c.in_ok-next.next = few_after n c.args.key.now c.in_ok-next.next c.args.actor c.in_ok-deed.deed lt few c.in_ok-next.ensures in
+    let mid : AreFew (n + 1) c.in_ok-next.next = few_after n c.args.key.now c.in_ok-next.next c.args.actor c.in_ok-effect.effect lt few c.in_ok-next.ensures in
     elim c.if-self.branch [
       | then-self+in_ok-remember w ↦ subst (λ (k : Key). AreFew (n + 1) k) (sym w.next-is) mid
       | else-self+in_ok-put_parts w ↦
@@ -66,51 +66,51 @@ returns-clause-few g c = λ n few.
 pub returns-clause-sound : goal.returns-clause-sound
 returns-clause-sound g c = λ w sound is well.
     let turned = c.in_ok-take_turn.ensures.turned in
-    let went : c.take_turn.new.world ≡ turn turned.0 c.args.world.now c.args.actor = ap (λ (x : Point). x.world) turned.1 in
-    let deed : IsDeedFrom c.deed_to.new.self.components c.args.world.now c.args.actor c.in_ok-deed.deed =
-    deed_found c.deed_to.new.self.components c.args.tally.now.told turned.0 c.args.actor c.args.world.now c.take_turn.new.world c.in_ok-deed.deed c.of-before.result c.of-after.result
-    (c.in_ok-deed.ensures.grows.told ∙ sym c.requires.told) c.requires.numbered c.requires.there went well c.of-before.ensures
+    let expanded : c.take_turn.new.world ≡ turn turned.0 c.args.world.now c.args.actor = ap (λ (x : Point). x.world) turned.1 in
+    let effect : IsEffectFrom c.effect_to.new.self.components c.args.world.now c.args.actor c.in_ok-effect.effect =
+    effect_found c.effect_to.new.self.components c.args.tally.now.told turned.0 c.args.actor c.args.world.now c.take_turn.new.world c.in_ok-effect.effect c.of-before.result c.of-after.result
+    (c.in_ok-effect.ensures.grows.told ∙ sym c.requires.told) c.requires.numbered c.requires.there expanded well c.of-before.ensures
     (subst (λ (b : Bool). AreCountsIn b c.take_turn.new.world c.args.actor c.of-after.result) c.take_turn.ensures.told c.of-after.ensures)
-    c.in_ok-deed.ensures.compared c.in_ok-deed.ensures.nodes c.in_ok-deed.ensures.part in
-    let mid : IsSound w c.deed_to.new.self =
-    sound_mid c.args.self.now c.deed_to.new.self w c.args.world.now c.args.actor c.in_ok-deed.deed c.args.key.now c.in_ok-next.next sound is
-    c.in_ok-deed.ensures.grows c.in_ok-deed.ensures.rest c.requires.there deed c.in_ok-next.ensures in
+    c.in_ok-effect.ensures.compared c.in_ok-effect.ensures.nodes c.in_ok-effect.ensures.part in
+    let mid : IsSound w c.effect_to.new.self =
+    sound_mid c.args.self.now c.effect_to.new.self w c.args.world.now c.args.actor c.in_ok-effect.effect c.args.key.now c.in_ok-next.next sound is
+    c.in_ok-effect.ensures.grows c.in_ok-effect.ensures.rest c.requires.there effect c.in_ok-next.ensures in
     elim c.if-self.branch [
       | then-self+in_ok-remember x ↦
           subst (λ (k : KnownView). IsSound w k) (sym x.self-is)
-          (x.remember.ensures.sound w c.args.world.now mid (key_grows c.in_ok-deed.ensures.grows is) deed)
+          (x.remember.ensures.sound w c.args.world.now mid (key_grows c.in_ok-effect.ensures.grows is) effect)
       | else-self+in_ok-put_parts x ↦
           subst (λ (k : KnownView). IsSound w k) (sym x.self-is)
-          (sound_whole c.args.self.now c.deed_to.new.self w c.args.world.now c.args.actor c.in_ok-deed.deed c.args.key.now c.in_ok-next.next
-          sound is c.in_ok-deed.ensures.grows c.in_ok-deed.ensures.rest c.requires.there deed c.in_ok-next.ensures
+          (sound_whole c.args.self.now c.effect_to.new.self w c.args.world.now c.args.actor c.in_ok-effect.effect c.args.key.now c.in_ok-next.next
+          sound is c.in_ok-effect.ensures.grows c.in_ok-effect.ensures.rest c.requires.there effect c.in_ok-next.ensures
           x.put_parts.new.self x.in_ok-put_parts.ensures.grows x.in_ok-put_parts.ensures.rest)
     ]
 
 pub returns-clause-key : goal.returns-clause-key
 returns-clause-key g c = λ w sound is well.
     let turned = c.in_ok-take_turn.ensures.turned in
-    let went : c.take_turn.new.world ≡ turn turned.0 c.args.world.now c.args.actor = ap (λ (x : Point). x.world) turned.1 in
-    let deed : IsDeedFrom c.deed_to.new.self.components c.args.world.now c.args.actor c.in_ok-deed.deed =
-    deed_found c.deed_to.new.self.components c.args.tally.now.told turned.0 c.args.actor c.args.world.now c.take_turn.new.world c.in_ok-deed.deed c.of-before.result c.of-after.result
-    (c.in_ok-deed.ensures.grows.told ∙ sym c.requires.told) c.requires.numbered c.requires.there went well c.of-before.ensures
+    let expanded : c.take_turn.new.world ≡ turn turned.0 c.args.world.now c.args.actor = ap (λ (x : Point). x.world) turned.1 in
+    let effect : IsEffectFrom c.effect_to.new.self.components c.args.world.now c.args.actor c.in_ok-effect.effect =
+    effect_found c.effect_to.new.self.components c.args.tally.now.told turned.0 c.args.actor c.args.world.now c.take_turn.new.world c.in_ok-effect.effect c.of-before.result c.of-after.result
+    (c.in_ok-effect.ensures.grows.told ∙ sym c.requires.told) c.requires.numbered c.requires.there expanded well c.of-before.ensures
     (subst (λ (b : Bool). AreCountsIn b c.take_turn.new.world c.args.actor c.of-after.result) c.take_turn.ensures.told c.of-after.ensures)
-    c.in_ok-deed.ensures.compared c.in_ok-deed.ensures.nodes c.in_ok-deed.ensures.part in
+    c.in_ok-effect.ensures.compared c.in_ok-effect.ensures.nodes c.in_ok-effect.ensures.part in
     let all : c.take_turn.new.world ≡ turn full c.args.world.now c.args.actor =
-    went ∙ full_turn turned.0 c.args.world.now c.args.actor (subst (λ u. EndsWell u) went well) in
+    expanded ∙ full_turn turned.0 c.args.world.now c.args.actor (subst (λ u. EndsWell u) expanded well) in
     elim c.if-self.branch [
       | then-self+in_ok-remember x ↦
           let given : c.args.self.now.are_given ≡ true =
-          sym (ap (λ (k : KnownView). k.are_given) c.in_ok-deed.ensures.rest) ∙ (sym (ap (λ (k : KnownView). k.are_given) c.self.view_is) ∙ x.if-self.true) in
+          sym (ap (λ (k : KnownView). k.are_given) c.in_ok-effect.ensures.rest) ∙ (sym (ap (λ (k : KnownView). k.are_given) c.self.view_is) ∙ x.if-self.true) in
           subst (λ (k : Key). IsKey c.if-self.self.components w (turn full c.args.world.now c.args.actor) k) (sym x.next-is)
-          (key_known c.args.self.now c.deed_to.new.self w c.args.world.now c.args.actor c.in_ok-deed.deed c.args.key.now c.in_ok-next.next
-          sound is c.in_ok-deed.ensures.grows c.in_ok-deed.ensures.rest c.requires.there deed c.in_ok-next.ensures
+          (key_known c.args.self.now c.effect_to.new.self w c.args.world.now c.args.actor c.in_ok-effect.effect c.args.key.now c.in_ok-next.next
+          sound is c.in_ok-effect.ensures.grows c.in_ok-effect.ensures.rest c.requires.there effect c.in_ok-next.ensures
           c.if-self.self given (ap (λ (k : KnownView). k.components) x.self-is ∙ x.remember.ensures.components))
       | else-self+in_ok-put_parts x ↦
           let own : c.if-self.next.own.items ≡ x.put_parts.new.own =
           ap (λ (k : Key). k.own.items) x.next-is ∙ with_items_is c.in_ok-next.next.own x.put_parts.new.own (x.put_parts.auto.own ∙ x.as_mut_slice.ensures.len) in
           subst (λ (k : KnownView). IsKey k.components w (turn full c.args.world.now c.args.actor) c.if-self.next) (sym x.self-is)
-          (key_whole c.args.self.now c.deed_to.new.self w c.args.world.now c.args.actor c.in_ok-deed.deed c.args.key.now c.in_ok-next.next
-          sound is c.in_ok-deed.ensures.grows c.in_ok-deed.ensures.rest c.requires.there deed c.in_ok-next.ensures
+          (key_whole c.args.self.now c.effect_to.new.self w c.args.world.now c.args.actor c.in_ok-effect.effect c.args.key.now c.in_ok-next.next
+          sound is c.in_ok-effect.ensures.grows c.in_ok-effect.ensures.rest c.requires.there effect c.in_ok-next.ensures
           x.put_parts.new.self c.if-self.next x.in_ok-put_parts.ensures.grows
           (record {
             nodes = sym (ap (λ (k : Key). k.nodes) x.next-is);

@@ -1,5 +1,5 @@
 use Rattle.std.proofs.Common.{ℕ, sym, subst}
-use Rattle.explore.specs.Deeds.{KnownView, IsSound, IsAskOf, IsDeedFrom}
+use Rattle.explore.specs.Effects.{KnownView, IsSound, IsMemoKeyOf, IsEffectFrom}
 use Rattle.explore.proofs.Keyed.Found.{remembered_more}
 use Rattle.explore.proofs.known_turns.KnownTurns.remember.Goals as goal
 
@@ -12,15 +12,15 @@ returns-clause-sound g c = λ w v sound is found.
       are_given = c.self.inside.are_given;
     } in
     let was : IsSound w old = subst (λ (k : KnownView). IsSound w k) (sym c.self.view_is) sound in
-    let asked : IsAskOf old.components w v c.ask-ask.result =
-    subst (λ (k : KnownView). IsAskOf k.components w v c.ask-ask.result) (sym c.self.view_is) (c.ask-ask.ensures.is w v sound.start is) in
-    let deed : IsDeedFrom old.components v c.ask-ask.result.actor c.args.deed =
-    subst (λ (n : ℕ). IsDeedFrom old.components v n c.args.deed) (sym c.ask-ask.ensures.actor)
-    (subst (λ (k : KnownView). IsDeedFrom k.components v c.args.actor c.args.deed) (sym c.self.view_is) found) in
+    let asked : IsMemoKeyOf old.components w v c.memo_key-memo_key.result =
+    subst (λ (k : KnownView). IsMemoKeyOf k.components w v c.memo_key-memo_key.result) (sym c.self.view_is) (c.memo_key-memo_key.ensures.is w v sound.start is) in
+    let effect : IsEffectFrom old.components v c.memo_key-memo_key.result.actor c.args.effect =
+    subst (λ (n : ℕ). IsEffectFrom old.components v n c.args.effect) (sym c.memo_key-memo_key.ensures.actor)
+    (subst (λ (k : KnownView). IsEffectFrom k.components v c.args.actor c.args.effect) (sym c.self.view_is) found) in
     record {
       rows = was.rows;
       numbered = was.numbered;
       start = was.start;
       given = was.given;
-      turns = remembered_more old.components w v c.ask-ask.result c.args.deed old.entries c.put.new.self c.put.ensures asked deed was.turns;
+      turns = remembered_more old.components w v c.memo_key-memo_key.result c.args.effect old.entries c.put.new.self c.put.ensures asked effect was.turns;
     }

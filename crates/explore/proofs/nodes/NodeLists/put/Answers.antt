@@ -3,7 +3,7 @@ use Rattle.std.specs.Prelude.{map, slice_get, Some}
 use Rattle.std.specs.Global.{Vec}
 use Rattle.tree_model.specs.declared.inode.Inode.{Inode}
 use Rattle.tree_model.proofs.Places.{slice_get-last}
-use Rattle.explore.specs.Met.{AreEachOnce}
+use Rattle.explore.specs.Distinct.{AreEachOnce}
 use Rattle.explore.proofs.Lists.Told.{get_left}
 use Rattle.explore.proofs.Parted.Once.{once_more, map_push}
 use Rattle.explore.proofs.nodes.NodeLists.put.Goals as goal

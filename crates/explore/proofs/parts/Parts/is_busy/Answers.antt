@@ -2,7 +2,7 @@ use Rattle.std.proofs.Common.{◌≡◌, sym, ap, ◌∙◌, subst, length, refl
 use Rattle.std.specs.Prelude.{slice_get, Some, None}
 use Rattle.std.proofs.lemmas.Option.{slice_get_read, slice_get_past}
 use Rattle.race_core.specs.Worlds.{is_busy_at}
-use Rattle.explore.specs.Grips.{PartView}
+use Rattle.explore.specs.HandleTables.{PartView}
 use Rattle.explore.specs.Keys.{PartsView, IsPartIn}
 use Rattle.explore.proofs.Parted.Parts.{kept_in, none_past}
 use Rattle.explore.proofs.parts.Parts.is_busy.Goals as goal

@@ -1,6 +1,6 @@
 use Rattle.std.proofs.Common.{◌≡◌, ◌<◌, ℕ}
 use Rattle.std.specs.Prelude.{slice_get, Some}
-use Rattle.explore.specs.Grips.{PartView}
+use Rattle.explore.specs.HandleTables.{PartView}
 use Rattle.explore.specs.Local.{SamePartAt}
 use Rattle.explore.proofs.parts.Parts.place_of.Given as goal
 

@@ -1,5 +1,5 @@
 use Rattle.std.proofs.Common.{sym, ◌∙◌, subst, arith}
-use Rattle.explore.specs.Grips.{HasGrip}
+use Rattle.explore.specs.HandleTables.{HasHandleTable}
 use Rattle.explore.specs.Keys.{PartsView, IsPartIn}
 use Rattle.explore.proofs.Layers.Grown.{at_ok}
 use Rattle.explore.proofs.Parted.Parts.{parts_pushed}
@@ -13,10 +13,10 @@ push_reserved-requires g c =
 pub invariant_of-self-2 : goal.invariant_of-self-2
 invariant_of-self-2 g c =
     parts_pushed c.self.inside.actor c.self.inside.parts.items c.reserve.new.self.items c.push_reserved.new.self.items
-    (record { world = c.args.world; grip = c.args.grip; busy = c.has_turns-busy.result; within = c.is_within_call-within.result })
+    (record { world = c.args.world; handle_table = c.args.handle_table; busy = c.has_turns-busy.result; within = c.is_within_call-within.result })
     c.push_reserved.ensures.items c.reserve.ensures.items c.self.invariant
     (record {
-      grip = subst (λ (row : PartsView). HasGrip c.args.world row.actor c.args.grip) (sym c.self.view_is) c.requires.grip;
+      handle_table = subst (λ (row : PartsView). HasHandleTable c.args.world row.actor c.args.handle_table) (sym c.self.view_is) c.requires.handle_table;
       busy = c.has_turns-busy.ensures;
       within = c.is_within_call-within.ensures;
     })

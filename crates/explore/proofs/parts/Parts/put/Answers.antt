@@ -20,5 +20,5 @@ returns-clause-there g c =
       there = subst (λ (ws : List WorldView). slice_get ws c.len-at.result ≡ Some w) (sym c.in_ok-add.ensures.added)
           (subst (λ n. slice_get (old ++ w ∷ []) n ≡ Some w) (sym c.len-at.ensures) (slice_get-last old w));
       same = subst (λ a. SamePartAt w w a) (ap (λ (row : PartsView). row.actor) c.self.view_is ∙ sym c.in_ok-add.ensures.actor)
-          (part_itself_at w c.self.inside.actor c.in_ok-grip.grip c.in_ok-grip.ensures);
+          (part_itself_at w c.self.inside.actor c.in_ok-handle_table.handle_table c.in_ok-handle_table.ensures);
     }

@@ -1,0 +1,2 @@
+pub use Rattle.step_text.specs.Output
+pub mod Json
