@@ -1,7 +1,7 @@
 /*
- * above.c: the directory above, where the names are known at which the walk stands. These without the last are looked up from
- * the root by RESOLVE_BENEATH, and what is found is compared with what the child's `..` leads to. So the directory is opened and
- * seen below the root by one look-up, and only a text is read for its place.
+ * above.c: the directory above, if the driver knows the names that the walk has passed. It looks up these without the last from
+ * the root by RESOLVE_BENEATH, and compares the result with the directory to which the child's `..` leads. So one look-up opens
+ * the directory and has the kernel see it below the root; for its place the driver reads only a text.
  */
 #define _GNU_SOURCE
 #include "driver.h"

@@ -1,8 +1,7 @@
 /*
- * at_once.c: one openat2(2) opens a whole path, and the driver takes no turn. Of plain names it asks where the object stands, and
- * the proved library says whether a call with these answers to its steps would reply so. Under INROOT_BELOW the kernel walks
- * the path through links and `..`, where the proved library says that this may stand for the steps. docs/HOST-WHY.md has the
- * arguments.
+ * at_once.c: one openat2(2) opens a whole path, and the driver takes no turn. For plain names it asks for the object's place, and
+ * the proved library says whether a call with these answers to its steps would reply so. Under INROOT_BELOW the kernel walks the
+ * path through links and `..`, if the proved library says that one system call may. docs/HOST-WHY.md has the arguments.
  */
 #define _GNU_SOURCE
 #include "driver.h"

@@ -1,4 +1,4 @@
-/* attributes.c: the mode, the owner and the times of what was found. */
+/* attributes.c: the mode, the owner and the times of an object that was found. */
 #define _GNU_SOURCE
 #include "driver.h"
 

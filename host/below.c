@@ -1,7 +1,7 @@
 /*
- * below.c: the kernel's own look-up below a directory, openat2(2). Through no link, runs of names are passed by it (runs.c), and
- * by RESOLVE_BENEATH it is one of the two witnesses for a place (place.c): as it ends, the kernel sees in one moment whether
- * what it found is below the directory. Through links a whole path is walked by it (at_once.c).
+ * below.c: the kernel's own look-up below a directory, openat2(2). Through no link it passes runs of names (runs.c), and by
+ * RESOLVE_BENEATH it is one of the two witnesses for a place (place.c): as it ends, the kernel sees in one moment whether the
+ * object that it found is below the directory. Through links it walks a whole path (at_once.c).
  */
 #define _GNU_SOURCE
 #include "driver.h"

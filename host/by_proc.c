@@ -1,4 +1,4 @@
-/* by_proc.c: what is done to an object by its link in /proc, where the kernel takes no descriptor that only names it. */
+/* by_proc.c: acts on an object by its link in /proc, where the kernel takes no descriptor that only names it. */
 #define _GNU_SOURCE
 #include "driver.h"
 
@@ -6,7 +6,9 @@
 #include <fcntl.h>
 #include <unistd.h>
 
-/* Acts by a /proc that is at hand, or with SURELY by one that was checked. Tells whether the failure may be /proc's. */
+/*
+ * Acts by a /proc that is at hand, or with SURELY by one that was checked. Returns whether the failure may be /proc's.
+ */
 static ssize_t done_by(bool surely, int fd, inroot_act *act, void *what, bool *is_lost)
 {
     char written[INROOT_PROC_NAME];

@@ -82,7 +82,7 @@ struct inroot_ahead_names {
 
 /*
  * Writes the names that a call is due to open next, one in another, if each of them is a directory: at most so many, and so many as
- * fit. The call stays as it is: `kept` holds one. None where no Open is due, or without memory to look ahead. NUMBER is that of
+ * fit. The call stays as it is: `kept` holds one. None where no Open is due. It takes no memory. NUMBER is that of
  * inroot_pass_names().
  */
 void inroot_names_ahead(struct inroot_kept *kept, size_t most, uint64_t number, unsigned char *room, size_t size,

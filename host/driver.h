@@ -32,18 +32,21 @@ enum { INROOT_AWAY = -2, INROOT_JAILED = -3, INROOT_NONE = -1 };
 /* In the number of a handle without a slot: of a directory that was passed with others, or a link that was read by its name. */
 static const uint64_t INROOT_PASSED = UINT64_C(1) << 31;
 
-/* What a handle of the proved call stands for. */
+/* What the driver keeps for a handle of the proved call. */
 struct inroot_slot {
     int fd, lost;                  /* the descriptor; and the error of one that could not be opened again */
     int32_t above;                 /* while a tree is removed: the slot of the directory it was opened in */
     uint32_t depth, listed;        /* below the first such directory; how many bytes of names the call holds for it */
     uint8_t way, kind;
     bool is_shared;                /* the descriptor is the caller's */
-    bool is_above;                 /* it was come to by `..` of another */
+    bool is_above;                 /* `..` of another led to it */
     struct inroot_birth who;       /* once it was let go */
 };
 
-/* Beside the steps of the proved call: whether /proc tells the root from what is outside; what was made is opened. */
+/*
+ * Beside the steps of the proved call: the driver checks that /proc can distinguish the root from outside; it opens
+ * what it made.
+ */
 enum { INROOT_STEP_OWN_ROOT = INROOT_STEP_RENAME + 1, INROOT_STEP_GIVE };
 
 /* What the last step of a call that makes an entry makes. */
@@ -56,23 +59,23 @@ struct inroot_result {
     uint8_t kind, error;
 };
 
-/* What is asked for: an operation, and its texts; and what the proved call knows nothing of. */
+/* A request: an operation, and its texts; and what the proved call knows nothing of. */
 struct inroot_request {
     enum inroot_op op;
     int mode, flags;
     const char *first, *second;
     enum inroot_makes makes;
-    mode_t bits;                   /* of what is made, with its kind where a file is */
+    mode_t bits;                   /* of the new entry, with its kind if it is a file */
     dev_t device;
     int open_flags;                /* by which the new file is opened */
-    int object;                    /* a descriptor of what gets another name */
-    bool directory;                /* what is opened is of use only where it is one */
-    bool follows;                  /* the text that is read is walked afterwards */
-    bool gives;                    /* what is made is opened by its name, and handed out */
-    bool places;                   /* nothing is walked: where `object` stands is asked */
+    int object;                    /* a descriptor of the object that gets another name */
+    bool directory;                /* only a directory is of use to the caller */
+    bool follows;                  /* the driver walks the text that it reads afterwards */
+    bool gives;                    /* the driver opens the new entry by its name, and hands it out */
+    bool places;                   /* the call walks nothing: it asks for the place of `object` */
     int from;                      /* a directory below the root at which paths begin, plus one; or zero */
     bool whiteout;                 /* a rename leaves one behind */
-    enum inroot_kind *opened;      /* where the kind of what was opened is told, or NULL */
+    enum inroot_kind *opened;      /* receives the kind of the opened object, or is NULL */
 };
 
 /* What of a path is still to be walked: from `at` to `end`; beyond `until` is the last name, which no step opens. */
@@ -86,18 +89,18 @@ struct inroot_ahead {
     bool has_second;               /* another walk is to come, of a path of its own */
     size_t at, end, until;
     size_t walked;                 /* of `way`; more than that has where it doesn't fit */
-    char way[PATH_MAX];            /* what was passed before the text, up to the link whose text stands there */
+    char way[PATH_MAX];            /* the names passed before the text, up to the link whose text that is */
     /* With a NUL at the end. It stays where it is but in a Dup or a ReadLink. */
     char text[2 * PATH_MAX + 1];
     const char *second;            /* the request's own */
 };
 
-/* What one system call opened behind names, and isn't told yet. */
+/* What one system call opened behind names. The proved call doesn't know of it yet. */
 struct inroot_run {
     int fd;
     enum inroot_kind kind;
-    enum inroot_way way;           /* by which it was come to */
-    size_t passed;                 /* how long the names are that the walk stands at behind it, or zero */
+    enum inroot_way way;           /* how it was opened */
+    size_t passed;                 /* how long the names of the walk are behind it, or zero */
 };
 
 /* A mount, by its number or by its device. */
@@ -113,7 +116,7 @@ struct inroot_from {
     int names;                     /* how many these are */
     bool first, second;            /* which of the paths begin with them, and are still to be walked */
     const char *place;             /* the names, with a slash before each */
-    uint64_t told;                 /* the handle that was just seen to stand there, or zero */
+    uint64_t told;                 /* the handle that a witness has just found there, or zero */
 };
 
 /* The slots that serve a call with few handles. */
@@ -126,20 +129,20 @@ struct inroot_driver {
     bool counts, begun;            /* a tree is removed; and its first entry's turn has come */
     bool too_deep;                 /* a directory was not entered for its depth */
     bool proc_is_own;              /* `proc` is closed at the call's end */
-    bool told_apart;               /* the thread's own root directory was seen to be a mount's */
-    bool lost;                     /* an entry was made, and another or none stands at its name by now */
-    int unopened;                  /* why what was made could not be opened, or zero */
-    uint8_t step;                  /* the last one that was told, but for Close, or none */
+    bool told_apart;               /* the driver saw that the thread's own root directory is a mount's */
+    bool lost;                     /* the call made an entry, and its name has another or none by now */
+    int unopened;                  /* why the driver could not open the new entry, or zero */
+    uint8_t step;                  /* the last one that the proved call asked for, but for Close, or none */
     int unmade;                    /* why a step wasn't made, where one wasn't: the call ends by this */
     uint32_t used, serial;         /* of the slots, so many were taken so far; and the last handle's number above its slot */
     char *names;                   /* those of the directory that was listed last */
     size_t listed;                 /* bytes of names that the call holds */
-    uint64_t placed;               /* the handle that was asked about right before, or zero */
+    uint64_t placed;               /* the handle of the question right before, or zero */
     int tried, tried_error;        /* the whole path, of so many names, was tried at once and failed so; or zero */
     size_t name_length;            /* of the name that `step` was about */
     struct inroot_mount mount;     /* that of the root, where the call stays on it */
     bool below;                    /* the last check is the kernel's alone (INROOT_BELOW) */
-    uint64_t passed_handle;        /* the handle that stands at the names in `passed`, or zero, and how long they are */
+    uint64_t passed_handle;        /* the handle at the names in `passed`, or zero, and how long they are */
     size_t passed_length;
     uint64_t lived;                /* the directory that had the entry which the last step but Close was about, or zero */
     uint64_t link, link_dir;       /* a link that was read by its name in that directory, or zero, and how long its text is */
@@ -177,7 +180,7 @@ uint64_t inroot_handles_begin(struct inroot_driver *d, int root);
 void inroot_handles_end(struct inroot_driver *d);
 /* Makes room for more handles. Returns whether it could. */
 bool inroot_handles_grow(struct inroot_driver *d);
-/* A handle on what was opened, by its name in DIR or otherwise; there is room. */
+/* A handle on an object that was opened by its name in DIR or otherwise; there is room. */
 uint64_t inroot_handles_put(struct inroot_driver *d, int fd, enum inroot_kind kind, enum inroot_way way, uint64_t dir);
 /* A handle that has no slot. The numbers behind it, of fewer names than a path has, are no other handles'. */
 uint64_t inroot_handles_passed(struct inroot_driver *d);
@@ -217,11 +220,14 @@ void inroot_ahead_way(const struct inroot_ahead *a, char to[PATH_MAX]);
 size_t inroot_ahead_rest(const struct inroot_ahead *a, const char **rest);
 
 /* passed.c */
-/* How long the names are, a slash before each, at which a handle stands below the root; or -1, where they aren't known. */
+/*
+ * How long the names are, a slash before each, that lead from the root to a handle; or -1, where the driver doesn't know
+ * them.
+ */
 ssize_t inroot_passed_base(struct inroot_driver *d, uint64_t handle);
 /* Writes names behind those of a handle. Gives how long all are then, or zero. */
 size_t inroot_passed_put(struct inroot_driver *d, uint64_t from, const char *names, size_t length);
-/* The walk stands at so much of them now, by this handle; zero where it isn't known. */
+/* The walk is now behind this length of the names, by this handle; zero where the driver doesn't know it. */
 void inroot_passed_end(struct inroot_driver *d, uint64_t handle, size_t length);
 /* How long they are without the last of them. */
 size_t inroot_passed_above(const struct inroot_driver *d, size_t length);
@@ -231,7 +237,7 @@ const char *inroot_passed_names(struct inroot_driver *d, uint64_t handle, size_t
 /* hints.c */
 /* Which of these names, from a handle on, was a link last: the first has the number 0. Or -1. Before any step the handle is 0. */
 int inroot_hints_first(struct inroot_driver *d, uint64_t handle, const char *names, size_t length);
-/* A name in a handle's directory is a link, or is none. */
+/* Notes that a name in a handle's directory is a link, or isn't. */
 void inroot_hints_tell(struct inroot_driver *d, uint64_t handle, const char *name, size_t length, bool is_link);
 
 /* above.c */
@@ -242,7 +248,7 @@ void inroot_hints_tell(struct inroot_driver *d, uint64_t handle, const char *nam
 bool inroot_above_open(struct inroot_driver *d, uint64_t handle, int child, struct inroot_result *result);
 
 /* followed.c */
-/* Opens the next name as a link, and reads it, where it is likely to be one; it can't be passed with others. Whether it could. */
+/* If the next name, which can't be passed with others, is likely to be a link: reads it as one. Returns whether it could. */
 bool inroot_followed_open(struct inroot_driver *d, const struct inroot_told *step, const char *name, char *text, bool is_alone,
                           struct inroot_result *result);
 /* Whether that link is on a mount that follows no link. */
@@ -261,18 +267,18 @@ int inroot_look_through(struct inroot_driver *d, int dir, const char *path, uint
 
 /* runs.c */
 /*
- * Passes the whole path from the root where it is plain names, before any step is made. Whether it could, and the kernel saw
- * what it led to below the root. FAILED is the error of a look-up that this one would fail by, too, or zero.
+ * Passes the whole path from the root if it is plain names, before any step is made. Returns whether it could, and the
+ * kernel saw its object below the root. FAILED is the error of a look-up that this one would fail by, too, or zero.
  */
 bool inroot_run_whole(struct inroot_driver *d, int root, int failed);
 /*
- * Passes the next name of the path, which is due to be opened, and names behind it. Whether it could. Then the call is told all
- * but the last part, and the answer is that to the step which is due behind them.
+ * Passes the next name of the path, which is due to be opened, and names behind it. Returns whether it could. It has then
+ * reported all but the last part to the proved call, and RESULT is the answer to the step that is due behind them.
  */
 bool inroot_run_begin(struct inroot_driver *d, struct inroot_told *told, char *room, struct inroot_result *result);
 /*
- * The same of what is open behind these parts, a slash between each two: so many names, and one more or `..`. There is no answer
- * where another step is due behind the names: what is open is let go then.
+ * The same for the object that is open behind these parts, a slash between each two: so many names, and one more or `..`. There
+ * is no answer if another step is due behind the names: then it closes that object.
  */
 struct inroot_result inroot_run_tell(struct inroot_driver *d, struct inroot_told *told, char *room, const char *parts,
                                      size_t names);
@@ -315,7 +321,7 @@ void inroot_proc_end(struct inroot_driver *d);
 /* The name in /proc of a descriptor of this thread, which is written into the room: its number, behind that of the table. */
 #define INROOT_PROC_TABLE "thread-self/fd/"
 const char *inroot_proc_name(int fd, char room[INROOT_PROC_NAME]);
-/* The error of a system call on such a name: where there is no such link at all, there is no such /proc. */
+/* The error of a system call on such a name. If there is no such link at all, there is no such /proc. */
 int inroot_proc_error(int proc, const char *name, int error);
 /* Gives this thread a /proc that stays open: returns it, or -errno. And closes what the library keeps for the thread. */
 int inroot_proc_stay(void);
@@ -327,7 +333,7 @@ bool inroot_proc_is(int fd);
 /* by_proc.c */
 /* What is done by an object's name in a /proc: what that gave, or -1 with errno. */
 typedef ssize_t inroot_act(int proc, const char *name, void *what);
-/* Does it to what a descriptor is open on. Gives what that gave, or -errno: -EBADF, -ENOSYS where there is no /proc. */
+/* Does it to the object of a descriptor. Gives what that gave, or -errno: -EBADF, -ENOSYS where there is no /proc. */
 ssize_t inroot_by_proc(int fd, inroot_act *act, void *what);
 
 /* trust.c */
@@ -349,7 +355,9 @@ bool inroot_jail_enter(struct inroot_driver *d, int fd);
 bool inroot_jail_start(struct inroot_driver *d, int *dir);
 
 /* call.c */
-/* Gives the proved call the answer to the step that was told last, with what was read. It tells the next one. */
+/*
+ * Gives the proved call the answer to the last step, with the bytes that the driver read. TOLD receives the next step.
+ */
 void inroot_answer(struct inroot_driver *d, struct inroot_result result, const char *bytes, size_t length,
                    struct inroot_told *told, char *room);
 /* A try: one proved call from its beginning to its reply, whose text then lies in the room. */
@@ -359,13 +367,13 @@ ssize_t inroot_once(struct inroot_driver *d, int root, const struct inroot_reque
  * isn't where it made it any more. It has waited then.
  */
 bool inroot_again(int tries, int flags, ssize_t result, bool lost);
-/* A call by as many tries as are due. Gives 0, what was opened, a text's length, or -errno. */
+/* A call by as many tries as are due. Gives 0, a descriptor, a text's length, or -errno. */
 ssize_t inroot_call(int root, const struct inroot_request *asked, char *room);
 
 /* inroot.c */
 /* Whether the root is one to be asked with these flags: 0 or -errno. */
 int inroot_check(int root, int flags);
-/* An error that comes behind those of ROOT, where this is a directory: -errno, which is told. */
+/* An error that comes behind those of ROOT. If ROOT is a directory, keeps this error for the caller. Gives -errno. */
 int inroot_error_behind(int root, int error, const char *path);
 /* Reads the text once, since a program may change it meanwhile. A text that is too long stays too long. */
 void inroot_copy(char text[INROOT_TEXT_MAX + 1], const char *from);
@@ -389,27 +397,29 @@ struct inroot_kept_root {
 const struct inroot_kept_root *inroot_root_kept(int root);
 
 /* place.c */
-/* Whether what stands by a name in a directory is what is open, by the same mount; and what kind that is. */
+/* Whether a name in a directory leads to the object that is open, by the same mount; and what kind that is. */
 bool inroot_is_entry(int dir, const char *name, int fd, enum inroot_kind *kind);
 /*
- * Whether a look-up from the root, by names with a slash before each, comes to what the slot has open, which goes on with what was
- * found there.
+ * Whether a look-up from the root, by names with a slash before each, finds the slot's object. The slot goes on with the
+ * descriptor of this look-up.
  */
 bool inroot_look_first(struct inroot_driver *d, int root, struct inroot_slot *slot, const char *text);
 /*
- * Where what a slot has open stands below the root, which is INROOT_JAILED in a jail. The slot may have another descriptor of it
- * then: the one that the kernel's look-up below the root gave.
+ * The names that lead from the root, INROOT_JAILED in a jail, to a slot's object. The slot may have another descriptor of it
+ * afterwards: the one that the kernel's look-up below the root gave.
  */
 struct inroot_result inroot_find_place(struct inroot_driver *d, int root, struct inroot_slot *slot, char *text,
                                        size_t *length);
 struct inroot_result inroot_name_below(struct inroot_driver *d, const struct inroot_told *step, char *text, size_t *length);
 
 /* stands.c */
-/* Where the request's object stands below the root: the length of the text in the room, or -errno; -EAGAIN: it doesn't. */
+/*
+ * The path of the request's object below the root: the length of the text in the room, or -errno; -EAGAIN: it isn't below.
+ */
 ssize_t inroot_stands(struct inroot_driver *d, int root, char *room);
 
 /* at.c */
-/* Whether it stands for a root and a directory below it, which are given then. */
+/* Whether the number is one of a root and a directory below it, which it gives then. */
 bool inroot_at_find(int at, int *root, int *dir);
 
 /* from.c */
@@ -418,29 +428,32 @@ struct inroot_joined {
     struct inroot_request request;
     char place[INROOT_TEXT_MAX + 1], first[INROOT_TEXT_MAX + 1], second[INROOT_TEXT_MAX + 1];
 };
-/* Asks where the directory stands, and puts its names before the paths: 0 or -errno. */
+/* Asks for the directory's place, and puts its names before the paths: 0 or -errno. */
 int inroot_from_join(struct inroot_driver *d, int root, int dir, const struct inroot_request *asked,
                      struct inroot_joined *joined);
 /*
- * Whether a walk begins there with this step. Then the call is told that it passed the names, as by inroot_run_tell(). Before the
- * second walk of a rename it is asked anew where the directory stands.
+ * Whether a walk begins there with this step. Then it reports the names to the proved call, as inroot_run_tell() does. Before the
+ * second walk of a rename it asks for the directory's place anew.
  */
 bool inroot_from_begins(struct inroot_driver *d, struct inroot_told *told, char *room, char *text,
                         struct inroot_result *result);
 void inroot_from_end(struct inroot_driver *d);
-/* Whether the handle's place was told right before, and nothing was asked since: then tells it again. */
+/* Whether the last question was for this handle's place. Then gives the same answer again. */
 bool inroot_from_tells(struct inroot_driver *d, uint64_t handle, char *text, size_t *length);
 
 /* give.c */
-/* Opens what was just made in this directory, and sees that it is that. It is kept for the reply, or why it isn't. */
+/*
+ * Opens the entry that the call has just made in this directory, and checks that it is this one. Keeps it, or why not,
+ * for the reply.
+ */
 void inroot_give(struct inroot_driver *d, int dir, const char *name, const char *text);
-/* A new file of the request's mode, which can be told from all others: 0 or an error's number. */
+/* Makes a file of the request's mode, and keeps a descriptor that identifies it: 0 or an error's number. */
 int inroot_give_file(struct inroot_driver *d, int dir, const char *name);
 
 /* magic.c */
 /*
- * Whether the call refuses the link that was opened by this name in a directory, or INROOT_JAILED, as a magic one. One that
- * is asked for itself isn't followed. LENGTH is that of the path's next name, which it has, or zero.
+ * Whether the call refuses the link that was opened by this name in a directory, or INROOT_JAILED, as a magic one. A call
+ * doesn't follow a link that it wants itself. LENGTH is that of the path's next name, which it has, or zero.
  */
 bool inroot_magic_refused(struct inroot_driver *d, int dir, const char *name, int fd, size_t length);
 
@@ -454,8 +467,8 @@ int inroot_mount_stay(struct inroot_driver *d, int fd);
 
 /* own_root.c */
 /*
- * Without openat2(2): whether /proc tells what is below this root from what isn't. The check comes before any step: 0, or -errno
- * and the call is left at INROOT_STEP_OWN_ROOT.
+ * Without openat2(2): whether /proc can distinguish objects below this root from others. The check comes before any step: 0, or
+ * -errno and the call is left at INROOT_STEP_OWN_ROOT.
  */
 bool inroot_own_root_tells(struct inroot_driver *d, int proc);
 int inroot_own_root_check(struct inroot_driver *d, int root);
@@ -464,7 +477,7 @@ int inroot_own_root_check(struct inroot_driver *d, int root);
 struct inroot_result inroot_list(struct inroot_driver *d, uint64_t handle);
 
 /* refused.c */
-/* The step that was told last is refused by the error, where the step table has it; or it wasn't made. */
+/* The answer to the last step: refused by the error, if the step table has it for this step; or not made. */
 struct inroot_result inroot_refused(struct inroot_driver *d, int error);
 struct inroot_result inroot_unmade(struct inroot_driver *d, int error);
 
@@ -472,8 +485,9 @@ struct inroot_result inroot_unmade(struct inroot_driver *d, int error);
 /* Whether somebody removed the directory, as far as the kernel shows it. */
 bool inroot_is_dead(int fd);
 /*
- * Makes a step other than Close. Its names lie in the room. What it reads is written to `text`. Names of a path that it has passed
- * are told to the call, and the answer is that to the step that is told then. There is none where it has yet to be made.
+ * Makes a step other than Close. Its names lie in the room. It writes what it reads to `text`. If it passes several names, it
+ * reports them to the proved call, and STEP and the answer are those of the step that is due then. There is no answer if that step
+ * has yet to be made.
  */
 struct inroot_result inroot_make(struct inroot_driver *d, struct inroot_told *step, char *room, char *text, size_t *length);
 
@@ -481,7 +495,7 @@ struct inroot_result inroot_make(struct inroot_driver *d, struct inroot_told *st
 
 /* ---- what is done in nearly every turn */
 
-/* What was opened, whose kind is known. */
+/* The answer that an object of this kind was opened. */
 static inline struct inroot_result inroot_opened(uint64_t handle, enum inroot_kind kind)
 {
     return (struct inroot_result){.what = INROOT_ANSWER_OPENED, .handle = handle, .kind = (uint8_t)kind};

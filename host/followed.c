@@ -1,6 +1,6 @@
 /*
- * followed.c: a link that is followed is read by its name in the directory that is held. One readlinkat(2) is its Open and its
- * ReadLink, at one moment, and the link's handle has no descriptor (docs/HOST-WHY.md).
+ * followed.c: reads a link that the walk follows by its name in the directory that is held. One readlinkat(2) is its Open and
+ * its ReadLink, at one moment, and the link's handle has no descriptor (docs/HOST-WHY.md).
  */
 #define _GNU_SOURCE
 #include "driver.h"

@@ -1,7 +1,7 @@
 /*
- * from.c: a call that begins at a directory below the root. It is asked where that stands, by both witnesses, and the
- * names come before the call's own paths. So the proved call walks from the root. It is told that it passed these names, of
- * which the last is answered by the directory itself: the kernel's look-up by just these names has come to it.
+ * from.c: a call that begins at a directory below the root. The driver asks both witnesses for its place, and puts the
+ * names before the call's own paths. So the proved call walks from the root. The driver reports these names to it as
+ * passed. The answer for the last one is the directory itself: the kernel's look-up by just these names has found it.
  */
 #define _GNU_SOURCE
 #include "driver.h"

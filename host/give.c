@@ -1,8 +1,8 @@
 /*
- * give.c: a descriptor of what a call has just made (INROOT_GIVE). It is opened by its name in the directory in which it
- * was made, and looked at: others may have moved it, or put another in its place. The driver knows a file by the
- * descriptor by which it made it, and what got a second name by the caller's descriptor. Of any other entry it compares
- * the kind, and a link's text or a device's number.
+ * give.c: a descriptor of the entry that a call has just made (INROOT_GIVE). The driver opens it by its name in the
+ * directory in which it made it, and looks at it: others may have moved it, or put another in its place. It knows a file
+ * by the descriptor by which it made the file, and the object of a second name by the caller's descriptor. For any other
+ * entry it compares the kind, and a link's text or a device's number.
  */
 #define _GNU_SOURCE
 #include "driver.h"

@@ -1,6 +1,7 @@
 /*
- * handles.c: what the handles of a proved call stand for. Each has a slot with its descriptor. While a tree is removed, the
- * descriptor of a directory far above the one that is cleared is let go, and opened again by `..` when its turn comes.
+ * handles.c: the handles of a proved call. Each has a slot with its descriptor. While a call removes a tree, the driver
+ * closes the descriptor of a directory far above the one that is being cleared, and opens it again by `..` when its turn
+ * comes.
  */
 #define _GNU_SOURCE
 #include "driver.h"

@@ -1,4 +1,4 @@
-/* inroot-fs: acts on paths below a directory. This file reads the command line and tells what went wrong. */
+/* inroot-fs: acts on paths below a directory. This file reads the command line and prints errors. */
 #define _GNU_SOURCE
 #include "inroot-fs.h"
 #include "error_name.h"

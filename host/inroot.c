@@ -6,7 +6,7 @@
 #include <pthread.h>
 #include <string.h>
 
-/* The bits that are no kind of file; and the flags that each call takes. */
+/* The bits of a mode beside the kind of file; and the flags that each call takes. */
 enum {
     MODE_BITS = 07777,
     ALL_CALLS = INROOT_BENEATH | INROOT_NO_LINKS | INROOT_NO_RETRY | INROOT_ONE_BY_ONE | INROOT_NO_XDEV | INROOT_NO_MAGICLINKS,

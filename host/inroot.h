@@ -8,17 +8,17 @@
  * ROOT is a descriptor of the directory (O_PATH is enough). Or it is INROOT_JAIL in a thread that inroot_jail() has
  * moved below a root. Or it is a number of inroot_at_begin(), by which paths begin at a directory below the root.
  *
- * Two witnesses tell where an object stands below the root. The first is a text: that of the object's link in
- * /proc/thread-self/fd (proc(5)), or in a jail, of a directory, what getcwd(2) gives. The second is openat2(2): it
- * looks up the names of that text from the root, through no link and not out of the root, and has to come to the same
- * object, with which the call goes on. So what a call goes on from and what it opens has been seen below the root by
- * the kernel itself, whoever renames the root or a directory above it.
+ * A call asks two witnesses for an object's path below the root. The first is a text: that of the object's link in
+ * /proc/thread-self/fd (proc(5)), or in a jail, for a directory, the answer of getcwd(2). The second is openat2(2): it
+ * looks up the names of that text from the root, through no link and not out of the root. It must find the same object,
+ * and the call goes on with the descriptor that it gives. So the kernel itself has seen below the root each object that
+ * a call goes on from or opens, whoever renames the root or a directory above it.
  *
- * Where there is no openat2(2), before Linux 5.6 or by a filter, the text alone tells. Then the calls promise nothing
- * where the root or a directory above it is renamed meanwhile, unless in a jail. There, an object that isn't a
- * directory and is moved out of the root, to just the path from the top that it had from the root, is taken for one
- * inside. And where ROOT is a descriptor, each call gives EOPNOTSUPP in a thread whose own root directory isn't that
- * of a mount, as after chroot(2): there the text doesn't tell what is inside from what is outside.
+ * Without openat2(2) (before Linux 5.6, or where a filter refuses it) the text is the only witness. Then the calls
+ * promise nothing if somebody renames the root or a directory above it meanwhile, unless in a jail. In a jail, if
+ * somebody moves a non-directory out of the root, to just the path from the top that it had from the root, a call takes
+ * it for one inside. And if ROOT is a descriptor, each call gives EOPNOTSUPP in a thread whose own root directory isn't
+ * that of a mount, as after chroot(2): there the text looks the same for an object inside and for one outside.
  *
  * ROOT stays open until the call ends. PATH is a text of at most 4,095 bytes, and not NULL. The text is read once,
  * before the call's first step: a program may change it from there on.
@@ -44,33 +44,33 @@
  *                      check is openat2(2)'s with RESOLVE_BENEATH. What is opened was reached by the path's parts at
  *                      rising moments and stood below the root at the last check; at which names is not said
  *
- * INROOT_BELOW says less than a call without it: somebody may have moved the object between the moment when the path
- * led to it and the check, to other names below the root. And it trusts the kernel with more: nobody is told the texts
- * of the links through which openat2(2) went, so that it took the steps of a walk of this path is the kernel's word.
- * Each error is that of the steps, which are made where openat2(2) fails; after `..` they ask for the names as without
- * the flag. Where an entry is made, by O_CREAT, the flag says nothing of the directory in which it is made, which is
- * found as without. Without openat2(2) it changes nothing. What is removed just while the kernel looks it up may be
- * opened, as by openat2(2) itself.
+ * A call with INROOT_BELOW promises less than one without it: somebody may have moved the object to other names below
+ * the root, between the moment when the path led to it and the check. And you trust the kernel with more: the library
+ * doesn't learn the texts of the links through which openat2(2) went, so it takes the kernel's word that these were the
+ * steps of a walk of this path. If openat2(2) fails, the call makes the steps, and each error is theirs; after `..` they
+ * ask for the names as without the flag. The flag says nothing of the directory in which O_CREAT makes an entry: the
+ * call finds that as without it. Without openat2(2) the flag changes nothing. A call may open an object that somebody
+ * removes just while the kernel looks it up, as openat2(2) itself may.
  *
  * INROOT_TRUST_PROC is of inroot_jail_with() and inroot_root_open(), INROOT_ROOT_STAYS of the latter alone.
  * INROOT_NOFOLLOW is also of inroot_open_partial().
  *
- * Without INROOT_NO_MAGICLINKS such a link is followed along its text, below the root, where openat2(2) with
+ * Without INROOT_NO_MAGICLINKS a call follows such a link along its text, below the root; openat2(2) with
  * RESOLVE_IN_ROOT refuses it. Without openat2(2) the flag refuses each link of a proc(5) and of securityfs.
  *
- * Without INROOT_NO_XDEV a path goes on below what is mounted on its way. With it no part of the path may be one on
- * which something is mounted, not the last one either. A call whose names are looked up one by one, for
- * INROOT_ONE_BY_ONE or want of openat2(2), knows a mount by its number (statx(2), Linux 5.8). Before that kernel it
- * knows its device alone, and doesn't see a bind mount of the root's own file system.
+ * Without INROOT_NO_XDEV a path crosses mounts. With it no part of the path may be a mount point, not the last one
+ * either. A call that looks up names one by one, for INROOT_ONE_BY_ONE or want of openat2(2), knows a mount by its
+ * number (statx(2), Linux 5.8). Before that kernel it knows the device alone, and doesn't see a bind mount of the root's
+ * own file system.
  *
  * MODE is what the kernel takes for a new entry, less the umask: bits of 07777. The kernel may drop some, as
  * mkdirat(2) does with those for set-user-ID.
  *
- * A call that finds that others moved or removed what it had come to begins again: it makes up to INROOT_TRIES tries,
- * the first eight one after another, and before each other one it waits, 10 microseconds at first and twice as long
- * each time up to a millisecond, so some 20 milliseconds in all. Then it gives EAGAIN. Who renames without end can
- * make it fail so: in the races of docs/HOST-TESTED.md up to four of a hundred calls ended so with one try, and none
- * of twenty million with all.
+ * If a call finds that others moved or removed the object that it had reached, it begins again. It makes up to
+ * INROOT_TRIES tries, the first eight one after another. Before each other one it waits, 10 microseconds at first and
+ * twice as long each time up to a millisecond, some 20 milliseconds in all. Then it gives EAGAIN. Whoever renames
+ * without end can make it fail like this: in the races of docs/HOST-TESTED.md up to four of a hundred calls ended so
+ * with one try, and none of twenty million with all.
  *
  * Every call gives -errno where it fails, and then leaves no descriptor open. In this order:
  *
@@ -86,7 +86,7 @@
  *   ENAMETOOLONG  the last name is longer than 255 bytes, where an entry is changed
  *   EXDEV         the path leads out of the root, under INROOT_BENEATH; or to another mount, under INROOT_NO_XDEV
  *   ENAMETOOLONG  a name on the way is longer than 255 bytes, or a link's text or an object's own path than 4,095
- *   ENOTDIR       what a part stands in isn't a directory
+ *   ENOTDIR       the object before a part of PATH isn't a directory
  *   ENOENT        a name on the way isn't there
  *   ELOOP         more than 40 links, or one under INROOT_NO_LINKS, or a magic one under INROOT_NO_MAGICLINKS
  *   ENOSYS        a place is to be asked for by /proc, and there is no proc(5) with thread-self
@@ -94,21 +94,21 @@
  *   EMFILE        no descriptor is left
  *   any other     that a system call of a step gave, as EACCES, EIO, ENFILE or ESTALE
  *
- * and then those of the one step on the last name, which each call lists. EINTR comes only from a step that changes
- * an entry, on a file system that lets signals interrupt one, where it isn't known then whether the entry was
- * changed; and from one that opens for use, as a FIFO.
+ * and then those of the one step on the last name, which each call lists. EINTR comes from two kinds of steps only. One
+ * changes an entry, on a file system that lets signals interrupt it: then nobody knows whether the entry was changed.
+ * The other opens for use, as a FIFO.
  *
- * Without openat2(2) EAGAIN is also what a non-directory gives whose name ends in ` (deleted)`, at
- * every try: the kernel writes just this behind the path of what is removed.
+ * Without openat2(2) a non-directory whose name ends in ` (deleted)` also gives EAGAIN, at every try: the kernel writes
+ * just this behind the path of a removed object.
  *
- * A link on a mount with nosymfollow (mount(8)) isn't followed: ELOOP. The protection of fs.protected_symlinks
- * (proc_sys_fs(5)) isn't there: a link in a sticky directory that all may write to is followed, whoever made it, and
- * stays below the root. Use INROOT_NO_LINKS where that matters.
+ * A call follows no link on a mount with nosymfollow (mount(8)): ELOOP. The protection of fs.protected_symlinks
+ * (proc_sys_fs(5)) doesn't apply: a call follows a link in a sticky directory that all may write to, whoever made it,
+ * and stays below the root. Use INROOT_NO_LINKS where that matters.
  *
- * The calls leave alone: what is open, signal masks and handlers, errno's meaning (it may change), umask and current
- * directory but as inroot_jail() says. Any number of threads may make calls, on one root or several. A thread that is
- * cancelled (pthread_cancel(3)) in a call ends after it. A call takes up to 64 kilobytes of the thread's stack.
- * docs/HOST.md explains signals, fork(2), vfork(2) and CLONE_FILES.
+ * The calls leave alone: open descriptors, signal masks and handlers, umask and current directory but as inroot_jail()
+ * says. errno may change. Any number of threads may make calls, on one root or several. A thread that is cancelled
+ * (pthread_cancel(3)) in a call ends after it. A call takes up to 64 kilobytes of the thread's stack. docs/HOST.md
+ * explains signals, fork(2), vfork(2) and CLONE_FILES.
  */
 #ifndef INROOT_H
 #define INROOT_H
@@ -173,10 +173,10 @@ enum { INROOT_PLAIN = 0, INROOT_NOREPLACE = 1, INROOT_EXCHANGE = 2, INROOT_WHITE
 int inroot_use_proc(int proc);
 
 /*
- * The same by a proc(5) of the library's own, which is mounted nowhere, so that nobody can mount over what is below
- * it: a new one (fsopen(2), Linux 5.2), or the one at /proc without what is mounted below it (open_tree(2)). For a
- * program whose /proc may be covered, as in a container's mount namespace. It shows the processes of the thread's pid
- * namespace.
+ * The same by a proc(5) of the library's own. It is mounted nowhere, so nobody can mount over anything below it. It is
+ * a new one (fsopen(2), Linux 5.2), or the one at /proc without the mounts below that (open_tree(2)). Use it in a
+ * program whose /proc somebody may cover, as in a container's mount namespace. It shows the processes of the thread's
+ * pid namespace.
  *
  * Gives 0; -EBUSY where there is one already; -EPERM without CAP_SYS_ADMIN, or where the kernel gives no new one
  * since the /proc that is there is covered in part, and allows no copy of that; -ENOSYS before Linux 5.2, or where
@@ -212,8 +212,8 @@ int inroot_jail(int root);
  *   clone(2) with CLONE_VM or CLONE_FILES
  *
  * Where it breaks that, a call may take an object outside of the root for one inside. A child of fork(2) needs no
- * promise: it goes on as in a jail without the flag. So does a thread where the kernel has no MADV_WIPEONFORK
- * (madvise(2)), by which it tells a child from its parent.
+ * promise: it goes on as in a jail without the flag. So does a thread if the kernel has no MADV_WIPEONFORK
+ * (madvise(2)), by which the library distinguishes a child from its parent.
  *
  * Gives -EINVAL of another flag, before all else, and then what inroot_jail() gives.
  */
@@ -241,11 +241,11 @@ void inroot_jail_done(void);
  *                      calls in a child of vfork(2), or of clone(2) with CLONE_VM or CLONE_FILES
  *   INROOT_BELOW       each call on this root that has this flag is made with it
  *
- * Where a promise is broken, what is opened has still been seen below the root by the kernel itself, which the other
- * witness sees to. But its names, all at one moment, may not have been those of the path; and a call may begin again
- * for nothing, and give EAGAIN. A child of fork(2) needs no promise: its calls go on as without the first two flags.
- * So do they where the kernel has no MADV_WIPEONFORK (madvise(2)), where there is no openat2(2), and of more than
- * some 256 such roots at a time.
+ * If the program breaks a promise, the second witness still holds: the kernel itself has seen below the root whatever a
+ * call opens. But the path's names may never have led there all at one moment; and a call may begin again for nothing,
+ * and give EAGAIN. A child of fork(2) needs no promise: its calls go on as without the first two flags. They also go on
+ * so if the kernel has no MADV_WIPEONFORK (madvise(2)) or no openat2(2), and on roots beyond some 256 such roots at a
+ * time.
  *
  * inroot_root_open() walks DIRECTORY as open(2) does, links and all, so it is to be a path that nobody else can
  * change. It gives 0 and the root; -EINVAL of another flag, or of INROOT_TRUST_PROC without
@@ -265,29 +265,29 @@ void inroot_root_close(struct inroot_root *root);
  * thread with the same table of descriptors may use the number. ROOT may be INROOT_JAIL, or such a number: then it is
  * that one's root.
  *
- * Each call asks anew where DIR stands, by both witnesses, and then walks from the root by these names, whose last
- * one is DIR itself, and by its path. So it begins at DIR, wherever that was moved to below the root. Where DIR was
- * removed it gives ENOENT, and where it stands outside EAGAIN at each try. The names and the path together have at
+ * Each call asks both witnesses anew for DIR's path below the root. Then it walks from the root by these names, whose
+ * last one is DIR itself, and by its own path. So it begins at DIR, wherever somebody moved that below the root. If DIR
+ * was removed the call gives ENOENT, and if DIR is outside EAGAIN at each try. The names and the path together have at
  * most 4,095 bytes: ENAMETOOLONG beyond. These errors come behind those of ROOT. Such a call takes memory.
  *
  * Gives 0, and the number, which is below -4,095; -EBADF or -ENOTDIR where ROOT or DIR isn't a descriptor of a
  * directory, ROOT's first; -EMFILE where a program has INROOT_ATS numbers. Then *AT is -1. inroot_at_end() gives a
- * number back, after all calls that were given it: 0, or -EBADF where it is none. It closes neither ROOT nor DIR.
+ * number back, after all calls that use it: 0, or -EBADF if it isn't such a number. It closes neither ROOT nor DIR.
  */
 enum { INROOT_ATS = 1024 };
 int inroot_at_begin(int root, int dir, int *at);
 int inroot_at_end(int at);
 
 /*
- * Why the thread's last call failed. STEP is the last step that it made, by its name in docs/HOST.md, or empty where
- * it failed before the first; to its steps come `Reopen`, which opens for use, `Stat`, `Attribute`, which changes
- * what was found, and `Give`, which opens what was made. NAME is the name that the step was about, or empty. REST is
- * what was left of PATH then, where links were replaced by their texts: it begins with NAME where that could not be
- * opened or made. AT is where the walk had come to: the names below the root that it went by, with a slash before
- * each, or a slash of the root itself. Others may have moved these since. It is empty where no step was made, or the
- * names are longer than 4,095 bytes. Of a rename, and of a tree that is removed, both are empty. The texts end with a
- * NUL, and are cut off where they don't fit. A later version may tell more in what is reserved here, which is zero:
- * the structure doesn't get larger while the library's soname stays.
+ * Why the thread's last call failed. STEP is the last step that it made, by its name in docs/HOST.md, or empty if it
+ * failed before the first. Beside the model's steps there are `Reopen`, which opens for use, `Stat`, `Attribute`, which
+ * changes an object that was found, and `Give`, which opens a new entry. NAME is the name that the step was about, or
+ * empty. REST is the rest of PATH at that step, with links replaced by their texts: it begins with NAME if the call
+ * could not open or make that. AT is the place that the walk had reached: the names below the root by which it went,
+ * with a slash before each, or a slash for the root itself. Others may have moved these since. AT is empty if the call
+ * made no step, or if the names are longer than 4,095 bytes. For a rename, and for a tree that is removed, REST and AT
+ * are empty. The texts end with a NUL, and are cut off where they don't fit. A later version may use the reserved
+ * bytes, which are zero: the structure doesn't get larger while the library's soname stays.
  */
 struct inroot_error {
     int error;          /* its number, as ENOENT */
@@ -306,36 +306,38 @@ int inroot_last_error(struct inroot_error *error);
 
 /*
  * Opens what PATH means, as openat2(2) does with O_PATH. Gives a descriptor (O_PATH and O_CLOEXEC), which shares
- * nothing with ROOT. It isn't promised that the object stands there still: it did at a moment of the call.
+ * nothing with ROOT. The object was there at a moment of the call; nothing promises that it still is.
  */
 int inroot_open(int root, const char *path, int flags);
 
 /*
- * Opens the directory in which the entry of PATH stands or is to be made, as the calls that change an entry walk to
- * it, and tells the entry's name, of at most 255 bytes and a NUL. For system calls that the library doesn't make:
- * give them this descriptor and this name, and see to it that they follow no link there. Gives a descriptor as
- * inroot_open() does. A slash at the end of PATH is refused by ENOTDIR, or under INROOT_DIRECTORY taken away. After
- * an error the name is empty.
+ * Opens the directory that has the entry of PATH, or in which it is to be made, as the calls that change an entry walk
+ * to it. Writes the entry's name to LAST, at most 255 bytes and a NUL. Use it for system calls that the library doesn't
+ * make: give them this descriptor and this name, and see to it that they follow no link there. Gives a descriptor as
+ * inroot_open() does. A slash at the end of PATH gives ENOTDIR; under INROOT_DIRECTORY the call takes it away. After an
+ * error the name is empty.
  */
 int inroot_open_parent(int root, const char *path, int flags, char last[256]);
 
 /*
- * Opens as much of PATH as is there. Where all of it is there, gives what inroot_open() gives, and REST is empty.
- * Else it gives the directory that the longest beginning of PATH means that leads to one, and writes what is left to
- * REST, with a NUL: the first name of that isn't there, or stands for no directory where one is asked for, or is a
- * link that leads to what is missing. A part of PATH is tried by ENOENT and ENOTDIR alone; every other error is the
- * call's. ERANGE where REST doesn't fit into SIZE bytes, behind all others. Several walks may be made, so what the
- * descriptor is of and what is left were seen at moments of the call, one after another.
+ * Opens as much of PATH as is there. Where all of it is there, gives what inroot_open() gives, and REST is empty. Else
+ * it gives the directory that the longest beginning of PATH means that leads to one, and writes the rest of PATH to
+ * REST, with a NUL. The first name of REST isn't there, or isn't a directory where the path needs one, or is a link
+ * that leads to a missing object. A part of PATH is tried by ENOENT and ENOTDIR alone; every other error is the call's.
+ * ERANGE where REST doesn't fit into SIZE bytes, behind all others. The call may make several walks, so it saw the
+ * descriptor's object and the rest at moments of the call, one after another.
  */
 int inroot_open_partial(int root, const char *path, int flags, char *rest, size_t size);
 
 /*
- * Tells where what FD is open on stands below ROOT, by both witnesses: the names, with a slash before each and a NUL at
- * the end, or a slash of the root itself. Gives the text's length in bytes. It stood there at a moment of the call.
+ * Writes the path below ROOT of the object that FD is open on, by both witnesses: the names, with a slash before each
+ * and a NUL at the end, or a slash for the root itself. Gives the text's length in bytes. The object was there at a
+ * moment of the call.
  *
- * EBADF where FD is none comes behind the first of every call that are about ROOT; ENOENT where it was removed; EXDEV
- * where it doesn't stand below ROOT at any of eight questions; ERANGE where the text and its NUL don't fit into SIZE
- * bytes. After an error nothing is written. Of an object with several names it is the one by which FD was opened.
+ * EBADF if FD isn't a descriptor comes behind those of the first errors of every call that are about ROOT; ENOENT if
+ * the object was removed; EXDEV if it isn't below ROOT at any of eight questions; ERANGE if the text and its NUL don't
+ * fit into SIZE bytes. After an error nothing is written. Of an object with several names the text has the one by which
+ * FD was opened.
  */
 ssize_t inroot_place(int root, int fd, char *path, size_t size);
 
@@ -346,11 +348,11 @@ ssize_t inroot_place(int root, int fd, char *path, size_t size);
  * O_EXCL alone: with O_CREAT a file that is missing is made, and given as by INROOT_GIVE.
  * MODE counts with O_CREAT and O_TMPFILE, and is 0 without. Gives a descriptor.
  *
- * What is there already is found as inroot_open() does, and then opened by the descriptor that was found and never by
- * its path again: what is opened is what stood below the root. A file that is made (O_CREAT) is made and opened by
- * one open(2) with O_EXCL, in the directory that was found. With O_TMPFILE the file has no name, in the file system
- * of the directory that PATH means; inroot_link_fd() gives it one. Without O_EXCL a link at the end of PATH whose
- * target is missing is followed, and the target is made, below the root.
+ * The call finds an existing object as inroot_open() does. Then it opens the object by the descriptor that it found and
+ * never by its path again: so it opens the object that was below the root. It makes and opens a missing file (O_CREAT)
+ * by one open(2) with O_EXCL, in the directory that it found. With O_TMPFILE the file has no name, in the file system
+ * of the directory that PATH means; inroot_link_fd() gives it one. Without O_EXCL the call follows a link at the end of
+ * PATH whose target is missing, and makes the target, below the root.
  *
  * EINVAL of other flags, of O_CREAT with O_DIRECTORY or O_TMPFILE, of O_EXCL without O_CREAT or O_TMPFILE, of
  * O_TMPFILE without writing, of a MODE without both; and then, behind the errors of every call: EEXIST under O_CREAT
@@ -359,31 +361,31 @@ ssize_t inroot_place(int root, int fd, char *path, size_t size);
  * of a socket; ENOSYS where there is no proc(5) to open by; EAGAIN under O_CREAT where others make and remove the
  * entry at each try; and what open(2) has beside it.
  *
- * It isn't promised that the file stands below the root when it is opened: it did when it was found. A FIFO and a
- * device are opened as open(2) does, which may wait for others or change the device. Where somebody else may have
- * placed one there, find it by inroot_open(), ask fstat(2) what it is, and open that one by inroot_reopen(): no other
- * can take its place between these. (After inroot_stat() another could.) What is missing is made by O_CREAT with
+ * The file was below the root when the call found it; nothing promises that it still is when the call opens it. The
+ * call opens a FIFO and a device as open(2) does, which may wait for others or change the device. If somebody else may
+ * have placed one there, find it by inroot_open(), ask fstat(2) what it is, and open that one by inroot_reopen(): no
+ * other can take its place between these. (After inroot_stat() another could.) To make a missing file, use O_CREAT with
  * O_EXCL.
  *
- * What is there already is opened without the protection that fs.protected_regular and fs.protected_fifos give to
+ * For an existing object the call has no protection like that of fs.protected_regular and fs.protected_fifos for
  * O_CREAT in a directory that all may write to (proc_sys_fs(5)): use O_EXCL there.
  */
 int inroot_openat(int root, const char *path, int open_flags, mode_t mode, int flags);
 
 /*
- * Opens what FD is open on once more, for another use: a file that inroot_open() found, for reading or writing.
- * OPEN_FLAGS as above, but for O_CREAT, O_EXCL, O_TMPFILE and O_NOFOLLOW. It asks the /proc of the program, also in a
- * jail. Gives a descriptor, with a place and flags of its own.
+ * Opens the object that FD is open on once more, for another use: a file that inroot_open() found, for reading or
+ * writing. OPEN_FLAGS as above, but for O_CREAT, O_EXCL, O_TMPFILE and O_NOFOLLOW. It asks the /proc of the program,
+ * also in a jail. Gives a descriptor, with a place and flags of its own.
  *
- * EINVAL of other flags; EBADF where FD is none; ENOSYS where there is no proc(5) to open by; EMFILE; ELOOP where FD
- * is open on a link; EISDIR of a directory that is opened for writing; ENOTDIR under O_DIRECTORY; ENXIO of a socket;
- * EACCES, EPERM, EROFS, ETXTBSY and what open(2) has beside it. Where the object stands isn't asked.
+ * EINVAL of other flags; EBADF where FD is none; ENOSYS where there is no proc(5) to open by; EMFILE; ELOOP where FD is
+ * open on a link; EISDIR of a directory that is opened for writing; ENOTDIR under O_DIRECTORY; ENXIO of a socket;
+ * EACCES, EPERM, EROFS, ETXTBSY and what open(2) has beside it. The call doesn't ask for the object's place.
  */
 int inroot_reopen(int fd, int open_flags);
 
 /*
- * Gets the status of what stands at PATH (fstat(2)): of a link at the end what it leads to, or with INROOT_NOFOLLOW
- * the link. Gives 0. It is that of the object that stood there at a moment of the call.
+ * Gets the status of the object that PATH means (fstat(2)). A link at the end is followed, or with INROOT_NOFOLLOW is
+ * itself the object. Gives 0. The object was there at a moment of the call.
  */
 int inroot_stat(int root, const char *path, struct stat *about, int flags);
 
@@ -396,7 +398,7 @@ ssize_t inroot_readlink(int root, const char *path, int flags, char *text, size_
 /*
  * The entries below the directory that PATH means, one after another: those of a directory before the next one beside
  * it, a directory before what is in it, and else in no order. LEVELS says how deep: 1 gives the entries of PATH alone,
- * and 0 all. It takes one descriptor for each level and less than 10 kilobytes, and reads a directory in pieces.
+ * and 0 all. For each level it takes one descriptor and less than 10 kilobytes. It reads a directory in pieces.
  *
  * inroot_walk_open() gives 0 and the walk; or -errno, and *WALK is NULL: EINVAL where LEVELS is negative, what
  * inroot_open() gives with FLAGS, of which INROOT_NOFOLLOW is of PATH alone, ENOTDIR where it isn't a directory, EACCES
@@ -407,12 +409,12 @@ ssize_t inroot_readlink(int root, const char *path, int flags, char *text, size_
  * what getdents64(2) has. What is in ENTRY stays until the next turn. inroot_walk_skip() has the walk leave out what
  * is below the directory that was given last. inroot_walk_close() ends it, where it isn't NULL.
  *
- * What it promises, whoever renames meanwhile: no link below PATH is followed. Each directory that it goes into was
- * opened by its name in the directory that has it, and stood below the root then, at that PATH: a walk of its own
- * came to the same one. Where it didn't, by as many tries as any call makes, ERROR is EAGAIN, and the walk doesn't go
- * into it. It isn't promised that an entry is there still, that each one is given that was made, removed or moved
- * meanwhile, or that none comes twice; nor that a directory that was gone into isn't moved out of the root while its
- * own entries are read. Who makes entries without end can keep a walk from ending.
+ * The walk promises, whoever renames meanwhile: it follows no link below PATH. It opens each directory that it enters
+ * by its name in the directory that has it; and that directory was below the root then, at that PATH, since a call of
+ * its own led to the same one. If that call led elsewhere, by as many tries as any call makes, ERROR is EAGAIN, and the
+ * walk doesn't enter the directory. It doesn't promise that an entry is still there, that it gives each entry that was
+ * made, removed or moved meanwhile, or that none comes twice; nor that nobody moves a directory out of the root while
+ * the walk reads its entries. Whoever makes entries without end can keep a walk from ending.
  *
  * An entry is opened by inroot_open(ENTRY.directory, ENTRY.name, INROOT_NOFOLLOW), below the directory that has it.
  */
@@ -433,36 +435,37 @@ void inroot_walk_skip(struct inroot_walk *walk);
 void inroot_walk_close(struct inroot_walk *walk);
 
 /*
- * Change the mode, the owner and the times of what FD is open on, wherever that is: what inroot_open() found, under
- * INROOT_NOFOLLOW a link as well, a device, a FIFO or a socket, none of which is opened for it. No path is walked, so
- * what changes is what was found. Each gives 0. They ask the /proc of the program, also in a jail.
+ * Change the mode, the owner and the times of the object that FD is open on, wherever that is: any object that
+ * inroot_open() found, under INROOT_NOFOLLOW a link as well, a device, a FIFO or a socket, none of which they open for
+ * it. They walk no path, so they change the object that was found. Each gives 0. They ask the /proc of the program,
+ * also in a jail.
  *
  * MODE is bits of 07777 as chmod(2) has them. A USER or a GROUP of all ones stays (chown(2)). TIMES are those of the
  * last access and of the last change of the contents, as utimensat(2) has them, with UTIME_NOW and UTIME_OMIT; NULL
  * is the present time for both.
  *
- * EINVAL of a MODE that is none, and of nanoseconds that are none; EBADF where FD is none; EOPNOTSUPP of a link's mode;
- * ENOSYS where there is no proc(5) to go by, for the mode, and for the times before Linux 5.8; EMFILE; EPERM, EROFS
- * and what chmod(2), chown(2) and utimensat(2) have beside it. The kernel takes the bits for set-user-ID and
- * set-group-ID off where the owner changes: set the owner first.
+ * EINVAL of a MODE or of nanoseconds that aren't valid; EBADF where FD isn't a descriptor; EOPNOTSUPP of a link's mode;
+ * ENOSYS where there is no proc(5) to go by, for the mode, and for the times before Linux 5.8; EMFILE; EPERM, EROFS and
+ * what chmod(2), chown(2) and utimensat(2) have beside it. The kernel takes the bits for set-user-ID and set-group-ID
+ * off where the owner changes: set the owner first.
  */
 int inroot_fchmod(int fd, mode_t mode);
 int inroot_fchown(int fd, uid_t user, gid_t group);
 int inroot_futimens(int fd, const struct timespec times[2]);
 
 /*
- * The extended attributes of what FD is open on (xattr(7)), in the same way; of a link it is the link that has them.
- * inroot_fsetxattr() sets one, by FLAGS of setxattr(2): 0, XATTR_CREATE or XATTR_REPLACE. inroot_fgetxattr() gives
- * the length of a value, and inroot_flistxattr() that of all names together, a NUL behind each; each writes it where
- * it fits into SIZE bytes, and with a SIZE of 0 it tells the length alone. inroot_fsetxattr() and
+ * The extended attributes of the object that FD is open on (xattr(7)), in the same way; for a link, those of the link
+ * itself. inroot_fsetxattr() sets one, by FLAGS of setxattr(2): 0, XATTR_CREATE or XATTR_REPLACE. inroot_fgetxattr()
+ * gives the length of a value, and inroot_flistxattr() that of all names together, a NUL behind each; each writes it
+ * where it fits into SIZE bytes, and with a SIZE of 0 it gives only the length. inroot_fsetxattr() and
  * inroot_fremovexattr() give 0.
  *
- * EINVAL of other FLAGS; E2BIG of a value of more than 65,536 bytes; EBADF where FD is none; ENOSYS where there is no
- * proc(5) to go by, and before Linux 6.13 where the one that inroot_use_proc() handed in isn't what stands at /proc,
- * unless in a jail; EMFILE; ENODATA where there is no such attribute, ERANGE where it doesn't fit, ERANGE of a name
- * that is longer than 255 bytes or empty, EEXIST and ENODATA as the FLAGS have them, EOPNOTSUPP where the file system
- * has none, EPERM of `user.` attributes of what is neither a regular file nor a directory, and what setxattr(2) has
- * beside it.
+ * EINVAL of other FLAGS; E2BIG of a value of more than 65,536 bytes; EBADF where FD isn't a descriptor; ENOSYS where
+ * there is no proc(5) to go by, and before Linux 6.13 where the one that inroot_use_proc() handed in isn't the one at
+ * /proc, unless in a jail; EMFILE; ENODATA where there is no such attribute, ERANGE where it doesn't fit, ERANGE of a
+ * name that is longer than 255 bytes or empty, EEXIST and ENODATA as the FLAGS have them, EOPNOTSUPP where the file
+ * system has none, EPERM of `user.` attributes of what is neither a regular file nor a directory, and what setxattr(2)
+ * has beside it.
  */
 int inroot_fsetxattr(int fd, const char *name, const void *value, size_t size, int flags);
 ssize_t inroot_fgetxattr(int fd, const char *name, void *value, size_t size);
@@ -470,14 +473,14 @@ ssize_t inroot_flistxattr(int fd, char *names, size_t size);
 int inroot_fremovexattr(int fd, const char *name);
 
 /*
- * The calls that make an entry, from here to inroot_link_fd(), give 0. Under INROOT_GIVE they give a descriptor of
- * what they made (O_PATH and O_CLOEXEC), for its owner, mode, times and attributes. They open it by its name, in the
- * directory in which they made it and through no link, and look at it. A file, or what got a second name, is just the
- * one that was made; a link has the text, a device its number, and all have the kind. Who may rename in that
- * directory may have put another directory, FIFO, socket, link or device of just that kind there meanwhile: this is
- * given then, and is one that stood there. Else, where the entry was moved, removed or replaced, the call gives
- * EAGAIN and isn't tried again: the entry was made. So it was where EMFILE, ENFILE or ENOMEM come from this opening,
- * or EACCES. The step of such an error is `Give`.
+ * The calls that make an entry, from here to inroot_link_fd(), give 0. Under INROOT_GIVE they give a descriptor of what
+ * they made (O_PATH and O_CLOEXEC), for its owner, mode, times and attributes. They open it by its name, in the
+ * directory in which they made it and through no link, and look at it. A file is the very one that the call made, and a
+ * second name's object is the very one that got it; a link has the text, a device its number, and all have the kind.
+ * Whoever may rename in that directory may have put another directory, FIFO, socket, link or device of just that kind
+ * there meanwhile: then the call gives this one, which was there. If the entry was moved, removed or replaced
+ * otherwise, the call gives EAGAIN and doesn't try again: it made the entry. It also made the entry if EMFILE, ENFILE,
+ * ENOMEM or EACCES come from this opening. The step of such an error is `Give`.
  */
 
 /*
@@ -507,20 +510,19 @@ int inroot_mkdir(int root, const char *path, mode_t mode, int flags);
 int inroot_symlink(int root, const char *text, const char *path, int flags);
 
 /*
- * Gives what EXISTING means a second name, PATH (linkat(2)). Of a link at the end of EXISTING it is the link itself
- * that gets it, or under INROOT_FOLLOW what the link leads to. Gives 0. The errors of EXISTING come before those of
- * PATH; then EEXIST where there is such an entry, EXDEV where it is on another mount, EPERM of a directory, ENOENT
+ * Gives the object that EXISTING means a second name, PATH (linkat(2)). If EXISTING ends in a link, the link itself
+ * gets the name, or under INROOT_FOLLOW the object that it leads to. Gives 0. The errors of EXISTING come before those
+ * of PATH; then EEXIST where there is such an entry, EXDEV where it is on another mount, EPERM of a directory, ENOENT
  * where the object is gone meanwhile, ENOSYS where there is no proc(5), and what linkat(2) has beside it.
  *
- * The object is the one that stood at EXISTING at a moment of the call. Others may have moved or removed that name
- * since.
+ * The object is the one that was at EXISTING at a moment of the call. Others may have moved or removed that name since.
  */
 int inroot_link(int root, const char *existing, const char *path, int flags);
 
 /*
- * The same of what FD is open on, wherever that is: a file that inroot_openat() has made with O_TMPFILE, or one that
- * was found. Gives 0. EBADF where FD is none comes behind the first two of every call; then the errors of
- * inroot_link() from ROOT's on.
+ * The same for the object that FD is open on, wherever that is: a file that inroot_openat() has made with O_TMPFILE, or
+ * one that was found. Gives 0. EBADF where FD isn't a descriptor comes behind the first two of every call; then the
+ * errors of inroot_link() from ROOT's on.
  */
 int inroot_link_fd(int root, int fd, const char *path, int flags);
 
@@ -535,47 +537,47 @@ int inroot_rmdir(int root, const char *path, int flags);
  * the errors of renameat2(2); EINVAL of another MODE.
  *
  * With INROOT_WHITEOUT the kernel puts a node of the character device 0 in FROM's place in the same moment, which
- * overlayfs takes for an entry that is removed (RENAME_WHITEOUT). EINVAL comes where the file system has none, too,
- * and EPERM before Linux 5.8 without CAP_MKNOD. The proved library asks for a plain rename then and knows nothing of
- * that node: it counts as what somebody else makes there right afterwards.
+ * overlayfs takes for an entry that is removed (RENAME_WHITEOUT). EINVAL comes where the file system has none, too, and
+ * EPERM before Linux 5.8 without CAP_MKNOD. The proved library asks for a plain rename then and knows nothing of that
+ * node: the node counts as an entry that somebody else makes there right afterwards.
  */
 int inroot_rename(int root, const char *from, const char *to, int mode, int flags);
 
 /*
- * Makes all directories of PATH that are missing (mkdirat(2)), each of MODE, none of them through a link, and opens
- * the last. A directory that is there already keeps its mode. Gives a descriptor (O_PATH and O_CLOEXEC). ENOTDIR
- * where what stands there isn't a directory, ENOENT for `..` after a missing name and for a link whose text leads to
- * what is missing, and what mkdirat(2) has beside it. What was made before an error stays.
+ * Makes all directories of PATH that are missing (mkdirat(2)), each of MODE, none of them through a link, and opens the
+ * last. A directory that is there already keeps its mode. Gives a descriptor (O_PATH and O_CLOEXEC). ENOTDIR where
+ * something else is there, ENOENT for `..` after a missing name and for a link whose text leads to a missing object,
+ * and what mkdirat(2) has beside it. Directories made before an error stay.
  *
- * Under INROOT_FOLLOW a link whose text leads to what is missing is gone along, and that is made, below the root: the
- * link is read and its text walked from the directory in which it was found, for at most 40 such links (ELOOP). Several
- * walks are made then. EAGAIN where others are in their way at each try.
+ * Under INROOT_FOLLOW the call follows a link whose text leads to a missing object, and makes that, below the root: it
+ * reads the link and walks its text from the directory in which it found it, for at most 40 such links (ELOOP). It
+ * makes several walks then. EAGAIN where others are in their way at each try.
  */
 int inroot_mkdir_all(int root, const char *path, mode_t mode, int flags);
 
 /*
  * Opens what is there at PATH, unless that is a directory, or makes an empty file of MODE, and all directories above it
- * that are missing, each of mode ABOVE. Gives a descriptor (O_PATH and O_CLOEXEC) of what was there or was made. A link
- * is followed where that leads to something. One that leads to what is missing is ENOENT, or under INROOT_FOLLOW gone
- * along as by inroot_mkdir_all(), so that its target is made, below the root.
+ * that are missing, each of mode ABOVE. Gives a descriptor (O_PATH and O_CLOEXEC) of the object that was there or that
+ * it made. It follows a link that leads to an object. A link that leads to a missing object gives ENOENT; under
+ * INROOT_FOLLOW the call follows it as inroot_mkdir_all() does, and makes its target, below the root.
  *
  * EISDIR of a directory; then the errors of inroot_mkdir_all() for what is above, and of inroot_mkfile() with
- * INROOT_GIVE. EAGAIN where others make and remove the file at each try. What was made before an error stays.
+ * INROOT_GIVE. EAGAIN where others make and remove the file at each try. Directories made before an error stay.
  */
 int inroot_mkfile_all(int root, const char *path, mode_t mode, mode_t above, int flags);
 
 /*
  * Removes the entry of PATH with all that is below it (unlinkat(2)); of a link the link alone. Gives how many entries
- * it removed, 0 where there was none. What was removed before an error stays removed.
+ * it removed, 0 where there was none. Entries removed before an error stay removed.
  *
  * It goes to any depth, holds some 40 descriptors at most, in a tree of more than 1,022 levels 16 more, fewer where
- * fewer are left, and less than 64 megabytes. It goes on as long as it removes something: who makes entries without end
- * can keep it from ending. A directory that is moved meanwhile, while the call is below it, counts as a try, and these
+ * fewer are left, and less than 64 megabytes. It goes on as long as it removes something: whoever makes entries without
+ * end can keep it from ending. If somebody moves a directory while the call is below it, that counts as a try; tries
  * are counted from the last removal on.
  *
- * What is mounted on a directory of the tree is emptied as well, before the directory itself is refused by EBUSY.
- * Under INROOT_NO_XDEV nothing that is mounted there is touched: EXDEV as soon as the call comes to such a directory.
- * In each directory it goes by the bytes of the names, so that what comes before in that order was removed by then.
+ * If something is mounted on a directory of the tree, the call empties the mount as well, and then the directory itself
+ * gives EBUSY. Under INROOT_NO_XDEV it touches no mount: EXDEV as soon as it comes to such a directory. In each
+ * directory it goes by the bytes of the names, so by then it has removed all that comes before in that order.
  *
  * EBUSY where an entry is in use, as a mount point, or after 600,000 steps without a removal; ENAMETOOLONG where a
  * directory has a name of more than 255 bytes, as vfat and ntfs allow; and what unlinkat(2) has beside it.

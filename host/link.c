@@ -1,4 +1,4 @@
-/* link.c: what was found gets another name. */
+/* link.c: gives an object that was found another name. */
 #define _GNU_SOURCE
 #include "driver.h"
 
@@ -8,7 +8,10 @@
 #include <sys/stat.h>
 #include <unistd.h>
 
-/* A link's new name is made as a link is, with its text, and any other object's as a file is. */
+/*
+ * The step for a second name is MakeLink, with the link's text, if the object is a link, and MakeFile for any other
+ * object.
+ */
 static int link_object(int root, int fd, const char *path, int flags)
 {
     struct stat about;

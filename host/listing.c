@@ -1,7 +1,7 @@
 /*
- * listing.c: the names of a directory's entries, in the order of their bytes, a slash before each. Of a large directory
- * they are a part: the others' turn comes when it is found not to be empty. So a tree takes bounded memory, however many
- * entries a directory has.
+ * listing.c: the names of a directory's entries, in the order of their bytes, a slash before each. For a large directory
+ * they are a part: the others' turn comes when the call finds that it isn't empty. So a tree takes bounded memory,
+ * however many entries a directory has.
  */
 #define _GNU_SOURCE
 #include "driver.h"

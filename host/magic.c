@@ -1,7 +1,7 @@
 /*
- * magic.c: whether a link is one of those of the kernel's own that lead to an object and not along a text
- * (INROOT_NO_MAGICLINKS; RESOLVE_NO_MAGICLINKS of openat2(2)). The kernel alone knows, so it is asked to follow the link,
- * which it won't then.
+ * magic.c: whether a link is one of the kernel's own that lead to an object and not along a text (INROOT_NO_MAGICLINKS;
+ * RESOLVE_NO_MAGICLINKS of openat2(2)). Only the kernel knows, so the driver asks it to follow the link, and it refuses
+ * if the link is one.
  */
 #define _GNU_SOURCE
 #include "driver.h"

@@ -1,7 +1,7 @@
 /*
- * make_all.c: all that is missing of a path is made, and what is there is given. The directories of a path are made by
- * one proved call. Where a link leads to what is missing, that call is refused: then the link's text is read and walked as
- * a path of its own, from the directory in which the link was found, as the walk itself would have gone on.
+ * make_all.c: makes all missing parts of a path, and gives the object at its end. One proved call makes the directories of
+ * a path. If a link leads to a missing object, that call fails: then the driver reads the link's text and walks it as a
+ * path of its own, from the directory in which it found the link, as the walk itself would have gone on.
  */
 #define _GNU_SOURCE
 #include "driver.h"

@@ -11,7 +11,7 @@
 #include <sys/syscall.h>
 #include <unistd.h>
 
-/* What statx(2) tells, of which the headers of the C library may not have all: how much it told, and the mount. */
+/* Two fields of statx(2) that the headers of the C library may lack: which fields it has filled, and the mount. */
 struct told {
     uint32_t mask, others[35];
     uint64_t mount, more[13];

@@ -1,6 +1,7 @@
 /*
- * own_root.c: whether /proc tells what is below the thread's own root directory from what isn't. The path of an object outside
- * begins at the top, and that of one inside at the thread's root. They are told apart only where that root is a mount's.
+ * own_root.c: whether /proc can distinguish objects below the thread's own root directory from others. The path of an object
+ * outside begins at the top, and that of one inside at the thread's root. The two look different only if that root is a
+ * mount's.
  */
 #define _GNU_SOURCE
 #include "driver.h"

@@ -1,4 +1,4 @@
-/* parent.c: the directory of an entry and its name, for system calls that the library doesn't make. */
+/* parent.c: an entry's directory and its name, for system calls that the library doesn't make. */
 #define _GNU_SOURCE
 #include "driver.h"
 

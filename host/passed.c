@@ -1,7 +1,7 @@
 /*
- * passed.c: the names at which a walk stands, from the root on, as far as the driver can tell them. The proved call has its own,
- * which count. The driver looks these up from the root: what it finds there is compared with what is held, so that wrong names
- * cost time alone.
+ * passed.c: the names that a walk has passed, from the root on, as far as the driver knows them. The proved call has its own,
+ * which count. The driver looks these up from the root and compares the result with the object that it holds: so wrong names
+ * cost only time.
  */
 #define _GNU_SOURCE
 #include "driver.h"

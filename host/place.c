@@ -1,7 +1,7 @@
 /*
- * place.c: at which names an object stands below the root, by two witnesses: the path that getcwd(2) or a link in /proc tells,
- * and the kernel's own look-up of just these names from the root (docs/HOST-WHY.md says what they are worth). An object that was
- * opened by such a look-up has been seen by that one already.
+ * place.c: which names lead from the root to an object, by two witnesses: the path that getcwd(2) or a link in /proc gives, and
+ * the kernel's own look-up of just these names from the root (docs/HOST-WHY.md says what they are worth). If such a look-up
+ * opened the object, the second witness has seen it already.
  */
 #define _GNU_SOURCE
 #include "driver.h"

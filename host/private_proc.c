@@ -1,7 +1,7 @@
 /*
- * private_proc.c: a proc(5) of the library's own, which is mounted nowhere: nobody can mount over what is below it. A new one
- * (fsopen(2)); or where the kernel allows none, as in a container's user namespace, the one at /proc without what is mounted
- * below it (open_tree(2)).
+ * private_proc.c: a proc(5) of the library's own, which is mounted nowhere: nobody can mount over anything below it. It is a
+ * new one (fsopen(2)); or if the kernel allows none, as in a container's user namespace, the one at /proc without the mounts
+ * below that (open_tree(2)).
  */
 #define _GNU_SOURCE
 #include "driver.h"

@@ -1,8 +1,8 @@
 /*
- * proc.c: the /proc of this program, in which the kernel tells the path of a descriptor. It is opened once for the
- * program, and before each use it is seen to be a proc(5) still, since its number may have been closed, or be another
- * file's in a table of descriptors of a thread's own. In another file of a proc(5) the names that are asked for
- * aren't there: then the library looks whether it is the one that it opened, and does without.
+ * proc.c: the /proc of this program, in which the kernel gives the path of a descriptor. The library opens it once for
+ * the program. Before each use it checks that this is still a proc(5): the program may have closed the number, or it
+ * may be another file's in a thread's own table of descriptors. Another file of a proc(5) lacks the names that the
+ * library looks for: then the library checks whether it is the one that it opened, and does without.
  */
 #define _GNU_SOURCE
 #include "driver.h"

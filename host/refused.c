@@ -1,7 +1,7 @@
 /*
- * refused.c: what the proved call is told of an error of a system call. The proved library says which errors the step table may
- * refuse a step by. The call is told no other error: the step counts as not made, as if there had been no memory for it. So it
- * closes what it opened, and ends. The caller gets the error itself (docs/LINUX.md has the table).
+ * refused.c: what the driver answers to the proved call after an error of a system call. The proved library says by which
+ * errors the step table may refuse a step. After any other error the step counts as not made, as if there had been no memory
+ * for it: so the call closes what it opened, and ends. The caller gets the error itself (docs/LINUX.md has the table).
  */
 #include "driver.h"
 

@@ -1,5 +1,5 @@
 /*
- * remove.c: an entry removed with all that is below it, by as many proved calls as that takes. One call makes a bounded
+ * remove.c: removes an entry with all that is below it, by as many proved calls as that takes. One call makes a bounded
  * number of steps and goes to a bounded depth.
  */
 #define _GNU_SOURCE
@@ -10,7 +10,7 @@
 #include <string.h>
 #include <unistd.h>
 
-/* How many directories are kept from which a call goes on, each by a descriptor. */
+/* How many directories the driver keeps to go on from, each by a descriptor. */
 enum { PLACES = 16 };
 
 /* A call that ended by its bound of steps, and not by the kernel's EBUSY of an entry. */

@@ -1,4 +1,4 @@
-/* stands.c: where an object stands below the root, by both witnesses. */
+/* stands.c: an object's path below the root, by both witnesses. */
 #define _GNU_SOURCE
 #include "driver.h"
 
@@ -8,7 +8,7 @@
 #include <sys/stat.h>
 #include <unistd.h>
 
-/* How often it is asked, where it stands outside at once or is moved meanwhile. */
+/* How often the driver asks, if the object is outside or is moved meanwhile. */
 enum { QUESTIONS = 8 };
 
 /*

@@ -1,10 +1,10 @@
 /*
  * trust.c: what a thread keeps in a jail with INROOT_TRUST_PROC: a descriptor of its own table in /proc, and one of its root.
- * Its calls read links in the first, and look names up from the second. They don't look first whether the numbers still stand
- * for these two: the program promises that they do.
+ * Its calls read links in the first, and look names up from the second. They don't check first whether the numbers still are
+ * these two: the program promises that they are.
  *
  * A child of fork(2) has both descriptors, too, and its first one leads to its parent's table. So the thread has a page that the
- * kernel empties for a child (MADV_WIPEONFORK). A child finds zeros there, and forgets both descriptors.
+ * kernel fills with zeros for a child (MADV_WIPEONFORK). A child finds zeros there, and forgets both descriptors.
  */
 #define _GNU_SOURCE
 #include "driver.h"

@@ -1,4 +1,7 @@
-/* use.c: what was found is opened to be read and written, and files are made and opened, or are told of. */
+/*
+ * use.c: opens an object that was found for reading and writing, makes and opens files, and gives the status of an
+ * object.
+ */
 #define _GNU_SOURCE
 #include "driver.h"
 

@@ -1,7 +1,7 @@
 /*
- * walk.c: the entries below a directory, one after another, with one descriptor for each level. A directory is opened by its
- * name in the one that has it, through no link, and then has to be what its path means below the root, by a call of its own. So
- * whoever moves directories meanwhile, none is listed that didn't stand below the root after it was opened.
+ * walk.c: the entries below a directory, one after another, with one descriptor for each level. The walk opens a directory by
+ * its name in the one that has it, through no link. Then a call of its own must find the same directory by its path below the
+ * root. So whoever moves directories meanwhile, the walk lists no directory that wasn't below the root after it was opened.
  */
 #define _GNU_SOURCE
 #include "driver.h"
@@ -31,7 +31,7 @@ struct record {
 struct level {
     struct level *above;
     int fd;
-    bool is_lost;          /* it no longer stands where it was found */
+    bool is_lost;          /* it is no longer where it was found */
     size_t length;         /* of its path in `text` */
     size_t at, got;        /* of what was read, so much was given */
     _Alignas(8) char records[RECORDS];
@@ -55,7 +55,7 @@ static int open_to_read(int dir, const char *name)
     return fd < 0 ? -errno : fd;
 }
 
-/* ---- whether a directory stands where it was found */
+/* ---- whether a directory is where it was found */
 
 static bool is_same(int one, int other)
 {
@@ -63,7 +63,7 @@ static bool is_same(int one, int other)
     return fstat(one, &a) == 0 && fstat(other, &b) == 0 && a.st_dev == b.st_dev && a.st_ino == b.st_ino;
 }
 
-/* Whether the text means this directory, which then stood below the root: 0; -ESTALE where it means something else; -errno. */
+/* Whether the text means this directory, which then was below the root: 0; -ESTALE where it means something else; -errno. */
 static int stands(const struct inroot_walk *walk, int fd, int more)
 {
     int now = inroot_open(walk->root, walk->text, walk->flags | more);

@@ -1,7 +1,7 @@
 /*
- * xattr.c: the extended attributes of what was found. Linux 6.13 has system calls that take a name in a directory, which is that
- * of /proc here. Before that there are only those that take a path: it is walked from the current directory of a jail, which is
- * made that of /proc, and else from the top, where what is called /proc is the directory that the library has open.
+ * xattr.c: the extended attributes of an object that was found. Linux 6.13 has system calls that take a name in a directory,
+ * here in /proc. Before that all of them take a path. In a jail the driver makes /proc the thread's current directory, and the
+ * path begins there. Elsewhere it begins at the top, if /proc there is the directory that the library has open.
  */
 #define _GNU_SOURCE
 #include "driver.h"

@@ -2,7 +2,8 @@
 # The tests of the bindings, and programs over them. checks/library reads this file.
 
 if ! lacks cargo bindings/rust; then
-    export CARGO_TARGET_DIR=$work/target
+    # Nobody debugs what is built here, nor builds it a second time after a change.
+    export CARGO_TARGET_DIR=$work/target CARGO_INCREMENTAL=0 CARGO_PROFILE_DEV_DEBUG=0 CARGO_PROFILE_TEST_DEBUG=0
     lacks rustfmt 'the form of bindings/rust' ||
         has 'rustfmt' rustfmt --check --edition 2021 --config-path bindings/rust bindings/rust/src/lib.rs \
             bindings/rust/tests/*.rs bindings/rust/build.rs

@@ -35,8 +35,8 @@ if ! lacks clang 'thin link-time optimization'; then
 fi
 
 # Options of the environment reach the library and the tool: a guard on the stack and calls that look at sizes are asked for.
-if compiles cc -fstack-protector-strong -O2 -D_FORTIFY_SOURCE=2; then
-    built_by hardened CFLAGS='-O2 -fstack-protector-strong' CPPFLAGS=-D_FORTIFY_SOURCE=2 LDFLAGS=-Wl,--no-undefined
+if compiles cc -fstack-protector-strong -O1 -D_FORTIFY_SOURCE=2; then
+    built_by hardened CFLAGS='-O1 -fstack-protector-strong' CPPFLAGS=-D_FORTIFY_SOURCE=2 LDFLAGS=-Wl,--no-undefined
     for name in libinroot.so.0 inroot-fs; do
         asked=$(nm -D --undefined-only "$work/by-hardened/$name")
         grep -q __stack_chk_fail <<<"$asked" && grep -q '_chk\b' <<<"$asked"
@@ -49,14 +49,14 @@ notes() { readelf -nW "$1" | grep -E 'x86 feature|Build ID'; }
 verdict $? "the shared library has no build id: $(notes "$prefix/lib/libinroot.so.0")"
 # The proved calls keep to call and return; they have no marks of where jumps lead.
 if compiles cc -fcf-protection && [[ $(cc -dumpmachine) = x86_64-* ]]; then
-    has 'an archive for a shadow stack' host/build "$library" "$work/marked.a" -O1 -fcf-protection
+    has 'an archive for a shadow stack' host/build "$library" "$work/marked.a" -O0 -fcf-protection
     grep -q 'SHSTK' <<<"$(notes "$work/marked.a")" && ! grep -q IBT <<<"$(notes "$work/marked.a")"
     verdict $? "an archive for a shadow stack: $(notes "$work/marked.a")"
-    has 'an archive for none' host/build "$library" "$work/plain.a" -O1 -fcf-protection=none
+    has 'an archive for none' host/build "$library" "$work/plain.a" -O0 -fcf-protection=none
     [ -z "$(notes "$work/plain.a")" ]
     verdict $? "an archive for no shadow stack: $(notes "$work/plain.a")"
 fi
-has 'a compiler with an option' make_host OUT="$work/by-option" LIBRARY="$library" CC='cc -fno-common' "$work/by-option/libinroot.a"
+has 'a compiler with an option' make_host OUT="$work/by-option" LIBRARY="$library" CC='cc -fno-common' CFLAGS=-O0 "$work/by-option/libinroot.a"
 
 # For a machine that no archive fits nothing is built, and a line says so. One that names itself so is enough.
 # refused_for MACHINE

@@ -202,11 +202,7 @@ static void by_proc(void)
 
 static void jail_by(int flags)
 {
-    int failed = inroot_jail_with(root, flags);
-    if (failed == -EPERM)
-        _exit(NO_RIGHT);
-    errno = -failed;
-    sure(failed, "inroot_jail_with");
+    jail_or_end(root, flags);
     at = INROOT_JAIL;
     each(flags != 0);
 }
@@ -223,17 +219,7 @@ static void in_trusting_jail(void)
 
 int main(int count, char **words)
 {
-    if (count != 2)
-        return 2;
-    if (!has_openat2())
-        return NO_OPENAT2;
-    base = sure(open(words[1], O_PATH | O_DIRECTORY | O_CLOEXEC), words[1]);
-    sure(mkdirat(base, "box", 0755), "box");
-    root = sure(openat(base, "box", O_PATH | O_DIRECTORY | O_CLOEXEC), "box");
+    begin_in_box(count, words, &base, &root);
     make_tree();
-    apart(by_proc);
-    int skipped = apart(in_jail);
-    apart(in_trusting_jail);
-    printf("above: %d not as they are to be\n", wrong);
-    return wrong != 0 ? 1 : skipped;
+    return in_each_way("above", by_proc, in_jail, in_trusting_jail);
 }

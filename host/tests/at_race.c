@@ -238,11 +238,13 @@ struct kind {
     const char *name;
     int (*work)(int at, uint64_t *state);
     void (*move)(void);
+    bool ends_early;
 };
 
 static const struct kind kinds[] = {
-    {"from", use_from, move_directories}, {"parts", open_parts, move_directories}, {"all", make_all, move_directories},
-    {"given", give, move_entries}, {"places", tell_places, move_directories},
+    {"from", use_from, move_directories, false}, {"parts", open_parts, move_directories, false},
+    {"all", make_all, move_directories, false}, {"given", give, move_entries, false},
+    {"places", tell_places, move_directories, false},
 };
 
 static void race_of(const struct kind *kind, unsigned seconds)
@@ -256,6 +258,7 @@ static void race_of(const struct kind *kind, unsigned seconds)
     };
     char title[64];
     snprintf(title, sizeof title, "at_race: %s", kind->name);
+    may_end_early = kind->ends_early;
     race(title, workers, sizeof workers / sizeof *workers, kind->move, seconds);
     bring_back();
     expect(is_untouched(), "%s: something outside was changed", title);

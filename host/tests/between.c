@@ -115,20 +115,10 @@ static void in_trusting_jail(void)
 
 int main(int count, char **words)
 {
-    if (count != 2)
-        return 2;
-    if (!has_openat2())
-        return NO_OPENAT2;
-    base = sure(open(words[1], O_PATH | O_DIRECTORY | O_CLOEXEC), words[1]);
-    sure(mkdirat(base, "box", 0755), "box");
-    root = sure(openat(base, "box", O_PATH | O_DIRECTORY | O_CLOEXEC), "box");
+    begin_in_box(count, words, &base, &root);
     sure(mkdirat(root, "2", 0755), "2");
     make_directory();
     make_file();
     sure(mknodat(root, "2/g", S_IFREG | 0600, 0), "2/g");
-    apart(by_proc);
-    int skipped = apart(in_jail);
-    apart(in_trusting_jail);
-    printf("between: %d not as they are to be\n", wrong);
-    return wrong != 0 ? 1 : skipped;
+    return in_each_way("between", by_proc, in_jail, in_trusting_jail);
 }

@@ -7,6 +7,7 @@
  */
 #define _GNU_SOURCE
 #include "support.h"
+#include "until.h"
 
 #include <errno.h>
 #include <pthread.h>
@@ -24,7 +25,7 @@ struct worker {
     bool jailed;
     int flags;
     unsigned long failed;
-    atomic_ulong opened, refused, led, made;
+    atomic_ulong opened, refused, led, made, turns;
 };
 
 static int made_in(int dir, const char *name)
@@ -50,6 +51,7 @@ static void *place(void *self)
         syscall(SYS_renameat2, dir, "d", dir, "e", INROOT_EXCHANGE);
         me->made += unlinkat(linked, "target", 0) == 0;
         unlinkat(plain, "f", 0);
+        me->turns++;
     }
     close(plain);
     close(linked);
@@ -89,13 +91,31 @@ static bool follows(const struct worker *me)
     return !(me->flags & INROOT_NO_LINKS);
 }
 
+enum { WORKERS = 3, CONTROL = WORKERS - 1 };
+
+/* Whether it is known that the race sees a hole before its time is over (checks/mutants --races). */
+static const bool may_end_early = false;
+
 /* Whether each came to a link: to be led there, or to be refused. */
-static bool is_met(const struct worker *workers, int count)
+static bool is_met(const void *race)
 {
+    const struct worker *workers = race;
     bool met = true;
-    for (int one = 0; one < count; one++)
+    for (int one = 0; one < WORKERS; one++)
         met = met && workers[one].opened > 0 && (follows(&workers[one]) ? workers[one].led : workers[one].refused) > 0;
     return met;
+}
+
+static bool is_enough(const void *race)
+{
+    const struct worker *workers = race;
+    bool enough = workers[CONTROL].led >= ENOUGH_LED;
+    for (int one = 0; one < WORKERS; one++) {
+        const struct worker *w = &workers[one];
+        enough = enough && w->turns >= ENOUGH_MOVES && w->opened >= ENOUGH_DONE && w->opened + w->refused >= ENOUGH_CALLS &&
+                 (follows(w) || w->refused >= ENOUGH_DONE);
+    }
+    return enough;
 }
 
 static void judge(const struct worker *me)
@@ -112,12 +132,12 @@ static void judge(const struct worker *me)
 
 int main(int count, char **words)
 {
-    struct worker workers[] = {
+    struct worker workers[WORKERS] = {
         {.name = "by /proc", .directory = "a", .flags = INROOT_NO_LINKS},
         {.name = "in a jail", .directory = "b", .flags = INROOT_NO_LINKS, .jailed = true},
         {.name = "without the flag", .directory = "c"},
     };
-    enum { WORKERS = sizeof workers / sizeof *workers, CONTROL = WORKERS - 1 };
+    const struct goals goals = {is_met, may_end_early ? is_enough : NULL};
     pthread_t threads[WORKERS], placers[WORKERS];
     if (count != 3)
         return 2;
@@ -133,11 +153,7 @@ int main(int count, char **words)
         pthread_create(&placers[one], NULL, place, &workers[one]);
         pthread_create(&threads[one], NULL, work, &workers[one]);
     }
-    unsigned seconds = (unsigned)atoi(words[2]);
-    sleep(seconds);
-    /* On a machine that has much other work it takes longer until a race is met at all. */
-    for (unsigned more = 0; !is_met(workers, WORKERS) && more < 20 * seconds; more++)
-        sleep(1);
+    wait_for_race((unsigned)atoi(words[2]), &goals, workers);
     stop = true;
     for (int one = 0; one < WORKERS; one++) {
         pthread_join(threads[one], NULL);

@@ -196,17 +196,18 @@ struct kind {
     const char *name;
     int (*work)(int at, uint64_t *state);
     void (*move)(void);
+    bool ends_early;
     enum place places[8];
     int count;
 };
 
 static const struct kind kinds[] = {
-    {"at_once", open_plainly, move_files, {PLAIN, BY_JAIL, BY_TRUST, CHROOT}, 4},
-    {"trust", use_any, move_directories, {BY_TRUST, BY_TRUST, BY_TRUST, IN_TRUST}, 4},
-    {"create", create_any, move_directories, {PLAIN, BY_JAIL, BY_TRUST, IN_JAIL}, 4},
-    {"publish", publish_any, move_directories, {PLAIN, BY_JAIL, BY_TRUST}, 3},
-    {"remove", remove_tree, move_directories, {PLAIN, BY_JAIL, BY_TRUST}, 3},
-    {"kept", use_any, move_directories, {PLAIN, PLAIN, PLAIN, PLAIN, PLAIN, PLAIN, PLAIN, PLAIN}, 8},
+    {"at_once", open_plainly, move_files, false, {PLAIN, BY_JAIL, BY_TRUST, CHROOT}, 4},
+    {"trust", use_any, move_directories, false, {BY_TRUST, BY_TRUST, BY_TRUST, IN_TRUST}, 4},
+    {"create", create_any, move_directories, false, {PLAIN, BY_JAIL, BY_TRUST, IN_JAIL}, 4},
+    {"publish", publish_any, move_directories, false, {PLAIN, BY_JAIL, BY_TRUST}, 3},
+    {"remove", remove_tree, move_directories, false, {PLAIN, BY_JAIL, BY_TRUST}, 3},
+    {"kept", use_any, move_directories, false, {PLAIN, PLAIN, PLAIN, PLAIN, PLAIN, PLAIN, PLAIN, PLAIN}, 8},
 };
 
 static void race_of(const struct kind *kind, unsigned seconds)
@@ -214,6 +215,7 @@ static void race_of(const struct kind *kind, unsigned seconds)
     const struct worker control = {.name = "a walk without a check", .work = open_unchecked, .control = true};
     char title[64];
     snprintf(title, sizeof title, "new_race: %s", kind->name);
+    may_end_early = kind->ends_early;
     race_in(title, &control, kind->work, kind->places, kind->count, kind->move, seconds);
     is_untouched(title);
 }

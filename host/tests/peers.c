@@ -10,6 +10,7 @@
  */
 #define _GNU_SOURCE
 #include "support.h"
+#include "until.h"
 
 #include <dirent.h>
 #include <errno.h>
@@ -24,7 +25,6 @@
 #include <sys/stat.h>
 #include <sys/syscall.h>
 #include <sys/time.h>
-#include <time.h>
 
 static int base, root, out;
 static atomic_bool stop, fooled;
@@ -40,7 +40,7 @@ struct worker {
     int (*work)(int at, int flags, uint64_t *state);
     int flags, jail_flags;
     bool jailed, control;
-    unsigned long done, raced, failed, escaped;
+    atomic_ulong done, raced, failed, escaped;
 };
 
 static bool is_outside(int fd)
@@ -226,23 +226,47 @@ static void is_untouched(const char *race)
 
 /* ---- races */
 
-/* How many times as long a race goes on at most, where no race was met. */
-enum { MOST_TIMES = 20 };
+/* Whether it is known that the race sees a hole before its time is over (checks/mutants --races). */
+static bool ends_early;
 
-/* However many signals come. */
-static void wait_for(unsigned seconds)
+/* The workers of a race. */
+struct crowd {
+    const struct worker *workers;
+    int count;
+};
+
+/* Whether each has done something, and the control was fooled, where there is one. */
+static bool is_met(const void *race)
 {
-    struct timespec from, now;
-    const struct timespec short_time = {.tv_nsec = 20000000};
-    clock_gettime(CLOCK_MONOTONIC, &from);
-    do {
-        nanosleep(&short_time, NULL);
-        clock_gettime(CLOCK_MONOTONIC, &now);
-    } while (now.tv_sec - from.tv_sec < (long)seconds);
+    const struct crowd *all = race;
+    bool met = true;
+    for (int at = 0; at < all->count; at++)
+        met = met && (all->workers[at].control ? fooled : all->workers[at].done > 0);
+    return met;
+}
+
+/* A call with one try shows that it was met by a move: it gives EAGAIN. */
+static bool is_enough_of(const struct worker *w)
+{
+    bool enough = w->done + w->failed >= ENOUGH_CALLS;
+    if (w->control)
+        return enough && w->escaped >= ENOUGH_LED;
+    return enough && w->done >= ENOUGH_DONE && (!(w->flags & INROOT_NO_RETRY) || w->raced >= ENOUGH_DONE);
+}
+
+static bool is_enough(const void *race)
+{
+    const struct crowd *all = race;
+    bool enough = moves >= ENOUGH_MOVES;
+    for (int at = 0; at < all->count; at++)
+        enough = enough && is_enough_of(&all->workers[at]);
+    return enough;
 }
 
 static void race(const char *name, struct worker *workers, int count, void (*about)(uint64_t *), unsigned seconds)
 {
+    const struct goals goals = {is_met, ends_early ? is_enough : NULL};
+    const struct crowd all = {workers, count};
     pthread_t mover, threads[16];
     int before = open_descriptors();
     bool has_control = false;
@@ -251,18 +275,16 @@ static void race(const char *name, struct worker *workers, int count, void (*abo
         has_control |= workers[at].control;
         pthread_create(&threads[at], NULL, work, &workers[at]);
     }
-    wait_for(seconds);
-    /* On a machine that has much other work it takes longer until a race is met at all. */
-    for (unsigned more = 0; has_control && !fooled && more < MOST_TIMES * seconds; more++)
-        wait_for(1);
+    wait_for_race(seconds, &goals, &all);
     stop = true;
     pthread_join(mover, NULL);
     for (int at = 0; at < count; at++) {
         struct worker *w = &workers[at];
         pthread_join(threads[at], NULL);
-        double all = (double)(w->done + w->failed);
-        printf("peers: %s: %s: %lu done, %lu escaped, %lu EAGAIN (%.4f %%), %lu failed\n", name, w->name, w->done, w->escaped,
-               w->raced, all > 0 ? 100 * (double)w->raced / all : 0, w->failed);
+        double calls = (double)(w->done + w->failed);
+        printf("peers: %s: %s: %lu done, %lu escaped, %lu EAGAIN (%.4f %%), %lu failed\n", name, w->name, (unsigned long)w->done,
+               (unsigned long)w->escaped, (unsigned long)w->raced, calls > 0 ? 100 * (double)w->raced / calls : 0,
+               (unsigned long)w->failed);
         if (!w->control) {
             gives((long)w->escaped, 0, "%s: %s: escaped", name, w->name);
             gives_least((long)w->done, 1, "%s: %s: done", name, w->name);
@@ -357,17 +379,19 @@ static void make_together(int count, bool jails)
     pthread_barrier_destroy(&together);
 }
 
+/* Each has 254 threads. */
+enum { ENOUGH_ROUNDS = 8 };
+
 static void create(bool jails, unsigned seconds)
 {
-    struct timeval from, now;
+    const bool is_whole = getenv("INROOT_WHOLE_RACES") != NULL;
+    const double end = seconds_now() + seconds;
     unsigned long rounds = 0;
-    gettimeofday(&from, NULL);
     do {
         for (int count = 2; count <= 128; count *= 2)
             make_together(count, jails);
         rounds++;
-        gettimeofday(&now, NULL);
-    } while (now.tv_sec - from.tv_sec < (long)seconds);
+    } while (seconds_now() < end && (is_whole || rounds < ENOUGH_ROUNDS));
     printf("peers: create: %lu rounds of 2 to 128 threads, %d not as they are to be\n", rounds, wrong);
 }
 
@@ -422,6 +446,7 @@ int main(int count, char **words)
     make_dirs();
     open_proc();
     bool jails = may_jail(root);
+    ends_early = false;
     if (strcmp(on, "storm") == 0)
         storm();
     if (strcmp(what, "rename") == 0)

@@ -3,6 +3,7 @@
 #define RACE_H
 
 #include "support.h"
+#include "until.h"
 
 #include <errno.h>
 #include <limits.h>
@@ -11,7 +12,6 @@
 #include <stdatomic.h>
 #include <string.h>
 #include <sys/stat.h>
-#include <time.h>
 
 /*
  * Where a worker asks: by the root's descriptor in which thread, or by INROOT_JAIL; or by that of a root that is kept with
@@ -26,8 +26,8 @@ struct worker {
     /* A call: a descriptor, 0 or -errno. */
     int (*work)(int at, uint64_t *state);
     bool control;
-    unsigned long calls, raced, escaped;
-    atomic_ulong done;
+    unsigned long raced;
+    atomic_ulong calls, done, escaped;
 };
 
 static atomic_bool stop, fooled;
@@ -121,27 +121,48 @@ static inline void *in_the_way(void *what)
 
 static inline void tell_worker(const char *race, const struct worker *w)
 {
-    printf("%s: %s: %lu calls, %lu done, %lu EAGAIN, %lu escaped\n", race, w->name, w->calls, (unsigned long)w->done, w->raced,
-           w->escaped);
+    printf("%s: %s: %lu calls, %lu done, %lu EAGAIN, %lu escaped\n", race, w->name, (unsigned long)w->calls,
+           (unsigned long)w->done, w->raced, (unsigned long)w->escaped);
     if (w->control)
         return;
     gives((long)w->escaped, 0, "%s: %s: escaped", race, w->name);
     gives_least((long)w->done, 1, "%s: %s: done", race, w->name);
 }
 
+/* The workers of a race. */
+struct crowd {
+    const struct worker *workers;
+    int count;
+};
+
 /* Whether each has done something, and the control was fooled, where there is one. */
-static inline bool is_met(const struct worker *workers, int count)
+static inline bool is_met(const void *race)
 {
+    const struct crowd *all = race;
     bool met = true;
-    for (int at = 0; at < count; at++)
-        met = met && (workers[at].control ? fooled : workers[at].done > 0);
+    for (int at = 0; at < all->count; at++)
+        met = met && (all->workers[at].control ? fooled : all->workers[at].done > 0);
     return met;
 }
 
-/* Goes on for longer where a race isn't met at first: on a machine that has much other work this takes time. */
+static inline bool is_enough(const void *race)
+{
+    const struct crowd *all = race;
+    bool enough = moves >= ENOUGH_MOVES;
+    for (int at = 0; at < all->count; at++) {
+        const struct worker *w = &all->workers[at];
+        enough = enough && w->calls >= ENOUGH_CALLS && (w->control ? w->escaped >= ENOUGH_LED : w->done >= ENOUGH_DONE);
+    }
+    return enough;
+}
+
+/* Whether it is known that the race sees a hole before its time is over (checks/mutants --races). */
+static bool may_end_early;
+
 static inline void race(const char *name, struct worker *workers, int count, void (*move)(void), unsigned seconds)
 {
-    enum { MOST_TIMES = 20 };
+    const struct goals goals = {is_met, may_end_early ? is_enough : NULL};
+    const struct crowd all = {workers, count};
     pthread_t mover, threads[MOST_WORKERS];
     bool has_control = false;
     int before = open_descriptors();
@@ -151,9 +172,7 @@ static inline void race(const char *name, struct worker *workers, int count, voi
         has_control |= workers[at].control;
         pthread_create(&threads[at], NULL, work_there, &workers[at]);
     }
-    sleep(seconds);
-    for (unsigned more = 0; !is_met(workers, count) && more < MOST_TIMES * seconds; more++)
-        sleep(1);
+    wait_for_race(seconds, &goals, &all);
     stop = true;
     pthread_join(mover, NULL);
     for (int at = 0; at < count; at++)

@@ -249,6 +249,7 @@ int main(int count, char **words)
     bool is_renamed = races[one].move == rename_root_too;
     if (strcmp(words[3], "overlay") == 0)
         on_overlay();
+    may_end_early = false;
     make_tree(is_renamed ? "" : where + 1, is_renamed ? "other/q" : "q");
     if (races[one].mount != NULL)
         races[one].mount();

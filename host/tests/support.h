@@ -244,6 +244,29 @@ __attribute__((unused)) static int apart(void (*what)(void))
     return 0;
 }
 
+/* A directory `box` below the one that is given, as the root. */
+static inline void begin_in_box(int count, char **words, int *base, int *root)
+{
+    if (count != 2)
+        exit(2);
+    if (!has_openat2())
+        exit(NO_OPENAT2);
+    *base = sure(open(words[1], O_PATH | O_DIRECTORY | O_CLOEXEC), words[1]);
+    sure(mkdirat(*base, "box", 0755), "box");
+    *root = sure(openat(*base, "box", O_PATH | O_DIRECTORY | O_CLOEXEC), "box");
+}
+
+/* The same calls by the root's descriptor, in a jail, and in one that trusts: each in a process of its own. Gives how the check ends. */
+__attribute__((unused)) static int in_each_way(const char *name, void (*by_proc)(void), void (*in_jail)(void),
+                                               void (*in_trusting_jail)(void))
+{
+    apart(by_proc);
+    int skipped = apart(in_jail);
+    apart(in_trusting_jail);
+    printf("%s: %d not as they are to be\n", name, wrong);
+    return wrong != 0 ? 1 : skipped;
+}
+
 /* A child of fork(2), which waits for a byte. */
 struct child {
     pid_t id;

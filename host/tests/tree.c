@@ -16,15 +16,17 @@
 #include <sys/stat.h>
 #include <sys/syscall.h>
 
-/* A sanitizer takes memory of its own, and time. Sixteen proved calls go 16,352 directories deep. */
+/* A sanitizer takes memory of its own, and time. One proved call goes 1,022 directories deep, and sixteen 16,352. */
 #if defined(__has_feature)
 #if __has_feature(address_sanitizer)
 #define MEGABYTES 4096
-#define DEEPER 17000
+#define DEEP 2100
+#define DEEPER 16400
 #endif
 #endif
 #ifndef MEGABYTES
 #define MEGABYTES 64
+#define DEEP 5000
 #define DEEPER 40000
 #endif
 
@@ -128,31 +130,26 @@ static void remove_it(const char *what, long count)
 
 static void deep(void)
 {
-    remove_it("5,000 directories, each in the one before", make_chain(5000));
+    remove_it("directories, each in the one before", make_chain(DEEP));
 }
 
-/* Deeper than one proved call goes. */
+/* Deeper than one proved call goes. What is refused there is told as anywhere, and the next call removes all. */
 static void deeper(void)
 {
-    remove_it("more directories, each in the one before", make_chain(DEEPER));
-}
-
-/* What is refused below where one proved call goes is told as anywhere. */
-static void refused_deeper(void)
-{
     struct inroot_error why;
-    make_chain(DEEPER);
+    long count = make_chain(DEEPER);
+    int before = open_descriptors();
     refusal = EIO;
     ssize_t removed = inroot_remove_all(root, "t", 0);
     gives(removed, -EIO, "a removal that is refused far below");
+    gives_most(open_descriptors() - before, 1, "the same: descriptors left open");
     gives(inroot_last_error(&why), 0, "what is told of it");
     gives(why.error, EIO, "the error that is told of it");
     gives_text(why.step, "RemoveDir", "the step that is told of it");
     gives_text(why.name, "d", "the name that is told of it");
     gives_text(why.rest, "", "the rest that is told of it");
     refusal = 0;
-    removed = inroot_remove_all(root, "t", 0);
-    gives(removed, DEEPER + (DEEPER - 1) / 100, "the same, and not refused");
+    remove_it("more directories, each in the one before", count);
 }
 
 static void many(void)
@@ -262,7 +259,7 @@ static void moved(void)
 
 int main(int count, char **words)
 {
-    static void (*const parts[])(void) = {deep, deeper, refused_deeper, many, many_and_deep, long_names, too_long_name, moved};
+    static void (*const parts[])(void) = {deep, deeper, many, many_and_deep, long_names, too_long_name, moved};
     if (count != 3)
         return 2;
     base = sure(open(words[1], O_PATH | O_DIRECTORY | O_CLOEXEC), words[1]);

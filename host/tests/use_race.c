@@ -8,6 +8,7 @@
  */
 #define _GNU_SOURCE
 #include "support.h"
+#include "until.h"
 
 #include <errno.h>
 #include <limits.h>
@@ -21,7 +22,7 @@
 static int base, root;
 static char outside[PATH_MAX + 8];
 static atomic_bool stop;
-static atomic_ulong swaps;
+static atomic_ulong swaps, led_out;
 static struct stat secret;
 
 enum { DOINGS = 8 };
@@ -29,8 +30,8 @@ enum { DOINGS = 8 };
 struct worker {
     const char *name;
     bool jailed;
-    atomic_ulong done[DOINGS];
-    unsigned long failed, escaped;
+    atomic_ulong done[DOINGS], failed;
+    unsigned long escaped;
     int flags;
 };
 
@@ -167,16 +168,16 @@ static void *swap(void *self)
 }
 
 /* What leads a program out that checks nothing. */
-static void *walk_unchecked(void *count)
+static void *walk_unchecked(void *self)
 {
     while (!stop) {
         int fd = openat(root, "x/d/f", O_RDONLY | O_CLOEXEC);
         if (fd >= 0) {
-            *(atomic_ulong *)count += is_secret(fd);
+            led_out += is_secret(fd);
             close(fd);
         }
     }
-    return NULL;
+    return self;
 }
 
 static void write_file(const char *name, const char *text)
@@ -221,13 +222,29 @@ static void begin(const char *dir)
     open_proc();
 }
 
-/* Whether each did each of these once, and the walk without checks was led out. */
-static bool is_met(const struct worker *workers, int count, unsigned long led_out)
+enum { WORKERS = 2 };
+
+/* Whether each did each of these so often, and the walk without checks was led out so often. */
+static bool has_come_to(const struct worker *workers, unsigned long least_done, unsigned long least_led)
 {
-    bool met = led_out > 0;
-    for (int one = 0; one < count * DOINGS; one++)
-        met = met && workers[one / DOINGS].done[one % DOINGS] > 0;
-    return met;
+    bool come = led_out >= least_led;
+    for (int one = 0; one < WORKERS * DOINGS; one++)
+        come = come && workers[one / DOINGS].done[one % DOINGS] >= least_done;
+    return come;
+}
+
+static bool is_met(const void *race)
+{
+    return has_come_to(race, 1, 1);
+}
+
+static bool is_enough(const void *race)
+{
+    const struct worker *workers = race;
+    bool enough = swaps >= ENOUGH_MOVES && has_come_to(workers, ENOUGH_DONE, ENOUGH_LED);
+    for (int one = 0; one < WORKERS; one++)
+        enough = enough && workers[one].failed >= ENOUGH_CALLS;
+    return enough;
 }
 
 static void judge(struct worker *me)
@@ -236,7 +253,7 @@ static void judge(struct worker *me)
            "escaped %lu\n",
            me->name, (unsigned long)me->done[0], (unsigned long)me->done[1], (unsigned long)me->done[2],
            (unsigned long)me->done[3], (unsigned long)me->done[4], (unsigned long)me->done[5], (unsigned long)me->done[6],
-           (unsigned long)me->done[7], me->failed, me->escaped);
+           (unsigned long)me->done[7], (unsigned long)me->failed, me->escaped);
     gives((long)me->escaped, 0, "%s: escaped", me->name);
     for (int which = 0; which < DOINGS; which++)
         gives_least(me->done[which], 1, "%s: successes of doing %d", me->name, which);
@@ -244,26 +261,22 @@ static void judge(struct worker *me)
 
 int main(int count, char **words)
 {
-    struct worker workers[] = {{.name = "in a jail", .jailed = true}, {.name = "by /proc"}};
-    pthread_t swapper, threads[2], unchecked;
-    atomic_ulong led_out = 0;
+    struct worker workers[WORKERS] = {{.name = "in a jail", .jailed = true}, {.name = "by /proc"}};
+    static const struct goals goals = {is_met, is_enough};
+    pthread_t swapper, threads[WORKERS], unchecked;
     if (count != 3)
         return 2;
     begin(words[1]);
     int before = open_descriptors();
     pthread_create(&swapper, NULL, swap, NULL);
-    pthread_create(&unchecked, NULL, walk_unchecked, &led_out);
-    for (int one = 0; one < 2; one++)
+    pthread_create(&unchecked, NULL, walk_unchecked, NULL);
+    for (int one = 0; one < WORKERS; one++)
         pthread_create(&threads[one], NULL, work, &workers[one]);
-    unsigned seconds = (unsigned)atoi(words[2]);
-    sleep(seconds);
-    /* On a machine that has much other work it takes longer until a race is met at all. */
-    for (unsigned more = 0; !is_met(workers, 2, led_out) && more < 20 * seconds; more++)
-        sleep(1);
+    wait_for_race((unsigned)atoi(words[2]), &goals, workers);
     stop = true;
     pthread_join(swapper, NULL);
     pthread_join(unchecked, NULL);
-    for (int one = 0; one < 2; one++) {
+    for (int one = 0; one < WORKERS; one++) {
         pthread_join(threads[one], NULL);
         judge(&workers[one]);
     }
