@@ -238,7 +238,7 @@ struct inroot_next_try {
  */
 void inroot_next_try(uint32_t tries, bool may_retry, uint32_t error, bool lost, struct inroot_next_try *next);
 
-/* Which object a system call tells of; the mount is 0 where it doesn't tell that. */
+/* The object that a system call describes. The mount is 0 if the call doesn't give it. */
 struct inroot_object {
     uint64_t device, inode, mount;
 };
@@ -254,7 +254,7 @@ struct inroot_birth {
 
 enum inroot_same { INROOT_ANOTHER, INROOT_SAME, INROOT_SAME_ON_OVERLAYFS };
 
-/* Whether it is the directory that was there before, as far as these tell (`enum inroot_same`). */
+/* Whether it is the directory that was there before, by these numbers (`enum inroot_same`). */
 uint8_t inroot_same_directory(const struct inroot_birth *now, const struct inroot_birth *before);
 
 /* The kind of an object by its mode (`enum inroot_kind`). */

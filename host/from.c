@@ -160,7 +160,7 @@ bool inroot_from_begins(struct inroot_driver *d, struct inroot_told *told, char 
     return true;
 }
 
-/* Answers by what the driver told the call last. It has made no system call since. */
+/* Answers with the driver's last report. It has made no system call since. */
 bool inroot_from_tells(struct inroot_driver *d, uint64_t handle, char *text, size_t *length)
 {
     if (handle != d->from.told)

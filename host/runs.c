@@ -1,8 +1,9 @@
 /*
  * runs.c: names of a path that follow one another are passed by one openat2(2), which follows no link. Where it
- * succeeds, each of them stood in the one before it, at moments in their order. So the proved call is told that all but
- * the last part were passed as directories, and the step that is due behind them is answered by what was opened. The call
- * counts the names that it was due to open, and no others. docs/HOST-WHY.md has the argument.
+ * succeeds, each of them stood in the one before it, at moments in their order. So the driver reports all but the
+ * last part to the proved call, as directories that it passed, and answers the step that is due behind them by the
+ * descriptor that it opened. The call counts the names that it was due to open, and no others. docs/HOST-WHY.md has the
+ * argument.
  */
 #define _GNU_SOURCE
 #include "driver.h"

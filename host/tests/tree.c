@@ -133,7 +133,7 @@ static void deep(void)
     remove_it("directories, each in the one before", make_chain(DEEP));
 }
 
-/* Deeper than one proved call goes. What is refused there is told as anywhere, and the next call removes all. */
+/* Deeper than one proved call goes. The call reports a refusal there as anywhere, and the next call removes all. */
 static void deeper(void)
 {
     struct inroot_error why;
