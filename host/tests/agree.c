@@ -93,12 +93,6 @@ static int by_kernel(int root, const char *path, int flags)
     return fd < 0 ? -errno : (int)fd;
 }
 
-static int same_object(int a, int b)
-{
-    struct stat one, other;
-    return fstat(a, &one) == 0 && fstat(b, &other) == 0 && one.st_ino == other.st_ino && one.st_dev == other.st_dev;
-}
-
 /* Whether one case agrees. */
 static int agrees(int root, int asked)
 {
@@ -106,7 +100,7 @@ static int agrees(int root, int asked)
     int flags = (int)pick(&state, 8) | (pick(&state, 2) ? INROOT_BELOW : 0);
     random_path(path, PARTS);
     int wanted = by_kernel(root, path, flags), got = inroot_open(asked, path, flags);
-    int same = wanted < 0 || got < 0 ? wanted == got : same_object(wanted, got);
+    int same = is_same_object(wanted, got);
     if (!same)
         printf("not so: %s, flags %d: wanted what openat2(2) gives, %d, got %d\n", path, flags, wanted, got);
     if (wanted >= 0)

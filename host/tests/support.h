@@ -140,6 +140,15 @@ static inline bool is_one_of(int fd, const struct stat *objects, size_t count)
     return false;
 }
 
+/* Whether both descriptors are of one object, or both are the same error. */
+static inline bool is_same_object(int fd, int other)
+{
+    struct stat one, two;
+    if (fd < 0 || other < 0)
+        return fd == other;
+    return fstat(fd, &one) == 0 && fstat(other, &two) == 0 && one.st_ino == two.st_ino && one.st_dev == two.st_dev;
+}
+
 /* Whether this thread has openat2(2), which an older kernel lacks and a filter may refuse. */
 static inline bool has_openat2(void)
 {

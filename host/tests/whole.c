@@ -94,14 +94,6 @@ static int by_kernel(const char *path, int flags)
     return fd < 0 ? -errno : (int)fd;
 }
 
-static bool is_same(int fd, int other)
-{
-    struct stat a, b;
-    if (fd < 0 || other < 0)
-        return fd == other;
-    return fstat(fd, &a) == 0 && fstat(other, &b) == 0 && a.st_ino == b.st_ino && a.st_dev == b.st_dev;
-}
-
 static void close_all(const int *fds, int count)
 {
     for (int one = 0; one < count; one++)
@@ -115,8 +107,10 @@ static bool agrees(const char *path, int flags)
     int steps = inroot_open(at, path, flags | INROOT_ONE_BY_ONE), kernel = by_kernel(path, flags);
     asked = walked = others = 0;
     const int got[] = {inroot_open(at, path, flags | INROOT_BELOW), steps, kernel};
-    expect(is_same(got[0], steps), "%.40s, flags %d, refused by %d: got %d, and by steps %d", path, flags, refusal, got[0], steps);
-    expect(is_same(got[0], kernel), "%.40s, flags %d, refused by %d: got %d, and by openat2(2) %d", path, flags, refusal, got[0], kernel);
+    expect(is_same_object(got[0], steps),
+           "%.40s, flags %d, refused by %d: got %d, and by steps %d", path, flags, refusal, got[0], steps);
+    expect(is_same_object(got[0], kernel),
+           "%.40s, flags %d, refused by %d: got %d, and by openat2(2) %d", path, flags, refusal, got[0], kernel);
     close_all(got, 3);
     return got[0] >= 0;
 }
@@ -315,7 +309,8 @@ static void over_the_root(void)
     for (size_t one = 0; one < sizeof up / sizeof *up; one++) {
         int steps = inroot_open(at, up[one], INROOT_ONE_BY_ONE | INROOT_NO_RETRY);
         int got = inroot_open(at, up[one], INROOT_BELOW | INROOT_NO_RETRY);
-        expect(is_same(got, steps), "%s below what is mounted over the root: %d, and by steps %d", up[one], got, steps);
+        expect(is_same_object(got, steps), "%s below what is mounted over the root: %d, and by steps %d", up[one], got,
+               steps);
         const int both[] = {got, steps};
         close_all(both, 2);
     }
