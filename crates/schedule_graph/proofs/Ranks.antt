@@ -1,6 +1,7 @@
 -- Words are in one order, which stays where both go on by one edge.
-use Rattle.std.specs.Prelude.{◌≡◌, ◌<◌, ◌≤◌, ℕ, zero, suc, length, List, [], ◌∷◌, ◌++◌, Bool, true, false, refl}
-use Rattle.std.proofs.Common.{◌⊎◌, ◌∙◌, subst, ⊎_elim, arith, drop}
+use Rattle.std.specs.Prelude.{◌≡◌, ◌==◌, ◌<◌, ◌+◌, ℕ, zero, suc, length, List, [], ◌∷◌, ◌++◌, Bool, true, false, None, Some, nat_lt, slice_get, refl}
+use Rattle.std.proofs.Common.{◌⊎◌, ◌∙◌, sym, ap, subst, ⊎_elim, arith, drop}
+use Rattle.std.proofs.lemmas.Option.{none-some, same_Some}
 use Rattle.std.proofs.lemmas.Bool.Decides.{nat_tests}
 use Rattle.std.proofs.lemmas.Bool.{true≢false, false≢true}
 use Rattle.schedule_graph.specs.declared.graph.Edge.{Edge}
@@ -95,9 +96,44 @@ past_none (i ∷ is) zero lt = refl
 past_none (i ∷ is) (suc n) lt = past_none is n (omega arith)
 
 -- a list that goes on where the other has ended is after it
-pub past_end : (is js : List ℕ) (n : ℕ) → n < length is → length js ≤ n → is_not_after (drop n is) (drop n js) ≡ false
-past_end [] js n lt le = absurd (omega arith)
-past_end (i ∷ is) [] zero lt le = refl
-past_end (i ∷ is) [] (suc n) lt le = past_none is n (omega arith)
-past_end (i ∷ is) (j ∷ js) zero lt le = absurd (omega arith)
-past_end (i ∷ is) (j ∷ js) (suc n) lt le = past_end is js n (omega arith) (omega arith)
+pub past_end : (is js : List ℕ) (n : ℕ) → n < length is → slice_get js n ≡ None → is_not_after (drop n is) (drop n js) ≡ false
+past_end [] js n lt e = absurd (omega arith)
+past_end (i ∷ is) [] zero lt e = refl
+past_end (i ∷ is) [] (suc n) lt e = past_none is n (omega arith)
+past_end (i ∷ is) (j ∷ js) zero lt e = absurd (none-some j (sym e))
+past_end (i ∷ is) (j ∷ js) (suc n) lt e = past_end is js n (omega arith) e
+
+-- where the other has nothing
+pub not_after_none : (is js : List ℕ) → length js ≡ 0 → (length is == 0) ≡ is_not_after is js
+not_after_none [] [] e = refl
+not_after_none (i ∷ is) [] e = grind (arith, nat_tests)
+not_after_none is (j ∷ js) e = absurd (omega arith)
+
+-- ---- where both go on
+
+both_at : (is js : List ℕ) (n i j : ℕ) → slice_get is n ≡ Some i → slice_get js n ≡ Some j
+    → is_not_after (drop n is) (drop n js) ≡ is_less_or i j (is_not_after (drop (suc n) is) (drop (suc n) js))
+both_at [] js n i j e f = absurd (none-some i e)
+both_at (a ∷ is) [] n i j e f = absurd (none-some j f)
+both_at (a ∷ is) (b ∷ js) zero i j e f =
+    ap (λ x. is_less_or x b (is_not_after is js)) (same_Some a i e) ∙ ap (λ x. is_less_or i x (is_not_after is js)) (same_Some b j f)
+both_at (a ∷ is) (b ∷ js) (suc n) i j e f = both_at is js n i j e f
+
+less_differ : (m n : ℕ) (b : Bool) → (m ≡ n → ⊥) → is_less_or m n b ≡ nat_lt m n
+less_differ m n b ne = grind (arith, nat_tests)
+
+less_same : (m n : ℕ) (b : Bool) → m ≡ n → is_less_or m n b ≡ b
+less_same m n b e = grind (arith, nat_tests)
+
+-- where they differ first
+pub not_after_differ : (is js : List ℕ) (n i j : ℕ) → slice_get is n ≡ Some i → slice_get js n ≡ Some j → (i ≡ j → ⊥)
+    → is_not_after (drop n is) (drop n js) ≡ nat_lt i j
+not_after_differ is js n i j e f ne = both_at is js n i j e f ∙ less_differ i j _ ne
+
+-- where they don't
+pub not_after_next : (is js : List ℕ) (n i j : ℕ) → slice_get is n ≡ Some i → slice_get js n ≡ Some j → i ≡ j
+    → is_not_after (drop n is) (drop n js) ≡ is_not_after (drop (n + 1) is) (drop (n + 1) js)
+not_after_next is js n i j e f same =
+    let up : suc n ≡ n + 1 = omega arith in
+    subst (λ m. is_not_after (drop n is) (drop n js) ≡ is_not_after (drop m is) (drop m js)) up
+    (both_at is js n i j e f ∙ less_same i j _ same)

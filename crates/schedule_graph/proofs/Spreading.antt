@@ -298,13 +298,13 @@ module _ (layers : List (Vec Node)) (k s : ℕ) (edges : Vec Edge) (are : AreLay
         (spread_past layers k s edges goes (layer_apart layers k s edges are goes) j (get_or items j d) there next past
         (subst (λ (xs : List Edge). IsSpread layers k s xs j next) same is))))
 
-    pub spread_on : (m : Count) (r : Rank) → IsCount (rank layers) (LeadsTo layers k s) m → m.least ≡ Some r → (after : List Count) (e n : Count) (q : Rank)
-        → after ≡ slice_set next (get_or items j d).to n → n ≡ added (get_or next (get_or items j d).to e) m.words q → q ≡ went r (get_or items j d)
+    pub spread_on : (m : Count) (r : Rank) → IsCount (rank layers) (LeadsTo layers k s) m → m.least ≡ Some r → (after : List Count) (e n : Count)
+        → after ≡ slice_set next (get_or items j d).to n → n ≡ added (get_or next (get_or items j d).to e) m.words (went r (get_or items j d))
         → (get_or items j d).to < length next → IsSpread layers k s items (j + 1) after
-    spread_on m r count least after e n q set is_added is_went within =
+    spread_on m r count least after e n set is_added within =
         let c : Count = get_or next (get_or items j d).to e in
         subst (λ (cs : List Count). IsSpread layers k s items (j + 1) cs)
-        (sym (set ∙ ap (slice_set next (get_or items j d).to) (is_added ∙ ap (added c m.words) is_went)))
+        (sym (set ∙ ap (slice_set next (get_or items j d).to) is_added))
         (subst (λ i. IsSpread layers k s items i (slice_set next (get_or items j d).to (added c m.words (went r (get_or items j d))))) up
         (subst (λ (xs : List Edge). IsSpread layers k s xs (suc j) (slice_set next (get_or items j d).to (added c m.words (went r (get_or items j d))))) (sym same)
         (spread_there layers k s edges goes (layer_apart layers k s edges are goes) j (get_or items j d) there m r count least next c

@@ -1,7 +1,8 @@
 //! How many words there are, and the least of them.
-ghost use Rattle.std.specs.Prelude.{◌≡◌, ◌<◌, ◌+◌, ◌^◌, [], Some, None, IfOk};
+ghost use Rattle.std.specs.Prelude.{◌≡◌, ◌<◌, ◌+◌, ◌^◌, ◌++◌, ◌∷◌, [], Some, None, min, max, slice_get, IfOk, OnOk};
 ghost use Rattle.schedule_graph.specs.Words.{is_not_after, is_at_most};
 ghost use Rattle.schedule_graph.specs.Adding.{went, lesser, added};
+ghost use Rattle.schedule_graph.specs.declared.count.TheConstants.{COUNT_CAP};
 
 use crate::graph::Edge;
 use path_text::NoMemory;
@@ -51,21 +52,40 @@ pub struct Counts {
     pub all: Count,
 }
 
-/// Whether the first list isn't after the second, in the order of words: the two are equal, or the first ends where the
-/// second goes on, or its label is less where they first differ.
-pub fn is_not_after(labels: &[u32], others: &[u32]) -> bool
-    ensures { result ≡ is_not_after labels.now others.now }
+// The label at that place of a list that has one more behind it.
+fn label_at(labels: &[u32], last: u32, at: usize) -> Option<u32>
+    ensures { result ≡ slice_get (labels.now ++ last ∷ []) at }
+{
+    if at == labels.len() {
+        return Some(last);
+    }
+    labels.get(at).copied()
+}
+
+// Whether the first list isn't after the others with that one more behind them.
+fn is_not_after_with(labels: &[u32], others: &[u32], last: u32) -> bool
+    ensures { result ≡ is_not_after labels.now (others.now ++ last ∷ []) }
 {
     for (at, label) in labels.iter().enumerate() {
-        if at >= others.len() {
+        let Some(other) = label_at(others, last, at) else {
             return false;
-        }
-        let other = others[at];
+        };
         if *label != other {
             return *label < other;
         }
     }
     true
+}
+
+/// Whether the first list isn't after the second, in the order of words: the two are equal, or the first ends where the
+/// second goes on, or its label is less where they first differ.
+pub fn is_not_after(labels: &[u32], others: &[u32]) -> bool
+    ensures { result ≡ is_not_after labels.now others.now }
+{
+    match others.split_last() {
+        Some((last, others)) => is_not_after_with(labels, others, *last),
+        None => labels.is_empty(),
+    }
 }
 
 impl Least {
@@ -91,6 +111,23 @@ impl Least {
             return self.changes < other.changes;
         }
         is_not_after(self.word.as_slice(), other.word.as_slice())
+    }
+
+    // The same, where the other word goes on by that edge.
+    fn is_at_most_by(&self, other: &Least, edge: &Edge) -> bool
+        requires cuts { other.now.cuts + 1 < 2 ^ 64 }
+        requires changes { other.now.changes + 1 < 2 ^ 64 }
+        ensures { result ≡ is_at_most self.now (went other.now edge.now) }
+    {
+        let cuts = other.cuts + u64::from(edge.cut);
+        if self.cuts != cuts {
+            return self.cuts < cuts;
+        }
+        let changes = other.changes + u64::from(edge.change);
+        if self.changes != changes {
+            return self.changes < changes;
+        }
+        is_not_after_with(self.word.as_slice(), other.word.as_slice(), edge.label)
     }
 
     // The same word. NoMemory where its room was refused.
@@ -135,13 +172,56 @@ impl Count {
         }
     }
 
+    // So many words more, none longer than that.
+    fn grow(&mut self, words: u64, length: usize)
+        ensures { self.new ≡ record self.old {
+          words = min (self.old.words + words) COUNT_CAP;
+          longest = max self.old.longest length;
+        } }
+    {
+        self.words = self.words.saturating_add(words).min(COUNT_CAP);
+        self.longest = self.longest.max(length);
+    }
+
     // Counts so many words more, of which that is the least, and none longer.
     pub(crate) fn add(&mut self, words: u64, least: Least)
         ensures { self.new ≡ added self.old words least }
     {
-        self.words = self.words.saturating_add(words).min(COUNT_CAP);
-        self.longest = self.longest.max(least.word.len());
+        self.grow(words, least.word.len());
         self.keep(least);
+    }
+
+    // Counts so many words more, of which the least goes on from that one by the edge, and none is longer. It takes
+    // room only where it keeps that word. NoMemory where its room was refused.
+    pub(crate) fn add_by(
+        &mut self,
+        alloc: Global,
+        words: u64,
+        least: &Least,
+        edge: &Edge,
+    ) -> Result<(), NoMemory>
+        requires cuts { least.now.cuts + 1 < 2 ^ 64 }
+        requires changes { least.now.changes + 1 < 2 ^ 64 }
+        ensures { OnOk result (self.new ≡ added self.old words (went least.now edge.now)) }
+    {
+        self.grow(words, least.word.len() + 1);
+        self.keep_by(alloc, least, edge)
+    }
+
+    // Keeps the lesser of the two, where the other one goes on by that edge.
+    fn keep_by(&mut self, alloc: Global, least: &Least, edge: &Edge) -> Result<(), NoMemory>
+        requires cuts { least.now.cuts + 1 < 2 ^ 64 }
+        requires changes { least.now.changes + 1 < 2 ^ 64 }
+        ensures { OnOk result (self.new
+            ≡ record self.old { least = Some (lesser self.old.least (went least.now edge.now)) }) }
+    {
+        if let Some(kept) = &self.least {
+            if kept.is_at_most_by(least, edge) {
+                return Ok(());
+            }
+        }
+        self.least = Some(least.then(alloc, edge)?);
+        Ok(())
     }
 
     // Keeps the lesser of the two.

@@ -74,7 +74,7 @@ fn spread(
     };
     for edge in edges {
         if edge.to < next.len() {
-            next[edge.to].add(count.words, least.then(alloc, edge)?);
+            next[edge.to].add_by(alloc, count.words, least, edge)?;
         }
     }
     Ok(())

@@ -1,7 +1,7 @@
 use Rattle.std.proofs.Common.{◌∙◌, ap, Some, arith}
 use Rattle.schedule_graph.proofs.Spreading.{spread_ends, spread_unreached, spread_begun, spread_ended, spread_not, spread_on, cuts_fit}
 use Rattle.schedule_graph.proofs.counting.spread.Goals as goal
-use Rattle.schedule_graph.proofs.counting.spread.Goals.{then-edge-next+in_ok-then, else-edge-next}
+use Rattle.schedule_graph.proofs.counting.spread.Goals.{then-edge-next+in_ok-add_by, else-edge-next}
 
 pub returns-in_default : goal.returns-in_default
 returns-in_default c =
@@ -16,22 +16,22 @@ loop-edge-init c =
     spread_begun c.args.layers.now c.args.k c.args.s c.in-Goes.edges c.requires.layers (c.node_at.ensures ∙ ap (λ x. Some x) c.in-Goes.is)
     c.deref-edge-items.result.now c.deref-edge-items.ensures.value c.args.next.now c.requires.next
 
-pub then-requires-clause-cuts : goal.then-requires-clause-cuts
-then-requires-clause-cuts c =
+pub add_by-requires-clause-cuts : goal.add_by-requires-clause-cuts
+add_by-requires-clause-cuts c =
     let few = cuts_fit c.args.layers.now c.args.k c.args.s c.args.count.now c.in-Some.least c.requires.count c.in-Some.is in omega (arith, few.0, c.requires.depth)
 
-pub then-requires-clause-changes : goal.then-requires-clause-changes
-then-requires-clause-changes c =
+pub add_by-requires-clause-changes : goal.add_by-requires-clause-changes
+add_by-requires-clause-changes c =
     let few = cuts_fit c.args.layers.now c.args.k c.args.s c.args.count.now c.in-Some.least c.requires.count c.in-Some.is in omega (arith, few.1, c.requires.depth)
 
 pub loop-edge-preserved : goal.loop-edge-preserved
 loop-edge-preserved c =
     elim c.if-edge-next.branch [
-      | then-edge-next+in_ok-then w ↦
+      | then-edge-next+in_ok-add_by w ↦
           spread_on c.args.layers.now c.args.k c.args.s c.in-Goes.edges c.requires.layers (c.node_at.ensures ∙ ap (λ x. Some x) c.in-Goes.is)
           c.deref-edge-items.result.now c.deref-edge-items.ensures.value
           c.loop-edge.next c.loop-edge.edge-index c.loop-edge-test.true _ c.loop-edge.invariant c.args.count.now c.in-Some.least c.requires.count c.in-Some.is
-          c.if-edge-next.next w.index-next-edge.result w.add.new.self w.in_ok-then.field-0 w.next-is w.add.ensures w.in_ok-then.ensures w.if-edge-next.true
+          c.if-edge-next.next w.index-next-edge.result w.add_by.new.self w.next-is w.in_ok-add_by.ensures w.if-edge-next.true
       | else-edge-next w ↦
           spread_not c.args.layers.now c.args.k c.args.s c.in-Goes.edges c.requires.layers (c.node_at.ensures ∙ ap (λ x. Some x) c.in-Goes.is)
           c.deref-edge-items.result.now c.deref-edge-items.ensures.value
