@@ -1,26 +1,34 @@
-//! The functions by which a C program makes calls: a static library of twenty-one exports, over `c_protocol`,
-//! `kernel_text` and `system_calls`.
+//! The functions by which a C program makes calls: a static library of twenty-two exports, over `c_protocol`,
+//! `place_protocol`, `open_or_make`, `kernel_text` and `system_calls`.
 //!
 //! Each export is the function of that name of one of these, with its clauses. What a C program owes is said in
 //! `host/calls.h`: what is kept is empty (zero) before the first call, and is left alone between two turns.
 #![tactic(auto)]
 
-ghost use Rattle.std.specs.Prelude.{◌≡◌, IfSome, IsSome};
+ghost use Rattle.std.specs.Prelude.{◌≡◌, ◌≤◌, ◌∷◌, [], ℕ, List, not, true, false, ◌&&◌, drop, length, take, IfSome, IsSome};
+ghost use Rattle.root_ops.specs.Ahead.{doing_ahead};
 ghost use Rattle.root_ops.specs.declared.call.CallTurn.{CallTurn};
 ghost use Rattle.c_protocol.specs.AtOnce.{opens_at_once};
 ghost use Rattle.c_protocol.specs.FollowedAtOnce.{follows_at_once};
+ghost use Rattle.c_protocol.specs.Left.{IsLeft};
 ghost use Rattle.c_protocol.specs.Refusals.{is_refusal};
 ghost use Rattle.c_protocol.specs.Runs.{ComeNext, IsRun};
 ghost use Rattle.c_protocol.specs.Split.{IsParted};
 ghost use Rattle.c_protocol.specs.Turns.{call_of, IsBegun, IsNext, IsTold};
 ghost use Rattle.kernel_text.specs.Listing.{IsTaken, Sorts};
-ghost use Rattle.kernel_text.specs.Place.{but_last, is_named, place_between, place_of_cwd, TellsPlace};
-ghost use Rattle.system_calls.specs.Objects.{is_elsewhere, is_node, is_same_object, kind_of, same_directory};
+ghost use Rattle.place_protocol.specs.Told.{begun, facts_after_number, question_of, TellsNext};
+ghost use Rattle.place_protocol.specs.Texts.{texts_of};
+ghost use Rattle.path_text.specs.declared.path.TheConstants.{TEXT_MAX};
+ghost use Rattle.open_or_make.specs.Course.{exchange, IsAt};
+ghost use Rattle.open_or_make.specs.History.{asked_of, is_call, Asked as Wanted, Exchange};
+ghost use Rattle.system_calls.specs.Objects.{is_node, is_same_object, kind_of, same_directory};
 ghost use Rattle.system_calls.specs.Opening.{opening_of, reopen_flags};
 ghost use Rattle.system_calls.specs.Tries.{next_try};
 
-use c_protocol::{Ahead, Answered, Asked, Kept, Parted, Ran, Told};
-use kernel_text::{Place, Sorted, Taken};
+use c_protocol::{Ahead, Answered, Asked, Kept, Left, Parted, Ran, Told};
+use kernel_text::{Sorted, Taken};
+use open_or_make::Course;
+use place_protocol::{Answer, Facts};
 use std::alloc::Global;
 use system_calls::{Birth, MachineFlags, NextTry, Object, Opening};
 
@@ -77,6 +85,23 @@ pub extern "C" fn inroot_names_ahead(
     *ahead = c_protocol::names_ahead(alloc, kept, most, number, room);
 }
 
+/// What is left of the path that a call walks: `c_protocol::parts_ahead`.
+#[unsafe(no_mangle)]
+pub extern "C" fn inroot_parts_ahead(
+    alloc: Global,
+    kept: &mut Kept,
+    from: u8,
+    room: &mut [u8],
+    left: &mut Left,
+)
+    requires { IsSome (call_of kept.old.held) }
+    ensures kept { kept.new.held ≡ kept.old.held }
+    ensures parts { IfSome (call_of kept.old.held)
+        (λ call. IsLeft (drop from (doing_ahead call.doing)) left.new room.old room.new) }
+{
+    *left = c_protocol::parts_ahead(alloc, kept, from, room);
+}
+
 /// Takes a call past names that one system call passed, and tells the next step: `c_protocol::pass_names`.
 #[unsafe(no_mangle)]
 pub extern "C" fn inroot_pass_names(
@@ -125,30 +150,6 @@ pub extern "C" fn inroot_is_refusal(what: u8, mode: u8, text: usize, error: u32)
     ensures { result ≡ is_refusal what mode text error }
 {
     c_protocol::is_refusal(what, mode, text, error)
-}
-
-/// Where an object stands below a root, by what links in /proc tell: `kernel_text::place_between`.
-#[unsafe(no_mangle)]
-pub extern "C" fn inroot_place_between(before: &[u8], path: &[u8], after: &[u8], place: &mut Place)
-    ensures { TellsPlace path.now (place_between before.now path.now after.now) place.new }
-{
-    *place = kernel_text::place_between(before, path, after);
-}
-
-/// Where a directory stands below the thread's root, by what getcwd(2) tells: `kernel_text::place_of_cwd`.
-#[unsafe(no_mangle)]
-pub extern "C" fn inroot_place_of_cwd(told: &[u8], place: &mut Place)
-    ensures { TellsPlace (but_last told.now) (place_of_cwd told.now) place.new }
-{
-    *place = kernel_text::place_of_cwd(told);
-}
-
-/// Whether what was found at a place has a name still: `kernel_text::is_named`.
-#[unsafe(no_mangle)]
-pub extern "C" fn inroot_is_named(again: &[u8], place: &[u8]) -> bool
-    ensures { result ≡ is_named again.now place.now }
-{
-    kernel_text::is_named(again, place)
 }
 
 /// Takes the names of records of getdents64(2): `kernel_text::take_names`.
@@ -239,10 +240,56 @@ pub extern "C" fn inroot_is_node(mode: u32, device: u64) -> bool
     system_calls::is_node(mode, device)
 }
 
-/// Whether an error of a look-up says that the names lead elsewhere: `system_calls::is_elsewhere`.
+/// The first question about the place of an object: `place_protocol::begin`.
 #[unsafe(no_mangle)]
-pub extern "C" fn inroot_is_elsewhere(error: u32) -> bool
-    ensures { result ≡ is_elsewhere error }
+pub extern "C" fn inroot_place_begin(facts: &Facts, told: &mut place_protocol::Told)
+    ensures { told.new ≡ begun facts.now }
 {
-    system_calls::is_elsewhere(error)
+    *told = place_protocol::begin(facts);
+}
+
+/// What is due behind the answer to the question that was: `place_protocol::next`.
+#[unsafe(no_mangle)]
+pub extern "C" fn inroot_place_next(
+    facts: &mut Facts,
+    answer: &Answer,
+    root: &[u8],
+    text: &[u8],
+    again: &[u8],
+    told: &mut place_protocol::Told,
+)
+    ensures facts { facts.new ≡ facts_after_number facts.old (question_of told.old.what) answer.now }
+    ensures told { TellsNext facts.old told.old.what answer.now (texts_of root.now text.now again.now) told.new }
+{
+    *told = place_protocol::next(facts, told.what, answer, root, text, again);
+}
+
+/// Begins a call that opens a file, or makes it where it is missing: `open_or_make::begin`.
+#[unsafe(no_mangle)]
+pub extern "C" fn inroot_course_begin(
+    path_length: usize,
+    follows: bool,
+    no_links: bool,
+    may_retry: bool,
+    course: &mut Course,
+)
+    ensures begins { (room : List ℕ) → IsAt (asked_of (take path_length room) (follows && not no_links) may_retry)
+        [] course.new room }
+    ensures same { course.new.length ≡ path_length }
+{
+    *course = open_or_make::begin(path_length, follows, no_links, may_retry);
+}
+
+/// Takes what the last of its calls gave, and says what comes next: `open_or_make::next`.
+#[unsafe(no_mangle)]
+pub extern "C" fn inroot_course_next(course: &mut Course, error: u32, text: &[u8], room: &mut [u8])
+    requires path { course.old.length ≤ length room.old }
+    requires room { TEXT_MAX ≤ length room.old }
+    ensures goes { (asked : Wanted) (history : List Exchange) → IsAt asked history course.old room.old
+        → is_call course.old.next ≡ true
+        → IsAt asked (exchange course.old room.old error text.now ∷ history) course.new room.new }
+    ensures within { course.new.length ≤ length room.new }
+    ensures ends { is_call course.new.next ≡ false → (room.new ≡ room.old) × (course.new.length ≡ course.old.length) }
+{
+    *course = open_or_make::next(*course, error, text, room);
 }

@@ -1,8 +1,9 @@
 -- How far names were looked for that come next in a call.
 use Rattle.std.proofs.Common.{◌≡◌, ℕ, ◌+◌, ◌<◌, ◌≤◌, false, List, ◌++◌, length, take, drop, refl, ap, sym, ◌∙◌, subst, arith, inl, inr, nat_lt}
-use Rattle.std.specs.Prelude.{◌⊎◌, slice_get, Some, None}
+use Rattle.std.specs.Prelude.{◌⊎◌, ◌&&◌, Bool, true, [], ◌∷◌, slice_get, Some, None}
 use Rattle.std.proofs.lemmas.Bool.{ltb-true}
-use Rattle.std.proofs.lemmas.List.{take-append-drop}
+use Rattle.std.proofs.lemmas.List.{take-append-drop, take_all, take_more}
+use Rattle.std.proofs.lemmas.Option.{slice_get_cases, slice_get_within, get_or_from_slice_get}
 use Rattle.path_text.specs.declared.part.Part.{Part}
 use Rattle.path_text.specs.declared.part.Part.TheVariants as part
 use Rattle.tree_model.specs.declared.step.StepOf.TheVariants.{Open}
@@ -10,7 +11,7 @@ use Rattle.step_resolver.specs.Meaning.{is_too_long}
 use Rattle.root_ops.specs.declared.call.CallTurn.TheVariants.{More}
 use Rattle.root_ops.specs.Order.{due}
 use Rattle.root_ops.specs.View.{CallView}
-use Rattle.c_protocol.specs.Runs.{LiesAt, ComeNext, TakesPart, up_text}
+use Rattle.c_protocol.specs.Runs.{LiesAt, ComeNext, TakesPart, ends_in_dot, is_dot, up_text}
 use Rattle.c_protocol.specs.declared.runs.Ahead.{Ahead}
 use Rattle.c_protocol.specs.declared.runs.Spelled.{Spelled}
 use Rattle.root_ops.specs.Ahead.{doing_ahead}
@@ -23,8 +24,29 @@ IsThere call at dir names i =
     ((names ≡ 0) × (i ≡ 0) × (at ≡ call) × ((name : List ℕ) × (due call.below call.doing ≡ Open dir name)))
     ⊎ ((0 < names) × StandsIn at dir (drop i (doing_ahead call.doing)))
 
+-- ---- whether `.` came last
+
+last_dot : (qs : List Part) (p : Part) → ends_in_dot (qs ++ p ∷ []) ≡ is_dot p
+last_dot [] p = refl
+last_dot (q ∷ []) p = refl
+last_dot (q ∷ r ∷ qs) p = last_dot (r ∷ qs) p
+
+dot_at : (ps : List Part) (i : ℕ) (p : Part) → slice_get ps i ≡ Some p → ends_in_dot (take (i + 1) ps) ≡ is_dot p
+dot_at ps i p found =
+    ap ends_in_dot (take_more ps i p (slice_get_within ps i p found) ∙ ap (λ q. take i ps ++ q ∷ []) (get_or_from_slice_get ps i p p found))
+    ∙ last_dot (take i ps) p
+
+all_taken : (ps : List Part) (i : ℕ) → slice_get ps i ≡ None → take i ps ≡ ps
+all_taken ps i none =
+    elim (slice_get_cases ps i).1 [
+      | inl h ↦ cc (none, h.2)
+      | inr h ↦ take_all i ps h.0
+    ]
+
+-- ---- how far it was looked
+
 -- so many names lie in the room, which came from the parts up to that one
-pub record Found (call : CallView) (most number used names i : ℕ) (old room : List ℕ) : Type 0 where
+pub record Found (call : CallView) (most number used names : ℕ) (dot : Bool) (i : ℕ) (old room : List ℕ) : Type 0 where
   pub from : ℕ
   pub at : CallView
   pub dir : ℕ
@@ -32,9 +54,10 @@ pub record Found (call : CallView) (most number used names i : ℕ) (old room : 
   pub looking : Looking call most from number used dir next (More at) old room
   pub counted : next ≡ number + names
   pub there : IsThere call at dir names i
+  pub dotted : dot ≡ ends_in_dot (take i (doing_ahead call.doing))
 
 pub none_found : (call : CallView) (most number : ℕ) (old : List ℕ) (dir : ℕ) (name : List ℕ) → due call.below call.doing ≡ Open dir name
-    → Found call most number 0 0 0 old old
+    → Found call most number 0 0 false 0 old old
 none_found call most number old dir name opens =
     record {
       from = dir;
@@ -44,14 +67,16 @@ none_found call most number old dir name opens =
       looking = none_laid call most dir number old;
       counted = omega arith;
       there = inl (refl, refl, refl, (name, opens));
+      dotted = refl;
     }
 
 -- ---- by the part that comes next
 
 -- `.` is passed over
-pub found_cur : (call : CallView) (most number used names i : ℕ) (old room : List ℕ) → Found call most number used names i old room
-    → slice_get (doing_ahead call.doing) i ≡ Some part.Cur → Found call most number used names (i + 1) old room
-found_cur call most number used names i old room was part_is =
+pub found_cur : (call : CallView) (most number used names : ℕ) (dot : Bool) (i : ℕ) (old room : List ℕ)
+    → Found call most number used names dot i old room → slice_get (doing_ahead call.doing) i ≡ Some part.Cur
+    → Found call most number used names true (i + 1) old room
+found_cur call most number used names dot i old room was part_is =
     record {
       from = was.from;
       at = was.at;
@@ -69,6 +94,7 @@ found_cur call most number used names i old room was part_is =
               (subst (λ ps. StandsIn was.at was.dir ps) (part_left (doing_ahead call.doing) i part.Cur part_is) h.1),
         )
       ];
+      dotted = sym (dot_at (doing_ahead call.doing) i part.Cur part_is);
     }
 
 -- a name is due to be opened
@@ -86,10 +112,10 @@ due_there call at dir names i n (inr h) part_is short =
     (subst (λ ps. StandsIn at dir ps) (part_left (doing_ahead call.doing) i (part.Named n) part_is) h.1) short
 
 -- it is laid out, and passed
-pub found_name : (call : CallView) (most number used names i end : ℕ) (n old room new : List ℕ) → Found call most number used names i old room
-    → slice_get (doing_ahead call.doing) i ≡ Some (part.Named n) → is_too_long n ≡ false → names < most → LiesAt n used end room new
-    → Found call most number end (names + 1) (i + 1) old new
-found_name call most number used names i end n old room new was part_is short fewer lies =
+pub found_name : (call : CallView) (most number used names : ℕ) (dot : Bool) (i end : ℕ) (n old room new : List ℕ)
+    → Found call most number used names dot i old room → slice_get (doing_ahead call.doing) i ≡ Some (part.Named n) → is_too_long n ≡ false → names < most → LiesAt n used end room new
+    → Found call most number end (names + 1) false (i + 1) old new
+found_name call most number used names dot i end n old room new was part_is short fewer lies =
     let due_now = due_there call was.at was.dir names i n was.there part_is short in
     let behind = stands_behind was.at was.dir was.next n (drop (i + 1) (doing_ahead call.doing)) due_now in
     record {
@@ -101,14 +127,15 @@ found_name call most number used names i end n old room new was part_is short fe
           (omega (arith, was.counted, fewer)) (is_due was.at was.dir n (drop (i + 1) (doing_ahead call.doing)) due_now) behind.1.1.0 lies.0 lies.1.0 lies.1.1;
       counted = omega (arith, was.counted);
       there = inr (omega arith, behind.1.1.1);
+      dotted = sym (dot_at (doing_ahead call.doing) i (part.Named n) part_is);
     }
 
 -- `..` is laid out behind the names
-pub found_up : (call : CallView) (most number used names i : ℕ) (old room new : List ℕ) (ahead : Ahead) → Found call most number used names i old room
-    → slice_get (doing_ahead call.doing) i ≡ Some part.Up → ahead.names ≡ names → ahead.ends ≡ false
-    → new ≡ take used room ++ (up_text ahead.up ++ drop ahead.used room) → ahead.used ≡ used + length (up_text ahead.up)
+pub found_up : (call : CallView) (most number used names : ℕ) (dot : Bool) (i : ℕ) (old room new : List ℕ) (ahead : Ahead)
+    → Found call most number used names dot i old room → slice_get (doing_ahead call.doing) i ≡ Some part.Up → ahead.names ≡ names
+    → ahead.ends ≡ false → ahead.dot ≡ false → new ≡ take used room ++ (up_text ahead.up ++ drop ahead.used room) → ahead.used ≡ used + length (up_text ahead.up)
     → ComeNext call most number ahead old new
-found_up call most number used names i old room new ahead was part_is count ends laid takes =
+found_up call most number used names dot i old room new ahead was part_is count ends no_dot laid takes =
     elim was.there [
       | inl h ↦
           let first = at_first call was.dir h.3.0 part.Up h.3.1 (ap (slice_get (doing_ahead call.doing)) (sym h.1) ∙ part_is) in
@@ -122,15 +149,17 @@ found_up call most number used names i old room new ahead was part_is count ends
             used = takes;
             up = λ is. goes_up was.at was.dir (drop (i + 1) (doing_ahead call.doing)) stands;
             ends = λ is. cc (is, ends);
-          })
+          }) (no_dot ∙ sym (ap (λ b. b && ends_in_dot (doing_ahead call.doing)) ends))
     ]
 
 -- no part is left
-pub found_end : (call : CallView) (most number used names i : ℕ) (old room : List ℕ) (ahead : Ahead) → Found call most number used names i old room
-    → slice_get (doing_ahead call.doing) i ≡ None → ahead ≡ record { names = names; used = used; up = false; ends = nat_lt 0 names }
+pub found_end : (call : CallView) (most number used names : ℕ) (dot : Bool) (i : ℕ) (old room : List ℕ) (ahead : Ahead)
+    → Found call most number used names dot i old room → slice_get (doing_ahead call.doing) i ≡ None
+    → ahead ≡ record { names = names; used = used; up = false; ends = nat_lt 0 names; dot = nat_lt 0 names && dot }
     → ComeNext call most number ahead old room
-found_end call most number used names i old room ahead was none is =
-    let told : Ahead = record { names = names; used = used; up = false; ends = nat_lt 0 names } in
+found_end call most number used names dot i old room ahead was none is =
+    let ps = doing_ahead call.doing in
+    let told : Ahead = record { names = names; used = used; up = false; ends = nat_lt 0 names; dot = nat_lt 0 names && dot } in
     let same : room ≡ take used room ++ drop used room = sym (take-append-drop used room) in
     let found : ComeNext call most number told old room =
     at_end call was.at most was.from number used was.dir was.next names told old room room was.looking (omega (arith, was.counted))
@@ -141,21 +170,22 @@ found_end call most number used names i old room ahead was none is =
       up = λ up_is. cc (up_is);
       ends = λ ends_is. elim was.there [
         | inl h ↦ let never : 0 < 0 = subst (λ k. 0 < k) h.0 (ltb-true 0 names ends_is) in absurd (omega (arith, never))
-        | inr h ↦ asks_for was.at was.dir (subst (λ ps. StandsIn was.at was.dir ps) (none_left (doing_ahead call.doing) i none) h.1)
+        | inr h ↦ asks_for was.at was.dir (subst (λ qs. StandsIn was.at was.dir qs) (none_left ps i none) h.1)
       ];
-    }) in
+    }) (ap (λ b. nat_lt 0 names && b) (was.dotted ∙ ap ends_in_dot (all_taken ps i none))) in
     subst (λ (a : Ahead). ComeNext call most number a old room) (sym is) found
 
 -- a part is taken
 pub found_part : (call : CallView) (most number bound i : ℕ) (p : Part) (so_far next : Spelled) (old room new : List ℕ)
-    → Found call most number so_far.used so_far.names i old room → slice_get (doing_ahead call.doing) i ≡ Some p → bound ≤ most
-    → TakesPart p so_far bound next room new → Found call most number next.used next.names (i + 1) old new
+    → Found call most number so_far.used so_far.names so_far.dot i old room → slice_get (doing_ahead call.doing) i ≡ Some p
+    → bound ≤ most → TakesPart p so_far bound next room new → Found call most number next.used next.names next.dot (i + 1) old new
 found_part call most number bound i part.Cur so_far next old room new was part_is within takes =
-    let kept = found_cur call most number so_far.used so_far.names i old room was part_is in
-    subst (λ r. Found call most number next.used next.names (i + 1) old r) (sym takes.1)
-    (subst (λ (s : Spelled). Found call most number s.used s.names (i + 1) old room) (sym takes.0) kept)
+    let kept = found_cur call most number so_far.used so_far.names so_far.dot i old room was part_is in
+    subst (λ r. Found call most number next.used next.names next.dot (i + 1) old r) (sym takes.1)
+    (subst (λ (s : Spelled). Found call most number s.used s.names s.dot (i + 1) old room) (sym takes.0) kept)
 found_part call most number bound i part.Up so_far next old room new was part_is within takes = absurd takes
 found_part call most number bound i (part.Named n) so_far next old room new was part_is within takes =
     let fewer = takes.0 in
-    subst (λ k. Found call most number next.used k (i + 1) old new) (sym takes.2)
-    (found_name call most number so_far.used so_far.names i next.used n old room new was part_is takes.1 (omega (arith, fewer, within)) takes.3)
+    subst (λ k. Found call most number next.used k next.dot (i + 1) old new) (sym takes.2)
+    (subst (λ d. Found call most number next.used (so_far.names + 1) d (i + 1) old new) (sym takes.3)
+    (found_name call most number so_far.used so_far.names so_far.dot i next.used n old room new was part_is takes.1 (omega (arith, fewer, within)) takes.4))

@@ -1,11 +1,10 @@
 -- Bytes that are laid into a room, one after another.
 use Rattle.std.specs.Prelude.{◌≡◌, ℕ, ◌+◌, ◌<◌, ◌≤◌, List, [], ◌∷◌, ◌++◌, take, drop, length, Bool, nat_le, false, if◌then◌else◌, Some, slice_get, refl}
 use Rattle.std.proofs.Common.{ap, arith, length-append, append_assoc}
-use Rattle.std.proofs.Math.Seq.{take-add, take-append_seam}
+use Rattle.std.proofs.Math.Seq.{take-add}
 use Rattle.std.proofs.lemmas.Bool.{le-leb, lt-leb}
 use Rattle.std.proofs.lemmas.List.{append-nil, drop_more, length-take-le, take-append-drop}
 use Rattle.std.proofs.lemmas.Option.{slice_get_within, get_or_from_slice_get}
-use Rattle.std.proofs.lemmas.Slice.{drop-append-drop}
 use mathlib.Core.Path.{sym, ◌∙◌}
 use Rattle.path_text.specs.declared.name.TheConstants.{SLASH}
 use Rattle.path_text.specs.Print.{after_slashes, printed}

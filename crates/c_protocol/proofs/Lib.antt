@@ -16,4 +16,5 @@ mod RunTurns
 mod RunStates
 mod PassingWalks
 mod AheadStates
+mod LeftStates
 mod RunConversing

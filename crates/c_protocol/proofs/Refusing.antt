@@ -1,7 +1,7 @@
 -- The step table refuses a step by no other errors than those that are told.
 use Rattle.std.specs.Prelude.{◌≡◌, ◌⊎◌, ℕ, ◌==◌, ◌&&◌, nat_lt, length, List, Bool, true, false, not, if◌then◌else◌, Option, Some, None, is_some, Result, Ok, Err, refl}
 use Rattle.std.specs.List.{list_any}
-use Rattle.std.proofs.Common.{sym, ◌∙◌, ap, subst, inl, inr, true≢false}
+use Rattle.std.proofs.Common.{sym, ◌∙◌, ap, subst, inl, inr}
 use Rattle.path_text.specs.declared.errno.Errno.{Errno}
 use Rattle.path_text.specs.declared.errno.Errno.TheVariants.{NotFound, BadHandle, Exists, NotDir, IsDir, Invalid, TooMany, TooLong, NotEmpty}
 use Rattle.path_text.specs.Errno.{number_of}

@@ -1,5 +1,6 @@
 -- How far a call has come by names, in the midst of the loops that pass them and lay them out.
 use Rattle.std.proofs.Common.{◌≡◌, ℕ, ◌+◌, ◌-◌, ◌<◌, ◌≤◌, Bool, false, List, [], ◌∷◌, ◌++◌, length, get_or, take, drop, refl, ap, sym, ◌∙◌, subst, arith, length-append}
+use Rattle.std.specs.Prelude.{◌&&◌}
 use Rattle.std.proofs.lemmas.List.{take_more}
 use Rattle.path_text.specs.declared.name.TheConstants.{SLASH}
 use Rattle.path_text.specs.Print.{after_slashes}
@@ -7,9 +8,10 @@ use Rattle.path_text.specs.Text.{between_slashes}
 use Rattle.tree_model.specs.declared.step.StepOf.TheVariants.{Open}
 use Rattle.root_ops.specs.declared.call.CallTurn.{CallTurn}
 use Rattle.root_ops.specs.declared.call.CallTurn.TheVariants.{More}
+use Rattle.root_ops.specs.Ahead.{doing_ahead}
 use Rattle.root_ops.specs.Order.{due}
 use Rattle.root_ops.specs.View.{CallView}
-use Rattle.c_protocol.specs.Runs.{Makes, Entered, steps_of, dir_behind, is_shut, names_of, Enters, GoesUp, AsksFor, up_text, IsEnd, ComeNext, IsRun}
+use Rattle.c_protocol.specs.Runs.{Makes, Entered, steps_of, dir_behind, is_shut, names_of, Enters, GoesUp, AsksFor, ends_in_dot, up_text, IsEnd, ComeNext, IsRun}
 use Rattle.c_protocol.specs.declared.runs.Ahead.{Ahead}
 use Rattle.c_protocol.specs.declared.runs.Ran.{Ran}
 use Rattle.c_protocol.proofs.RunTurns.{passes_one_more, one_dir_more, one_name_more, one_longer, counts_up, slashes_more, entered}
@@ -139,8 +141,8 @@ one_laid call at most from number used dir next end old room new name shut last 
 -- what was laid out is what comes next, up to the step that is due then
 pub at_end : (call at : CallView) (most from number used dir next count : ℕ) (ahead : Ahead) (old room new : List ℕ)
     → Looking call most from number used dir next (More at) old room → count ≡ next - number → IsEnd at dir count used ahead room new
-    → ComeNext call most number ahead old new
-at_end call at most from number used dir next count ahead old room new was many end =
+    → ahead.dot ≡ (ahead.ends && ends_in_dot (doing_ahead call.doing)) → ComeNext call most number ahead old new
+at_end call at most from number used dir next count ahead old room new was many end dotted =
     let text = after_slashes (names_of was.so_far) in
     let up = up_text ahead.up in
     let counted : ahead.names ≡ length was.so_far = omega (arith, end.names, many, was.counted) in
@@ -160,4 +162,5 @@ at_end call at most from number used dir next count ahead old room new was many 
       used = ends_there;
       up = λ is. subst (λ d. GoesUp (More at) d) was.here (end.up is);
       ends = λ is. subst (λ d. AsksFor (More at) d) was.here (end.ends is);
+      dot = dotted;
     }

@@ -28,7 +28,7 @@ use Rattle.step_resolver.specs.View.{way_from}
 use Rattle.step_resolver.specs.WalkHistory.{WalkInHistory, IsWalkInHistory, begin_of, state_at, timeline, parts_of_walk, start}
 use Rattle.step_resolver.specs.WalkHistory.{end_of as end_state}
 use Rattle.step_resolver.proofs.Trail.Joined.{own_earlier}
-use Rattle.step_resolver.proofs.Underway.WalkInvariant.{Lived, StepAt, Happens, held_at, root_open, spot_at, Going, no_stop, trail_at, GoodEnd, Good}
+use Rattle.step_resolver.proofs.Underway.WalkInvariant.{Lived, StepAt, Happens, held_at, root_open, spot_at, trail_at, GoodEnd, Good}
 use Rattle.step_resolver.proofs.Underway.NextPart.{goes_on_good}
 use Rattle.step_resolver.proofs.Underway.AfterDupAndClose.{not_made_good}
 use Rattle.step_resolver.proofs.Underway.HandlesHeld.{kept_on}

@@ -7,6 +7,7 @@ pub mod Kept
 pub mod Numbers
 pub mod Turns
 pub mod Runs
+pub mod Left
 pub mod History
 pub mod Outright
 pub mod RunHistory

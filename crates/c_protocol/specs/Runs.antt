@@ -1,7 +1,7 @@
 -- Names of a path that a C program passes in the midst of a call by one openat2(2) with RESOLVE_NO_SYMLINKS, which
 -- looks each of them up in the one before it (path_resolution(7)). To the call these are single turns, whose answers it
 -- is told at once.
-use Rattle.std.specs.Prelude.{◌≡◌, ◌<◌, ◌≤◌, ℕ, ◌+◌, List, [], ◌∷◌, ◌++◌, Bool, true, false, length, map, take, drop}
+use Rattle.std.specs.Prelude.{◌≡◌, ◌<◌, ◌≤◌, ◌&&◌, ℕ, ◌+◌, List, [], ◌∷◌, ◌++◌, Bool, true, false, length, map, take, drop}
 use Rattle.path_text.specs.declared.name.TheConstants.{SLASH}
 use Rattle.path_text.specs.declared.part.Part.{Part}
 use Rattle.path_text.specs.declared.part.Part.TheVariants.{Cur, Up, Named}
@@ -12,6 +12,7 @@ use Rattle.tree_model.specs.StepWith.{StepWith}
 use Rattle.step_resolver.specs.Meaning.{is_too_long}
 use Rattle.root_ops.specs.declared.call.CallTurn.{CallTurn}
 use Rattle.root_ops.specs.declared.call.CallTurn.TheVariants.{More, Done}
+use Rattle.root_ops.specs.Ahead.{doing_ahead}
 use Rattle.root_ops.specs.Order.{due}
 use Rattle.root_ops.specs.View.{CallView}
 use Rattle.c_protocol.specs.Turns.{IsNext}
@@ -115,13 +116,24 @@ abbrev pub AsksFor : CallTurn → ℕ → Type 0
 AsksFor (More call) dir = (root : ℕ) × (due call.below call.doing ≡ NameBelow root dir)
 AsksFor (Done reply) dir = ⊥
 
+abbrev pub is_dot : Part → Bool
+is_dot Cur = true
+is_dot Up = false
+is_dot (Named n) = false
+
+-- whether the last of the parts is `.`, as a slash at the end of a path gives it
+abbrev pub ends_in_dot : List Part → Bool
+ends_in_dot [] = false
+ends_in_dot (p ∷ []) = is_dot p
+ends_in_dot (p ∷ q ∷ ps) = ends_in_dot (q ∷ ps)
+
 -- A part is taken to names so far: nothing at `.`; one more where it is a name, which has a place and no more bytes
 -- than a name may have, while they are fewer than that.
 abbrev pub TakesPart : Part → Spelled → ℕ → Spelled → List ℕ → List ℕ → Type 0
-TakesPart Cur so_far most next old new = (next ≡ so_far) × (new ≡ old)
+TakesPart Cur so_far most next old new = (next ≡ record so_far { dot = true }) × (new ≡ old)
 TakesPart Up so_far most next old new = ⊥
 TakesPart (Named n) so_far most next old new =
-    (so_far.names < most) × (is_too_long n ≡ false) × (next.names ≡ so_far.names + 1)
+    (so_far.names < most) × (is_too_long n ≡ false) × (next.names ≡ so_far.names + 1) × (next.dot ≡ false)
     × LiesAt n so_far.used next.used old new
 
 -- Behind so many names that take so much of the room: `..` is laid out as well only where the call goes up, and their
@@ -134,7 +146,8 @@ pub record IsEnd (call : CallView) (dir count at : ℕ) (ahead : Ahead) (old new
   pub ends : ahead.ends ≡ true → AsksFor (More call) dir
 
 -- If the names that are laid out there, a slash before each, are directories, the call passes them. Where it says so,
--- it goes up behind them, for which `..` is laid out as well; or their place is asked for.
+-- it goes up behind them, for which `..` is laid out as well; or their place is asked for. Then it is said whether the
+-- last part of all is `.`, behind which the walk refuses what is no directory.
 pub record ComeNext (call : CallView) (most number : ℕ) (ahead : Ahead) (old new : List ℕ) : Type 0 where
   pub dir : ℕ
   pub entered : List Entered
@@ -146,3 +159,4 @@ pub record ComeNext (call : CallView) (most number : ℕ) (ahead : Ahead) (old n
   pub used : ahead.used ≡ length (after_slashes (names_of entered) ++ up_text ahead.up)
   pub up : ahead.up ≡ true → GoesUp turn (dir_behind dir number entered)
   pub ends : ahead.ends ≡ true → AsksFor turn (dir_behind dir number entered)
+  pub dot : ahead.dot ≡ (ahead.ends && ends_in_dot (doing_ahead call.doing))

@@ -23,6 +23,7 @@ mod followed;
 mod kept;
 mod last_name;
 mod laws;
+mod left;
 mod numbers;
 mod refusals;
 mod runs;
@@ -38,6 +39,7 @@ pub use laws::{
     links_seen_below_tell, opens_at_once_tell, seen_below_tell, steps_are_refused_so,
     unmade_steps_end_calls,
 };
+pub use left::{Left, parts_ahead};
 pub use numbers::{Answered, Asked, Told};
 pub use refusals::is_refusal;
 pub use runs::{Ahead, Ran, names_ahead, pass_names};

@@ -1,5 +1,5 @@
 //! Names that follow one another in a call, for a C program that passes them by one system call.
-ghost use Rattle.std.specs.Prelude.{◌≡◌, ◌<◌, ◌≤◌, ◌↔◌, ◌∷◌, ◌++◌, ◌+◌, [], length, take, drop, nat_lt, IsTrue, IfSome, IsSome, None, MatchOption, List, ℕ, false};
+ghost use Rattle.std.specs.Prelude.{◌≡◌, ◌<◌, ◌≤◌, ◌↔◌, ◌&&◌, ◌∷◌, ◌++◌, ◌+◌, [], length, take, drop, nat_lt, IsTrue, IfSome, IsSome, None, MatchOption, List, ℕ, false};
 ghost use Rattle.tree_model.specs.declared.step.StepOf.TheVariants.{Open, Close};
 ghost use Rattle.root_ops.specs.declared.call.CallTurn.{CallTurn};
 ghost use Rattle.root_ops.specs.Order.{due, steps_left};
@@ -29,6 +29,9 @@ pub struct Ahead {
     pub up: bool,
     /// Whether the walk ends behind the last name.
     pub ends: bool,
+    /// Whether it ends behind `.` there, as a slash at the end of a path gives it: what has the last name must be a
+    /// directory.
+    pub dot: bool,
 }
 
 /// How many names a call has passed.
@@ -121,9 +124,10 @@ fn enter(alloc: Global, call: Call, dir: u64, number: u64) -> Entry
 // ---- what comes next
 
 // Lays a slash and a part there, from a place on, where they fit. Gives where they end.
-fn lay_part(part: &[u8], at: usize, room: &mut [u8]) -> Option<usize>
+pub(crate) fn lay_part(part: &[u8], at: usize, room: &mut [u8]) -> Option<usize>
     requires { at ≤ length room.old }
-    ensures { MatchOption result (room.new ≡ room.old) (λ end. LiesAt part.now at end room.old room.new) }
+    ensures laid { MatchOption result (room.new ≡ room.old) (λ end. LiesAt part.now at end room.old room.new) }
+    ensures full { result ≡ None → length room.old ≤ at + length part.now }
 {
     if room.len() - at <= part.len() {
         return None;
@@ -133,11 +137,12 @@ fn lay_part(part: &[u8], at: usize, room: &mut [u8]) -> Option<usize>
     Some(at + part.len() + 1)
 }
 
-// So many names lie in the room, and take so many bytes of it.
+// So many names lie in the room, and take so many bytes of it; and whether `.` came behind the last one.
 #[derive(Clone, Copy, Debug, PartialEq, Eq)]
 struct Spelled {
     names: usize,
     used: usize,
+    dot: bool,
 }
 
 // Whether it is due to open a name.
@@ -163,7 +168,10 @@ fn with_part(part: &Part<'_>, so_far: Spelled, most: usize, room: &mut [u8]) -> 
         (λ next. TakesPart part.now so_far most next room.old room.new) }
 {
     match part {
-        Part::Cur => Some(so_far),
+        Part::Cur => Some(Spelled {
+            dot: true,
+            ..so_far
+        }),
         Part::Named(name) => {
             if so_far.names >= most || name.is_too_long() {
                 return None;
@@ -172,6 +180,7 @@ fn with_part(part: &Part<'_>, so_far: Spelled, most: usize, room: &mut [u8]) -> 
             Some(Spelled {
                 names: so_far.names + 1,
                 used,
+                dot: false,
             })
         }
         Part::Up => None,
@@ -180,13 +189,14 @@ fn with_part(part: &Part<'_>, so_far: Spelled, most: usize, room: &mut [u8]) -> 
 
 // These names, with nothing behind them.
 fn alone(so_far: Spelled) -> Ahead
-    ensures { result ≡ record { names = so_far.names; used = so_far.used; up = false; ends = false } }
+    ensures { result ≡ record { names = so_far.names; used = so_far.used; up = false; ends = false; dot = false } }
 {
     Ahead {
         names: so_far.names,
         used: so_far.used,
         up: false,
         ends: false,
+        dot: false,
     }
 }
 
@@ -195,6 +205,7 @@ fn before_up(so_far: Spelled, room: &mut [u8]) -> Ahead
     requires { so_far.used ≤ length room.old }
     ensures names { result.names ≡ so_far.names }
     ensures ends { result.ends ≡ false }
+    ensures dot { result.dot ≡ false }
     ensures laid { room.new ≡ take so_far.used room.old ++ (up_text result.up ++ drop result.used room.old) }
     ensures used { result.used ≡ so_far.used + length (up_text result.up) }
 {
@@ -210,10 +221,18 @@ fn before_up(so_far: Spelled, room: &mut [u8]) -> Ahead
 
 // These names, behind which no part is left.
 fn at_end(so_far: Spelled) -> Ahead
-    ensures { result ≡ record { names = so_far.names; used = so_far.used; up = false; ends = nat_lt 0 so_far.names } }
+    ensures { result ≡ record {
+      names = so_far.names;
+      used = so_far.used;
+      up = false;
+      ends = nat_lt 0 so_far.names;
+      dot = nat_lt 0 so_far.names && so_far.dot;
+    } }
 {
+    let ends = so_far.names > 0;
     Ahead {
-        ends: so_far.names > 0,
+        ends,
+        dot: ends && so_far.dot,
         ..alone(so_far)
     }
 }
@@ -222,7 +241,11 @@ fn at_end(so_far: Spelled) -> Ahead
 fn look(call: &Call, most: usize, number: u64, room: &mut [u8]) -> Ahead
     ensures { ComeNext call.now most number result room.old room.new }
 {
-    let mut so_far = Spelled { names: 0, used: 0 };
+    let mut so_far = Spelled {
+        names: 0,
+        used: 0,
+        dot: false,
+    };
     if !is_at_name(call) {
         return alone(so_far);
     }
@@ -263,7 +286,8 @@ fn look_in(kept: Kept, most: usize, number: u64, room: &mut [u8]) -> Looked
 
 /// The names that a call is due to open next, one in another, if each of them is a directory: at most so many, and so
 /// many as fit in the room, with a slash before each. Behind them may come `..`, which is laid out as well; or the
-/// walk's end. The call stays as it is, and no memory is taken: the names are read where they lie in its walk.
+/// walk's end, behind a slash or not. The call stays as it is, and no memory is taken: the names are read where they
+/// lie in its walk.
 ///
 /// None where no Open is due. `number` is that of `pass_names`.
 pub fn names_ahead(

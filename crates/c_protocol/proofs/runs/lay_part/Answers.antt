@@ -2,8 +2,8 @@ use Rattle.std.proofs.Common.{◌+◌, length, arith}
 use Rattle.c_protocol.proofs.Laying.{put_part}
 use Rattle.c_protocol.proofs.runs.lay_part.Goals as goal
 
-pub returns : goal.returns
-returns c =
+pub returns-clause-laid : goal.returns-clause-laid
+returns-clause-laid c =
     let part = c.args.part.now in
     let room = c.args.room.now in (
       omega arith,

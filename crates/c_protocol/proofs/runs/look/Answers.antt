@@ -13,15 +13,15 @@ loop-at-init c =
 pub returns-in-Some-Up : goal.returns-in-Some-Up
 returns-in-Some-Up c =
     let up : slice_get (doing_ahead c.args.call.now.doing) c.loop-at.at ≡ Some Up = cc (c.ahead.ensures, c.in-Some-Up.is, c.in-Some-Up.field-0-is) in
-    found_up c.args.call.now c.args.most c.args.number c.loop-at.so_far.used c.loop-at.so_far.names c.loop-at.at c.args.room.now c.loop-at.room
-    c.before_up.new.room c.before_up.result c.loop-at.invariant up c.before_up.ensures.names c.before_up.ensures.ends c.before_up.ensures.laid
-    c.before_up.ensures.used
+    found_up c.args.call.now c.args.most c.args.number c.loop-at.so_far.used c.loop-at.so_far.names c.loop-at.so_far.dot c.loop-at.at
+    c.args.room.now c.loop-at.room c.before_up.new.room c.before_up.result c.loop-at.invariant up c.before_up.ensures.names
+    c.before_up.ensures.ends c.before_up.ensures.dot c.before_up.ensures.laid c.before_up.ensures.used
 
 pub returns-in-None : goal.returns-in-None
 returns-in-None c =
     let none : slice_get (doing_ahead c.args.call.now.doing) c.loop-at.at ≡ None = cc (c.ahead.ensures, c.in-None.is) in
-    found_end c.args.call.now c.args.most c.args.number c.loop-at.so_far.used c.loop-at.so_far.names c.loop-at.at c.args.room.now c.loop-at.room
-    c.at_end.result c.loop-at.invariant none c.at_end.ensures
+    found_end c.args.call.now c.args.most c.args.number c.loop-at.so_far.used c.loop-at.so_far.names c.loop-at.so_far.dot c.loop-at.at
+    c.args.room.now c.loop-at.room c.at_end.result c.loop-at.invariant none c.at_end.ensures
 
 pub loop-at-preserved : goal.loop-at-preserved
 loop-at-preserved c =

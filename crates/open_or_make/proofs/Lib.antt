@@ -1,0 +1,4 @@
+pub mod CourseLemmas
+pub mod HistoryLemmas
+pub mod PathLemmas
+pub mod PromiseLemmas

@@ -1,0 +1,4 @@
+pub mod Course
+pub mod History
+pub mod Leads
+pub mod Promises

@@ -1,0 +1,162 @@
+-- Agreeing answers tell the place.
+use Rattle.std.proofs.Common.{◌≡◌, ◌==◌, ◌&&◌, ◌||◌, ◌≤◌, ◌<◌, ℕ, Bool, true, false, not, List, [], ◌∷◌, length, nat_lt, Option, Some, None, refl, sym, ap, subst, ◌∙◌}
+use Rattle.std.specs.Cmp.Derive.{both_true}
+use Rattle.std.proofs.lemmas.Bool.{cond-true, cond-false, cond_both, eq-eqb, le-ltb, lt-ltb, ltb-false}
+use Rattle.path_text.specs.Name.{same_bytes}
+use Rattle.path_text.specs.declared.name.TheConstants.{SLASH}
+use Rattle.path_text.specs.declared.path.TheConstants.{TEXT_MAX}
+use Rattle.kernel_text.specs.Place.{place_below, place_between, place_of_cwd, IsPart}
+use Rattle.kernel_text.specs.declared.place.Place.{Place}
+use Rattle.system_calls.specs.Objects.{is_same_object}
+use Rattle.place_protocol.specs.Conversation.{Conversation, Exchange, Goes, StandsAt, keep}
+use Rattle.place_protocol.specs.Texts.{Texts, Finds, path_of_root, place_of, texts_of}
+use Rattle.place_protocol.specs.Turns.{after_cwd, after_cwd_again, after_found, after_look_up, after_object, confirm_place, first_link, has_found, has_path, in_jail, is_root, link_error, look_up_error, without_second, ENAMETOOLONG}
+use Rattle.place_protocol.specs.Witness.{AgreeingWitnessesAreTold, FindsObject, Worked, is_top}
+use Rattle.place_protocol.specs.declared.questions.Answer.{Answer}
+use Rattle.place_protocol.specs.declared.questions.Facts.{Facts}
+use Rattle.place_protocol.specs.declared.questions.Question.TheVariants.{Enter, Cwd, CwdAgain, RootLink, ObjectLink, OwnRoot, LookUp, LinkAgain}
+use Rattle.place_protocol.specs.declared.turns.Turn.{Turn}
+use Rattle.place_protocol.specs.declared.turns.Turn.TheVariants.{Ask, Look, Stands, Unmade}
+use Rattle.place_protocol.proofs.GoesLemmas.{answered}
+use Rattle.place_protocol.proofs.TextLemmas.{or_second, part_size, place_with_second}
+
+-- ---- which turn follows
+
+-- a place that the text tells was found
+found_there : (text : List ℕ) (o : Option (List ℕ)) (found : Option Place) (place : List ℕ) → Finds text o found → o ≡ Some place
+    → (at : Place) × (found ≡ Some at) × IsPart text place at.start at.length
+found_there text None found place h e = absurd cc
+found_there text (Some p) None place h e = absurd h
+found_there text (Some p) (Some at) place h e =
+    let same : p ≡ place = cc in (at, refl, subst (λ (q : List ℕ). IsPart text q at.start at.length) same h.0)
+
+first_false : (x y : Bool) → (x || y) ≡ false → x ≡ false
+first_false true y e = e
+first_false false y e = refl
+
+short : (before path after place : List ℕ) → place_between before path after ≡ Some place → length path ≤ TEXT_MAX
+short before path after place =
+    cond_both (nat_lt TEXT_MAX (length path) || not (same_bytes before after)) None (place_below before path)
+    (λ o. o ≡ Some place → length path ≤ TEXT_MAX) (λ _ e. absurd cc) (λ none _. ltb-false TEXT_MAX (length path) (first_false _ _ none))
+
+link_fine : (error : ℕ) (text : List ℕ) → error ≡ 0 → length text ≤ TEXT_MAX → link_error error text ≡ 0
+link_fine error text none size =
+    subst (λ (n : ℕ). link_error n text ≡ 0) (sym none)
+    (cond-false (nat_lt TEXT_MAX (length text)) ENAMETOOLONG 0 (le-ltb TEXT_MAX (length text) size))
+
+zero_error : (error : ℕ) → error ≡ 0 → not (error == 0) ≡ false
+zero_error error e = ap not (eq-eqb error 0 e)
+
+object_turn : (facts : Facts) (error : ℕ) (at : Place) → error ≡ 0 → facts.second ≡ true → facts.seen ≡ false
+    → after_object facts error (Some at) ≡ Look at
+object_turn facts error at none second seen =
+    cond-false (not (error == 0)) (Unmade error) _ (zero_error error none)
+    ∙ (cond-true (facts.jailed || facts.second) (confirm_place facts at) (Ask OwnRoot) (or_second facts.jailed facts.second second)
+    ∙ (cond-true facts.second _ _ second ∙ cond-false facts.seen (Stands at false) (Look at) seen))
+
+found_turn : (facts : Facts) (a : Answer) (at : Place) → a.yes ≡ false → a.error ≡ 0
+    → is_same_object a.held a.found (is_root at) ≡ true → facts.directory ≡ true → 0 < a.links
+    → after_look_up facts a (Some at) ≡ Stands at (is_root at)
+found_turn facts a at had none same directory links =
+    cond-false a.yes (Ask (first_link (without_second facts))) (after_found facts a at) had
+    ∙ (cond-false (not (has_found a at)) (Unmade (look_up_error a.error)) _ (ap not (both_true (eq-eqb a.error 0 none) same))
+    ∙ cond-true (facts.directory && nat_lt 0 a.links) (Stands at (is_root at)) (Ask LinkAgain) (both_true directory (lt-ltb 0 a.links links)))
+
+cwd_turn : (facts : Facts) (error : ℕ) (found : Option Place) → error ≡ 0 → facts.seen ≡ false → after_cwd facts error found ≡ Ask CwdAgain
+cwd_turn facts error found none seen =
+    subst (λ (n : ℕ). after_cwd facts n found ≡ Ask CwdAgain) (sym none) (cond-false facts.seen (in_jail found) (Ask CwdAgain) seen)
+
+cwd_again_turn : (error : ℕ) (at : Place) → has_path error ≡ true → after_cwd_again error (Some at) ≡ Stands at (is_root at)
+cwd_again_turn error at has = cond-true (has_path error) (in_jail (Some at)) _ has
+
+-- ---- the conversations
+
+-- they don't end elsewhere
+abbrev Else : List ℕ → Texts → Turn → Type 0
+Else place t turn = StandsAt place (is_top place) t turn → ⊥
+
+ended : (place : List ℕ) (t : Texts) (next : Turn) (at : Place) → next ≡ Stands at (is_root at)
+    → IsPart t.text place at.start at.length → Else place t next → ⊥
+ended place t next at e part h =
+    subst (λ (n : Turn). Else place t n) e h (part, ap (λ n. n == 1) (sym (part_size t.text place at.start at.length part)))
+
+-- both witnesses
+look_tells : (facts : Facts) (place : List ℕ) (t : Texts) (next : Turn) (at : Place) (look : Exchange) → place_of facts t ≡ Some place
+    → facts.directory ≡ true → FindsObject place look → look.answer.yes ≡ false → 0 < look.answer.links → next ≡ Look at
+    → Goes facts t next (look ∷ []) (Else place) → ⊥
+look_tells facts place t next at look told directory finds had links is h =
+    let g = subst (λ (n : Turn). Goes facts t n (look ∷ []) (Else place)) is h in
+    let a = answered LookUp facts t look [] (Else place) g.0.0 g.1 in
+    let f = found_there t.text (place_of facts t) a.1.0 place a.1.1 told in
+    let size = part_size t.text place f.0.start f.0.length f.2 in
+    let same = subst (λ (n : ℕ). is_same_object look.answer.held look.answer.found (n == 1) ≡ true) size finds.2 in
+    let e : a.0 ≡ Stands f.0 (is_root f.0) =
+    a.1.2 ∙ (ap (after_look_up facts look.answer) f.1 ∙ found_turn facts look.answer f.0 had finds.0.1 same directory links) in
+    ended place t a.0 f.0 e f.2 a.2
+
+object_tells : (facts : Facts) (place : List ℕ) (t : Texts) (next : Turn) (object look : Exchange)
+    → facts.jailed ≡ false → facts.second ≡ true → facts.seen ≡ false → facts.directory ≡ true
+    → Worked ObjectLink object → place_between t.root object.text t.root ≡ Some place
+    → FindsObject place look → look.answer.yes ≡ false → 0 < look.answer.links → next ≡ Ask ObjectLink
+    → Goes facts t next (object ∷ look ∷ []) (Else place) → ⊥
+object_tells facts place t next object look jailed second seen directory worked told finds had links is h =
+    let g = subst (λ (n : Turn). Goes facts t n (object ∷ look ∷ []) (Else place)) is h in
+    let a = answered ObjectLink facts t object (look ∷ []) (Else place) worked.0 g.1 in
+    let t' = keep ObjectLink object.text t in
+    let root : path_of_root facts t.root ≡ t.root = cond-false facts.jailed (SLASH ∷ []) t.root jailed in
+    let below : place_between (path_of_root facts t.root) object.text (path_of_root facts t.root) ≡ Some place =
+    ap (λ r. place_between r object.text r) root ∙ told in
+    let here = place_with_second facts t' place second below in
+    let f = found_there object.text (place_of facts t') a.1.0 place a.1.1 here in
+    let fine = link_fine object.answer.error object.text worked.1 (short t.root object.text t.root place told) in
+    let e : a.0 ≡ Look f.0 =
+    a.1.2 ∙ (ap (after_object facts (link_error object.answer.error object.text)) f.1 ∙ object_turn facts (link_error object.answer.error object.text) f.0 fine second seen) in
+    look_tells facts place t' a.0 f.0 look here directory finds had links e a.2
+
+root_tells : (facts : Facts) (kept place : List ℕ) (root object look : Exchange)
+    → facts.jailed ≡ false → facts.second ≡ true → facts.seen ≡ false → facts.kept ≡ false → facts.directory ≡ true
+    → Worked RootLink root → length root.text ≤ TEXT_MAX → Worked ObjectLink object
+    → place_between root.text object.text root.text ≡ Some place
+    → FindsObject place look → look.answer.yes ≡ false → 0 < look.answer.links
+    → Conversation facts kept (root ∷ object ∷ look ∷ []) (Else place) → ⊥
+root_tells facts kept place root object look jailed second seen keeps directory worked size object_worked told finds had links h =
+    let t = texts_of kept [] [] in
+    let a = answered RootLink facts t root (object ∷ look ∷ []) (Else place) worked.0 h.1 in
+    let fine = link_fine root.answer.error root.text worked.1 size in
+    let e : a.0 ≡ Ask ObjectLink =
+    a.1 ∙ cond-true (link_error root.answer.error root.text == 0) (Ask ObjectLink) _ (eq-eqb (link_error root.answer.error root.text) 0 fine) in
+    object_tells facts place (keep RootLink root.text t) a.0 object look jailed second seen directory object_worked told finds had links e a.2
+
+-- getcwd(2)
+again_tells : (facts : Facts) (place : List ℕ) (t : Texts) (next : Turn) (again : Exchange) → place_of_cwd t.text ≡ Some place
+    → again.question ≡ CwdAgain → has_path again.answer.error ≡ true → next ≡ Ask CwdAgain
+    → Goes facts t next (again ∷ []) (Else place) → ⊥
+again_tells facts place t next again told q ne is h =
+    let g = subst (λ (n : Turn). Goes facts t n (again ∷ []) (Else place)) is h in
+    let a = answered CwdAgain facts t again [] (Else place) q g.1 in
+    let f = found_there t.text (place_of_cwd t.text) a.1.0 place a.1.1 told in
+    let e : a.0 ≡ Stands f.0 (is_root f.0) =
+    a.1.2 ∙ (ap (after_cwd_again again.answer.error) f.1 ∙ cwd_again_turn again.answer.error f.0 ne) in
+    ended place t a.0 f.0 e f.2 a.2
+
+cwd_tells : (facts : Facts) (place : List ℕ) (t : Texts) (next : Turn) (cwd again : Exchange) → facts.seen ≡ false
+    → Worked Cwd cwd → place_of_cwd cwd.text ≡ Some place → again.question ≡ CwdAgain → has_path again.answer.error ≡ true
+    → next ≡ Ask Cwd → Goes facts t next (cwd ∷ again ∷ []) (Else place) → ⊥
+cwd_tells facts place t next cwd again seen worked told q ne is h =
+    let g = subst (λ (n : Turn). Goes facts t n (cwd ∷ again ∷ []) (Else place)) is h in
+    let a = answered Cwd facts t cwd (again ∷ []) (Else place) worked.0 g.1 in
+    again_tells facts place (keep Cwd cwd.text t) a.0 again told q ne (a.1.2 ∙ cwd_turn facts cwd.answer.error a.1.0 worked.1 seen) a.2
+
+enter_tells : (facts : Facts) (kept place : List ℕ) (enter cwd again : Exchange)
+    → facts.jailed ≡ true → facts.directory ≡ true → facts.seen ≡ false
+    → Worked Enter enter → Worked Cwd cwd → place_of_cwd cwd.text ≡ Some place
+    → again.question ≡ CwdAgain → has_path again.answer.error ≡ true
+    → Conversation facts kept (enter ∷ cwd ∷ again ∷ []) (Else place) → ⊥
+enter_tells facts kept place enter cwd again jailed directory seen worked cwd_worked told q ne h =
+    let t = texts_of kept [] [] in
+    let a = answered Enter facts t enter (cwd ∷ again ∷ []) (Else place) worked.0 h.1 in
+    let e : a.0 ≡ Ask Cwd = a.1 ∙ cond-true (enter.answer.error == 0) (Ask Cwd) _ (eq-eqb enter.answer.error 0 worked.1) in
+    cwd_tells facts place t a.0 cwd again seen cwd_worked told q ne e a.2
+
+pub agreeing-witnesses-are-told : AgreeingWitnessesAreTold
+agreeing-witnesses-are-told = (root_tells, enter_tells)

@@ -1,0 +1,148 @@
+-- Where the text is the one witness.
+use Rattle.std.proofs.Common.{◌≡◌, ◌==◌, ◌||◌, ℕ, Bool, true, false, not, cond, List, [], ◌∷◌, Option, Some, None, refl, sym, ap, ◌∙◌, inl, inr}
+use Rattle.std.proofs.lemmas.Bool.{eqb-true, not-true, or_left}
+use Rattle.path_text.specs.declared.name.TheConstants.{SLASH}
+use Rattle.kernel_text.specs.Place.{place_between}
+use Rattle.kernel_text.specs.declared.place.Place.{Place}
+use Rattle.place_protocol.specs.Conversation.{Comes, Exchange, StandsAt, keep}
+use Rattle.place_protocol.specs.Texts.{Texts, Finds, place_of}
+use Rattle.place_protocol.specs.Turns.{after_dead, after_object, after_root_again, confirm, link_error, EAGAIN, EOPNOTSUPP}
+use Rattle.place_protocol.specs.Witness.{IsThere, RootStayed, TextTells, Worked}
+use Rattle.place_protocol.specs.declared.questions.Facts.{Facts}
+use Rattle.place_protocol.specs.declared.questions.Question.TheVariants.{RootLink, ObjectLink, OwnRoot, RootAgain, Dead}
+use Rattle.place_protocol.specs.declared.turns.Turn.TheVariants.{Ask, Stands, Unmade}
+use Rattle.place_protocol.proofs.GoesLemmas.{Ends, asked, if_not, if_so, link_worked, no_error, not_so, so, stood, turned, unmade}
+use Rattle.place_protocol.proofs.TextLemmas.{or_none, some_found, told_alone, told_in_jail}
+
+-- ---- whether the directory is dead
+
+dead_of : (place : List ℕ) (r : Bool) (facts : Facts) (t : Texts) (e : Exchange) (es : List Exchange) (found : Option Place)
+    → e.question ≡ Dead → Finds t.text (place_of facts t) found → Ends place r facts t (after_dead e.answer.yes found) es
+    → Comes (λ e _. (e.question ≡ Dead) × (e.answer.yes ≡ false)) (e ∷ es) × (place_of facts t ≡ Some place)
+dead_of place r facts t e es None q finds h = absurd (unmade place r facts t EAGAIN es h)
+dead_of place r facts t e es (Some found) q finds h =
+    let n = if_so place r facts t (not e.answer.yes) (Stands found false) EAGAIN es h in
+    let s = some_found t.text (place_of facts t) found place finds (stood place r facts t found false es n.1) in
+    (inl (q, not-true e.answer.yes n.0), s.0)
+
+dead : (place : List ℕ) (r : Bool) (facts : Facts) (t : Texts) (es : List Exchange) → Ends place r facts t (Ask Dead) es
+    → Comes (λ e _. (e.question ≡ Dead) × (e.answer.yes ≡ false)) es × (place_of facts t ≡ Some place)
+dead place r facts t [] h = absurd h
+dead place r facts t (e ∷ es) h =
+    let a = asked Dead facts t e es (StandsAt place r) h in
+    dead_of place r facts t e es a.1.1.0 a.0 a.1.1.1 (turned place r facts t a.1.0 _ es a.1.1.2 a.1.2)
+
+-- ---- what a text tells
+
+alone_gone : (place : List ℕ) (r : Bool) (facts : Facts) (t : Texts) (es : List Exchange) (found : Place) (gone : Bool)
+    → found.gone ≡ gone → Finds t.text (place_of facts t) (Some found)
+    → Ends place r facts t (cond (not gone) (Stands found false) (cond facts.directory (Ask Dead) (Unmade EAGAIN))) es
+    → IsThere facts place es × (place_of facts t ≡ Some place)
+alone_gone place r facts t es found false is finds h =
+    let s = some_found t.text (place_of facts t) found place finds (stood place r facts t found false es h) in
+    (inl (sym s.1 ∙ is), s.0)
+alone_gone place r facts t es found true is finds h =
+    let n = if_so place r facts t facts.directory (Ask Dead) EAGAIN es h in
+    let d = dead place r facts t es n.1 in
+    (inr (n.0, d.0), d.1)
+
+alone : (place : List ℕ) (r : Bool) (facts : Facts) (t : Texts) (es : List Exchange) (found : Option Place)
+    → facts.second ≡ false → Finds t.text (place_of facts t) found → Ends place r facts t (confirm facts found) es
+    → IsThere facts place es × (place_of facts t ≡ Some place)
+alone place r facts t es None second finds h = absurd (unmade place r facts t EAGAIN es h)
+alone place r facts t es (Some found) second finds h =
+    alone_gone place r facts t es found found.gone refl finds (not_so place r facts t facts.second _ _ es second h)
+
+-- ---- in a jail
+
+jail_of : (place : List ℕ) (r : Bool) (facts : Facts) (t : Texts) (e : Exchange) (es : List Exchange) (found : Option Place)
+    → facts.second ≡ false → facts.jailed ≡ true → e.question ≡ ObjectLink → e.text ≡ t.text
+    → Finds t.text (place_of facts t) found
+    → Ends place r facts t (after_object facts (link_error e.answer.error e.text) found) es
+    → TextTells ObjectLink (SLASH ∷ []) place (IsThere facts place) (e ∷ es)
+jail_of place r facts t e es found second jailed q same finds h =
+    let n = if_not place r facts t (not (link_error e.answer.error e.text == 0)) _ (link_error e.answer.error e.text) es h in
+    let worked = link_worked e.answer.error e.text (no_error (link_error e.answer.error e.text) n.0) in
+    let c = so place r facts t (facts.jailed || facts.second) (confirm facts found) (Ask OwnRoot) es (or_left facts.jailed facts.second jailed) n.1 in
+    let s = alone place r facts t es found second finds c in
+    inl ((q, worked), ap (λ x. place_between (SLASH ∷ []) x (SLASH ∷ [])) same ∙ told_in_jail facts t place jailed s.1, s.0)
+
+pub jail_alone : (place : List ℕ) (r : Bool) (facts : Facts) (t : Texts) (es : List Exchange)
+    → facts.second ≡ false → facts.jailed ≡ true → Ends place r facts t (Ask ObjectLink) es
+    → TextTells ObjectLink (SLASH ∷ []) place (IsThere facts place) es
+jail_alone place r facts t [] second jailed h = absurd h
+jail_alone place r facts t (e ∷ es) second jailed h =
+    let a = asked ObjectLink facts t e es (StandsAt place r) h in
+    let t' = keep ObjectLink e.text t in
+    jail_of place r facts t' e es a.1.1.0 second jailed a.0 refl a.1.1.1 (turned place r facts t' a.1.0 _ es a.1.1.2 a.1.2)
+
+-- ---- below a root that is a descriptor
+
+-- the root's link told its path again
+abbrev Again : Facts → List ℕ → Texts → List Exchange → Type 0
+Again facts place t =
+    Comes (λ a end. Worked RootAgain a × (place_between t.root t.text a.text ≡ Some place) × IsThere facts place end)
+
+again_of : (place : List ℕ) (r : Bool) (facts : Facts) (t : Texts) (e : Exchange) (es : List Exchange) (found : Option Place)
+    → facts.second ≡ false → facts.jailed ≡ false → e.question ≡ RootAgain → e.text ≡ t.again
+    → Finds t.text (place_of facts t) found
+    → Ends place r facts t (after_root_again facts (link_error e.answer.error e.text) found) es
+    → Again facts place t (e ∷ es)
+again_of place r facts t e es found second jailed q same finds h =
+    let n = if_so place r facts t (link_error e.answer.error e.text == 0) (confirm facts found) (link_error e.answer.error e.text) es h in
+    let worked = link_worked e.answer.error e.text (eqb-true (link_error e.answer.error e.text) 0 n.0) in
+    let s = alone place r facts t es found second finds n.1 in
+    inl ((q, worked), ap (λ x. place_between t.root t.text x) same ∙ told_alone facts t place jailed second s.1, s.0)
+
+again : (place : List ℕ) (r : Bool) (facts : Facts) (t : Texts) (es : List Exchange) → facts.second ≡ false
+    → facts.jailed ≡ false → Ends place r facts t (Ask RootAgain) es → Again facts place t es
+again place r facts t [] second jailed h = absurd h
+again place r facts t (e ∷ es) second jailed h =
+    let a = asked RootAgain facts t e es (StandsAt place r) h in
+    let t' = keep RootAgain e.text t in
+    again_of place r facts t' e es a.1.1.0 second jailed a.0 refl a.1.1.1 (turned place r facts t' a.1.0 _ es a.1.1.2 a.1.2)
+
+abbrev Own : Facts → List ℕ → Texts → List Exchange → Type 0
+Own facts place t = Comes (λ m last. (m.question ≡ OwnRoot) × (m.answer.yes ≡ true) × Again facts place t last)
+
+own : (place : List ℕ) (r : Bool) (facts : Facts) (t : Texts) (es : List Exchange) → facts.second ≡ false
+    → facts.jailed ≡ false → Ends place r facts t (Ask OwnRoot) es → Own facts place t es
+own place r facts t [] second jailed h = absurd h
+own place r facts t (e ∷ es) second jailed h =
+    let a = asked OwnRoot facts t e es (StandsAt place r) h in
+    let n = if_so place r facts t e.answer.yes (Ask RootAgain) EOPNOTSUPP es (turned place r facts t a.1.0 _ es a.1.1 a.1.2) in
+    inl (a.0, n.0, again place r facts t es second jailed n.1)
+
+abbrev Object : Facts → List ℕ → List ℕ → List Exchange → Type 0
+Object facts place root =
+    Comes (λ o later. Worked ObjectLink o
+    × Comes (λ m last. (m.question ≡ OwnRoot) × (m.answer.yes ≡ true)
+    × Comes (λ a end. Worked RootAgain a × (place_between root o.text a.text ≡ Some place) × IsThere facts place end) last) later)
+
+object_of : (place : List ℕ) (r : Bool) (facts : Facts) (t : Texts) (e : Exchange) (es : List Exchange) (found : Option Place)
+    → facts.second ≡ false → facts.jailed ≡ false → e.question ≡ ObjectLink
+    → Ends place r facts (keep ObjectLink e.text t) (after_object facts (link_error e.answer.error e.text) found) es
+    → Object facts place t.root (e ∷ es)
+object_of place r facts t e es found second jailed q h =
+    let t' = keep ObjectLink e.text t in
+    let n = if_not place r facts t' (not (link_error e.answer.error e.text == 0)) _ (link_error e.answer.error e.text) es h in
+    let worked = link_worked e.answer.error e.text (no_error (link_error e.answer.error e.text) n.0) in
+    let c = not_so place r facts t' (facts.jailed || facts.second) (confirm facts found) (Ask OwnRoot) es (or_none facts.jailed facts.second jailed second) n.1 in
+    inl ((q, worked), own place r facts t' es second jailed c)
+
+object : (place : List ℕ) (r : Bool) (facts : Facts) (t : Texts) (es : List Exchange) → facts.second ≡ false
+    → facts.jailed ≡ false → Ends place r facts t (Ask ObjectLink) es → Object facts place t.root es
+object place r facts t [] second jailed h = absurd h
+object place r facts t (e ∷ es) second jailed h =
+    let a = asked ObjectLink facts t e es (StandsAt place r) h in
+    object_of place r facts t e es a.1.1.0 second jailed a.0 (turned place r facts (keep ObjectLink e.text t) a.1.0 _ es a.1.1.2 a.1.2)
+
+pub root_stayed : (place : List ℕ) (r : Bool) (facts : Facts) (t : Texts) (es : List Exchange) → facts.second ≡ false
+    → facts.jailed ≡ false → Ends place r facts t (Ask RootLink) es → RootStayed facts place es
+root_stayed place r facts t [] second jailed h = absurd h
+root_stayed place r facts t (e ∷ es) second jailed h =
+    let a = asked RootLink facts t e es (StandsAt place r) h in
+    let t' = keep RootLink e.text t in
+    let n = if_so place r facts t' (link_error e.answer.error e.text == 0) (Ask ObjectLink) (link_error e.answer.error e.text) es (turned place r facts t' a.1.0 _ es a.1.1 a.1.2) in
+    let worked = link_worked e.answer.error e.text (eqb-true (link_error e.answer.error e.text) 0 n.0) in
+    inl ((a.0, worked), object place r facts t' es second jailed n.1)

@@ -1,0 +1,238 @@
+-- Where the thread has openat2(2).
+use Rattle.std.proofs.Common.{◌≡◌, ◌==◌, ◌&&◌, ◌||◌, ℕ, Bool, true, false, not, cond, List, [], ◌∷◌, length, nat_lt, Option, Some, None, refl, sym, ap, subst, ◌∙◌, ◌⊎◌, inl, inr}
+use Rattle.std.proofs.lemmas.Bool.{cond-false, eqb-true, false≢true, not-false, ltb-true}
+use Rattle.path_text.specs.declared.name.TheConstants.{SLASH}
+use Rattle.kernel_text.specs.Place.{is_named, place_between, IsPart}
+use Rattle.kernel_text.specs.declared.place.Place.{Place}
+use Rattle.system_calls.specs.Objects.{is_same_object}
+use Rattle.place_protocol.specs.Conversation.{Comes, Exchange, StandsAt, keep}
+use Rattle.place_protocol.specs.Texts.{Texts, Finds, bytes_of, path_of_root, place_of}
+use Rattle.place_protocol.specs.Turns.{after_found, after_link_again, after_look_up, after_object, confirm, confirm_place, facts_after, first_link, has_found, is_root, link_error, look_up_error, without_second, EAGAIN}
+use Rattle.place_protocol.specs.Witness.{IsThere, RootStayed, SecondWitness, TextTells, WasThere, Worked, is_top}
+use Rattle.place_protocol.specs.declared.questions.Facts.{Facts}
+use Rattle.place_protocol.specs.declared.questions.Question.{Question}
+use Rattle.place_protocol.specs.declared.questions.Question.TheVariants.{RootLink, ObjectLink, OwnRoot, LookUp, LinkAgain}
+use Rattle.place_protocol.specs.declared.turns.Turn.{Turn}
+use Rattle.place_protocol.specs.declared.turns.Turn.TheVariants.{Ask, Look, Stands, Unmade}
+use Rattle.place_protocol.proofs.AloneLemmas.{jail_alone, root_stayed}
+use Rattle.place_protocol.proofs.GoesLemmas.{Ends, answered, asked, either, if_not, if_so, link_worked, no_error, so, stood, turned, unmade}
+use Rattle.place_protocol.proofs.TextLemmas.{found_part, is_found, or_second, part_size, place_with_second, some_found, told_with_second}
+
+-- the text tells the place below the root's path that was read last
+abbrev pub Told : Facts → Texts → List ℕ → Type 0
+Told facts t place = place_between (path_of_root facts t.root) t.text (path_of_root facts t.root) ≡ Some place
+
+-- ---- the link, once more
+
+again_of : (place : List ℕ) (r : Bool) (facts : Facts) (t : Texts) (e : Exchange) (es : List Exchange) (found : Option Place)
+    → facts.second ≡ true → e.question ≡ LinkAgain → Finds t.text (place_of facts t) found
+    → Ends place r facts t (after_link_again (link_error e.answer.error e.text) e.text t.text found) es
+    → Comes (λ e _. Worked LinkAgain e × (is_named e.text place ≡ true)) (e ∷ es) × Told facts t place
+again_of place r facts t e es None second q finds h =
+    let n = if_not place r facts t (not (link_error e.answer.error e.text == 0)) (Unmade EAGAIN) (link_error e.answer.error e.text) es h in
+    absurd (unmade place r facts t EAGAIN es n.1)
+again_of place r facts t e es (Some found) second q finds h =
+    let n = if_not place r facts t (not (link_error e.answer.error e.text == 0)) _ (link_error e.answer.error e.text) es h in
+    let worked = link_worked e.answer.error e.text (no_error (link_error e.answer.error e.text) n.0) in
+    let m = if_so place r facts t (is_named e.text (bytes_of t.text found)) (Stands found (is_root found)) EAGAIN es n.1 in
+    let part = stood place r facts t found (is_root found) es m.1 in
+    let s = some_found t.text (place_of facts t) found place finds part in
+    (inl ((q, worked), subst (λ (p : List ℕ). is_named e.text p ≡ true) part.bytes m.0), told_with_second facts t place second s.0)
+
+again : (place : List ℕ) (r : Bool) (facts : Facts) (t : Texts) (es : List Exchange) → facts.second ≡ true
+    → Ends place r facts t (Ask LinkAgain) es
+    → Comes (λ e _. Worked LinkAgain e × (is_named e.text place ≡ true)) es × Told facts t place
+again place r facts t [] second h = absurd h
+again place r facts t (e ∷ es) second h =
+    let a = asked LinkAgain facts t e es (StandsAt place r) h in
+    let t' = keep LinkAgain e.text t in
+    again_of place r facts t' e es a.1.1.0 second a.0 a.1.1.1 (turned place r facts t' a.1.0 _ es a.1.1.2 a.1.2)
+
+-- ---- the look-up
+
+-- it was lost at the look-up, and the text tells the place alone
+pub record Lost (facts : Facts) (place : List ℕ) (es : List Exchange) : Type 0 where
+  pub refused : Comes (λ e _. (e.question ≡ LookUp) × (e.answer.yes ≡ true)) es
+  pub told : ((facts.jailed ≡ true) × TextTells ObjectLink (SLASH ∷ []) place (IsThere facts place) es)
+      ⊎ ((facts.jailed ≡ false) × RootStayed facts place es)
+
+pub lost_before : (facts : Facts) (place : List ℕ) (e : Exchange) (es : List Exchange) → Lost facts place es → Lost facts place (e ∷ es)
+lost_before facts place e es l =
+    record {
+      refused = inr l.refused;
+      told = elim l.told [ inl j ↦ inl (j.0, inr j.1) | inr s ↦ inr (s.0, inr s.1) ];
+    }
+
+-- what follows without it
+lost_of : (place : List ℕ) (r : Bool) (facts : Facts) (t : Texts) (es : List Exchange) (jailed : Bool) → facts.jailed ≡ jailed
+    → Ends place r (without_second facts) t (Ask (cond jailed ObjectLink RootLink)) es
+    → ((facts.jailed ≡ true) × TextTells ObjectLink (SLASH ∷ []) place (IsThere facts place) es)
+    ⊎ ((facts.jailed ≡ false) × RootStayed facts place es)
+lost_of place r facts t es true is h = inl (is, jail_alone place r (without_second facts) t es refl is h)
+lost_of place r facts t es false is h = inr (is, root_stayed place r (without_second facts) t es refl is h)
+
+-- ---- what it found
+
+pub both : (x y : Bool) → (x && y) ≡ true → (x ≡ true) × (y ≡ true)
+both true y e = (refl, e)
+both false y e = absurd (false≢true e)
+
+record Seen (facts : Facts) (t : Texts) (place : List ℕ) (e : Exchange) (es : List Exchange) : Type 0 where
+  worked : Worked LookUp e
+  same : is_same_object e.answer.held e.answer.found (is_top place) ≡ true
+  there : WasThere facts place e es
+  told : Told facts t place
+
+same_top : (place : List ℕ) (e : Exchange) (found : Place) → length place ≡ found.length
+    → is_same_object e.answer.held e.answer.found (is_root found) ≡ true
+    → is_same_object e.answer.held e.answer.found (is_top place) ≡ true
+same_top place e found size same =
+    subst (λ (n : ℕ). is_same_object e.answer.held e.answer.found (n == 1) ≡ true) (sym size) same
+
+found_of : (place : List ℕ) (r : Bool) (facts : Facts) (t : Texts) (e : Exchange) (es : List Exchange) (found : Place)
+    → facts.second ≡ true → e.question ≡ LookUp → Finds t.text (place_of facts t) (Some found)
+    → Ends place r facts t (after_found facts e.answer found) es → Seen facts t place e es
+found_of place r facts t e es found second q finds h =
+    let n = if_not place r facts t (not (has_found e.answer found)) _ (look_up_error e.answer.error) es h in
+    let b = both (e.answer.error == 0) (is_same_object e.answer.held e.answer.found (is_root found)) (not-false (has_found e.answer found) n.0) in
+    let worked = eqb-true e.answer.error 0 b.0 in
+    elim (either place r facts t (facts.directory && nat_lt 0 e.answer.links) (Stands found (is_root found)) (Ask LinkAgain) es n.1) [
+      | inl c ↦
+          let part = stood place r facts t found (is_root found) es c.1 in
+          let s = some_found t.text (place_of facts t) found place finds part in
+          let d = both facts.directory (nat_lt 0 e.answer.links) c.0 in
+          record {
+            worked = (q, worked);
+            same = same_top place e found (part_size t.text place found.start found.length part) b.1;
+            there = inl (d.0, ltb-true 0 e.answer.links d.1);
+            told = told_with_second facts t place second s.0;
+          }
+      | inr c ↦
+          let a = again place r facts t es second c.1 in
+          let p = found_part t.text (place_of facts t) found place finds (place_with_second facts t place second a.1) in
+          record {
+            worked = (q, worked);
+            same = same_top place e found (part_size t.text place found.start found.length p.0) b.1;
+            there = inr a.0;
+            told = a.1;
+          }
+    ]
+
+-- ---- to what a conversation comes
+
+-- by both witnesses; by the text of what was seen before; or the second one was lost
+pub data Reached (facts : Facts) (place : List ℕ) (Tells : (List Exchange → Type 0) → List Exchange → Type 0) (es : List Exchange) : Type 0 where
+  reached_both : Tells (SecondWitness facts place) es → Reached facts place Tells es
+  reached_seen : facts.seen ≡ true → Tells (λ later. Unit {0}) es → Reached facts place Tells es
+  reached_lost : Lost facts place es → Reached facts place Tells es
+
+abbrev pub TellsNow : Facts → Texts → List ℕ → (List Exchange → Type 0) → List Exchange → Type 0
+TellsNow facts t place After later = Told facts t place × After later
+
+look_yes : (place : List ℕ) (r : Bool) (facts : Facts) (t : Texts) (e : Exchange) (es : List Exchange) (yes : Bool) (turn : Turn)
+    → e.question ≡ LookUp → e.answer.yes ≡ yes
+    → Ends place r (cond yes (without_second facts) facts) t (cond yes (Ask (first_link (without_second facts))) turn) es
+    → Lost facts place (e ∷ es) ⊎ Ends place r facts t turn es
+look_yes place r facts t e es true turn q is h =
+    let l = lost_of place r facts t es facts.jailed refl h in
+    inl (record { refused = inl (q, is); told = elim l [ inl j ↦ inl (j.0, inr j.1) | inr s ↦ inr (s.0, inr s.1) ] })
+look_yes place r facts t e es false turn q is h = inr h
+
+look_of : (place : List ℕ) (r : Bool) (facts : Facts) (t : Texts) (e : Exchange) (es : List Exchange) (found : Option Place) (p : List ℕ)
+    → facts.second ≡ true → e.question ≡ LookUp → e.names ≡ p → Told facts t p → Finds t.text (place_of facts t) found
+    → Ends place r (facts_after facts LookUp e.answer) t (after_look_up facts e.answer found) es
+    → Reached facts place (TellsNow facts t place) (e ∷ es)
+look_of place r facts t e es None p second q names told finds h =
+    elim (look_yes place r facts t e es e.answer.yes (Unmade EAGAIN) q refl h)
+    [ inl l ↦ reached_lost l | inr u ↦ absurd (unmade place r facts t EAGAIN es u) ]
+look_of place r facts t e es (Some found) p second q names told finds h =
+    elim (look_yes place r facts t e es e.answer.yes (after_found facts e.answer found) q refl h) [
+      | inl l ↦ reached_lost l
+      | inr u ↦
+          let s = found_of place r facts t e es found second q finds u in
+          let same : Some p ≡ Some place = sym told ∙ s.told in
+          let is : p ≡ place = cc in
+          reached_both (s.told, inl ((s.worked, names ∙ is, s.same), s.there))
+    ]
+
+look : (place : List ℕ) (r : Bool) (facts : Facts) (t : Texts) (es : List Exchange) (at : Place) (p : List ℕ)
+    → facts.second ≡ true → Told facts t p → IsPart t.text p at.start at.length → Ends place r facts t (Look at) es
+    → Reached facts place (TellsNow facts t place) es
+look place r facts t [] at p second told part h = absurd h
+look place r facts t (e ∷ es) at p second told part h =
+    let a = answered LookUp facts t e es (StandsAt place r) h.0.0 h.1 in
+    look_of place r facts t e es a.1.0 p second h.0.0 (sym h.0.1.bytes ∙ part.bytes) told a.1.1
+    (turned place r (facts_after facts LookUp e.answer) t a.0 _ es a.1.2 a.2)
+
+pub by_place : (place : List ℕ) (r : Bool) (facts : Facts) (t : Texts) (es : List Exchange) (found : Place)
+    → facts.second ≡ true → Finds t.text (place_of facts t) (Some found) → Ends place r facts t (confirm_place facts found) es
+    → Reached facts place (TellsNow facts t place) es
+by_place place r facts t es found second finds h =
+    elim (either place r facts t facts.seen (Stands found false) (Look found) es (so place r facts t facts.second _ _ es second h)) [
+      | inl c ↦
+          let s = some_found t.text (place_of facts t) found place finds (stood place r facts t found false es c.1) in
+          reached_seen c.0 (told_with_second facts t place second s.0, tt)
+      | inr c ↦
+          let p = is_found t.text (place_of facts t) found finds in
+          look place r facts t es found p.0 second (told_with_second facts t p.0 second p.1) p.2 c.1
+    ]
+
+by_found : (place : List ℕ) (r : Bool) (facts : Facts) (t : Texts) (es : List Exchange) (found : Option Place)
+    → facts.second ≡ true → Finds t.text (place_of facts t) found → Ends place r facts t (confirm facts found) es
+    → Reached facts place (TellsNow facts t place) es
+by_found place r facts t es None second finds h = absurd (unmade place r facts t EAGAIN es h)
+by_found place r facts t es (Some found) second finds h = by_place place r facts t es found second finds h
+
+-- ---- the object's link
+
+pub told_by : (link : Question) (place : List ℕ) (facts : Facts) (t : Texts) (e : Exchange) (es : List Exchange) → Worked link e
+    → e.text ≡ t.text → Reached facts place (TellsNow facts t place) es
+    → Reached facts place (TextTells link (path_of_root facts t.root) place) (e ∷ es)
+told_by link place facts t e es worked same h =
+    let R = path_of_root facts t.root in
+    elim h [
+      | reached_both x ↦ reached_both (inl (worked, ap (λ text. place_between R text R) same ∙ x.0, x.1))
+      | reached_seen s x ↦ reached_seen s (inl (worked, ap (λ text. place_between R text R) same ∙ x.0, x.1))
+      | reached_lost l ↦ reached_lost (lost_before facts place e es l)
+    ]
+
+object_of : (place : List ℕ) (r : Bool) (facts : Facts) (t : Texts) (e : Exchange) (es : List Exchange) (found : Option Place)
+    → facts.second ≡ true → e.question ≡ ObjectLink → e.text ≡ t.text → Finds t.text (place_of facts t) found
+    → Ends place r facts t (after_object facts (link_error e.answer.error e.text) found) es
+    → Reached facts place (TextTells ObjectLink (path_of_root facts t.root) place) (e ∷ es)
+object_of place r facts t e es found second q same finds h =
+    let n = if_not place r facts t (not (link_error e.answer.error e.text == 0)) _ (link_error e.answer.error e.text) es h in
+    let worked = link_worked e.answer.error e.text (no_error (link_error e.answer.error e.text) n.0) in
+    let c = so place r facts t (facts.jailed || facts.second) (confirm facts found) (Ask OwnRoot) es (or_second facts.jailed facts.second second) n.1 in
+    told_by ObjectLink place facts t e es (q, worked) same (by_found place r facts t es found second finds c)
+
+pub object : (place : List ℕ) (r : Bool) (facts : Facts) (t : Texts) (es : List Exchange) → facts.second ≡ true
+    → Ends place r facts t (Ask ObjectLink) es → Reached facts place (TextTells ObjectLink (path_of_root facts t.root) place) es
+object place r facts t [] second h = absurd h
+object place r facts t (e ∷ es) second h =
+    let a = asked ObjectLink facts t e es (StandsAt place r) h in
+    let t' = keep ObjectLink e.text t in
+    object_of place r facts t' e es a.1.1.0 second a.0 refl a.1.1.1 (turned place r facts t' a.1.0 _ es a.1.1.2 a.1.2)
+
+-- ---- the root's link before it
+
+abbrev pub RootTells : List ℕ → (List Exchange → Type 0) → List Exchange → Type 0
+RootTells place After = Comes (λ e later. Worked RootLink e × TextTells ObjectLink e.text place After later)
+
+root_told : (place : List ℕ) (facts : Facts) (e : Exchange) (es : List Exchange) → Worked RootLink e
+    → Reached facts place (TextTells ObjectLink e.text place) es → Reached facts place (RootTells place) (e ∷ es)
+root_told place facts e es worked h =
+    elim h
+    [ reached_both x ↦ reached_both (inl (worked, x)) | reached_seen s x ↦ reached_seen s (inl (worked, x)) | reached_lost l ↦ reached_lost (lost_before facts place e es l) ]
+
+pub root : (place : List ℕ) (r : Bool) (facts : Facts) (t : Texts) (es : List Exchange) → facts.second ≡ true → facts.jailed ≡ false
+    → Ends place r facts t (Ask RootLink) es → Reached facts place (RootTells place) es
+root place r facts t [] second jailed h = absurd h
+root place r facts t (e ∷ es) second jailed h =
+    let a = asked RootLink facts t e es (StandsAt place r) h in
+    let t' = keep RootLink e.text t in
+    let n = if_so place r facts t' (link_error e.answer.error e.text == 0) (Ask ObjectLink) (link_error e.answer.error e.text) es (turned place r facts t' a.1.0 _ es a.1.1 a.1.2) in
+    let worked = link_worked e.answer.error e.text (eqb-true (link_error e.answer.error e.text) 0 n.0) in
+    let o = object place r facts t' es second n.1 in
+    root_told place facts e es (a.0, worked)
+    (subst (λ (path : List ℕ). Reached facts place (TextTells ObjectLink path place) es) (cond-false facts.jailed (SLASH ∷ []) e.text jailed) o)

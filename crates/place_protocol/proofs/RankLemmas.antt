@@ -1,0 +1,214 @@
+-- Each question leaves fewer that may follow.
+use Rattle.std.proofs.Common.{◌≡◌, ◌==◌, ◌&&◌, ◌||◌, ◌≤◌, ◌<◌, ℕ, Bool, true, false, not, cond, List, [], ◌∷◌, length, nat_lt, Option, Some, None, refl, sym, subst, arith, lit<, lit≤}
+use Rattle.std.proofs.lemmas.Bool.{cond_both, both_ways, true≢false}
+use Rattle.kernel_text.specs.Place.{is_named}
+use Rattle.kernel_text.specs.declared.place.Place.{Place}
+use Rattle.place_protocol.specs.Conversation.{Exchange, Goes, keep}
+use Rattle.place_protocol.specs.Texts.{Texts, bytes_of, texts_of}
+use Rattle.place_protocol.specs.Turns.{after_dead, after_found, after_kept, after_link_again, after_look_up, after_object, confirm, confirm_place, facts_after, first, first_link, has_found, has_path, in_jail, is_root, link_error, look_up_error, without_second, Follows, ENOENT, EAGAIN, EACCES, EOPNOTSUPP}
+use Rattle.place_protocol.specs.Witness.{QuestionsComeToAnEnd}
+use Rattle.place_protocol.specs.declared.questions.Answer.{Answer}
+use Rattle.place_protocol.specs.declared.questions.Facts.{Facts}
+use Rattle.place_protocol.specs.declared.questions.Question.{Question}
+use Rattle.place_protocol.specs.declared.questions.Question.TheVariants.{Enter, Cwd, CwdAgain, KeptLink, RootLink, ObjectLink, OwnRoot, RootAgain, LookUp, LinkAgain, Dead}
+use Rattle.place_protocol.specs.declared.turns.Turn.{Turn}
+use Rattle.place_protocol.specs.declared.turns.Turn.TheVariants.{Ask, Look, Stands, Nowhere, Unmade}
+use Rattle.place_protocol.proofs.GoesLemmas.{answered}
+
+-- so many questions may come from this one on, with openat2(2) and without
+abbrev left : Bool → Question → ℕ
+left second KeptLink = 9
+left second Enter = 8
+left second RootLink = cond second 8 5
+left second OwnRoot = cond second 8 3
+left second ObjectLink = cond second 7 4
+left second RootAgain = cond second 7 2
+left second LookUp = 6
+left second Cwd = 2
+left second CwdAgain = 1
+left second LinkAgain = 1
+left second Dead = 1
+
+abbrev rank : Bool → Turn → ℕ
+rank second (Ask question) = left second question
+rank second (Look place) = 6
+rank second (Stands place is_root) = 0
+rank second Nowhere = 0
+rank second (Unmade error) = 0
+
+-- what follows is below this
+abbrev Below : Bool → ℕ → Turn → Type 0
+Below second n turn = rank second turn < n
+
+below_link : (s : Bool) → cond s 7 4 < 8
+below_link true = lit< tt
+below_link false = lit< tt
+
+below_root : (s : Bool) → cond s 8 5 < 9
+below_root true = lit< tt
+below_root false = lit< tt
+
+link_below_root : (s : Bool) → cond s 7 4 < cond s 8 5
+link_below_root true = lit< tt
+link_below_root false = lit< tt
+
+again_below_own : (s : Bool) → cond s 7 2 < cond s 8 3
+again_below_own true = lit< tt
+again_below_own false = lit< tt
+
+zero_below : (s : Bool) (a b : ℕ) → 0 < a → 0 < b → 0 < cond s a b
+zero_below true a b x y = x
+zero_below false a b x y = y
+
+place_below : (s : Bool) (facts : Facts) (found : Place) → facts.second ≡ s → Below s (cond s 7 2) (confirm_place facts found)
+place_below true facts found is =
+    cond_both facts.second _ _ (Below true 7)
+    (λ _. cond_both facts.seen (Stands found false) (Look found) (Below true 7) (λ _. lit< tt) (λ _. lit< tt))
+    (λ none. absurd (both_ways facts.second none is))
+place_below false facts found is =
+    cond_both facts.second _ _ (Below false 2) (λ had. absurd (both_ways facts.second is had))
+    (λ _. cond_both (not found.gone) (Stands found false) _ (Below false 2) (λ _. lit< tt)
+    (λ _. cond_both facts.directory (Ask Dead) (Unmade EAGAIN) (Below false 2) (λ _. lit< tt) (λ _. lit< tt)))
+
+found_below : (s : Bool) (facts : Facts) (found : Option Place) → facts.second ≡ s → Below s (cond s 7 2) (confirm facts found)
+found_below s facts None is = zero_below s 7 2 (lit< tt) (lit< tt)
+found_below s facts (Some found) is = place_below s facts found is
+
+low : (s : Bool) (n : ℕ) → n < cond s 7 2 → n < 9
+low true n h = omega (arith, h)
+low false n h = omega (arith, h)
+
+low_object : (s : Bool) (n : ℕ) → n < cond s 7 2 → n < cond s 7 4
+low_object true n h = h
+low_object false n h = omega (arith, h)
+
+jail_below : (s : Bool) (n : ℕ) (found : Option Place) → 0 < n → Below s n (in_jail found)
+jail_below s n None h = h
+jail_below s n (Some found) h = h
+
+own_below : (s : Bool) (x y : Bool) → y ≡ s → (x || y) ≡ false → cond s 8 3 < cond s 7 4
+own_below s true y is none = absurd (true≢false none)
+own_below true false y is none = absurd (both_ways y none is)
+own_below false false y is none = lit< tt
+
+object_below : (s : Bool) (facts : Facts) (error : ℕ) (found : Option Place) → facts.second ≡ s
+    → Below s (cond s 7 4) (after_object facts error found)
+object_below s facts error found is =
+    cond_both (not (error == 0)) (Unmade error) _ (Below s (cond s 7 4)) (λ _. zero_below s 7 4 (lit< tt) (lit< tt))
+    (λ _. cond_both (facts.jailed || facts.second) (confirm facts found) (Ask OwnRoot) (Below s (cond s 7 4))
+    (λ _. low_object s (rank s (confirm facts found)) (found_below s facts found is)) (λ none. own_below s facts.jailed facts.second is none))
+
+kept_below : (s : Bool) (facts : Facts) (error : ℕ) (found : Option Place) → facts.second ≡ s → Below s 9 (after_kept facts error found)
+kept_below s facts error None is = below_root s
+kept_below s facts error (Some found) is =
+    cond_both (error == 0) (confirm_place facts found) (Ask RootLink) (Below s 9)
+    (λ _. low s (rank s (confirm_place facts found)) (place_below s facts found is)) (λ _. below_root s)
+
+link_again_below : (s : Bool) (error : ℕ) (again text : List ℕ) (found : Option Place) → Below s 1 (after_link_again error again text found)
+link_again_below s error again text None =
+    cond_both (not (error == 0)) (Unmade error) (Unmade EAGAIN) (Below s 1) (λ _. lit< tt) (λ _. lit< tt)
+link_again_below s error again text (Some found) =
+    cond_both (not (error == 0)) (Unmade error) _ (Below s 1) (λ _. lit< tt)
+    (λ _. cond_both (is_named again (bytes_of text found)) (Stands found (is_root found)) (Unmade EAGAIN) (Below s 1) (λ _. lit< tt) (λ _. lit< tt))
+
+dead_below : (s : Bool) (dead : Bool) (found : Option Place) → Below s 1 (after_dead dead found)
+dead_below s dead None = lit< tt
+dead_below s true (Some found) = lit< tt
+dead_below s false (Some found) = lit< tt
+
+-- a look-up that is refused goes on without openat2(2)
+lost_below : (jailed : Bool) → left false (cond jailed ObjectLink RootLink) < 6
+lost_below true = lit< tt
+lost_below false = lit< tt
+
+found_turn_below : (s : Bool) (facts : Facts) (a : Answer) (found : Place) → Below s 6 (after_found facts a found)
+found_turn_below s facts a found =
+    cond_both (not (has_found a found)) (Unmade (look_up_error a.error)) _ (Below s 6) (λ _. lit< tt)
+    (λ _. cond_both (facts.directory && nat_lt 0 a.links) (Stands found (is_root found)) (Ask LinkAgain) (Below s 6) (λ _. lit< tt) (λ _. lit< tt))
+
+look_below : (yes : Bool) (facts : Facts) (turn : Turn) → Below facts.second 6 turn
+    → rank (cond yes (without_second facts) facts).second (cond yes (Ask (first_link (without_second facts))) turn) < 6
+look_below true facts turn h = lost_below facts.jailed
+look_below false facts turn h = h
+
+look_up_below : (facts : Facts) (a : Answer) (found : Option Place)
+    → rank (facts_after facts LookUp a).second (after_look_up facts a found) < 6
+look_up_below facts a None = look_below a.yes facts (Unmade EAGAIN) (lit< tt)
+look_up_below facts a (Some found) = look_below a.yes facts (after_found facts a found) (found_turn_below facts.second facts a found)
+
+follows_below : (s : Bool) (n : ℕ) (next turn : Turn) → next ≡ turn → Below s n turn → Below s n next
+follows_below s n next turn e h = subst (λ (x : Turn). Below s n x) (sym e) h
+
+step : (q : Question) (facts : Facts) (a : Answer) (t : Texts) (next : Turn) → Follows facts q a t next
+    → rank (facts_after facts q a).second next < left facts.second q
+step Enter facts a t next h =
+    follows_below facts.second 8 next _ h
+    (cond_both (a.error == 0) (Ask Cwd) _ (Below facts.second 8) (λ _. lit< tt)
+    (λ _. cond_both ((a.error == EACCES) && not facts.by_parent) (Ask ObjectLink) (Unmade a.error) (Below facts.second 8)
+    (λ _. below_link facts.second) (λ _. lit< tt)))
+step Cwd facts a t next h =
+    follows_below facts.second 2 next _ h.2
+    (cond_both (a.error == ENOENT) Nowhere _ (Below facts.second 2) (λ _. lit< tt)
+    (λ _. cond_both (not (a.error == 0)) (Unmade a.error) _ (Below facts.second 2) (λ _. lit< tt)
+    (λ _. cond_both facts.seen (in_jail h.0) (Ask CwdAgain) (Below facts.second 2) (λ _. jail_below facts.second 2 h.0 (lit< tt)) (λ _. lit< tt))))
+step CwdAgain facts a t next h =
+    follows_below facts.second 1 next _ h.2
+    (cond_both (has_path a.error) (in_jail h.0) _ (Below facts.second 1) (λ _. jail_below facts.second 1 h.0 (lit< tt))
+    (λ _. cond_both (a.error == ENOENT) Nowhere (Unmade a.error) (Below facts.second 1) (λ _. lit< tt) (λ _. lit< tt)))
+step KeptLink facts a t next h =
+    follows_below facts.second 9 next _ h.2 (kept_below facts.second facts a.error h.0 refl)
+step RootLink facts a t next h =
+    follows_below facts.second (cond facts.second 8 5) next _ h
+    (cond_both (link_error a.error t.root == 0) (Ask ObjectLink) (Unmade (link_error a.error t.root)) (Below facts.second (cond facts.second 8 5))
+    (λ _. link_below_root facts.second) (λ _. zero_below facts.second 8 5 (lit< tt) (lit< tt)))
+step ObjectLink facts a t next h =
+    follows_below facts.second (cond facts.second 7 4) next _ h.2 (object_below facts.second facts (link_error a.error t.text) h.0 refl)
+step OwnRoot facts a t next h =
+    follows_below facts.second (cond facts.second 8 3) next _ h
+    (cond_both a.yes (Ask RootAgain) (Unmade EOPNOTSUPP) (Below facts.second (cond facts.second 8 3))
+    (λ _. again_below_own facts.second) (λ _. zero_below facts.second 8 3 (lit< tt) (lit< tt)))
+step RootAgain facts a t next h =
+    follows_below facts.second (cond facts.second 7 2) next _ h.2
+    (cond_both (link_error a.error t.again == 0) (confirm facts h.0) (Unmade (link_error a.error t.again)) (Below facts.second (cond facts.second 7 2))
+    (λ _. found_below facts.second facts h.0 refl) (λ _. zero_below facts.second 7 2 (lit< tt) (lit< tt)))
+step LookUp facts a t next h =
+    follows_below (facts_after facts LookUp a).second 6 next _ h.2 (look_up_below facts a h.0)
+step LinkAgain facts a t next h =
+    follows_below facts.second 1 next _ h.2 (link_again_below facts.second (link_error a.error t.again) t.again t.text h.0)
+step Dead facts a t next h = follows_below facts.second 1 next _ h.2 (dead_below facts.second a.yes h.0)
+
+abbrev Any : Texts → Turn → Type 0
+Any t turn = Unit {0}
+
+bounded : (es : List Exchange) (facts : Facts) (t : Texts) (turn : Turn) → Goes facts t turn es Any → length es ≤ rank facts.second turn
+bounded [] facts t turn h = omega arith
+bounded (e ∷ es) facts t (Ask q) h =
+    let a = answered q facts t e es Any h.0 h.1 in
+    let more = bounded es (facts_after facts q e.answer) (keep q e.text t) a.0 a.2 in
+    let less = step q facts e.answer (keep q e.text t) a.0 a.1 in
+    omega (arith, more, less)
+bounded (e ∷ es) facts t (Look place) h =
+    let a = answered LookUp facts t e es Any h.0.0 h.1 in
+    let more = bounded es (facts_after facts LookUp e.answer) t a.0 a.2 in
+    let less = step LookUp facts e.answer t a.0 a.1 in
+    omega (arith, more, less)
+bounded (e ∷ es) facts t (Stands place is_root) h = absurd h.0
+bounded (e ∷ es) facts t Nowhere h = absurd h.0
+bounded (e ∷ es) facts t (Unmade error) h = absurd h.0
+
+at_most : (s : Bool) (a b : ℕ) → a ≤ 9 → b ≤ 9 → cond s a b ≤ 9
+at_most true a b x y = x
+at_most false a b x y = y
+
+first_at_most : (facts : Facts) → left facts.second (first facts) ≤ 9
+first_at_most facts =
+    cond_both (facts.jailed && facts.directory) Enter (first_link facts) (λ q. left facts.second q ≤ 9) (λ _. lit≤ tt)
+    (λ _. cond_both facts.jailed ObjectLink _ (λ q. left facts.second q ≤ 9) (λ _. at_most facts.second 7 4 (lit≤ tt) (lit≤ tt))
+    (λ _. cond_both (facts.second && facts.kept) KeptLink RootLink (λ q. left facts.second q ≤ 9) (λ _. lit≤ tt)
+    (λ _. at_most facts.second 8 5 (lit≤ tt) (lit≤ tt))))
+
+pub questions-come-to-an-end : QuestionsComeToAnEnd
+questions-come-to-an-end facts kept es h =
+    let all = bounded es facts (texts_of kept [] []) (Ask (first facts)) h in
+    let most = first_at_most facts in
+    omega (arith, all, most)

@@ -1,0 +1,187 @@
+-- The place that a text tells, and where it lies in it.
+use Rattle.std.proofs.Common.{◌≡◌, ◌+◌, ◌-◌, ◌≤◌, ◌==◌, ◌&&◌, ◌||◌, ℕ, Bool, true, false, not, List, [], ◌∷◌, length, take, drop, Option, Some, None, IsSomeAnd, nat_lt, nat_eq, refl, sym, ap, subst, ◌∙◌, arith}
+use Rattle.std.specs.List.{ends_with}
+use Rattle.std.proofs.lemmas.Bool.{cond-true, cond-false, cond_both, eq-eqb, eqb-true, true≢false, or_left}
+use Rattle.std.proofs.lemmas.List.{drop-take, length-drop, length-take-le, take-take}
+use Rattle.path_text.specs.Name.{NUL, same_bytes}
+use Rattle.path_text.specs.Text.{begins_with_slash}
+use Rattle.path_text.specs.declared.name.TheConstants.{SLASH}
+use Rattle.path_text.specs.declared.path.TheConstants.{TEXT_MAX}
+use Rattle.kernel_text.specs.Place.{behind, but_last, ends_as_gone, place_below, place_between, place_of_cwd, IsPart, TellsPlace}
+use Rattle.kernel_text.specs.declared.place.Place.{Place}
+use Rattle.place_protocol.specs.Texts.{Texts, Finds, IsWithin, as_found, path_after, path_of_root, place_of, texts_of}
+use Rattle.place_protocol.specs.declared.questions.Facts.{Facts}
+
+-- ---- a place has bytes
+
+abbrev Long : Option (List ℕ) → Type 0
+Long o = o ≡ Some [] → ⊥
+
+none_long : Long None
+none_long e = cc
+
+behind_long : (xs : List ℕ) → Long (behind xs)
+behind_long [] e = cc
+behind_long (b ∷ bs) e = cond_both (b == SLASH) (Some (b ∷ bs)) None Long (λ _ f. cc) (λ _. none_long) e
+
+no_and : (x : Bool) → not (x && false) ≡ false → ⊥
+no_and true e = true≢false e
+no_and false e = true≢false e
+
+path_long : (root path : List ℕ) → not (begins_with_slash root && begins_with_slash path) ≡ false → Long (Some path)
+path_long root [] both e = no_and (begins_with_slash root) both
+path_long root (b ∷ bs) both e = cc
+
+below_long : (root path : List ℕ) → Long (place_below root path)
+below_long root path =
+    cond_both (not (begins_with_slash root && begins_with_slash path)) None _ Long (λ _. none_long)
+    (λ both. cond_both (same_bytes root (SLASH ∷ [])) (Some path) _ Long (λ _. path_long root path both)
+    (λ _. cond_both (same_bytes (take (length root) path) root) (behind (drop (length root) path)) None Long
+    (λ _. behind_long (drop (length root) path)) (λ _. none_long)))
+
+pub between_long : (before path after : List ℕ) → Long (place_between before path after)
+between_long before path after =
+    cond_both (nat_lt TEXT_MAX (length path) || not (same_bytes before after)) None (place_below before path) Long
+    (λ _. none_long) (λ _. below_long before path)
+
+pub cwd_long : (told : List ℕ) → Long (place_of_cwd told)
+cwd_long told =
+    cond_both (ends_with nat_eq told (NUL ∷ [])) (place_between (SLASH ∷ []) (but_last told) (SLASH ∷ [])) None Long
+    (λ _. between_long (SLASH ∷ []) (but_last told) (SLASH ∷ [])) (λ _. none_long)
+
+-- ---- what the code finds
+
+empty_part : (text p : List ℕ) (start size : ℕ) → size ≡ 0 → IsPart text p start size → p ≡ []
+empty_part text p start size e part = sym part.bytes ∙ ap (λ n. take n (drop start text)) e
+
+pub finds : (text : List ℕ) (o : Option (List ℕ)) (place : Place) → Long o → TellsPlace text o place → Finds text o (as_found place)
+finds text None place long told = cond-true (place.length == 0) None (Some place) (eq-eqb place.length 0 told)
+finds text (Some p) place long told =
+    cond_both (place.length == 0) None (Some place)
+    (λ f. IsSomeAnd f (λ at. IsPart text p at.start at.length × (at.gone ≡ ends_as_gone p)))
+    (λ none. absurd (long (ap Some (empty_part text p place.start place.length (eqb-true place.length 0 none) told.0)))) (λ _. told)
+
+pub is_within : (text : List ℕ) (o : Option (List ℕ)) (place : Place) → TellsPlace text o place → IsWithin text (as_found place)
+is_within text None place told =
+    subst (IsWithin text) (sym (cond-true (place.length == 0) None (Some place) (eq-eqb place.length 0 told))) tt
+is_within text (Some p) place told = cond_both (place.length == 0) None (Some place) (IsWithin text) (λ _. tt) (λ _. told.0.within)
+
+-- by the paths that were chosen
+pub by_paths : (facts : Facts) (root text again path after : List ℕ) (place : Place)
+    → path ≡ path_of_root facts root → after ≡ path_after facts root again
+    → TellsPlace text (place_between path text after) place → TellsPlace text (place_of facts (texts_of root text again)) place
+by_paths facts root text again path after place e f told =
+    subst (λ (a : List ℕ). TellsPlace text (place_between (path_of_root facts root) text a) place) f
+    (subst (λ (p : List ℕ). TellsPlace text (place_between p text after) place) e told)
+
+pub found_place : (facts : Facts) (root text again path after : List ℕ) (place : Place) (found : Option Place)
+    → path ≡ path_of_root facts root → after ≡ path_after facts root again
+    → TellsPlace text (place_between path text after) place → found ≡ as_found place
+    → Finds text (place_of facts (texts_of root text again)) found
+found_place facts root text again path after place found e f told is =
+    let told' = by_paths facts root text again path after place e f told in
+    subst (λ (x : Option Place). Finds text (place_of facts (texts_of root text again)) x) (sym is)
+    (finds text (place_of facts (texts_of root text again)) place
+    (between_long (path_of_root facts root) text (path_after facts root again)) told')
+
+-- getcwd(2) writes a NUL behind the path
+part_of_front : (n start size : ℕ) (text place : List ℕ) → n ≤ length text → IsPart (take n text) place start size
+    → IsPart text place start size
+part_of_front n start size text place room part =
+    let long : length (take n text) ≡ n = length-take-le n text room in
+    let within : start + size ≤ n = omega (arith, part.within, long) in
+    let rest : n ≡ start + (n - start) = omega (arith, within) in
+    let size_in : size ≤ n - start = omega (arith, within) in
+    let front : drop start (take n text) ≡ take (n - start) (drop start text) =
+    ap (λ k. drop start (take k text)) rest ∙ drop-take start (n - start) text in
+    record {
+      within = omega (arith, within, room);
+      bytes = sym (take-take size (n - start) (drop start text) size_in) ∙ (sym (ap (take size) front) ∙ part.bytes);
+    }
+
+told_front : (n : ℕ) (text : List ℕ) (o : Option (List ℕ)) (place : Place) → n ≤ length text → TellsPlace (take n text) o place
+    → TellsPlace text o place
+told_front n text None place room told = told
+told_front n text (Some p) place room told = (part_of_front n place.start place.length text p room told.0, told.1)
+
+pub found_cwd : (text : List ℕ) (place : Place) (found : Option Place) → TellsPlace (but_last text) (place_of_cwd text) place
+    → found ≡ as_found place → Finds text (place_of_cwd text) found
+found_cwd text place found told is =
+    subst (λ (x : Option Place). Finds text (place_of_cwd text) x) (sym is)
+    (finds text (place_of_cwd text) place (cwd_long text)
+    (told_front (length text - 1) text (place_of_cwd text) place (omega arith) told))
+
+pub found_within : (text : List ℕ) (o : Option (List ℕ)) (place : Place) (found : Option Place) → TellsPlace text o place
+    → found ≡ as_found place → IsWithin text found
+found_within text o place found told is = subst (IsWithin text) (sym is) (is_within text o place told)
+
+-- ---- places in a conversation
+
+-- what was found at these bytes is the place that the text tells
+pub some_found : (text : List ℕ) (o : Option (List ℕ)) (found : Place) (place : List ℕ) → Finds text o (Some found)
+    → IsPart text place found.start found.length → (o ≡ Some place) × (found.gone ≡ ends_as_gone place)
+some_found text None found place h part = absurd cc
+some_found text (Some p) found place h part =
+    let e : p ≡ place = sym h.0.bytes ∙ part.bytes in (ap Some e, h.1 ∙ ap ends_as_gone e)
+
+-- and the other way
+pub found_part : (text : List ℕ) (o : Option (List ℕ)) (found : Place) (place : List ℕ) → Finds text o (Some found)
+    → o ≡ Some place → IsPart text place found.start found.length × (found.gone ≡ ends_as_gone place)
+found_part text None found place h e = absurd cc
+found_part text (Some p) found place h e =
+    let same : p ≡ place = cc in
+    (subst (λ (q : List ℕ). IsPart text q found.start found.length) same h.0, h.1 ∙ ap ends_as_gone same)
+
+-- it is some place
+pub is_found : (text : List ℕ) (o : Option (List ℕ)) (found : Place) → Finds text o (Some found)
+    → (place : List ℕ) × (o ≡ Some place) × IsPart text place found.start found.length
+is_found text None found h = absurd cc
+is_found text (Some p) found h = (p, refl, h.0)
+
+pub part_size : (text place : List ℕ) (start size : ℕ) → IsPart text place start size → length place ≡ size
+part_size text place start size part =
+    let room : size ≤ length (drop start text) = omega (arith, length-drop start text, part.within) in
+    sym (ap length part.bytes) ∙ length-take-le size (drop start text) room
+
+-- ---- the root's path
+
+pub or_second : (x y : Bool) → y ≡ true → (x || y) ≡ true
+or_second true y e = refl
+or_second false y e = e
+
+pub or_none : (x y : Bool) → x ≡ false → y ≡ false → (x || y) ≡ false
+or_none true y e f = absurd (true≢false e)
+or_none false y e f = f
+
+-- with the second witness it is read once
+pub told_with_second : (facts : Facts) (t : Texts) (place : List ℕ) → facts.second ≡ true → place_of facts t ≡ Some place
+    → place_between (path_of_root facts t.root) t.text (path_of_root facts t.root) ≡ Some place
+told_with_second facts t place second told =
+    sym (ap (λ p. place_between (path_of_root facts t.root) t.text p)
+    (cond-true (facts.jailed || facts.second) (path_of_root facts t.root) t.again (or_second facts.jailed facts.second second)))
+    ∙ told
+
+pub place_with_second : (facts : Facts) (t : Texts) (place : List ℕ) → facts.second ≡ true
+    → place_between (path_of_root facts t.root) t.text (path_of_root facts t.root) ≡ Some place → place_of facts t ≡ Some place
+place_with_second facts t place second told =
+    ap (λ p. place_between (path_of_root facts t.root) t.text p)
+    (cond-true (facts.jailed || facts.second) (path_of_root facts t.root) t.again (or_second facts.jailed facts.second second))
+    ∙ told
+
+-- in a jail it is a slash
+pub told_in_jail : (facts : Facts) (t : Texts) (place : List ℕ) → facts.jailed ≡ true → place_of facts t ≡ Some place
+    → place_between (SLASH ∷ []) t.text (SLASH ∷ []) ≡ Some place
+told_in_jail facts t place jailed told =
+    let root : path_of_root facts t.root ≡ SLASH ∷ [] = cond-true facts.jailed (SLASH ∷ []) t.root jailed in
+    let after : path_after facts t.root t.again ≡ SLASH ∷ [] =
+    cond-true (facts.jailed || facts.second) (path_of_root facts t.root) t.again (or_left facts.jailed facts.second jailed) ∙ root in
+    sym (ap (λ p. place_between p t.text (path_after facts t.root t.again)) root ∙ ap (λ p. place_between (SLASH ∷ []) t.text p) after) ∙ told
+
+-- out of one, without the second witness, it is read twice
+pub told_alone : (facts : Facts) (t : Texts) (place : List ℕ) → facts.jailed ≡ false → facts.second ≡ false
+    → place_of facts t ≡ Some place → place_between t.root t.text t.again ≡ Some place
+told_alone facts t place jailed second told =
+    let root : path_of_root facts t.root ≡ t.root = cond-false facts.jailed (SLASH ∷ []) t.root jailed in
+    let after : path_after facts t.root t.again ≡ t.again =
+    cond-false (facts.jailed || facts.second) (path_of_root facts t.root) t.again (or_none facts.jailed facts.second jailed second) in
+    sym (ap (λ p. place_between p t.text (path_after facts t.root t.again)) root ∙ ap (λ p. place_between t.root t.text p) after) ∙ told

@@ -1,0 +1,6 @@
+pub mod Conversation
+pub mod Moments
+pub mod Texts
+pub mod Told
+pub mod Turns
+pub mod Witness

@@ -1,0 +1,81 @@
+-- What an answer of Linux says of the file system at its moment: premises, each with the manual page that it is from.
+-- By these a place that is told is one at which the object stood.
+use Rattle.std.specs.Prelude.{◌≡◌, ◌⊎◌, ◌+◌, ◌<◌, ◌&&◌, ℕ, List, [], ◌∷◌, Bool, true, false, length, Some}
+use Rattle.path_text.specs.declared.name.TheConstants.{SLASH}
+use Rattle.kernel_text.specs.Place.{ends_as_gone, place_between, place_of_cwd}
+use Rattle.place_protocol.specs.Conversation.{Comes, Conversation, Exchange, StandsAt}
+use Rattle.place_protocol.specs.Turns.{has_path}
+use Rattle.place_protocol.specs.Witness.{FindsObject, Worked}
+use Rattle.place_protocol.specs.declared.questions.Facts.{Facts}
+use Rattle.place_protocol.specs.declared.questions.Question.TheVariants.{Cwd, CwdAgain, KeptLink, RootLink, ObjectLink, RootAgain, LookUp}
+
+-- One object and one root, moment by moment. The n-th answer of a conversation is of the moment n; what others do comes
+-- between two moments.
+pub record World : Type 0 where
+  -- these names led from the root to the object, all at this moment
+  pub stands : ℕ → List ℕ → Bool
+  -- the object had been removed
+  pub gone : ℕ → Bool
+  -- the kernel has passed these names from the root, one after another, to the object, and then saw it below the root
+  pub passed : ℕ → List ℕ → Bool
+  -- the paths of the root and of the object, where the texts of links begin
+  pub root : ℕ → List ℕ
+  pub object : ℕ → List ℕ
+
+-- rmdir(2): what was removed stays so
+abbrev pub StaysGone : World → Type 0
+StaysGone w = (n : ℕ) → w.gone n ≡ true → w.gone (n + 1) ≡ true
+
+pub record IsAnswer (w : World) (n : ℕ) (e : Exchange) : Type 0 where
+  -- getcwd(2): the names of one moment, but whether the directory is gone is asked before
+  pub cwd : (place : List ℕ) → Worked Cwd e → place_of_cwd e.text ≡ Some place
+      → (w.gone n ≡ true) ⊎ (w.stands n place ≡ true)
+  -- getcwd(2): it has a path only where it hasn't been unlinked (ENOENT)
+  pub again : e.question ≡ CwdAgain → has_path e.answer.error ≡ true → w.gone n ≡ false
+  -- proc(5): a link's text is the path
+  pub kept_link : Worked KeptLink e → e.text ≡ w.object n
+  pub object_link : Worked ObjectLink e → e.text ≡ w.object n
+  pub root_link : Worked RootLink e → e.text ≡ w.root n
+  pub root_again : Worked RootAgain e → e.text ≡ w.root n
+  -- openat2(2), RESOLVE_BENEATH; statx(2): the same device, inode and mount are the same object
+  pub look_up : (place : List ℕ) → FindsObject place e → w.passed n place ≡ true
+
+abbrev pub AreAnswers : World → ℕ → List Exchange → Type 0
+AreAnswers w n [] = Unit {0}
+AreAnswers w n (e ∷ es) = IsAnswer w n e × AreAnswers w (n + 1) es
+
+-- The root stays at its path, which is a slash in a jail, or what is kept of it. And the thread's own root directory is
+-- a mount's, so that texts tell inside from outside (proc(5), /proc/pid/fd): an object whose path lies below the
+-- root's, and isn't called deleted, stands at the rest.
+pub record TextsTell (w : World) (facts : Facts) (kept : List ℕ) : Type 0 where
+  pub path : List ℕ
+  pub stays : (n : ℕ) → w.root n ≡ path
+  pub jailed : facts.jailed ≡ true → path ≡ SLASH ∷ []
+  pub kept_path : facts.kept ≡ true → path ≡ kept
+  pub below : (n : ℕ) (place : List ℕ) → place_between path (w.object n) path ≡ Some place → ends_as_gone place ≡ false
+      → w.stands n place ≡ true
+
+-- a link of the object was read
+abbrev pub ReadsLink : List Exchange → Type 0
+ReadsLink = Comes (λ e _. Worked ObjectLink e ⊎ Worked KeptLink e)
+
+-- A place is told that isn't called deleted. Then at the moment of an answer the object stood there. Texts of links
+-- must tell that where one was read; and a directory in a jail which the kernel had seen below the root right before
+-- may have been removed.
+abbrev pub PlacesStood : Type 0
+PlacesStood =
+    (w : World) (facts : Facts) (kept : List ℕ) (es : List Exchange) (place : List ℕ) (is_root : Bool)
+    → StaysGone w → AreAnswers w 0 es → (ReadsLink es → TextsTell w facts kept)
+    → Conversation facts kept es (StandsAt place is_root) → ends_as_gone place ≡ false
+    → (n : ℕ) × (n < length es) × ((w.stands n place ≡ true) ⊎ ((facts.seen ≡ true) × (w.gone n ≡ true)))
+
+-- Wherever the root is moved, and whatever texts say: the kernel has passed the place's names at the moment of an
+-- answer, and saw the object below the root. So it is of all but a directory in a jail, if the kernel hadn't seen the
+-- object there right before, and openat2(2) wasn't refused.
+abbrev pub PlacesWerePassed : Type 0
+PlacesWerePassed =
+    (w : World) (facts : Facts) (kept : List ℕ) (es : List Exchange) (place : List ℕ) (is_root : Bool)
+    → AreAnswers w 0 es → Conversation facts kept es (StandsAt place is_root)
+    → (facts.jailed && facts.directory) ≡ false → facts.second ≡ true → facts.seen ≡ false
+    → (Comes (λ e _. (e.question ≡ LookUp) × (e.answer.yes ≡ true)) es → ⊥)
+    → (n : ℕ) × (n < length es) × (w.passed n place ≡ true)

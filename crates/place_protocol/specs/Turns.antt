@@ -1,0 +1,167 @@
+-- What follows from each answer, as the code decides it. Witness.antt says what that is worth. Errors are numbers of
+-- errno(3).
+use Rattle.std.specs.Prelude.{◌≡◌, ℕ, List, ◌==◌, Bool, false, not, ◌&&◌, ◌||◌, if◌then◌else◌, nat_lt, length, Option, Some, None}
+use Rattle.path_text.specs.declared.path.TheConstants.{TEXT_MAX}
+use Rattle.kernel_text.specs.Place.{is_named, place_of_cwd}
+use Rattle.kernel_text.specs.declared.place.Place.{Place}
+use Rattle.system_calls.specs.Objects.{is_elsewhere, is_same_object}
+use Rattle.place_protocol.specs.Texts.{Texts, Finds, bytes_of, place_of}
+use Rattle.place_protocol.specs.declared.questions.Answer.{Answer}
+use Rattle.place_protocol.specs.declared.questions.Facts.{Facts}
+use Rattle.place_protocol.specs.declared.questions.Question.{Question}
+use Rattle.place_protocol.specs.declared.questions.Question.TheVariants.{Enter, Cwd, CwdAgain, KeptLink, RootLink, ObjectLink, OwnRoot, RootAgain, LookUp, LinkAgain, Dead}
+use Rattle.place_protocol.specs.declared.turns.Turn.{Turn}
+use Rattle.place_protocol.specs.declared.turns.Turn.TheVariants.{Ask, Look, Stands, Nowhere, Unmade}
+
+abbrev pub ENOENT : ℕ
+ENOENT = 2
+
+abbrev pub EAGAIN : ℕ
+EAGAIN = 11
+
+abbrev pub EACCES : ℕ
+EACCES = 13
+
+abbrev pub ERANGE : ℕ
+ERANGE = 34
+
+abbrev pub ENAMETOOLONG : ℕ
+ENAMETOOLONG = 36
+
+abbrev pub ENOSYS : ℕ
+ENOSYS = 38
+
+abbrev pub EOPNOTSUPP : ℕ
+EOPNOTSUPP = 95
+
+abbrev pub first_link : Facts → Question
+first_link facts = if facts.jailed then ObjectLink else (if facts.second && facts.kept then KeptLink else RootLink)
+
+abbrev pub first : Facts → Question
+first facts = if facts.jailed && facts.directory then Enter else first_link facts
+
+-- the root alone stands at a slash alone
+abbrev pub is_root : Place → Bool
+is_root place = place.length == 1
+
+-- Why no text was read. Where /proc has no such link it is no /proc; readlink(2) may have cut off what fills 4,096
+-- bytes.
+abbrev pub link_error : ℕ → List ℕ → ℕ
+link_error error text =
+    if error == ENOENT then ENOSYS
+    else (if (error == 0) && nat_lt TEXT_MAX (length text) then ENAMETOOLONG else error)
+
+abbrev pub after_enter : Facts → ℕ → Turn
+after_enter facts error =
+    if error == 0 then Ask Cwd
+    else (if (error == EACCES) && not facts.by_parent then Ask ObjectLink else Unmade error)
+
+abbrev pub in_jail : Option Place → Turn
+in_jail None = Nowhere
+in_jail (Some place) = Stands place (is_root place)
+
+abbrev pub after_cwd : Facts → ℕ → Option Place → Turn
+after_cwd facts error place =
+    if error == ENOENT then Nowhere
+    else (if not (error == 0) then Unmade error else (if facts.seen then in_jail place else Ask CwdAgain))
+
+-- getcwd(2) says that one byte is too small for the path, which it does only where there is one
+abbrev pub has_path : ℕ → Bool
+has_path error = (error == 0) || (error == ERANGE)
+
+abbrev pub after_cwd_again : ℕ → Option Place → Turn
+after_cwd_again error place =
+    if has_path error then in_jail place else (if error == ENOENT then Nowhere else Unmade error)
+
+abbrev pub confirm_place : Facts → Place → Turn
+confirm_place facts place =
+    if facts.second then (if facts.seen then Stands place false else Look place)
+    else (if not place.gone then Stands place false else (if facts.directory then Ask Dead else Unmade EAGAIN))
+
+abbrev pub confirm : Facts → Option Place → Turn
+confirm facts None = Unmade EAGAIN
+confirm facts (Some place) = confirm_place facts place
+
+abbrev pub after_kept : Facts → ℕ → Option Place → Turn
+after_kept facts error None = Ask RootLink
+after_kept facts error (Some place) = if error == 0 then confirm_place facts place else Ask RootLink
+
+abbrev pub after_root : ℕ → Turn
+after_root error = if error == 0 then Ask ObjectLink else Unmade error
+
+abbrev pub after_object : Facts → ℕ → Option Place → Turn
+after_object facts error place =
+    if not (error == 0) then Unmade error
+    else (if facts.jailed || facts.second then confirm facts place else Ask OwnRoot)
+
+abbrev pub after_own_root : Bool → Turn
+after_own_root tells = if tells then Ask RootAgain else Unmade EOPNOTSUPP
+
+abbrev pub after_root_again : Facts → ℕ → Option Place → Turn
+after_root_again facts error place = if error == 0 then confirm facts place else Unmade error
+
+-- The object itself was found: device, inode and mount are the same. Where the root was mounted over itself, `..`
+-- leads to it by another mount.
+abbrev pub has_found : Answer → Place → Bool
+has_found answer place = (answer.error == 0) && is_same_object answer.held answer.found (is_root place)
+
+abbrev pub look_up_error : ℕ → ℕ
+look_up_error error = if (error == 0) || is_elsewhere error then EAGAIN else error
+
+abbrev pub after_found : Facts → Answer → Place → Turn
+after_found facts answer place =
+    if not (has_found answer place) then Unmade (look_up_error answer.error)
+    else (if facts.directory && nat_lt 0 answer.links then Stands place (is_root place) else Ask LinkAgain)
+
+abbrev pub without_second : Facts → Facts
+without_second facts = record facts { second = false }
+
+abbrev pub after_look_up : Facts → Answer → Option Place → Turn
+after_look_up facts answer None = if answer.yes then Ask (first_link (without_second facts)) else Unmade EAGAIN
+after_look_up facts answer (Some place) =
+    if answer.yes then Ask (first_link (without_second facts)) else after_found facts answer place
+
+abbrev pub after_link_again : ℕ → List ℕ → List ℕ → Option Place → Turn
+after_link_again error again text None = if not (error == 0) then Unmade error else Unmade EAGAIN
+after_link_again error again text (Some place) =
+    if not (error == 0) then Unmade error
+    else (if is_named again (bytes_of text place) then Stands place (is_root place) else Unmade EAGAIN)
+
+abbrev pub after_dead : Bool → Option Place → Turn
+after_dead dead None = Unmade EAGAIN
+after_dead dead (Some place) = if not dead then Stands place false else Unmade EAGAIN
+
+-- a turn that depends on where a place lies in the text
+abbrev pub WithPlace : List ℕ → Option (List ℕ) → (Option Place → Turn) → Turn → Type 0
+WithPlace text told after turn = (found : Option Place) × Finds text told found × (turn ≡ after found)
+
+-- the turn follows from the answer to a question
+abbrev pub Follows : Facts → Question → Answer → Texts → Turn → Type 0
+Follows facts Enter a t turn = turn ≡ after_enter facts a.error
+Follows facts Cwd a t turn = WithPlace t.text (place_of_cwd t.text) (after_cwd facts a.error) turn
+Follows facts CwdAgain a t turn = WithPlace t.text (place_of_cwd t.text) (after_cwd_again a.error) turn
+Follows facts KeptLink a t turn = WithPlace t.text (place_of facts t) (after_kept facts a.error) turn
+Follows facts RootLink a t turn = turn ≡ after_root (link_error a.error t.root)
+Follows facts ObjectLink a t turn =
+    WithPlace t.text (place_of facts t) (after_object facts (link_error a.error t.text)) turn
+Follows facts OwnRoot a t turn = turn ≡ after_own_root a.yes
+Follows facts RootAgain a t turn =
+    WithPlace t.text (place_of facts t) (after_root_again facts (link_error a.error t.again)) turn
+Follows facts LookUp a t turn = WithPlace t.text (place_of facts t) (after_look_up facts a) turn
+Follows facts LinkAgain a t turn =
+    WithPlace t.text (place_of facts t) (after_link_again (link_error a.error t.again) t.again t.text) turn
+Follows facts Dead a t turn = WithPlace t.text (place_of facts t) (after_dead a.yes) turn
+
+-- a thread that has lost openat2(2) doesn't get it back
+abbrev pub facts_after : Facts → Question → Answer → Facts
+facts_after facts LookUp a = if a.yes then without_second facts else facts
+facts_after facts Enter a = facts
+facts_after facts Cwd a = facts
+facts_after facts CwdAgain a = facts
+facts_after facts KeptLink a = facts
+facts_after facts RootLink a = facts
+facts_after facts ObjectLink a = facts
+facts_after facts OwnRoot a = facts
+facts_after facts RootAgain a = facts
+facts_after facts LinkAgain a = facts
+facts_after facts Dead a = facts

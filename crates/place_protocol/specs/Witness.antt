@@ -1,0 +1,131 @@
+-- What the kernel has answered wherever a place is told: the argument of docs/HOST-WHY.md, "NameBelow is the crux".
+use Rattle.std.specs.Prelude.{◌≡◌, ◌⊎◌, ◌<◌, ◌≤◌, ◌==◌, ℕ, List, [], ◌∷◌, Bool, true, false, length, Some}
+use Rattle.path_text.specs.declared.name.TheConstants.{SLASH}
+use Rattle.path_text.specs.declared.path.TheConstants.{TEXT_MAX}
+use Rattle.kernel_text.specs.Place.{ends_as_gone, is_named, place_between, place_of_cwd}
+use Rattle.system_calls.specs.Objects.{is_same_object}
+use Rattle.place_protocol.specs.Conversation.{Comes, Conversation, Exchange, StandsAt}
+use Rattle.place_protocol.specs.Turns.{has_path}
+use Rattle.place_protocol.specs.declared.questions.Facts.{Facts}
+use Rattle.place_protocol.specs.declared.questions.Question.{Question}
+use Rattle.place_protocol.specs.declared.questions.Question.TheVariants.{Enter, Cwd, CwdAgain, KeptLink, RootLink, ObjectLink, OwnRoot, RootAgain, LookUp, LinkAgain, Dead}
+
+-- the question was asked, and the system call didn't fail
+abbrev pub Worked : Question → Exchange → Type 0
+Worked question e = (e.question ≡ question) × (e.answer.error ≡ 0)
+
+-- ---- the first witness: a text
+
+-- A text of the object's link (proc(5)) told the place below this path of the root; what came behind it has After.
+abbrev pub TextTells : Question → List ℕ → List ℕ → (List Exchange → Type 0) → List Exchange → Type 0
+TextTells link root place After =
+    Comes (λ e later. Worked link e × (place_between root e.text root ≡ Some place) × After later)
+
+-- The root's path is a slash in a jail (chroot(2)); or it is kept, for the root stays; or its own link told it before.
+pub data FirstWitness (facts : Facts) (kept place : List ℕ) (After : List Exchange → Type 0) (es : List Exchange)
+    : Type 0 where
+  below_slash : facts.jailed ≡ true → TextTells ObjectLink (SLASH ∷ []) place After es
+      → FirstWitness facts kept place After es
+  below_kept : facts.jailed ≡ false → facts.kept ≡ true → TextTells KeptLink kept place After es
+      → FirstWitness facts kept place After es
+  below_link : facts.jailed ≡ false
+      → Comes (λ e later. Worked RootLink e × TextTells ObjectLink e.text place After later) es
+      → FirstWitness facts kept place After es
+
+-- ---- the second witness: the kernel's own look-up
+
+-- the place of the root itself: a slash alone
+abbrev pub is_top : List ℕ → Bool
+is_top place = length place == 1
+
+-- A look-up of just these names from the root (openat2(2), RESOLVE_BENEATH) found the object itself: device, inode and
+-- mount are the same; for the root itself, which may be mounted over itself, device and inode.
+abbrev pub FindsObject : List ℕ → Exchange → Type 0
+FindsObject place e =
+    Worked LookUp e × (e.names ≡ place) × (is_same_object e.answer.held e.answer.found (is_top place) ≡ true)
+
+-- What was found wasn't gone by then: it is a directory with links; or its own link had that name still, later.
+abbrev pub WasThere : Facts → List ℕ → Exchange → List Exchange → Type 0
+WasThere facts place look later =
+    ((facts.directory ≡ true) × (0 < look.answer.links))
+    ⊎ Comes (λ e _. Worked LinkAgain e × (is_named e.text place ≡ true)) later
+
+abbrev pub SecondWitness : Facts → List ℕ → List Exchange → Type 0
+SecondWitness facts place = Comes (λ e later. FindsObject place e × WasThere facts place e later)
+
+-- ---- one witness alone
+
+-- In a jail getcwd(2) told the place, of a path that begins with a slash and not with `(unreachable)`. Behind it a
+-- second getcwd(2) said that the directory has a path still; or the kernel had seen it below the root right before.
+abbrev pub DirectoryTells : Facts → List ℕ → List Exchange → Type 0
+DirectoryTells facts place =
+    Comes (λ e later. Worked Cwd e × (place_of_cwd e.text ≡ Some place)
+    × ((facts.seen ≡ true) ⊎ Comes (λ a _. (a.question ≡ CwdAgain) × (has_path a.answer.error ≡ true)) later))
+
+-- The place doesn't end as of what was removed; or the object is a directory that turned out not to be removed.
+abbrev pub IsThere : Facts → List ℕ → List Exchange → Type 0
+IsThere facts place later =
+    (ends_as_gone place ≡ false)
+    ⊎ ((facts.directory ≡ true) × Comes (λ e _. (e.question ≡ Dead) × (e.answer.yes ≡ false)) later)
+
+-- The root's path was the same before the object's and after it, in a thread whose own root directory is a mount's.
+abbrev pub RootStayed : Facts → List ℕ → List Exchange → Type 0
+RootStayed facts place =
+    Comes (λ r behind. Worked RootLink r
+    × Comes (λ o later. Worked ObjectLink o
+    × Comes (λ m last. (m.question ≡ OwnRoot) × (m.answer.yes ≡ true)
+    × Comes (λ a end. Worked RootAgain a × (place_between r.text o.text a.text ≡ Some place)
+    × IsThere facts place end) last)
+    later) behind)
+
+-- The thread had no openat2(2): from the beginning, or it lost it at a look-up.
+abbrev pub HasNoSecond : Facts → List Exchange → Type 0
+HasNoSecond facts es =
+    (facts.second ≡ false) ⊎ Comes (λ e _. (e.question ≡ LookUp) × (e.answer.yes ≡ true)) es
+
+-- ---- all ways in which a place is told
+
+pub data IsWitnessed (facts : Facts) (kept : List ℕ) (es : List Exchange) (place : List ℕ) : Type 0 where
+  -- by getcwd(2), of a directory in a jail
+  by_directory : facts.jailed ≡ true → facts.directory ≡ true → DirectoryTells facts place es
+      → IsWitnessed facts kept es place
+  -- by both witnesses: the text first, then the look-up
+  by_both : facts.second ≡ true → FirstWitness facts kept place (SecondWitness facts place) es
+      → IsWitnessed facts kept es place
+  -- the second witness spoke first, right before the first question
+  by_seen : facts.second ≡ true → facts.seen ≡ true → FirstWitness facts kept place (λ later. Unit {0}) es
+      → IsWitnessed facts kept es place
+  -- by the text alone
+  in_old_jail : HasNoSecond facts es → facts.jailed ≡ true
+      → TextTells ObjectLink (SLASH ∷ []) place (IsThere facts place) es → IsWitnessed facts kept es place
+  by_text : HasNoSecond facts es → facts.jailed ≡ false → RootStayed facts place es → IsWitnessed facts kept es place
+
+-- ---- the laws
+
+-- Each conversation that ends in a place is witnessed.
+abbrev pub PlacesAreWitnessed : Type 0
+PlacesAreWitnessed =
+    (facts : Facts) (kept : List ℕ) (es : List Exchange) (place : List ℕ) (is_root : Bool)
+    → Conversation facts kept es (StandsAt place is_root) → IsWitnessed facts kept es place
+
+-- Agreeing answers tell the place, of a directory. Below a root that isn't kept: the root's link, the object's, and a
+-- look-up that finds the object, with links. In a jail: getcwd(2), and once more.
+abbrev pub AgreeingWitnessesAreTold : Type 0
+AgreeingWitnessesAreTold =
+    ((facts : Facts) (kept place : List ℕ) (root object look : Exchange)
+    → facts.jailed ≡ false → facts.second ≡ true → facts.seen ≡ false → facts.kept ≡ false → facts.directory ≡ true
+    → Worked RootLink root → length root.text ≤ TEXT_MAX → Worked ObjectLink object
+    → place_between root.text object.text root.text ≡ Some place
+    → FindsObject place look → look.answer.yes ≡ false → 0 < look.answer.links
+    → Conversation facts kept (root ∷ object ∷ look ∷ []) (λ t turn. StandsAt place (is_top place) t turn → ⊥) → ⊥)
+    × ((facts : Facts) (kept place : List ℕ) (enter cwd again : Exchange)
+    → facts.jailed ≡ true → facts.directory ≡ true → facts.seen ≡ false
+    → Worked Enter enter → Worked Cwd cwd → place_of_cwd cwd.text ≡ Some place
+    → again.question ≡ CwdAgain → has_path again.answer.error ≡ true
+    → Conversation facts kept (enter ∷ cwd ∷ again ∷ []) (λ t turn. StandsAt place (is_top place) t turn → ⊥) → ⊥)
+
+-- No conversation has more than nine questions.
+abbrev pub QuestionsComeToAnEnd : Type 0
+QuestionsComeToAnEnd =
+    (facts : Facts) (kept : List ℕ) (es : List Exchange) → Conversation facts kept es (λ t turn. Unit {0})
+    → length es ≤ 9

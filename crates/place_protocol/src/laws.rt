@@ -1,0 +1,36 @@
+//! What a conversation comes to: laws, each the contract of a function without a body.
+ghost use Rattle.place_protocol.specs.Moments.{PlacesStood, PlacesWerePassed};
+ghost use Rattle.place_protocol.specs.Witness.{AgreeingWitnessesAreTold, PlacesAreWitnessed, QuestionsComeToAnEnd};
+
+/// Whatever a kernel answers: where a place is told, the witnesses that the documentation names were asked in their
+/// order, and agree on this place.
+pub fn places_are_witnessed()
+    ensures { PlacesAreWitnessed }
+{}
+
+/// Where a text of the object tells a place below the root, and the look-up finds the object with links, a directory's
+/// conversation tells just that place. So does a directory's in a jail, where getcwd(2) tells it, and then that there
+/// is a path still.
+pub fn agreeing_witnesses_are_told()
+    ensures { AgreeingWitnessesAreTold }
+{}
+
+/// No more than nine questions are asked about one place.
+pub fn questions_come_to_an_end()
+    ensures { QuestionsComeToAnEnd }
+{}
+
+/// What answers of Linux say of the file system, each at its moment, is a premise (getcwd(2), proc(5), rmdir(2)). With
+/// it: where a place is told, the object stood there at the moment of an answer. If a link's text was read, texts must
+/// tell inside from outside, and the root must stay at its path. Of a directory in a jail that is no premise; if the
+/// kernel had seen it below the root right before, it may also have been removed by then.
+pub fn places_stood()
+    ensures { PlacesStood }
+{}
+
+/// The same by openat2(2) with RESOLVE_BENEATH alone, wherever the root is moved and whatever texts say: at the moment
+/// of an answer the kernel has passed the place's names from the root, and saw the object below it. So it is of all but
+/// directories in a jail and what the kernel had seen there right before, if the thread has openat2(2) and keeps it.
+pub fn places_were_passed()
+    ensures { PlacesWerePassed }
+{}

@@ -1,0 +1,358 @@
+//! What follows from an answer.
+ghost use Rattle.std.specs.Prelude.{◌≡◌};
+ghost use Rattle.place_protocol.specs.Texts.{texts_of, IsWithin};
+ghost use Rattle.place_protocol.specs.Turns.{after_cwd, after_cwd_again, after_dead, after_enter, after_found, after_kept, after_link_again, after_look_up, after_object, after_own_root, after_root, after_root_again, confirm, confirm_place, facts_after, first, first_link, has_found, has_path, in_jail, is_root, link_error, look_up_error, without_second, Follows};
+
+use crate::questions::{Answer, Facts, Question};
+use crate::texts::{found, found_in_jail};
+use kernel_text::{Place, is_named};
+use path_text::TEXT_MAX;
+use system_calls::{is_elsewhere, is_same_object};
+
+const ENOENT: u32 = 2;
+
+const EAGAIN: u32 = 11;
+
+const EACCES: u32 = 13;
+
+const ERANGE: u32 = 34;
+
+const ENAMETOOLONG: u32 = 36;
+
+const ENOSYS: u32 = 38;
+
+const EOPNOTSUPP: u32 = 95;
+
+/// What is due.
+#[derive(Clone, Copy, Debug, PartialEq, Eq)]
+pub enum Turn {
+    /// A question.
+    Ask(Question),
+    /// The question LookUp, by the names of this place.
+    Look(Place),
+    /// None: the object stands there. And whether the driver knows it for the root itself from then on.
+    Stands(Place, bool),
+    /// None: the object isn't below the root.
+    Nowhere,
+    /// None: it could not be found out, by this error (errno(3)).
+    Unmade(u32),
+}
+
+/// The first text that is read of a link in /proc.
+pub(crate) fn first_link(facts: &Facts) -> Question
+    ensures { result ≡ first_link facts.now }
+{
+    if facts.jailed {
+        Question::ObjectLink
+    } else if facts.second && facts.kept {
+        Question::KeptLink
+    } else {
+        Question::RootLink
+    }
+}
+
+/// The first question.
+pub(crate) fn first(facts: &Facts) -> Question
+    ensures { result ≡ first facts.now }
+{
+    if facts.jailed && facts.directory {
+        Question::Enter
+    } else {
+        first_link(facts)
+    }
+}
+
+fn is_root(place: &Place) -> bool
+    ensures { result ≡ is_root place.now }
+{
+    place.length == 1
+}
+
+// Why no text was read. There is no such /proc if it has no such link; and a text that fills its room may be cut off.
+fn link_error(error: u32, text: &[u8]) -> u32
+    ensures { result ≡ link_error error text.now }
+{
+    if error == ENOENT {
+        ENOSYS
+    } else if error == 0 && text.len() > TEXT_MAX {
+        ENAMETOOLONG
+    } else {
+        error
+    }
+}
+
+// ---- in a jail, of a directory
+
+// A directory that may not be searched can be where a path ends, and leads nowhere: so `..` of it isn't opened.
+fn after_enter(facts: &Facts, error: u32) -> Turn
+    ensures { result ≡ after_enter facts.now error }
+{
+    if error == 0 {
+        Turn::Ask(Question::Cwd)
+    } else if error == EACCES && !facts.by_parent {
+        Turn::Ask(Question::ObjectLink)
+    } else {
+        Turn::Unmade(error)
+    }
+}
+
+fn in_jail(place: Option<Place>) -> Turn
+    ensures { result ≡ in_jail place }
+{
+    match place {
+        None => Turn::Nowhere,
+        Some(place) => Turn::Stands(place, is_root(&place)),
+    }
+}
+
+// The kernel looks whether the directory is gone before it takes the names. So that is asked again.
+fn after_cwd(facts: &Facts, error: u32, place: Option<Place>) -> Turn
+    ensures { result ≡ after_cwd facts.now error place }
+{
+    if error == ENOENT {
+        Turn::Nowhere
+    } else if error != 0 {
+        Turn::Unmade(error)
+    } else if facts.seen {
+        in_jail(place)
+    } else {
+        Turn::Ask(Question::CwdAgain)
+    }
+}
+
+// Whether the directory has a path: one byte of room is too small for any, and without one that isn't asked.
+fn has_path(error: u32) -> bool
+    ensures { result ≡ has_path error }
+{
+    error == 0 || error == ERANGE
+}
+
+fn after_cwd_again(error: u32, place: Option<Place>) -> Turn
+    ensures { result ≡ after_cwd_again error place }
+{
+    if has_path(error) {
+        in_jail(place)
+    } else if error == ENOENT {
+        Turn::Nowhere
+    } else {
+        Turn::Unmade(error)
+    }
+}
+
+// ---- by links in /proc
+
+// Without the second witness: what is gone is called so. A directory that isn't dead has that name.
+fn confirm_place(facts: &Facts, place: Place) -> Turn
+    ensures { result ≡ confirm_place facts.now place }
+{
+    if facts.second {
+        if facts.seen {
+            Turn::Stands(place, false)
+        } else {
+            Turn::Look(place)
+        }
+    } else if !place.gone {
+        Turn::Stands(place, false)
+    } else if facts.directory {
+        Turn::Ask(Question::Dead)
+    } else {
+        Turn::Unmade(EAGAIN)
+    }
+}
+
+// The texts tell a place, or the object is being moved.
+fn confirm(facts: &Facts, place: Option<Place>) -> Turn
+    ensures { result ≡ confirm facts.now place }
+{
+    match place {
+        None => Turn::Unmade(EAGAIN),
+        Some(place) => confirm_place(facts, place),
+    }
+}
+
+fn after_kept(facts: &Facts, error: u32, place: Option<Place>) -> Turn
+    ensures { result ≡ after_kept facts.now error place }
+{
+    match place {
+        Some(place) if error == 0 => confirm_place(facts, place),
+        _ => Turn::Ask(Question::RootLink),
+    }
+}
+
+fn after_root(error: u32) -> Turn
+    ensures { result ≡ after_root error }
+{
+    if error == 0 {
+        Turn::Ask(Question::ObjectLink)
+    } else {
+        Turn::Unmade(error)
+    }
+}
+
+fn after_object(facts: &Facts, error: u32, place: Option<Place>) -> Turn
+    ensures { result ≡ after_object facts.now error place }
+{
+    if error != 0 {
+        Turn::Unmade(error)
+    } else if facts.jailed || facts.second {
+        confirm(facts, place)
+    } else {
+        Turn::Ask(Question::OwnRoot)
+    }
+}
+
+fn after_own_root(tells: bool) -> Turn
+    ensures { result ≡ after_own_root tells }
+{
+    if tells {
+        Turn::Ask(Question::RootAgain)
+    } else {
+        Turn::Unmade(EOPNOTSUPP)
+    }
+}
+
+fn after_root_again(facts: &Facts, error: u32, place: Option<Place>) -> Turn
+    ensures { result ≡ after_root_again facts.now error place }
+{
+    if error == 0 {
+        confirm(facts, place)
+    } else {
+        Turn::Unmade(error)
+    }
+}
+
+// ---- the second witness
+
+fn has_found(answer: &Answer, place: &Place) -> bool
+    ensures { result ≡ has_found answer.now place.now }
+{
+    answer.error == 0 && is_same_object(&answer.held, &answer.found, is_root(place))
+}
+
+// Where the witnesses don't agree, neither says that it stood elsewhere at one moment.
+fn look_up_error(error: u32) -> u32
+    ensures { result ≡ look_up_error error }
+{
+    if error == 0 || is_elsewhere(error) {
+        EAGAIN
+    } else {
+        error
+    }
+}
+
+fn after_found(facts: &Facts, answer: &Answer, place: Place) -> Turn
+    ensures { result ≡ after_found facts.now answer.now place }
+{
+    if !has_found(answer, &place) {
+        Turn::Unmade(look_up_error(answer.error))
+    } else if facts.directory && answer.links > 0 {
+        Turn::Stands(place, is_root(&place))
+    } else {
+        Turn::Ask(Question::LinkAgain)
+    }
+}
+
+fn without_second(facts: &Facts) -> Facts
+    ensures { result ≡ without_second facts.now }
+{
+    Facts {
+        second: false,
+        ..*facts
+    }
+}
+
+// A filter has refused the look-up just now: without it other questions are asked.
+fn after_look_up(facts: &Facts, answer: &Answer, place: Option<Place>) -> Turn
+    ensures { result ≡ after_look_up facts.now answer.now place }
+{
+    if answer.yes {
+        return Turn::Ask(first_link(&without_second(facts)));
+    }
+    match place {
+        None => Turn::Unmade(EAGAIN),
+        Some(place) => after_found(facts, answer, place),
+    }
+}
+
+// The kernel may find what is removed before it looks where that is. So the link must have the name still.
+fn after_link_again(error: u32, again: &[u8], text: &[u8], place: Option<Place>) -> Turn
+    requires { IsWithin text.now place }
+    ensures { result ≡ after_link_again error again.now text.now place }
+{
+    if error != 0 {
+        return Turn::Unmade(error);
+    }
+    match place {
+        None => Turn::Unmade(EAGAIN),
+        Some(place) => {
+            if is_named(again, &text[place.start..place.start + place.length]) {
+                Turn::Stands(place, is_root(&place))
+            } else {
+                Turn::Unmade(EAGAIN)
+            }
+        }
+    }
+}
+
+fn after_dead(dead: bool, place: Option<Place>) -> Turn
+    ensures { result ≡ after_dead dead place }
+{
+    match place {
+        Some(place) if !dead => Turn::Stands(place, false),
+        _ => Turn::Unmade(EAGAIN),
+    }
+}
+
+/// What follows from the answer to a question.
+pub(crate) fn follow(
+    facts: &Facts,
+    question: Question,
+    answer: &Answer,
+    root: &[u8],
+    text: &[u8],
+    again: &[u8],
+) -> Turn
+    ensures { Follows facts.now question answer.now (texts_of root.now text.now again.now) result }
+{
+    let error = answer.error;
+    match question {
+        Question::Enter => after_enter(facts, error),
+        Question::Cwd => after_cwd(facts, error, found_in_jail(text)),
+        Question::CwdAgain => after_cwd_again(error, found_in_jail(text)),
+        Question::KeptLink => after_kept(facts, error, found(facts, root, text, again)),
+        Question::RootLink => after_root(link_error(error, root)),
+        Question::ObjectLink => {
+            after_object(
+                facts,
+                link_error(error, text),
+                found(facts, root, text, again),
+            )
+        }
+        Question::OwnRoot => after_own_root(answer.yes),
+        Question::RootAgain => {
+            after_root_again(
+                facts,
+                link_error(error, again),
+                found(facts, root, text, again),
+            )
+        }
+        Question::LookUp => after_look_up(facts, answer, found(facts, root, text, again)),
+        Question::LinkAgain => after_link_again(
+            link_error(error, again),
+            again,
+            text,
+            found(facts, root, text, again),
+        ),
+        Question::Dead => after_dead(answer.yes, found(facts, root, text, again)),
+    }
+}
+
+/// The facts after an answer: a thread that has lost openat2(2) doesn't get it back.
+pub(crate) fn facts_after(facts: &Facts, question: Question, answer: &Answer) -> Facts
+    ensures { result ≡ facts_after facts.now question answer.now }
+{
+    match question {
+        Question::LookUp if answer.yes => without_second(facts),
+        _ => *facts,
+    }
+}
