@@ -1,13 +1,21 @@
-//! What the kernel's texts say, on texts and records that a kernel writes, and on others; and what is decided by
-//! numbers that are handed to it or come back.
+//! What the kernel's texts say, on texts and records that a kernel writes, and on others; what is decided by numbers
+//! that are handed to it or come back; which call comes next by its answers; and calls from C, turn by turn.
 #![tactic(auto)]
 
+#[cfg(test)]
+mod c_paths;
+#[cfg(test)]
+mod c_turns;
+#[cfg(test)]
+mod courses;
 #[cfg(test)]
 mod objects;
 #[cfg(test)]
 mod openings;
 #[cfg(test)]
 mod places;
+#[cfg(test)]
+mod protocol;
 #[cfg(test)]
 mod records;
 #[cfg(test)]

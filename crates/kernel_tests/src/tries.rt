@@ -1,6 +1,9 @@
-//! When a call is begun again, and which pauses it makes.
+//! When a call is begun again, and which pauses it makes; and the laws of what is asked for.
 use std::test::Fail;
-use system_calls::next_try;
+use system_calls::{
+    contradictions_are_refused, kinds_are_asked_for, next_try, pauses_add_up,
+    what_is_found_is_only_opened, what_is_made_is_new,
+};
 
 const EAGAIN: u32 = 11;
 
@@ -39,4 +42,14 @@ fn begins_again_where_others_were_in_the_way(rt: HostRuntime) -> Result<(), Fail
     assert!(rt; !is_due(true, 12, false));
     assert!(rt; !is_due(true, EAGAIN + 256, false));
     Ok(())
+}
+
+// The laws are called as a caller has them at hand. They do nothing.
+#[test]
+fn laws_are_at_hand() {
+    contradictions_are_refused();
+    kinds_are_asked_for();
+    pauses_add_up();
+    what_is_found_is_only_opened();
+    what_is_made_is_new();
 }

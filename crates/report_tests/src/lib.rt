@@ -6,6 +6,8 @@ mod json;
 #[cfg(test)]
 mod pictures;
 #[cfg(test)]
+mod quoted;
+#[cfg(test)]
 mod renaming;
 #[cfg(test)]
 mod reports;

@@ -1,0 +1,211 @@
+//! What is decided of a call from C by its numbers and its path: whether one system call may walk it, where its last
+//! name stands, and which errors refuse a step.
+ghost use Rattle.std.specs.Prelude.{◌<◌, ◌≤◌};
+
+use c_protocol::{Asked, Parted, follows_at_once, is_refusal, opens_at_once, split};
+use std::test::Fail;
+
+// An operation below the root with handle 3.
+fn asked(op: u8, beneath: bool, no_links: bool) -> Asked {
+    Asked {
+        root: 3,
+        op,
+        mode: 0,
+        beneath,
+        no_links,
+    }
+}
+
+/// An operation's number, RESOLVE_BENEATH, RESOLVE_NO_SYMLINKS and a path, and whether openat2(2) may walk that whole.
+const FOLLOWED: [(u8, bool, bool, &str, bool); 18] = [
+    (1, false, false, "a/b", true),
+    (1, false, false, "a/../../l/.", true),
+    (1, false, false, "/a//b/", true),
+    (2, false, false, "l", true),
+    (1, true, false, "a/l", true),
+    (2, true, false, "..", true),
+    // A slash at the beginning leads out.
+    (1, true, false, "/a", false),
+    (2, true, false, "/", false),
+    // No link may be followed.
+    (1, false, true, "a", false),
+    (2, true, true, "a", false),
+    // Other operations: a link that is read, a file that is made, directories that are, and numbers of none.
+    (3, false, false, "l", false),
+    (4, false, false, "a", false),
+    (10, false, false, "a/b", false),
+    (0, false, false, "a", false),
+    (255, false, false, "a", false),
+    // Texts that are no path.
+    (1, false, false, "", false),
+    (1, false, false, "a\0b", false),
+    (2, true, true, "", false),
+];
+
+#[test]
+fn links_are_followed_at_once(rt: HostRuntime) -> Result<(), Fail> {
+    for (op, beneath, no_links, path, wanted) in &FOLLOWED {
+        let asked = asked(*op, *beneath, *no_links);
+        assert!(rt;
+            follows_at_once(&asked, path.as_bytes()) == *wanted,
+            "{path}"
+        );
+    }
+    Ok(())
+}
+
+// Whether a path of two parts is walked whole, the first of which has so many bytes.
+fn is_part_followed(bytes: usize) -> bool
+    requires { bytes < 300 }
+{
+    let mut path = [b'a'; 300];
+    path[bytes] = b'/';
+    follows_at_once(&asked(1, false, false), path.as_slice())
+}
+
+// Whether a path of so many slashes is walked whole.
+fn is_path_followed(bytes: usize) -> bool
+    requires { bytes ≤ 4096 }
+{
+    let path = [b'/'; 4096];
+    follows_at_once(&asked(1, false, false), &path[..bytes])
+}
+
+// NAME_MAX and PATH_MAX of limits.h, the second of which counts a NUL.
+#[test]
+fn lengths_are_those_of_linux(rt: HostRuntime) -> Result<(), Fail> {
+    assert!(rt; is_part_followed(255));
+    assert!(rt; !is_part_followed(256));
+    assert!(rt; is_path_followed(4095));
+    assert!(rt; !is_path_followed(4096));
+    Ok(())
+}
+
+/// An operation's number, RESOLVE_BENEATH and a path; the kind of what is there, and its place; and whether the call
+/// opens that by the place's names alone.
+const OPENED: [(u8, bool, &str, u8, &str, bool); 20] = [
+    (1, false, "a/f", 2, "/a/f", true),
+    (1, false, "/a/f", 2, "/a/f", true),
+    (1, true, "a/f", 2, "/a/f", true),
+    (1, true, "/a/f", 2, "/a/f", false),
+    // A link that would be followed, and one that isn't.
+    (1, false, "l", 3, "/l", false),
+    (2, false, "l", 3, "/l", true),
+    // Directories that are made all: the last one is there.
+    (10, false, "a/b", 1, "/a/b", true),
+    (10, false, "a/b", 2, "/a/b", false),
+    (3, false, "a", 3, "/a", false),
+    (4, false, "a", 2, "/a", false),
+    // Another part than the place's names.
+    (1, false, "a//f", 2, "/a/f", false),
+    (1, false, "a/f/", 1, "/a/f", false),
+    (1, false, "a/./f", 2, "/a/f", false),
+    (1, false, "a/./f", 2, "/a/./f", false),
+    (1, false, "a/../f", 2, "/a/../f", false),
+    (1, false, "a/f", 2, "/a/g", false),
+    (1, false, "a/f", 2, "a/f", false),
+    // The root itself has no name.
+    (1, false, "/", 1, "/", false),
+    (1, false, "", 1, "/", false),
+    (1, false, "a", 1, "", false),
+];
+
+#[test]
+fn names_are_opened_at_once(rt: HostRuntime) -> Result<(), Fail> {
+    for (op, beneath, path, kind, place, wanted) in &OPENED {
+        let asked = asked(*op, *beneath, false);
+        let opened = opens_at_once(&asked, path.as_bytes(), *kind, place.as_bytes());
+        assert!(rt; opened == *wanted, "{path}");
+    }
+    Ok(())
+}
+
+fn parted(name: usize, length: usize, slash: bool, error: u8) -> Parted {
+    Parted {
+        name,
+        length,
+        slash,
+        error,
+    }
+}
+
+/// A path, whether a slash at its end is taken away, and how many bytes come before its last name and are in it,
+/// whether there was a slash, and the error.
+const PARTED: [(&str, bool, (usize, usize, bool, u8)); 17] = [
+    ("f", false, (0, 1, false, 0)),
+    ("/f", false, (1, 1, false, 0)),
+    ("a/bc", false, (2, 2, false, 0)),
+    ("a//../f", false, (6, 1, false, 0)),
+    ("a/b/", true, (2, 1, true, 0)),
+    ("a/b//", true, (2, 1, true, 0)),
+    ("a/b", true, (2, 1, false, 0)),
+    ("...", false, (0, 3, false, 0)),
+    // ENOTDIR, EINVAL, ENOENT
+    ("a/b/", false, (0, 0, false, 20)),
+    ("", true, (0, 0, false, 2)),
+    ("/", true, (0, 0, false, 22)),
+    ("//", false, (0, 0, false, 22)),
+    ("a/.", false, (0, 0, false, 22)),
+    ("a/..", false, (0, 0, false, 22)),
+    ("../", true, (0, 0, false, 22)),
+    ("./", false, (0, 0, false, 22)),
+    ("a\0", true, (0, 0, false, 22)),
+];
+
+#[test]
+fn paths_are_taken_apart(rt: HostRuntime) -> Result<(), Fail> {
+    for (path, takes_slash, (name, length, slash, error)) in &PARTED {
+        let wanted = parted(*name, *length, *slash, *error);
+        assert!(rt; split(path.as_bytes(), *takes_slash) == wanted, "{path}");
+    }
+    Ok(())
+}
+
+/// A step's number, a rename's mode, how long a link's text is, an error, and whether it refuses the step.
+const REFUSED: [(u8, u8, usize, u32, bool); 28] = [
+    // open(2): ENOENT, and what says nothing of the tree
+    (1, 0, 0, 2, true),
+    (1, 0, 0, 13, false),
+    (1, 0, 0, 24, false),
+    (1, 0, 0, 0, false),
+    (3, 0, 0, 2, true),
+    // readlink(2): EINVAL of what is no link
+    (4, 0, 0, 22, true),
+    (4, 0, 0, 2, false),
+    // mkdir(2), mknod(2), symlink(2): ENOENT, EEXIST; ENOSPC and EROFS aren't of a name
+    (8, 0, 0, 2, true),
+    (8, 0, 0, 17, true),
+    (9, 0, 0, 17, true),
+    (9, 0, 0, 28, false),
+    (10, 0, 1, 17, true),
+    (10, 0, 1, 30, false),
+    (10, 0, 4095, 36, false),
+    (10, 0, 4096, 36, true),
+    (8, 0, 4096, 36, false),
+    // unlink(2): EISDIR; rmdir(2): ENOTDIR, ENOTEMPTY, but no EBUSY of a mount
+    (11, 0, 0, 21, true),
+    (11, 0, 0, 20, false),
+    (12, 0, 0, 20, true),
+    (12, 0, 0, 39, true),
+    (12, 0, 0, 16, false),
+    // renameat2(2): a directory in a file's place, and the other way round; RENAME_NOREPLACE; RENAME_EXCHANGE
+    (13, 0, 0, 20, true),
+    (13, 0, 0, 21, true),
+    (13, 0, 0, 17, false),
+    (13, 1, 0, 17, true),
+    (13, 1, 0, 39, false),
+    (13, 2, 0, 17, false),
+    // Close
+    (7, 0, 0, 2, false),
+];
+
+#[test]
+fn errors_refuse_steps(rt: HostRuntime) -> Result<(), Fail> {
+    for (what, mode, text, error, wanted) in &REFUSED {
+        assert!(rt;
+            is_refusal(*what, *mode, *text, *error) == *wanted,
+            "{what} {error}"
+        );
+    }
+    Ok(())
+}
