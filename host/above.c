@@ -14,15 +14,12 @@
 /* The proved call's own handle on the root: the first. */
 enum { ROOT_SERIAL = 1 };
 
-/*
- * The root itself is at hand, and its place needs no question. What is handed out is opened anew. In a jail the thread may keep
- * a descriptor of it.
- */
+/* The root itself is at hand, and its place needs no question. In a jail the thread may keep a descriptor of it. */
 static bool is_root(struct inroot_driver *d, int child, struct inroot_result *result)
 {
     enum inroot_kind kind;
     int root = d->slots[0].fd == INROOT_JAILED ? inroot_trust_root() : d->slots[0].fd;
-    if (root < 0 || !inroot_ahead_has_name(&d->ahead) || !inroot_is_entry(child, "..", root, &kind))
+    if (root < 0 || !inroot_is_entry(child, "..", root, &kind))
         return false;
     *result = inroot_opened(inroot_handles_share(d, (uint64_t)ROOT_SERIAL << 32), INROOT_KIND_DIR);
     return true;
@@ -38,7 +35,7 @@ static int look_up(struct inroot_driver *d, size_t length)
     return fd;
 }
 
-bool inroot_above_open(struct inroot_driver *d, uint64_t handle, int child, struct inroot_result *result)
+bool inroot_above_open(struct inroot_driver *d, uint64_t handle, int child, bool goes_on, struct inroot_result *result)
 {
     enum inroot_kind kind;
     const int by_itself = INROOT_ONE_BY_ONE | INROOT_NO_XDEV;
@@ -47,7 +44,7 @@ bool inroot_above_open(struct inroot_driver *d, uint64_t handle, int child, stru
         return false;
     size_t length = inroot_passed_above(d, (size_t)base);
     if (length == 0)
-        return is_root(d, child, result);
+        return goes_on && is_root(d, child, result);
     int fd = look_up(d, length);
     if (fd < 0)
         return false;

@@ -15,15 +15,6 @@
 
 /* ---- a path of plain names */
 
-/* Whether the call may be such a one. The proved call refuses a path that leads out by its first byte before any step. */
-static bool may_open(const struct inroot_request *asked)
-{
-    bool leads_out = asked->flags & INROOT_BENEATH && asked->first[0] == '/';
-    bool opens = asked->op == INROOT_ASK_RESOLVE || asked->op == INROOT_ASK_RESOLVE_NOFOLLOW ||
-                 asked->op == INROOT_ASK_MKDIR_ALL;
-    return opens && !leads_out;
-}
-
 /* Writes the path as a place, with a slash before the first name. A path of plain names is one. Gives its length. */
 static size_t as_place(const struct inroot_driver *d, char *text)
 {
@@ -31,6 +22,25 @@ static size_t as_place(const struct inroot_driver *d, char *text)
     text[0] = '/';
     memcpy(text + slash, d->asked->first, d->first_length);
     return slash + d->first_length;
+}
+
+/*
+ * Whether the path is to be tried as names alone, none of which was a link last, and by which the call may open a directory: the
+ * library says so as it will of what is found there. Gives these names as they come next.
+ */
+static bool are_names(struct inroot_driver *d, const struct inroot_asked *numbers, struct inroot_coming *path)
+{
+    if (d->asked->flags & INROOT_ONE_BY_ONE || d->first_length >= INROOT_TEXT_MAX)
+        return false;
+    size_t used = as_place(d, path->text), names = 0;
+    path->text[used] = 0;
+    for (const char *at = path->text; at != NULL; at = strchr(at + 1, '/'))
+        names++;
+    path->ahead = (struct inroot_ahead_names){.names = names, .used = used, .ends = true};
+    if (inroot_run_meets_link(d, path))
+        return false;
+    return inroot_opens_at_once(numbers, (const unsigned char *)d->asked->first, d->first_length, INROOT_KIND_DIR,
+                                (const unsigned char *)path->text, used);
 }
 
 /* Finds the names at which the object stands. Under INROOT_BELOW the path has them. Tells whether it found them. */
@@ -59,7 +69,8 @@ static bool is_reply(struct inroot_driver *d, int root, const struct inroot_aske
 /* Opens plain names: the descriptor, or INROOT_NONE. FAILED is an error by which they can't be opened, or zero. */
 static int open_names(struct inroot_driver *d, int root, const struct inroot_asked *numbers, char *text, int failed)
 {
-    if (!may_open(d->asked) || !inroot_run_whole(d, root, failed))
+    struct inroot_coming path;
+    if (!are_names(d, numbers, &path) || !inroot_run_whole(d, root, &path, failed))
         return INROOT_NONE;
     if (!is_reply(d, root, numbers, text)) {
         /* The steps decide: the caller sees nothing of what was found here. */
@@ -130,6 +141,7 @@ int inroot_at_once(struct inroot_driver *d, int root, const struct inroot_asked 
         return INROOT_NONE;
     /* The step to report if the way back to the root fails. */
     d->step = INROOT_STEP_NAME_BELOW;
-    d->ahead.at = d->ahead.end;
+    d->stands = -1;
+    inroot_error_note_end(d);
     return fd;
 }

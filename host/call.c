@@ -134,8 +134,6 @@ static void begin(struct inroot_driver *d, const struct inroot_request *asked)
     d->below = asked->flags & INROOT_BELOW;
     d->proc = d->deepest = d->made = d->run.fd = INROOT_NONE;
     d->from = (struct inroot_from){.dir = INROOT_NONE, .fd = INROOT_NONE};
-    d->name = d->step_name;
-    inroot_ahead_begin(d);
 }
 
 /* Gets the reply, at once or by a conversation. Nothing stays open but what the caller gets. */
@@ -173,7 +171,6 @@ static ssize_t reply_from(struct inroot_driver *d, int root, int dir, const stru
         d->asked = &joined->request;
         d->first_length = strlen(joined->first);
         d->second_length = strlen(joined->second);
-        inroot_ahead_begin(d);
         result = reply_to(d, root, &joined->request, room);
     }
     inroot_from_end(d);

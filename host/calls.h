@@ -1,7 +1,7 @@
 /*
- * calls.h: the proved library's twenty-one functions, and what passes between it and a driver. The numbers and bytes are those
- * of crates/c_protocol, crates/kernel_text and crates/system_calls, whose contracts say what they stand for. A program that
- * makes calls includes inroot.h, and not this.
+ * calls.h: the proved library's twenty-two functions, and what passes between it and a driver. The numbers and bytes are those
+ * of crates/c_protocol, place_protocol, open_or_make, kernel_text and system_calls, whose contracts say what they stand for. A
+ * program that makes calls includes inroot.h, and not this.
  */
 #ifndef INROOT_CALLS_H
 #define INROOT_CALLS_H
@@ -72,12 +72,12 @@ void inroot_next(struct inroot_kept *kept, const struct inroot_answered *answere
                  size_t length, struct inroot_told *told, unsigned char *room, size_t size);
 
 /*
- * Names that come next in a call: how many; how many bytes they take, a slash before each; whether `..` comes behind them, which
- * is counted and written as well; and whether the walk ends behind them.
+ * Names that come next in a call: how many; how many bytes they take, a slash before each; whether `..` comes behind them, whose
+ * bytes are counted and written as well; whether the walk ends behind them; and if so, whether it ends behind `.` or a slash.
  */
 struct inroot_ahead_names {
     size_t names, used;
-    bool up, ends;
+    bool up, ends, dot;
 };
 
 /*
@@ -87,6 +87,20 @@ struct inroot_ahead_names {
  */
 void inroot_names_ahead(struct inroot_kept *kept, size_t most, uint64_t number, unsigned char *room, size_t size,
                         struct inroot_ahead_names *ahead);
+
+/* Parts of a path: how many; how many bytes they take; whether one of them is a name; and whether none comes behind them. */
+struct inroot_left {
+    size_t parts, used;
+    bool named, whole;
+};
+
+/*
+ * Writes what is left of the path that a call walks: its parts in their order, `.` and `..` too, a slash before each, so many as
+ * fit. At 0 it begins with the part that comes next: the name that is due to be opened, or what comes behind the step that is due;
+ * at 1 behind that part. There are none where no walk is under way, where a link is due to be read, or a handle to be closed. The
+ * last name of a call on one entry is none of them. The call stays as it is: `kept` holds one. It takes no memory.
+ */
+void inroot_parts_ahead(struct inroot_kept *kept, uint8_t from, unsigned char *room, size_t size, struct inroot_left *left);
 
 /* Names that a call has passed: the handle in whose directory the first was opened, how many, and whether that is closed now. */
 struct inroot_ran {
@@ -142,34 +156,6 @@ void inroot_split(const unsigned char *path, size_t path_length, bool takes_slas
 bool inroot_is_refusal(uint8_t what, uint8_t mode, size_t text, uint32_t error);
 
 /* ---- what the kernel's texts say. None of these needs a call under way. */
-
-/*
- * Where an object stands below a root, in a text that the kernel told: it begins there, and has so many bytes, a slash before
- * each name, or a slash alone for the root. A length of 0: the text tells no place. `gone`: the place ends as the kernel writes
- * of what was removed, in " (deleted)"; a name may end so, too.
- */
-struct inroot_place {
-    size_t start, length;
-    bool gone;
-};
-
-/*
- * The place that PATH tells, the text of an object's link in /proc/pid/fd (proc(5)), by those of the root's link BEFORE it and
- * AFTER it, all without a NUL. BEFORE may be given twice, where something else says that the root stayed there. None is told if
- * the root's two differ, if one begins with no slash, if PATH doesn't go on with a slash behind the root's, and by a PATH
- * of more than 4,095 bytes.
- */
-void inroot_place_between(const unsigned char *before, size_t before_length, const unsigned char *path, size_t path_length,
-                          const unsigned char *after, size_t after_length, struct inroot_place *place);
-
-/* The same of the thread's current directory below its own root, by what getcwd(2) wrote: so many bytes, with the NUL. */
-void inroot_place_of_cwd(const unsigned char *told, size_t told_length, struct inroot_place *place);
-
-/*
- * Whether what was found at a place has a name still, by the text AGAIN that its link tells afterwards: this doesn't end in
- * " (deleted)", or its last name is that of the place.
- */
-bool inroot_is_named(const unsigned char *again, size_t again_length, const unsigned char *place, size_t place_length);
 
 /* So many bytes of names were taken; there is no room for the next one; or the number of the next record's error, or 0. */
 struct inroot_taken {
@@ -263,7 +249,93 @@ uint8_t inroot_kind_of(uint32_t mode);
 /* Whether mknod(2) may be asked for an entry of this mode, with its kind, and this device. */
 bool inroot_is_node(uint32_t mode, uint64_t device);
 
-/* Whether an error of a look-up by names says that these lead elsewhere by now. Any other says that it couldn't be asked. */
-bool inroot_is_elsewhere(uint32_t error);
+/* ---- at which names an object stands below a root. None of these takes memory, or needs a call under way. */
+
+/*
+ * What is known before the first question: the root is the thread's own root directory; the object is a directory; openat2(2)
+ * opened it by names from the root with RESOLVE_BENEATH right before; `..` led to it; the thread has openat2(2); and the root's
+ * path is known, since the root stays there.
+ */
+struct inroot_place_facts {
+    bool jailed, directory, seen, by_parent, second, kept;
+};
+
+/*
+ * A question: fchdir(2) to the object; getcwd(2), and once more with a room of one byte; the text of the object's link in /proc, by
+ * what is kept of the root; that of the root's link; that of the object's; whether the thread's own root directory is a mount's;
+ * the root's link once more; what the names lead to from the root; the object's link once more; whether the directory was removed.
+ * Or there is none: the object stands at the names; it isn't below the root; or that could not be found out.
+ */
+enum inroot_place_what {
+    INROOT_PLACE_ENTER = 1, INROOT_PLACE_CWD, INROOT_PLACE_CWD_AGAIN, INROOT_PLACE_KEPT_LINK, INROOT_PLACE_ROOT_LINK,
+    INROOT_PLACE_OBJECT_LINK, INROOT_PLACE_OWN_ROOT, INROOT_PLACE_ROOT_AGAIN, INROOT_PLACE_LOOK_UP, INROOT_PLACE_LINK_AGAIN,
+    INROOT_PLACE_DEAD,
+    INROOT_PLACE_STANDS = 16, INROOT_PLACE_NOWHERE, INROOT_PLACE_UNMADE,
+};
+
+/*
+ * What is due (`enum inroot_place_what`). The names of a look-up and of a place are so many bytes of the object's text, from there
+ * on: a slash before each, or a slash alone for the root. `error`: why it could not be found out. `is_root`: it is the root itself.
+ */
+struct inroot_place_told {
+    size_t start, length;
+    uint32_t error;
+    uint8_t what;
+    bool is_root;
+};
+
+/*
+ * What a question was answered: 0 or an error's number. `yes`: the root directory is a mount's; the directory was removed; or the
+ * thread has no openat2(2) any more. Of a look-up: the object, what was found, and how many links that has.
+ */
+struct inroot_place_answer {
+    uint32_t error;
+    bool yes;
+    struct inroot_object held, found;
+    uint64_t links;
+};
+
+/* The first question. */
+void inroot_place_begin(const struct inroot_place_facts *facts, struct inroot_place_told *told);
+
+/*
+ * Puts what is due behind the answer to the question in its place; by the texts that were read last, each empty where none was: of
+ * the root, or what is kept of it; of the object, also by getcwd(2); and of a link that was read once more. FACTS are those of the
+ * first question: they change if the thread has lost openat2(2).
+ */
+void inroot_place_next(struct inroot_place_facts *facts, const struct inroot_place_answer *answer, const unsigned char *root,
+                       size_t root_length, const unsigned char *text, size_t text_length, const unsigned char *again,
+                       size_t again_length, struct inroot_place_told *told);
+
+/* ---- which call comes next, as a file is opened, or made where it is missing. These take no memory. */
+
+/*
+ * Three are calls on the path in the room: what is there is found, and opened; a file is made; the link that is there is read. If
+ * it ENDS, the reply is what the last call gave. If it FAILS, the reply is an error of its own.
+ */
+enum inroot_course_next {
+    INROOT_COURSE_FIND = 1, INROOT_COURSE_CREATE, INROOT_COURSE_READ_LINK, INROOT_COURSE_ENDS, INROOT_COURSE_FAILS,
+};
+
+/*
+ * How far it has come. A driver reads what comes next, after a PAUSE of so many nanoseconds; the path, which is the room's first
+ * LENGTH bytes; and the error with its step (INROOT_STEP_..) if it fails. It leaves all of it alone between two turns.
+ */
+struct inroot_course {
+    size_t length;
+    uint32_t pause, links, between;
+    uint8_t next, error, step;
+    bool follows, may_retry, again;
+};
+
+/* Begins on the path that lies in the room. A link at its end is followed, unless NO_LINKS are. */
+void inroot_course_begin(size_t path_length, bool follows, bool no_links, bool may_retry, struct inroot_course *course);
+
+/*
+ * Takes what the last call gave: an error, or 0 and the text of the link that was read. The room has 4,095 bytes at least, and its
+ * path is that of the call which comes next. Where none does, it is that of the last one.
+ */
+void inroot_course_next(struct inroot_course *course, uint32_t error, const unsigned char *text, size_t text_length,
+                        unsigned char *room, size_t size);
 
 #endif

@@ -78,21 +78,30 @@ struct inroot_request {
     enum inroot_kind *opened;      /* receives the kind of the opened object, or is NULL */
 };
 
-/* What of a path is still to be walked: from `at` to `end`; beyond `until` is the last name, which no step opens. */
-struct inroot_ahead {
-    bool known, whole;             /* `until` is the end */
-    bool directory, link_may_end;  /* what the path means is a directory; is a link, where it ends in one */
-    bool begun, from_top;          /* the first walk is under way; a link's text begins with a slash */
-    bool makes;                    /* what is left is being made */
-    int bad;                       /* so many names were not passed by one system call, where it isn't zero */
+/* What comes behind a name: another name; nothing, but for a slash or `.`; or `..`, or a name that is too long. */
+enum inroot_behind { INROOT_BEHIND_NAME, INROOT_BEHIND_END, INROOT_BEHIND_OTHER };
+
+/*
+ * Names that the proved call is due to open next, one in another, as the library gives them: a slash before each, and a NUL. The
+ * driver may leave out the last ones.
+ */
+struct inroot_coming {
+    struct inroot_ahead_names ahead;
+    size_t tries;                  /* so many at most are tried by one system call, where it isn't zero */
+    enum inroot_behind behind;     /* the first of them */
+    bool is_last;                  /* the first of them is the last part of the path */
+    char text[INROOT_TEXT_MAX + 1];
+};
+
+/* What is known of the rest of a path: it is all of it; it is kept, or so much of it as fits; or the proved call wasn't asked. */
+enum inroot_rest { INROOT_REST_WHOLE, INROOT_REST_KEPT, INROOT_REST_CUT, INROOT_REST_UNKNOWN };
+
+/* What failed before, so that names are tried in fewer runs. */
+struct inroot_tries {
+    size_t bad;                    /* so many names were not passed by one system call, where it isn't zero */
     bool met_link;                 /* since one of them is a link */
-    bool has_second;               /* another walk is to come, of a path of its own */
-    size_t at, end, until;
-    size_t walked;                 /* of `way`; more than that has where it doesn't fit */
-    char way[PATH_MAX];            /* the names passed before the text, up to the link whose text that is */
-    /* With a NUL at the end. It stays where it is but in a Dup or a ReadLink. */
-    char text[2 * PATH_MAX + 1];
-    const char *second;            /* the request's own */
+    size_t whole;                  /* the whole path, of so many names, was tried at once and failed so; or zero */
+    int whole_error;
 };
 
 /* What one system call opened behind names. The proved call doesn't know of it yet. */
@@ -101,6 +110,7 @@ struct inroot_run {
     enum inroot_kind kind;
     enum inroot_way way;           /* how it was opened */
     size_t passed;                 /* how long the names of the walk are behind it, or zero */
+    bool ends;                     /* the walk ends behind it */
 };
 
 /* A mount, by its number or by its device. */
@@ -115,6 +125,7 @@ struct inroot_from {
     int fd;                        /* one that was opened at its names, or INROOT_NONE */
     int names;                     /* how many these are */
     bool first, second;            /* which of the paths begin with them, and are still to be walked */
+    bool tried;                    /* the second walk has begun */
     const char *place;             /* the names, with a slash before each */
     uint64_t told;                 /* the handle that a witness has just found there, or zero */
 };
@@ -138,8 +149,12 @@ struct inroot_driver {
     char *names;                   /* those of the directory that was listed last */
     size_t listed;                 /* bytes of names that the call holds */
     uint64_t placed;               /* the handle of the question right before, or zero */
-    int tried, tried_error;        /* the whole path, of so many names, was tried at once and failed so; or zero */
+    uint64_t came_to;              /* what that was before this step */
+    struct inroot_tries tries;
     size_t name_length;            /* of the name that `step` was about */
+    ssize_t stands;                /* how long the names in `passed` are where the walk stands, or -1 where they aren't known */
+    uint8_t rest_is;               /* what is known of the rest of the path */
+    size_t rest_at, rest_end;      /* where it lies in `rest`, a slash before each part */
     struct inroot_mount mount;     /* that of the root, where the call stays on it */
     bool below;                    /* the last check is the kernel's alone (INROOT_BELOW) */
     uint64_t passed_handle;        /* the handle at the names in `passed`, or zero, and how long they are */
@@ -151,7 +166,6 @@ struct inroot_driver {
     const struct inroot_request *asked;
     struct inroot_kept *kept;      /* the proved call, while it goes on */
     size_t first_length, second_length;
-    const char *name;              /* what `step` was about, in `ahead` where that foresaw it, or in `step_name` */
     int proc;                      /* the /proc that was found to be one, or none yet */
     int made;                      /* what was made and opened, or none */
     int deepest;                   /* where too_deep: the directory, and the entry in it */
@@ -163,11 +177,12 @@ struct inroot_driver {
     size_t names_length, placed_length;
     struct inroot_run run;
     struct inroot_from from;
-    char deepest_name[NAME_MAX + 1], step_name[NAME_MAX + 1];
+    char deepest_name[NAME_MAX + 1];
+    char step_name[NAME_MAX + 1];  /* what `step` was about */
     int root;                      /* the descriptor, or INROOT_JAILED */
     char passed[3072];             /* longer ones aren't known, which costs time alone */
     struct inroot_slot few[INROOT_FEW];
-    struct inroot_ahead ahead;
+    char rest[INROOT_TEXT_MAX];
 };
 
 /* Of Linux 5.10; the C library's headers don't have it. */
@@ -194,31 +209,6 @@ int inroot_handles_take(struct inroot_driver *d, uint64_t handle);
 /* Closes the descriptor of one directory above this one, if one can be spared. */
 bool inroot_handles_spare(struct inroot_driver *d, uint64_t handle);
 
-/* ahead.c */
-void inroot_ahead_begin(struct inroot_driver *d);
-/* A walk begins at the root, or goes on there. */
-void inroot_ahead_dup(struct inroot_ahead *a);
-/* The second walk begins, of a path of its own. */
-void inroot_ahead_second(struct inroot_ahead *a);
-/* Whether the first walk has passed all its names. */
-bool inroot_ahead_is_done(const struct inroot_ahead *a);
-/* If NAME is the next name of the path, moves to it and returns true. */
-bool inroot_ahead_is(struct inroot_ahead *a, const char *name, size_t length);
-/* Moves past a `..` that comes next. */
-void inroot_ahead_pass_up(struct inroot_ahead *a);
-/* The call makes a directory: the names behind it aren't there yet. */
-void inroot_ahead_make(struct inroot_ahead *a);
-/* Whether a name is left: one to walk, or the entry's own. */
-bool inroot_ahead_has_name(const struct inroot_ahead *a);
-/* Whether the path ends there. */
-bool inroot_ahead_is_end(const struct inroot_ahead *a, size_t at);
-/* Puts a link's text in front of the rest of the path. */
-void inroot_ahead_put(struct inroot_ahead *a, const char *text, size_t length);
-/* By which names below the root the walk has come here, with a slash before each: or nothing, where that isn't known. */
-void inroot_ahead_way(const struct inroot_ahead *a, char to[PATH_MAX]);
-/* What is left, and how long it is. */
-size_t inroot_ahead_rest(const struct inroot_ahead *a, const char **rest);
-
 /* passed.c */
 /*
  * How long the names are, a slash before each, that lead from the root to a handle; or -1, where the driver doesn't know
@@ -243,14 +233,18 @@ void inroot_hints_tell(struct inroot_driver *d, uint64_t handle, const char *nam
 /* above.c */
 /*
  * The directory above a handle's, which is CHILD, by the names passed: looked up from the root, so that the kernel sees it below
- * the root; and the child's `..` leads to that same one. Whether it could.
+ * the root; and the child's `..` leads to that same one. Whether it could. Only if the call GOES_ON from there by a name it may
+ * be the caller's own descriptor of the root: what is handed out is opened anew.
  */
-bool inroot_above_open(struct inroot_driver *d, uint64_t handle, int child, struct inroot_result *result);
+bool inroot_above_open(struct inroot_driver *d, uint64_t handle, int child, bool goes_on, struct inroot_result *result);
 
 /* followed.c */
-/* If the next name, which can't be passed with others, is likely to be a link: reads it as one. Returns whether it could. */
-bool inroot_followed_open(struct inroot_driver *d, const struct inroot_told *step, const char *name, char *text, bool is_alone,
-                          struct inroot_result *result);
+/*
+ * If the next name, which can't be passed with others, is likely to be a link that is followed: reads it as one. Returns whether it
+ * could.
+ */
+bool inroot_followed_open(struct inroot_driver *d, const struct inroot_told *step, const char *name,
+                          const struct inroot_coming *coming, char *text, bool is_alone, struct inroot_result *result);
 /* Whether that link is on a mount that follows no link. */
 bool inroot_followed_is_kept(struct inroot_driver *d);
 
@@ -266,16 +260,21 @@ int inroot_look_up(struct inroot_driver *d, int dir, const char *names, uint64_t
 int inroot_look_through(struct inroot_driver *d, int dir, const char *path, uint64_t flags, uint64_t resolve);
 
 /* runs.c */
+/* Whether one of the names of a whole path, which the walk would follow, was a link last. */
+bool inroot_run_meets_link(struct inroot_driver *d, const struct inroot_coming *path);
 /*
- * Passes the whole path from the root if it is plain names, before any step is made. Returns whether it could, and the
- * kernel saw its object below the root. FAILED is the error of a look-up that this one would fail by, too, or zero.
+ * Passes the whole path from the root, which is so many names behind slashes, before any step is made. Returns whether it could,
+ * and the kernel saw its object below the root. FAILED is the error of a look-up that this one would fail by, too, or zero.
  */
-bool inroot_run_whole(struct inroot_driver *d, int root, int failed);
+bool inroot_run_whole(struct inroot_driver *d, int root, struct inroot_coming *path, int failed);
+/* Asks the proved call which names come next. There are none if the Open that is due is no walk's. */
+void inroot_run_ask(struct inroot_driver *d, struct inroot_coming *coming);
 /*
- * Passes the next name of the path, which is due to be opened, and names behind it. Returns whether it could. It has then
- * reported all but the last part to the proved call, and RESULT is the answer to the step that is due behind them.
+ * Passes the name that is due to be opened, and names behind it. Returns whether it could. It has then reported all but the last
+ * part to the proved call, and RESULT is the answer to the step that is due behind them.
  */
-bool inroot_run_begin(struct inroot_driver *d, struct inroot_told *told, char *room, struct inroot_result *result);
+bool inroot_run_begin(struct inroot_driver *d, struct inroot_told *told, char *room, struct inroot_coming *coming,
+                      struct inroot_result *result);
 /*
  * The same for the object that is open behind these parts, a slash between each two: so many names, and one more or `..`. There
  * is no answer if another step is due behind the names: then it closes that object.
@@ -289,8 +288,16 @@ void inroot_run_drop(struct inroot_driver *d);
 int inroot_at_once(struct inroot_driver *d, int root, const struct inroot_asked *numbers, char *text);
 
 /* error.c */
-/* Keeps the step and its name, in case the call fails: the next turn overwrites the room. */
+/* Keeps the step, its name and where the walk stands, in case the call fails: the next turn overwrites the room. */
 void inroot_error_note(struct inroot_driver *d, const struct inroot_told *step, const char *room);
+/*
+ * Keeps what is left of the path, as the proved call says it: from the part on that comes next, or from the one behind it. Gives
+ * whether there is a name in it.
+ */
+bool inroot_error_note_rest(struct inroot_driver *d, uint8_t from);
+/* The same where nothing is left; and of a directory that the call has made, which is passed. */
+void inroot_error_note_end(struct inroot_driver *d);
+void inroot_error_note_made(struct inroot_driver *d);
 /* Keeps why a call failed: with the step of this driver; or alone, and then returns -error. */
 void inroot_error_of(const struct inroot_driver *d, int error);
 int inroot_error_alone(int error, const char *step, const char *rest);
@@ -453,9 +460,9 @@ int inroot_give_file(struct inroot_driver *d, int dir, const char *name);
 /* magic.c */
 /*
  * Whether the call refuses the link that was opened by this name in a directory, or INROOT_JAILED, as a magic one. A call
- * doesn't follow a link that it wants itself. LENGTH is that of the path's next name, which it has, or zero.
+ * doesn't follow a link that it wants itself: IS_LAST says that this one is the last part of the path.
  */
-bool inroot_magic_refused(struct inroot_driver *d, int dir, const char *name, int fd, size_t length);
+bool inroot_magic_refused(struct inroot_driver *d, int dir, const char *name, int fd, bool is_last);
 
 /* partial.c */
 /* Opens as much of a text as is there, and gives where the rest begins: a descriptor or -errno. */
@@ -524,42 +531,25 @@ static inline bool inroot_handles_reserve(struct inroot_driver *d)
     return d->free >= 0 || d->used < d->room || inroot_handles_grow(d);
 }
 
-/* Behind the slashes that are there. */
-static inline size_t inroot_ahead_skip(const struct inroot_ahead *a, size_t at)
+/* ---- what the request alone says */
+
+/* Whether the walk goes along the whole path. Else the last name is that of an entry, and of no part that it walks. */
+static inline bool inroot_walks_whole(const struct inroot_request *asked)
 {
-    while (a->text[at] == '/')
-        at++;
-    return at;
+    return asked->op == INROOT_ASK_RESOLVE || asked->op == INROOT_ASK_RESOLVE_NOFOLLOW || asked->op == INROOT_ASK_READLINK ||
+           asked->op == INROOT_ASK_MKDIR_ALL;
 }
 
-/* Whether a part ends there. */
-static inline bool inroot_ahead_ends(const struct inroot_ahead *a, size_t at)
+/* Whether the path may mean a link, where it ends in one. */
+static inline bool inroot_takes_link(const struct inroot_request *asked)
 {
-    return a->text[at] == '/' || a->text[at] == 0;
+    return asked->op == INROOT_ASK_RESOLVE_NOFOLLOW || asked->op == INROOT_ASK_READLINK;
 }
 
-/* How long the part is that begins there, where it is `.` or `..`, or zero. */
-static inline size_t inroot_ahead_dots(const struct inroot_ahead *a, size_t at)
+/* Whether what the path means must be a directory. */
+static inline bool inroot_wants_directory(const struct inroot_request *asked)
 {
-    if (a->text[at] != '.')
-        return 0;
-    size_t length = a->text[at + 1] == '.' ? 2 : 1;
-    return inroot_ahead_ends(a, at + length) ? length : 0;
-}
-
-/* Moves past the next name, which is so long. */
-static inline void inroot_ahead_pass(struct inroot_ahead *a, size_t length)
-{
-    a->at += length;
-    a->bad -= a->bad > 0;
-}
-
-/* Keeps that the call opens the next name, which is so long. Only a Dup or a ReadLink moves that name. */
-static inline void inroot_error_note_next(struct inroot_driver *d, size_t length)
-{
-    d->step = INROOT_STEP_OPEN;
-    d->name = d->ahead.text + d->ahead.at;
-    d->name_length = length;
+    return asked->op == INROOT_ASK_MKDIR_ALL || asked->directory;
 }
 
 #endif

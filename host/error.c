@@ -34,29 +34,110 @@ int inroot_error_alone(int error, const char *step, const char *rest)
     return -error;
 }
 
+/* ---- what is kept as the call goes on */
+
 void inroot_error_note(struct inroot_driver *d, const struct inroot_told *step, const char *room)
 {
     bool on_name = step->what == INROOT_STEP_OPEN || step->what >= INROOT_STEP_MAKE_DIR;
     size_t length = on_name ? step->first : 0;
     d->step = step->what;
-    d->name = d->step_name;
+    /* A handle without a slot is behind the place that was noted last. */
+    if (!inroot_handles_is_passed(step->handle))
+        d->stands = inroot_passed_base(d, step->handle);
     d->name_length = length < sizeof d->step_name ? length : sizeof d->step_name;
     memcpy(d->step_name, room, d->name_length);
 }
 
+static void keep_rest(struct inroot_driver *d, size_t length, bool is_whole)
+{
+    d->rest_is = is_whole ? INROOT_REST_KEPT : INROOT_REST_CUT;
+    d->rest_at = 0;
+    d->rest_end = length;
+}
+
+bool inroot_error_note_rest(struct inroot_driver *d, uint8_t from)
+{
+    struct inroot_left left;
+    inroot_parts_ahead(d->kept, from, (unsigned char *)d->rest, sizeof d->rest, &left);
+    keep_rest(d, left.used, left.whole);
+    return left.named;
+}
+
+void inroot_error_note_end(struct inroot_driver *d)
+{
+    keep_rest(d, 0, true);
+}
+
+void inroot_error_note_made(struct inroot_driver *d)
+{
+    size_t length = d->rest_end - d->rest_at;
+    const char *slash = length > 0 ? memchr(d->rest + d->rest_at + 1, '/', length - 1) : NULL;
+    d->rest_at = slash == NULL ? d->rest_end : (size_t)(slash - d->rest);
+}
+
+/* ---- the call has failed */
+
+/* A rename walks two paths, and a tree that is removed has many. */
+static bool has_one_path(const struct inroot_request *asked)
+{
+    return asked->op != INROOT_ASK_RENAME && asked->op != INROOT_ASK_REMOVE_ALL;
+}
+
+/* Adds text behind what is there, where it fits with a NUL; else so much of it as fits. */
+static size_t add(char *to, size_t used, const char *text, size_t length)
+{
+    size_t left = sizeof last.rest - 1 - used;
+    length = length < left ? length : left;
+    memcpy(to + used, text, length);
+    to[used + length] = 0;
+    return used + length;
+}
+
+/* Parts without the slash before the first; and the name of the entry, which isn't walked. */
+static void put_parts(const struct inroot_driver *d, char *to)
+{
+    const struct inroot_request *asked = d->asked;
+    size_t length = d->rest_end - d->rest_at, used = 0;
+    if (length > 0)
+        used = add(to, 0, d->rest + d->rest_at + 1, length - 1);
+    if (inroot_walks_whole(asked) || d->rest_is == INROOT_REST_CUT)
+        return;
+    struct inroot_parted parted;
+    inroot_split((const unsigned char *)asked->first, strlen(asked->first), true, &parted);
+    if (used > 0 && parted.length > 0)
+        used = add(to, used, "/", 1);
+    add(to, used, asked->first + parted.name, parted.length);
+}
+
+static void put_rest(const struct inroot_driver *d, char *to)
+{
+    const char *path = d->asked->first;
+    to[0] = 0;
+    if (!has_one_path(d->asked) || d->rest_is == INROOT_REST_UNKNOWN)
+        return;
+    if (d->rest_is == INROOT_REST_WHOLE)
+        add(to, 0, path + strspn(path, "/"), strlen(path + strspn(path, "/")));
+    else
+        put_parts(d, to);
+}
+
+/* The names passed, or a slash for none. */
+static void put_way(const struct inroot_driver *d)
+{
+    size_t length = d->stands > 0 ? (size_t)d->stands : 0;
+    at[0] = 0;
+    if (has_one_path(d->asked) && d->step != 0 && d->stands >= 0)
+        keep(at, sizeof at, length > 0 ? d->passed : "/", length > 0 ? length : 1);
+}
+
 void inroot_error_of(const struct inroot_driver *d, int error)
 {
-    const char *rest;
-    bool is_one = d->asked->op != INROOT_ASK_RENAME && d->asked->op != INROOT_ASK_REMOVE_ALL;
-    size_t length = inroot_ahead_rest(&d->ahead, &rest);
     last.error = error;
     last.step = steps[d->step <= INROOT_STEP_GIVE ? d->step : 0];
     last.at = at;
-    at[0] = 0;
-    if (is_one && d->step != 0)
-        inroot_ahead_way(&d->ahead, at);
-    keep(last.name, sizeof last.name, d->name, d->name_length);
-    keep(last.rest, sizeof last.rest, rest, is_one ? length : 0);
+    put_way(d);
+    keep(last.name, sizeof last.name, d->step_name, d->name_length);
+    put_rest(d, last.rest);
 }
 
 int inroot_last_error(struct inroot_error *error)

@@ -38,12 +38,11 @@ static ssize_t read_entry(int dir, const char *name, size_t length, char *text)
  * Whether the call would follow a link of that name, and may read it by its name. Under INROOT_NO_XDEV the driver has to
  * see on which mount the name is, and under INROOT_NO_MAGICLINKS it needs the link itself.
  */
-static bool may_read(const struct inroot_driver *d, size_t length)
+static bool may_read(const struct inroot_driver *d, const struct inroot_coming *coming, size_t length)
 {
-    const struct inroot_ahead *a = &d->ahead;
-    bool is_meant_itself = a->link_may_end && inroot_ahead_is_end(a, a->at + length);
+    bool is_meant_itself = coming->is_last && inroot_takes_link(d->asked);
     const int kept_from = INROOT_ONE_BY_ONE | INROOT_NO_XDEV | INROOT_NO_MAGICLINKS;
-    return !(d->asked->flags & kept_from) && !a->makes && a->at < a->until && !is_meant_itself && length <= NAME_MAX;
+    return !(d->asked->flags & kept_from) && !is_meant_itself && length <= NAME_MAX;
 }
 
 /*
@@ -52,16 +51,16 @@ static bool may_read(const struct inroot_driver *d, size_t length)
  */
 static bool is_likely(struct inroot_driver *d, uint64_t dir, const char *name, size_t length, bool is_alone)
 {
-    const struct inroot_ahead *a = &d->ahead;
-    return (a->met_link && a->bad > 0 && (a->bad == 1 || is_alone)) || inroot_hints_first(d, dir, name, length) == 0;
+    const struct inroot_tries *tries = &d->tries;
+    return (tries->met_link && tries->bad > 0 && (tries->bad == 1 || is_alone)) || inroot_hints_first(d, dir, name, length) == 0;
 }
 
-bool inroot_followed_open(struct inroot_driver *d, const struct inroot_told *step, const char *name, char *text, bool is_alone,
-                          struct inroot_result *result)
+bool inroot_followed_open(struct inroot_driver *d, const struct inroot_told *step, const char *name,
+                          const struct inroot_coming *coming, char *text, bool is_alone, struct inroot_result *result)
 {
     int dir;
     const size_t length = step->first;
-    if (!may_read(d, length) || !is_likely(d, step->handle, name, length, is_alone))
+    if (!may_read(d, coming, length) || !is_likely(d, step->handle, name, length, is_alone))
         return false;
     if (inroot_handles_fd(d, step->handle, &dir) != 0)
         return false;
@@ -73,7 +72,7 @@ bool inroot_followed_open(struct inroot_driver *d, const struct inroot_told *ste
     d->link_dir = d->lived = step->handle;
     d->link_length = (size_t)got;
     d->link = inroot_handles_passed(d);
-    inroot_ahead_pass(&d->ahead, length);
+    d->tries.bad -= d->tries.bad > 0;
     *result = inroot_opened(d->link, INROOT_KIND_LINK);
     return true;
 }

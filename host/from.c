@@ -113,7 +113,7 @@ static struct inroot_result pass(struct inroot_driver *d, int fd, struct inroot_
     d->run.kind = INROOT_KIND_DIR;
     d->run.way = is_seen ? INROOT_SEEN_BELOW : INROOT_BY_NAME;
     d->run.passed = inroot_passed_put(d, told->handle, names, length);
-    d->ahead.at = length;
+    d->run.ends = false;
     struct inroot_result result = inroot_run_tell(d, told, room, names, (size_t)d->from.names - 1);
     d->from.told = result.handle;
     return result;
@@ -132,7 +132,6 @@ static struct inroot_result pass_first(struct inroot_driver *d, struct inroot_to
 static struct inroot_result pass_again(struct inroot_driver *d, struct inroot_told *told, char *room, char *text)
 {
     struct inroot_slot slot;
-    d->from.second = false;
     ssize_t length = find(d, d->root, d->from.dir, text, &slot);
     if (length < 0)
         return inroot_refused(d, (int)-length);
@@ -141,8 +140,20 @@ static struct inroot_result pass_again(struct inroot_driver *d, struct inroot_to
         close(slot.fd);
         return inroot_refused(d, EAGAIN);
     }
-    inroot_ahead_second(&d->ahead);
-    return pass(d, slot.fd, told, room);
+    struct inroot_result result = pass(d, slot.fd, told, room);
+    d->from.second = result.what != INROOT_ANSWER_OPENED;
+    return result;
+}
+
+/*
+ * Whether the second walk begins with an Open in the root's own handle. The first walk has ended by the question for a place.
+ * Had it gone on behind that, it would have done so from the handle that the question was for.
+ */
+static bool is_second(struct inroot_driver *d)
+{
+    bool is_first_time = !d->from.tried && d->from.second && d->step == INROOT_STEP_NAME_BELOW;
+    d->from.tried |= is_first_time;
+    return is_first_time;
 }
 
 bool inroot_from_begins(struct inroot_driver *d, struct inroot_told *told, char *room, char *text,
@@ -153,7 +164,7 @@ bool inroot_from_begins(struct inroot_driver *d, struct inroot_told *told, char 
         return false;
     if (d->from.first)
         *result = pass_first(d, told, room);
-    else if (d->from.second && inroot_ahead_is_done(&d->ahead))
+    else if (is_second(d))
         *result = pass_again(d, told, room, text);
     else
         return false;

@@ -283,10 +283,13 @@ int inroot_at_end(int at);
  * failed before the first. Beside the model's steps there are `Reopen`, which opens for use, `Stat`, `Attribute`, which
  * changes an object that was found, and `Give`, which opens a new entry. NAME is the name that the step was about, or
  * empty. REST is the rest of PATH at that step, with links replaced by their texts: it begins with NAME if the call
- * could not open or make that. AT is the place that the walk had reached: the names below the root by which it went,
- * with a slash before each, or a slash for the root itself. Others may have moved these since. AT is empty if the call
- * made no step, or if the names are longer than 4,095 bytes. For a rename, and for a tree that is removed, REST and AT
- * are empty. The texts end with a NUL, and are cut off where they don't fit. A later version may use the reserved
+ * could not open or make that; at `Parent` and `ReadLink` it is what comes behind the `..` and the link. Once the walk
+ * has begun REST has one slash between two names, and `.` behind a slash at the end of PATH. AT is the place that the
+ * walk had reached: the names below the root by which it went, with a slash before each, or a slash for the root itself.
+ * Others may have moved these since. A link that the call follows is none of them. AT is empty if the call made no step,
+ * and where the library doesn't keep the names: if they have more than 3,071 bytes, or some behind a `..` that led to the
+ * root. For a rename, and for a tree that is removed, REST and AT are empty. REST is also empty if memory was missing
+ * for the walk. The texts end with a NUL, and are cut off where they don't fit. A later version may use the reserved
  * bytes, which are zero: the structure doesn't get larger while the library's soname stays.
  */
 struct inroot_error {

@@ -45,9 +45,8 @@ static bool is_magic(struct inroot_driver *d, int dir, const char *name)
     return false;
 }
 
-bool inroot_magic_refused(struct inroot_driver *d, int dir, const char *name, int fd, size_t length)
+bool inroot_magic_refused(struct inroot_driver *d, int dir, const char *name, int fd, bool is_last)
 {
-    const struct inroot_ahead *a = &d->ahead;
-    bool is_itself = length > 0 && a->link_may_end && !d->asked->follows && inroot_ahead_is_end(a, a->at + length);
+    bool is_itself = is_last && inroot_takes_link(d->asked) && !d->asked->follows;
     return !is_itself && may_have_magic(fd) && is_magic(d, dir, name);
 }

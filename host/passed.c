@@ -33,6 +33,7 @@ void inroot_passed_end(struct inroot_driver *d, uint64_t handle, size_t length)
 {
     d->passed_handle = length > 0 ? handle : 0;
     d->passed_length = length;
+    d->stands = length > 0 ? (ssize_t)length : -1;
 }
 
 size_t inroot_passed_above(const struct inroot_driver *d, size_t length)

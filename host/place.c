@@ -1,7 +1,7 @@
 /*
- * place.c: which names lead from the root to an object, by two witnesses: the path that getcwd(2) or a link in /proc gives, and
- * the kernel's own look-up of just these names from the root (docs/HOST-WHY.md says what they are worth). If such a look-up
- * opened the object, the second witness has seen it already.
+ * place.c: which names lead from the root to an object. The proved library decides which question comes next, and which place
+ * holds (crates/place_protocol); here each question is asked by its system call. If a look-up below the root opened the object,
+ * the second witness has seen it already.
  */
 #define _GNU_SOURCE
 #include "driver.h"
@@ -19,7 +19,7 @@ static struct inroot_result names(void)
     return (struct inroot_result){.what = INROOT_ANSWER_NAMES};
 }
 
-/* ---- the second witness */
+/* ---- which object it is */
 
 /* Which object it is, while it is open; by which mount, where the kernel tells that; and how many names it has. */
 struct which {
@@ -63,43 +63,13 @@ bool inroot_is_entry(int dir, const char *name, int fd, enum inroot_kind *kind)
     return inroot_is_same_object(&a.object, &b.object, false);
 }
 
-/* Where the root was mounted over itself since it was opened, `..` leads to it by that mount. */
-static bool is_same(int fd, int other, bool is_root, uint64_t *links)
-{
-    struct which a, b;
-    if (!find_which(fd, "", &a) || !find_which(other, "", &b))
-        return false;
-    *links = b.links;
-    return inroot_is_same_object(&a.object, &b.object, is_root);
-}
-
-/*
- * Whether the kernel's look-up from the root, by the names of a text that begins with a slash, comes to this object. The call
- * goes on with what was found there, so that no step rests on the numbers that were compared. How many names it has is told.
- * -1 with errno where that can't be asked.
- */
-static int agrees(struct inroot_driver *d, int root, struct inroot_slot *slot, const char *text, uint64_t *links)
-{
-    bool is_root = text[1] == 0;
-    int found = inroot_look_up(d, root, is_root ? "." : text + 1, O_NOFOLLOW, RESOLVE_BENEATH);
-    if (found < 0)
-        return inroot_is_elsewhere((uint32_t)errno) ? 0 : -1;
-    bool same = is_same(slot->fd, found, is_root, links);
-    close(same ? slot->fd : found);
-    if (same)
-        slot->fd = found;
-    if (same && is_root)
-        slot->way = INROOT_BY_ROOT;
-    return same;
-}
-
 bool inroot_look_first(struct inroot_driver *d, int root, struct inroot_slot *slot, const char *text)
 {
-    uint64_t links;
+    enum inroot_kind kind;
     int found = inroot_look_up(d, root, text + 1, O_NOFOLLOW, RESOLVE_BENEATH);
     if (found < 0)
         return false;
-    bool same = is_same(slot->fd, found, false, &links);
+    bool same = inroot_is_entry(found, "", slot->fd, &kind);
     close(same ? slot->fd : found);
     if (!same)
         return false;
@@ -108,33 +78,47 @@ bool inroot_look_first(struct inroot_driver *d, int root, struct inroot_slot *sl
     return true;
 }
 
-/* ---- the first witness: links in /proc */
+/* ---- one question after another */
 
-/* The path of a link that has this name in a directory of /proc, without a NUL, or -1 with errno. */
-static ssize_t read_link(int dir, const char *name, char text[INROOT_TEXT_MAX])
+/* What is asked about one object. The texts stay where they are until the place is told. */
+struct search {
+    struct inroot_driver *d;
+    int root, found;                         /* what the last look-up opened, or none */
+    struct inroot_slot *slot;
+    const struct inroot_kept_root *kept;
+    struct inroot_place_facts facts;
+    struct inroot_place_answer answer;
+    struct inroot_place_told told;
+    const char *path;                        /* the root's: what is kept of it, or what its link told */
+    char *above, *text, *again;              /* rooms for that link, for the object's text, for what is read once more */
+    size_t path_length, text_length, again_length;
+};
+
+/* Notes what a system call gave: a text's length, or -1 with errno. Gives how long the text is. */
+static size_t note(struct search *s, ssize_t length)
 {
-    ssize_t length = readlinkat(dir, name, text, INROOT_TEXT_MAX);
-    if (length == INROOT_TEXT_MAX) {
-        errno = ENAMETOOLONG;
-        return -1;
-    }
-    if (length < 0 && errno == ENOENT)
-        errno = ENOSYS;
-    return length;
+    s->answer.error = length < 0 ? (uint32_t)errno : 0;
+    return length < 0 ? 0 : (size_t)length;
 }
 
-/* The same of a descriptor, by /proc itself. It is this thread's, whichever thread of which process this is by now. */
-static ssize_t link_of(int proc, int fd, char *text)
+/* ---- links in /proc */
+
+/* The text of a descriptor's link, by /proc itself. It is this thread's, whichever thread of which process this is by now. */
+static ssize_t link_of(struct inroot_driver *d, int fd, char *text)
 {
     char written[INROOT_PROC_NAME];
-    return read_link(proc, inroot_proc_name(fd, written), text);
+    int proc = inroot_proc_for(d);
+    if (proc >= 0)
+        return readlinkat(proc, inroot_proc_name(fd, written), text, INROOT_TEXT_MAX);
+    errno = -proc;
+    return -1;
 }
 
 /* By a directory of this thread's descriptors. */
 static ssize_t link_in(int table, int fd, char *text)
 {
     char written[INROOT_PROC_NAME];
-    return read_link(table, inroot_proc_name(fd, written) + sizeof INROOT_PROC_TABLE - 1, text);
+    return readlinkat(table, inroot_proc_name(fd, written) + sizeof INROOT_PROC_TABLE - 1, text, INROOT_TEXT_MAX);
 }
 
 /* By the table that this thread keeps open, or -1. One that doesn't have the link was closed, and is forgotten. */
@@ -149,206 +133,154 @@ static ssize_t link_in_table(int fd, char *text)
     return length;
 }
 
-/* Keeps of a text the place that the proved call found in it, with a NUL. Gives how long it is: 0 where the text tells none. */
-static ssize_t keep_place(char *text, const struct inroot_place *place)
+static ssize_t object_link(const struct search *s, char *text)
 {
-    memmove(text, text + place->start, place->length);
-    text[place->length] = 0;
-    return (ssize_t)place->length;
+    ssize_t length = link_in_table(s->slot->fd, text);
+    return length >= 0 ? length : link_of(s->d, s->slot->fd, text);
 }
 
-/* The place by a root's path, an object's, and the root's again; each as the kernel told it. */
-static void find_between(const char *before, ssize_t root_length, const char *text, ssize_t length, const char *after,
-                         ssize_t again_length, struct inroot_place *place)
+/* By the table that is kept of a root that stays. */
+static ssize_t kept_link(const struct search *s)
 {
-    inroot_place_between((const unsigned char *)before, (size_t)root_length, (const unsigned char *)text, (size_t)length,
-                         (const unsigned char *)after, (size_t)again_length, place);
+    ssize_t length = s->kept->table >= 0 ? link_in(s->kept->table, s->slot->fd, s->text) : -1;
+    return length >= 0 ? length : link_of(s->d, s->slot->fd, s->text);
 }
 
-/* The same where one path of the root's is enough. */
-static void find_behind(const char *root, ssize_t root_length, const char *text, ssize_t length, struct inroot_place *place)
+static void read_root(struct search *s)
 {
-    find_between(root, root_length, text, length, root, root_length, place);
+    s->path_length = note(s, link_of(s->d, s->root, s->above));
+    s->path = s->above;
 }
 
-/* The same where the root's path has to be read again. -1 with errno where its links tell nothing. */
-static int find_again(struct inroot_driver *d, int proc, int root, const char *above, ssize_t above_length, const char *text,
-                      ssize_t length, struct inroot_place *place)
+static bool tells_own_root(const struct search *s)
 {
-    char again[INROOT_TEXT_MAX];
-    if (!inroot_own_root_tells(d, proc)) {
-        errno = EOPNOTSUPP;
-        return -1;
-    }
-    ssize_t after = link_of(proc, root, again);
-    if (after >= 0)
-        find_between(above, above_length, text, length, again, after, place);
-    return after < 0 ? -1 : 0;
+    int proc = inroot_proc_for(s->d);
+    return proc >= 0 && inroot_own_root_tells(s->d, proc);
 }
 
-/*
- * The place below a root that is given by its descriptor: 0, or -1 with errno. Where there is no second witness the root's path
- * is read before the object's and after it.
- */
-static int by_links(struct inroot_driver *d, int root, int fd, char *text, struct inroot_place *place)
+/* ---- getcwd(2) */
+
+static ssize_t read_cwd(char *text, size_t size)
 {
-    char above[INROOT_TEXT_MAX];
-    int proc = inroot_proc_for(d);
-    if (proc < 0) {
-        errno = -proc;
-        return -1;
-    }
-    ssize_t before = link_of(proc, root, above);
-    ssize_t path = before < 0 ? before : link_of(proc, fd, text);
-    if (path < 0)
-        return -1;
-    if (!inroot_has_openat2())
-        return find_again(d, proc, root, above, before, text, path, place);
-    find_behind(above, before, text, path, place);
-    return 0;
+    return (ssize_t)syscall(SYS_getcwd, text, size);
 }
 
-/*
- * The same by what is kept of a root that stays (INROOT_ROOT_STAYS). Whether that tells a place: it doesn't if the program has
- * broken its promise, or the object is elsewhere. Then the links are asked.
- */
-static bool is_by_kept(struct inroot_driver *d, int root, int fd, char *text, struct inroot_place *place)
-{
-    const struct inroot_kept_root *kept = inroot_root_kept(root);
-    if (kept == NULL || kept->length == 0 || !inroot_has_openat2())
-        return false;
-    ssize_t length = kept->table >= 0 ? link_in(kept->table, fd, text) : -1;
-    if (length < 0) {
-        int proc = inroot_proc_for(d);
-        length = proc < 0 ? -1 : link_of(proc, fd, text);
-    }
-    if (length >= 0)
-        find_behind(kept->path, (ssize_t)kept->length, text, length, place);
-    return length >= 0 && place->length > 0;
-}
-
-/* In a thread whose root it is: the link's path of what is inside begins there. That of what is outside begins at the top. */
-static ssize_t path_of(struct inroot_driver *d, int fd, char *text)
-{
-    ssize_t length = link_in_table(fd, text);
-    if (length >= 0)
-        return length;
-    int proc = inroot_proc_for(d);
-    if (proc >= 0)
-        return link_of(proc, fd, text);
-    errno = -proc;
-    return -1;
-}
-
-/* The place in such a thread. */
-static int by_own_root(struct inroot_driver *d, int fd, char *text, struct inroot_place *place)
-{
-    ssize_t length = path_of(d, fd, text);
-    if (length >= 0)
-        find_behind("/", 1, text, length, place);
-    return length < 0 ? -1 : 0;
-}
-
-/*
- * Whether a place holds where the thread has no openat2(2). What is gone is called so: a directory that isn't dead has that
- * name, and of what may have several links nothing can be known.
- */
-static bool holds_alone(const struct inroot_slot *slot, bool gone)
-{
-    return !gone || (slot->kind == INROOT_KIND_DIR && !inroot_is_dead(slot->fd));
-}
-
-/*
- * Whether what the look-up found wasn't gone by then: the kernel may find what is removed before it looks where that is. So its
- * link is read once more. A directory that has a name isn't gone, but for overlayfs; and a dead one leads nowhere.
- */
-static int stays_named(struct inroot_driver *d, const struct inroot_slot *slot, const char *text, size_t length, uint64_t links)
-{
-    char again[INROOT_TEXT_MAX];
-    if (slot->kind == INROOT_KIND_DIR && links > 0)
-        return 1;
-    ssize_t now = path_of(d, slot->fd, again);
-    return now < 0 ? -1 : inroot_is_named((const unsigned char *)again, (size_t)now, (const unsigned char *)text, length);
-}
-
-/* Whether the second witness says the same as this text, where there is one and it hasn't spoken yet; -1 with errno. */
-static int is_confirmed(struct inroot_driver *d, int root, struct inroot_slot *slot, const char *text, size_t length, bool gone)
-{
-    if (!inroot_has_openat2())
-        return holds_alone(slot, gone);
-    if (slot->way == INROOT_SEEN_BELOW)
-        return 1;
-    uint64_t links = 0;
-    int agreed = agrees(d, root, slot, text, &links);
-    return agreed > 0 ? stays_named(d, slot, text, length, links) : agreed;
-}
-
-/* The path below the root by both witnesses, where /proc is the first: 0 where it has none, or -1 with errno. */
-static ssize_t confirmed_path(struct inroot_driver *d, int root, struct inroot_slot *slot, char *text)
-{
-    struct inroot_place place;
-    int failed = root == INROOT_JAILED ? by_own_root(d, slot->fd, text, &place)
-                 : is_by_kept(d, root, slot->fd, text, &place) ? 0
-                                                               : by_links(d, root, slot->fd, text, &place);
-    ssize_t told = failed ? -1 : keep_place(text, &place);
-    if (told <= 0)
-        return told;
-    int confirmed = is_confirmed(d, root, slot, text, (size_t)told, place.gone);
-    return confirmed > 0 ? told : confirmed;
-}
-
-static struct inroot_result by_text(struct inroot_driver *d, int root, struct inroot_slot *slot, char *text, size_t *length)
-{
-    bool has_second = inroot_has_openat2();
-    ssize_t told = confirmed_path(d, root, slot, text);
-    /* A filter has refused the look-up just now: without it other questions are asked. */
-    if (told < 0 && has_second && !inroot_has_openat2())
-        told = confirmed_path(d, root, slot, text);
-    /* Where the witnesses don't agree, neither says that it stood elsewhere at one moment: so the step isn't made. */
-    if (told <= 0)
-        return inroot_unmade(d, told < 0 ? errno : EAGAIN);
-    *length = (size_t)told;
-    return names();
-}
-
-/* ---- the first witness: getcwd(2) */
-
-/*
- * In a jail one answer of the kernel tells all of a directory: its path begins with '(unreachable)' outside, and what is gone has
- * none. But the kernel looks whether it is gone before it takes the names. So that is asked again, for removal is for good;
- * not of what was seen below the root before.
- */
-static struct inroot_result by_directory(struct inroot_driver *d, struct inroot_slot *slot, char *text, size_t *length)
+/* A room of one byte is too small for any path, so the error tells whether there is one. */
+static void read_cwd_again(struct search *s)
 {
     char none[1];
-    struct inroot_place place;
-    if (!inroot_jail_enter(d, slot->fd)) {
-        /* A directory that may not be searched can be where a path ends, and leads nowhere. */
-        if (errno == EACCES && slot->way != INROOT_BY_PARENT)
-            return by_text(d, INROOT_JAILED, slot, text, length);
-        return inroot_unmade(d, errno);
+    note(s, read_cwd(none, sizeof none));
+}
+
+/* ---- the kernel's own look-up */
+
+/* Compares what was found with the object. If they can't be compared, that counts as others' doing. */
+static void compare(struct search *s)
+{
+    struct which held, found;
+    if (!find_which(s->slot->fd, "", &held) || !find_which(s->found, "", &found)) {
+        s->answer.error = EAGAIN;
+        return;
     }
-    long got = syscall(SYS_getcwd, text, (size_t)INROOT_TEXT_MAX);
-    if (got < 0)
-        return errno == ENOENT ? names() : inroot_unmade(d, errno);
-    if (slot->way != INROOT_SEEN_BELOW && syscall(SYS_getcwd, none, sizeof none) < 0 && errno == ENOENT)
-        return names();
-    inroot_place_of_cwd((const unsigned char *)text, (size_t)got, &place);
-    *length = (size_t)keep_place(text, &place);
-    if (*length == 1)
-        slot->way = INROOT_BY_ROOT;
-    return names();
+    s->answer.held = held.object;
+    s->answer.found = found.object;
+    s->answer.links = found.links;
+}
+
+/* The names are the end of the object's text. */
+static void look_up(struct search *s)
+{
+    const char *sought = ".";
+    if (s->told.length > 1) {
+        sought = s->text + s->told.start + 1;
+        s->text[s->told.start + s->told.length] = 0;
+    }
+    s->found = inroot_look_up(s->d, s->root, sought, O_NOFOLLOW, RESOLVE_BENEATH);
+    note(s, s->found);
+    if (s->found >= 0)
+        compare(s);
+    else
+        s->answer.yes = !inroot_has_openat2();
+}
+
+/* The call goes on with what the look-up found, if it is the object, so that no step rests on the numbers that were compared. */
+static void take_found(struct search *s)
+{
+    bool is_object = s->told.what != INROOT_PLACE_UNMADE;
+    close(is_object ? s->slot->fd : s->found);
+    if (is_object)
+        s->slot->fd = s->found;
+    s->found = INROOT_NONE;
 }
 
 /* ---- */
 
+static void ask(struct search *s)
+{
+    s->answer.error = 0;
+    s->answer.yes = false;
+    switch (s->told.what) {
+    case INROOT_PLACE_ENTER: note(s, inroot_jail_enter(s->d, s->slot->fd) ? 0 : -1); break;
+    case INROOT_PLACE_CWD: s->text_length = note(s, read_cwd(s->text, INROOT_TEXT_MAX)); break;
+    case INROOT_PLACE_CWD_AGAIN: read_cwd_again(s); break;
+    case INROOT_PLACE_KEPT_LINK: s->text_length = note(s, kept_link(s)); break;
+    case INROOT_PLACE_ROOT_LINK: read_root(s); break;
+    case INROOT_PLACE_OBJECT_LINK: s->text_length = note(s, object_link(s, s->text)); break;
+    case INROOT_PLACE_OWN_ROOT: s->answer.yes = tells_own_root(s); break;
+    case INROOT_PLACE_ROOT_AGAIN: s->again_length = note(s, link_of(s->d, s->root, s->again)); break;
+    case INROOT_PLACE_LOOK_UP: look_up(s); break;
+    case INROOT_PLACE_LINK_AGAIN: s->again_length = note(s, object_link(s, s->again)); break;
+    case INROOT_PLACE_DEAD: s->answer.yes = inroot_is_dead(s->slot->fd); break;
+    }
+}
+
+static void converse(struct search *s)
+{
+    inroot_place_begin(&s->facts, &s->told);
+    while (s->told.what < INROOT_PLACE_STANDS) {
+        ask(s);
+        inroot_place_next(&s->facts, &s->answer, (const unsigned char *)s->path, s->path_length, (const unsigned char *)s->text,
+                          s->text_length, (const unsigned char *)s->again, s->again_length, &s->told);
+        if (s->found >= 0)
+            take_found(s);
+    }
+}
+
+/* Lays the place out at the beginning of the text, with a NUL. */
+static struct inroot_result tell(const struct search *s, size_t *length)
+{
+    if (s->told.what == INROOT_PLACE_UNMADE)
+        return inroot_unmade(s->d, (int)s->told.error);
+    *length = s->told.length;
+    memmove(s->text, s->text + s->told.start, *length);
+    s->text[*length] = 0;
+    if (s->told.is_root)
+        s->slot->way = INROOT_BY_ROOT;
+    return names();
+}
+
 struct inroot_result inroot_find_place(struct inroot_driver *d, int root, struct inroot_slot *slot, char *text,
                                        size_t *length)
 {
+    char above[INROOT_TEXT_MAX], again[INROOT_TEXT_MAX];
+    const struct inroot_kept_root *kept = inroot_root_kept(root);
+    bool is_kept = kept != NULL && kept->length > 0;
+    struct search s = {
+        .d = d, .root = root, .found = INROOT_NONE, .slot = slot, .kept = kept,
+        .facts = {
+            .jailed = root == INROOT_JAILED,
+            .directory = slot->kind == INROOT_KIND_DIR,
+            .seen = slot->way == INROOT_SEEN_BELOW,
+            .by_parent = slot->way == INROOT_BY_PARENT,
+            .second = inroot_has_openat2(),
+            .kept = is_kept,
+        },
+        .path = is_kept ? kept->path : above, .path_length = is_kept ? kept->length : 0,
+        .above = above, .text = text, .again = again,
+    };
     *length = 0;
-    struct inroot_result result = root == INROOT_JAILED && slot->kind == INROOT_KIND_DIR
-                                      ? by_directory(d, slot, text, length)
-                                      : by_text(d, root, slot, text, length);
+    converse(&s);
+    struct inroot_result result = tell(&s, length);
     if (slot->way == INROOT_SEEN_BELOW)
         slot->way = INROOT_BY_NAME;
     return result;

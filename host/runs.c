@@ -15,74 +15,50 @@
 #include <sys/stat.h>
 #include <unistd.h>
 
-/* Names as one text, and where it ends in what is left of the path. `..` may follow on the last. */
-struct spelled {
-    int count;
-    bool up;
-    size_t ends, used;
-    char text[INROOT_TEXT_MAX];
-};
+/* ---- which names come next */
 
-/* Adds a part behind a slash, where it fits with a NUL. */
-static bool append(struct spelled *run, const char *part, size_t length)
+/* Leaves out all but so many names, if there are more. */
+static void cut(struct inroot_coming *run, size_t names)
 {
-    size_t at = run->used > 0 ? run->used + 1 : 0;
-    if (at + length >= sizeof run->text)
-        return false;
-    if (at > 0)
-        run->text[run->used] = '/';
-    memcpy(run->text + at, part, length);
-    run->used = at + length;
-    run->text[run->used] = 0;
-    return true;
+    size_t end = 0;
+    if (names >= run->ahead.names)
+        return;
+    for (size_t count = 0; count < names; count++)
+        end = (size_t)(strchr(run->text + end + 1, '/') - run->text);
+    run->ahead = (struct inroot_ahead_names){.names = names, .used = end};
+    run->text[end] = 0;
 }
 
-/* At most so many names from the next one on, over any `.` between them, and while they fit. */
-static void spell(const struct inroot_ahead *a, int most, struct spelled *run)
+/* Whether these are all that is left of the path, and no slash or `.` is behind them. */
+static bool is_end(const struct inroot_driver *d, const struct inroot_coming *run)
 {
-    size_t length;
-    run->count = 0;
-    run->up = false;
-    run->used = run->ends = 0;
-    for (size_t at = inroot_ahead_skip(a, a->at); at < a->until && run->count < most; at = inroot_ahead_skip(a, at + length)) {
-        const char *part = a->text + at;
-        size_t dots = inroot_ahead_dots(a, at);
-        length = (size_t)(strchrnul(part, '/') - part);
-        if (dots == 1)
-            continue;
-        if ((dots == 2 && run->count == 0) || !append(run, part, length))
-            return;
-        run->ends = at + length;
-        run->up = dots == 2;
-        if (run->up)
-            return;
-        run->count++;
-    }
+    return run->ahead.ends && !run->ahead.dot && inroot_walks_whole(d->asked);
 }
 
 /*
  * What openat2(2) is to open at the end: a directory where the path goes on; what it is where the path ends, a link
  * as well only where it isn't followed.
  */
-static uint64_t flags_of(const struct inroot_ahead *a, const struct spelled *run)
+static uint64_t flags_of(const struct inroot_driver *d, const struct inroot_coming *run)
 {
-    if (run->up)
+    if (run->ahead.up)
         return 0;
-    if (!inroot_ahead_is_end(a, run->ends) || a->directory)
+    if (!is_end(d, run) || inroot_wants_directory(d->asked))
         return O_DIRECTORY;
-    return a->link_may_end ? O_NOFOLLOW : 0;
+    return inroot_takes_link(d->asked) ? O_NOFOLLOW : 0;
 }
 
 /*
  * How what these names lead to from a handle is come to. Where they are the rest of the walk, from the root, its place is asked
  * for next, so that the kernel is to see it below the root.
  */
-static enum inroot_way way_of(struct inroot_driver *d, uint64_t handle, const struct spelled *run)
+static enum inroot_way way_of(struct inroot_driver *d, uint64_t handle, const struct inroot_coming *run)
 {
-    const struct inroot_ahead *a = &d->ahead;
-    bool is_rest = !run->up && inroot_ahead_skip(a, run->ends) == a->until;
-    return is_rest && inroot_handles_slot(d, handle)->way == INROOT_BY_ROOT ? INROOT_SEEN_BELOW : INROOT_BY_NAME;
+    bool is_rest = run->ahead.ends && inroot_handles_slot(d, handle)->way == INROOT_BY_ROOT;
+    return is_rest ? INROOT_SEEN_BELOW : INROOT_BY_NAME;
 }
+
+/* ---- names that are passed */
 
 /* What kind of object was opened, where the kernel was not asked for a directory. */
 static bool find_kind(struct inroot_run *run, uint64_t flags, bool up)
@@ -109,27 +85,27 @@ static bool is_kind_left_out(const struct inroot_driver *d, uint64_t handle, int
 }
 
 /* How long the names are that the walk stands at behind these: without the last of them where `..` follows. */
-static size_t stands_at(struct inroot_driver *d, uint64_t handle, const struct spelled *run)
+static size_t stands_at(struct inroot_driver *d, uint64_t handle, const struct inroot_coming *run)
 {
-    size_t length = handle == 0 ? 0 : inroot_passed_put(d, handle, run->text, run->used);
-    for (int left = run->up ? 2 : 0; left > 0; left--)
+    size_t length = handle == 0 ? 0 : inroot_passed_put(d, handle, run->text + 1, run->ahead.used - 1);
+    for (int left = run->ahead.up ? 2 : 0; left > 0; left--)
         length = inroot_passed_above(d, length);
     return length;
 }
 
 /* Whether these names were passed. */
-static bool pass(struct inroot_driver *d, uint64_t handle, int dir, const struct spelled *spelled, enum inroot_way way)
+static bool pass(struct inroot_driver *d, uint64_t handle, int dir, const struct inroot_coming *names, enum inroot_way way)
 {
-    uint64_t flags = flags_of(&d->ahead, spelled);
+    uint64_t flags = flags_of(d, names);
     const bool stays = d->asked->flags & INROOT_NO_XDEV;
     const uint64_t resolve = (way == INROOT_SEEN_BELOW ? RESOLVE_BENEATH : 0) | (stays ? RESOLVE_NO_XDEV : 0);
-    d->run.fd = inroot_look_up(d, dir, spelled->text, flags, resolve);
+    d->run.fd = inroot_look_up(d, dir, names->text + 1, flags, resolve);
     if (d->run.fd < 0)
         return false;
-    d->run.way = spelled->up ? INROOT_BY_PARENT : way;
-    d->run.passed = stands_at(d, handle, spelled);
+    d->run.way = names->ahead.up ? INROOT_BY_PARENT : way;
+    d->run.passed = stands_at(d, handle, names);
     d->run.kind = flags & O_DIRECTORY ? INROOT_KIND_DIR : INROOT_KIND_FILE;
-    if (is_kind_left_out(d, handle, dir) || find_kind(&d->run, flags, spelled->up))
+    if (is_kind_left_out(d, handle, dir) || find_kind(&d->run, flags, names->ahead.up))
         return true;
     inroot_run_drop(d);
     errno = EIO;
@@ -140,125 +116,130 @@ static bool pass(struct inroot_driver *d, uint64_t handle, int dir, const struct
  * How many names to try after so many were not passed: all but the last, then half of them. None where it isn't for
  * a name.
  */
-static int fewer(struct inroot_ahead *a, int count, int error)
+static size_t fewer(struct inroot_tries *tries, size_t count, int error)
 {
-    bool first = a->bad == 0;
+    bool first = tries->bad == 0;
     if (error != ENOENT && error != ENOTDIR && error != ELOOP && error != EACCES && error != ENAMETOOLONG)
         return 0;
-    a->bad = count;
-    a->met_link = error == ELOOP;
+    tries->bad = count;
+    tries->met_link = error == ELOOP;
     return first ? count - 1 : count / 2;
 }
 
 /* How many names to try at first. The whole path isn't tried a second time. */
-static int most_of(struct inroot_driver *d)
+static size_t most_of(struct inroot_driver *d)
 {
-    struct inroot_ahead *a = &d->ahead;
-    int tried = d->tried;
-    d->tried = 0;
-    if (tried > 0)
-        return fewer(a, tried, d->tried_error);
-    return a->bad > 0 ? a->bad / 2 : INROOT_TEXT_MAX;
+    size_t whole = d->tries.whole;
+    if (d->asked->flags & INROOT_ONE_BY_ONE || !inroot_has_openat2())
+        return 0;
+    d->tries.whole = 0;
+    if (whole > 0)
+        return fewer(&d->tries, whole, d->tries.whole_error);
+    return d->tries.bad > 0 ? d->tries.bad / 2 : INROOT_TEXT_MAX;
+}
+
+void inroot_run_ask(struct inroot_driver *d, struct inroot_coming *coming)
+{
+    struct inroot_ahead_names *ahead = &coming->ahead;
+    const uint64_t number = (uint64_t)d->serial << 32 | INROOT_PASSED;
+    coming->tries = most_of(d);
+    /* What comes behind the next name matters even if that is tried alone. */
+    size_t most = coming->tries > 2 ? coming->tries : 2;
+    inroot_names_ahead(d->kept, most, number, (unsigned char *)coming->text, INROOT_TEXT_MAX, ahead);
+    coming->text[ahead->used] = 0;
+    coming->behind = ahead->names > 1 ? INROOT_BEHIND_NAME : ahead->ends ? INROOT_BEHIND_END : INROOT_BEHIND_OTHER;
+    coming->is_last = ahead->names == 1 && is_end(d, coming);
 }
 
 /* Which of the names was a link last, and would be followed; or -1. */
-static int first_link(struct inroot_driver *d, uint64_t handle, const struct spelled *run)
+static int first_link(struct inroot_driver *d, uint64_t handle, const struct inroot_coming *run)
 {
-    const struct inroot_ahead *a = &d->ahead;
-    int first = inroot_hints_first(d, handle, run->text, run->up ? run->used - 3 : run->used);
-    bool is_meant_itself = first == run->count - 1 && a->link_may_end && !run->up && inroot_ahead_is_end(a, run->ends);
+    int first = inroot_hints_first(d, handle, run->text + 1, run->ahead.used - (run->ahead.up ? 4 : 1));
+    bool is_meant_itself = (size_t)first + 1 == run->ahead.names && inroot_takes_link(d->asked) && is_end(d, run);
     return is_meant_itself ? -1 : first;
 }
 
 /* At most so many names, and only those before one that was a link last. */
-static void spell_to_link(struct inroot_driver *d, uint64_t handle, int most, struct spelled *run)
+static void cut_to_link(struct inroot_driver *d, uint64_t handle, size_t most, struct inroot_coming *run)
 {
-    spell(&d->ahead, most, run);
-    int before = run->count > 1 ? first_link(d, handle, run) : -1;
+    cut(run, most);
+    int before = run->ahead.names > 1 ? first_link(d, handle, run) : -1;
     if (before > 0)
-        spell(&d->ahead, before, run);
+        cut(run, (size_t)before);
 }
 
 /*
  * Passes the last name behind a link by a look-up from the root, at the names where the walk stands, so that the kernel sees it
  * below the root. The directory that is held must have that same object by that name: then it was opened there.
  */
-static bool pass_from_root(struct inroot_driver *d, uint64_t handle, int dir, const struct spelled *spelled)
+static bool pass_from_root(struct inroot_driver *d, uint64_t handle, int dir, const struct inroot_coming *name)
 {
     struct inroot_run *run = &d->run;
     bool stays = d->asked->flags & INROOT_NO_XDEV;
-    bool is_rest = !spelled->up && inroot_ahead_skip(&d->ahead, spelled->ends) == d->ahead.until;
-    if (d->link == 0 || stays || !is_rest || inroot_handles_slot(d, handle)->way == INROOT_BY_ROOT)
+    if (d->link == 0 || stays || !name->ahead.ends || inroot_handles_slot(d, handle)->way == INROOT_BY_ROOT)
         return false;
-    run->passed = inroot_passed_put(d, handle, spelled->text, spelled->used);
+    run->passed = inroot_passed_put(d, handle, name->text + 1, name->ahead.used - 1);
     if (run->passed == 0)
         return false;
-    run->fd = inroot_look_up(d, d->slots[0].fd, d->passed + 1, flags_of(&d->ahead, spelled), RESOLVE_BENEATH);
+    run->fd = inroot_look_up(d, d->slots[0].fd, d->passed + 1, flags_of(d, name), RESOLVE_BENEATH);
     if (run->fd < 0) {
-        fewer(&d->ahead, 1, errno);
+        fewer(&d->tries, 1, errno);
         return false;
     }
     run->way = INROOT_SEEN_BELOW;
-    if (inroot_is_entry(dir, spelled->text, run->fd, &run->kind))
+    if (inroot_is_entry(dir, name->text + 1, run->fd, &run->kind))
         return true;
     inroot_run_drop(d);
     return false;
 }
 
 /* Passes as many names as it can, and whether there were any: one alone where the kernel is to see it below the root. */
-static bool begin(struct inroot_driver *d, uint64_t handle, int dir, struct spelled *spelled)
+static bool begin(struct inroot_driver *d, uint64_t handle, int dir, struct inroot_coming *coming)
 {
-    int most = most_of(d);
+    size_t most = coming->tries;
     while (most > 0) {
-        spell_to_link(d, handle, most, spelled);
-        enum inroot_way way = way_of(d, handle, spelled);
-        bool is_alone = spelled->count < 2 && !spelled->up;
-        if (is_alone && (spelled->count == 0 || way != INROOT_SEEN_BELOW))
-            return spelled->count == 1 && pass_from_root(d, handle, dir, spelled);
-        if (pass(d, handle, dir, spelled, way))
+        cut_to_link(d, handle, most, coming);
+        enum inroot_way way = way_of(d, handle, coming);
+        bool is_alone = coming->ahead.names == 1 && !coming->ahead.up;
+        if (is_alone && way != INROOT_SEEN_BELOW)
+            return pass_from_root(d, handle, dir, coming);
+        if (pass(d, handle, dir, coming, way))
             return true;
-        most = fewer(&d->ahead, spelled->count, errno);
+        most = fewer(&d->tries, coming->ahead.names, errno);
     }
     return false;
 }
 
-/* Whether these are the whole path, but for a slash before the first. */
-static bool is_whole(const struct inroot_ahead *a, const struct spelled *run)
+bool inroot_run_meets_link(struct inroot_driver *d, const struct inroot_coming *path)
 {
-    size_t slash = a->text[0] == '/' ? 1 : 0;
-    return run->count > 0 && !run->up && run->ends == a->end && slash + run->used == a->end;
+    return first_link(d, 0, path) >= 0;
 }
 
-bool inroot_run_whole(struct inroot_driver *d, int root, int failed)
+bool inroot_run_whole(struct inroot_driver *d, int root, struct inroot_coming *path, int failed)
 {
-    struct spelled spelled;
-    if (d->asked->flags & INROOT_ONE_BY_ONE || !d->ahead.known)
-        return false;
-    spell(&d->ahead, INROOT_TEXT_MAX, &spelled);
-    if (!is_whole(&d->ahead, &spelled) || first_link(d, 0, &spelled) >= 0)
-        return false;
-    if (failed == 0 && pass(d, 0, root, &spelled, INROOT_SEEN_BELOW))
+    if (failed == 0 && pass(d, 0, root, path, INROOT_SEEN_BELOW))
         return true;
-    d->tried_error = failed ? failed : errno;
-    d->tried = spelled.count;
+    d->tries.whole_error = failed ? failed : errno;
+    d->tries.whole = path->ahead.names;
     return false;
 }
 
-bool inroot_run_begin(struct inroot_driver *d, struct inroot_told *told, char *room, struct inroot_result *result)
+bool inroot_run_begin(struct inroot_driver *d, struct inroot_told *told, char *room, struct inroot_coming *coming,
+                      struct inroot_result *result)
 {
     int dir;
-    struct spelled spelled;
-    struct inroot_ahead *a = &d->ahead;
-    bool is_single = d->asked->flags & INROOT_ONE_BY_ONE || a->makes || !inroot_has_openat2();
-    if (is_single || !inroot_handles_reserve(d) || inroot_handles_fd(d, told->handle, &dir) != 0)
+    if (coming->tries == 0 || !inroot_handles_reserve(d) || inroot_handles_fd(d, told->handle, &dir) != 0)
         return false;
-    if (!begin(d, told->handle, dir, &spelled))
+    if (!begin(d, told->handle, dir, coming))
         return false;
-    a->at = spelled.ends;
-    a->bad -= a->bad < spelled.count ? a->bad : spelled.count;
-    *result = inroot_run_tell(d, told, room, spelled.text, (size_t)(spelled.up ? spelled.count : spelled.count - 1));
+    size_t names = coming->ahead.names, bad = d->tries.bad;
+    d->tries.bad -= bad < names ? bad : names;
+    d->run.ends = coming->ahead.ends;
+    *result = inroot_run_tell(d, told, room, coming->text + 1, coming->ahead.up ? names : names - 1);
     return true;
 }
+
+/* ---- what is reported of them */
 
 /* Whether the step that is due is the Open of this part in a directory, or the Parent of it where the part is `..`. */
 static bool is_due(const struct inroot_told *told, const char *room, uint64_t dir, const char *part, size_t length)
@@ -310,6 +291,10 @@ struct inroot_result inroot_run_tell(struct inroot_driver *d, struct inroot_told
         return (struct inroot_result){0};
     }
     inroot_error_note(d, told, room);
+    if (run->ends)
+        inroot_error_note_end(d);
+    else
+        inroot_error_note_rest(d, told->what == INROOT_STEP_OPEN);
     uint64_t handle = inroot_handles_put(d, run->fd, run->kind, run->way, from);
     inroot_passed_end(d, handle, run->passed);
     run->fd = INROOT_NONE;

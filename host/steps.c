@@ -113,44 +113,70 @@ static struct inroot_result open_name(struct inroot_driver *d, uint64_t dir, con
     return errno == ENOTDIR ? open_any(d, dir, entry) : inroot_refused(d, errno);
 }
 
-/* Whether the next name, which is so long, should be a directory: not the last name, nor one that was none just now. */
-static bool expects_directory(const struct inroot_ahead *a, size_t length)
-{
-    return a->bad != 1 && (a->directory || !inroot_ahead_is_end(a, a->at + length));
-}
-
-/* Moves past the next name. A link that is followed is no place where the walk stands, and is looked for the next time. */
-static void pass_alone(struct inroot_driver *d, const struct inroot_told *step, const char *name,
-                       const struct inroot_result *opened)
-{
-    struct inroot_ahead *a = &d->ahead;
-    inroot_ahead_pass(a, step->first);
-    if (opened->kind == INROOT_KIND_LINK && !(a->link_may_end && inroot_ahead_is_end(a, a->at)))
-        inroot_hints_tell(d, step->handle, name, step->first, true);
-    else
-        inroot_passed_end(d, opened->handle, inroot_passed_put(d, step->handle, name, step->first));
-}
-
-/* Opens one name by itself: the next one of the path, or another. */
+/* Opens one name by itself. If that is the last part of the path, a link there may be what it means. */
 static struct inroot_result open_alone(struct inroot_driver *d, const struct inroot_told *step, const char *name,
-                                       bool foreseen)
+                                       bool is_expected, bool is_last)
 {
     struct entry entry;
     int error = find(d, step->handle, name, step->first, &entry);
     if (error)
         return inroot_unmade(d, error);
-    bool is_expected = !foreseen || expects_directory(&d->ahead, step->first);
     struct inroot_result result = open_name(d, step->handle, &entry, is_expected);
     if (result.what == INROOT_ANSWER_OPENED && result.kind == INROOT_KIND_LINK && d->asked->flags & INROOT_NO_MAGICLINKS) {
         int fd = inroot_handles_slot(d, result.handle)->fd, dir;
         inroot_handles_fd(d, step->handle, &dir);
-        if (inroot_magic_refused(d, dir, name, fd, foreseen ? step->first : 0)) {
+        if (inroot_magic_refused(d, dir, name, fd, is_last)) {
             inroot_handles_close(d, result.handle);
             return inroot_refused(d, ELOOP);
         }
     }
-    if (foreseen && result.what == INROOT_ANSWER_OPENED)
-        pass_alone(d, step, name, &result);
+    return result;
+}
+
+/* Keeps by which names the walk has come to what was opened by a name. */
+static void stand_at(struct inroot_driver *d, const struct inroot_told *step, const char *name, const struct inroot_result *opened)
+{
+    inroot_passed_end(d, opened->handle, inroot_passed_put(d, step->handle, name, step->first));
+}
+
+/*
+ * The same of the next name of the path, which should be a directory: not the last name, nor one that was none just now. A link
+ * that is followed is no place where the walk stands, and is looked for the next time.
+ */
+static struct inroot_result open_one(struct inroot_driver *d, const struct inroot_told *step, const char *name,
+                                     const struct inroot_coming *coming)
+{
+    bool is_last = coming->is_last;
+    bool is_expected = d->tries.bad != 1 && (inroot_wants_directory(d->asked) || !is_last);
+    struct inroot_result result = open_alone(d, step, name, is_expected, is_last);
+    if (result.what != INROOT_ANSWER_OPENED)
+        return result;
+    d->tries.bad -= d->tries.bad > 0;
+    if (result.kind == INROOT_KIND_LINK && !(is_last && inroot_takes_link(d->asked)))
+        inroot_hints_tell(d, step->handle, name, step->first, true);
+    else
+        stand_at(d, step, name, &result);
+    return result;
+}
+
+/* Keeps what is left behind a name, or with it. In a directory the call opens the name behind it, and fails there at the soonest. */
+static void note_rest(struct inroot_driver *d, const struct inroot_coming *coming, const struct inroot_result *result)
+{
+    bool is_opened = result->what == INROOT_ANSWER_OPENED;
+    if (is_opened && coming->behind == INROOT_BEHIND_END)
+        inroot_error_note_end(d);
+    else if (!is_opened || result->kind != INROOT_KIND_DIR || coming->behind == INROOT_BEHIND_OTHER)
+        inroot_error_note_rest(d, is_opened);
+}
+
+/* Opens a name that is none of the path's, or one that the call has made. */
+static struct inroot_result open_other(struct inroot_driver *d, const struct inroot_told *step, const char *name)
+{
+    struct inroot_result result = open_alone(d, step, name, true, false);
+    if (d->asked->op == INROOT_ASK_MKDIR_ALL && result.what == INROOT_ANSWER_OPENED) {
+        inroot_error_note_made(d);
+        stand_at(d, step, name, &result);
+    }
     return result;
 }
 
@@ -158,16 +184,26 @@ static struct inroot_result open_alone(struct inroot_driver *d, const struct inr
 static struct inroot_result open_next(struct inroot_driver *d, struct inroot_told *step, char *name, char *text)
 {
     struct inroot_result result;
-    bool foreseen = inroot_ahead_is(&d->ahead, name, step->first);
-    if (!foreseen) {
-        inroot_error_note(d, step, name);
-        return open_alone(d, step, name, false);
-    }
-    inroot_error_note_next(d, step->first);
-    if (inroot_followed_open(d, step, name, text, false, &result) || inroot_run_begin(d, step, name, &result))
+    struct inroot_coming coming;
+    inroot_error_note(d, step, name);
+    inroot_run_ask(d, &coming);
+    if (coming.ahead.names == 0)
+        return open_other(d, step, name);
+    d->rest_is = INROOT_REST_UNKNOWN;
+    bool is_read = inroot_followed_open(d, step, name, &coming, text, false, &result);
+    if (!is_read && inroot_run_begin(d, step, name, &coming, &result))
         return result;
-    /* Where that has met a link, it may be this one. */
-    return inroot_followed_open(d, step, name, text, true, &result) ? result : open_alone(d, step, name, true);
+    /* Where a run has met a link, it may be this one. */
+    if (!is_read && !inroot_followed_open(d, step, name, &coming, text, true, &result))
+        result = open_one(d, step, name, &coming);
+    note_rest(d, &coming, &result);
+    return result;
+}
+
+/* Whether the call goes on by a name, of the path or of the entry. Keeps what is left of the path. */
+static bool goes_on(struct inroot_driver *d)
+{
+    return inroot_error_note_rest(d, 0) || !inroot_walks_whole(d->asked);
 }
 
 /*
@@ -182,8 +218,7 @@ static struct inroot_result open_root(struct inroot_driver *d, uint64_t root)
         return inroot_unmade(d, error);
     if (!inroot_handles_reserve(d))
         return inroot_unmade(d, ENOMEM);
-    inroot_ahead_dup(&d->ahead);
-    if (inroot_ahead_has_name(&d->ahead)) {
+    if (goes_on(d)) {
         uint64_t handle = inroot_handles_share(d, root);
         /* No system call has seen whether the root is one. */
         d->steps--;
@@ -241,11 +276,10 @@ static struct inroot_result open_parent(struct inroot_driver *d, uint64_t handle
         return inroot_unmade(d, error);
     if (!inroot_handles_reserve(d))
         return inroot_unmade(d, ENOMEM);
-    if (!inroot_above_open(d, handle, above.dir, &result))
+    if (!inroot_above_open(d, handle, above.dir, goes_on(d), &result))
         result = open_up(d, handle, &above);
     if (result.what != INROOT_ANSWER_OPENED)
         return result;
-    inroot_ahead_pass_up(&d->ahead);
     if (!lived && inroot_is_dead(above.dir)) {
         inroot_handles_close(d, result.handle);
         return inroot_refused(d, ENOENT);
@@ -255,21 +289,24 @@ static struct inroot_result open_parent(struct inroot_driver *d, uint64_t handle
 
 /* ---- other steps */
 
-/* Whether the link is on a mount that follows no link (mount(8), nosymfollow). readlink(2) still works there. */
-static bool is_kept_from_following(const struct inroot_driver *d, int fd)
+/*
+ * Whether the link is on a mount that follows no link (mount(8), nosymfollow). readlink(2) still works there: a walk has come to
+ * the link that it was to find where its place was asked for.
+ */
+static bool is_kept_from_following(const struct inroot_driver *d, uint64_t handle, int fd)
 {
     struct statfs about;
-    bool is_asked_for = d->asked->op == INROOT_ASK_READLINK && !d->asked->follows && inroot_ahead_is_end(&d->ahead, d->ahead.at);
+    bool is_asked_for = handle == d->came_to && !d->asked->follows;
     return !is_asked_for && fstatfs(fd, &about) == 0 && about.f_flags & INROOT_NOSYMFOLLOW;
 }
 
 /* Of a link that was read as it was opened: its text lies there still. */
-static struct inroot_result tell_link(struct inroot_driver *d, const char *text, size_t *length)
+static struct inroot_result tell_link(struct inroot_driver *d, size_t *length)
 {
     if (inroot_followed_is_kept(d))
         return inroot_refused(d, ELOOP);
     *length = d->link_length;
-    inroot_ahead_put(&d->ahead, text, *length);
+    d->tries.bad = 0;
     return (struct inroot_result){.what = INROOT_ANSWER_TEXT};
 }
 
@@ -281,11 +318,11 @@ static struct inroot_result read_link(struct inroot_driver *d, uint64_t handle, 
 {
     int fd;
     if (handle == d->link)
-        return tell_link(d, text, length);
+        return tell_link(d, length);
     int error = inroot_handles_fd(d, handle, &fd);
     if (error)
         return inroot_unmade(d, error);
-    if (is_kept_from_following(d, fd))
+    if (is_kept_from_following(d, handle, fd))
         return inroot_unmade(d, ELOOP);
     ssize_t got;
     do
@@ -297,7 +334,7 @@ static struct inroot_result read_link(struct inroot_driver *d, uint64_t handle, 
         return is_link ? inroot_unmade(d, error) : inroot_refused(d, error);
     }
     *length = (size_t)got;
-    inroot_ahead_put(&d->ahead, text, *length);
+    d->tries.bad = 0;
     return (struct inroot_result){.what = INROOT_ANSWER_TEXT};
 }
 
@@ -389,7 +426,6 @@ static struct inroot_result change_entry(struct inroot_driver *d, const struct i
         return inroot_unmade(d, error);
     switch (step->what) {
     case INROOT_STEP_MAKE_DIR:
-        inroot_ahead_make(&d->ahead);
         return make_entry(d, step, &entry, "");
     case INROOT_STEP_MAKE_FILE: case INROOT_STEP_MAKE_LINK:
         return make_entry(d, step, &entry, second);
@@ -414,6 +450,8 @@ static struct inroot_result name_below(struct inroot_driver *d, const struct inr
         d->placed_length = *length;
         return (struct inroot_result){.what = INROOT_ANSWER_NAMES};
     }
+    /* What is behind a place was in no run with what is before it. */
+    d->tries.bad = 0;
     struct inroot_result result = inroot_name_below(d, step, text, length);
     d->placed = result.what == INROOT_ANSWER_NAMES ? step->handle : 0;
     d->placed_length = *length;
@@ -456,6 +494,7 @@ struct inroot_result inroot_make(struct inroot_driver *d, struct inroot_told *st
         return inroot_unmade(d, ENAMETOOLONG);
     if (is_only_passed(d, step))
         return inroot_unmade(d, ENOMEM);
+    d->came_to = d->placed;
     if (step->what != INROOT_STEP_NAME_BELOW)
         d->placed = d->from.told = 0;
     if (step->what != INROOT_STEP_READLINK && step->what != INROOT_STEP_PARENT)

@@ -10,9 +10,8 @@
 #include <pthread.h>
 #include <string.h>
 #include <sys/stat.h>
+#include <time.h>
 #include <unistd.h>
-
-enum { LINKS = 40 };
 
 /* The proved library has the numbers of open(2)'s flags, but for these four, which differ between machines. */
 static const struct inroot_machine_flags machine = {
@@ -102,72 +101,63 @@ static int create(int root, const struct use *use)
     return inroot_carry_out_alone(root, &asked);
 }
 
-/*
- * Reads the link at the end of the path, and writes the path to which it leads: the link's directory, and its text. Gives
- * the length of the text, or -errno; -EINVAL if it is no link, and -ENOENT if it is gone.
- */
-static ssize_t follow(int root, const struct use *use, char *path)
+/* ---- what is found, or made where it is missing. Proved calls say what comes next. */
+
+/* Hands over what a call gave, with a link's text. */
+static int told(struct inroot_course *course, int result, const char *text, size_t length, char path[INROOT_TEXT_MAX + 1])
+{
+    inroot_course_next(course, result < 0 ? (uint32_t)-result : 0, (const unsigned char *)text, length, (unsigned char *)path,
+                       INROOT_TEXT_MAX);
+    path[course->length] = 0;
+    return result;
+}
+
+static int read_link(int root, const struct use *use, struct inroot_course *course, char path[INROOT_TEXT_MAX + 1])
 {
     char text[INROOT_ROOM];
     const struct inroot_request asked = {
-        .op = INROOT_ASK_READLINK, .flags = use->flags & ~INROOT_BELOW, .first = use->path, .second = "", .follows = true,
+        .op = INROOT_ASK_READLINK, .flags = use->flags & ~INROOT_BELOW, .first = path, .second = "", .follows = true,
     };
     ssize_t length = inroot_carry_out(root, &asked, text);
-    if (length <= 0)
-        return length < 0 ? length : -ENOENT;
-    const char *slash = strrchr(use->path, '/');
-    size_t kept = text[0] == '/' || slash == NULL ? 0 : (size_t)(slash - use->path) + 1;
-    if (kept + (size_t)length >= INROOT_TEXT_MAX)
-        return inroot_error_alone(ENAMETOOLONG, "ReadLink", use->path);
-    memmove(path, use->path, kept);
-    memcpy(path + kept, text, (size_t)length);
-    path[kept + (size_t)length] = 0;
-    return length;
+    return told(course, (int)length, text, length > 0 ? (size_t)length : 0, path);
 }
 
-/* Whether to try again: somebody made or removed the entry in between. */
-static bool in_between(ssize_t followed)
+/* Makes the call that comes next: its descriptor or -errno. */
+static int turn(int root, const struct use *use, struct inroot_course *course, char path[INROOT_TEXT_MAX + 1])
 {
-    return followed == -EINVAL || followed == -ENOENT;
-}
-
-/*
- * Opens what is there, or makes it where nothing is, at the end of a link as well, until one or the other holds.
- * Where a link isn't to be followed its text isn't read: what came in between is opened as it is, and a link is
- * refused by that.
- */
-static int open_or_create(int root, struct use use)
-{
-    char path[INROOT_TEXT_MAX];
-    const bool follows = use.how.follows && !(use.flags & INROOT_NO_LINKS);
-    bool is_again = false;
-    for (int tries = 1, links = 0;;) {
-        int fd = open_found(root, &use);
-        if (fd != -ENOENT)
-            return fd;
-        if (is_again && !inroot_again(tries++, use.flags, -EAGAIN, false))
-            return inroot_error_alone(EAGAIN, "MakeFile", use.path);
-        fd = create(root, &use);
-        if (fd != -EEXIST)
-            return fd;
-        ssize_t followed = follows ? follow(root, &use, path) : -EINVAL;
-        if (followed < 0 && !in_between(followed))
-            return (int)followed;
-        if (followed > 0 && ++links > LINKS)
-            return inroot_error_alone(ELOOP, "ReadLink", use.path);
-        if (followed > 0)
-            use.path = path;
-        is_again = followed < 0;
+    const struct timespec pause = {.tv_nsec = course->pause};
+    if (course->pause > 0)
+        nanosleep(&pause, NULL);
+    switch (course->next) {
+    case INROOT_COURSE_FIND:
+        return told(course, open_found(root, use), "", 0, path);
+    case INROOT_COURSE_CREATE:
+        return told(course, create(root, use), "", 0, path);
+    default:
+        return read_link(root, use, course, path);
     }
+}
+
+/* USE has this path. */
+static int open_or_create(int root, const struct use *use, char path[INROOT_TEXT_MAX + 1])
+{
+    int result = 0;
+    struct inroot_course course;
+    inroot_course_begin(strlen(path), use->how.follows, use->flags & INROOT_NO_LINKS, !(use->flags & INROOT_NO_RETRY), &course);
+    while (course.next < INROOT_COURSE_ENDS)
+        result = turn(root, use, &course, path);
+    if (course.next == INROOT_COURSE_ENDS)
+        return result;
+    return inroot_error_alone(course.error, course.step == INROOT_STEP_READLINK ? "ReadLink" : "MakeFile", path);
 }
 
 /* ---- the calls */
 
-static int open_by(int root, const struct use *use)
+static int open_by(int root, const struct use *use, char path[INROOT_TEXT_MAX + 1])
 {
     if (!use->how.makes)
         return open_found(root, use);
-    return use->how.finds ? open_or_create(root, *use) : create(root, use);
+    return use->how.finds ? open_or_create(root, use, path) : create(root, use);
 }
 
 int inroot_openat(int root, const char *path, int open_flags, mode_t mode, int flags)
@@ -180,7 +170,7 @@ int inroot_openat(int root, const char *path, int open_flags, mode_t mode, int f
     if (use.how.error)
         return inroot_error_alone(use.how.error, "", text);
     pthread_setcancelstate(PTHREAD_CANCEL_DISABLE, &state);
-    int result = open_by(root, &use);
+    int result = open_by(root, &use, text);
     pthread_setcancelstate(state, NULL);
     return result;
 }

@@ -170,6 +170,10 @@ static void changes_from(int root_or_jail)
     finds(inroot_open_partial(at, "d/none/x", 0, text, sizeof text), "a/b/d", "open_partial");
     expect(strcmp(text, "none/x") == 0, "left is %s", text);
     ino_t file = inode_of(root, "a/b/d/x");
+    gives(inroot_symlink(at, "/m2", "abs", 0), 0, "symlink to the top");
+    gives(inroot_rename(at, "d/x", "abs/y", 0, 0), 0, "rename through a link to the top");
+    gives(inroot_rename(at, "abs/y", "d/x", 0, 0), 0, "rename back through a link to the top");
+    gives(inroot_unlink(at, "abs", 0), 0, "unlink a link");
     gives(inroot_rename(at, "d/x", "x", 0, 0), 0, "rename");
     gives(inroot_rename(at, "x", "/x", 0, 0), 0, "rename to the top");
     gives(inroot_rename(at, "/x", "../x", 0, 0), 0, "rename from the top");

@@ -170,9 +170,11 @@ static int open_unchecked(int at, uint64_t *state)
 
 /* ---- the tree */
 
+/* It stays open: a call may remove it where the mover has put it below the root, and then no new object gets its inode. */
 static void is_of_outside(const char *name)
 {
-    sure(fstatat(out, name, &outside[outside_count++], AT_SYMLINK_NOFOLLOW), name);
+    int fd = sure(openat(out, name, O_PATH | O_NOFOLLOW | O_CLOEXEC), name);
+    sure(fstat(fd, &outside[outside_count++]), name);
 }
 
 static void make_tree(void)

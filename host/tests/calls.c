@@ -271,6 +271,11 @@ static void told(void)
     gives(inroot_stat(at, "a", &about, INROOT_FOLLOW), -EINVAL, "a flag of another call");
 }
 
+/* 256 bytes, which are no name. */
+#define SIXTEEN "0123456789abcdef"
+#define LONG SIXTEEN SIXTEEN SIXTEEN SIXTEEN SIXTEEN SIXTEEN SIXTEEN SIXTEEN SIXTEEN SIXTEEN SIXTEEN SIXTEEN SIXTEEN SIXTEEN \
+    SIXTEEN SIXTEEN
+
 /* Why a call failed: the step, its name, and what was left. */
 static void why(void)
 {
@@ -281,18 +286,22 @@ static void why(void)
     } cases[] = {
         {"a/none/x/y", 0, ENOENT, "Open", "none", "none/x/y", "/a"},
         {"in/none", 0, ENOENT, "Open", "none", "none", "/a"},
-        {"//a//..//none//x", 0, ENOENT, "Open", "none", "none//x", "/"},
+        {"//a//..//none//x/", 0, ENOENT, "Open", "none", "none/x/.", "/"},
         {"a/./../a/none", 0, ENOENT, "Open", "none", "none", "/a"},
         {"a/f/x", 0, ENOTDIR, "Open", "f", "x", "/a/f"},
-        {"in/up/../../x", INROOT_BENEATH, EXDEV, "ReadLink", "", "a/up/../../x", "/"},
+        {"in/up/../../x", INROOT_BENEATH, EXDEV, "ReadLink", "", "up/../../x", "/"},
         {"tonone/x", 0, ENOENT, "Open", "nothere", "nothere/b/x", "/"},
-        {"in/f", INROOT_NO_LINKS, ELOOP, "Open", "in", "f", "/in"},
+        {"in/f", INROOT_NO_LINKS, ELOOP, "Open", "in", "f", "/"},
+        {"n/./b/" LONG "/..", 0, ENAMETOOLONG, "Open", "b", LONG "/..", "/n/b"},
+        {"in/" LONG "/..", 0, ENAMETOOLONG, "Open", "a", LONG "/..", "/a"},
+        {LONG "/", 0, ENAMETOOLONG, "", "", LONG "/", ""},
         {"a", 64, EINVAL, "", "", "a", ""},
         {"a", -1, EINVAL, "", "", "a", ""},
     };
     static const unsigned long long zeros[15];
     struct inroot_error error;
     memset(&error, 0xff, sizeof error);
+    sure(mkdirat(root, "n/b", 0755), "n/b");
     for (size_t one = 0; one < sizeof cases / sizeof *cases; one++) {
         gives(inroot_open(at, cases[one].path, cases[one].flags), -cases[one].error, "%s", cases[one].path);
         gives(inroot_last_error(&error), 0, "%s: its last error", cases[one].path);
@@ -300,15 +309,25 @@ static void why(void)
         gives_text(error.step, cases[one].step, "%s: the step", cases[one].path);
         gives_text(error.name, cases[one].name, "%s: the name", cases[one].path);
         gives_text(error.rest, cases[one].rest, "%s: the rest", cases[one].path);
-        gives_text(error.at, cases[one].at, "%s: where the walk was", cases[one].path);
+        /* Behind a `..` to the root of a jail the driver may not know the names. */
+        if (error.at[0] != 0 || strstr(cases[one].path, "..") == NULL)
+            gives_text(error.at, cases[one].at, "%s: where the walk was", cases[one].path);
         expect(memcmp(error.reserved, zeros, sizeof zeros) == 0, "%s: what is reserved isn't zero", cases[one].path);
     }
+    sure(unlinkat(root, "n/b", AT_REMOVEDIR), "n/b");
     gives(sizeof error, 4496, "bytes of the structure of an error");
     gives(inroot_mkdir(at, "in/f", 0700, 0), -EEXIST, "a directory where a file is");
     gives(inroot_last_error(&error), 0, "a directory where a file is");
     gives_text(error.step, "MakeDir", "a directory where a file is: the step");
     gives_text(error.name, "f", "a directory where a file is: the name");
     gives_text(error.rest, "f", "a directory where a file is: the rest");
+    gives(inroot_mkdir(at, "in/none/./x/", 0700, 0), -ENOENT, "a directory below nothing");
+    gives(inroot_last_error(&error), 0, "a directory below nothing");
+    gives_text(error.rest, "none/./x", "a directory below nothing: the rest");
+    gives_text(error.at, "/a", "a directory below nothing: where the walk was");
+    gives(inroot_mkdir_all(at, "in/f/x", 0700, 0), -ENOTDIR, "directories below a file");
+    gives(inroot_last_error(&error), 0, "directories below a file");
+    gives_text(error.rest, "x", "directories below a file: the rest");
     gives(closed(inroot_openat(at, "a", O_WRONLY, 0, 0)), -EISDIR, "a directory to be written");
     gives(inroot_last_error(&error), 0, "a directory to be written");
     gives(error.error, EISDIR, "a directory to be written: the error told");

@@ -89,6 +89,29 @@ static void look_at(const struct inroot_told *told, const unsigned char *room, s
         MUST(told->second >= 1 && told->second <= NAME_MAX && room[told->first + 1 + told->second] == 0);
 }
 
+/* What comes next begins with the name that is due, if there is any, and is the beginning of what is left, but for each `.`. */
+static void look_ahead(struct inroot_kept *kept, const struct inroot_told *told, const unsigned char *room)
+{
+    enum { MOST = 600 };
+    unsigned char names[MOST], parts[MOST];
+    struct inroot_ahead_names ahead;
+    struct inroot_left left;
+    memset(names, 0, sizeof names);
+    memset(parts, 0, sizeof parts);
+    inroot_names_ahead(kept, MOST, 1, names, MOST - 1, &ahead);
+    inroot_parts_ahead(kept, 0, parts, MOST - 1, &left);
+    MUST(ahead.used <= MOST - 1 && left.used <= MOST - 1 && left.parts <= left.used);
+    MUST(ahead.used == strlen((char *)names) && left.used == strlen((char *)parts));
+    MUST(ahead.names == 0 || left.named);
+    MUST(!(ahead.up && ahead.ends) && (!ahead.dot || ahead.ends));
+    if (ahead.names > 0)
+        MUST(told->what == INROOT_STEP_OPEN && (!told->whole || (memcmp(names + 1, room, told->first) == 0 &&
+             memcmp(parts, names, told->first + 1) == 0)));
+    /* Each `.` takes room. */
+    if (ahead.ends && left.whole)
+        MUST(ahead.dot == (left.used > 1 && parts[left.used - 1] == '.' && parts[left.used - 2] == '/'));
+}
+
 static struct inroot_answered answer(struct input *in, const struct inroot_told *told, uint64_t serial)
 {
     static const uint8_t errors[] = {ENOENT, EAGAIN, ENOMEM, EBUSY, EEXIST, EXDEV, ENOTDIR, EISDIR, EINVAL, EMFILE, ENOSPC,
@@ -125,6 +148,7 @@ static void converse(struct input *in, struct inroot_kept *kept, struct inroot_t
     for (uint64_t serial = 100; told->what < INROOT_REPLY_OPENED; serial++) {
         size_t length;
         look_at(told, room, size);
+        look_ahead(kept, told, room);
         MUST(open_count < MOST_OPEN);
         struct inroot_answered given = answer(in, told, serial);
         unsigned char *bytes = text(in, &length);

@@ -105,24 +105,37 @@ static ssize_t place_of(const unsigned char *root, size_t root_length, const uns
     return length == root_length || path[root_length] == '/' ? (ssize_t)root_length : -1;
 }
 
+/* What is told behind a question that was answered without an error, by these texts. */
+static struct inroot_place_told after(enum inroot_place_what asked, bool jailed, const unsigned char *root, size_t root_length,
+                                     const unsigned char *text, size_t length)
+{
+    struct inroot_place_facts facts = {.jailed = jailed, .directory = true, .seen = true, .second = true};
+    const struct inroot_place_answer answer = {.error = 0};
+    struct inroot_place_told told = {.what = (uint8_t)asked};
+    inroot_place_next(&facts, &answer, root, root_length, text, length, text, length, &told);
+    MUST(told.start + told.length <= length && (told.what == INROOT_PLACE_STANDS) == (told.length > 0));
+    return told;
+}
+
 static void places(size_t size, const uint8_t *bytes, size_t length)
 {
-    struct inroot_place place;
     size_t root_length = size < length ? size : length;
     unsigned char *root = copy_of(bytes, root_length), *path = copy_of(bytes + root_length, length - root_length);
     size_t path_length = length - root_length;
     ssize_t wanted = place_of(root, root_length, path, path_length);
-    inroot_place_between(root, root_length, path, path_length, root, root_length, &place);
-    MUST((wanted < 0) == (place.length == 0));
+    struct inroot_place_told told = after(INROOT_PLACE_OBJECT_LINK, false, root, root_length, path, path_length);
+    if (path_length > 4095)
+        MUST(told.what == INROOT_PLACE_UNMADE && told.error == ENAMETOOLONG);
+    MUST((wanted < 0) == (told.what == INROOT_PLACE_UNMADE));
     if (wanted >= 0 && (size_t)wanted == path_length)
-        MUST(place.start == 0 && place.length == 1);
+        MUST(told.start == 0 && told.length == 1);
     else if (wanted >= 0)
-        MUST(place.start == (size_t)wanted && place.length == path_length - (size_t)wanted);
-    inroot_place_between(root, root_length, path, path_length, path, path_length, &place);
-    MUST(place.length == 0 || root_length == path_length);
-    MUST(inroot_is_named(path, path_length, path, path_length));
-    inroot_place_of_cwd(path, path_length, &place);
-    MUST(place.length == 0 || (place.start == 0 && place.length == path_length - 1 && path[path_length - 1] == 0));
+        MUST(told.start == (size_t)wanted && told.length == path_length - (size_t)wanted);
+    /* Its own text says that it has its name still. */
+    if (told.length > 1)
+        MUST(after(INROOT_PLACE_LINK_AGAIN, false, root, root_length, path, path_length).length == told.length);
+    told = after(INROOT_PLACE_CWD, true, root, root_length, path, path_length);
+    MUST(told.length == 0 || (told.start == 0 && told.length == path_length - 1 && path[path_length - 1] == 0));
     free(root);
     free(path);
 }

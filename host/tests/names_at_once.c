@@ -1,6 +1,6 @@
 /*
- * names_at_once: what the proved library says of names that come next in a call, and of those that it is told were passed by one
- * system call. The other steps are answered by hand.
+ * names_at_once: what the proved library says of names that come next in a call, of what is left of its path, and of names that it
+ * is told were passed by one system call. The other steps are answered by hand.
  *
  * usage: names_at_once. Exits 0 where all is as it is to be.
  */
@@ -48,8 +48,29 @@ static bool come_next(size_t most, size_t size, const char *text, size_t names, 
     struct inroot_ahead_names ahead;
     memset(found, '#', sizeof found);
     inroot_names_ahead(&kept, most, 100, found, size, &ahead);
-    return ahead.names == names && ahead.used == strlen(text) && ahead.up == up && ahead.ends == ends &&
+    return ahead.names == names && ahead.used == strlen(text) && ahead.up == up && ahead.ends == ends && !ahead.dot &&
            memcmp(found, text, ahead.used) == 0 && found[ahead.used] == '#';
+}
+
+/* The same where the walk ends behind `.` or a slash. */
+static bool come_next_before_a_dot(const char *text, size_t names)
+{
+    unsigned char found[16];
+    struct inroot_ahead_names ahead;
+    inroot_names_ahead(&kept, 99, 100, found, sizeof found, &ahead);
+    return ahead.names == names && ahead.used == strlen(text) && !ahead.up && ahead.ends && ahead.dot &&
+           memcmp(found, text, ahead.used) == 0;
+}
+
+/* Whether these parts are left, in a room of so many bytes: the bytes that are written, and no others. */
+static bool are_left(uint8_t from, size_t size, const char *text, size_t parts, bool named, bool whole)
+{
+    unsigned char found[32];
+    struct inroot_left left;
+    memset(found, '#', sizeof found);
+    inroot_parts_ahead(&kept, from, found, size, &left);
+    return left.parts == parts && left.used == strlen(text) && left.named == named && left.whole == whole &&
+           memcmp(found, text, left.used) == 0 && found[left.used] == '#';
 }
 
 /* Whether of these names so many are passed, from that directory on. */
@@ -123,8 +144,87 @@ static void as_far_as_they_fit(void)
     fails(101);
 }
 
+static void dots_behind_names(void)
+{
+    static const struct {
+        const char *path, *text;
+        size_t names;
+        bool dot;
+    } cases[] = {
+        {"a", "/a", 1, false}, {"a/", "/a", 1, true}, {"a//", "/a", 1, true}, {"a/.", "/a", 1, true},
+        {"./a", "/a", 1, false}, {"a/./b", "/a/b", 2, false}, {"/a/b/./", "/a/b", 2, true}, {"a/b/.", "/a/b", 2, true},
+    };
+    for (size_t one = 0; one < sizeof cases / sizeof *cases; one++) {
+        begin(INROOT_ASK_RESOLVE, cases[one].path);
+        if (cases[one].dot)
+            IS(come_next_before_a_dot(cases[one].text, cases[one].names));
+        else
+            IS(come_next(99, 16, cases[one].text, cases[one].names, false, true));
+        answer(INROOT_ANSWER_REFUSED, 0, 0, ENOMEM, "");
+    }
+}
+
+static void parts_that_are_left(void)
+{
+    begin(INROOT_ASK_RESOLVE, "a//./bc/../../d/");
+    IS(are_left(0, 30, "/a/./bc/../../d/.", 7, true, true));
+    IS(are_left(1, 30, "/./bc/../../d/.", 6, true, true));
+    IS(are_left(6, 30, "/.", 1, false, true));
+    IS(are_left(7, 30, "", 0, false, true));
+    IS(are_left(255, 30, "", 0, false, true));
+    /* So many as fit, each of them whole. */
+    IS(are_left(0, 17, "/a/./bc/../../d/.", 7, true, true));
+    IS(are_left(0, 16, "/a/./bc/../../d", 6, true, false));
+    IS(are_left(1, 4, "/.", 1, false, false));
+    IS(are_left(0, 1, "", 0, false, false));
+    IS(are_left(0, 0, "", 0, false, false));
+    /* Behind a name that was opened, the next one. */
+    answer(INROOT_ANSWER_OPENED, 9, INROOT_KIND_DIR, 0, "");
+    IS(opens(9, "bc"));
+    IS(are_left(0, 30, "/bc/../../d/.", 5, true, true));
+    answer(INROOT_ANSWER_OPENED, 10, INROOT_KIND_DIR, 0, "");
+    IS(tells(INROOT_STEP_CLOSE, 9, told.other) && are_left(0, 30, "", 0, false, true));
+    answer(INROOT_ANSWER_DONE, 0, 0, 0, "");
+    /* What is left comes behind the `..` that is due. */
+    IS(tells(INROOT_STEP_PARENT, 10, told.other) && are_left(0, 30, "/../d/.", 3, true, true));
+    fails(10);
+}
+
+static void parts_behind_a_link(void)
+{
+    begin(INROOT_ASK_RESOLVE, "l/x/..");
+    IS(are_left(1, 30, "/x/..", 2, true, true));
+    answer(INROOT_ANSWER_OPENED, 9, INROOT_KIND_LINK, 0, "");
+    IS(tells(INROOT_STEP_READLINK, 9, told.other) && are_left(0, 30, "", 0, false, true));
+    answer(INROOT_ANSWER_TEXT, 0, 0, 0, "b//c/");
+    IS(tells(INROOT_STEP_CLOSE, 9, told.other));
+    answer(INROOT_ANSWER_DONE, 0, 0, 0, "");
+    IS(opens(ROOT, "b") && are_left(0, 30, "/b/c/./x/..", 5, true, true));
+    answer(INROOT_ANSWER_REFUSED, 0, 0, ENOENT, "");
+    IS(told.what == INROOT_REPLY_FAULT && told.detail == ENOENT);
+}
+
+/* The last name of a call on one entry is no part that is walked; of a call that makes all, the missing ones are left. */
+static void parts_of_other_calls(void)
+{
+    begin(INROOT_ASK_MKDIR, "a/new");
+    IS(are_left(0, 30, "/a", 1, true, true) && come_next(99, 16, "/a", 1, false, true));
+    answer(INROOT_ANSWER_REFUSED, 0, 0, ENOENT, "");
+    begin(INROOT_ASK_MKDIR_ALL, "n/m");
+    answer(INROOT_ANSWER_REFUSED, 0, 0, ENOENT, "");
+    IS(tells(INROOT_STEP_DUP, ROOT, told.other) && are_left(0, 30, "/n/m", 2, true, true));
+    answer(INROOT_ANSWER_REFUSED, 0, 0, ENOMEM, "");
+    begin(INROOT_ASK_RESOLVE, "..");
+    IS(tells(INROOT_STEP_DUP, ROOT, told.other) && are_left(0, 30, "", 0, false, true));
+    answer(INROOT_ANSWER_REFUSED, 0, 0, ENOMEM, "");
+}
+
 int main(void)
 {
+    dots_behind_names();
+    parts_that_are_left();
+    parts_behind_a_link();
+    parts_of_other_calls();
     names_but_for_the_last();
     names_that_are_not_next();
     as_far_as_they_fit();

@@ -69,8 +69,8 @@ struct row {
 
 static const struct row rows[] = {
     {OPEN, SYS_openat, 2, O_PATH, O_PATH, "Open", "a", "a/./b/f", ""},
-    {UP, SYS_openat, 2, O_PATH, O_PATH, "Parent", "", "../t/z", ""},
-    {TOP, SYS_openat, 2, O_PATH, O_PATH, "Dup", "", ".", ""},
+    {UP, SYS_openat, 2, O_PATH, O_PATH, "Parent", "", "t/z", ""},
+    {TOP, SYS_openat, 2, O_PATH, O_PATH, "Dup", "", "", ""},
     {LINK, SYS_readlinkat, 0, 0, 0, "ReadLink", "", "f", ""},
     {PLACE, SYS_readlinkat, 0, 0, 0, "NameBelow", "", "", ""},
     {DIR_MADE, SYS_mkdirat, 0, 0, 0, "MakeDir", "new", "new", ""},
