@@ -489,6 +489,8 @@ struct inroot_result inroot_refused(struct inroot_driver *d, int error);
 struct inroot_result inroot_unmade(struct inroot_driver *d, int error);
 
 /* steps.c */
+/* Another descriptor of the directory that a handle is on: it shares nothing else with that one. Or -errno. */
+int inroot_open_anew(struct inroot_driver *d, uint64_t handle);
 /* Whether somebody removed the directory, as far as the kernel shows it. */
 bool inroot_is_dead(int fd);
 /*

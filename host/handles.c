@@ -243,9 +243,11 @@ int inroot_handles_take(struct inroot_driver *d, uint64_t handle)
 {
     struct inroot_slot *slot = inroot_handles_slot(d, handle);
     int fd = slot->fd;
-    slot->fd = INROOT_NONE;
     if (d->asked->opened != NULL)
         *d->asked->opened = (enum inroot_kind)slot->kind;
-    /* What a path without a name means was opened anew, so that no caller gets its own descriptor. */
-    return fd >= 0 && !slot->is_shared ? fd : -ENOMEM;
+    /* The names that were left behind `..` may all have led back to the root. No caller gets its own descriptor. */
+    if (slot->is_shared)
+        return inroot_open_anew(d, handle);
+    slot->fd = INROOT_NONE;
+    return fd >= 0 ? fd : -ENOMEM;
 }

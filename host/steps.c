@@ -206,14 +206,24 @@ static bool goes_on(struct inroot_driver *d)
     return inroot_error_note_rest(d, 0) || !inroot_walks_whole(d->asked);
 }
 
+int inroot_open_anew(struct inroot_driver *d, uint64_t handle)
+{
+    struct entry itself;
+    int error = find(d, handle, ".", 1, &itself);
+    if (error)
+        return -error;
+    int fd = open_path(d, handle, &itself, O_DIRECTORY);
+    return fd < 0 ? -errno : fd;
+}
+
 /*
  * Where the walk goes on from the root, by the caller's own descriptor. Else by one that shares nothing with it but the
  * directory, as the call's end gives one that is handed out.
  */
 static struct inroot_result open_root(struct inroot_driver *d, uint64_t root)
 {
-    struct entry itself;
-    int error = find(d, root, ".", 1, &itself);
+    int unused;
+    int error = inroot_handles_fd(d, root, &unused);
     if (error)
         return inroot_unmade(d, error);
     if (!inroot_handles_reserve(d))
@@ -224,8 +234,8 @@ static struct inroot_result open_root(struct inroot_driver *d, uint64_t root)
         d->steps--;
         return inroot_opened(handle, INROOT_KIND_DIR);
     }
-    int fd = open_path(d, root, &itself, O_DIRECTORY);
-    return fd < 0 ? inroot_refused(d, errno) : opened(d, fd, INROOT_KIND_DIR, INROOT_BY_ROOT, root);
+    int fd = inroot_open_anew(d, root);
+    return fd < 0 ? inroot_refused(d, -fd) : opened(d, fd, INROOT_KIND_DIR, INROOT_BY_ROOT, root);
 }
 
 /* The kernel lists nothing of a removed directory, not even `.`. Without the right to read it the driver can't ask. */

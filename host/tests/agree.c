@@ -72,6 +72,9 @@ static int make_tree(int base, int number)
     sure(mkdirat(base, name, 0755), "mkdirat");
     int root = dirs[0] = sure(openat(base, name, O_PATH | O_DIRECTORY | O_CLOEXEC), "openat");
     sure(mknodat(root, "hard", S_IFREG | 0600, 0), "mknodat");
+    sure(mkdirat(root, "down", 0755), "mkdirat");
+    sure(symlinkat("../../up", root, "down/back"), "symlinkat");
+    sure(symlinkat("../../..", root, "up"), "symlinkat");
     for (int at = 0; at < NODES; at++)
         add_entry(root, dirs, &count);
     while (count > 1)
@@ -93,12 +96,9 @@ static int by_kernel(int root, const char *path, int flags)
     return fd < 0 ? -errno : (int)fd;
 }
 
-/* Whether one case agrees. */
-static int agrees(int root, int asked)
+/* Whether the path means the same. */
+static int agrees_on(int root, int asked, const char *path, int flags)
 {
-    char path[256];
-    int flags = (int)pick(&state, 8) | (pick(&state, 2) ? INROOT_BELOW : 0);
-    random_path(path, PARTS);
     int wanted = by_kernel(root, path, flags), got = inroot_open(asked, path, flags);
     int same = is_same_object(wanted, got);
     if (!same)
@@ -110,6 +110,24 @@ static int agrees(int root, int asked)
     return same;
 }
 
+/* Whether a random case agrees. */
+static int agrees(int root, int asked)
+{
+    char path[256];
+    int flags = (int)pick(&state, 8) | (pick(&state, 2) ? INROOT_BELOW : 0);
+    random_path(path, PARTS);
+    return agrees_on(root, asked, path, flags);
+}
+
+/* Whether links do that lead back to the root, behind `..` that has led there. */
+static int agrees_at_root(int root, int asked)
+{
+    int same = 1;
+    for (int flags = 0; flags < 8; flags++)
+        same &= agrees_on(root, asked, "down/back", flags) & agrees_on(root, asked, "down/back", flags | INROOT_BELOW);
+    return same;
+}
+
 /* The cases on one tree, and how many differ. */
 struct batch {
     int root, cases, differ;
@@ -118,6 +136,7 @@ struct batch {
 static void *by_proc(void *self)
 {
     struct batch *batch = self;
+    batch->differ += !agrees_at_root(batch->root, batch->root);
     for (int at = 0; at < batch->cases; at++)
         batch->differ += !agrees(batch->root, batch->root);
     return NULL;
@@ -128,6 +147,7 @@ static void *in_jail(void *self)
     struct batch *batch = self;
     errno = -inroot_jail(batch->root);
     sure(-errno, "inroot_jail");
+    batch->differ += !agrees_at_root(batch->root, INROOT_JAIL);
     for (int at = 0; at < batch->cases; at++)
         batch->differ += !agrees(batch->root, INROOT_JAIL);
     inroot_jail_done();
