@@ -1,6 +1,6 @@
 -- A layer's worlds gone on from one after another: what is known of those that were.
 use Rattle.std.specs.Prelude.{◌≡◌, ◌<◌, ◌≤◌, ◌⊎◌, ◌^◌, ◌+◌, ◌++◌, ◌∷◌, [], ℕ, List, Bool, true, false, length, Option, Some, slice_get}
-use Rattle.std.specs.Global.{Vec}
+use Rattle.smallvec.specs.SmallVec.{SmallVec}
 use Rattle.race_core.specs.Worlds.{WorldView, turn, is_busy_at}
 use Rattle.explore.specs.declared.keys.Key.{Key}
 use Rattle.explore.specs.declared.layer.Layer.{Layer}
@@ -109,7 +109,7 @@ pub record Expansion : Type 0 where
   pub bounds : Bounds
   pub n : ℕ
   pub layer : Layer
-  pub transitions : List (Vec Transition)
+  pub transitions : List (SmallVec Transition)
   pub before : ComponentsView
   pub found : List ClassView
   pub short : n + 1 < 2 ^ 40
@@ -121,7 +121,7 @@ pub record Expansion : Type 0 where
 
 -- that layer, by these transitions, with what was known and found before it
 pub record IsExpansion (g : Expansion) (w : WorldView) (known : KnownView) (layer : Layer)
-    (transitions : List (Vec Transition))
+    (transitions : List (SmallVec Transition))
     (found : List ClassView) : Type 0 where
   pub sound : IsSound g.w known
   pub w_is : g.w ≡ w
@@ -136,7 +136,7 @@ pub record IsNext (g : Expansion) (w : WorldView) (configurations : List Configu
   pub w_is : g.w ≡ w
   pub configurations_are : g.layer.configurations.items ≡ configurations
   pub there : slice_get g.layer.worlds.items m ≡ Some visited
-  pub those : Vec Transition
+  pub those : SmallVec Transition
   pub listed : slice_get g.transitions m ≡ Some those
   pub transitions_are : those.items ≡ transitions
 
@@ -146,7 +146,7 @@ pub record IsAfterTransition (g : Expansion) (c : ComponentsView) (one : Visited
   pub m : ℕ
   pub visited : Visited
   pub here : slice_get g.layer.worlds.items m ≡ Some visited
-  pub transitions : Vec Transition
+  pub transitions : SmallVec Transition
   pub listed : slice_get g.transitions m ≡ Some transitions
   pub j : ℕ
   pub transition : Transition
@@ -162,7 +162,7 @@ AreAfterTransitions g c next = (k : ℕ) (one : Visited) → slice_get next k �
 -- So it is with the first worlds of the layer: whether each is over, and then its class; and the places, among the next
 -- layer's worlds, to which its transitions lead.
 pub record AreExpanded (g : Expansion) (known : KnownView) (next : List Visited) (end_classes : List (Option ℕ))
-    (places : List (Vec ℕ)) (classes : List ClassView) : Type 0 where
+    (places : List (SmallVec ℕ)) (classes : List ClassView) : Type 0 where
   pub sound : IsSound g.w known
   pub grows : Grows g.before known.components
   pub many : length places ≡ length end_classes
@@ -172,7 +172,7 @@ pub record AreExpanded (g : Expansion) (known : KnownView) (next : List Visited)
   pub are_end_classes : (m : ℕ) (visited : Visited) (end_class : Option ℕ)
       → slice_get g.layer.worlds.items m ≡ Some visited
       → slice_get end_classes m ≡ Some end_class → IsEndClass classes (visited_of g.w g.before.told visited) end_class
-  pub leads : (m : ℕ) (visited : Visited) (those : Vec Transition) (row : Vec ℕ)
+  pub leads : (m : ℕ) (visited : Visited) (those : SmallVec Transition) (row : SmallVec ℕ)
       → slice_get g.layer.worlds.items m ≡ Some visited
       → slice_get g.transitions m ≡ Some those → slice_get places m ≡ Some row
       → LeadTo g.before known.components g.w next visited those.items row.items

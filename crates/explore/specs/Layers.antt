@@ -1,6 +1,7 @@
 -- Layers of worlds, one of those that are the same each, and the configurations on them.
 use Rattle.std.specs.Prelude.{◌≡◌, ◌<◌, ◌≤◌, ◌⊎◌, ℕ, suc, List, [], ◌∷◌, ◌++◌, Bool, true, length, Option, Some, None, slice_get}
 use Rattle.std.specs.Global.{Vec}
+use Rattle.smallvec.specs.SmallVec.{SmallVec}
 use Rattle.race_core.specs.declared.opening.TheConstants.{ACTORS_MAX}
 use Rattle.race_core.specs.Turns.{Luck}
 use Rattle.race_core.specs.Worlds.{WorldView, turn, is_busy_at, ledgers_in, Reports}
@@ -181,9 +182,9 @@ pub record AreEdgesBy (bounds : Bounds) (layer next : LayerView) (configuration 
   pub apart : AreApart edges
 
 -- of each configuration, in order
-pub record AreAllEdges (bounds : Bounds) (layer next : LayerView) (all : List (Vec Edge)) : Type 0 where
+pub record AreAllEdges (bounds : Bounds) (layer next : LayerView) (all : List (SmallVec Edge)) : Type 0 where
   pub many : length all ≡ length layer.configurations
-  pub each : (s : ℕ) (configuration : Configuration) (visited : VisitedView) (edges : Vec Edge)
+  pub each : (s : ℕ) (configuration : Configuration) (visited : VisitedView) (edges : SmallVec Edge)
       → slice_get layer.configurations s ≡ Some configuration
       → slice_get layer.worlds configuration.world ≡ Some visited
       → slice_get all s ≡ Some edges → AreEdgesBy bounds layer next configuration visited edges.items
@@ -249,7 +250,7 @@ pub record IsThere (bounds : Bounds) (world : ℕ) (cost : Cost) (configurations
 -- ---- graph nodes
 
 -- an end of that class, if there is one, and else these edges
-abbrev pub graph_node_by : Option ℕ → Vec Edge → Node
+abbrev pub graph_node_by : Option ℕ → SmallVec Edge → Node
 graph_node_by None edges = Goes edges
 graph_node_by (Some class) edges = Ends class
 

@@ -2,6 +2,7 @@
 -- that are the same.
 use Rattle.std.specs.Prelude.{◌≡◌, ℕ, suc, List, true, slice_get, Option, Some, None}
 use Rattle.std.specs.Global.{Vec}
+use Rattle.smallvec.specs.SmallVec.{SmallVec}
 use Rattle.race_core.specs.Worlds.{WorldView, turn, is_busy_at}
 use Rattle.schedule_graph.specs.declared.graph.Edge.{Edge}
 use Rattle.schedule_graph.specs.declared.graph.Node.{Node}
@@ -81,7 +82,7 @@ pub record IsFit (w : WorldView) (scope : Scope) (layers : List (Vec Node)) (cla
   pub graph_node : Node
   pub there : node_at layers 0 0 ≡ Some graph_node
   pub ends : (k s class : ℕ) → node_at layers k s ≡ Some (Ends class) → IsEndOf w scope classes (at k s) class
-  pub goes : (k s : ℕ) (edges : Vec Edge) → node_at layers k s ≡ Some (Goes edges)
+  pub goes : (k s : ℕ) (edges : SmallVec Edge) → node_at layers k s ≡ Some (Goes edges)
       → AreEdges scope layers at k s edges.items
 
 -- ---- the law

@@ -1,6 +1,6 @@
 -- Runs from the beginning for turns that aren't known: how far each has come.
 use Rattle.std.specs.Prelude.{◌≡◌, ◌<◌, ◌^◌, ℕ, List, Bool, true, length, Option, Some, slice_get}
-use Rattle.std.specs.Global.{Vec}
+use Rattle.smallvec.specs.SmallVec.{SmallVec}
 use Rattle.race_core.specs.Worlds.{WorldView}
 use Rattle.explore.specs.declared.layer.Visited.{Visited}
 use Rattle.explore.specs.declared.prefetching.Miss.{Miss}
@@ -117,7 +117,7 @@ abbrev pub AreMisses : List Visited → List Miss → Type 0
 AreMisses worlds misses = (k : ℕ) (one : Miss) → slice_get misses k ≡ Some one → IsFrom worlds one.at one.actor
 
 -- they are transitions of actors that there are
-abbrev pub AreTheirs : List Visited → List (Vec Transition) → Type 0
-AreTheirs worlds transitions = (m : ℕ) (visited : Visited) (those : Vec Transition) (j : ℕ) (one : Transition)
+abbrev pub AreTheirs : List Visited → List (SmallVec Transition) → Type 0
+AreTheirs worlds transitions = (m : ℕ) (visited : Visited) (those : SmallVec Transition) (j : ℕ) (one : Transition)
     → slice_get worlds m ≡ Some visited → slice_get transitions m ≡ Some those → slice_get those.items j ≡ Some one
     → one.actor < length visited.key.own.items

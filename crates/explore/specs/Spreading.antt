@@ -1,6 +1,6 @@
 -- The configurations of the next layer, and the edges to them.
 use Rattle.std.specs.Prelude.{◌≡◌, ◌<◌, ◌⊎◌, ◌==◌, ℕ, List, [], ◌∷◌, ◌++◌, not, length, Option, Some, None, slice_get}
-use Rattle.std.specs.Global.{Vec}
+use Rattle.smallvec.specs.SmallVec.{SmallVec}
 use Rattle.schedule_graph.specs.declared.graph.Node.{Node}
 use Rattle.schedule_graph.specs.declared.graph.Edge.{Edge}
 use Rattle.explore.specs.declared.limits.Bounds.{Bounds}
@@ -72,67 +72,69 @@ abbrev pub GoesOn : Option ℕ → List Choice → Type 0
 GoesOn None choices = 0 < length choices
 GoesOn (Some class) choices = Unit {0}
 
-abbrev pub HaveChoices : List Configuration → List (Vec Choice) → List (Option ℕ) → Type 0
+abbrev pub HaveChoices : List Configuration → List (SmallVec Choice) → List (Option ℕ) → Type 0
 HaveChoices configurations choices end_classes =
-    (s : ℕ) (configuration : Configuration) (those : Vec Choice) (end_class : Option ℕ)
+    (s : ℕ) (configuration : Configuration) (those : SmallVec Choice) (end_class : Option ℕ)
     → slice_get configurations s ≡ Some configuration → slice_get choices s ≡ Some those
     → slice_get end_classes configuration.world ≡ Some end_class
     → GoesOn end_class those.items
 
 -- so it is with each, where the turn may be only one actor's
-abbrev pub AllGoOn : Option ℕ → List Configuration → List (Vec Choice) → List (Option ℕ) → Type 0
+abbrev pub AllGoOn : Option ℕ → List Configuration → List (SmallVec Choice) → List (Option ℕ) → Type 0
 AllGoOn None configurations choices end_classes = Unit {0}
 AllGoOn (Some i) configurations choices end_classes = HaveChoices configurations choices end_classes
 
 -- ---- the edges from all configurations
 
 -- no two choices of a configuration are of one actor
-abbrev pub AreApartChoices : List (Vec Choice) → Type 0
-AreApartChoices all = (s : ℕ) (choices : Vec Choice) (k l : ℕ) (choice other : Choice) → slice_get all s ≡ Some choices
-    → slice_get choices.items k ≡ Some choice → slice_get choices.items l ≡ Some other → choice.actor ≡ other.actor
+abbrev pub AreApartChoices : List (SmallVec Choice) → Type 0
+AreApartChoices all = (s : ℕ) (choices : SmallVec Choice) (k l : ℕ) (choice other : Choice)
+    → slice_get all s ≡ Some choices → slice_get choices.items k ≡ Some choice
+    → slice_get choices.items l ≡ Some other → choice.actor ≡ other.actor
     → k ≡ l
 
 -- each choice's transition has its place among those from the configuration's world
 abbrev pub IsFitting : List Choice → List ℕ → Type 0
 IsFitting choices places = (k : ℕ) (choice : Choice) → slice_get choices k ≡ Some choice → choice.at < length places
 
-abbrev pub AreFit : List Configuration → List (Vec Choice) → List (Vec ℕ) → Type 0
-AreFit configurations choices places = (s : ℕ) (configuration : Configuration) (those : Vec Choice)
+abbrev pub AreFit : List Configuration → List (SmallVec Choice) → List (SmallVec ℕ) → Type 0
+AreFit configurations choices places = (s : ℕ) (configuration : Configuration) (those : SmallVec Choice)
     → slice_get configurations s ≡ Some configuration
     → slice_get choices s ≡ Some those
-    → (row : Vec ℕ) × ((slice_get places configuration.world ≡ Some row) × IsFitting those.items row.items)
+    → (row : SmallVec ℕ) × ((slice_get places configuration.world ≡ Some row) × IsFitting those.items row.items)
 
 -- the configuration is one turn after one of these
-pub record IsConfigurationFrom (configurations : List Configuration) (choices : List (Vec Choice))
-    (places : List (Vec ℕ))
+pub record IsConfigurationFrom (configurations : List Configuration) (choices : List (SmallVec Choice))
+    (places : List (SmallVec ℕ))
     (successor : Configuration) : Type 0 where
   pub s : ℕ
   pub configuration : Configuration
   pub there : slice_get configurations s ≡ Some configuration
-  pub those : Vec Choice
+  pub those : SmallVec Choice
   pub chosen : slice_get choices s ≡ Some those
-  pub row : Vec ℕ
+  pub row : SmallVec ℕ
   pub places_there : slice_get places configuration.world ≡ Some row
   pub is : IsConfigurationOf configuration those.items row.items successor
 
-abbrev pub AreConfigurationsFrom : List Configuration → List (Vec Choice) → List (Vec ℕ) → List Configuration → Type 0
+abbrev pub AreConfigurationsFrom : List Configuration → List (SmallVec Choice) → List (SmallVec ℕ)
+    → List Configuration → Type 0
 AreConfigurationsFrom configurations choices places next =
     (t : ℕ) (successor : Configuration) → slice_get next t ≡ Some successor
     → IsConfigurationFrom configurations choices places successor
 
 -- the edges of all choices from the first configurations
-abbrev pub AreFirstEdges : Bounds → List Configuration → List (Vec Choice) → List (Vec ℕ) → List Configuration
-    → List (Vec Edge) → Type 0
+abbrev pub AreFirstEdges : Bounds → List Configuration → List (SmallVec Choice) → List (SmallVec ℕ) → List Configuration
+    → List (SmallVec Edge) → Type 0
 AreFirstEdges bounds configurations choices places next all =
-    (s : ℕ) (configuration : Configuration) (those : Vec Choice) (row : Vec ℕ)
-    (edges : Vec Edge) → slice_get configurations s ≡ Some configuration → slice_get choices s ≡ Some those
+    (s : ℕ) (configuration : Configuration) (those : SmallVec Choice) (row : SmallVec ℕ)
+    (edges : SmallVec Edge) → slice_get configurations s ≡ Some configuration → slice_get choices s ≡ Some those
     → slice_get places configuration.world ≡ Some row → slice_get all s ≡ Some edges
     → AreEdgesTo bounds configuration those.items row.items next edges.items
 
 -- and from all of them
-pub record AreEdgesOfAll (bounds : Bounds) (configurations : List Configuration) (choices : List (Vec Choice))
-    (places : List (Vec ℕ))
-    (next : List Configuration) (all : List (Vec Edge)) : Type 0 where
+pub record AreEdgesOfAll (bounds : Bounds) (configurations : List Configuration) (choices : List (SmallVec Choice))
+    (places : List (SmallVec ℕ))
+    (next : List Configuration) (all : List (SmallVec Edge)) : Type 0 where
   pub many : length all ≡ length configurations
   pub edges : AreFirstEdges bounds configurations choices places next all
   pub successor : AreConfigurationsFrom configurations choices places next
@@ -140,10 +142,10 @@ pub record AreEdgesOfAll (bounds : Bounds) (configurations : List Configuration)
 -- ---- graph nodes
 
 -- each configuration's graph node: an end of its world's class, if that has one, and else the edges from it
-pub record AreGraphNodesBy (configurations : List Configuration) (end_classes : List (Option ℕ)) (all : List (Vec Edge))
-    (graph_nodes : List Node) : Type 0 where
+pub record AreGraphNodesBy (configurations : List Configuration) (end_classes : List (Option ℕ))
+    (all : List (SmallVec Edge)) (graph_nodes : List Node) : Type 0 where
   pub many : length graph_nodes ≡ length configurations
-  pub each : (s : ℕ) (configuration : Configuration) (edges : Vec Edge) (end_class : Option ℕ)
+  pub each : (s : ℕ) (configuration : Configuration) (edges : SmallVec Edge) (end_class : Option ℕ)
       → slice_get configurations s ≡ Some configuration
       → slice_get all s ≡ Some edges → slice_get end_classes configuration.world ≡ Some end_class
       → slice_get graph_nodes s ≡ Some (graph_node_by end_class edges)

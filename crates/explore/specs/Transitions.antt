@@ -1,6 +1,6 @@
 -- The transitions from the worlds of a layer: who may have the next turn.
 use Rattle.std.specs.Prelude.{◌≡◌, ◌<◌, ◌≤◌, ℕ, List, [], length, Option, Some, slice_get}
-use Rattle.std.specs.Global.{Vec}
+use Rattle.smallvec.specs.SmallVec.{SmallVec}
 use Rattle.explore.specs.declared.limits.Bounds.{Bounds}
 use Rattle.explore.specs.declared.layer.Configuration.{Configuration}
 use Rattle.explore.specs.declared.transitions.Transition.{Transition}
@@ -41,16 +41,16 @@ pub record AreChoices (bounds : Bounds) (p : Point) (transitions : List Transiti
       → choice.actor ≡ other.actor → k ≡ l
 
 -- so it is of each configuration
-abbrev pub AreFirstChoices : Bounds → LayerView → List (Vec Transition) → List (Vec Choice) → Type 0
+abbrev pub AreFirstChoices : Bounds → LayerView → List (SmallVec Transition) → List (SmallVec Choice) → Type 0
 AreFirstChoices bounds layer transitions all =
-    (s : ℕ) (configuration : Configuration) (visited : VisitedView) (those : Vec Transition)
-    (choices : Vec Choice) → slice_get layer.configurations s ≡ Some configuration
+    (s : ℕ) (configuration : Configuration) (visited : VisitedView) (those : SmallVec Transition)
+    (choices : SmallVec Choice) → slice_get layer.configurations s ≡ Some configuration
     → slice_get layer.worlds configuration.world ≡ Some visited
     → slice_get transitions configuration.world ≡ Some those → slice_get all s ≡ Some choices
     → AreChoices bounds (point_at visited configuration) those.items choices.items
 
-pub record AreAllChoices (bounds : Bounds) (layer : LayerView) (transitions : List (Vec Transition))
-    (all : List (Vec Choice)) : Type 0 where
+pub record AreAllChoices (bounds : Bounds) (layer : LayerView) (transitions : List (SmallVec Transition))
+    (all : List (SmallVec Choice)) : Type 0 where
   pub many : length all ≡ length layer.configurations
   pub each : AreFirstChoices bounds layer transitions all
 
@@ -64,14 +64,15 @@ pub record IsTransitionFrom (bounds : Bounds) (layer : LayerView) (m : ℕ) (one
   pub may : MayGo bounds (point_at visited configuration) one.actor
 
 -- the transitions from each world
-pub record AreTransitions (bounds : Bounds) (layer : LayerView) (transitions : List (Vec Transition)) : Type 0 where
+pub record AreTransitions (bounds : Bounds) (layer : LayerView) (transitions : List (SmallVec Transition))
+    : Type 0 where
   pub many : length transitions ≡ length layer.worlds
-  pub each : (m : ℕ) (those : Vec Transition) (j : ℕ) (one : Transition) → slice_get transitions m ≡ Some those
+  pub each : (m : ℕ) (those : SmallVec Transition) (j : ℕ) (one : Transition) → slice_get transitions m ≡ Some those
       → slice_get those.items j ≡ Some one → IsTransitionFrom bounds layer m one
 
-pub record AreNoTransitions (worlds : ℕ) (transitions : List (Vec Transition)) : Type 0 where
+pub record AreNoTransitions (worlds : ℕ) (transitions : List (SmallVec Transition)) : Type 0 where
   pub many : length transitions ≡ worlds
-  pub none : (m : ℕ) (those : Vec Transition) → slice_get transitions m ≡ Some those → those.items ≡ []
+  pub none : (m : ℕ) (those : SmallVec Transition) → slice_get transitions m ≡ Some those → those.items ≡ []
 
 -- ---- a layer that is gone on from
 
@@ -79,7 +80,7 @@ pub record AreNoTransitions (worlds : ℕ) (transitions : List (Vec Transition))
 pub record Going : Type 0 where
   pub bounds : Bounds
   pub layer : LayerView
-  pub transitions : List (Vec Transition)
+  pub transitions : List (SmallVec Transition)
   pub listed : AreTransitions bounds layer transitions
   pub found : List ClassView
 
@@ -90,7 +91,7 @@ AreLeads visited transitions worlds places = (j : ℕ) (one : Transition) → sl
 
 -- of the first worlds of the layer: whether each is over, and then its class; and the places, among the next layer's
 -- worlds, to which its transitions lead
-pub record AreGone (g : Going) (worlds : List VisitedView) (end_classes : List (Option ℕ)) (places : List (Vec ℕ))
+pub record AreGone (g : Going) (worlds : List VisitedView) (end_classes : List (Option ℕ)) (places : List (SmallVec ℕ))
     (classes : List ClassView) : Type 0 where
   pub many : length places ≡ length end_classes
   pub fits : length end_classes ≤ length g.layer.worlds
@@ -100,7 +101,7 @@ pub record AreGone (g : Going) (worlds : List VisitedView) (end_classes : List (
   pub are_end_classes : (m : ℕ) (visited : VisitedView) (end_class : Option ℕ)
       → slice_get g.layer.worlds m ≡ Some visited
       → slice_get end_classes m ≡ Some end_class → IsEndClass classes visited end_class
-  pub leads : (m : ℕ) (visited : VisitedView) (those : Vec Transition) (row : Vec ℕ)
+  pub leads : (m : ℕ) (visited : VisitedView) (those : SmallVec Transition) (row : SmallVec ℕ)
       → slice_get g.layer.worlds m ≡ Some visited
       → slice_get g.transitions m ≡ Some those → slice_get places m ≡ Some row
       → AreLeads visited those.items worlds row.items

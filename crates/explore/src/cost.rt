@@ -12,7 +12,7 @@ use race_core::World;
 use tree_model::Tree;
 
 /// What counts in the turns so far.
-#[derive(Clone, Copy, Debug, PartialEq, Eq)]
+#[derive(Clone, Copy, Debug, Default, PartialEq, Eq)]
 pub(crate) struct Cost {
     /// Whose the last one was.
     pub(crate) last: Option<u32>,

@@ -8,12 +8,13 @@ ghost use Rattle.explore.specs.Spreading.{GoesOn, HaveChoices, AllGoOn, IsConfig
 
 use crate::cost::Cost;
 use crate::fingerprint::Fingerprint;
-use crate::layer::Configuration;
+use crate::layer::{ACTORS_IN_PLACE, Configuration};
 use crate::limits::Bounds;
 use crate::replayed::turns_and;
 use crate::transitions::Choice;
 use path_text::NoMemory;
-use schedule_graph::Edge;
+use schedule_graph::{EDGES_IN_PLACE, Edge};
+use smallvec::SmallVec;
 use std::alloc::Global;
 use std::collections::HashMap;
 
@@ -132,7 +133,7 @@ fn edge_to(
 {
     let to = configuration_at(alloc, bounds, configuration, choice, world, next, table)?;
     Ok(Edge {
-        label: u32::from(choice.actor),
+        label: choice.actor,
         cut: choice.cost.cuts != configuration.cost.cuts,
         change: choice.cost.changes != configuration.cost.changes,
         to,
@@ -149,7 +150,7 @@ fn edges_from(
     places: &[usize],
     next: &mut Vec<Configuration>,
     table: &mut HashMap<u64, usize>,
-) -> Result<Vec<Edge>, NoMemory>
+) -> Result<SmallVec<Edge, EDGES_IN_PLACE>, NoMemory>
     requires at { (k : ℕ) (choice : Choice) → slice_get choices.now k ≡ Some choice → choice.at < length places.now }
     ensures keeps { IfOk result (λ edges. Keeps next.old.items next.new.items) }
     ensures configurations { IfOk result (λ edges.
@@ -157,7 +158,7 @@ fn edges_from(
     ensures edges { IfOk result (λ edges.
         AreEdgesTo bounds configuration.now choices.now places.now next.new.items edges.items) }
 {
-    let mut edges = Vec::with_capacity(alloc, choices.len())?;
+    let mut edges = SmallVec::with_capacity(alloc, choices.len())?;
     for at in 0..choices.len() {
         let choice = &choices[at];
         let world = places[choice.at];
@@ -180,7 +181,7 @@ fn goes_on(end_class: Option<usize>, choices: &[Choice]) -> bool
 // Whether each configuration has.
 fn have_choices(
     configurations: &[Configuration],
-    choices: &[Vec<Choice>],
+    choices: &[SmallVec<Choice, ACTORS_IN_PLACE>],
     end_classes: &[Option<usize>],
 ) -> bool
     requires many { length choices.now ≡ length configurations.now }
@@ -202,7 +203,7 @@ fn have_choices(
 pub(crate) fn all_go_on(
     only: Option<u32>,
     configurations: &[Configuration],
-    choices: &[Vec<Choice>],
+    choices: &[SmallVec<Choice, ACTORS_IN_PLACE>],
     end_classes: &[Option<usize>],
 ) -> bool
     requires many { length choices.now ≡ length configurations.now }
@@ -222,9 +223,9 @@ pub(crate) fn all_edges(
     alloc: Global,
     bounds: Bounds,
     configurations: &[Configuration],
-    choices: &[Vec<Choice>],
-    places: &[Vec<usize>],
-) -> Result<(Vec<Vec<Edge>>, Vec<Configuration>), NoMemory>
+    choices: &[SmallVec<Choice, ACTORS_IN_PLACE>],
+    places: &[SmallVec<usize, ACTORS_IN_PLACE>],
+) -> Result<(Vec<SmallVec<Edge, EDGES_IN_PLACE>>, Vec<Configuration>), NoMemory>
     requires many { length choices.now ≡ length configurations.now }
     requires fit { AreFit configurations.now choices.now places.now }
     ensures { IfOk result (λ all.

@@ -1,6 +1,6 @@
 //! The classes of what worlds come to, and the graph nodes of configurations.
 ghost use Rattle.std.specs.Prelude.{◌≡◌, ◌⊎◌, ◌<◌, ◌≤◌, ℕ, length, Option, Some, None, slice_get, IfOk};
-ghost use Rattle.std.specs.Global.{Vec};
+ghost use Rattle.smallvec.specs.SmallVec.{SmallVec as Row};
 ghost use Rattle.race_core.specs.Worlds.{WorldView};
 ghost use Rattle.race_core.specs.declared.opening.TheConstants.{ACTORS_MAX};
 ghost use Rattle.schedule_graph.specs.declared.graph.Edge.{Edge};
@@ -18,7 +18,8 @@ use crate::keys::Key;
 use crate::layer::Configuration;
 use crate::tally::place_of;
 use path_text::NoMemory;
-use schedule_graph::{Edge, Node};
+use schedule_graph::{EDGES_IN_PLACE, Edge, Node};
+use smallvec::SmallVec;
 use std::alloc::Global;
 use tree_model::Tree;
 
@@ -59,7 +60,7 @@ pub(crate) fn class_at<T: Tree + Drop>(
 }
 
 // An end of that class, if there is one, and else these edges.
-fn graph_node_by(end_class: Option<usize>, edges: Vec<Edge>) -> Node
+fn graph_node_by(end_class: Option<usize>, edges: SmallVec<Edge, EDGES_IN_PLACE>) -> Node
     ensures { result ≡ graph_node_by end_class edges }
 {
     match end_class {
@@ -73,15 +74,15 @@ pub(crate) fn graph_nodes_of(
     alloc: Global,
     configurations: &[Configuration],
     end_classes: &[Option<usize>],
-    all: Vec<Vec<Edge>>,
+    all: Vec<SmallVec<Edge, EDGES_IN_PLACE>>,
 ) -> Result<Vec<Node>, NoMemory>
     requires many { length all.items ≡ length configurations.now }
     requires on { (s : ℕ) (configuration : Configuration) → slice_get configurations.now s ≡ Some configuration
         → configuration.world < length end_classes.now }
-    requires apart { (s : ℕ) (edges : Vec Edge) → slice_get all.items s ≡ Some edges → AreApart edges.items }
+    requires apart { (s : ℕ) (edges : Row Edge) → slice_get all.items s ≡ Some edges → AreApart edges.items }
     ensures many { IfOk result (λ graph_nodes. length graph_nodes.items ≡ length configurations.now) }
     ensures each { IfOk result (λ graph_nodes.
-        (s : ℕ) (configuration : Configuration) (edges : Vec Edge) (end_class : Option ℕ)
+        (s : ℕ) (configuration : Configuration) (edges : Row Edge) (end_class : Option ℕ)
         → slice_get configurations.now s ≡ Some configuration → slice_get all.items s ≡ Some edges
         → slice_get end_classes.now configuration.world ≡ Some end_class
         → slice_get graph_nodes.items s ≡ Some (graph_node_by end_class edges)) }

@@ -3,7 +3,9 @@ ghost use Rattle.std.specs.Prelude.{◌≡◌, ◌↔◌, ◌<◌, ◌^◌, ◌+
 ghost use Rattle.explore.specs.Keys.{AreFew, AreSameKeys, AreSameKeysButOutside, IsKeyAfter, print_of};
 
 use crate::fingerprint::Fingerprint;
+use crate::layer::ACTORS_IN_PLACE;
 use path_text::NoMemory;
+use smallvec::SmallVec;
 use std::alloc::Global;
 
 /// What a turn comes to, as far as it is its actor's own. This is what the search remembers of a turn: with it the key
@@ -26,7 +28,7 @@ pub(crate) struct Effect {
 
 /// What a key has of one actor: where its part stands among those that were met, and how many changes it has made. A
 /// turn that is known changes it of the turn's actor alone.
-#[derive(Clone, Copy, Debug, PartialEq, Eq)]
+#[derive(Clone, Copy, Debug, Default, PartialEq, Eq)]
 pub(crate) struct Own {
     /// The place of its part.
     pub(crate) part: usize,
@@ -45,7 +47,7 @@ pub(crate) struct Key {
     pub(crate) opened: u64,
     pub(crate) closed: u64,
     /// What is each actor's own.
-    pub(crate) own: Vec<Own>,
+    pub(crate) own: SmallVec<Own, ACTORS_IN_PLACE>,
 }
 
 // Whether the same parts stand in both.
@@ -110,7 +112,7 @@ impl Key {
     pub(crate) fn copy(&self, alloc: Global) -> Result<Key, NoMemory>
         ensures { IfOk result (λ key. AreSameKeys key self.now) }
     {
-        let own = Vec::from_slice(alloc, self.own.as_slice())?;
+        let own = SmallVec::from_slice(alloc, self.own.as_slice())?;
         Ok(Key {
             nodes: self.nodes,
             events: self.events,

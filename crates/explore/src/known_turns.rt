@@ -25,6 +25,7 @@ use crate::replayed::{Replayed, replay, take_turn, told, turns_of};
 use crate::world_counts::{Counts, Start, are_given, open_count, wide};
 use path_text::NoMemory;
 use race_core::{CopyTree, World};
+use smallvec::SmallVec;
 use std::alloc::Global;
 use std::marker::Model;
 use tree_model::{NUMBERS_MAX, Snapshot, Tree};
@@ -368,7 +369,7 @@ impl<T: CopyTree + Drop> KnownTurns<T> {
         ensures few { IfOk result (λ key. AreFew 0 key) }
     {
         let tree = world.book().tree().snapshot(alloc)?;
-        let mut own = Vec::with_capacity(alloc, world.actors())?;
+        let mut own = SmallVec::with_capacity(alloc, world.actors())?;
         for _actor in 0..world.actors() {
             own.push(Own {
                 part: 0,

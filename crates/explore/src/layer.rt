@@ -2,13 +2,23 @@
 //! them.
 use crate::cost::Cost;
 use crate::keys::Key;
+use smallvec::SmallVec;
+
+/// A list that has one thing for each actor keeps those of so many in its value. Where it has more, all are in an
+/// allocation.
+pub(crate) const ACTORS_IN_PLACE: usize = 4;
+
+/// A list of turns keeps so many in its value. Where it has more, all are in an allocation.
+pub(crate) const TURNS_IN_PLACE: usize = 96;
+
+/// The actors of turns, a byte each: there are at most 64.
+pub(crate) type Turns = SmallVec<u8, TURNS_IN_PLACE>;
 
 /// A world, by its key, and a list of turns that leads to it.
 #[derive(Drop)]
 pub(crate) struct Visited {
     pub(crate) key: Key,
-    /// The actors of the turns, a byte each: there are at most 64.
-    pub(crate) turns: Vec<u8>,
+    pub(crate) turns: Turns,
     /// Whether no world before it has the same parts, whatever was done outside of the roots.
     pub(crate) is_state: bool,
 }
@@ -18,8 +28,8 @@ pub(crate) struct Visited {
 pub(crate) struct Configuration {
     /// The place of the world among those of the layer.
     pub(crate) world: usize,
-    /// One of the lists, a byte each turn.
-    pub(crate) turns: Vec<u8>,
+    /// One of the lists.
+    pub(crate) turns: Turns,
     /// What counted in it.
     pub(crate) cost: Cost,
 }

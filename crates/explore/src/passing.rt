@@ -13,13 +13,14 @@ use crate::beginnings::Beginnings;
 use crate::ends::{class_at, is_over};
 use crate::found::Class;
 use crate::known_turns::KnownTurns;
-use crate::layer::{Configuration, Layer, Visited};
+use crate::layer::{ACTORS_IN_PLACE, Configuration, Layer, Visited};
 use crate::limits::SearchFault;
 use crate::replayed::{ended, replay, turns_of};
 use crate::transitions::Transition;
 use crate::visited_set::{VisitedSet, count_states};
 use path_text::NoMemory;
 use race_core::CopyTree;
+use smallvec::SmallVec;
 use std::alloc::Global;
 use tree_model::Tree;
 
@@ -31,7 +32,7 @@ pub(crate) struct Passed {
     /// Of each world the class of what it comes to, where nobody had anything left to do.
     pub(crate) end_classes: Vec<Option<usize>>,
     /// Of each world the places, among the next layer's, of those after its transitions.
-    pub(crate) places: Vec<Vec<usize>>,
+    pub(crate) places: Vec<SmallVec<usize, ACTORS_IN_PLACE>>,
     /// How many of the next layer's worlds have none before them with the same parts.
     pub(crate) states: u64,
 }
@@ -65,13 +66,13 @@ fn places_of<T: CopyTree + Drop, B: Beginnings<T>>(
     visited: &Visited,
     transitions: &[Transition],
     known: &mut VisitedSet,
-) -> Result<Vec<usize>, NoMemory>
+) -> Result<SmallVec<usize, ACTORS_IN_PLACE>, NoMemory>
     requires can { CanGoOn (B.opening beginnings.now) turns.old visited.now }
     requires there { AreThere (B.opening beginnings.now) configurations.now transitions.now }
     ensures { IfOk result (λ places. AreTaken (B.opening beginnings.now) configurations.now visited.now transitions.now
         turns.old turns.new known.old known.new places.items) }
 {
-    let mut places = Vec::with_capacity(alloc, transitions.len())?;
+    let mut places = SmallVec::with_capacity(alloc, transitions.len())?;
     for at in 0..transitions.len() {
         let one = transitions[at];
         let configuration = &configurations[one.configuration];
@@ -177,7 +178,7 @@ pub(crate) fn go_on<T: CopyTree + Drop, B: Beginnings<T>>(
     beginnings: &B,
     room: u64,
     layer: &Layer,
-    transitions: &[Vec<Transition>],
+    transitions: &[SmallVec<Transition, ACTORS_IN_PLACE>],
     turns: &mut KnownTurns<T>,
     classes: &mut Vec<Class<T>>,
 ) -> Result<Passed, SearchFault>

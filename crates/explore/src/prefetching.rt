@@ -11,13 +11,14 @@ ghost use Rattle.explore.specs.Runs.{AreBegun, AreLayers, AreReady, AreMisses, A
 use crate::beginnings::Beginnings;
 use crate::jobs::Jobs;
 use crate::known_turns::KnownTurns;
-use crate::layer::Visited;
+use crate::layer::{ACTORS_IN_PLACE, Visited};
 use crate::memo::MemoKey;
 use crate::replayed::{Replayed, replay};
 use crate::runs::{Run, are_done, end_all, give_up_runs, go_all};
 use crate::transitions::Transition;
 use path_text::NoMemory;
 use race_core::CopyTree;
+use smallvec::SmallVec;
 use std::alloc::Global;
 use std::collections::HashMap;
 use std::marker::{Send, Sync};
@@ -65,7 +66,7 @@ fn misses_of<T: CopyTree + Drop>(
     alloc: Global,
     turns: &KnownTurns<T>,
     worlds: &[Visited],
-    transitions: &[Vec<Transition>],
+    transitions: &[SmallVec<Transition, ACTORS_IN_PLACE>],
 ) -> Result<Vec<Miss>, NoMemory>
     requires many { length transitions.now ≡ length worlds.now }
     requires theirs { AreTheirs worlds.now transitions.now }
@@ -248,7 +249,7 @@ pub(crate) fn prefetch<T: CopyTree + Drop + Send, B: Beginnings<T>, R: Threads +
     jobs: Jobs,
     beginnings: &B,
     worlds: &[Visited],
-    transitions: &[Vec<Transition>],
+    transitions: &[SmallVec<Transition, ACTORS_IN_PLACE>],
     turns: &mut KnownTurns<T>,
 ) -> Result<(), NoMemory>
     requires sound { IsSound (B.opening beginnings.now) turns.old }

@@ -12,11 +12,13 @@ ghost use Rattle.explore.specs.Layers.{VisitedView, IsReplayed, IsReportOf};
 use crate::beginnings::Beginnings;
 use crate::cost::{Cost, cost_after, no_cost};
 use crate::found::Ending;
+use crate::layer::Turns;
 use crate::limits::{Limits, SearchFault};
 use crate::out_of_memory::tells_out_of_memory;
 use crate::outside::Tally;
 use path_text::NoMemory;
 use race_core::{ACTORS_MAX, Report, World};
+use smallvec::SmallVec;
 use std::alloc::Global;
 use std::marker::Model;
 use tree_model::Tree;
@@ -200,10 +202,10 @@ pub(crate) fn ended<T: Tree + Drop>(
 }
 
 /// These turns and one of that actor. NoMemory where their room was refused.
-pub(crate) fn turns_and(alloc: Global, before: &[u8], actor: u8) -> Result<Vec<u8>, NoMemory>
+pub(crate) fn turns_and(alloc: Global, before: &[u8], actor: u8) -> Result<Turns, NoMemory>
     ensures { IfOk result (λ turns. turns.items ≡ before.now ++ actor ∷ []) }
 {
-    let mut turns = Vec::with_capacity(alloc, before.len() + 1)?;
+    let mut turns = SmallVec::with_capacity(alloc, before.len() + 1)?;
     turns.extend_from_slice(before)?;
     turns.push(actor)?;
     Ok(turns)

@@ -1,6 +1,7 @@
 //! All full lists of turns, by layers of merged worlds.
 ghost use Rattle.std.specs.Prelude.{◌≡◌, ◌<◌, ◌≤◌, ◌+◌, ◌^◌, ◌++◌, ◌∷◌, [], ℕ, List, Option, Some, length, slice_get, IsTrue, IfOk, IfErr, OnOk};
 ghost use Rattle.std.specs.Global.{Vec};
+ghost use Rattle.smallvec.specs.SmallVec.{SmallVec as Row};
 ghost use Rattle.race_core.specs.declared.opening.TheConstants.{ACTORS_MAX};
 ghost use Rattle.schedule_graph.specs.declared.graph.Node.{Node};
 ghost use Rattle.schedule_graph.specs.declared.graph.Edge.{Edge};
@@ -30,7 +31,7 @@ use crate::found::{Class, Findings};
 use crate::jobs::Jobs;
 use crate::keys::Key;
 use crate::known_turns::KnownTurns;
-use crate::layer::{Configuration, Layer, Visited};
+use crate::layer::{ACTORS_IN_PLACE, Configuration, Layer, Visited};
 use crate::limits::{Bounds, Limits, Scope, SearchFault};
 use crate::passing::{Passed, go_on};
 use crate::prefetching::prefetch;
@@ -40,6 +41,7 @@ use crate::transitions::{Choice, listed};
 use path_text::NoMemory;
 use race_core::{ACTORS_MAX, CopyTree, World};
 use schedule_graph::{Count, Graph};
+use smallvec::SmallVec;
 use std::alloc::Global;
 use std::marker::{Send, Sync};
 use std::thread::Threads;
@@ -122,14 +124,14 @@ fn first(alloc: Global, key: Key) -> Result<Layer, NoMemory>
 {
     let configuration = Configuration {
         world: 0,
-        turns: Vec::new(alloc),
+        turns: SmallVec::new(alloc),
         cost: no_cost(),
     };
     let mut configurations = Vec::new(alloc);
     configurations.push(configuration)?;
     let visited = Visited {
         key,
-        turns: Vec::new(alloc),
+        turns: SmallVec::new(alloc),
         is_state: true,
     };
     let mut worlds = Vec::new(alloc);
@@ -146,8 +148,8 @@ fn spread(
     alloc: Global,
     bounds: Bounds,
     configurations: &[Configuration],
-    choices: &[Vec<Choice>],
-    places: &[Vec<usize>],
+    choices: &[SmallVec<Choice, ACTORS_IN_PLACE>],
+    places: &[SmallVec<usize, ACTORS_IN_PLACE>],
     end_classes: &[Option<usize>],
     graph: &mut Graph,
 ) -> Result<Vec<Configuration>, NoMemory>
@@ -156,7 +158,7 @@ fn spread(
     requires apart { AreApartChoices choices.now }
     requires on { (s : ℕ) (configuration : Configuration) → slice_get configurations.now s ≡ Some configuration
         → configuration.world < length end_classes.now }
-    ensures { IfOk result (λ next. (all : List (Vec Edge))
+    ensures { IfOk result (λ next. (all : List (Row Edge))
         × ((graph_nodes : Vec Node) × ((graph.new ≡ graph.old ++ graph_nodes ∷ [])
         × (AreEdgesOfAll bounds configurations.now choices.now places.now next.items all
         × AreGraphNodesBy configurations.now end_classes.now all graph_nodes.items)))) }
@@ -341,8 +343,7 @@ fn told_class<T: Tree + Drop, B: Beginnings<T>>(
     let Some(least) = &count.least else {
         unreachable!();
     };
-    let mut turns = Vec::new(alloc);
-    turns.extend_from_slice(least.word.as_slice())?;
+    let turns = turns_of(alloc, least.word.as_slice())?;
     let Ok(replayed) = replay(alloc, beginnings, scope.outside, turns) else {
         return Err(NoMemory);
     };

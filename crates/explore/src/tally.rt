@@ -2,16 +2,23 @@
 ghost use Rattle.std.specs.Prelude.{◌≡◌, ◌<◌, ◌≤◌, ℕ, length, IsTrue, ◌↔◌, IfOk};
 ghost use Rattle.race_core.specs.declared.opening.TheConstants.{ACTORS_MAX};
 ghost use Rattle.tree_model.specs.Steps.{held_count};
-ghost use Rattle.explore.specs.Lists.{is_at_most};
+ghost use Rattle.explore.specs.Lists.{is_at_most, is_not_after};
 ghost use Rattle.explore.specs.Tally.{SameOutcome, rank_of, IsPlace};
 
 use crate::found::{Class, Ending};
 use crate::same::{same_counts, same_replies};
 use path_text::NoMemory;
 use race_core::Outcomes;
-use schedule_graph::is_not_after;
 use std::alloc::Global;
 use tree_model::{Snapshot, Tree, same_nodes};
+
+// Whether the first list of turns isn't after the second.
+#[tactic(auto, using(schedule_graph::proofs::Ranks::lists_not_less))]
+fn is_not_after(turns: &[u32], others: &[u32]) -> bool
+    ensures { result ≡ is_not_after turns.now others.now }
+{
+    !others.cmp(turns).is_lt()
+}
 
 impl<T: Tree> Ending<T> {
     /// Whether the list isn't after the other: by the cuts, then by the changes of actor, then as lists.

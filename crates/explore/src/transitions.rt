@@ -14,14 +14,15 @@ ghost use Rattle.explore.specs.Points.{AreWithin};
 use crate::components::Components;
 use crate::cost::{Cost, cost_by, may_go};
 use crate::keys::Key;
-use crate::layer::Layer;
+use crate::layer::{ACTORS_IN_PLACE, Layer};
 use crate::limits::Bounds;
 use path_text::NoMemory;
+use smallvec::SmallVec;
 use std::alloc::Global;
 use tree_model::Tree;
 
 /// An actor's turn from a world, and the first configuration on it from which the actor may go.
-#[derive(Clone, Copy, Debug, PartialEq, Eq)]
+#[derive(Clone, Copy, Debug, Default, PartialEq, Eq)]
 pub(crate) struct Transition {
     /// The place of the configuration among those of the layer.
     pub(crate) configuration: usize,
@@ -29,7 +30,7 @@ pub(crate) struct Transition {
 }
 
 /// An actor who may have the next turn from a configuration.
-#[derive(Clone, Copy, Debug, PartialEq, Eq)]
+#[derive(Clone, Copy, Debug, Default, PartialEq, Eq)]
 pub(crate) struct Choice {
     pub(crate) actor: u8,
     /// What counts after its turn.
@@ -53,7 +54,7 @@ fn place_of(transitions: &[Transition], actor: u8) -> Option<usize>
 // The place of the actor's transition; one from that configuration is put after the others where there is none.
 // NoMemory where its room was refused.
 fn transition_at(
-    transitions: &mut Vec<Transition>,
+    transitions: &mut SmallVec<Transition, ACTORS_IN_PLACE>,
     configuration: usize,
     actor: u8,
 ) -> Result<usize, NoMemory>
@@ -83,8 +84,8 @@ fn choices_at<T: Tree>(
     cost: Cost,
     components: &Components<T>,
     key: &Key,
-    transitions: &mut Vec<Transition>,
-) -> Result<Vec<Choice>, NoMemory>
+    transitions: &mut SmallVec<Transition, ACTORS_IN_PLACE>,
+) -> Result<SmallVec<Choice, ACTORS_IN_PLACE>, NoMemory>
     requires few { length key.now.own.items ≤ ACTORS_MAX }
     requires within { AreWithin cost (2 ^ 40) }
     ensures keeps { IfOk result (λ choices. Keeps transitions.old.items transitions.new.items) }
@@ -95,7 +96,7 @@ fn choices_at<T: Tree>(
     ensures choices { IfOk result (λ choices. (w v : WorldView) → IsKey components.now w v key.now
         → AreChoices bounds (record { world = v; cost = cost }) transitions.new.items choices.items) }
 {
-    let mut choices = Vec::with_capacity(alloc, key.own.len())?;
+    let mut choices = SmallVec::with_capacity(alloc, key.own.len())?;
     for number in 0..key.own.len() {
         let actor = number as u32;
         if may_go(components, key, cost, bounds, actor) {
@@ -111,12 +112,15 @@ fn choices_at<T: Tree>(
 }
 
 // No transitions from each of so many worlds.
-fn no_transitions(alloc: Global, worlds: usize) -> Result<Vec<Vec<Transition>>, NoMemory>
+fn no_transitions(
+    alloc: Global,
+    worlds: usize,
+) -> Result<Vec<SmallVec<Transition, ACTORS_IN_PLACE>>, NoMemory>
     ensures { IfOk result (λ transitions. AreNoTransitions worlds transitions.items) }
 {
     let mut transitions = Vec::with_capacity(alloc, worlds)?;
     for _at in 0..worlds {
-        transitions.push(Vec::new(alloc))?;
+        transitions.push(SmallVec::new(alloc))?;
     }
     Ok(transitions)
 }
@@ -128,7 +132,13 @@ pub(crate) fn listed<T: Tree>(
     bounds: Bounds,
     components: &Components<T>,
     layer: &Layer,
-) -> Result<(Vec<Vec<Transition>>, Vec<Vec<Choice>>), NoMemory>
+) -> Result<
+    (
+        Vec<SmallVec<Transition, ACTORS_IN_PLACE>>,
+        Vec<SmallVec<Choice, ACTORS_IN_PLACE>>,
+    ),
+    NoMemory,
+>
     requires few { (m : ℕ) (visited : Visited) → slice_get layer.now.worlds.items m ≡ Some visited
         → length visited.key.own.items ≤ ACTORS_MAX }
     requires within { (s : ℕ) (configuration : Configuration)

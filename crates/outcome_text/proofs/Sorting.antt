@@ -1,27 +1,13 @@
 -- How ranks compare, and what a sort by them gives.
-use Rattle.std.proofs.Common.{◌≡◌, ℕ, Bool, true, false, not, List, [], ◌∷◌, Ordering, refl, sym, ap, ◌∙◌, arith}
+use Rattle.std.proofs.Common.{◌≡◌, Bool, true, false, not, List, [], ◌∷◌, refl, sym, ap, ◌∙◌}
 use Rattle.std.specs.Prelude.{if◌then◌else◌}
 use Rattle.std.specs.Cmp.{IsStrictWeakOrder}
-use Rattle.std.specs.Cmp.Lexicographic.{slice_cmp}
 use Rattle.std.specs.List.Sorted.{IsSortedBy, IsStableBy}
-use Rattle.std.specs.Ordering.{is_lt, nat_cmp, ordering_then}
-use Rattle.std.proofs.lemmas.Bool.Decides.{nat_tests}
 use Rattle.std.proofs.lemmas.Bool.{false≢true, true≢false}
-use Rattle.schedule_graph.specs.Words.{is_less_or, is_not_after}
 use Rattle.schedule_graph.proofs.Ranks.{ranks_total, ranks_chain}
 use Rattle.outcome_text.specs.declared.survey.Told.{Told}
 use Rattle.outcome_text.specs.Order.{rank_of, comes_before, put, in_order}
 use Rattle.outcome_text.proofs.Stable.{less, put_in, all_in, sorted_is_all_in}
-
--- the lesser number decides, or else what comes then
-pub then_less : (m n : ℕ) (rest : Ordering) (b : Bool) → is_lt rest ≡ not b → is_lt (ordering_then (nat_cmp m n) rest) ≡ not (is_less_or n m b)
-then_less m n rest b e = grind (arith, nat_tests)
-
-pub lists_less : (is js : List ℕ) → is_lt (slice_cmp nat_cmp is js) ≡ not (is_not_after js is)
-lists_less [] [] = refl
-lists_less [] (j ∷ js) = refl
-lists_less (i ∷ is) [] = refl
-lists_less (i ∷ is) (j ∷ js) = then_less i j (slice_cmp nat_cmp is js) (is_not_after js is) (lists_less is js)
 
 -- ---- outcomes put in their places are put in order
 

@@ -1,6 +1,8 @@
 -- Words are in one order, which stays where both go on by one edge.
-use Rattle.std.specs.Prelude.{◌≡◌, ◌==◌, ◌<◌, ◌+◌, ℕ, zero, suc, length, List, [], ◌∷◌, ◌++◌, Bool, true, false, None, Some, nat_lt, slice_get, refl}
-use Rattle.std.proofs.Common.{◌⊎◌, ◌∙◌, sym, ap, subst, ⊎_elim, arith, drop}
+use Rattle.std.specs.Prelude.{◌≡◌, ◌==◌, ◌<◌, ◌+◌, ℕ, zero, suc, length, List, [], ◌∷◌, ◌++◌, Bool, true, false, not, None, Some, nat_lt, slice_get, refl}
+use Rattle.std.proofs.Common.{Ordering, ◌⊎◌, ◌∙◌, sym, ap, subst, ⊎_elim, arith, drop}
+use Rattle.std.specs.Cmp.Lexicographic.{slice_cmp}
+use Rattle.std.specs.Ordering.{is_lt, nat_cmp, ordering_then}
 use Rattle.std.proofs.lemmas.Option.{none-some, same_Some}
 use Rattle.std.proofs.lemmas.Bool.Decides.{nat_tests}
 use Rattle.std.proofs.lemmas.Bool.{true≢false, false≢true}
@@ -137,3 +139,22 @@ not_after_next is js n i j e f same =
     let up : suc n ≡ n + 1 = omega arith in
     subst (λ m. is_not_after (drop n is) (drop n js) ≡ is_not_after (drop m is) (drop m js)) up
     (both_at is js n i j e f ∙ less_same i j _ same)
+
+-- ---- as lists are compared
+
+-- the lesser number decides, or else what comes then
+pub then_less : (m n : ℕ) (rest : Ordering) (b : Bool) → is_lt rest ≡ not b → is_lt (ordering_then (nat_cmp m n) rest) ≡ not (is_less_or n m b)
+then_less m n rest b e = grind (arith, nat_tests)
+
+pub lists_less : (is js : List ℕ) → is_lt (slice_cmp nat_cmp is js) ≡ not (is_not_after js is)
+lists_less [] [] = refl
+lists_less [] (j ∷ js) = refl
+lists_less (i ∷ is) [] = refl
+lists_less (i ∷ is) (j ∷ js) = then_less i j (slice_cmp nat_cmp is js) (is_not_after js is) (lists_less is js)
+
+pub lists_not_less : (is js : List ℕ) → not (is_lt (slice_cmp nat_cmp js is)) ≡ is_not_after is js
+lists_not_less is js = ap not (lists_less js is) ∙ twice (is_not_after is js)
+  where
+    twice : (b : Bool) → not (not b) ≡ b
+    twice true = refl
+    twice false = refl

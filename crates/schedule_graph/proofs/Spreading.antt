@@ -1,6 +1,7 @@
 -- What leads to a node is counted in the nodes that its edges lead to.
 use Rattle.std.specs.Prelude.{◌≡◌, ◌<◌, ◌≤◌, ◌+◌, ◌++◌, ℕ, zero, suc, List, [], ◌∷◌, length, Option, Some, None, slice_get, slice_set, refl}
 use Rattle.std.specs.Global.{Vec}
+use Rattle.smallvec.specs.SmallVec.{SmallVec}
 use Rattle.std.proofs.Common.{◌⊎◌, ◌∙◌, inl, inr, sym, ap, subst, ⊎_elim, arith, length-append, get_or}
 use Rattle.std.proofs.lemmas.Option.{same_Some, none-some, slice_get_within, slice_get-get_or}
 use Rattle.schedule_graph.specs.declared.graph.Edge.{Edge}
@@ -92,7 +93,7 @@ spread_unreached layers k s next m count none is =
 
 -- ---- one edge after another
 
-module _ (layers : List (Vec Node)) (k s : ℕ) (edges : Vec Edge) (goes : node_at layers k s ≡ Some (Goes edges)) where
+module _ (layers : List (Vec Node)) (k s : ℕ) (edges : SmallVec Edge) (goes : node_at layers k s ≡ Some (Goes edges)) where
   edge_here : (label : ℕ) → edge_at layers k s label ≡ edge_of edges.items label
   edge_here label = ap (λ o. edge_of (edges_from o) label) goes
 
@@ -250,10 +251,13 @@ module _ (layers : List (Vec Node)) (k s : ℕ) (edges : Vec Edge) (goes : node_
 -- ---- numbers that fit
 
 -- a cut more is as few as there are layers
-pub cuts_fit : (layers : List (Vec Node)) (k s : ℕ) (m : Count) (r : Rank) → IsCount (rank layers) (LeadsTo layers k s) m → m.least ≡ Some r → (r.cuts ≤ k) × (r.changes ≤ k)
+pub cuts_fit : (layers : List (Vec Node)) (k s : ℕ) (m : Count) (r : Rank) → IsCount (rank layers) (LeadsTo layers k s) m → m.least ≡ Some r
+    → (r.cuts ≤ k) × ((r.changes ≤ k) × (length r.turns ≡ k))
 cuts_fit layers k s m r count least =
-    let own = own_least in
-    (subst (λ n. n ≤ k) (sym (ap (λ (q : Rank). q.cuts) own.ranked)) (few_cuts own.is.long), subst (λ n. n ≤ k) (sym (ap (λ (q : Rank). q.changes) own.ranked)) (few_changes own.is.long))
+    let own = own_least in (
+      subst (λ n. n ≤ k) (sym (ap (λ (q : Rank). q.cuts) own.ranked)) (few_cuts own.is.long),
+      (subst (λ n. n ≤ k) (sym (ap (λ (q : Rank). q.changes) own.ranked)) (few_changes own.is.long), own.is.long),
+    )
   where
     own_least : IsLeast (rank layers) (LeadsTo layers k s) (Some r)
     own_least = subst (IsLeast (rank layers) (LeadsTo layers k s)) least count.least
@@ -266,14 +270,14 @@ cuts_fit layers k s m r count least =
 
 -- ---- as the loop has it
 
-layer_apart : (layers : List (Vec Node)) (k s : ℕ) (edges : Vec Edge) → AreLayers layers → node_at layers k s ≡ Some (Goes edges) → AreApart edges.items
+layer_apart : (layers : List (Vec Node)) (k s : ℕ) (edges : SmallVec Edge) → AreLayers layers → node_at layers k s ≡ Some (Goes edges) → AreApart edges.items
 layer_apart layers k s edges are goes = by (slice_get layers k) refl goes
   where
     by : (o : Option (Vec Node)) → slice_get layers k ≡ o → node_in o s ≡ Some (Goes edges) → AreApart edges.items
     by None q f = absurd (none-some (Goes edges) f)
     by (Some layer) q f = subst (λ (o : Option Node). AreApart (edges_from o)) f (are k layer q s)
 
-module _ (layers : List (Vec Node)) (k s : ℕ) (edges : Vec Edge) (are : AreLayers layers) (goes : node_at layers k s ≡ Some (Goes edges))
+module _ (layers : List (Vec Node)) (k s : ℕ) (edges : SmallVec Edge) (are : AreLayers layers) (goes : node_at layers k s ≡ Some (Goes edges))
     (items : List Edge) (same : items ≡ edges.items) (next : List Count) where
   pub spread_begun : IsNext layers k s next → IsSpread layers k s items 0 next
   spread_begun is = subst (λ (xs : List Edge). IsSpread layers k s xs 0 next) (sym same) (spread_first layers k s edges goes next is)

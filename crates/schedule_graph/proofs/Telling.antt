@@ -1,6 +1,7 @@
 -- What leads to a node where words end is counted in its class.
 use Rattle.std.specs.Prelude.{◌≡◌, ◌<◌, ◌≤◌, ℕ, suc, List, length, Some, None, slice_get, slice_set, refl}
 use Rattle.std.specs.Global.{Vec}
+use Rattle.smallvec.specs.SmallVec.{SmallVec}
 use Rattle.std.proofs.Common.{◌⊎◌, ◌∙◌, inl, inr, sym, ap, subst, ⊎_elim, arith}
 use Rattle.std.proofs.lemmas.Option.{same_Some, slice_get_within}
 use Rattle.schedule_graph.specs.declared.graph.Edge.{Edge}
@@ -80,7 +81,7 @@ module _ (layers : List (Vec Node)) (k s : ℕ) (counts : Counts) (told : AreTol
   pub told_unreached : (m : Count) → IsCount (rank layers) (LeadsTo layers k s) m → m.least ≡ None → AreTold layers k (suc s) counts
   told_unreached m count none = all_told_none (λ class w leads ends. none_least (rank layers) (LeadsTo layers k s) m count none w leads)
 
-  pub told_goes : (edges : Vec Edge) → node_at layers k s ≡ Some (Goes edges) → AreTold layers k (suc s) counts
+  pub told_goes : (edges : SmallVec Edge) → node_at layers k s ≡ Some (Goes edges) → AreTold layers k (suc s) counts
   told_goes edges goes = all_told_none (λ class w leads ends. apart class (same_Some (Goes edges) (Ends class) (sym goes ∙ ends)))
     where
       apart : (class : ℕ) → Goes edges ≡ Ends class → ⊥

@@ -1,16 +1,20 @@
 //! How many words there are, and the least of them.
-ghost use Rattle.std.specs.Prelude.{◌≡◌, ◌<◌, ◌+◌, ◌^◌, ◌++◌, ◌∷◌, [], Some, None, min, max, slice_get, IfOk, OnOk};
+ghost use Rattle.std.specs.Prelude.{◌≡◌, ◌<◌, ◌+◌, ◌^◌, ◌++◌, ◌∷◌, [], Some, None, min, max, length, slice_get, IfOk, OnOk};
 ghost use Rattle.schedule_graph.specs.Words.{is_not_after, is_at_most};
 ghost use Rattle.schedule_graph.specs.Adding.{went, lesser, added};
 ghost use Rattle.schedule_graph.specs.declared.count.TheConstants.{COUNT_CAP};
 
 use crate::graph::Edge;
 use path_text::NoMemory;
+use smallvec::SmallVec;
 use std::alloc::Global;
 use std::marker::Model;
 
 /// From here on numbers of words aren't told apart: it stands for itself and all that is more.
 pub const COUNT_CAP: u64 = 1_000_000_000_000_000_000;
+
+/// So many labels of a least word lie in its value. Where it has more, all are in an allocation.
+pub const LABELS_IN_PLACE: usize = 96;
 
 /// A word, and what it is ordered by. Contracts see it as a `Rank`.
 #[derive(Debug, Drop)]
@@ -20,7 +24,7 @@ pub struct Least {
     /// How many of its edges are a change.
     pub changes: u64,
     /// Its labels.
-    pub word: Vec<u32>,
+    pub word: SmallVec<u8, LABELS_IN_PLACE>,
 }
 
 impl Model for Least {
@@ -53,7 +57,7 @@ pub struct Counts {
 }
 
 // The label at that place of a list that has one more behind it.
-fn label_at(labels: &[u32], last: u32, at: usize) -> Option<u32>
+fn label_at(labels: &[u8], last: u8, at: usize) -> Option<u8>
     ensures { result ≡ slice_get (labels.now ++ last ∷ []) at }
 {
     if at == labels.len() {
@@ -63,7 +67,7 @@ fn label_at(labels: &[u32], last: u32, at: usize) -> Option<u32>
 }
 
 // Whether the first list isn't after the others with that one more behind them.
-fn is_not_after_with(labels: &[u32], others: &[u32], last: u32) -> bool
+fn is_not_after_with(labels: &[u8], others: &[u8], last: u8) -> bool
     ensures { result ≡ is_not_after labels.now (others.now ++ last ∷ []) }
 {
     for (at, label) in labels.iter().enumerate() {
@@ -79,7 +83,7 @@ fn is_not_after_with(labels: &[u32], others: &[u32], last: u32) -> bool
 
 /// Whether the first list isn't after the second, in the order of words: the two are equal, or the first ends where the
 /// second goes on, or its label is less where they first differ.
-pub fn is_not_after(labels: &[u32], others: &[u32]) -> bool
+pub fn is_not_after(labels: &[u8], others: &[u8]) -> bool
     ensures { result ≡ is_not_after labels.now others.now }
 {
     match others.split_last() {
@@ -96,7 +100,7 @@ impl Least {
         Least {
             cuts: 0,
             changes: 0,
-            word: Vec::new(alloc),
+            word: SmallVec::new(alloc),
         }
     }
 
@@ -134,12 +138,10 @@ impl Least {
     pub(crate) fn copy(&self, alloc: Global) -> Result<Least, NoMemory>
         ensures { IfOk result (λ least. least ≡ self.now) }
     {
-        let mut word = Vec::new(alloc);
-        word.extend_from_slice(self.word.as_slice())?;
         Ok(Least {
             cuts: self.cuts,
             changes: self.changes,
-            word,
+            word: SmallVec::from_slice(alloc, self.word.as_slice())?,
         })
     }
 
@@ -147,9 +149,10 @@ impl Least {
     pub(crate) fn then(&self, alloc: Global, edge: &Edge) -> Result<Least, NoMemory>
         requires cuts { self.now.cuts + 1 < 2 ^ 64 }
         requires changes { self.now.changes + 1 < 2 ^ 64 }
+        requires labels { length self.now.turns + 1 < 2 ^ 64 }
         ensures { IfOk result (λ least. least ≡ went self.now edge.now) }
     {
-        let mut word = Vec::with_capacity(alloc, self.word.len() + 1)?;
+        let mut word = SmallVec::with_capacity(alloc, self.word.len() + 1)?;
         word.extend_from_slice(self.word.as_slice())?;
         word.push(edge.label)?;
         Ok(Least {
@@ -202,6 +205,7 @@ impl Count {
     ) -> Result<(), NoMemory>
         requires cuts { least.now.cuts + 1 < 2 ^ 64 }
         requires changes { least.now.changes + 1 < 2 ^ 64 }
+        requires labels { length least.now.turns + 1 < 2 ^ 64 }
         ensures { OnOk result (self.new ≡ added self.old words (went least.now edge.now)) }
     {
         self.grow(words, least.word.len() + 1);
@@ -212,6 +216,7 @@ impl Count {
     fn keep_by(&mut self, alloc: Global, least: &Least, edge: &Edge) -> Result<(), NoMemory>
         requires cuts { least.now.cuts + 1 < 2 ^ 64 }
         requires changes { least.now.changes + 1 < 2 ^ 64 }
+        requires labels { length least.now.turns + 1 < 2 ^ 64 }
         ensures { OnOk result (self.new
             ≡ record self.old { least = Some (lesser self.old.least (went least.now edge.now)) }) }
     {

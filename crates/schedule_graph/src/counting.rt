@@ -72,7 +72,7 @@ fn spread(
     let Some(least) = &count.least else {
         return Ok(());
     };
-    for edge in edges {
+    for edge in edges.as_slice() {
         if edge.to < next.len() {
             next[edge.to].add_by(alloc, count.words, least, edge)?;
         }

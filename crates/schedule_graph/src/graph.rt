@@ -6,14 +6,18 @@ ghost use Rattle.schedule_graph.specs.Counted.{AreCounts};
 use crate::count::Counts;
 use crate::counting::count_layers;
 use path_text::NoMemory;
+use smallvec::SmallVec;
 use std::alloc::Global;
 use std::marker::Model;
 
+/// So many edges of a node lie in the node itself. Where it has more, all are in an allocation.
+pub const EDGES_IN_PLACE: usize = 4;
+
 /// An edge from a node to one of the next layer.
-#[derive(Clone, Copy, Debug, PartialEq, Eq)]
+#[derive(Clone, Copy, Debug, Default, PartialEq, Eq)]
 pub struct Edge {
     /// The label of this edge.
-    pub label: u32,
+    pub label: u8,
     /// Whether it counts as a cut.
     pub cut: bool,
     /// Whether it counts as a change.
@@ -28,7 +32,7 @@ pub enum Node {
     /// A word that comes here is whole, and of the class with that number.
     Ends(usize),
     /// A word that comes here goes on by one of these edges, no two of them with the same label.
-    Goes(Vec<Edge>),
+    Goes(SmallVec<Edge, EDGES_IN_PLACE>),
 }
 
 /// A layered graph. Its words are those from the first node of its first layer. Contracts see it as the list of its

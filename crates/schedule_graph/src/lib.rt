@@ -13,7 +13,7 @@ mod fault;
 mod graph;
 mod laws;
 
-pub use count::{COUNT_CAP, Count, Counts, Least, is_not_after};
+pub use count::{COUNT_CAP, Count, Counts, LABELS_IN_PLACE, Least, is_not_after};
 pub use fault::SearchFault;
-pub use graph::{Edge, Graph, Node};
+pub use graph::{EDGES_IN_PLACE, Edge, Graph, Node};
 pub use laws::count_cap_is_a_number;

@@ -3,7 +3,8 @@ ghost use Rattle.std.specs.Prelude.{Some, IfOk};
 ghost use Rattle.schedule_graph.specs.Words.{AreApart, IsLayer, edges_from};
 
 use path_text::NoMemory;
-use schedule_graph::{COUNT_CAP, Count, Counts, Edge, Graph, Node, is_not_after};
+use schedule_graph::{COUNT_CAP, Count, Counts, EDGES_IN_PLACE, Edge, Graph, Node, is_not_after};
+use smallvec::SmallVec;
 use std::alloc::Global;
 use std::test::Fail;
 
@@ -12,7 +13,7 @@ use std::test::Fail;
 type Drawn<'a> = (usize, &'a [(u8, usize)]);
 
 /// The number of words, the longest one's length, and the least one's cuts, changes and labels.
-type Wanted<'a> = (u64, usize, Option<(u64, u64, &'a [u32])>);
+type Wanted<'a> = (u64, usize, Option<(u64, u64, &'a [u8])>);
 
 /// The nodes of each layer, and what they come to: of each of two classes, and of all.
 type Case<'a> = (&'a [&'a [Drawn<'a>]], Wanted<'a>, Wanted<'a>, Wanted<'a>);
@@ -85,16 +86,29 @@ const CASES: &[Case<'_>] = &[
         NONE,
         (2, 1, Some((0, 0, &[1]))),
     ),
+    // more edges than lie in a node
+    (
+        &[
+            &[(0, &[(1, 0), (1, 0), (2, 0), (3, 0), (0, 0)])],
+            &[(0, END)],
+        ],
+        (5, 1, Some((0, 0, &[4]))),
+        NONE,
+        (5, 1, Some((0, 0, &[4]))),
+    ),
     // words that lead nowhere
     (&[&[(0, &[(0, 0)])], &[(0, &[(0, 0)])]], NONE, NONE, NONE),
 ];
 
-fn edges_of(alloc: Global, drawn: &[(u8, usize)]) -> Result<Vec<Edge>, NoMemory>
+fn edges_of(
+    alloc: Global,
+    drawn: &[(u8, usize)],
+) -> Result<SmallVec<Edge, EDGES_IN_PLACE>, NoMemory>
     ensures { IfOk result (λ edges. AreApart edges.items) }
 {
-    let mut edges = Vec::new(alloc);
+    let mut edges = SmallVec::new(alloc);
     for (at, (mark, to)) in drawn.iter().enumerate() {
-        let Ok(label) = u32::try_from(at) else {
+        let Ok(label) = u8::try_from(at) else {
             break;
         };
         edges.push(Edge {
@@ -190,16 +204,18 @@ fn are_so_many(counts: &Counts, layers: usize, words: u64) -> bool {
                 && counts.all.longest == layers
                 && of_class.words == words
                 && least.changes == 0
+                && least.word.len() == layers
         }
         _ => false,
     }
 }
 
-const DOUBLED: [(usize, u64); 4] = [
+const DOUBLED: [(usize, u64); 5] = [
     (59, 1 << 59),
     (60, COUNT_CAP),
     (64, COUNT_CAP),
     (70, COUNT_CAP),
+    (100, COUNT_CAP),
 ];
 
 /// The first number of layers that come to something else.
@@ -220,7 +236,7 @@ fn many_words_are_counted_up_to_the_cap(rt: HostRuntime) -> Result<(), Fail> {
 }
 
 /// Two words, the first of which isn't after the other.
-const IN_ORDER: [(&[u32], &[u32]); 8] = [
+const IN_ORDER: [(&[u8], &[u8]); 8] = [
     (&[], &[]),
     (&[], &[0]),
     (&[0, 1], &[0, 1]),

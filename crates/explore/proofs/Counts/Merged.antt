@@ -1,6 +1,7 @@
 -- The words of a graph that fits a world are the lists that are asked for.
 use Rattle.std.specs.Prelude.{◌≡◌, ◌≤◌, ◌+◌, ℕ, suc, List, [], ◌∷◌, Bool, true, false, ◌&&◌, length, drop, slice_get, Option, Some, None, refl}
 use Rattle.std.specs.Global.{Vec}
+use Rattle.smallvec.specs.SmallVec.{SmallVec}
 use Rattle.std.specs.Option.{option_map_or}
 use Rattle.std.proofs.Common.{sym, ap, ◌∙◌, subst, arith}
 use Rattle.std.proofs.lemmas.Bool.{true≢false}
@@ -72,7 +73,7 @@ plus_transitions false m n = refl
 
 -- an edge by a label leads from a graph node where words go on
 edge_goes : (graph_node : Option Node) (i : ℕ) (edge : Edge) → edge_of (edges_from graph_node) i ≡ Some edge
-    → (edges : Vec Edge) × ((graph_node ≡ Some (Goes edges)) × (edge_of edges.items i ≡ Some edge))
+    → (edges : SmallVec Edge) × ((graph_node ≡ Some (Goes edges)) × (edge_of edges.items i ≡ Some edge))
 edge_goes None i edge e = absurd (none-some edge e)
 edge_goes (Some (Ends class)) i edge e = absurd (none-some edge e)
 edge_goes (Some (Goes edges)) i edge e = (edges, (refl, e))

@@ -1,6 +1,7 @@
 -- What a layer that was gone through comes to, and the classes that are told in the end.
 use Rattle.std.specs.Prelude.{◌≡◌, ◌<◌, ◌≤◌, ◌+◌, ◌^◌, ◌++◌, ℕ, suc, List, [], ◌∷◌, Option, Some, None, length, slice_get, refl}
 use Rattle.std.specs.Global.{Vec}
+use Rattle.smallvec.specs.SmallVec.{SmallVec}
 use Rattle.std.proofs.Common.{sym, ap, ◌∙◌, subst, ⊎_elim, arith}
 use Rattle.std.proofs.lemmas.Option.{same_Some, none-some, slice_get_within}
 use Rattle.race_core.specs.Worlds.{WorldView, Reports, ledgers_in, turn}
@@ -37,15 +38,15 @@ use Rattle.explore.proofs.Lists.Along.{along_world}
 -- ---- the graph nodes of a layer
 
 module _ (bounds : Bounds) (layer next : LayerView) (n : ℕ) (on : AreOn n layer) where
-  graph_node_of : (classes : List ClassView) (configuration : Configuration) (visited : VisitedView) (edges : Vec Edge) → AreEdgesBy bounds layer next configuration visited edges.items
+  graph_node_of : (classes : List ClassView) (configuration : Configuration) (visited : VisitedView) (edges : SmallVec Edge) → AreEdgesBy bounds layer next configuration visited edges.items
       → (end_class : Option ℕ) → (end_class ≡ None → HasEdge bounds.only edges.items) → IsEndClass classes visited end_class → IsGraphNode bounds layer next classes configuration visited (graph_node_by end_class edges)
   graph_node_of classes configuration visited edges are None has busy = (busy, (has refl, are))
   graph_node_of classes configuration visited edges are (Some class) has placed = placed
 
-  pub graph_nodes_are : (classes : List ClassView) (all : List (Vec Edge)) (end_classes : List (Option ℕ)) (graph_nodes : List Node)
-      → ((s : ℕ) (configuration : Configuration) (edges : Vec Edge) → slice_get layer.configurations s ≡ Some configuration → slice_get all s ≡ Some edges → slice_get end_classes configuration.world ≡ Some None → HasEdge bounds.only edges.items)
+  pub graph_nodes_are : (classes : List ClassView) (all : List (SmallVec Edge)) (end_classes : List (Option ℕ)) (graph_nodes : List Node)
+      → ((s : ℕ) (configuration : Configuration) (edges : SmallVec Edge) → slice_get layer.configurations s ≡ Some configuration → slice_get all s ≡ Some edges → slice_get end_classes configuration.world ≡ Some None → HasEdge bounds.only edges.items)
       → AreAllEdges bounds layer next all → AreEndClasses classes layer.worlds end_classes → length graph_nodes ≡ length layer.configurations
-      → ((s : ℕ) (configuration : Configuration) (edges : Vec Edge) (end_class : Option ℕ) → slice_get layer.configurations s ≡ Some configuration → slice_get all s ≡ Some edges → slice_get end_classes configuration.world ≡ Some end_class → slice_get graph_nodes s ≡ Some (graph_node_by end_class edges))
+      → ((s : ℕ) (configuration : Configuration) (edges : SmallVec Edge) (end_class : Option ℕ) → slice_get layer.configurations s ≡ Some configuration → slice_get all s ≡ Some edges → slice_get end_classes configuration.world ≡ Some end_class → slice_get graph_nodes s ≡ Some (graph_node_by end_class edges))
       → AreGraphNodes bounds layer next classes graph_nodes
   graph_nodes_are classes all end_classes graph_nodes have are_edges are_end_classes many each = record { many = many; each = one }
     where
@@ -65,13 +66,13 @@ module _ (bounds : Bounds) (layer next : LayerView) (n : ℕ) (on : AreOn n laye
 
 -- ---- a layer that was gone through
 
-module _ (g : Going) (worlds : List VisitedView) (end_classes : List (Option ℕ)) (places : List (Vec ℕ)) (classes : List ClassView) (gone : AreGone g worlds end_classes places classes)
-    (whole : length g.layer.worlds ≤ length end_classes) (n : ℕ) (on : AreOn n g.layer) (choices : List (Vec Choice)) (are : AreAllChoices g.bounds g.layer g.transitions choices)
-    (next : List Configuration) (all : List (Vec Edge)) (of : AreEdgesOfAll g.bounds g.layer.configurations choices places next all) (graph_nodes : List Node)
+module _ (g : Going) (worlds : List VisitedView) (end_classes : List (Option ℕ)) (places : List (SmallVec ℕ)) (classes : List ClassView) (gone : AreGone g worlds end_classes places classes)
+    (whole : length g.layer.worlds ≤ length end_classes) (n : ℕ) (on : AreOn n g.layer) (choices : List (SmallVec Choice)) (are : AreAllChoices g.bounds g.layer g.transitions choices)
+    (next : List Configuration) (all : List (SmallVec Edge)) (of : AreEdgesOfAll g.bounds g.layer.configurations choices places next all) (graph_nodes : List Node)
     (spotted : AreGraphNodesBy g.layer.configurations end_classes all graph_nodes) (goes : AllGoOn g.bounds.only g.layer.configurations choices end_classes) where
   -- as many edges lead from a configuration as it has choices
-  edges_many : (s : ℕ) (configuration : Configuration) (edges : Vec Edge) → slice_get g.layer.configurations s ≡ Some configuration → slice_get all s ≡ Some edges
-      → (those : Vec Choice) × ((slice_get choices s ≡ Some those) × (length edges.items ≡ length those.items))
+  edges_many : (s : ℕ) (configuration : Configuration) (edges : SmallVec Edge) → slice_get g.layer.configurations s ≡ Some configuration → slice_get all s ≡ Some edges
+      → (those : SmallVec Choice) × ((slice_get choices s ≡ Some those) × (length edges.items ≡ length those.items))
   edges_many s configuration edges there is =
       let lt = slice_get_within g.layer.configurations s configuration there in
       let within = (on.configurations s configuration there).on in
@@ -80,7 +81,7 @@ module _ (g : Going) (worlds : List VisitedView) (end_classes : List (Option ℕ
       let to : AreEdgesTo g.bounds configuration those.0.items row.0.items next edges.items = of.edges s configuration those.0 row.0 edges there those.1 row.1 is in
       (those.0, (those.1, to.many))
 
-  have_edges : (s : ℕ) (configuration : Configuration) (edges : Vec Edge) → slice_get g.layer.configurations s ≡ Some configuration → slice_get all s ≡ Some edges
+  have_edges : (s : ℕ) (configuration : Configuration) (edges : SmallVec Edge) → slice_get g.layer.configurations s ≡ Some configuration → slice_get all s ≡ Some edges
       → slice_get end_classes configuration.world ≡ Some None → HasEdge g.bounds.only edges.items
   have_edges s configuration edges there is none = by g.bounds.only goes
     where

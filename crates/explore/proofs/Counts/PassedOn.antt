@@ -1,6 +1,6 @@
 -- A layer that was gone on from by its keys was passed, and the next one is kept.
 use Rattle.std.specs.Prelude.{◌≡◌, ◌<◌, ◌≤◌, ◌+◌, ◌^◌, ℕ, List, Option, Some, length, slice_get, refl}
-use Rattle.std.specs.Global.{Vec}
+use Rattle.smallvec.specs.SmallVec.{SmallVec}
 use Rattle.std.proofs.Common.{sym, ap, ◌∙◌, subst, arith}
 use Rattle.race_core.specs.Worlds.{WorldView}
 use Rattle.schedule_graph.specs.declared.graph.Node.{Node}
@@ -40,8 +40,8 @@ pub record ToPass : Type 0 where
   pub on : AreOn n (layer_of w known.components.told layer)
   pub components : ComponentsView
   pub keys : AreKeys components w layer
-  pub transitions : List (Vec Transition)
-  pub choices : List (Vec Choice)
+  pub transitions : List (SmallVec Transition)
+  pub choices : List (SmallVec Choice)
   pub listed : AreKeys components w layer → AreTransitions bounds (layer_of w known.components.told layer) transitions
   pub chosen : AreKeys components w layer → AreAllChoices bounds (layer_of w known.components.told layer) transitions choices
 
@@ -66,11 +66,11 @@ module _ (s : ToPass) where
     listed = s.listed s.keys;
   }
 
-  pub is_expansion : (transitions : List (Vec Transition)) → transitions ≡ s.transitions → IsExpansion expansion s.w s.known s.layer transitions s.found
+  pub is_expansion : (transitions : List (SmallVec Transition)) → transitions ≡ s.transitions → IsExpansion expansion s.w s.known s.layer transitions s.found
   is_expansion transitions same =
       record { sound = s.kept.sound; w_is = refl; layer_is = refl; transitions_are = sym same; before_is = refl; found_is = refl }
 
-  module _ (after : KnownView) (next : List Visited) (end_classes : List (Option ℕ)) (places : List (Vec ℕ)) (classes : List ClassView)
+  module _ (after : KnownView) (next : List Visited) (end_classes : List (Option ℕ)) (places : List (SmallVec ℕ)) (classes : List ClassView)
       (came : AreExpanded expansion after next end_classes places classes × (length end_classes ≡ length s.layer.worlds.items)) where
     abbrev views : List VisitedView
     views = all_visited_of s.w s.known.components.told next
@@ -86,17 +86,17 @@ module _ (s : ToPass) where
         let whole : length end_classes ≡ length s.layer.worlds.items = came.1 in omega (arith, many, whole)
 
     -- the same lists, as slices
-    module _ (configurations : List Configuration) (choices : List (Vec Choice)) (rows : List (Vec ℕ)) (ends : List (Option ℕ)) (configurations_are : configurations ≡ s.layer.configurations.items)
+    module _ (configurations : List Configuration) (choices : List (SmallVec Choice)) (rows : List (SmallVec ℕ)) (ends : List (Option ℕ)) (configurations_are : configurations ≡ s.layer.configurations.items)
         (choices_are : choices ≡ s.choices) (rows_are : rows ≡ places) (ends_are : ends ≡ end_classes) where
       pub are_fit : AreFit configurations choices rows
       are_fit =
           subst (λ (xs : List Configuration). AreFit xs choices rows) (sym configurations_are)
-          (subst (λ (xs : List (Vec Choice)). AreFit s.layer.configurations.items xs rows) (sym choices_are)
-          (subst (λ (xs : List (Vec ℕ)). AreFit s.layer.configurations.items s.choices xs) (sym rows_are)
+          (subst (λ (xs : List (SmallVec Choice)). AreFit s.layer.configurations.items xs rows) (sym choices_are)
+          (subst (λ (xs : List (SmallVec ℕ)). AreFit s.layer.configurations.items s.choices xs) (sym rows_are)
           (fits its views end_classes places classes has_gone all_end_classes s.n s.on s.choices are)))
 
       pub are_apart : AreApartChoices choices
-      are_apart = subst (λ (xs : List (Vec Choice)). AreApartChoices xs) (sym choices_are)
+      are_apart = subst (λ (xs : List (SmallVec Choice)). AreApartChoices xs) (sym choices_are)
           (choices_apart its views end_classes places classes has_gone all_end_classes s.n s.on s.choices are)
 
       pub end_classes_on : (k : ℕ) (configuration : Configuration) → slice_get configurations k ≡ Some configuration → configuration.world < length ends
@@ -104,11 +104,11 @@ module _ (s : ToPass) where
           (end_classes_there its views end_classes places classes has_gone all_end_classes s.n s.on s.choices are k configuration
           (ap (λ (xs : List Configuration). slice_get xs k) (sym configurations_are) ∙ there))
 
-      module _ (new : Layer) (worlds : new.worlds.items ≡ next) (all : List (Vec Edge)) (edges : AreEdgesOfAll s.bounds configurations choices rows new.configurations.items all) where
+      module _ (new : Layer) (worlds : new.worlds.items ≡ next) (all : List (SmallVec Edge)) (edges : AreEdgesOfAll s.bounds configurations choices rows new.configurations.items all) where
         own_edges : AreEdgesOfAll s.bounds s.layer.configurations.items s.choices places new.configurations.items all
         own_edges =
-            subst (λ (xs : List (Vec ℕ)). AreEdgesOfAll s.bounds s.layer.configurations.items s.choices xs new.configurations.items all) rows_are
-            (subst (λ (xs : List (Vec Choice)). AreEdgesOfAll s.bounds s.layer.configurations.items xs rows new.configurations.items all) choices_are
+            subst (λ (xs : List (SmallVec ℕ)). AreEdgesOfAll s.bounds s.layer.configurations.items s.choices xs new.configurations.items all) rows_are
+            (subst (λ (xs : List (SmallVec Choice)). AreEdgesOfAll s.bounds s.layer.configurations.items xs rows new.configurations.items all) choices_are
             (subst (λ (xs : List Configuration). AreEdgesOfAll s.bounds xs choices rows new.configurations.items all) configurations_are edges))
 
         pub is_passed : (graph_nodes : List Node) → AreGraphNodesBy configurations ends all graph_nodes → AllGoOn s.bounds.only configurations choices ends
@@ -126,7 +126,7 @@ module _ (s : ToPass) where
             own_goes : AllGoOn s.bounds.only s.layer.configurations.items s.choices end_classes
             own_goes =
                 subst (λ (xs : List (Option ℕ)). AllGoOn s.bounds.only s.layer.configurations.items s.choices xs) ends_are
-                (subst (λ (xs : List (Vec Choice)). AllGoOn s.bounds.only s.layer.configurations.items xs ends) choices_are
+                (subst (λ (xs : List (SmallVec Choice)). AllGoOn s.bounds.only s.layer.configurations.items xs ends) choices_are
                 (subst (λ (xs : List Configuration). AllGoOn s.bounds.only xs choices ends) configurations_are goes))
 
         pub next_kept : AreKept after s.w (s.n + 1) new

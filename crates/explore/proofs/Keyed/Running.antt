@@ -1,6 +1,6 @@
 -- Runs for turns that aren't known: what each stage of them finds, and that what is known stays so.
 use Rattle.std.specs.Prelude.{◌≡◌, ◌<◌, ◌≤◌, ◌+◌, ◌^◌, ℕ, zero, suc, List, Bool, ◌++◌, ◌∷◌, [], length, Some, slice_get, slice_set, true, refl}
-use Rattle.std.specs.Global.{Vec}
+use Rattle.smallvec.specs.SmallVec.{SmallVec}
 use Rattle.std.proofs.lemmas.Option.{same_Some, none-some}
 use Rattle.std.proofs.Common.{◌≢◌, take, drop, sym, ap, ◌∙◌, subst, ⊎_elim, arith}
 use Rattle.race_core.specs.Turns.{Luck}
@@ -81,7 +81,7 @@ layers_kept w n known layer short kept = record {
   short = λ m visited there. let long = kept.after.long m visited there in omega (arith, short, long);
 }
 
-pub are_theirs : (w : WorldView) (n : ℕ) (known : KnownView) (layer : Layer) → AreKept known w n layer → (bounds : Bounds) (told : Bool) (transitions : List (Vec Transition))
+pub are_theirs : (w : WorldView) (n : ℕ) (known : KnownView) (layer : Layer) → AreKept known w n layer → (bounds : Bounds) (told : Bool) (transitions : List (SmallVec Transition))
     → AreTransitions bounds (layer_of w told layer) transitions → AreTheirs layer.worlds.items transitions
 are_theirs w n known layer kept bounds told transitions listed m visited those j one here there is =
     let its = listed.each m those j one there is in

@@ -1,6 +1,6 @@
 -- The transitions from a layer, and who may have the next turn from its configurations.
 use Rattle.std.specs.Prelude.{◌≡◌, ◌<◌, ◌≤◌, ◌+◌, ◌^◌, ◌⊎◌, ◌++◌, ℕ, zero, suc, List, [], ◌∷◌, length, true, Option, Some, None, slice_get, slice_set, refl}
-use Rattle.std.specs.Global.{Vec}
+use Rattle.smallvec.specs.SmallVec.{SmallVec}
 use Rattle.std.proofs.Common.{inl, inr, ⊎_elim, sym, ap, ◌∙◌, subst, arith}
 use Rattle.std.proofs.lemmas.Bool.{false≢true}
 use Rattle.std.proofs.lemmas.Option.{same_Some, none-some, slice_get_within}
@@ -111,11 +111,11 @@ one_of bounds configuration p i one may is = record {
 
 -- ---- one configuration after another
 
-module _ (bounds : Bounds) (layer : LayerView) (transitions new : List (Vec Transition)) (m : ℕ) (row grown : Vec Transition) (was : slice_get transitions m ≡ Some row)
+module _ (bounds : Bounds) (layer : LayerView) (transitions new : List (SmallVec Transition)) (m : ℕ) (row grown : SmallVec Transition) (was : slice_get transitions m ≡ Some row)
     (set : new ≡ slice_set transitions m grown) (keeps : Keeps row.items grown.items) where
-  each_row : (k : ℕ) (those : Vec Transition) → slice_get new k ≡ Some those → ((k ≡ m) × (those ≡ grown)) ⊎ (slice_get transitions k ≡ Some those)
+  each_row : (k : ℕ) (those : SmallVec Transition) → slice_get new k ≡ Some those → ((k ≡ m) × (those ≡ grown)) ⊎ (slice_get transitions k ≡ Some those)
   each_row k those there =
-      ⊎_elim (λ h. inl h) (λ h. inr h.1) (get_set transitions m k grown those (ap (λ (xs : List (Vec Transition)). slice_get xs k) (sym set) ∙ there))
+      ⊎_elim (λ h. inl h) (λ h. inr h.1) (get_set transitions m k grown those (ap (λ (xs : List (SmallVec Transition)). slice_get xs k) (sym set) ∙ there))
 
   module _ (s : ℕ) (configuration : Configuration) (visited : VisitedView) (here : slice_get layer.configurations s ≡ Some configuration) (at : configuration.world ≡ m)
       (on : slice_get layer.worlds configuration.world ≡ Some visited)
@@ -136,21 +136,21 @@ module _ (bounds : Bounds) (layer : LayerView) (transitions new : List (Vec Tran
       each = λ k those j one there there_in. ⊎_elim
           (λ h. subst (λ n. IsTransitionFrom bounds layer n one) (sym h.0)
           (⊎_elim (are.each m row j one was) (from_here one)
-          (own j one (ap (λ (v : Vec Transition). slice_get v.items j) (sym h.1) ∙ there_in))))
+          (own j one (ap (λ (v : SmallVec Transition). slice_get v.items j) (sym h.1) ∙ there_in))))
           (λ h. are.each k those j one h there_in)
           (each_row k those there);
     }
 
   -- the choices of the configurations before
-  pub first_on : (all : List (Vec Choice)) → AreFirstChoices bounds layer transitions all → AreFirstChoices bounds layer new all
+  pub first_on : (all : List (SmallVec Choice)) → AreFirstChoices bounds layer transitions all → AreFirstChoices bounds layer new all
   first_on all are s configuration visited those choices here on there is = ⊎_elim
       (λ h. choices_on bounds (point_at visited configuration) row.items those.items choices.items
-      (subst (λ (v : Vec Transition). Keeps row.items v.items) (sym h.1) keeps)
+      (subst (λ (v : SmallVec Transition). Keeps row.items v.items) (sym h.1) keeps)
       (are s configuration visited row choices here on (ap (slice_get transitions) h.0 ∙ was) is))
       (λ h. are s configuration visited those choices here on h is)
       (each_row configuration.world those there)
 
-pub first_more : (bounds : Bounds) (layer : LayerView) (transitions : List (Vec Transition)) (all new : List (Vec Choice)) (choices : Vec Choice) (configuration : Configuration) (visited : VisitedView) (those : Vec Transition)
+pub first_more : (bounds : Bounds) (layer : LayerView) (transitions : List (SmallVec Transition)) (all new : List (SmallVec Choice)) (choices : SmallVec Choice) (configuration : Configuration) (visited : VisitedView) (those : SmallVec Transition)
     → new ≡ all ++ choices ∷ [] → slice_get layer.configurations (length all) ≡ Some configuration → slice_get layer.worlds configuration.world ≡ Some visited → slice_get transitions configuration.world ≡ Some those
     → AreChoices bounds (point_at visited configuration) those.items choices.items → AreFirstChoices bounds layer transitions all → AreFirstChoices bounds layer transitions new
 first_more bounds layer transitions all new choices configuration visited those is here on there own are s st l mvs cs st_here l_on mvs_there cs_there = ⊎_elim
@@ -159,11 +159,11 @@ first_more bounds layer transitions all new choices configuration visited those 
     let same : configuration ≡ st = same_Some configuration st (sym here ∙ (ap (slice_get layer.configurations) (sym last.0) ∙ st_here)) in
     let alive : visited ≡ l = same_Some visited l (sym on ∙ (ap (λ (x : Configuration). slice_get layer.worlds x.world) same ∙ l_on)) in
     let row : those ≡ mvs = same_Some those mvs (sym there ∙ (ap (λ (x : Configuration). slice_get transitions x.world) same ∙ mvs_there)) in
-    subst (λ (c : Vec Choice). AreChoices bounds (point_at l st) mvs.items c.items) (sym last.1)
+    subst (λ (c : SmallVec Choice). AreChoices bounds (point_at l st) mvs.items c.items) (sym last.1)
     (subst (λ (x : Configuration). AreChoices bounds (point_at l x) mvs.items choices.items) same
     (subst (λ (x : VisitedView). AreChoices bounds (point_at x configuration) mvs.items choices.items) alive
-    (subst (λ (x : Vec Transition). AreChoices bounds (point_at visited configuration) x.items choices.items) row own))))
-    (get_push all choices s cs (ap (λ (xs : List (Vec Choice)). slice_get xs s) (sym is) ∙ cs_there))
+    (subst (λ (x : SmallVec Transition). AreChoices bounds (point_at visited configuration) x.items choices.items) row own))))
+    (get_push all choices s cs (ap (λ (xs : List (SmallVec Choice)). slice_get xs s) (sym is) ∙ cs_there))
 
 -- ---- what the transitions allow
 
@@ -180,14 +180,14 @@ set_there [] i x y e = absurd (none-some y e)
 set_there (z ∷ zs) zero x y e = refl
 set_there (z ∷ zs) (suc i) x y e = set_there zs i x y e
 
-module _ (bounds : Bounds) (layer : LayerView) (transitions : List (Vec Transition)) (s : ℕ) (configuration : Configuration) (visited : VisitedView) (row grown : Vec Transition)
+module _ (bounds : Bounds) (layer : LayerView) (transitions : List (SmallVec Transition)) (s : ℕ) (configuration : Configuration) (visited : VisitedView) (row grown : SmallVec Transition)
     (here : slice_get layer.configurations s ≡ Some configuration) (on : slice_get layer.worlds configuration.world ≡ Some visited) (was : slice_get transitions configuration.world ≡ Some row)
     (keeps : Keeps row.items grown.items)
     (own : (j : ℕ) (one : Transition) → slice_get grown.items j ≡ Some one → (slice_get row.items j ≡ Some one) ⊎ IsOneOf bounds s (point_at visited configuration) one) where
   pub transitions_grown : AreTransitions bounds layer transitions → AreTransitions bounds layer (slice_set transitions configuration.world grown)
   transitions_grown are = transitions_more bounds layer transitions (slice_set transitions configuration.world grown) configuration.world row grown was refl keeps s configuration visited here refl on own are
 
-  pub choices_grown : (all new : List (Vec Choice)) (choices : Vec Choice) → length all ≡ s → new ≡ all ++ choices ∷ []
+  pub choices_grown : (all new : List (SmallVec Choice)) (choices : SmallVec Choice) → length all ≡ s → new ≡ all ++ choices ∷ []
       → AreChoices bounds (point_at visited configuration) grown.items choices.items → AreFirstChoices bounds layer transitions all
       → AreFirstChoices bounds layer (slice_set transitions configuration.world grown) new
   choices_grown all new choices long is are before =

@@ -1,6 +1,6 @@
 -- The edges from the configurations of a layer, and the layer that they lead to.
 use Rattle.std.specs.Prelude.{◌≡◌, ◌<◌, ◌≤◌, ◌+◌, ◌⊎◌, ◌++◌, ℕ, suc, List, [], ◌∷◌, length, ◌==◌, Bool, true, false, not, Option, Some, slice_get, refl}
-use Rattle.std.specs.Global.{Vec}
+use Rattle.smallvec.specs.SmallVec.{SmallVec}
 use Rattle.std.proofs.Common.{inl, inr, ⊎_elim, sym, ap, ◌∙◌, subst, arith, length-append, eq-eqb, eqb-true}
 use Rattle.std.proofs.lemmas.Option.{same_Some, slice_get_within}
 use Rattle.tree_model.proofs.Places.{slice_get-last}
@@ -89,14 +89,14 @@ module _ (bounds : Bounds) (configuration : Configuration) (choices : List Choic
 
 -- ---- the edges from all configurations
 
-module _ (bounds : Bounds) (configurations : List Configuration) (choices : List (Vec Choice)) (places : List (Vec ℕ)) where
-  module _ (old new : List Configuration) (s : ℕ) (configuration : Configuration) (those : Vec Choice) (row : Vec ℕ) (here : slice_get configurations s ≡ Some configuration) (chosen : slice_get choices s ≡ Some those)
+module _ (bounds : Bounds) (configurations : List Configuration) (choices : List (SmallVec Choice)) (places : List (SmallVec ℕ)) where
+  module _ (old new : List Configuration) (s : ℕ) (configuration : Configuration) (those : SmallVec Choice) (row : SmallVec ℕ) (here : slice_get configurations s ≡ Some configuration) (chosen : slice_get choices s ≡ Some those)
       (at : slice_get places configuration.world ≡ Some row) where
     pub from_more : AreConfigurationsBy configuration those.items row.items old new → AreConfigurationsFrom configurations choices places old → AreConfigurationsFrom configurations choices places new
     from_more own are t successor there = ⊎_elim (are t successor)
         (λ is. record { s = s; configuration = configuration; there = here; those = those; chosen = chosen; row = row; places_there = at; is = is }) (own t successor there)
 
-    pub first_more : (all more : List (Vec Edge)) (edges : Vec Edge) → Keeps old new → length all ≡ s → AreEdgesTo bounds configuration those.items row.items new edges.items
+    pub first_more : (all more : List (SmallVec Edge)) (edges : SmallVec Edge) → Keeps old new → length all ≡ s → AreEdgesTo bounds configuration those.items row.items new edges.items
         → more ≡ all ++ edges ∷ [] → AreFirstEdges bounds configurations choices places old all → AreFirstEdges bounds configurations choices places new more
     first_more all more edges keeps long own is are r st cs ps ws st_here cs_chosen ps_at ws_there = ⊎_elim
         (λ was. let before = are r st cs ps ws st_here cs_chosen ps_at was in
@@ -106,28 +106,28 @@ module _ (bounds : Bounds) (configurations : List Configuration) (choices : List
         let same : configuration ≡ st = same_Some configuration st (sym here ∙ (ap (slice_get configurations) (sym e) ∙ st_here)) in
         let same_those : those ≡ cs = same_Some those cs (sym chosen ∙ (ap (slice_get choices) (sym e) ∙ cs_chosen)) in
         let same_row : row ≡ ps = same_Some row ps (sym at ∙ (ap (λ (x : Configuration). slice_get places x.world) same ∙ ps_at)) in
-        subst (λ (v : Vec Edge). AreEdgesTo bounds st cs.items ps.items new v.items) (sym last.1)
+        subst (λ (v : SmallVec Edge). AreEdgesTo bounds st cs.items ps.items new v.items) (sym last.1)
         (subst (λ (x : Configuration). AreEdgesTo bounds x cs.items ps.items new edges.items) same
-        (subst (λ (v : Vec Choice). AreEdgesTo bounds configuration v.items ps.items new edges.items) same_those
-        (subst (λ (v : Vec ℕ). AreEdgesTo bounds configuration those.items v.items new edges.items) same_row own))))
-        (get_push all edges r ws (ap (λ (xs : List (Vec Edge)). slice_get xs r) (sym is) ∙ ws_there))
+        (subst (λ (v : SmallVec Choice). AreEdgesTo bounds configuration v.items ps.items new edges.items) same_those
+        (subst (λ (v : SmallVec ℕ). AreEdgesTo bounds configuration those.items v.items new edges.items) same_row own))))
+        (get_push all edges r ws (ap (λ (xs : List (SmallVec Edge)). slice_get xs r) (sym is) ∙ ws_there))
 
 -- ---- what they come to
 
-module _ (g : Going) (worlds : List VisitedView) (end_classes : List (Option ℕ)) (places : List (Vec ℕ)) (classes : List ClassView) (gone : AreGone g worlds end_classes places classes)
-    (whole : length g.layer.worlds ≤ length end_classes) (n : ℕ) (on : AreOn n g.layer) (choices : List (Vec Choice)) (are : AreAllChoices g.bounds g.layer g.transitions choices) where
+module _ (g : Going) (worlds : List VisitedView) (end_classes : List (Option ℕ)) (places : List (SmallVec ℕ)) (classes : List ClassView) (gone : AreGone g worlds end_classes places classes)
+    (whole : length g.layer.worlds ≤ length end_classes) (n : ℕ) (on : AreOn n g.layer) (choices : List (SmallVec Choice)) (are : AreAllChoices g.bounds g.layer g.transitions choices) where
   -- a configuration with its world, its choices, and the places of its transitions
-  record IsSeen (s : ℕ) (configuration : Configuration) (those : Vec Choice) (row : Vec ℕ) : Type 0 where
+  record IsSeen (s : ℕ) (configuration : Configuration) (those : SmallVec Choice) (row : SmallVec ℕ) : Type 0 where
     pub visited : VisitedView
     pub there : slice_get g.layer.worlds configuration.world ≡ Some visited
-    pub transitions : Vec Transition
+    pub transitions : SmallVec Transition
     pub are_choices : AreChoices g.bounds (point_at visited configuration) transitions.items those.items
     pub leads : AreLeads visited transitions.items worlds row.items
 
-  row_of : (s : ℕ) (configuration : Configuration) → slice_get g.layer.configurations s ≡ Some configuration → (row : Vec ℕ) × (slice_get places configuration.world ≡ Some row)
+  row_of : (s : ℕ) (configuration : Configuration) → slice_get g.layer.configurations s ≡ Some configuration → (row : SmallVec ℕ) × (slice_get places configuration.world ≡ Some row)
   row_of s configuration here = within_some places configuration.world (let lt = (on.configurations s configuration here).on in let e = gone.many in omega (arith, lt, e, whole))
 
-  seen : (s : ℕ) (configuration : Configuration) (those : Vec Choice) (row : Vec ℕ) → slice_get g.layer.configurations s ≡ Some configuration → slice_get choices s ≡ Some those
+  seen : (s : ℕ) (configuration : Configuration) (those : SmallVec Choice) (row : SmallVec ℕ) → slice_get g.layer.configurations s ≡ Some configuration → slice_get choices s ≡ Some those
       → slice_get places configuration.world ≡ Some row → IsSeen s configuration those row
   seen s configuration those row here chosen at =
       let lt = (on.configurations s configuration here).on in
@@ -141,7 +141,7 @@ module _ (g : Going) (worlds : List VisitedView) (end_classes : List (Option ℕ
         leads = gone.leads configuration.world visited.0 transitions.0 row visited.1 transitions.1 at;
       }
 
-  replay : (s : ℕ) (configuration : Configuration) (those : Vec Choice) (row : Vec ℕ) → (is : IsSeen s configuration those row) → (k : ℕ) (choice : Choice) → slice_get those.items k ≡ Some choice
+  replay : (s : ℕ) (configuration : Configuration) (those : SmallVec Choice) (row : SmallVec ℕ) → (is : IsSeen s configuration those row) → (k : ℕ) (choice : Choice) → slice_get those.items k ≡ Some choice
       → (to : ℕ) × ((slice_get row.items choice.at ≡ Some to) × Leads is.visited choice.actor worlds to)
   replay s configuration those row is k choice there =
       let of = (is.are_choices.each k choice there).transition in
@@ -166,18 +166,18 @@ module _ (g : Going) (worlds : List VisitedView) (end_classes : List (Option ℕ
   pub end_classes_many : length end_classes ≡ length g.layer.worlds
   end_classes_many = let le = gone.fits in omega (arith, le, whole)
 
-  module _ (next : List Configuration) (all : List (Vec Edge)) (of : AreEdgesOfAll g.bounds g.layer.configurations choices places next all) where
+  module _ (next : List Configuration) (all : List (SmallVec Edge)) (of : AreEdgesOfAll g.bounds g.layer.configurations choices places next all) where
     abbrev after : LayerView
     after = record { worlds = worlds; configurations = next }
 
-    transition : (s : ℕ) (configuration : Configuration) (those : Vec Choice) (row : Vec ℕ) (is : IsSeen s configuration those row) (k : ℕ) (choice : Choice) → slice_get those.items k ≡ Some choice
+    transition : (s : ℕ) (configuration : Configuration) (those : SmallVec Choice) (row : SmallVec ℕ) (is : IsSeen s configuration those row) (k : ℕ) (choice : Choice) → slice_get those.items k ≡ Some choice
         → (world : ℕ) → slice_get row.items choice.at ≡ Some world → (m : ℕ) → m ≡ world → IsTransition g.layer configuration.world choice.actor worlds m
     transition s configuration those row is k choice there world at m e =
         let by = replay s configuration those row is k choice there in
         let same : by.0 ≡ m = same_Some by.0 world (sym by.1.0 ∙ at) ∙ sym e in
         record { from = is.visited; here = is.there; leads = subst (λ j. Leads is.visited choice.actor worlds j) same by.1.1 }
 
-    onward_of : (s : ℕ) (configuration : Configuration) (those : Vec Choice) (row : Vec ℕ) (is : IsSeen s configuration those row) (k : ℕ) (choice : Choice) → slice_get g.layer.configurations s ≡ Some configuration
+    onward_of : (s : ℕ) (configuration : Configuration) (those : SmallVec Choice) (row : SmallVec ℕ) (is : IsSeen s configuration those row) (k : ℕ) (choice : Choice) → slice_get g.layer.configurations s ≡ Some configuration
         → slice_get those.items k ≡ Some choice → IsOnward g.bounds g.layer configuration is.visited choice.actor
     onward_of s configuration those row is k choice here there = record { at = s; there = here; on = is.there; may = (is.are_choices.each k choice there).may }
 
@@ -220,7 +220,7 @@ module _ (g : Going) (worlds : List VisitedView) (end_classes : List (Option ℕ
     pub after_on : AreOn (suc n) after
     after_on = record { configurations = is_on; actors = few }
 
-    module _ (s : ℕ) (configuration : Configuration) (those : Vec Choice) (row : Vec ℕ) (edges : Vec Edge) (here : slice_get g.layer.configurations s ≡ Some configuration) (chosen : slice_get choices s ≡ Some those)
+    module _ (s : ℕ) (configuration : Configuration) (those : SmallVec Choice) (row : SmallVec ℕ) (edges : SmallVec Edge) (here : slice_get g.layer.configurations s ≡ Some configuration) (chosen : slice_get choices s ≡ Some those)
         (at : slice_get places configuration.world ≡ Some row) (there : slice_get all s ≡ Some edges) where
       abbrev is : IsSeen s configuration those row
       is = seen s configuration those row here chosen at
@@ -293,9 +293,9 @@ module _ (g : Going) (worlds : List VisitedView) (end_classes : List (Option ℕ
 
 -- ---- edges that are apart, for their graph nodes
 
-pub edges_apart : (bounds : Bounds) (configurations : List Configuration) (choices : List (Vec Choice)) (places : List (Vec ℕ)) (next : List Configuration) (all : List (Vec Edge))
+pub edges_apart : (bounds : Bounds) (configurations : List Configuration) (choices : List (SmallVec Choice)) (places : List (SmallVec ℕ)) (next : List Configuration) (all : List (SmallVec Edge))
     → length choices ≡ length configurations → AreFit configurations choices places → AreApartChoices choices → AreEdgesOfAll bounds configurations choices places next all
-    → (s : ℕ) (edges : Vec Edge) → slice_get all s ≡ Some edges → AreApart edges.items
+    → (s : ℕ) (edges : SmallVec Edge) → slice_get all s ≡ Some edges → AreApart edges.items
 edges_apart bounds configurations choices places next all many fit choices_are of s edges there k l v w v_there w_there same =
     let lt = slice_get_within all s edges there in
     let e = of.many in
@@ -307,7 +307,7 @@ edges_apart bounds configurations choices places next all many fit choices_are o
     let d = choice_at configuration.0 those.0 row.0 edges to row.1.1 l w w_there in
     choices_are s those.0 k l c.0 d.0 those.1 c.1.0 d.1.0 (sym c.1.1 ∙ (same ∙ d.1.1))
   where
-    choice_at : (configuration : Configuration) (those : Vec Choice) (row : Vec ℕ) (edges : Vec Edge) → AreEdgesTo bounds configuration those.items row.items next edges.items → IsFitting those.items row.items
+    choice_at : (configuration : Configuration) (those : SmallVec Choice) (row : SmallVec ℕ) (edges : SmallVec Edge) → AreEdgesTo bounds configuration those.items row.items next edges.items → IsFitting those.items row.items
         → (k : ℕ) (edge : Edge) → slice_get edges.items k ≡ Some edge → (choice : Choice) × ((slice_get those.items k ≡ Some choice) × (edge.label ≡ choice.actor))
     choice_at configuration those row edges to fitting k edge w_there =
         let choice = within_some those.items k (let lt = slice_get_within edges.items k edge w_there in let e = to.many in omega (arith, lt, e)) in

@@ -1,6 +1,6 @@
 -- The worlds of a layer are ended: the classes of what they come to, and the graph nodes of the configurations.
 use Rattle.std.specs.Prelude.{◌≡◌, ◌<◌, ◌≤◌, ℕ, zero, suc, List, [], ◌∷◌, ◌++◌, false, length, Option, Some, None, slice_get, refl}
-use Rattle.std.specs.Global.{Vec}
+use Rattle.smallvec.specs.SmallVec.{SmallVec}
 use Rattle.std.proofs.Common.{◌⊎◌, ◌∙◌, inl, inr, sym, ap, subst, ⊎_elim, arith, length-append, get_or, drop}
 use Rattle.std.proofs.lemmas.Option.{same_Some, none-some, slice_get_within, slice_get-get_or}
 use Rattle.race_core.specs.declared.seat.Seat.{Seat}
@@ -117,22 +117,22 @@ module _ (classes new : List ClassView) (e : EndingView) (at : ℕ) (place : IsP
 
 -- These are the graph nodes of the first configurations; the configurations and the edges that are left are of the
 -- others.
-pub record AreSpotted (configurations left : List Configuration) (end_classes : List (Option ℕ)) (all others : List (Vec Edge)) (graph_nodes : List Node) : Type 0 where
+pub record AreSpotted (configurations left : List Configuration) (end_classes : List (Option ℕ)) (all others : List (SmallVec Edge)) (graph_nodes : List Node) : Type 0 where
   pub fits : length graph_nodes ≤ length configurations
   pub left_are : left ≡ drop (length graph_nodes) configurations
   pub others_are : others ≡ drop (length graph_nodes) all
-  pub each : (s : ℕ) (configuration : Configuration) (edges : Vec Edge) (end_class : Option ℕ) → s < length graph_nodes → slice_get configurations s ≡ Some configuration → slice_get all s ≡ Some edges
+  pub each : (s : ℕ) (configuration : Configuration) (edges : SmallVec Edge) (end_class : Option ℕ) → s < length graph_nodes → slice_get configurations s ≡ Some configuration → slice_get all s ≡ Some edges
       → slice_get end_classes configuration.world ≡ Some end_class → slice_get graph_nodes s ≡ Some (graph_node_by end_class edges)
   pub apart : IsLayer graph_nodes
 
 no_edges : AreApart []
 no_edges i j v w e = absurd (none-some v e)
 
-graph_node_apart : (end_class : Option ℕ) (edges : Vec Edge) → AreApart edges.items → AreApart (edges_from (Some (graph_node_by end_class edges)))
+graph_node_apart : (end_class : Option ℕ) (edges : SmallVec Edge) → AreApart edges.items → AreApart (edges_from (Some (graph_node_by end_class edges)))
 graph_node_apart None edges apart = apart
 graph_node_apart (Some class) edges apart = no_edges
 
-pub spotted_none : (configurations left : List Configuration) (end_classes : List (Option ℕ)) (all others : List (Vec Edge)) (graph_nodes : List Node) → graph_nodes ≡ [] → left ≡ configurations → others ≡ all
+pub spotted_none : (configurations left : List Configuration) (end_classes : List (Option ℕ)) (all others : List (SmallVec Edge)) (graph_nodes : List Node) → graph_nodes ≡ [] → left ≡ configurations → others ≡ all
     → AreSpotted configurations left end_classes all others graph_nodes
 spotted_none configurations left end_classes all others graph_nodes none e f = subst (AreSpotted configurations left end_classes all others) (sym none) (record {
   fits = omega arith;
@@ -142,10 +142,10 @@ spotted_none configurations left end_classes all others graph_nodes none e f = s
   apart = λ s. no_edges;
 })
 
-pub spotted_more : (configurations left : List Configuration) (end_classes : List (Option ℕ)) (all others : List (Vec Edge)) (graph_nodes : List Node)
+pub spotted_more : (configurations left : List Configuration) (end_classes : List (Option ℕ)) (all others : List (SmallVec Edge)) (graph_nodes : List Node)
     → ((s : ℕ) (configuration : Configuration) → slice_get configurations s ≡ Some configuration → configuration.world < length end_classes)
-    → ((s : ℕ) (edges : Vec Edge) → slice_get all s ≡ Some edges → AreApart edges.items)
-    → AreSpotted configurations left end_classes all others graph_nodes → (configuration : Configuration) (left' : List Configuration) (edges : Vec Edge) (others' : List (Vec Edge)) (new : List Node)
+    → ((s : ℕ) (edges : SmallVec Edge) → slice_get all s ≡ Some edges → AreApart edges.items)
+    → AreSpotted configurations left end_classes all others graph_nodes → (configuration : Configuration) (left' : List Configuration) (edges : SmallVec Edge) (others' : List (SmallVec Edge)) (new : List Node)
     → left ≡ configuration ∷ left' → others ≡ edges ∷ others' → new ≡ graph_nodes ++ graph_node_by (get_or end_classes configuration.world None) edges ∷ []
     → AreSpotted configurations left' end_classes all others' new
 spotted_more configurations left end_classes all others graph_nodes on are_apart so configuration left' edges others' new e f is =
@@ -166,7 +166,7 @@ spotted_more configurations left end_classes all others graph_nodes on are_apart
           let same_edges : edges ≡ by = same_Some edges by (sym there.0 ∙ (ap (slice_get all) (sym last) ∙ edges_are)) in
           let same_end_class : end_class ≡ t = same_Some end_class t (sym at ∙ (ap (λ (x : Configuration). slice_get end_classes x.world) same_configuration ∙ end_class_is)) in
           ap (slice_get (graph_nodes ++ graph_node_by end_class edges ∷ [])) last ∙ (last_there graph_nodes (graph_node_by end_class edges)
-          ∙ (ap (λ x. Some (graph_node_by x edges)) same_end_class ∙ ap (λ (v : Vec Edge). Some (graph_node_by t v)) same_edges)))
+          ∙ (ap (λ x. Some (graph_node_by x edges)) same_end_class ∙ ap (λ (v : SmallVec Edge). Some (graph_node_by t v)) same_edges)))
           (at_or_below s (length graph_nodes) (omega (arith, lt, more)));
       apart = λ s. ⊎_elim
           (λ old. subst (λ o. AreApart (edges_from o)) (sym old) (so.apart s))
@@ -175,7 +175,7 @@ spotted_more configurations left end_classes all others graph_nodes on are_apart
     })
 
 -- nothing is left of one of the two
-pub spotted_all : (configurations left : List Configuration) (end_classes : List (Option ℕ)) (all others : List (Vec Edge)) (graph_nodes : List Node) → length all ≡ length configurations
+pub spotted_all : (configurations left : List Configuration) (end_classes : List (Option ℕ)) (all others : List (SmallVec Edge)) (graph_nodes : List Node) → length all ≡ length configurations
     → AreSpotted configurations left end_classes all others graph_nodes → (length left ≡ 0) ⊎ (length others ≡ 0) → length graph_nodes ≡ length configurations
 spotted_all configurations left end_classes all others graph_nodes many so none =
     let past : length configurations ≤ length graph_nodes = ⊎_elim
@@ -184,8 +184,8 @@ spotted_all configurations left end_classes all others graph_nodes many so none 
     none in
     omega (arith, past, so.fits)
 
-pub spotted_each : (configurations left : List Configuration) (end_classes : List (Option ℕ)) (all others : List (Vec Edge)) (graph_nodes : List Node) → length all ≡ length configurations
-    → AreSpotted configurations left end_classes all others graph_nodes → (length left ≡ 0) ⊎ (length others ≡ 0) → (s : ℕ) (configuration : Configuration) (edges : Vec Edge) (end_class : Option ℕ)
+pub spotted_each : (configurations left : List Configuration) (end_classes : List (Option ℕ)) (all others : List (SmallVec Edge)) (graph_nodes : List Node) → length all ≡ length configurations
+    → AreSpotted configurations left end_classes all others graph_nodes → (length left ≡ 0) ⊎ (length others ≡ 0) → (s : ℕ) (configuration : Configuration) (edges : SmallVec Edge) (end_class : Option ℕ)
     → slice_get configurations s ≡ Some configuration → slice_get all s ≡ Some edges → slice_get end_classes configuration.world ≡ Some end_class → slice_get graph_nodes s ≡ Some (graph_node_by end_class edges)
 spotted_each configurations left end_classes all others graph_nodes many so none s configuration edges end_class there =
     so.each s configuration edges end_class (subst (λ n. s < n) (sym (spotted_all configurations left end_classes all others graph_nodes many so none)) (slice_get_within configurations s configuration there)) there

@@ -1,6 +1,6 @@
 -- A layer's worlds gone on from by their keys: what is known of the worlds that the keys stand for.
 use Rattle.std.specs.Prelude.{◌≡◌, ◌<◌, ◌≤◌, ◌++◌, ℕ, List, [], ◌∷◌, Bool, Option, Some, length, slice_get, refl}
-use Rattle.std.specs.Global.{Vec}
+use Rattle.smallvec.specs.SmallVec.{SmallVec}
 use Rattle.std.proofs.Common.{sym, ap, ◌∙◌, subst}
 use Rattle.std.proofs.lemmas.Option.{same_Some}
 use Rattle.race_core.specs.Worlds.{WorldView, turn}
@@ -28,7 +28,7 @@ use Rattle.explore.proofs.Lists.SearchLaws.{after_append}
 
 -- ---- the layer
 
-module _ (g : Expansion) (known : KnownView) (next : List Visited) (end_classes : List (Option ℕ)) (places : List (Vec ℕ)) (classes : List ClassView)
+module _ (g : Expansion) (known : KnownView) (next : List Visited) (end_classes : List (Option ℕ)) (places : List (SmallVec ℕ)) (classes : List ClassView)
     (expanded : AreExpanded g known next end_classes places classes) where
   abbrev layer : LayerView
   layer = layer_of g.w g.before.told g.layer
@@ -122,7 +122,7 @@ module _ (g : Expansion) (known : KnownView) (next : List Visited) (end_classes 
       let after : after_turns g.w turns ≡ turn full before i = ap (after_turns g.w) is ∙ after_append g.w configuration.turns.items (i ∷ []) in
       subst (λ (v : WorldView). IsKey known.components g.w v to.key) (sym after) (follows before (g.configurations s configuration visited there on))
 
-  module _ (choices : List (Vec Choice)) (are : AreAllChoices g.bounds layer g.transitions choices) (successor : List Configuration)
+  module _ (choices : List (SmallVec Choice)) (are : AreAllChoices g.bounds layer g.transitions choices) (successor : List Configuration)
       (from : AreConfigurationsFrom g.layer.configurations.items choices places successor) where
     pub successor_on_keys : ConfigurationsHaveKeys known.components g.w next successor
     successor_on_keys t configuration visited there is_on =

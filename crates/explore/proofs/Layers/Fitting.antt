@@ -1,6 +1,7 @@
 -- The graph of a search that came to its end fits the world: each graph node is for a configuration's place.
 use Rattle.std.specs.Prelude.{◌≡◌, ◌<◌, ◌≤◌, ◌⊎◌, ◌+◌, ℕ, zero, suc, List, [], Bool, true, length, slice_get, Option, Some, None, refl}
 use Rattle.std.specs.Global.{Vec}
+use Rattle.smallvec.specs.SmallVec.{SmallVec}
 use Rattle.std.proofs.Common.{sym, ap, ◌∙◌, subst, ⊎_elim, arith}
 use Rattle.std.proofs.lemmas.Option.{same_Some, none-some, slice_get_within}
 use Rattle.race_core.specs.Worlds.{WorldView, is_busy_at}
@@ -289,7 +290,7 @@ module _ (w : WorldView) (scope : Scope) (layers : List LayerView) (graph : List
             is_edge i edge (subst (λ j. IsEdgeBy (bounds_at scope k) layer next configuration visited j edge) at.1.1 (are.each at.0 edge at.1.0));
       }
 
-    goes : (k s : ℕ) (edges : Vec Edge) → node_at graph k s ≡ Some (Goes edges) → AreEdges scope graph (place_at w scope layers) k s edges.items
+    goes : (k s : ℕ) (edges : SmallVec Edge) → node_at graph k s ≡ Some (Goes edges) → AreEdges scope graph (place_at w scope layers) k s edges.items
     goes k s edges e =
         let of = configuration_of k s (Goes edges) e in
         are_edges k s of.layer of.next of.configuration of.visited of.here of.then of.there of.on edges.items of.is.0 of.is.1.0 of.is.1.1

@@ -1,6 +1,6 @@
 -- A layer gone on from by keys: one transition after another, and one world after another.
 use Rattle.std.specs.Prelude.{◌≡◌, ◌<◌, ◌+◌, ◌⊎◌, ◌++◌, ◌^◌, ℕ, List, [], ◌∷◌, length, Bool, Option, Some, None, slice_get, refl}
-use Rattle.std.specs.Global.{Vec}
+use Rattle.smallvec.specs.SmallVec.{SmallVec}
 use Rattle.std.proofs.Common.{inl, inr, ⊎_elim, sym, ap, ◌∙◌, subst, arith, length-append}
 use Rattle.std.proofs.lemmas.List.{length-map}
 use Rattle.std.proofs.lemmas.Option.{same_Some, slice_get_within}
@@ -217,7 +217,7 @@ module _ (w : WorldView) (told : Bool) (visited : Visited) (gone : VisitedView) 
 -- ---- what may be gone on from
 
 module _ (g : Expansion) (m : ℕ) (visited : Visited) (here : slice_get g.layer.worlds.items m ≡ Some visited) where
-  pub can_go_on : (known : KnownView) (next : List Visited) (end_classes : List (Option ℕ)) (places : List (Vec ℕ))
+  pub can_go_on : (known : KnownView) (next : List Visited) (end_classes : List (Option ℕ)) (places : List (SmallVec ℕ))
       (classes : List ClassView) → AreExpanded g known next end_classes places classes
       → CanGoOn g.w known visited
   can_go_on known next end_classes places classes expanded =
@@ -230,7 +230,7 @@ module _ (g : Expansion) (m : ℕ) (visited : Visited) (here : slice_get g.layer
         short = omega (arith, short, long);
       }
 
-  module _ (those : Vec Transition) (listed : slice_get g.transitions m ≡ Some those) (j : ℕ) (one : Transition)
+  module _ (those : SmallVec Transition) (listed : slice_get g.transitions m ≡ Some those) (j : ℕ) (one : Transition)
       (is : slice_get those.items j ≡ Some one) where
     abbrev its_transition : IsTransitionFrom g.bounds (layer_of g.w g.before.told g.layer) m one
     its_transition = g.listed.each m those j one listed is
@@ -266,8 +266,8 @@ end_class_on old new visited (Some at) keeps is =
 
 -- one more
 module _ (g : Expansion) (known new : KnownView) (old next : List Visited) (end_classes more_end_classes : List (Option ℕ))
-    (places more_places : List (Vec ℕ)) (classes more : List ClassView)
-    (visited : Visited) (those : Vec Transition) (end_class : Option ℕ) (row : Vec ℕ) (expanded : AreExpanded g known old end_classes places classes)
+    (places more_places : List (SmallVec ℕ)) (classes more : List ClassView)
+    (visited : Visited) (those : SmallVec Transition) (end_class : Option ℕ) (row : SmallVec ℕ) (expanded : AreExpanded g known old end_classes places classes)
     (here : slice_get g.layer.worlds.items (length end_classes) ≡ Some visited) (listed : slice_get g.transitions (length end_classes) ≡ Some those)
     (is_topped : IsEndClassBy classes more (visited_of g.w g.before.told visited) end_class)
     (taken : AreTaken g.w g.layer.configurations.items visited those.items known new old next row.items)
@@ -329,7 +329,7 @@ module _ (g : Expansion) (known new : KnownView) (old next : List Visited) (end_
         (grows_same {c = g.before}) taken.grows is.visited.key one.key is.transition.actor is.follows;
   }
 
-  leads_more : (m : ℕ) (one : Visited) (transitions : Vec Transition) (at : Vec ℕ) → slice_get g.layer.worlds.items m ≡ Some one
+  leads_more : (m : ℕ) (one : Visited) (transitions : SmallVec Transition) (at : SmallVec ℕ) → slice_get g.layer.worlds.items m ≡ Some one
       → slice_get g.transitions m ≡ Some transitions → slice_get more_places m ≡ Some at
       → LeadTo g.before new.components g.w next one transitions.items at.items
   leads_more m one transitions at there is at_there = ⊎_elim
@@ -350,9 +350,9 @@ module _ (g : Expansion) (known new : KnownView) (old next : List Visited) (end_
       (λ last. let e : m ≡ n = last.0 ∙ expanded.many in
       let moved : those ≡ transitions = same_Some those transitions (sym listed ∙ (ap (slice_get g.transitions) (sym e) ∙ is)) in
       subst (λ (x : Visited). LeadTo g.before new.components g.w next x transitions.items at.items) (same_here m one e there)
-      (subst (λ (x : Vec Transition). LeadTo g.before new.components g.w next visited x.items at.items) moved
-      (subst (λ (x : Vec ℕ). LeadTo g.before new.components g.w next visited those.items x.items) (sym last.1) own_leads)))
-      (get_push places row m at (ap (λ (xs : List (Vec ℕ)). slice_get xs m) (sym places_are) ∙ at_there))
+      (subst (λ (x : SmallVec Transition). LeadTo g.before new.components g.w next visited x.items at.items) moved
+      (subst (λ (x : SmallVec ℕ). LeadTo g.before new.components g.w next visited those.items x.items) (sym last.1) own_leads)))
+      (get_push places row m at (ap (λ (xs : List (SmallVec ℕ)). slice_get xs m) (sym places_are) ∙ at_there))
     where
       own_leads : LeadTo g.before new.components g.w next visited those.items row.items
       own_leads j transition it = let own = taken.leads j transition it in (
@@ -417,7 +417,7 @@ module _ (g : Expansion) (known new : KnownView) (old next : List Visited) (end_
 -- ---- the world that comes next
 
 -- the one with its transitions at that place of the expansion's layer
-module _ (g : Expansion) (w : WorldView) (known : KnownView) (layer : Layer) (transitions : List (Vec Transition))
+module _ (g : Expansion) (w : WorldView) (known : KnownView) (layer : Layer) (transitions : List (SmallVec Transition))
     (found : List ClassView) (is : IsExpansion g w known layer transitions found) where
   pub expansion_many : length transitions ≡ length layer.worlds.items
   expansion_many =
@@ -425,15 +425,15 @@ module _ (g : Expansion) (w : WorldView) (known : KnownView) (layer : Layer) (tr
       ∙ (g.listed.many ∙ (length-map g.layer.worlds.items (visited_of g.w g.before.told)
       ∙ ap (λ (l : Layer). length l.worlds.items) is.layer_is))
 
-  module _ (m : ℕ) (visited : Visited) (those : Vec Transition) (here : slice_get layer.worlds.items m ≡ Some visited)
+  module _ (m : ℕ) (visited : Visited) (those : SmallVec Transition) (here : slice_get layer.worlds.items m ≡ Some visited)
       (listed : slice_get transitions m ≡ Some those) where
     here_too : slice_get g.layer.worlds.items m ≡ Some visited
     here_too = ap (λ (l : Layer). slice_get l.worlds.items m) is.layer_is ∙ here
 
     listed_too : slice_get g.transitions m ≡ Some those
-    listed_too = ap (λ (ms : List (Vec Transition)). slice_get ms m) is.transitions_are ∙ listed
+    listed_too = ap (λ (ms : List (SmallVec Transition)). slice_get ms m) is.transitions_are ∙ listed
 
-    pub expansion_can : (now : KnownView) (next : List Visited) (end_classes : List (Option ℕ)) (places : List (Vec ℕ))
+    pub expansion_can : (now : KnownView) (next : List Visited) (end_classes : List (Option ℕ)) (places : List (SmallVec ℕ))
         (classes : List ClassView) → AreExpanded g now next end_classes places classes
         → CanGoOn w now visited
     expansion_can now next end_classes places classes expanded =

@@ -1,6 +1,6 @@
 -- Lists that are on the way, one turn less and one more, and the configurations on which they are in the next layer.
 use Rattle.std.specs.Prelude.{◌≡◌, ◌<◌, ◌≤◌, ◌+◌, ℕ, zero, suc, List, [], ◌∷◌, ◌++◌, Bool, true, false, length, Option, Some, None, slice_get, refl}
-use Rattle.std.specs.Global.{Vec}
+use Rattle.smallvec.specs.SmallVec.{SmallVec}
 use Rattle.std.proofs.Common.{sym, ap, ◌∙◌, subst, arith}
 use Rattle.std.proofs.lemmas.Option.{same_Some, slice_get_within}
 use Rattle.race_core.specs.Worlds.{WorldView, turn, is_busy_at}
@@ -140,7 +140,7 @@ module _ (told : Bool) (most : Option ℕ) (u v : WorldView) (cost other : Cost)
 -- ---- from one layer to the next
 
 module _ (g : Expansion) (scope : Scope) (known : KnownView) (next : List Visited) (end_classes : List (Option ℕ))
-    (places : List (Vec ℕ)) (classes : List ClassView)
+    (places : List (SmallVec ℕ)) (classes : List ClassView)
     (expanded : AreExpanded g known next end_classes places classes) (bounds_are : g.bounds ≡ bounds_at scope g.n)
     (on_way : AreAllOnWay g.before g.w scope g.n g.layer) where
   abbrev seen : Visited → VisitedView
@@ -188,8 +188,8 @@ module _ (g : Expansion) (scope : Scope) (known : KnownView) (next : List Visite
       (on_way_of g.w scope (after.configuration.turns.items ++ after.transition.actor ∷ [])
       (cost_after (after_turns g.w after.visited.turns.items).seats after.configuration.cost after.transition.actor) so)
 
-  module _ (choices : List (Vec Choice))
-      (are : AreAllChoices g.bounds (layer_of g.w g.before.told g.layer) g.transitions choices) (all : List (Vec Edge))
+  module _ (choices : List (SmallVec Choice))
+      (are : AreAllChoices g.bounds (layer_of g.w g.before.told g.layer) g.transitions choices) (all : List (SmallVec Edge))
       (after : Layer)
       (worlds_are : after.worlds.items ≡ next) (whole : length end_classes ≡ length g.layer.worlds.items)
       (edges : AreEdgesOfAll g.bounds g.layer.configurations.items choices places after.configurations.items all) where

@@ -1,6 +1,6 @@
 -- How many states there are, from layer to layer.
 use Rattle.std.specs.Prelude.{◌≡◌, ◌<◌, ◌≤◌, ◌+◌, ◌⊎◌, ℕ, zero, suc, List, [], ◌∷◌, ◌++◌, length, map, Option, Some, slice_get, refl}
-use Rattle.std.specs.Global.{Vec}
+use Rattle.smallvec.specs.SmallVec.{SmallVec}
 use Rattle.std.specs.Option.{option_map}
 use Rattle.std.proofs.Common.{inl, inr, ⊎_elim, sym, ap, ◌∙◌, subst, arith, length-append}
 use Rattle.std.proofs.lemmas.List.{length-map}
@@ -265,7 +265,7 @@ module _ (w : WorldView) (scope : Scope) where
 -- ---- a layer that is gone on from
 
 module _ (g : Expansion) (scope : Scope) (known : KnownView) (next : List Visited) (end_classes : List (Option ℕ))
-    (places : List (Vec ℕ)) (classes : List ClassView)
+    (places : List (SmallVec ℕ)) (classes : List ClassView)
     (expanded : AreExpanded g known next end_classes places classes) (bounds_are : g.bounds ≡ bounds_at scope g.n) (states found : ℕ)
     (counted : IsCounted g.before g.w scope g.n found g.layer) (met : AreInterned known.components.lists known.components.parts)
     (among : AreStatesAmong next (length next) states) where
@@ -276,9 +276,9 @@ module _ (g : Expansion) (scope : Scope) (known : KnownView) (next : List Visite
       (born_on_way g scope known next end_classes places classes expanded bounds_are counted.on_way) among counted.found limit more
 
   -- and once all were met the next layer's are counted
-  pub expanded_counted : (choices : List (Vec Choice))
+  pub expanded_counted : (choices : List (SmallVec Choice))
       → AreAllChoices g.bounds (layer_of g.w g.before.told g.layer) g.transitions choices
-      → (all : List (Vec Edge)) (after : Layer)
+      → (all : List (SmallVec Edge)) (after : Layer)
       → after.worlds.items ≡ next → length end_classes ≡ length g.layer.worlds.items
       → AreEdgesOfAll g.bounds g.layer.configurations.items choices places after.configurations.items all
       → IsCounted known.components g.w scope (g.n + 1) (found + states) after
@@ -295,8 +295,8 @@ module _ (g : Expansion) (scope : Scope) (known : KnownView) (next : List Visite
 
 -- the expansion is that of what was known, found and listed before
 pub expansion_more_states : (g : Expansion) (w : WorldView) (known after : KnownView) (layer : Layer)
-    (transitions : List (Vec Transition)) (found : List ClassView) (scope : Scope) (next : List Visited)
-    (end_classes : List (Option ℕ)) (places : List (Vec ℕ)) (classes : List ClassView) → IsExpansion g w known layer transitions found
+    (transitions : List (SmallVec Transition)) (found : List ClassView) (scope : Scope) (next : List Visited)
+    (end_classes : List (Option ℕ)) (places : List (SmallVec ℕ)) (classes : List ClassView) → IsExpansion g w known layer transitions found
     → AreExpanded g after next end_classes places classes
     → g.bounds ≡ bounds_at scope g.n → (states count : ℕ) → IsCounted known.components w scope g.n states layer
     → AreInterned after.components.lists after.components.parts

@@ -15,7 +15,7 @@ returns-clause-new c = λ t one there.
     let successor : Configuration = record { world = c.args.world; turns = c.in_ok-turns.turns; cost = c.args.choice.now.cost } in
     let is : IsConfigurationBy c.args.configuration.now c.args.choice.now c.args.world successor = record {
       on = refl;
-      turns = c.in_ok-turns.ensures ∙ ap (λ (xs : List ℕ). xs ++ c.args.choice.now.actor ∷ []) c.as_slice-2.ensures.value;
+      turns = c.in_ok-turns.ensures ∙ ap (λ (xs : List ℕ). xs ++ c.args.choice.now.actor ∷ []) c.as_slice-2.ensures;
       cost = refl;
     } in
     ⊎_elim (λ was. inl was) (λ e. inr (subst (λ (x : Configuration). IsConfigurationBy c.args.configuration.now c.args.choice.now c.args.world x) (sym e) is))

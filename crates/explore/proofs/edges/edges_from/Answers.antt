@@ -14,7 +14,7 @@ loop-at-preserved c =
     let edge : Edge = c.in_ok-edge.edge in
     let edges : List Edge = c.loop-at.edges.items in
     let lt : n < length choices = omega (arith, c.loop-at-test.true, c.loop-at.auto.at-end) in
-    let pushed : c.push.new.self.items ≡ edges ++ edge ∷ [] = c.in_ok-push.ensures.items in
+    let pushed : c.push.new.self.items ≡ edges ++ edge ∷ [] = c.in_ok-push.ensures.ok in
     let longer : length (edges ++ edge ∷ []) ≡ length edges + 1 = length-append edges (edge ∷ []) in
     record {
       many = ap length pushed ∙ (longer ∙ ap (λ (k : ℕ). k + 1) was.many);

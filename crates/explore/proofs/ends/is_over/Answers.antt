@@ -15,4 +15,4 @@ returns-then-is_busy g c = λ w v key. (c.loop-actor.actor, sym (c.is_busy.ensur
 pub returns : goal.returns
 returns g c = λ w v key.
     let many = key.many in
-    idle_from v.seats c.loop-actor.actor (omega (arith, many, c.loop-actor-test.false, c.loop-actor.auto.actor-end, c.len-actor-end.ensures, c.args.key.now.own.ok.0)) (c.loop-actor.invariant w v key)
+    idle_from v.seats c.loop-actor.actor (omega (arith, many, c.loop-actor-test.false, c.loop-actor.auto.actor-end, c.len-actor-end.ensures.value)) (c.loop-actor.invariant w v key)

@@ -34,4 +34,4 @@ loop-at-preserved g c =
     let there : slice_get configurations one.configuration ≡ Some configuration = slice_get_read configurations (length configurations) one.configuration configuration refl inside c.index-configurations-one.is in
     taken_more w configurations c.args.visited.now c.args.turns.now c.loop-at.turns c.place_after.new.turns c.args.known.now c.loop-at.known c.place_after.new.known (take at transitions)
     c.loop-at.places.items one configuration c.in_ok-place.place c.loop-at.invariant c.in_ok-place.ensures there (take (at + 1) transitions) c.push.new.self.items (take_more transitions at d lt)
-    c.in_ok-push.ensures.items
+    c.in_ok-push.ensures.ok

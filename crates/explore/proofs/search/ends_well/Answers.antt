@@ -16,7 +16,7 @@ pub returns-in-Ok-replay : goal.returns-in-Ok-replay
 returns-in-Ok-replay g c = λ ok.
     let w : WorldView = g.B.Beginnings.opening c.args.beginnings.now in
     let replayed = c.in-Ok-replay.replayed in
-    let turns : replayed.turns ≡ c.in-Some.visited.now.turns.items = c.in-Ok-replay.ensures.turns ∙ (c.in-Ok.ensures ∙ c.as_slice.ensures.value) in
+    let turns : replayed.turns ≡ c.in-Some.visited.now.turns.items = c.in-Ok-replay.ensures.turns ∙ (c.in-Ok.ensures ∙ c.as_slice.ensures) in
     let well : EndsWell replayed.world = where_ok c.ended.result (sym c.is_ok.ensures.value ∙ ok) c.ended.ensures.well in
     let sure : IsSure w replayed = goes_full (start w) (point_of replayed) replayed.turns c.in-Ok-replay.ensures.replayed well in
     let world : replayed.world ≡ after_turns w c.in-Some.visited.now.turns.items =

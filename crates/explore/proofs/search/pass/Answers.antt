@@ -1,5 +1,5 @@
-use Rattle.std.proofs.Common.{◌∙◌, ℕ, Bool, List, length, sym, ap, subst, rules}
-use Rattle.std.specs.Global.{Vec}
+use Rattle.std.proofs.Common.{◌∙◌, ℕ, Bool, List, length, sym, ap, subst, rules, arith}
+use Rattle.smallvec.specs.SmallVec.{SmallVec}
 use Rattle.explore.specs.declared.layer.Layer.{Layer}
 use Rattle.explore.specs.declared.layer.Visited.{Visited}
 use Rattle.explore.specs.declared.transitions.Transition.{Transition}
@@ -45,6 +45,17 @@ start g c =
 pub listed-requires-clause-few : goal.listed-requires-clause-few
 listed-requires-clause-few g c =
     keys_few (g.B.Beginnings.opening c.args.beginnings.now) (length c.args.graph.now) c.args.turns.now c.args.layer.now c.requires.kept
+
+pub listed-requires-clause-within : goal.listed-requires-clause-within
+listed-requires-clause-within g c = λ s configuration there.
+    let few = (c.requires.on.configurations s configuration there).few in
+    record { cuts = omega (arith, few.cuts, c.requires.few); changes = omega (arith, few.changes, c.requires.few) }
+
+pub listed-requires-clause-on : goal.listed-requires-clause-on
+listed-requires-clause-on g c = λ s configuration there.
+    let w = g.B.Beginnings.opening c.args.beginnings.now in
+    let many = views_many w c.args.turns.now.components.told c.args.layer.now.worlds.items in
+    omega (arith, (c.requires.on.configurations s configuration there).on, many)
 
 pub go_on-requires : goal.go_on-requires
 go_on-requires g c =
@@ -141,7 +152,7 @@ prefetch-requires-clause-theirs g c = λ κs within.
     let theirs = are_theirs w (length c.args.graph.now) c.args.turns.now layer c.requires.kept c.args.bounds told c.in_ok-transitions.transitions.items
     (c.in_ok-transitions.ensures.transitions w told keys) in
     subst (λ (xs : List Visited). AreTheirs xs c.as_slice-transitions.result.now) (sym c.as_slice-worlds.ensures.value)
-    (subst (λ (ms : List (Vec Transition)). AreTheirs layer.worlds.items ms) (sym c.as_slice-transitions.ensures.value) theirs)
+    (subst (λ (ms : List (SmallVec Transition)). AreTheirs layer.worlds.items ms) (sym c.as_slice-transitions.ensures.value) theirs)
 
 pub returns-clause-passed : goal.returns-clause-passed
 returns-clause-passed g c =

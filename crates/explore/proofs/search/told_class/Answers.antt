@@ -1,4 +1,4 @@
-use Rattle.std.proofs.Common.{◌≡◌, ◌++◌, ℕ, List, ◌∙◌, sym, ap, subst, refl}
+use Rattle.std.proofs.Common.{◌≡◌, ℕ, List, ◌∙◌, sym, ap, subst, refl}
 use Rattle.race_core.specs.Worlds.{WorldView}
 use Rattle.schedule_graph.specs.Words.{Rank}
 use Rattle.explore.specs.Explored.{IsAsked}
@@ -14,10 +14,7 @@ returns g c = record {
       let scope = c.args.scope.now in
       let w : WorldView = g.B.Beginnings.opening c.args.beginnings.now in
       let turns : c.in-Ok.replayed.turns ≡ c.in-Some.least.turns =
-      c.in-Ok.ensures.turns
-      ∙ (c.in_ok-extend_from_slice.ensures.items
-      ∙ (ap (λ (xs : List ℕ). xs ++ c.as_slice.result.now) c.new-turns.ensures.items
-      ∙ (c.as_slice.ensures.value ∙ ap (λ (r : Rank). r.turns) c.least.view_is))) in
+      c.in-Ok.ensures.turns ∙ (c.in_ok-turns.ensures ∙ (c.as_slice.ensures ∙ ap (λ (r : Rank). r.turns) c.least.view_is)) in
       let asked : IsAsked w scope c.in-Ok.replayed.turns =
       subst (λ (is : List ℕ). IsAsked w scope is) (sym turns) (asks c.in-Some.least c.in-Some.is) in
       let sure : IsSure w c.in-Ok.replayed = goes_full (start w) (point_of c.in-Ok.replayed) c.in-Ok.replayed.turns c.in-Ok.ensures.replayed c.in_ok-ending.ensures.well in

@@ -17,7 +17,7 @@ loop-number-preserved g c =
       | then-may_go+in_ok-at+in_ok-push w ↦
           let choice : Choice = record { actor = n; cost = w.cost_by.result; at = w.in_ok-at.at } in
           let transitions : c.if-may_go.transitions.items ≡ w.transition_at.new.transitions.items = ap (λ v. v.items) w.transitions-is in
-          let choices : c.if-may_go.choices.items ≡ c.loop-number.choices.items ++ choice ∷ [] = ap (λ v. v.items) w.choices-is ∙ w.in_ok-push.ensures.items in
+          let choices : c.if-may_go.choices.items ≡ c.loop-number.choices.items ++ choice ∷ [] = ap (λ v. v.items) w.choices-is ∙ w.in_ok-push.ensures.ok in
           record {
             keeps = λ k x there. ap (λ (xs : List Transition). slice_get xs k) transitions ∙ w.in_ok-at.ensures.keeps k x (was.keeps k x there);
             new = λ u v key j one there. ⊎_elim (was.new u v key j one)
@@ -51,4 +51,4 @@ pub returns-clause-choices : goal.returns-clause-choices
 returns-clause-choices g c = λ w v key.
     let many = key.many in
     choices_all c.args.bounds (record { world = v; cost = c.args.cost }) c.loop-number.transitions.items c.loop-number.number c.loop-number.choices.items
-    (omega (arith, c.len-number-end.ensures, c.loop-number.auto.number-end, c.loop-number-test.false, many, c.args.key.now.own.ok.0)) (c.loop-number.invariant.choices w v key)
+    (omega (arith, c.len-number-end.ensures.value, c.loop-number.auto.number-end, c.loop-number-test.false, many)) (c.loop-number.invariant.choices w v key)

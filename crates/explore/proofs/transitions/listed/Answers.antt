@@ -1,6 +1,6 @@
 use Rattle.std.proofs.Common.{◌≡◌, ◌∙◌, ◌<◌, ◌+◌, ◌++◌, ◌∷◌, [], ℕ, List, ap, refl, length, length-append, arith}
 use Rattle.std.specs.Prelude.{slice_get, Some}
-use Rattle.std.specs.Global.{Vec}
+use Rattle.smallvec.specs.SmallVec.{SmallVec}
 use Rattle.std.proofs.lemmas.Option.{slice_get_read}
 use Rattle.explore.specs.declared.layer.Visited.{Visited}
 use Rattle.explore.specs.declared.layer.Configuration.{Configuration}
@@ -21,11 +21,11 @@ loop-at-preserved g c =
     let was = c.loop-at.invariant in
     let configuration : Configuration = c.index-configuration.result.now in
     let visited : Visited = c.index.result.now in
-    let row : Vec Transition = c.index_mut.result.now in
-    let grown : Vec Transition = c.choices_at.new.transitions in
-    let choices : Vec Choice = c.in_ok-choices.choices in
-    let transitions : List (Vec Transition) = c.loop-at.transitions.items in
-    let all : List (Vec Choice) = c.loop-at.all.items in
+    let row : SmallVec Transition = c.index_mut.result.now in
+    let grown : SmallVec Transition = c.choices_at.new.transitions in
+    let choices : SmallVec Choice = c.in_ok-choices.choices in
+    let transitions : List (SmallVec Transition) = c.loop-at.transitions.items in
+    let all : List (SmallVec Choice) = c.loop-at.all.items in
     let configurations : List Configuration = c.args.layer.now.configurations.items in
     let all_visited : List Visited = c.args.layer.now.worlds.items in
     let lt : s < length configurations = omega (arith, c.loop-at-test.true, c.loop-at.auto.at-end, c.len-at-end.ensures, c.args.layer.now.configurations.ok.0) in

@@ -2,7 +2,7 @@ use Rattle.std.proofs.Common.{ap, ◌∙◌}
 use Rattle.std.specs.Cmp.Lexicographic.{slice_cmp}
 use Rattle.std.specs.Ordering.{is_lt, nat_cmp, ordering_then}
 use Rattle.schedule_graph.specs.Words.{is_less_or, is_not_after}
-use Rattle.outcome_text.proofs.Sorting.{then_less, lists_less}
+use Rattle.schedule_graph.proofs.Ranks.{then_less, lists_less}
 use Rattle.outcome_text.proofs.order.compare.Goals as goal
 
 pub returns : goal.returns

@@ -14,7 +14,7 @@ returns-in_default-least c =
 pub loop-edge-init : goal.loop-edge-init
 loop-edge-init c =
     spread_begun c.args.layers.now c.args.k c.args.s c.in-Goes.edges c.requires.layers (c.node_at.ensures ∙ ap (λ x. Some x) c.in-Goes.is)
-    c.deref-edge-items.result.now c.deref-edge-items.ensures.value c.args.next.now c.requires.next
+    c.as_slice-edge-items.result.now c.as_slice-edge-items.ensures c.args.next.now c.requires.next
 
 pub add_by-requires-clause-cuts : goal.add_by-requires-clause-cuts
 add_by-requires-clause-cuts c =
@@ -22,24 +22,28 @@ add_by-requires-clause-cuts c =
 
 pub add_by-requires-clause-changes : goal.add_by-requires-clause-changes
 add_by-requires-clause-changes c =
-    let few = cuts_fit c.args.layers.now c.args.k c.args.s c.args.count.now c.in-Some.least c.requires.count c.in-Some.is in omega (arith, few.1, c.requires.depth)
+    let few = cuts_fit c.args.layers.now c.args.k c.args.s c.args.count.now c.in-Some.least c.requires.count c.in-Some.is in omega (arith, few.1.0, c.requires.depth)
+
+pub add_by-requires-clause-labels : goal.add_by-requires-clause-labels
+add_by-requires-clause-labels c =
+    let few = cuts_fit c.args.layers.now c.args.k c.args.s c.args.count.now c.in-Some.least c.requires.count c.in-Some.is in omega (arith, few.1.1, c.requires.depth)
 
 pub loop-edge-preserved : goal.loop-edge-preserved
 loop-edge-preserved c =
     elim c.if-edge-next.branch [
       | then-edge-next+in_ok-add_by w ↦
           spread_on c.args.layers.now c.args.k c.args.s c.in-Goes.edges c.requires.layers (c.node_at.ensures ∙ ap (λ x. Some x) c.in-Goes.is)
-          c.deref-edge-items.result.now c.deref-edge-items.ensures.value
+          c.as_slice-edge-items.result.now c.as_slice-edge-items.ensures
           c.loop-edge.next c.loop-edge.edge-index c.loop-edge-test.true _ c.loop-edge.invariant c.args.count.now c.in-Some.least c.requires.count c.in-Some.is
           c.if-edge-next.next w.index-next-edge.result w.add_by.new.self w.next-is w.in_ok-add_by.ensures w.if-edge-next.true
       | else-edge-next w ↦
           spread_not c.args.layers.now c.args.k c.args.s c.in-Goes.edges c.requires.layers (c.node_at.ensures ∙ ap (λ x. Some x) c.in-Goes.is)
-          c.deref-edge-items.result.now c.deref-edge-items.ensures.value
+          c.as_slice-edge-items.result.now c.as_slice-edge-items.ensures
           c.loop-edge.next c.loop-edge.edge-index c.loop-edge-test.true _ c.loop-edge.invariant c.if-edge-next.next w.next-is w.if-edge-next.false
     ]
 
 pub returns : goal.returns
 returns c =
     spread_ended c.args.layers.now c.args.k c.args.s c.in-Goes.edges c.requires.layers (c.node_at.ensures ∙ ap (λ x. Some x) c.in-Goes.is)
-    c.deref-edge-items.result.now c.deref-edge-items.ensures.value
+    c.as_slice-edge-items.result.now c.as_slice-edge-items.ensures
     c.loop-edge.next c.loop-edge.edge-index c.loop-edge.auto.edge-index-end c.loop-edge-test.false c.loop-edge.invariant

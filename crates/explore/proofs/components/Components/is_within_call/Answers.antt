@@ -11,7 +11,7 @@ returns-in_default-get g c = λ w v is.
     let own = c.in-Some.own.now in
     let found = c.in-Some.ensures.lookup in
     let there : slice_get c.args.key.now.own.items c.args.actor ≡ Some own =
-    subst (λ os. slice_get os c.args.actor ≡ Some own) c.deref.ensures.value
+    subst (λ os. slice_get os c.args.actor ≡ Some own) c.deref.ensures
     (slice_get_read c.deref.result.now (length c.deref.result.now) c.args.actor own refl found.3.0 found.1) in
     let part : IsPartAt c.args.self.now v c.args.actor own.part = is.parts c.args.actor own there in
     let past = slice_get_past c.deref-2.result.now c.args.actor c.in_default-get.ensures.lookup.3 in
@@ -24,7 +24,7 @@ returns g c = λ w v is.
     let found = c.in-Some.ensures.lookup in
     let got = c.in-Some-get.ensures.lookup in
     let there : slice_get c.args.key.now.own.items c.args.actor ≡ Some own =
-    subst (λ os. slice_get os c.args.actor ≡ Some own) c.deref.ensures.value
+    subst (λ os. slice_get os c.args.actor ≡ Some own) c.deref.ensures
     (slice_get_read c.deref.result.now (length c.deref.result.now) c.args.actor own refl found.3.0 found.1) in
     let its : slice_get c.self.inside.parts.items c.args.actor ≡ Some row =
     subst (λ rows. slice_get rows c.args.actor ≡ Some row) c.deref-2.ensures.value

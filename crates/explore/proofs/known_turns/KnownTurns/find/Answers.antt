@@ -22,7 +22,7 @@ key_by-key-requires-clause-within g c =
     let q : Point = record { world = c.replayed.inside.world; cost = c.replayed.inside.cost } in
     let goes : Goes (start w) c.replayed.inside.turns.items q = subst (λ (l : VisitedView). IsReplayed w l) (sym c.replayed.view_is) c.in-Ok.ensures.replayed in
     let turns : c.replayed.inside.turns.items ≡ c.args.visited.now.turns.items =
-    ap (λ (l : VisitedView). l.turns) c.replayed.view_is ∙ (c.in-Ok.ensures.turns ∙ (c.in_ok-turns.ensures ∙ c.as_slice.ensures.value)) in
+    ap (λ (l : VisitedView). l.turns) c.replayed.view_is ∙ (c.in-Ok.ensures.turns ∙ (c.in_ok-turns.ensures ∙ c.as_slice.ensures)) in
     let long : length c.replayed.inside.turns.items ≡ length c.args.visited.now.turns.items = ap length turns in
     let within : AreWithin q.cost (0 + length c.replayed.inside.turns.items) =
     goes_within (start w) q c.replayed.inside.turns.items 0 goes (record { cuts = omega arith; changes = omega arith }) in
@@ -39,7 +39,7 @@ returns-clause-sound g c =
     ends_well c.key_by-key.new.world _ _ _ _ c.in_ok-_report.ensures.ran c.in_ok-_report.ensures.none in
     let there : c.replayed.inside.world ≡ after_turns w c.args.visited.now.turns.items =
     before_there w _ c.in-Ok.replayed c.args.visited.now.turns.items c.replayed.view_is c.in-Ok.ensures.replayed
-    (c.in-Ok.ensures.turns ∙ (c.in_ok-turns.ensures ∙ c.as_slice.ensures.value)) c.args.actor c.key_by-key.new.world c.in-Ok-key.ensures.turned well in
+    (c.in-Ok.ensures.turns ∙ (c.in_ok-turns.ensures ∙ c.as_slice.ensures)) c.args.actor c.key_by-key.new.world c.in-Ok-key.ensures.turned well in
     c.in-Ok-key.ensures.sound w c.requires.sound
     (subst (λ (u : WorldView). IsKey c.args.self.now.components w u c.args.visited.now.key) (sym there) c.requires.here) well
 
@@ -50,7 +50,7 @@ returns-clause-key g c =
     ends_well c.key_by-key.new.world _ _ _ _ c.in_ok-_report.ensures.ran c.in_ok-_report.ensures.none in
     let there : c.replayed.inside.world ≡ after_turns w c.args.visited.now.turns.items =
     before_there w _ c.in-Ok.replayed c.args.visited.now.turns.items c.replayed.view_is c.in-Ok.ensures.replayed
-    (c.in-Ok.ensures.turns ∙ (c.in_ok-turns.ensures ∙ c.as_slice.ensures.value)) c.args.actor c.key_by-key.new.world c.in-Ok-key.ensures.turned well in
+    (c.in-Ok.ensures.turns ∙ (c.in_ok-turns.ensures ∙ c.as_slice.ensures)) c.args.actor c.key_by-key.new.world c.in-Ok-key.ensures.turned well in
     subst (λ (u : WorldView). IsKey c.key_by-key.new.self.components w (turn full u c.args.actor) c.in-Ok-key.key) there
     (c.in-Ok-key.ensures.key w c.requires.sound
     (subst (λ (u : WorldView). IsKey c.args.self.now.components w u c.args.visited.now.key) (sym there) c.requires.here) well)

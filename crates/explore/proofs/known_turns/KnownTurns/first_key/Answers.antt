@@ -1,8 +1,8 @@
 use Rattle.std.proofs.Common.{◌≡◌, ◌∙◌, ℕ, List, ap, sym, subst, refl, length, map, arith}
 use Rattle.std.specs.Prelude.{Some, slice_get}
 use Rattle.std.specs.List.{All}
-use Rattle.std.specs.Vec.{with_items}
-use Rattle.std.proofs.lemmas.List.{with_items_is}
+use Rattle.smallvec.specs.SmallVec.{with_items}
+use Rattle.smallvec.proofs.SmallVecLemmas.{items-with_items}
 use Rattle.tree_model.specs.State.{State}
 use Rattle.tree_model.specs.declared.inode.Inode.{Inode}
 use Rattle.race_core.specs.Book.{BookedHistory, tree_now}
@@ -25,7 +25,7 @@ returns-clause-key g c =
     c.in_ok-tree.ensures ∙ (c.tree.ensures ∙ ap (λ (b : BookedHistory). tree_now b) c.book.ensures) in
     let nodes : c.nodes.result.now ≡ (tree_now c.args.world.now.book).nodes = c.nodes.ensures ∙ ap (λ (s : State). s.nodes) tree in
     let items : (with_items c.loop-actor.own c.put_parts.new.own).items ≡ c.put_parts.new.own =
-    with_items_is c.loop-actor.own c.put_parts.new.own (c.put_parts.auto.own ∙ c.as_mut_slice.ensures.len) in
+    items-with_items c.loop-actor.own c.put_parts.new.own (c.put_parts.auto.own ∙ ap length c.as_mut_slice.ensures.value) in
     let long : length c.put_parts.new.own ≡ length c.args.world.now.seats = omega (arith, ap length c.as_mut_slice.ensures.value) in
     let many : length (with_items c.loop-actor.own c.put_parts.new.own).items ≡ length c.args.world.now.seats = ap length items ∙ long in
     let none : All (λ n. n ≡ 0) (map (λ (o : Own). o.outside) (with_items c.loop-actor.own c.put_parts.new.own).items) =
@@ -41,7 +41,7 @@ returns-clause-key g c =
 pub returns-clause-few : goal.returns-clause-few
 returns-clause-few g c =
     let items : (with_items c.loop-actor.own c.put_parts.new.own).items ≡ c.put_parts.new.own =
-    with_items_is c.loop-actor.own c.put_parts.new.own (c.put_parts.auto.own ∙ c.as_mut_slice.ensures.len) in
+    items-with_items c.loop-actor.own c.put_parts.new.own (c.put_parts.auto.own ∙ ap length c.as_mut_slice.ensures.value) in
     let none : All (λ n. n ≡ 0) (map (λ (o : Own). o.outside) (with_items c.loop-actor.own c.put_parts.new.own).items) =
     subst (λ (ns : List ℕ). All (λ n. n ≡ 0) ns)
     (sym (ap (map (λ (o : Own). o.outside)) items ∙ (c.in_ok-put_parts.ensures.outside ∙ ap (map (λ (o : Own). o.outside)) c.as_mut_slice.ensures.value)))

@@ -1,6 +1,6 @@
 use Rattle.std.proofs.Common.{◌≡◌, ◌∙◌, ◌<◌, ◌+◌, List, Bool, true, length, map, sym, ap, subst, arith}
 use Rattle.std.specs.Prelude.{slice_get}
-use Rattle.std.proofs.lemmas.List.{with_items_is}
+use Rattle.smallvec.proofs.SmallVecLemmas.{items-with_items}
 use Rattle.race_core.specs.Worlds.{turn}
 use Rattle.explore.specs.declared.keys.Key.{Key}
 use Rattle.explore.specs.declared.keys.Own.{Own}
@@ -53,7 +53,7 @@ returns-clause-few g c = λ n few.
       | then-self+in_ok-remember w ↦ subst (λ (k : Key). AreFew (n + 1) k) (sym w.next-is) mid
       | else-self+in_ok-put_parts w ↦
           let own : c.if-self.next.own.items ≡ w.put_parts.new.own =
-          ap (λ (k : Key). k.own.items) w.next-is ∙ with_items_is c.in_ok-next.next.own w.put_parts.new.own (w.put_parts.auto.own ∙ w.as_mut_slice.ensures.len) in
+          ap (λ (k : Key). k.own.items) w.next-is ∙ items-with_items c.in_ok-next.next.own w.put_parts.new.own (w.put_parts.auto.own ∙ ap length w.as_mut_slice.ensures.value) in
           few_again (n + 1) c.in_ok-next.next c.if-self.next (record {
             nodes = sym (ap (λ (k : Key). k.nodes) w.next-is);
             events = sym (ap (λ (k : Key). k.events) w.next-is);
@@ -107,7 +107,7 @@ returns-clause-key g c = λ w sound is well.
           c.if-self.self given (ap (λ (k : KnownView). k.components) x.self-is ∙ x.remember.ensures.components))
       | else-self+in_ok-put_parts x ↦
           let own : c.if-self.next.own.items ≡ x.put_parts.new.own =
-          ap (λ (k : Key). k.own.items) x.next-is ∙ with_items_is c.in_ok-next.next.own x.put_parts.new.own (x.put_parts.auto.own ∙ x.as_mut_slice.ensures.len) in
+          ap (λ (k : Key). k.own.items) x.next-is ∙ items-with_items c.in_ok-next.next.own x.put_parts.new.own (x.put_parts.auto.own ∙ ap length x.as_mut_slice.ensures.value) in
           subst (λ (k : KnownView). IsKey k.components w (turn full c.args.world.now c.args.actor) c.if-self.next) (sym x.self-is)
           (key_whole c.args.self.now c.effect_to.new.self w c.args.world.now c.args.actor c.in_ok-effect.effect c.args.key.now c.in_ok-next.next
           sound is c.in_ok-effect.ensures.grows c.in_ok-effect.ensures.rest c.requires.there effect c.in_ok-next.ensures
