@@ -1,5 +1,5 @@
-//! The functions by which a C program makes calls: a static library of twenty-two exports, over `c_protocol`,
-//! `place_protocol`, `open_or_make`, `kernel_text` and `system_calls`.
+//! The functions by which a C program makes calls: a static library of twenty-eight exports, over `c_protocol`,
+//! `place_protocol`, `open_or_make`, `make_through_links`, `remove_by_calls`, `kernel_text` and `system_calls`.
 //!
 //! Each export is the function of that name of one of these, with its clauses. What a C program owes is said in
 //! `host/calls.h`: what is kept is empty (zero) before the first call, and is left alone between two turns.
@@ -21,16 +21,21 @@ ghost use Rattle.place_protocol.specs.Texts.{texts_of};
 ghost use Rattle.path_text.specs.declared.path.TheConstants.{TEXT_MAX};
 ghost use Rattle.open_or_make.specs.Course.{exchange, IsAt};
 ghost use Rattle.open_or_make.specs.History.{asked_of, is_call, Asked as Wanted, Exchange};
-ghost use Rattle.system_calls.specs.Objects.{is_node, is_same_object, kind_of, same_directory};
+ghost use Rattle.make_through_links.specs.History.{asked_of as making_asked, is_call as is_making_call, Asked as MakingAsked, Exchange as MakingExchange};
+ghost use Rattle.make_through_links.specs.Making.{exchange as making_exchange, IsAt as IsMakingAt, IsWithin};
+ghost use Rattle.system_calls.specs.Objects.{is_node, is_same_object, kind_of};
 ghost use Rattle.system_calls.specs.Opening.{opening_of, reopen_flags};
 ghost use Rattle.system_calls.specs.Tries.{next_try};
 
+mod removals;
+
 use c_protocol::{Ahead, Answered, Asked, Kept, Left, Parted, Ran, Told};
 use kernel_text::{Sorted, Taken};
+use make_through_links::{Making, Outcome};
 use open_or_make::Course;
 use place_protocol::{Answer, Facts};
 use std::alloc::Global;
-use system_calls::{Birth, MachineFlags, NextTry, Object, Opening};
+use system_calls::{MachineFlags, NextTry, Object, Opening};
 
 /// Begins a call, and tells its first step or its reply: `c_protocol::begin`.
 #[unsafe(no_mangle)]
@@ -216,14 +221,6 @@ pub extern "C" fn inroot_is_same_object(one: &Object, other: &Object, by_any_mou
     system_calls::is_same_object(one, other, by_any_mount)
 }
 
-/// Whether a directory is the one that was there before: `system_calls::same_directory`.
-#[unsafe(no_mangle)]
-pub extern "C" fn inroot_same_directory(now: &Birth, before: &Birth) -> u8
-    ensures { result ≡ same_directory now.now before.now }
-{
-    system_calls::same_directory(now, before)
-}
-
 /// The kind of an object by its mode: `system_calls::kind_of`.
 #[unsafe(no_mangle)]
 pub extern "C" fn inroot_kind_of(mode: u32) -> u8
@@ -292,4 +289,41 @@ pub extern "C" fn inroot_course_next(course: &mut Course, error: u32, text: &[u8
     ensures ends { is_call course.new.next ≡ false → (room.new ≡ room.old) × (course.new.length ≡ course.old.length) }
 {
     *course = open_or_make::next(*course, error, text, room);
+}
+
+/// Begins a call that makes all missing parts of a path, through links: `make_through_links::begin`.
+#[unsafe(no_mangle)]
+pub extern "C" fn inroot_making_begin(
+    path_length: usize,
+    file: bool,
+    follows: bool,
+    may_retry: bool,
+    making: &mut Making,
+)
+    ensures begins { (room : List ℕ) → path_length ≤ length room
+        → IsMakingAt (making_asked (take path_length room) file follows may_retry) [] making.new room }
+    ensures within { (size : ℕ) → path_length ≤ size → IsWithin making.new size }
+    ensures same { making.new.length ≡ path_length }
+{
+    *making = make_through_links::begin(path_length, file, follows, may_retry);
+}
+
+/// Takes what the last of its calls gave, and says what comes next: `make_through_links::next`.
+#[unsafe(no_mangle)]
+pub extern "C" fn inroot_making_next(
+    making: &mut Making,
+    outcome: &Outcome,
+    text: &[u8],
+    room: &mut [u8],
+)
+    requires within { IsWithin making.old (length room.old) }
+    requires room { TEXT_MAX ≤ length room.old }
+    ensures goes { (asked : MakingAsked) (history : List MakingExchange) → IsMakingAt asked history making.old room.old
+        → is_making_call making.old.next ≡ true
+        → IsMakingAt asked (making_exchange making.old room.old outcome.now text.now ∷ history) making.new room.new }
+    ensures within { IsWithin making.new (length room.new) }
+    ensures ends { is_making_call making.new.next ≡ false
+        → (room.new ≡ room.old) × (making.new.length ≡ making.old.length) }
+{
+    *making = make_through_links::next(*making, *outcome, text, room);
 }

@@ -9,6 +9,8 @@ mod c_turns;
 #[cfg(test)]
 mod courses;
 #[cfg(test)]
+mod makings;
+#[cfg(test)]
 mod objects;
 #[cfg(test)]
 mod openings;
@@ -18,5 +20,7 @@ mod places;
 mod protocol;
 #[cfg(test)]
 mod records;
+#[cfg(test)]
+mod removals;
 #[cfg(test)]
 mod tries;

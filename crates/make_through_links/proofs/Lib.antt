@@ -1,0 +1,4 @@
+pub mod HistoryLemmas
+pub mod MakingLemmas
+pub mod PathLemmas
+pub mod PromiseLemmas

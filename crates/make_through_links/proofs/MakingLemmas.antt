@@ -1,0 +1,416 @@
+-- What is kept of a call after each outcome.
+use Rattle.std.proofs.Common.{◌≡◌, ℕ, ◌+◌, ◌-◌, ◌≤◌, ◌<◌, min, Bool, true, false, if◌then◌else◌, List, [], ◌∷◌, ◌++◌, length, take, drop, refl, sym, ap, subst, ◌∙◌, arith, nat_lt, take-take, take-append-drop, length-append, length-take, length-take-le, length-drop, take_at, drop_at, append-nil}
+use Rattle.std.specs.Prelude.{◌==◌}
+use Rattle.std.proofs.lemmas.Bool.{cond-false, cond-true, false≢true, le-ltb, ltb-false, ne_eqb}
+use Rattle.std.proofs.lemmas.List.{drop-drop, drop_min, drop-take}
+use Rattle.path_text.specs.Text.{is_empty}
+use Rattle.path_text.specs.declared.path.TheConstants.{TEXT_MAX}
+use Rattle.system_calls.specs.Tries.{is_due, pause_after, EAGAIN, TRIES}
+use Rattle.system_calls.specs.declared.tries.NextTry.{NextTry}
+use Rattle.open_or_make.specs.History.{ELOOP, ENAMETOOLONG, LINKS, STEP_READ_LINK}
+use Rattle.make_through_links.specs.History.{asks, due_met, fails, follows_link, is_call, meets, met_of, moved, stand_after, tries_again, whole, Asked, Due, Exchange, Stand, STEP_MAKE_DIR}
+use Rattle.make_through_links.specs.Making.{due_of, exchange, path_in, IsAt, Keeps, Tells}
+use Rattle.make_through_links.specs.Paths.{before_rest, first_name, name_size, rest_behind}
+use Rattle.make_through_links.specs.declared.making.Making.{Making}
+use Rattle.make_through_links.specs.declared.making.Outcome.{Outcome}
+use Rattle.make_through_links.specs.declared.meets.Met.{Met}
+use Rattle.make_through_links.specs.declared.meets.Met.TheVariants.{Link, LinkAtEnd, Parted, Partly}
+use Rattle.make_through_links.specs.declared.meets.TheConstants.{FAILS}
+use Rattle.make_through_links.proofs.PathLemmas.{joined_before, led_whole, tail_is}
+
+-- ---- a call comes next
+
+pub tells_asks : (asked : Asked) (s : Stand) (making : Making) (room path : List ℕ) (call pause from start size : ℕ)
+    → Keeps asked s making room
+    → take size (drop start room) ≡ path
+    → Tells asked s (asks s call pause from path)
+    (record making {
+      next = call;
+      pause = pause;
+      error = 0;
+      step = 0;
+      from = from;
+      start = start;
+      size = size;
+      gives
+          = 0;
+    }) room
+tells_asks asked s making room path call pause from start size keeps is =
+    let base_is : (b : ℕ) → making.base ≡ b → ◌≡◌ {A = Due}
+    (record {
+      next = call;
+      pause = pause;
+      error = 0;
+      step = 0;
+      base = making.base;
+      from = from;
+      path = path;
+      gives =
+          0;
+    })
+    (record { next = call; pause = pause; error = 0; step = 0; base = b; from = from; path = path; gives = 0 }) =
+    λ b h. ap (λ n. record
+    { next = call; pause = pause; error = 0; step = 0; base = n; from = from; path = path; gives = 0 }) h in
+    record {
+      due = ap (λ (p : List ℕ). record
+          { next = call; pause = pause; error = 0; step = 0; base = making.base; from = from; path = p; gives = 0 }) is
+          ∙ base_is s.base keeps.base;
+      keeps = λ call. record {
+        path = keeps.path;
+        above = keeps.above;
+        base = keeps.base;
+        cut = keeps.cut;
+        links = keeps.links;
+        between = keeps.between;
+        file = keeps.file;
+        follows = keeps.follows;
+        may_retry = keeps.may_retry;
+      };
+    }
+
+-- where the directories' path lies in the room, and the file's name
+pub in_above : (room above name : List ℕ) (end k : ℕ) → take end room ≡ above ++ name → k ≡ length above → k ≤ end
+    → take k room ≡ above
+in_above room above name end k is long within =
+    sym (take-take k end room within) ∙ (ap (take k) is ∙ take_at above name k (sym long))
+
+pub in_name : (room above name : List ℕ) (end k : ℕ) → take end room ≡ above ++ name → k ≡ length above → k ≤ end
+    → take (end - k) (drop k room) ≡ name
+in_name room above name end k is long within =
+    let sum : k + (end - k) ≡ end = omega (arith, within) in
+    sym (drop-take k (end - k) room)
+    ∙ (ap (λ n. drop k (take n room)) sum ∙ (ap (drop k) is ∙ drop_at above name k (sym long)))
+
+-- ---- the last name is taken apart
+
+pub keeps_parted : (asked : Asked) (s : Stand) (making : Making) (room : List ℕ) (e : Exchange) (rest k : ℕ)
+    → Keeps asked s making room → making.length ≤ length room
+    → e.rest ≡ rest → k ≡ min rest making.length → Keeps asked (moved s e Parted) (record making { above = k }) room
+keeps_parted asked s making room e rest k keeps within said is =
+    let size : length (whole s) ≡ making.length = ap length (sym keeps.path)
+    ∙ length-take-le making.length room within in
+    record {
+      path = keeps.path ∙ sym (take-append-drop e.rest (whole s));
+      above = is ∙ (ap (min rest) (sym size)
+          ∙ (ap (λ n. min n (length (whole s))) (sym said) ∙ sym (length-take e.rest (whole s))));
+      base = keeps.base;
+      cut = keeps.cut;
+      links = keeps.links;
+      between = keeps.between;
+      file = keeps.file;
+      follows = keeps.follows;
+      may_retry = keeps.may_retry;
+    }
+
+-- ---- a link is read
+
+-- the name behind what is there of the directories' path
+pub name_at : (room above name : List ℕ) (end high rest start size : ℕ) → take end room ≡ above ++ name
+    → high ≡ length above → high ≤ end
+    → start ≡ min rest high → size ≡ name_size (take (high - start) (drop start room)) → size ≤ high - start
+    → take size (drop start room) ≡ first_name (drop rest above)
+name_at room above name end high rest start size is long within start_is size_is less =
+    let sum : start + (high - start) ≡ high = omega (arith, start_is) in
+    let there : take (high - start) (drop start room) ≡ drop rest above =
+    sym (drop-take start (high - start) room) ∙ (ap (λ n. drop start (take n room)) sum
+    ∙ (ap (drop start) (in_above room above name end high is long within)
+    ∙ (ap (λ k. drop k above) (start_is ∙ ap (min rest) long) ∙ drop_min rest above))) in
+    sym (take-take size (high - start) (drop start room) less)
+    ∙ (ap (take size) there ∙ ap (λ k. take k (drop rest above)) (size_is ∙ ap name_size there))
+
+pub keeps_partly : (asked : Asked) (s : Stand) (making : Making) (room : List ℕ) (e : Exchange) (rest : ℕ)
+    → Keeps asked s making room → e.rest ≡ rest
+    → Keeps asked (moved s e Partly) (record making { cut = rest }) room
+keeps_partly asked s making room e rest keeps said = record {
+  path = keeps.path;
+  above = keeps.above;
+  base = keeps.base;
+  cut = sym said;
+  links = keeps.links;
+  between = keeps.between;
+  file = keeps.file;
+  follows = keeps.follows;
+  may_retry = keeps.may_retry;
+}
+
+-- ---- somebody came in between
+
+pub not_due : (times k : ℕ) (may_retry : Bool) → times ≤ k → is_due times may_retry EAGAIN false ≡ false
+    → is_due k may_retry EAGAIN false ≡ false
+not_due times k false less isnt = refl
+not_due times k true less isnt = let many = ltb-false times TRIES isnt in le-ltb k TRIES (omega (arith, many, less))
+
+pub due_in : (b : Bool) (x y : NextTry) (result : NextTry) → y.due ≡ false → result ≡ (if b then x else y)
+    → result.due ≡ true → (b ≡ true) × (result ≡ x)
+due_in true x y result never is due = (refl, is)
+due_in false x y result never is due = elim (false≢true (sym never ∙ (ap (λ (n : NextTry). n.due) (sym is) ∙ due))) [ ]
+
+pub none_due_in : (b : Bool) (x y : NextTry) (result : NextTry) → x.due ≡ true → result ≡ (if b then x else y)
+    → result.due ≡ false → b ≡ false
+none_due_in true x y result always is due = elim (false≢true (sym due ∙ (ap (λ (n : NextTry). n.due) is ∙ always))) [ ]
+none_due_in false x y result always is due = refl
+
+-- the same as before, but for one time more
+pub keeps_between : (asked : Asked) (s n : Stand) (making : Making) (room : List ℕ) → Keeps asked s making room
+    → n ≡ record s { between = s.between + 1 }
+    → Keeps asked n (record making { between = making.between + 1 }) room
+keeps_between asked s n making room keeps is =
+    subst (λ (m : Stand). Keeps asked m (record making { between = making.between + 1 }) room) (sym is) record {
+      path = keeps.path;
+      above = keeps.above;
+      base = keeps.base;
+      cut = keeps.cut;
+      links = keeps.links;
+      between = ap (λ k. k + 1) keeps.between;
+      file = keeps.file;
+      follows = keeps.follows;
+      may_retry = keeps.may_retry;
+    }
+
+pub again_due : (asked : Asked) (s : Stand) (making new : Making) (room : List ℕ) (due : ℕ → Due)
+    → Keeps asked s making room
+    → is_due (making.between + 1) making.may_retry EAGAIN false ≡ true
+    → Tells asked (record s { between = s.between + 1 }) (due (pause_after (making.between + 1))) new room
+    → Tells asked (record s { between = s.between + 1 })
+    (tries_again asked (record s { between = s.between + 1 }) (due (pause_after (s.between + 1)))) new room
+again_due asked s making new room due keeps is tells =
+    let t = record s { between = s.between + 1 } in
+    let now : is_due (s.between + 1) asked.may_retry EAGAIN false ≡ true =
+    sym (ap (λ k. is_due (k + 1) asked.may_retry EAGAIN false) keeps.between ∙ refl)
+    ∙ (sym (ap (λ r. is_due (making.between + 1) r EAGAIN false) keeps.may_retry) ∙ is) in
+    subst (λ (d : Due). Tells asked t d new room)
+    (sym (cond-true (is_due (s.between + 1) asked.may_retry EAGAIN false) (due (pause_after (s.between + 1)))
+    (fails EAGAIN STEP_MAKE_DIR (due (pause_after (s.between + 1))).path) now))
+    (subst (λ k. Tells asked t (due (pause_after (k + 1))) new room) keeps.between tells)
+
+-- no further try is due: what the next call would be about is told
+pub again_fails : (asked : Asked) (s : Stand) (making asks_it new : Making) (room : List ℕ) (d : Due)
+    → Keeps asked s making room
+    → ((times : ℕ) → making.between + 1 ≤ times → is_due times making.may_retry EAGAIN false ≡ false)
+    → (due_of asks_it room).path ≡ d.path
+    → new ≡ record asks_it
+    { next = FAILS; pause = 0; error = EAGAIN; step = STEP_MAKE_DIR; base = 0; from = 0; gives = 0 }
+    → Tells asked (record s { between = s.between + 1 })
+    (tries_again asked (record s { between = s.between + 1 }) d) new room
+again_fails asked s making asks_it new room d keeps isnt path is =
+    let t = record s { between = s.between + 1 } in
+    let now : is_due (s.between + 1) asked.may_retry EAGAIN false ≡ false =
+    sym (ap (λ r. is_due (s.between + 1) r EAGAIN false) keeps.may_retry)
+    ∙ isnt (s.between + 1) (omega (arith, keeps.between)) in
+    subst (λ (n : Making). Tells asked t (tries_again asked t d) n room) (sym is)
+    (subst (λ (x : Due). Tells asked t x
+    (record asks_it { next = FAILS; pause = 0; error = EAGAIN; step = STEP_MAKE_DIR; base = 0; from = 0; gives = 0 })
+    room)
+    (sym (cond-false (is_due (s.between + 1) asked.may_retry EAGAIN false) d (fails EAGAIN STEP_MAKE_DIR d.path) now))
+    record { due = ap (fails EAGAIN STEP_MAKE_DIR) path; keeps = λ call. elim (false≢true call) [ ] })
+
+-- ---- a link is followed
+
+link_fails_in : (many long : Bool) (x y z : ℕ) (error : ℕ) (path : List ℕ) (due : Due)
+    → error ≡ (if many then x else (if long then y else z)) → z ≡ 0 → (error ≡ 0 → ⊥)
+    → (if many then fails x STEP_READ_LINK path else (if long then fails y STEP_READ_LINK path else due))
+    ≡ fails error STEP_READ_LINK path
+link_fails_in true long x y z error path due is zero some = ap (λ n. fails n STEP_READ_LINK path) (sym is)
+link_fails_in false true x y z error path due is zero some = ap (λ n. fails n STEP_READ_LINK path) (sym is)
+link_fails_in false false x y z error path due is zero some = absurd (some (is ∙ zero))
+
+link_goes_in : (many long : Bool) (x y z : ℕ) (error : ℕ) (a b due : Due)
+    → error ≡ (if many then x else (if long then y else z)) → 0 < x → 0 < y → error ≡ 0
+    → (if many then a else (if long then b else due)) ≡ due
+link_goes_in true long x y z error a b due is some more none = absurd (omega (arith, some, is, none))
+link_goes_in false true x y z error a b due is some more none = absurd (omega (arith, more, is, none))
+link_goes_in false false x y z error a b due is some more none = refl
+
+-- why no further link is followed, of so many links and a path of so many bytes
+abbrev link_error : ℕ → ℕ → ℕ
+link_error links size = if nat_lt LINKS links then ELOOP else (if nat_lt TEXT_MAX size then ENAMETOOLONG else 0)
+
+pub link_fails : (s : Stand) (e : Exchange) (due : Due) (links size error : ℕ) → error ≡ link_error links size
+    → links ≡ s.links → size ≡ length (whole s) → (error ≡ 0 → ⊥)
+    → follows_link s e due ≡ fails error STEP_READ_LINK e.path
+link_fails s e due links size error is many long some =
+    link_fails_in (nat_lt LINKS s.links) (nat_lt TEXT_MAX (length (whole s))) ELOOP ENAMETOOLONG 0 error e.path due
+    (is ∙ (ap (λ n. link_error n size) many ∙ ap (link_error s.links) long)) refl some
+
+pub link_goes : (s : Stand) (e : Exchange) (due : Due) (links size error : ℕ) → error ≡ link_error links size
+    → links ≡ s.links → size ≡ length (whole s) → error ≡ 0
+    → follows_link s e due ≡ due
+link_goes s e due links size error is many long none =
+    link_goes_in (nat_lt LINKS s.links) (nat_lt TEXT_MAX (length (whole s))) ELOOP ENAMETOOLONG 0 error
+    (fails ELOOP STEP_READ_LINK e.path) (fails ENAMETOOLONG STEP_READ_LINK e.path) due
+    (is ∙ (ap (λ n. link_error n size) many ∙ ap (link_error s.links) long)) (omega arith) (omega arith) none
+
+-- it fails, and is about what the last call was about
+pub tells_fails : (asked : Asked) (s : Stand) (e : Exchange) (due : Due) (making new : Making) (room : List ℕ)
+    (error step : ℕ) → due ≡ fails error step e.path → e.path ≡ path_in making room
+    → new ≡ record making { next = FAILS; pause = 0; error = error; step = step; base = 0; from = 0; gives = 0 }
+    → Tells asked s due new room
+tells_fails asked s e due making new room error step is path new_is =
+    subst (λ (n : Making). Tells asked s due n room) (sym new_is)
+    record { due = ap (fails error step) (sym path) ∙ sym is; keeps = λ call. elim (false≢true call) [ ] }
+
+-- a link in the directories' path: where its text leads, by the bytes of the room
+pub record Link_at (s : Stand) (e : Exchange) (making : Making) (room text : List ℕ) (cut at n size : ℕ) : Type 0 where
+  pub path : take making.length room ≡ whole s
+  pub above : making.above ≡ length s.above
+  pub cut_is : making.cut ≡ s.cut
+  pub within : making.above ≤ making.length
+  pub end : making.length ≤ length room
+  pub said : e.text ≡ text
+  pub start : cut ≡ min making.cut making.above
+  pub place : at ≡ cut + n
+  pub rest : drop n (take (making.above - cut) (drop cut room)) ≡ rest_behind
+      (take (making.above - cut) (drop cut room))
+  pub less : n ≤ making.above - cut
+  pub sized : size ≡ (if (making.length - at) == 0 then length text else length text + 1 + (making.length - at))
+
+link_tail : (s : Stand) (e : Exchange) (making : Making) (room text : List ℕ) (cut at n size : ℕ)
+    → Link_at s e making room text cut at n size
+    → drop at (take making.length room) ≡ rest_behind (drop s.cut s.above) ++ s.name
+link_tail s e making room text cut at n size l =
+    let cut_s : cut ≡ min s.cut (length s.above) = omega (arith, l.start, l.cut_is, l.above) in
+    let sum : cut + (making.above - cut) ≡ making.above = omega (arith, l.start) in
+    let left : take (making.above - cut) (drop cut room) ≡ drop s.cut s.above =
+    sym (drop-take cut (making.above - cut) room) ∙ (ap (λ k. drop cut (take k room)) sum
+    ∙ (ap (drop cut) (in_above room s.above s.name making.length making.above l.path l.above l.within)
+    ∙ (ap (λ k. drop k s.above) cut_s ∙ drop_min s.cut s.above))) in
+    let rest : rest_behind (drop s.cut s.above) ≡ drop n (drop (min s.cut (length s.above)) s.above) =
+    ap rest_behind (sym left) ∙ (sym l.rest ∙ (ap (drop n) left ∙ ap (drop n) (sym (drop_min s.cut s.above)))) in
+    tail_is room s.above s.name (rest_behind (drop s.cut s.above)) making.length at s.cut n l.path
+    (omega (arith, l.place, cut_s)) rest
+    (omega (arith, l.place, l.less, l.start, l.above))
+
+pub link_whole : (s : Stand) (e : Exchange) (making : Making) (room text : List ℕ) (cut at n size : ℕ)
+    → Link_at s e making room text cut at n size
+    → whole (moved s e Link) ≡ before_rest text (drop at (take making.length room))
+link_whole s e making room text cut at n size l =
+    let rest = rest_behind (drop s.cut s.above) in
+    led_whole e.text rest s.name ∙ (ap (λ (t : List ℕ). before_rest t (rest ++ s.name)) l.said
+    ∙ ap (before_rest text) (sym (link_tail s e making room text cut at n size l)))
+
+pub link_size : (s : Stand) (e : Exchange) (making : Making) (room text : List ℕ) (cut at n size : ℕ)
+    → Link_at s e making room text cut at n size
+    → size ≡ length (whole (moved s e Link))
+link_size s e making room text cut at n size l =
+    let tail : length (drop at (take making.length room)) ≡ making.length - at =
+    omega (arith, length-drop at (take making.length room), length-take-le making.length room l.end) in
+    l.sized ∙ (sym (joined_before text (drop at (take making.length room)) (making.length - at) tail)
+    ∙ ap length (sym (link_whole s e making room text cut at n size l)))
+
+pub keeps_led : (asked : Asked) (s : Stand) (e : Exchange) (making : Making) (room new text : List ℕ)
+    (cut at n size : ℕ) → Keeps asked s making room
+    → Link_at s e making room text cut at n size → e.from ≡ making.from
+    → take size new ≡ before_rest text (drop at (take making.length room))
+    → Keeps asked (moved s e Link)
+    (record making {
+      length = size;
+      above = size -
+          (making.length - making.above);
+      base = making.from;
+      links = making.links + 1;
+    }) new
+keeps_led asked s e making room new text cut at n size keeps l from laid =
+    let name : length s.name ≡ making.length - making.above =
+    omega (
+      arith,
+      length-append s.above s.name,
+      ap length keeps.path,
+      length-take-le making.length room l.end,
+      l.above,
+    ) in
+    let both = length-append (moved s e Link).above s.name in
+    record {
+      path = laid ∙ sym (link_whole s e making room text cut at n size l);
+      above = omega (arith, name, both, link_size s e making room text cut at n size l);
+      base = sym from;
+      cut = keeps.cut;
+      links = ap (λ k. k + 1) keeps.links;
+      between = keeps.between;
+      file = keeps.file;
+      follows = keeps.follows;
+      may_retry = keeps.may_retry;
+    }
+
+pub keeps_led_at_end : (asked : Asked) (s : Stand) (e : Exchange) (making : Making) (room new text : List ℕ)
+    (size : ℕ) → Keeps asked s making room
+    → size ≡ length text → e.text ≡ text → e.from ≡ making.from → take size new ≡ text
+    → Keeps asked (moved s e LinkAtEnd)
+    (record making { length = size; above = size; base = making.from; links = making.links + 1 }) new
+keeps_led_at_end asked s e making room new text size keeps long said from laid = record {
+  path = laid ∙ (sym said ∙ sym (append-nil e.text));
+  above = long ∙ ap length (sym said);
+  base = sym from;
+  cut = keeps.cut;
+  links = ap (λ k. k + 1) keeps.links;
+  between = keeps.between;
+  file = keeps.file;
+  follows = keeps.follows;
+  may_retry = keeps.may_retry;
+}
+
+-- ---- what an outcome says
+
+-- the bytes from there on of a part of the room
+pub part_behind : (room : List ℕ) (start size rest k : ℕ) → k ≡ min rest size → start + size ≤ length room
+    → take ((start + size) - (start + k)) (drop (start + k) room) ≡ drop rest (take size (drop start room))
+part_behind room start size rest k is within =
+    let long : length (take size (drop start room)) ≡ size = length-take-le size (drop start room)
+    (omega (arith, length-drop start room, within)) in
+    let left : (start + size) - (start + k) ≡ size - k = omega arith in
+    let sum : k + (size - k) ≡ size = omega (arith, is) in
+    ap (λ n. take n (drop (start + k) room)) left
+    ∙ (ap (take (size - k)) (sym (drop-drop k start room))
+    ∙ (sym (drop-take k (size - k) (drop start room))
+    ∙ (ap (λ n. drop k (take n (drop start room))) sum
+    ∙ (ap (λ n. drop n (take size (drop start room))) (is ∙ ap (min rest) (sym long))
+    ∙ drop_min rest (take size (drop start room))))))
+
+none_is_empty : (text : List ℕ) → (length text == 0) ≡ is_empty text
+none_is_empty [] = refl
+none_is_empty (b ∷ bs) = ne_eqb (length (b ∷ bs)) 0 (λ none. omega arith)
+
+pub no_bytes : (text : List ℕ) (n : ℕ) → length text ≡ n → (n == 0) ≡ is_empty text
+no_bytes text n is = ap (λ k. k == 0) (sym is) ∙ none_is_empty text
+
+pub seen_is : (follows follows_too : Bool) (call error : ℕ) (directory a b c x y z : Bool) → follows ≡ follows_too
+    → a ≡ x → b ≡ y → c ≡ z
+    → meets follows call (record { error = error; directory = directory; nothing = a; whole = b; no_text = c })
+    ≡ meets follows_too call (record { error = error; directory = directory; nothing = x; whole = y; no_text = z })
+seen_is follows follows_too call error directory a b c x y z f n w t =
+    ap (λ p. meets p call (record { error = error; directory = directory; nothing = a; whole = b; no_text = c })) f
+    ∙ (ap (λ p. meets follows_too call
+    (record { error = error; directory = directory; nothing = p; whole = b; no_text = c })) n
+    ∙ (ap (λ p. meets follows_too call
+    (record { error = error; directory = directory; nothing = x; whole = p; no_text = c })) w
+    ∙ ap (λ p. meets follows_too call
+    (record { error = error; directory = directory; nothing = x; whole = y; no_text = p })) t))
+
+-- ---- a whole turn
+
+pub at_next : (asked : Asked) (older : List Exchange) (making new : Making) (room after text : List ℕ)
+    (outcome : Outcome) (m : Met) → IsAt asked older making room
+    → is_call making.next ≡ true
+    → (making.follows ≡ asked.follows → m ≡ met_of asked (exchange making room outcome text))
+    → (Keeps asked (stand_after asked older) making room
+    → Tells asked (moved (stand_after asked older) (exchange making room outcome text) m)
+    (due_met asked (moved (stand_after asked older) (exchange making room outcome text) m)
+    (exchange making room outcome text) m) new after)
+    → IsAt asked (exchange making room outcome text ∷ older) new after
+at_next asked older making new room after text outcome m at call is tells =
+    let e = exchange making room outcome text in
+    let s = stand_after asked older in
+    let keeps = at.1.keeps call in
+    let due = at.1.due in (
+      (
+        record {
+          call = ap (λ (d : Due). d.next) due;
+          is = call;
+          from = ap (λ (d : Due). d.from) due;
+          path = ap
+              (λ (d : Due). d.path) due;
+        },
+        at.0,
+      ),
+      subst (λ n. Tells asked (moved s e n) (due_met asked (moved s e n) e n) new after) (is keeps.follows)
+          (tells keeps),
+    )

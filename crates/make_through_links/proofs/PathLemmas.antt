@@ -1,0 +1,140 @@
+-- Where a text goes on behind a name, and a text that is laid before it.
+use Rattle.std.proofs.Common.{◌≡◌, ℕ, ◌≤◌, ◌<◌, ◌+◌, ◌-◌, min, suc, Bool, true, false, cond, if◌then◌else◌, List, [], ◌∷◌, ◌++◌, length, take, drop, set, Some, None, ap, sym, refl, ◌∙◌, arith, ltb, take-take, take-append-drop, length-drop, length-append, length-take-le, drop_at, eq-eqb, append-nil, append_assoc}
+use Rattle.std.specs.Prelude.{not, ◌==◌, ◌&&◌}
+use Rattle.std.specs.List.{list_all, position, position_or_len}
+use Rattle.std.proofs.Math.Seq.{paste}
+use Rattle.std.proofs.lemmas.Bool.{cond-false, cond-true, ltb-false, ne_eqb}
+use Rattle.std.proofs.lemmas.List.{drop_all, drop-append-le, drop-drop, drop-set, drop-take}
+use Rattle.std.proofs.lemmas.List.Edits.{length-paste, take-paste}
+use Rattle.std.proofs.lemmas.List.Sums.{prefix_len-le-length}
+use Rattle.path_text.specs.declared.name.TheConstants.{SLASH}
+use Rattle.path_text.specs.Text.{is_empty}
+use Rattle.make_through_links.specs.Paths.{before_rest, slashes_size}
+
+some_in : (b : Bool) (at n : ℕ) → Some at ≡ cond b (Some n) None → at ≡ n
+some_in true at n h = cc
+some_in false at n h = absurd cc
+
+pub some_at : (p : ℕ → Bool) (text : List ℕ) (at : ℕ) → Some at ≡ position p text → at ≡ position_or_len p text
+some_at p text at h = some_in (ltb (position_or_len p text) (length text)) at (position_or_len p text) h
+
+none_in : (b : Bool) (n : ℕ) → None ≡ cond b (Some n) None → b ≡ false
+none_in true n h = absurd cc
+none_in false n h = refl
+
+pub none_at : (p : ℕ → Bool) (text : List ℕ) → None ≡ position p text → length text ≡ position_or_len p text
+none_at p text h =
+    omega (
+      arith,
+      ltb-false (position_or_len p text) (length text)
+          (none_in (ltb (position_or_len p text) (length text)) (position_or_len p text) h),
+      prefix_len-le-length
+          (λ x. not (p x)) text,
+    )
+
+-- ---- a text before what comes behind
+
+take_one_more : (n x : ℕ) (xs : List ℕ) → take (1 + n) (x ∷ xs) ≡ x ∷ take n xs
+take_one_more n x xs = let e : 1 + n ≡ suc n = omega arith in ap (λ k. take k (x ∷ xs)) e
+
+take_both : (a b : ℕ) (xs : List ℕ) → take (a + b) xs ≡ take a xs ++ take b (drop a xs)
+take_both a b xs =
+    let first : take a (take (a + b) xs) ≡ take a xs = take-take a (a + b) xs (omega arith) in
+    sym (take-append-drop a (take (a + b) xs))
+    ∙ (ap (λ (l : List ℕ). l ++ drop a (take (a + b) xs)) first
+    ∙ ap (λ (l : List ℕ). take a xs ++ l) (drop-take a b xs))
+
+pub way_made : (room : List ℕ) (at end size n : ℕ) → at + n ≡ end → end ≤ length room → size + 1 + n ≤ length room
+    → take (1 + n) (drop size (set (paste room (size + 1) (drop at room) n) size SLASH)) ≡ SLASH ∷ drop at
+    (take end room)
+way_made room at end size n is within fits =
+    let moved = paste room (size + 1) (drop at room) n in
+    let left : n ≤ length (drop at room) = omega (arith, length-drop at room, is, within) in
+    let long : length moved ≡ length room = length-paste room (size + 1) (drop at room) n (omega (arith, fits)) left in
+    let set_is : drop size (set moved size SLASH) ≡ SLASH ∷ drop (size + 1) moved = drop-set moved size SLASH
+    (omega (arith, long, fits)) in
+    let both : take (size + 1 + n) moved ≡ take (size + 1) room ++ take n (drop at room) = take-paste room (size + 1)
+    (drop at room) n (omega (arith, fits)) left in
+    let behind : take n (drop (size + 1) moved) ≡ take n (drop at room) =
+    sym (drop-take (size + 1) n moved) ∙ (ap (drop (size + 1)) both
+    ∙ drop_at (take (size + 1) room) (take n (drop at room)) (size + 1)
+    (length-take-le (size + 1) room (omega (arith, fits)))) in
+    let tail : take n (drop at room) ≡ drop at (take end room) = sym (drop-take at n room)
+    ∙ ap (λ k. drop at (take k room)) is in
+    ap (take (1 + n)) set_is
+    ∙ (take_one_more n SLASH (drop (size + 1) moved) ∙ ap (λ (l : List ℕ). SLASH ∷ l) (behind ∙ tail))
+
+-- how long a text is before so many bytes
+pub joined_before : (text tail : List ℕ) (n : ℕ) → length tail ≡ n
+    → length (before_rest text tail) ≡ (if n == 0 then length text else length text + 1 + n)
+joined_before text [] n is = sym (cond-true (n == 0) (length text) (length text + 1 + n) (eq-eqb n 0 (sym is)))
+joined_before text (b ∷ bs) n is =
+    let long : length (text ++ SLASH ∷ b ∷ bs) ≡ length text + 1 + n = omega
+    (arith, length-append text (SLASH ∷ b ∷ bs), is) in
+    long ∙ sym (cond-false (n == 0) (length text) (length text + 1 + n) (ne_eqb n 0 (λ none. omega (arith, none, is))))
+
+-- where something comes behind
+pub laid_some : (text tail before after : List ℕ) (n : ℕ) → length tail ≡ n → 0 < n
+    → take (1 + n) (drop (length text) before) ≡ SLASH ∷ tail
+    → take (length text) after ≡ text → drop (length text) after ≡ drop (length text) before
+    → take (length text + 1 + n) after ≡ before_rest text tail
+laid_some text [] before after n is some way first rest = absurd (omega (arith, is, some))
+laid_some text (b ∷ bs) before after n is some way first rest =
+    let sum : length text + 1 + n ≡ length text + (1 + n) = omega arith in
+    ap (λ k. take k after) sum ∙ (take_both (length text) (1 + n) after
+    ∙ (ap (λ (l : List ℕ). l ++ take (1 + n) (drop (length text) after)) first
+    ∙ ap (λ (l : List ℕ). text ++ l) (ap (take (1 + n)) rest ∙ way)))
+
+tail_size : (room : List ℕ) (at end : ℕ) → end ≤ length room → length (drop at (take end room)) ≡ end - at
+tail_size room at end within = omega (arith, length-drop at (take end room), length-take-le end room within)
+
+pub laid_way : (text room before after : List ℕ) (at end : ℕ) → end ≤ length room → at < end
+    → take (1 + (end - at)) (drop (length text) before) ≡ SLASH ∷ drop at (take end room)
+    → take (length text) after ≡ text → drop (length text) after ≡ drop (length text) before
+    → take (if (end - at) == 0 then length text else length text + 1 + (end - at)) after ≡ before_rest text
+    (drop at (take end room))
+laid_way text room before after at end within some way first rest =
+    ap (λ k. take k after) (cond-false ((end - at) == 0) (length text) (length text + 1 + (end - at))
+    (ne_eqb (end - at) 0 (λ none. omega (arith, none, some))))
+    ∙ laid_some text (drop at (take end room)) before after (end - at) (tail_size room at end within)
+    (omega (arith, some)) way first rest
+
+pub laid_none : (text room after : List ℕ) (at end : ℕ) → end ≤ length room → end ≤ at → take (length text) after ≡ text
+    → take (if (end - at) == 0 then length text else length text + 1 + (end - at)) after ≡ before_rest text
+    (drop at (take end room))
+laid_none text room after at end within none first =
+    let zero : end - at ≡ 0 = omega (arith, none) in
+    ap (λ k. take k after) (cond-true ((end - at) == 0) (length text) (length text + 1 + (end - at))
+    (eq-eqb (end - at) 0 zero))
+    ∙ (first ∙ ap (before_rest text)
+    (sym (drop_all at (take end room) (omega (arith, none, length-take-le end room within)))))
+
+-- ---- where a link's text leads
+
+-- what comes behind the link, of the directories' path and then the file's name
+pub tail_is : (room above name rest : List ℕ) (end at cut n : ℕ) → take end room ≡ above ++ name
+    → at ≡ min cut (length above) + n
+    → rest ≡ drop n (drop (min cut (length above)) above) → at ≤ length above → drop at (take end room) ≡ rest ++ name
+tail_is room above name rest end at cut n is place said within =
+    ap (drop at) is ∙ (drop-append-le at above name within
+    ∙ ap (λ (l : List ℕ). l ++ name) (ap (λ k. drop k above) place
+    ∙ (sym (drop-drop n (min cut (length above)) above) ∙ sym said)))
+
+pub led_whole : (text rest name : List ℕ) → (if is_empty (rest ++ name) then text else text ++ SLASH ∷ rest) ++ name
+    ≡ before_rest text (rest ++ name)
+led_whole text [] [] = append-nil text
+led_whole text [] (b ∷ bs) = append_assoc text (SLASH ∷ []) (b ∷ bs)
+led_whole text (r ∷ rs) name = append_assoc text (SLASH ∷ r ∷ rs) name
+
+-- the slashes that a text begins with are slashes
+only_in : (b : Bool) (x : ℕ) (xs : List ℕ) → b ≡ (x == SLASH)
+    → list_all (λ y. y == SLASH) (take (slashes_size xs) xs) ≡ true
+    → list_all (λ y. y == SLASH) (take (cond (not (not b)) (1 + slashes_size xs) 0) (x ∷ xs)) ≡ true
+only_in true x xs is rest =
+    ap (list_all (λ y. y == SLASH)) (take_one_more (slashes_size xs) x xs)
+    ∙ (ap (λ c. c && list_all (λ y. y == SLASH) (take (slashes_size xs) xs)) (sym is) ∙ rest)
+only_in false x xs is rest = refl
+
+pub only_slashes : (xs : List ℕ) → list_all (λ y. y == SLASH) (take (slashes_size xs) xs) ≡ true
+only_slashes [] = refl
+only_slashes (x ∷ xs) = only_in (x == SLASH) x xs refl (only_slashes xs)

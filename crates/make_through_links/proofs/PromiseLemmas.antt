@@ -1,0 +1,745 @@
+-- What every history promises: which call gave the descriptor, which path it had, and why it failed.
+use Rattle.std.proofs.Common.{◌≡◌, ◌≢◌, ℕ, ◌+◌, ◌≤◌, ◌<◌, List, [], ◌∷◌, ◌++◌, Bool, true, false, if◌then◌else◌, ◌⊎◌, inl, inr, length, take, drop, refl, sym, ap, subst, ◌∙◌, arith, nat_lt, append-nil, append_assoc, eq-eqb, take-append-drop}
+use Rattle.std.specs.Prelude.{◌==◌}
+use Rattle.std.specs.List.{AllByRecursion}
+use Rattle.std.proofs.lemmas.Bool.{cond-false, cond-true, false≢true, le-ltb, lt-ltb, ltb-false, ltb-true}
+use Rattle.path_text.specs.declared.path.TheConstants.{TEXT_MAX}
+use Rattle.system_calls.specs.Tries.{is_due, pause_after, EAGAIN, TRIES}
+use Rattle.open_or_make.specs.History.{ELOOP, ENAMETOOLONG, LINKS, STEP_READ_LINK}
+use Rattle.make_through_links.specs.History.{asks, due_after, due_met, fails, follows_link, is_call, makes, met_of, moved, stand_after, whole, Asked, Due, Exchange, IsHistory, IsNext, Stand, STEP_MAKE_DIR}
+use Rattle.make_through_links.specs.Paths.{first_name, name_size, rest_behind, slashes_size}
+use Rattle.make_through_links.specs.Promises.{is_followed, part_for, tried_path, GaveNone, IsGiven, IsLastTry, IsLed, IsOneTooMany, IsPathOf, IsTooLong, IsWhy}
+use Rattle.make_through_links.specs.declared.meets.Met.{Met}
+use Rattle.make_through_links.specs.declared.meets.Met.TheVariants.{Missing, Directory, Parted, Refused, Above, Gone, Partly, Link, NoText, Between, Stands, LinkAtEnd, Unfollowed, BetweenAtEnd, Ended}
+use Rattle.make_through_links.specs.declared.meets.TheConstants.{FIND, SPLIT, MAKE_ABOVE, MAKE, PARTIAL, READ_LINK, CREATE, READ_END, ENDS, FAILS}
+use Rattle.make_through_links.proofs.HistoryLemmas.{between_few, links_few, means, Means}
+use Rattle.make_through_links.proofs.PathLemmas.{led_whole, only_slashes}
+
+-- ---- what comes next, by what was met
+
+abbrev NextOf : Met → ℕ → Type 0
+NextOf Missing n = n ≡ SPLIT
+NextOf Directory n = n ≡ FAILS
+NextOf Parted n = n ≡ MAKE_ABOVE
+NextOf Refused n = n ≡ FAILS
+NextOf Above n = n ≡ CREATE
+NextOf Gone n = n ≡ PARTIAL
+NextOf Partly n = n ≡ READ_LINK
+NextOf Link n = (n ≡ MAKE_ABOVE) ⊎ ((n ≡ MAKE) ⊎ (n ≡ FAILS))
+NextOf NoText n = n ≡ FAILS
+NextOf Between n = (n ≡ MAKE_ABOVE) ⊎ ((n ≡ MAKE) ⊎ (n ≡ FAILS))
+NextOf Stands n = n ≡ READ_END
+NextOf LinkAtEnd n = (n ≡ FIND) ⊎ (n ≡ FAILS)
+NextOf Unfollowed n = n ≡ FAILS
+NextOf BetweenAtEnd n = (n ≡ FIND) ⊎ (n ≡ FAILS)
+NextOf Ended n = n ≡ ENDS
+
+makes_next : (file : Bool) → ((if file then MAKE_ABOVE else MAKE) ≡ MAKE_ABOVE)
+    ⊎ (((if file then MAKE_ABOVE else MAKE) ≡ MAKE) ⊎ ((if file then MAKE_ABOVE else MAKE) ≡ FAILS))
+makes_next true = inl refl
+makes_next false = inr (inl refl)
+
+link_next : (P : ℕ → Type 0) (many long : Bool) (a b due : Due) → P a.next → P b.next → P due.next
+    → P (if many then a else (if long then b else due)).next
+link_next P true long a b due x y z = x
+link_next P false true a b due x y z = y
+link_next P false false a b due x y z = z
+
+again_next : (P : ℕ → Type 0) (is : Bool) (a due : Due) → P due.next → P a.next → P (if is then due else a).next
+again_next P true a due x y = x
+again_next P false a due x y = y
+
+next_of : (asked : Asked) (s : Stand) (e : Exchange) (m : Met) → NextOf m (due_met asked s e m).next
+next_of asked s e Missing = refl
+next_of asked s e Directory = refl
+next_of asked s e Parted = refl
+next_of asked s e Refused = refl
+next_of asked s e Above = refl
+next_of asked s e Gone = refl
+next_of asked s e Partly = refl
+next_of asked s e NoText = refl
+next_of asked s e Stands = refl
+next_of asked s e Unfollowed = refl
+next_of asked s e Ended = refl
+next_of asked s e Link =
+    link_next (NextOf Link) (nat_lt LINKS s.links) (nat_lt TEXT_MAX (length (whole s)))
+    (fails ELOOP STEP_READ_LINK e.path) (fails ENAMETOOLONG STEP_READ_LINK e.path) (makes asked s 0)
+    (inr (inr refl)) (inr (inr refl)) (makes_next asked.file)
+next_of asked s e LinkAtEnd =
+    link_next (NextOf LinkAtEnd) (nat_lt LINKS s.links) (nat_lt TEXT_MAX (length (whole s)))
+    (fails ELOOP STEP_READ_LINK e.path) (fails ENAMETOOLONG STEP_READ_LINK e.path) (asks s FIND 0 s.base (whole s))
+    (inr refl) (inr refl) (inl refl)
+next_of asked s e Between =
+    again_next (NextOf Between) (is_due s.between asked.may_retry EAGAIN false) (fails EAGAIN STEP_MAKE_DIR s.above)
+    (makes asked s (pause_after s.between)) (makes_next asked.file) (inr (inr refl))
+next_of asked s e BetweenAtEnd =
+    again_next (NextOf BetweenAtEnd) (is_due s.between asked.may_retry EAGAIN false)
+    (fails EAGAIN STEP_MAKE_DIR (whole s)) (asks s FIND (pause_after s.between) s.base (whole s)) (inl refl)
+    (inr refl)
+
+ends_only_in : (m : Met) (n : ℕ) → NextOf m n → n ≡ ENDS → m ≡ Ended
+ends_only_in Missing n x is = absurd (omega (arith, x, is))
+ends_only_in Directory n x is = absurd (omega (arith, x, is))
+ends_only_in Parted n x is = absurd (omega (arith, x, is))
+ends_only_in Refused n x is = absurd (omega (arith, x, is))
+ends_only_in Above n x is = absurd (omega (arith, x, is))
+ends_only_in Gone n x is = absurd (omega (arith, x, is))
+ends_only_in Partly n x is = absurd (omega (arith, x, is))
+ends_only_in Link n (inl x) is = absurd (omega (arith, x, is))
+ends_only_in Link n (inr (inl x)) is = absurd (omega (arith, x, is))
+ends_only_in Link n (inr (inr x)) is = absurd (omega (arith, x, is))
+ends_only_in NoText n x is = absurd (omega (arith, x, is))
+ends_only_in Between n (inl x) is = absurd (omega (arith, x, is))
+ends_only_in Between n (inr (inl x)) is = absurd (omega (arith, x, is))
+ends_only_in Between n (inr (inr x)) is = absurd (omega (arith, x, is))
+ends_only_in Stands n x is = absurd (omega (arith, x, is))
+ends_only_in LinkAtEnd n (inl x) is = absurd (omega (arith, x, is))
+ends_only_in LinkAtEnd n (inr x) is = absurd (omega (arith, x, is))
+ends_only_in Unfollowed n x is = absurd (omega (arith, x, is))
+ends_only_in BetweenAtEnd n (inl x) is = absurd (omega (arith, x, is))
+ends_only_in BetweenAtEnd n (inr x) is = absurd (omega (arith, x, is))
+ends_only_in Ended n x is = refl
+
+ends_only : (asked : Asked) (e : Exchange) (older : List Exchange) → (due_after asked (e ∷ older)).next ≡ ENDS
+    → met_of asked e ≡ Ended
+ends_only asked e older is = ends_only_in (met_of asked e) (due_after asked (e ∷ older)).next
+    (next_of asked (stand_after asked (e ∷ older)) e (met_of asked e)) is
+
+create_only_in : (m : Met) (n : ℕ) → NextOf m n → n ≡ CREATE → m ≡ Above
+create_only_in Missing n x is = absurd (omega (arith, x, is))
+create_only_in Directory n x is = absurd (omega (arith, x, is))
+create_only_in Parted n x is = absurd (omega (arith, x, is))
+create_only_in Refused n x is = absurd (omega (arith, x, is))
+create_only_in Above n x is = refl
+create_only_in Gone n x is = absurd (omega (arith, x, is))
+create_only_in Partly n x is = absurd (omega (arith, x, is))
+create_only_in Link n (inl x) is = absurd (omega (arith, x, is))
+create_only_in Link n (inr (inl x)) is = absurd (omega (arith, x, is))
+create_only_in Link n (inr (inr x)) is = absurd (omega (arith, x, is))
+create_only_in NoText n x is = absurd (omega (arith, x, is))
+create_only_in Between n (inl x) is = absurd (omega (arith, x, is))
+create_only_in Between n (inr (inl x)) is = absurd (omega (arith, x, is))
+create_only_in Between n (inr (inr x)) is = absurd (omega (arith, x, is))
+create_only_in Stands n x is = absurd (omega (arith, x, is))
+create_only_in LinkAtEnd n (inl x) is = absurd (omega (arith, x, is))
+create_only_in LinkAtEnd n (inr x) is = absurd (omega (arith, x, is))
+create_only_in Unfollowed n x is = absurd (omega (arith, x, is))
+create_only_in BetweenAtEnd n (inl x) is = absurd (omega (arith, x, is))
+create_only_in BetweenAtEnd n (inr x) is = absurd (omega (arith, x, is))
+create_only_in Ended n x is = absurd (omega (arith, x, is))
+
+create_only : (asked : Asked) (e : Exchange) (older : List Exchange) → (due_after asked (e ∷ older)).next ≡ CREATE
+    → met_of asked e ≡ Above
+create_only asked e older is = create_only_in (met_of asked e) (due_after asked (e ∷ older)).next
+    (next_of asked (stand_after asked (e ∷ older)) e (met_of asked e)) is
+
+partial_only_in : (m : Met) (n : ℕ) → NextOf m n → n ≡ PARTIAL → m ≡ Gone
+partial_only_in Missing n x is = absurd (omega (arith, x, is))
+partial_only_in Directory n x is = absurd (omega (arith, x, is))
+partial_only_in Parted n x is = absurd (omega (arith, x, is))
+partial_only_in Refused n x is = absurd (omega (arith, x, is))
+partial_only_in Above n x is = absurd (omega (arith, x, is))
+partial_only_in Gone n x is = refl
+partial_only_in Partly n x is = absurd (omega (arith, x, is))
+partial_only_in Link n (inl x) is = absurd (omega (arith, x, is))
+partial_only_in Link n (inr (inl x)) is = absurd (omega (arith, x, is))
+partial_only_in Link n (inr (inr x)) is = absurd (omega (arith, x, is))
+partial_only_in NoText n x is = absurd (omega (arith, x, is))
+partial_only_in Between n (inl x) is = absurd (omega (arith, x, is))
+partial_only_in Between n (inr (inl x)) is = absurd (omega (arith, x, is))
+partial_only_in Between n (inr (inr x)) is = absurd (omega (arith, x, is))
+partial_only_in Stands n x is = absurd (omega (arith, x, is))
+partial_only_in LinkAtEnd n (inl x) is = absurd (omega (arith, x, is))
+partial_only_in LinkAtEnd n (inr x) is = absurd (omega (arith, x, is))
+partial_only_in Unfollowed n x is = absurd (omega (arith, x, is))
+partial_only_in BetweenAtEnd n (inl x) is = absurd (omega (arith, x, is))
+partial_only_in BetweenAtEnd n (inr x) is = absurd (omega (arith, x, is))
+partial_only_in Ended n x is = absurd (omega (arith, x, is))
+
+partial_only : (asked : Asked) (e : Exchange) (older : List Exchange) → (due_after asked (e ∷ older)).next ≡ PARTIAL
+    → met_of asked e ≡ Gone
+partial_only asked e older is = partial_only_in (met_of asked e) (due_after asked (e ∷ older)).next
+    (next_of asked (stand_after asked (e ∷ older)) e (met_of asked e)) is
+
+read_only_in : (m : Met) (n : ℕ) → NextOf m n → n ≡ READ_LINK → m ≡ Partly
+read_only_in Missing n x is = absurd (omega (arith, x, is))
+read_only_in Directory n x is = absurd (omega (arith, x, is))
+read_only_in Parted n x is = absurd (omega (arith, x, is))
+read_only_in Refused n x is = absurd (omega (arith, x, is))
+read_only_in Above n x is = absurd (omega (arith, x, is))
+read_only_in Gone n x is = absurd (omega (arith, x, is))
+read_only_in Partly n x is = refl
+read_only_in Link n (inl x) is = absurd (omega (arith, x, is))
+read_only_in Link n (inr (inl x)) is = absurd (omega (arith, x, is))
+read_only_in Link n (inr (inr x)) is = absurd (omega (arith, x, is))
+read_only_in NoText n x is = absurd (omega (arith, x, is))
+read_only_in Between n (inl x) is = absurd (omega (arith, x, is))
+read_only_in Between n (inr (inl x)) is = absurd (omega (arith, x, is))
+read_only_in Between n (inr (inr x)) is = absurd (omega (arith, x, is))
+read_only_in Stands n x is = absurd (omega (arith, x, is))
+read_only_in LinkAtEnd n (inl x) is = absurd (omega (arith, x, is))
+read_only_in LinkAtEnd n (inr x) is = absurd (omega (arith, x, is))
+read_only_in Unfollowed n x is = absurd (omega (arith, x, is))
+read_only_in BetweenAtEnd n (inl x) is = absurd (omega (arith, x, is))
+read_only_in BetweenAtEnd n (inr x) is = absurd (omega (arith, x, is))
+read_only_in Ended n x is = absurd (omega (arith, x, is))
+
+read_only : (asked : Asked) (e : Exchange) (older : List Exchange) → (due_after asked (e ∷ older)).next ≡ READ_LINK
+    → met_of asked e ≡ Partly
+read_only asked e older is = read_only_in (met_of asked e) (due_after asked (e ∷ older)).next
+    (next_of asked (stand_after asked (e ∷ older)) e (met_of asked e)) is
+
+due_at : (asked : Asked) (e : Exchange) (older : List Exchange) (m : Met) → met_of asked e ≡ m
+    → due_after asked (e ∷ older) ≡ due_met asked (moved (stand_after asked older) e m) e m
+due_at asked e older m is = ap (λ n. due_met asked (moved (stand_after asked older) e n) e n) is
+
+-- ---- the part that each call walks
+
+part_makes : (file : Bool) (s : Stand) → s.above ≡ part_for (if file then MAKE_ABOVE else MAKE) s
+part_makes true s = refl
+part_makes false s = refl
+
+part_link : (many long : Bool) (s : Stand) (path : List ℕ) (x y : ℕ) (due : Due) → (due.path ≡ part_for due.next s)
+    → is_call (if many then fails x STEP_READ_LINK path else
+    (if long then fails y STEP_READ_LINK path else due)).next ≡ true
+    → (if many then fails x STEP_READ_LINK path else (if long then fails y STEP_READ_LINK path else due)).path
+    ≡ part_for (if many then fails x STEP_READ_LINK path else
+    (if long then fails y STEP_READ_LINK path else due)).next s
+part_link true long s path x y due rest call = elim (false≢true call) [ ]
+part_link false true s path x y due rest call = elim (false≢true call) [ ]
+part_link false false s path x y due rest call = rest
+
+part_again : (is : Bool) (s : Stand) (due : Due) → (due.path ≡ part_for due.next s)
+    → is_call (if is then due else fails EAGAIN STEP_MAKE_DIR due.path).next ≡ true
+    → (if is then due else fails EAGAIN STEP_MAKE_DIR due.path).path ≡ part_for
+    (if is then due else fails EAGAIN STEP_MAKE_DIR due.path).next s
+part_again true s due rest call = rest
+part_again false s due rest call = elim (false≢true call) [ ]
+
+part_by : (asked : Asked) (s : Stand) (e : Exchange) (m : Met) → is_call (due_met asked s e m).next ≡ true
+    → (due_met asked s e m).path ≡ part_for (due_met asked s e m).next s
+part_by asked s e Missing call = refl
+part_by asked s e Parted call = refl
+part_by asked s e Above call = refl
+part_by asked s e Gone call = refl
+part_by asked s e Partly call = refl
+part_by asked s e Stands call = refl
+part_by asked s e Link call =
+    part_link (nat_lt LINKS s.links) (nat_lt TEXT_MAX (length (whole s))) s e.path ELOOP ENAMETOOLONG
+    (makes asked s 0) (part_makes asked.file s) call
+part_by asked s e LinkAtEnd call =
+    part_link (nat_lt LINKS s.links) (nat_lt TEXT_MAX (length (whole s))) s e.path ELOOP ENAMETOOLONG
+    (asks s FIND 0 s.base (whole s)) refl call
+part_by asked s e Between call =
+    part_again (is_due s.between asked.may_retry EAGAIN false) s (makes asked s (pause_after s.between))
+    (part_makes asked.file s) call
+part_by asked s e BetweenAtEnd call =
+    part_again (is_due s.between asked.may_retry EAGAIN false) s
+    (asks s FIND (pause_after s.between) s.base (whole s)) refl call
+part_by asked s e Directory call = elim (false≢true call) [ ]
+part_by asked s e Refused call = elim (false≢true call) [ ]
+part_by asked s e NoText call = elim (false≢true call) [ ]
+part_by asked s e Unfollowed call = elim (false≢true call) [ ]
+part_by asked s e Ended call = elim (false≢true call) [ ]
+
+part_first : (file : Bool) (s : Stand) (path : List ℕ) → s.above ≡ path → s.name ≡ []
+    → path ≡ part_for (if file then FIND else MAKE) s
+part_first true s path above name = sym (append-nil path)
+    ∙ (ap (λ (l : List ℕ). l ++ []) (sym above) ∙ ap (λ (l : List ℕ). s.above ++ l) (sym name))
+part_first false s path above name = sym above
+
+part_of : (asked : Asked) (history : List Exchange) → is_call (due_after asked history).next ≡ true
+    → (due_after asked history).path ≡ part_for (due_after asked history).next (stand_after asked history)
+part_of asked [] call = part_first asked.file (stand_after asked []) asked.path refl refl
+part_of asked (e ∷ older) call = part_by asked (stand_after asked (e ∷ older)) e (met_of asked e) call
+
+called : (asked : Asked) (e : Exchange) (older : List Exchange) → IsNext asked older e
+    → is_call (due_after asked older).next ≡ true
+called asked e older h = subst (λ n. is_call n ≡ true) h.call h.is
+
+pub walks_part : (asked : Asked) (e : Exchange) (older : List Exchange) → IsHistory asked (e ∷ older)
+    → e.path ≡ part_for e.call (stand_after asked older)
+walks_part asked e older h =
+    h.0.path ∙ (part_of asked older (called asked e older h.0) ∙ ap (λ n. part_for n (stand_after asked older))
+    (sym h.0.call))
+
+-- the number of the call is known
+part_at : (asked : Asked) (e : Exchange) (older : List Exchange) (call : ℕ) → IsHistory asked (e ∷ older)
+    → e.call ≡ call → e.path ≡ part_for call (stand_after asked older)
+part_at asked e older call h is = walks_part asked e older h ∙ ap (λ n. part_for n (stand_after asked older)) is
+
+-- ---- where a file is made
+
+pub made_above : (asked : Asked) (e above : Exchange) (older : List Exchange) → IsHistory asked (e ∷ (above ∷ older))
+    → e.call ≡ CREATE
+    → (above.call ≡ MAKE_ABOVE)
+    × ((above.error ≡ 0) × ((e.from ≡ above.gave) × (above.path ++ e.path ≡ whole (stand_after asked older))))
+made_above asked e above older h creates =
+    let met : met_of asked above ≡ Above = create_only asked above older (sym h.0.call ∙ creates) in
+    let is = means asked above Above h.1.0.is met in
+    let due = due_at asked above older Above met in
+    let from : e.from ≡ above.gave = h.0.from ∙ ap (λ (d : Due). d.from) due in
+    let name : e.path ≡ (stand_after asked older).name = h.0.path ∙ ap (λ (d : Due). d.path) due in
+    let front : above.path ≡ (stand_after asked older).above = part_at asked above older MAKE_ABOVE h.1 is.0 in (
+      is.0,
+      (
+        is.1,
+        (
+          from,
+          ap (λ (l : List ℕ). l ++ e.path) front
+              ∙ ap (λ (l : List ℕ). (stand_after asked older).above ++ l) name,
+        ),
+      ),
+    )
+
+-- ---- what is given
+
+not_reply : (call n : ℕ) → call ≡ n → n ≢ FIND → n ≢ CREATE → n ≢ MAKE
+    → (call ≢ FIND) × ((call ≢ CREATE) × (call ≢ MAKE))
+not_reply call n is f c m = (λ x. f (sym is ∙ x), (λ x. c (sym is ∙ x), λ x. m (sym is ∙ x)))
+
+no_reply : (call error n : ℕ) → call ≡ n → n ≢ FIND → n ≢ CREATE → n ≢ MAKE → error ≡ 0
+    → (call ≢ FIND) × ((call ≢ CREATE) × (call ≢ MAKE))
+no_reply call error n is f c m none = not_reply call n is f c m
+
+gave_none : (asked : Asked) (s : Stand) (e : Exchange) (m : Met) → Means m asked.follows e.call e.error
+    → is_call (due_met asked s e m).next ≡ true → GaveNone e
+gave_none asked s e Missing is call = λ none. absurd (omega (arith, none, is.1))
+gave_none asked s e Parted is call = λ none. not_reply e.call SPLIT is (omega arith) (omega arith) (omega arith)
+gave_none asked s e Above is call = λ none. not_reply e.call MAKE_ABOVE is.0 (omega arith) (omega arith) (omega arith)
+gave_none asked s e Gone is call = λ none. absurd (omega (arith, none, is.1.0))
+gave_none asked s e Partly is call = λ none. not_reply e.call PARTIAL is (omega arith) (omega arith) (omega arith)
+gave_none asked s e Link is call = λ none. not_reply e.call READ_LINK is (omega arith) (omega arith) (omega arith)
+gave_none asked s e Between (inl is) call = λ none. not_reply e.call PARTIAL is (omega arith) (omega arith)
+    (omega arith)
+gave_none asked s e Between (inr is) call = λ none. not_reply e.call READ_LINK is (omega arith) (omega arith)
+    (omega arith)
+gave_none asked s e Stands is call = λ none. absurd (omega (arith, none, is.1))
+gave_none asked s e LinkAtEnd is call = λ none. not_reply e.call READ_END is.0 (omega arith) (omega arith) (omega arith)
+gave_none asked s e BetweenAtEnd is call = λ none. not_reply e.call READ_END is (omega arith) (omega arith)
+    (omega arith)
+gave_none asked s e Directory is call = elim (false≢true call) [ ]
+gave_none asked s e Refused is call = elim (false≢true call) [ ]
+gave_none asked s e NoText is call = elim (false≢true call) [ ]
+gave_none asked s e Unfollowed is call = elim (false≢true call) [ ]
+gave_none asked s e Ended is call = elim (false≢true call) [ ]
+
+all_gave_none : (asked : Asked) (older : List Exchange) → IsHistory asked older
+    → is_call (due_after asked older).next ≡ true → AllByRecursion GaveNone older
+all_gave_none asked [] h call = tt
+all_gave_none asked (e ∷ older) h call = (
+  gave_none asked (stand_after asked (e ∷ older)) e (met_of asked e) (means asked e (met_of asked e) h.0.is refl) call,
+  all_gave_none asked older h.1 (called asked e older h.0),
+)
+
+pub given : (asked : Asked) (e : Exchange) (older : List Exchange) → IsHistory asked (e ∷ older)
+    → (due_after asked (e ∷ older)).next ≡ ENDS → e.error ≡ 0 → IsGiven asked older e
+given asked e older h ends none =
+    let met : met_of asked e ≡ Ended = ends_only asked e older ends in
+    record {
+      by = means asked e Ended h.0.is met none;
+      gives = ap (λ (d : Due). d.gives) (due_at asked e older Ended met)
+          ∙ cond-true (e.error == 0) e.gave 0 (eq-eqb e.error 0 none);
+      others = all_gave_none asked older h.1 (called asked e older h.0);
+    }
+
+-- ---- no link without leave
+
+abbrev NoLink : Asked → Exchange → Type 0
+NoLink asked e = (e.call ≢ PARTIAL) × ((e.call ≢ READ_LINK) × (is_followed (met_of asked e) ≡ false))
+
+not_followed : (asked : Asked) (e : Exchange) (m : Met) → asked.follows ≡ false
+    → Means m asked.follows e.call e.error → e.call ≢ READ_LINK → is_followed m ≡ false
+not_followed asked e Link never is isnt = absurd (isnt is)
+not_followed asked e LinkAtEnd never is isnt = elim (false≢true (sym never ∙ is.1)) [ ]
+not_followed asked e Missing never is isnt = refl
+not_followed asked e Directory never is isnt = refl
+not_followed asked e Parted never is isnt = refl
+not_followed asked e Refused never is isnt = refl
+not_followed asked e Above never is isnt = refl
+not_followed asked e Gone never is isnt = refl
+not_followed asked e Partly never is isnt = refl
+not_followed asked e NoText never is isnt = refl
+not_followed asked e Between never is isnt = refl
+not_followed asked e Stands never is isnt = refl
+not_followed asked e Unfollowed never is isnt = refl
+not_followed asked e BetweenAtEnd never is isnt = refl
+not_followed asked e Ended never is isnt = refl
+
+no_partial_first : (file : Bool) → (if file then FIND else MAKE) ≢ PARTIAL
+no_partial_first true = omega arith
+no_partial_first false = omega arith
+
+no_read_first : (file : Bool) → (if file then FIND else MAKE) ≢ READ_LINK
+no_read_first true = omega arith
+no_read_first false = omega arith
+
+no_partial : (asked : Asked) (older : List Exchange) → IsHistory asked older → asked.follows ≡ false
+    → (due_after asked older).next ≢ PARTIAL
+no_partial asked [] h never = no_partial_first asked.file
+no_partial asked (e ∷ older) h never = λ is.
+    let gone = means asked e Gone h.0.is (partial_only asked e older is) in false≢true (sym never ∙ gone.1.1)
+
+no_read : (asked : Asked) (older : List Exchange) → IsHistory asked older → asked.follows ≡ false
+    → (due_after asked older).next ≢ READ_LINK
+no_read asked [] h never = no_read_first asked.file
+no_read asked (e ∷ older) h never = λ is.
+    no_partial asked older h.1 never (sym h.0.call ∙ means asked e Partly h.0.is (read_only asked e older is))
+
+pub none_followed : (asked : Asked) (history : List Exchange) → IsHistory asked history → asked.follows ≡ false
+    → AllByRecursion (NoLink asked) history
+none_followed asked [] h never = tt
+none_followed asked (e ∷ older) h never =
+    let read : e.call ≢ READ_LINK = λ is. no_read asked older h.1 never (sym h.0.call ∙ is) in (
+      (
+        λ is. no_partial asked older h.1 never (sym h.0.call ∙ is),
+        (read, not_followed asked e (met_of asked e) never (means asked e (met_of asked e) h.0.is refl) read),
+      ),
+      none_followed asked older h.1 never,
+    )
+
+-- ---- paths
+
+-- it stands at the same path
+same_path : (asked : Asked) (e : Exchange) (older : List Exchange) (s t : Stand) → whole t ≡ whole s
+    → t.base ≡ s.base → is_followed (met_of asked e) ≡ false → IsPathOf asked older s
+    → IsPathOf asked (e ∷ older) t
+same_path asked e older s t path base isnt (inl own) = inl (path ∙ own.0, (base ∙ own.1.0, (isnt, own.1.1)))
+same_path asked e older s t path base isnt (inr last) =
+    inr record {
+      newer = e ∷ last.newer;
+      link = last.link;
+      before = last.before;
+      order = ap (λ l. e ∷ l) last.order;
+      none = (isnt, last.none);
+      read = last.read;
+      led = subst (λ (p : List ℕ). IsLed (whole (stand_after asked last.before)) p last.link) (sym path) last.led;
+      base = base ∙ last.base;
+      fits = omega (arith, last.fits, ap length path);
+    }
+
+led_above : (s : Stand) (e : Exchange) → e.path ≡ first_name (drop s.cut s.above)
+    → IsLed (whole s) (whole (moved s e Link)) e
+led_above s e name =
+    let left = drop s.cut s.above in
+    let behind = drop (name_size left) left in
+    let slashes = take (slashes_size behind) behind in
+    let rest = rest_behind left in
+    let first : left ≡ e.path ++ behind = sym (take-append-drop (name_size left) left)
+    ∙ ap (λ (l : List ℕ). l ++ behind) (sym name) in
+    let second : behind ≡ slashes ++ rest = sym (take-append-drop (slashes_size behind) behind) in
+    let all : s.above ≡ take s.cut s.above ++ (e.path ++ (slashes ++ rest)) =
+    sym (take-append-drop s.cut s.above) ∙ ap (λ (l : List ℕ). take s.cut s.above ++ l)
+    (first ∙ ap (λ (l : List ℕ). e.path ++ l) second) in
+    record {
+      front = take s.cut s.above;
+      slashes = slashes;
+      rest = rest ++ s.name;
+      place = ap (λ (l : List ℕ). l ++ s.name) all
+          ∙ (append_assoc (take s.cut s.above) (e.path ++ (slashes ++ rest)) s.name
+          ∙ ap (λ (l : List ℕ). take s.cut s.above ++ l) (append_assoc e.path (slashes ++ rest) s.name
+          ∙ ap (λ (l : List ℕ). e.path ++ l) (append_assoc slashes rest s.name)));
+      only = only_slashes behind;
+      leads = led_whole e.text rest s.name;
+    }
+
+led_at_end : (s : Stand) (e : Exchange) → e.path ≡ s.name → IsLed (whole s) (whole (moved s e LinkAtEnd)) e
+led_at_end s e name = record {
+  front = s.above;
+  slashes = [];
+  rest = [];
+  place = ap (λ (l : List ℕ). s.above ++ l) (sym name ∙ sym (append-nil e.path));
+  only = refl;
+  leads = append-nil e.text;
+}
+
+link_fits : (many long : Bool) (a b due : Due) → is_call a.next ≡ false → is_call b.next ≡ false
+    → is_call (if many then a else (if long then b else due)).next ≡ true → long ≡ false
+link_fits true long a b due x y call = elim (false≢true (sym x ∙ call)) [ ]
+link_fits false true a b due x y call = elim (false≢true (sym y ∙ call)) [ ]
+link_fits false false a b due x y call = refl
+
+followed_fits : (s : Stand) (e : Exchange) (due : Due) → is_call (follows_link s e due).next ≡ true
+    → length (whole s) ≤ TEXT_MAX
+followed_fits s e due call =
+    ltb-false TEXT_MAX (length (whole s)) (link_fits (nat_lt LINKS s.links) (nat_lt TEXT_MAX (length (whole s)))
+    (fails ELOOP STEP_READ_LINK e.path) (fails ENAMETOOLONG STEP_READ_LINK e.path) due refl refl call)
+
+-- what was met, in place of what is read of the exchange
+at_met : (asked : Asked) (e : Exchange) (older : List Exchange) (m : Met) → met_of asked e ≡ m
+    → IsPathOf asked (e ∷ older) (moved (stand_after asked older) e m)
+    → IsPathOf asked (e ∷ older) (stand_after asked (e ∷ older))
+at_met asked e older m is path = subst (λ n. IsPathOf asked (e ∷ older) (moved (stand_after asked older) e n))
+    (sym is) path
+
+new_path : (asked : Asked) (e : Exchange) (older : List Exchange) (m : Met) → met_of asked e ≡ m
+    → is_followed m ≡ true → IsLed (whole (stand_after asked older)) (whole (moved (stand_after asked older) e m)) e
+    → (moved (stand_after asked older) e m).base ≡ e.from
+    → length (whole (moved (stand_after asked older) e m)) ≤ TEXT_MAX
+    → IsPathOf asked (e ∷ older) (moved (stand_after asked older) e m)
+new_path asked e older m is read led base fits = inr record {
+  newer = [];
+  link = e;
+  before = older;
+  order = refl;
+  none = tt;
+  read = ap is_followed is ∙ read;
+  led = led;
+  base = base;
+  fits = fits;
+}
+
+path_by : (asked : Asked) (e : Exchange) (older : List Exchange) (m : Met) → met_of asked e ≡ m
+    → IsHistory asked (e ∷ older) → is_call (due_met asked (moved (stand_after asked older) e m) e m).next ≡ true
+    → IsPathOf asked older (stand_after asked older) → IsPathOf asked (e ∷ older) (moved (stand_after asked older) e m)
+path_by asked e older Link is h call path =
+    let s = stand_after asked older in
+    new_path asked e older Link is refl
+    (led_above s e (part_at asked e older READ_LINK h (means asked e Link h.0.is is))) refl
+    (followed_fits (moved s e Link) e (makes asked (moved s e Link) 0) call)
+path_by asked e older LinkAtEnd is h call path =
+    let s = stand_after asked older in
+    let t = moved s e LinkAtEnd in
+    new_path asked e older LinkAtEnd is refl
+    (led_at_end s e (part_at asked e older READ_END h (means asked e LinkAtEnd h.0.is is).0)) refl
+    (followed_fits t e (asks t FIND 0 t.base (whole t)) call)
+path_by asked e older Parted is h call path =
+    let s = stand_after asked older in
+    same_path asked e older s (moved s e Parted) (take-append-drop e.rest (whole s)) refl (ap is_followed is) path
+path_by asked e older Missing is h call path = same_path asked e older (stand_after asked older)
+    (moved (stand_after asked older) e Missing) refl refl (ap is_followed is) path
+path_by asked e older Directory is h call path = same_path asked e older (stand_after asked older)
+    (moved (stand_after asked older) e Directory) refl refl (ap is_followed is) path
+path_by asked e older Refused is h call path = same_path asked e older (stand_after asked older)
+    (moved (stand_after asked older) e Refused) refl refl (ap is_followed is) path
+path_by asked e older Above is h call path = same_path asked e older (stand_after asked older)
+    (moved (stand_after asked older) e Above) refl refl (ap is_followed is) path
+path_by asked e older Gone is h call path = same_path asked e older (stand_after asked older)
+    (moved (stand_after asked older) e Gone) refl refl (ap is_followed is) path
+path_by asked e older Partly is h call path = same_path asked e older (stand_after asked older)
+    (moved (stand_after asked older) e Partly) refl refl (ap is_followed is) path
+path_by asked e older NoText is h call path = same_path asked e older (stand_after asked older)
+    (moved (stand_after asked older) e NoText) refl refl (ap is_followed is) path
+path_by asked e older Between is h call path = same_path asked e older (stand_after asked older)
+    (moved (stand_after asked older) e Between) refl refl (ap is_followed is) path
+path_by asked e older Stands is h call path = same_path asked e older (stand_after asked older)
+    (moved (stand_after asked older) e Stands) refl refl (ap is_followed is) path
+path_by asked e older Unfollowed is h call path = same_path asked e older (stand_after asked older)
+    (moved (stand_after asked older) e Unfollowed) refl refl (ap is_followed is) path
+path_by asked e older BetweenAtEnd is h call path = same_path asked e older (stand_after asked older)
+    (moved (stand_after asked older) e BetweenAtEnd) refl refl (ap is_followed is) path
+path_by asked e older Ended is h call path = same_path asked e older (stand_after asked older)
+    (moved (stand_after asked older) e Ended) refl refl (ap is_followed is) path
+
+path_is : (asked : Asked) (history : List Exchange) → IsHistory asked history
+    → is_call (due_after asked history).next ≡ true → IsPathOf asked history (stand_after asked history)
+path_is asked [] h call = inl (append-nil asked.path, (refl, tt))
+path_is asked (e ∷ older) h call =
+    path_by asked e older (met_of asked e) refl h call (path_is asked older h.1 (called asked e older h.0))
+
+pub path_of : (asked : Asked) (e : Exchange) (older : List Exchange) → IsHistory asked (e ∷ older)
+    → IsPathOf asked older (stand_after asked older)
+path_of asked e older h = path_is asked older h.1 (called asked e older h.0)
+
+-- ---- why it fails
+
+link_many : (many long : Bool) (a b due : Due) → many ≡ true → (if many then a else (if long then b else due)) ≡ a
+link_many true long a b due is = refl
+link_many false long a b due is = elim (false≢true is) [ ]
+
+link_long : (many long : Bool) (a b due : Due) → many ≡ false → long ≡ true
+    → (if many then a else (if long then b else due)) ≡ b
+link_long false true a b due is too = refl
+link_long true long a b due is too = elim (false≢true (sym is)) [ ]
+link_long false false a b due is too = elim (false≢true too) [ ]
+
+loops_by : (asked : Asked) (e : Exchange) (older : List Exchange) (m : Met) → met_of asked e ≡ m
+    → is_followed m ≡ true → (stand_after asked older).links ≡ LINKS
+    → due_met asked (moved (stand_after asked older) e m) e m ≡ fails ELOOP STEP_READ_LINK e.path
+loops_by asked e older Link is read many =
+    let t = moved (stand_after asked older) e Link in
+    link_many (nat_lt LINKS t.links) (nat_lt TEXT_MAX (length (whole t))) (fails ELOOP STEP_READ_LINK e.path)
+    (fails ENAMETOOLONG STEP_READ_LINK e.path) (makes asked t 0) (lt-ltb LINKS t.links (omega (arith, many)))
+loops_by asked e older LinkAtEnd is read many =
+    let t = moved (stand_after asked older) e LinkAtEnd in
+    link_many (nat_lt LINKS t.links) (nat_lt TEXT_MAX (length (whole t))) (fails ELOOP STEP_READ_LINK e.path)
+    (fails ENAMETOOLONG STEP_READ_LINK e.path) (asks t FIND 0 t.base (whole t))
+    (lt-ltb LINKS t.links (omega (arith, many)))
+loops_by asked e older Missing is read many = elim (false≢true read) [ ]
+loops_by asked e older Directory is read many = elim (false≢true read) [ ]
+loops_by asked e older Parted is read many = elim (false≢true read) [ ]
+loops_by asked e older Refused is read many = elim (false≢true read) [ ]
+loops_by asked e older Above is read many = elim (false≢true read) [ ]
+loops_by asked e older Gone is read many = elim (false≢true read) [ ]
+loops_by asked e older Partly is read many = elim (false≢true read) [ ]
+loops_by asked e older NoText is read many = elim (false≢true read) [ ]
+loops_by asked e older Between is read many = elim (false≢true read) [ ]
+loops_by asked e older Stands is read many = elim (false≢true read) [ ]
+loops_by asked e older Unfollowed is read many = elim (false≢true read) [ ]
+loops_by asked e older BetweenAtEnd is read many = elim (false≢true read) [ ]
+loops_by asked e older Ended is read many = elim (false≢true read) [ ]
+
+pub loops : (asked : Asked) (e : Exchange) (older : List Exchange) → IsOneTooMany asked older e
+    → due_after asked (e ∷ older) ≡ fails ELOOP STEP_READ_LINK e.path
+loops asked e older why = loops_by asked e older (met_of asked e) refl why.0 why.1
+
+long_by : (asked : Asked) (e : Exchange) (older : List Exchange) (m : Met) → is_followed m ≡ true
+    → (stand_after asked older).links < LINKS
+    → TEXT_MAX < length (whole (moved (stand_after asked older) e m))
+    → due_met asked (moved (stand_after asked older) e m) e m ≡ fails ENAMETOOLONG STEP_READ_LINK e.path
+long_by asked e older Link read few long =
+    let t = moved (stand_after asked older) e Link in
+    link_long (nat_lt LINKS t.links) (nat_lt TEXT_MAX (length (whole t))) (fails ELOOP STEP_READ_LINK e.path)
+    (fails ENAMETOOLONG STEP_READ_LINK e.path) (makes asked t 0)
+    (le-ltb LINKS t.links (omega (arith, few))) (lt-ltb TEXT_MAX (length (whole t)) long)
+long_by asked e older LinkAtEnd read few long =
+    let t = moved (stand_after asked older) e LinkAtEnd in
+    link_long (nat_lt LINKS t.links) (nat_lt TEXT_MAX (length (whole t))) (fails ELOOP STEP_READ_LINK e.path)
+    (fails ENAMETOOLONG STEP_READ_LINK e.path) (asks t FIND 0 t.base (whole t))
+    (le-ltb LINKS t.links (omega (arith, few))) (lt-ltb TEXT_MAX (length (whole t)) long)
+long_by asked e older Missing read few long = elim (false≢true read) [ ]
+long_by asked e older Directory read few long = elim (false≢true read) [ ]
+long_by asked e older Parted read few long = elim (false≢true read) [ ]
+long_by asked e older Refused read few long = elim (false≢true read) [ ]
+long_by asked e older Above read few long = elim (false≢true read) [ ]
+long_by asked e older Gone read few long = elim (false≢true read) [ ]
+long_by asked e older Partly read few long = elim (false≢true read) [ ]
+long_by asked e older NoText read few long = elim (false≢true read) [ ]
+long_by asked e older Between read few long = elim (false≢true read) [ ]
+long_by asked e older Stands read few long = elim (false≢true read) [ ]
+long_by asked e older Unfollowed read few long = elim (false≢true read) [ ]
+long_by asked e older BetweenAtEnd read few long = elim (false≢true read) [ ]
+long_by asked e older Ended read few long = elim (false≢true read) [ ]
+
+pub too_long : (asked : Asked) (e : Exchange) (older : List Exchange) → IsTooLong asked older e
+    → due_after asked (e ∷ older) ≡ fails ENAMETOOLONG STEP_READ_LINK e.path
+too_long asked e older why = long_by asked e older (met_of asked e) why.0 why.1.0 why.1.1
+
+not_due : (times : ℕ) (may_retry : Bool) → (may_retry ≡ false) ⊎ (times + 1 ≡ TRIES)
+    → is_due (times + 1) may_retry EAGAIN false ≡ false
+not_due times may_retry (inl never) = ap (λ r. is_due (times + 1) r EAGAIN false) never
+not_due times false (inr last) = refl
+not_due times true (inr last) = le-ltb (times + 1) TRIES (omega (arith, last))
+
+gives_up_by : (asked : Asked) (e : Exchange) (older : List Exchange)
+    → (met_of asked e ≡ Between) ⊎ (met_of asked e ≡ BetweenAtEnd)
+    → is_due ((stand_after asked older).between + 1) asked.may_retry EAGAIN false ≡ false
+    → due_after asked (e ∷ older) ≡ fails EAGAIN STEP_MAKE_DIR (tried_path (met_of asked e) (stand_after asked older))
+gives_up_by asked e older (inl is) isnt =
+    let t = moved (stand_after asked older) e Between in
+    due_at asked e older Between is
+    ∙ (cond-false (is_due t.between asked.may_retry EAGAIN false) (makes asked t (pause_after t.between))
+    (fails EAGAIN STEP_MAKE_DIR t.above) isnt
+    ∙ ap (λ n. fails EAGAIN STEP_MAKE_DIR (tried_path n (stand_after asked older))) (sym is))
+gives_up_by asked e older (inr is) isnt =
+    let t = moved (stand_after asked older) e BetweenAtEnd in
+    due_at asked e older BetweenAtEnd is
+    ∙ (cond-false (is_due t.between asked.may_retry EAGAIN false)
+    (asks t FIND (pause_after t.between) t.base (whole t)) (fails EAGAIN STEP_MAKE_DIR (whole t)) isnt
+    ∙ ap (λ n. fails EAGAIN STEP_MAKE_DIR (tried_path n (stand_after asked older))) (sym is))
+
+pub gives_up : (asked : Asked) (e : Exchange) (older : List Exchange) → IsLastTry asked older e
+    → due_after asked (e ∷ older) ≡ fails EAGAIN STEP_MAKE_DIR (tried_path (met_of asked e) (stand_after asked older))
+gives_up asked e older why = gives_up_by asked e older why.0
+    (not_due (stand_after asked older).between asked.may_retry why.1)
+
+link_why : (many long : Bool) (a b due : Due) → (due.next ≡ FAILS → ⊥)
+    → (if many then a else (if long then b else due)).next ≡ FAILS → (many ≡ true) ⊎ ((many ≡ false) × (long ≡ true))
+link_why true long a b due isnt is = inl refl
+link_why false true a b due isnt is = inr (refl, refl)
+link_why false false a b due isnt is = absurd (isnt is)
+
+again_why : (due_is : Bool) (a due : Due) → (due.next ≡ FAILS → ⊥) → (if due_is then due else a).next ≡ FAILS
+    → due_is ≡ false
+again_why true a due isnt is = absurd (isnt is)
+again_why false a due isnt is = refl
+
+makes_goes : (file : Bool) → (if file then MAKE_ABOVE else MAKE) ≡ FAILS → ⊥
+makes_goes true is = omega (arith, is)
+makes_goes false is = omega (arith, is)
+
+find_goes : FIND ≡ FAILS → ⊥
+find_goes is = omega (arith, is)
+
+was_last : (times : ℕ) (may_retry : Bool) → is_due (times + 1) may_retry EAGAIN false ≡ false → times ≤ 31
+    → (may_retry ≡ false) ⊎ (times + 1 ≡ TRIES)
+was_last times false isnt few = inl refl
+was_last times true isnt few = let many = ltb-false (times + 1) TRIES isnt in inr (omega (arith, many, few))
+
+why_last : (asked : Asked) (e : Exchange) (older : List Exchange) → IsHistory asked (e ∷ older)
+    → (met_of asked e ≡ Between) ⊎ (met_of asked e ≡ BetweenAtEnd)
+    → is_due ((stand_after asked older).between + 1) asked.may_retry EAGAIN false ≡ false
+    → IsWhy asked older e (due_after asked (e ∷ older))
+why_last asked e older h is isnt =
+    let why : IsLastTry asked older e = (
+      is,
+      was_last (stand_after asked older).between asked.may_retry isnt
+          (between_few asked e older h),
+    ) in
+    inr (inr (inr (inr (inr (inr (gives_up asked e older why, why))))))
+
+why_link : (asked : Asked) (e : Exchange) (older : List Exchange) (m : Met) → IsHistory asked (e ∷ older)
+    → met_of asked e ≡ m → is_followed m ≡ true
+    → (LINKS < (stand_after asked older).links + 1)
+    ⊎ (((stand_after asked older).links + 1 ≤ LINKS)
+    × (TEXT_MAX < length (whole (moved (stand_after asked older) e m))))
+    → IsWhy asked older e (due_after asked (e ∷ older))
+why_link asked e older m h is read (inl many) =
+    let why : IsOneTooMany asked older e = (ap is_followed is ∙ read, omega (arith, many, links_few asked e older h)) in
+    inr (inr (inr (inr (inl (loops asked e older why, why)))))
+why_link asked e older m h is read (inr long) =
+    let why : IsTooLong asked older e = (
+      ap is_followed is ∙ read,
+      (
+        omega (arith, long.0),
+        subst (λ n. TEXT_MAX < length (whole (moved (stand_after asked older) e n)))
+            (sym is) long.1,
+      ),
+    ) in
+    inr (inr (inr (inr (inr (inl (too_long asked e older why, why))))))
+
+link_reasons : (s : Stand) (e : Exchange) (due : Due) → (due.next ≡ FAILS → ⊥) → (follows_link s e due).next ≡ FAILS
+    → (LINKS < s.links) ⊎ ((s.links ≤ LINKS) × (TEXT_MAX < length (whole s)))
+link_reasons s e due isnt is =
+    elim (link_why (nat_lt LINKS s.links) (nat_lt TEXT_MAX (length (whole s))) (fails ELOOP STEP_READ_LINK e.path)
+    (fails ENAMETOOLONG STEP_READ_LINK e.path) due isnt is) [
+      | inl many ↦ inl (ltb-true LINKS s.links many)
+      | inr both ↦ inr (ltb-false LINKS s.links both.0, ltb-true TEXT_MAX (length (whole s)) both.1)
+    ]
+
+why_by : (asked : Asked) (e : Exchange) (older : List Exchange) (m : Met) → met_of asked e ≡ m
+    → IsHistory asked (e ∷ older)
+    → (due_met asked (moved (stand_after asked older) e m) e m).next ≡ FAILS
+    → IsWhy asked older e (due_after asked (e ∷ older))
+why_by asked e older Directory is h failed = inl (due_at asked e older Directory is, is)
+why_by asked e older Refused is h failed = inr (inl (due_at asked e older Refused is, is))
+why_by asked e older NoText is h failed = inr (inr (inl (due_at asked e older NoText is, is)))
+why_by asked e older Unfollowed is h failed = inr (inr (inr (inl (due_at asked e older Unfollowed is, is))))
+why_by asked e older Link is h failed =
+    let t = moved (stand_after asked older) e Link in
+    why_link asked e older Link h is refl (link_reasons t e (makes asked t 0) (makes_goes asked.file) failed)
+why_by asked e older LinkAtEnd is h failed =
+    let t = moved (stand_after asked older) e LinkAtEnd in
+    why_link asked e older LinkAtEnd h is refl (link_reasons t e (asks t FIND 0 t.base (whole t)) find_goes failed)
+why_by asked e older Between is h failed =
+    let t = moved (stand_after asked older) e Between in
+    why_last asked e older h (inl is)
+    (again_why (is_due t.between asked.may_retry EAGAIN false) (fails EAGAIN STEP_MAKE_DIR t.above)
+    (makes asked t (pause_after t.between)) (makes_goes asked.file) failed)
+why_by asked e older BetweenAtEnd is h failed =
+    let t = moved (stand_after asked older) e BetweenAtEnd in
+    why_last asked e older h (inr is)
+    (again_why (is_due t.between asked.may_retry EAGAIN false) (fails EAGAIN STEP_MAKE_DIR (whole t))
+    (asks t FIND (pause_after t.between) t.base (whole t)) find_goes failed)
+why_by asked e older Missing is h failed = absurd (omega (arith, failed))
+why_by asked e older Parted is h failed = absurd (omega (arith, failed))
+why_by asked e older Above is h failed = absurd (omega (arith, failed))
+why_by asked e older Gone is h failed = absurd (omega (arith, failed))
+why_by asked e older Partly is h failed = absurd (omega (arith, failed))
+why_by asked e older Stands is h failed = absurd (omega (arith, failed))
+why_by asked e older Ended is h failed = absurd (omega (arith, failed))
+
+pub why : (asked : Asked) (e : Exchange) (older : List Exchange) → IsHistory asked (e ∷ older)
+    → (due_after asked (e ∷ older)).next ≡ FAILS
+    → IsWhy asked older e (due_after asked (e ∷ older))
+why asked e older h failed = why_by asked e older (met_of asked e) refl h failed

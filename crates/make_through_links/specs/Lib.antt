@@ -1,0 +1,4 @@
+pub mod History
+pub mod Making
+pub mod Paths
+pub mod Promises

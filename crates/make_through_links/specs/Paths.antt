@@ -1,0 +1,25 @@
+-- Where a path goes on behind a link (path_resolution(7)): the link's text stands in the place of the link, before what
+-- comes behind it.
+use Rattle.std.specs.Prelude.{ℕ, List, ◌∷◌, ◌++◌, ◌==◌, not, if◌then◌else◌, take, drop}
+use Rattle.std.specs.List.{position_or_len}
+use Rattle.path_text.specs.Text.{is_empty}
+use Rattle.path_text.specs.declared.name.TheConstants.{SLASH}
+
+-- how many bytes stand before the first slash, and those
+abbrev pub name_size : List ℕ → ℕ
+name_size text = position_or_len (λ b. b == SLASH) text
+
+abbrev pub first_name : List ℕ → List ℕ
+first_name text = take (name_size text) text
+
+-- how many slashes a text begins with
+abbrev pub slashes_size : List ℕ → ℕ
+slashes_size text = position_or_len (λ b. not (b == SLASH)) text
+
+-- what comes behind the first name and the slashes there
+abbrev pub rest_behind : List ℕ → List ℕ
+rest_behind text = let rest = drop (name_size text) text in drop (slashes_size rest) rest
+
+-- a link's text before what comes behind the link, set off by a slash
+abbrev pub before_rest : List ℕ → List ℕ → List ℕ
+before_rest text rest = if is_empty rest then text else text ++ SLASH ∷ rest

@@ -1,0 +1,87 @@
+//! Where a path goes on behind a link.
+ghost use Rattle.std.specs.Prelude.{◌≡◌, ◌+◌, ◌-◌, ◌≤◌, ◌<◌, ◌^◌, ◌∷◌, ◌==◌, if◌then◌else◌, length, take, drop};
+ghost use Rattle.path_text.specs.declared.name.TheConstants.{SLASH};
+ghost use Rattle.make_through_links.specs.Paths.{before_rest, name_size, rest_behind, slashes_size};
+
+use path_text::SLASH;
+
+// How long the first name is: so many bytes stand before the first slash.
+pub(crate) fn name_length(text: &[u8]) -> usize
+    ensures exact { result ≡ name_size text.now }
+    ensures within { result ≤ length text.now }
+{
+    match text.iter().position(|byte| *byte == SLASH) {
+        Some(at) => at,
+        None => text.len(),
+    }
+}
+
+// How many slashes a text begins with.
+fn slashes_length(text: &[u8]) -> usize
+    ensures exact { result ≡ slashes_size text.now }
+    ensures within { result ≤ length text.now }
+{
+    match text.iter().position(|byte| *byte != SLASH) {
+        Some(at) => at,
+        None => text.len(),
+    }
+}
+
+// Where a text goes on behind its first name and the slashes there.
+pub(crate) fn rest_at(text: &[u8]) -> usize
+    ensures exact { drop result text.now ≡ rest_behind text.now }
+    ensures within { result ≤ length text.now }
+{
+    let name = name_length(text);
+    name + slashes_length(&text[name..])
+}
+
+// How long a link's text is before so many bytes that come behind the link.
+pub(crate) fn joined_length(text: &[u8], rest: usize) -> usize
+    requires { rest < 2 ^ 63 }
+    ensures { result ≡ (if rest == 0 then length text.now else length text.now + 1 + rest) }
+{
+    if rest == 0 {
+        text.len()
+    } else {
+        text.len() + 1 + rest
+    }
+}
+
+// Lays a text at the beginning of the room.
+pub(crate) fn lay(text: &[u8], room: &mut [u8])
+    requires { length text.now ≤ length room.old }
+    ensures exact { take (length text.now) room.new ≡ text.now }
+    ensures rest { drop (length text.now) room.new ≡ drop (length text.now) room.old }
+    ensures size { length room.new ≡ length room.old }
+{
+    room[..text.len()].copy_from_slice(text);
+}
+
+// Lays what comes behind the link behind so many bytes, and a slash before it.
+fn make_way(size: usize, at: usize, path_length: usize, room: &mut [u8])
+    requires at { at ≤ path_length }
+    requires path { path_length ≤ length room.old }
+    requires room { size + 1 + (path_length - at) ≤ length room.old }
+    ensures exact { take (1 + (path_length - at)) (drop size room.new) ≡ SLASH ∷ drop at (take path_length room.old) }
+    ensures size { length room.new ≡ length room.old }
+{
+    room.copy_within(at..path_length, size + 1);
+    room[size] = SLASH;
+}
+
+// Lays a link's text before what comes behind the link in a path.
+pub(crate) fn lay_before(text: &[u8], at: usize, path_length: usize, room: &mut [u8])
+    requires at { at ≤ path_length }
+    requires path { path_length ≤ length room.old }
+    requires room { (if path_length - at == 0 then length text.now else length text.now + 1 + (path_length - at))
+        ≤ length room.old }
+    ensures exact { take (if path_length - at == 0 then length text.now else length text.now + 1 + (path_length - at))
+        room.new ≡ before_rest text.now (drop at (take path_length room.old)) }
+    ensures size { length room.new ≡ length room.old }
+{
+    if at < path_length {
+        make_way(text.len(), at, path_length, room);
+    }
+    lay(text, room);
+}

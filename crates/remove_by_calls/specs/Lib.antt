@@ -1,0 +1,6 @@
+pub mod Answers
+pub mod Back
+pub mod History
+pub mod Promises
+pub mod Removal
+pub mod Slots
