@@ -227,13 +227,18 @@ ssize_t inroot_once(struct inroot_driver *d, int root, const struct inroot_reque
     return bad_root ? bad_root : result;
 }
 
+void inroot_wait(uint32_t nanoseconds)
+{
+    const struct timespec time = {.tv_nsec = nanoseconds};
+    if (nanoseconds > 0)
+        nanosleep(&time, NULL);
+}
+
 bool inroot_again(int tries, int flags, ssize_t result, bool lost)
 {
     struct inroot_next_try next;
     inroot_next_try((uint32_t)tries, !(flags & INROOT_NO_RETRY), result < 0 ? (uint32_t)-result : 0, lost, &next);
-    const struct timespec time = {.tv_nsec = next.pause};
-    if (next.pause > 0)
-        nanosleep(&time, NULL);
+    inroot_wait(next.pause);
     return next.due;
 }
 

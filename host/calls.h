@@ -1,7 +1,7 @@
 /*
- * calls.h: the proved library's twenty-two functions, and what passes between it and a driver. The numbers and bytes are those
- * of crates/c_protocol, place_protocol, open_or_make, kernel_text and system_calls, whose contracts say what they stand for. A
- * program that makes calls includes inroot.h, and not this.
+ * calls.h: the proved library's twenty-eight functions, and what passes between it and a driver. The numbers and bytes are those
+ * of crates/c_protocol, place_protocol, open_or_make, make_through_links, remove_by_calls, kernel_text and system_calls, whose
+ * contracts say what they stand for. A program that makes calls includes inroot.h, and not this.
  */
 #ifndef INROOT_CALLS_H
 #define INROOT_CALLS_H
@@ -238,11 +238,6 @@ struct inroot_birth {
     uint32_t nanoseconds;
 };
 
-enum inroot_same { INROOT_ANOTHER, INROOT_SAME, INROOT_SAME_ON_OVERLAYFS };
-
-/* Whether it is the directory that was there before, by these numbers (`enum inroot_same`). */
-uint8_t inroot_same_directory(const struct inroot_birth *now, const struct inroot_birth *before);
-
 /* The kind of an object by its mode (`enum inroot_kind`). */
 uint8_t inroot_kind_of(uint32_t mode);
 
@@ -337,5 +332,135 @@ void inroot_course_begin(size_t path_length, bool follows, bool no_links, bool m
  */
 void inroot_course_next(struct inroot_course *course, uint32_t error, const unsigned char *text, size_t text_length,
                         unsigned char *room, size_t size);
+
+/* ---- which call comes next, as all missing parts of a path are made, through links. These take no memory. */
+
+/*
+ * The calls: what is at the path is found, a file if one is wanted; the path's last name is taken apart; the directories of a part
+ * of the path are made, those above a file or all, and the last one is opened; as much of such a part as is there is opened; a link
+ * on the way to what is missing is read; a file is made; a link at the file's name is read. If it ENDS, the reply is what the last
+ * call gave. If it FAILS, the reply is an error of its own.
+ */
+enum inroot_making_next {
+    INROOT_MAKING_FIND = 1, INROOT_MAKING_SPLIT, INROOT_MAKING_MAKE_ABOVE, INROOT_MAKING_MAKE, INROOT_MAKING_PARTIAL,
+    INROOT_MAKING_READ_LINK, INROOT_MAKING_CREATE, INROOT_MAKING_READ_END, INROOT_MAKING_ENDS, INROOT_MAKING_FAILS,
+};
+
+/*
+ * How far it has come. A driver reads what comes next, after a PAUSE of so many nanoseconds; what of the room it is about, SIZE
+ * bytes from START on, an empty part of MAKE_ABOVE or PARTIAL being `.`; and FROM, the directory at which that begins: its
+ * descriptor's number and one, or 0 for the root. Two directories stay open, BASE and FROM. If it ends, GIVES is the descriptor
+ * that is the reply, in the same way, or 0 where the last call's error is. If it fails, the bytes are what the error is about, with
+ * its step (INROOT_STEP_..), or 0. A driver leaves all of it alone between two turns.
+ */
+struct inroot_making {
+    size_t length, above, cut, start, size;
+    uint32_t base, from, gives, error, pause, links, between;
+    uint8_t next, step;
+    bool file, follows, may_retry;
+};
+
+/* What a call gave: an error, or 0; a descriptor, its number and one, or 0; where a part of the path begins; a directory. */
+struct inroot_outcome {
+    size_t rest;
+    uint32_t error, descriptor;
+    bool directory;
+};
+
+/* Begins on the path that lies in the room. FOLLOWS: a link that leads to what is missing is followed. */
+void inroot_making_begin(size_t path_length, bool file, bool follows, bool may_retry, struct inroot_making *making);
+
+/*
+ * Takes what the last call gave, with the text of a link that was read. The room has 4,095 bytes at least, and holds the path. It
+ * stays as it was where no call comes next.
+ */
+void inroot_making_next(struct inroot_making *making, const struct inroot_outcome *outcome, const unsigned char *text,
+                        size_t text_length, unsigned char *room, size_t size);
+
+/* ---- which call comes next, as an entry is removed with all below it by several. These take no memory. */
+
+/*
+ * A call is made at the root, or in a place; the place to which the last call came is kept, by its number in a table of INROOT_PLACES;
+ * a place is closed. If it ENDS, so many entries were removed. If it FAILS, the reply is an error.
+ */
+enum inroot_removal_next {
+    INROOT_REMOVAL_AT_ROOT = 1, INROOT_REMOVAL_IN_PLACE, INROOT_REMOVAL_KEEP, INROOT_REMOVAL_CLOSE, INROOT_REMOVAL_ENDS,
+    INROOT_REMOVAL_FAILS,
+};
+
+enum { INROOT_PLACES = 16 };
+
+/*
+ * What a call gave: how many entries it removed; 0, or the error that it ended by; 0, or the kernel's error for which it didn't make a
+ * step; and whether it came to a place, to be DEEPER than it goes.
+ */
+struct inroot_removal_answer {
+    uint64_t removed;
+    uint32_t error, unmade;
+    bool deeper;
+};
+
+/*
+ * How far it has come. A driver reads what comes NEXT, after a PAUSE of so many nanoseconds; of which PLACE; the ERROR if it fails;
+ * and how many entries were REMOVED, 2^63 - 1 at most. It leaves all of it alone between two turns.
+ */
+struct inroot_removal {
+    struct inroot_removal_answer last;
+    uint64_t removed;
+    uint32_t pause, error, idle;
+    uint8_t next, place, outermost, kept;
+    bool may_retry;
+};
+
+void inroot_removal_begin(bool may_retry, struct inroot_removal *removal);
+
+/* Takes what the call gave. It isn't looked at where a place was kept or closed. */
+void inroot_removal_next(struct inroot_removal *removal, const struct inroot_removal_answer *answer);
+
+/* ---- directories whose descriptor is let go, while a tree is removed. These take no memory. */
+
+/* What a driver keeps for a handle of the proved call. The library reads the descriptor, and the slot above. */
+struct inroot_slot {
+    int fd, lost;                  /* the descriptor, or a mark below zero; and the error of one that could not be opened again */
+    int32_t above;                 /* while a tree is removed: the slot of the directory it was opened in, or a mark below zero */
+    uint32_t depth, listed;        /* below the first such directory; how many bytes of names the call holds for it */
+    uint8_t way, kind;
+    bool is_shared;                /* the descriptor is the caller's */
+    bool is_above;                 /* `..` of another led to it */
+    struct inroot_birth who;       /* once it was let go */
+};
+
+static const uint32_t INROOT_NO_SLOT = UINT32_MAX;
+
+/*
+ * The slot to be let go, as a directory is opened below the one in the slot FROM, or INROOT_NO_SLOT. Those above FROM are counted that
+ * have a descriptor and a slot above, up to the first other one. If they are more than MOST, it is the outermost of them.
+ */
+uint32_t inroot_let_go(const struct inroot_slot *slots, size_t count, uint32_t from, uint32_t most);
+
+/*
+ * What is found out next, of a directory that is to be opened again: `..` is opened, of the one below that was closed last; which
+ * directory that is; which file system that is on. Or nothing: it is back, or lost by an error.
+ */
+enum inroot_back_next {
+    INROOT_BACK_OPEN = 1, INROOT_BACK_IDENTIFY, INROOT_BACK_FILE_SYSTEM, INROOT_BACK_IS_BACK, INROOT_BACK_IS_LOST,
+};
+
+/* What was found out: which directory it is; the type of the file system; and 0 or the error of openat(2) or fstatfs(2). */
+struct inroot_back_found {
+    struct inroot_birth who;
+    uint64_t file_system;
+    uint32_t error;
+};
+
+struct inroot_back {
+    struct inroot_birth before;
+    uint32_t error;
+    uint8_t next;
+};
+
+/* CAN_BE_OPENED: there is a directory of which `..` can be opened. */
+void inroot_back_begin(const struct inroot_birth *before, bool can_be_opened, struct inroot_back *back);
+void inroot_back_next(struct inroot_back *back, const struct inroot_back_found *found);
 
 #endif

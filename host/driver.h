@@ -32,17 +32,6 @@ enum { INROOT_AWAY = -2, INROOT_JAILED = -3, INROOT_NONE = -1 };
 /* In the number of a handle without a slot: of a directory that was passed with others, or a link that was read by its name. */
 static const uint64_t INROOT_PASSED = UINT64_C(1) << 31;
 
-/* What the driver keeps for a handle of the proved call. */
-struct inroot_slot {
-    int fd, lost;                  /* the descriptor; and the error of one that could not be opened again */
-    int32_t above;                 /* while a tree is removed: the slot of the directory it was opened in */
-    uint32_t depth, listed;        /* below the first such directory; how many bytes of names the call holds for it */
-    uint8_t way, kind;
-    bool is_shared;                /* the descriptor is the caller's */
-    bool is_above;                 /* `..` of another led to it */
-    struct inroot_birth who;       /* once it was let go */
-};
-
 /*
  * Beside the steps of the proved call: the driver checks that /proc can distinguish the root from outside; it opens
  * what it made.
@@ -301,6 +290,8 @@ void inroot_error_note_made(struct inroot_driver *d);
 /* Keeps why a call failed: with the step of this driver; or alone, and then returns -error. */
 void inroot_error_of(const struct inroot_driver *d, int error);
 int inroot_error_alone(int error, const char *step, const char *rest);
+/* The name of a step (`enum inroot_what`). */
+const char *inroot_step_name(unsigned step);
 
 /* proc.c */
 enum { INROOT_PROC_NAME = 48 };
@@ -369,6 +360,7 @@ void inroot_answer(struct inroot_driver *d, struct inroot_result result, const c
                    struct inroot_told *told, char *room);
 /* A try: one proved call from its beginning to its reply, whose text then lies in the room. */
 ssize_t inroot_once(struct inroot_driver *d, int root, const struct inroot_request *asked, char *room);
+void inroot_wait(uint32_t nanoseconds);
 /*
  * Whether another try is due after this many, the last of which gave this: -EAGAIN where others were in the way. LOST: what it made
  * isn't where it made it any more. It has waited then.

@@ -24,6 +24,11 @@ static void keep(char *to, size_t size, const char *text, size_t length)
     to[length] = 0;
 }
 
+const char *inroot_step_name(unsigned step)
+{
+    return steps[step <= INROOT_STEP_GIVE ? step : 0];
+}
+
 int inroot_error_alone(int error, const char *step, const char *rest)
 {
     last.error = error;
@@ -133,7 +138,7 @@ static void put_way(const struct inroot_driver *d)
 void inroot_error_of(const struct inroot_driver *d, int error)
 {
     last.error = error;
-    last.step = steps[d->step <= INROOT_STEP_GIVE ? d->step : 0];
+    last.step = inroot_step_name(d->step);
     last.at = at;
     put_way(d);
     keep(last.name, sizeof last.name, d->step_name, d->name_length);

@@ -1,14 +1,13 @@
 /*
  * handles.c: the handles of a proved call. Each has a slot with its descriptor. While a call removes a tree, the driver
  * closes the descriptor of a directory far above the one that is being cleared, and opens it again by `..` when its turn
- * comes.
+ * comes. The proved library says which one, and whether that one is back.
  */
 #define _GNU_SOURCE
 #include "driver.h"
 
 #include <errno.h>
 #include <fcntl.h>
-#include <linux/magic.h>
 #include <stdlib.h>
 #include <string.h>
 #include <sys/stat.h>
@@ -93,77 +92,59 @@ static void identify(int fd, struct inroot_birth *who)
 #endif
 }
 
-/* Whether what is open now is that directory. */
-static bool is_same(int fd, const struct inroot_birth *now, const struct inroot_birth *before)
+/* Lets one go of the directories above that have a descriptor, if they are more than so many. Whether it did. */
+static bool let_one_go(struct inroot_driver *d, uint64_t handle, uint32_t most)
 {
-    struct statfs about;
-    enum inroot_same same = inroot_same_directory(now, before);
-    if (same != INROOT_SAME_ON_OVERLAYFS)
-        return same == INROOT_SAME;
-    return fstatfs(fd, &about) == 0 && about.f_type == OVERLAYFS_SUPER_MAGIC;
-}
-
-static void let_go(struct inroot_slot *slot)
-{
+    uint32_t at = inroot_let_go(d->slots, d->used, (uint32_t)handle, most);
+    if (at == INROOT_NO_SLOT)
+        return false;
+    struct inroot_slot *slot = &d->slots[at];
     identify(slot->fd, &slot->who);
     close(slot->fd);
     slot->fd = INROOT_AWAY;
-}
-
-/*
- * The outermost directory above that has a descriptor and isn't the walk's, which stays open; and how many there are. They
- * follow one another up to the first one that was let go.
- */
-static struct inroot_slot *outermost(struct inroot_driver *d, uint64_t handle, int *count)
-{
-    struct inroot_slot *found = NULL;
-    *count = 0;
-    for (int32_t at = inroot_handles_slot(d, handle)->above; at >= 0; at = d->slots[at].above) {
-        struct inroot_slot *slot = &d->slots[at];
-        if (slot->fd < 0 || slot->above < 0)
-            break;
-        found = slot;
-        ++*count;
-    }
-    return found;
+    return true;
 }
 
 bool inroot_handles_spare(struct inroot_driver *d, uint64_t handle)
 {
-    int count;
-    struct inroot_slot *slot = outermost(d, handle, &count);
-    if (slot != NULL)
-        let_go(slot);
-    return slot != NULL;
+    return let_one_go(d, handle, 0);
 }
 
-/*
- * Opens the directory above the one that was closed last. If somebody moved that one away meanwhile, `..` leads elsewhere:
- * then the call has lost its directory, and makes no step in another one. ENOENT and ENOTDIR would be answers about an entry,
- * so the call is told EAGAIN in their place.
- */
+/* What is asked about the directory above the one that was closed last; UP is that directory, once it is open. */
+static void find_out(const struct inroot_driver *d, uint8_t what, int *up, struct inroot_back_found *found)
+{
+    struct statfs about = {0};
+    switch (what) {
+    case INROOT_BACK_OPEN:
+        *up = openat(d->inner, "..", O_PATH | O_DIRECTORY | O_NOFOLLOW | O_CLOEXEC);
+        found->error = *up < 0 ? (uint32_t)errno : 0;
+        break;
+    case INROOT_BACK_IDENTIFY:
+        identify(*up, &found->who);
+        break;
+    default:
+        found->error = fstatfs(*up, &about) == 0 ? 0 : (uint32_t)errno;
+        found->file_system = (uint64_t)about.f_type;
+    }
+}
+
+/* If somebody moved the one below away meanwhile, `..` leads elsewhere: then the call has lost its directory. */
 static void come_back(struct inroot_driver *d, struct inroot_slot *slot, int32_t at)
 {
-    struct inroot_birth now;
     int up = INROOT_NONE;
-    slot->lost = EAGAIN;
-    if (d->inner >= 0 && d->inner_above == at) {
-        do
-            up = openat(d->inner, "..", O_PATH | O_DIRECTORY | O_NOFOLLOW | O_CLOEXEC);
-        while (up < 0 && errno == EINTR);
-        if (up < 0 && errno != ENOENT && errno != ENOTDIR)
-            slot->lost = errno;
+    struct inroot_back back;
+    struct inroot_back_found found = {0};
+    inroot_back_begin(&slot->who, d->inner >= 0 && d->inner_above == at, &back);
+    while (back.next < INROOT_BACK_IS_BACK) {
+        find_out(d, back.next, &up, &found);
+        inroot_back_next(&back, &found);
     }
     drop_inner(d);
-    if (up < 0)
-        return;
-    identify(up, &now);
-    if (!is_same(up, &now, &slot->who)) {
+    slot->lost = (int)back.error;
+    if (back.next == INROOT_BACK_IS_BACK)
+        slot->fd = up;
+    else if (up >= 0)
         close(up);
-        return;
-    }
-    slot->fd = up;
-    slot->lost = 0;
 }
 
 /* ---- handles */
@@ -172,14 +153,11 @@ static void come_back(struct inroot_driver *d, struct inroot_slot *slot, int32_t
 static uint64_t put_below(struct inroot_driver *d, uint64_t handle, uint64_t dir)
 {
     struct inroot_slot *slot = inroot_handles_slot(d, handle);
-    int count;
     if (slot->kind == INROOT_KIND_DIR) {
         slot->above = index_of(dir);
         slot->depth = inroot_handles_slot(d, dir)->depth + 1;
     }
-    struct inroot_slot *outer = outermost(d, handle, &count);
-    if (outer != NULL && count > INROOT_HELD_MAX)
-        let_go(outer);
+    let_one_go(d, handle, INROOT_HELD_MAX);
     return handle;
 }
 

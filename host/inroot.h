@@ -553,8 +553,8 @@ int inroot_rename(int root, const char *from, const char *to, int mode, int flag
  * and what mkdirat(2) has beside it. Directories made before an error stay.
  *
  * Under INROOT_FOLLOW the call follows a link whose text leads to a missing object, and makes that, below the root: it
- * reads the link and walks its text from the directory in which it found it, for at most 40 such links (ELOOP). It
- * makes several walks then. EAGAIN where others are in their way at each try.
+ * reads the link and walks its text, with what comes behind the link, from the directory in which it found it, for at
+ * most 40 such links (ELOOP) and 4,095 bytes (ENAMETOOLONG). It makes several walks then. EAGAIN where others are in their way at each try.
  */
 int inroot_mkdir_all(int root, const char *path, mode_t mode, int flags);
 

@@ -1,7 +1,6 @@
 /*
- * make_all.c: makes all missing parts of a path, and gives the object at its end. One proved call makes the directories of
- * a path. If a link leads to a missing object, that call fails: then the driver reads the link's text and walks it as a
- * path of its own, from the directory in which it found the link, as the walk itself would have gone on.
+ * make_all.c: makes all missing parts of a path, and gives the object at its end. Proved calls say which call comes next, where its
+ * path begins, and which directories stay open.
  */
 #define _GNU_SOURCE
 #include "driver.h"
@@ -12,233 +11,162 @@
 #include <string.h>
 #include <unistd.h>
 
-enum { LINKS = 40, MODE_BITS = 07777 };
+enum { MODE_BITS = 07777 };
 
-/* What is being made, where: a directory below the root that is held, or none, and a path from there. */
-struct making {
-    int root, from, flags, links, tries;
-    bool follows;
+/* What is asked for, how far it has come, and the path; what the next call is about; and the last call's error. */
+struct work {
+    int root, flags;
     mode_t mode, above;
-    char *text;
+    struct inroot_making making;
+    char path[INROOT_TEXT_MAX + 1], part[INROOT_TEXT_MAX + 1];
+    uint32_t error;
 };
 
-/* As a request has it. */
-static int from_of(const struct making *m)
+static struct inroot_outcome outcome_of(int result)
 {
-    return m->from >= 0 ? m->from + 1 : 0;
-}
-
-static int ask(const struct making *m, enum inroot_op op, const char *path, mode_t bits, int from, bool gives)
-{
-    const struct inroot_request asked = {
-        .op = op, .flags = m->flags, .first = path, .second = "", .bits = bits, .from = from, .gives = gives,
-        .directory = op == INROOT_ASK_MKDIR_ALL,
+    return (struct inroot_outcome){
+        .error = result < 0 ? (uint32_t)-result : 0, .descriptor = result < 0 ? 0 : (uint32_t)result + 1,
     };
-    return inroot_carry_out_alone(m->root, &asked);
-}
-
-/* Others came in between: whether it is tried again, 0, or -EAGAIN. */
-static int again(struct making *m)
-{
-    return inroot_again(++m->tries, m->flags, -EAGAIN, false) ? 0 : inroot_error_alone(EAGAIN, "MakeDir", m->text);
-}
-
-/* The directory from which the path goes on. It takes the descriptor over. */
-static void go_from(struct making *m, int dir)
-{
-    if (m->from >= 0)
-        close(m->from);
-    m->from = dir;
-}
-
-/*
- * Reads the link of that name in a directory, which it keeps, and puts its text before the rest of the path: 0 or
- * -errno; -EINVAL where it is no link, and -ENOENT where nothing is there.
- */
-static int follow(struct making *m, int dir, const char *name, const char *rest)
-{
-    char text[INROOT_ROOM];
-    const struct inroot_request asked = {
-        .op = INROOT_ASK_READLINK, .flags = m->flags, .first = name, .second = "", .from = dir + 1, .follows = true,
-    };
-    ssize_t length = inroot_carry_out(m->root, &asked, text);
-    size_t left = strlen(rest);
-    if (length <= 0)
-        return length < 0 ? (int)length : -ENOENT;
-    if (++m->links > LINKS)
-        return inroot_error_alone(ELOOP, "ReadLink", name);
-    if ((size_t)length + 1 + left >= INROOT_TEXT_MAX)
-        return inroot_error_alone(ENAMETOOLONG, "ReadLink", name);
-    if (left > 0)
-        text[length++] = '/';
-    memmove(m->text + length, rest, left + 1);
-    memcpy(m->text, text, (size_t)length);
-    go_from(m, dir);
-    return 0;
-}
-
-/*
- * A directory's path is missing somewhere: goes on at the first name of it that isn't there, where that is a link. 0, or
- * -errno; -ENOENT where it is none.
- */
-static int go_on(struct making *m)
-{
-    char name[NAME_MAX + 1];
-    size_t rest;
-    int dir = inroot_partial(m->root, from_of(m), m->text, m->flags, true, &rest);
-    if (dir < 0)
-        return dir;
-    size_t length = strcspn(m->text + rest, "/");
-    if (length == 0 || length > NAME_MAX) {
-        close(dir);
-        return length == 0 ? again(m) : -ENAMETOOLONG;
-    }
-    memcpy(name, m->text + rest, length);
-    name[length] = 0;
-    int failed = follow(m, dir, name, m->text + rest + length + strspn(m->text + rest + length, "/"));
-    if (failed)
-        close(dir);
-    return failed == -EINVAL ? again(m) : failed;
-}
-
-/* Makes the directories, through links that lead to what is missing as well: the last one's descriptor or -errno. */
-static int make_directories(struct making *m, mode_t mode)
-{
-    for (;;) {
-        int fd = ask(m, INROOT_ASK_MKDIR_ALL, m->text, mode, from_of(m), false);
-        int failed = fd == -ENOENT && m->follows && m->text[0] != 0 ? go_on(m) : fd;
-        if (failed != 0)
-            return failed;
-    }
-}
-
-/* ---- a file */
-
-/* The directory of the file: its descriptor, with the file's name, or -errno. */
-static int make_above(struct making *m, char name[NAME_MAX + 1])
-{
-    char text[INROOT_TEXT_MAX + 1];
-    struct inroot_parted parted;
-    inroot_split((const unsigned char *)m->text, strlen(m->text), false, &parted);
-    if (parted.error)
-        return inroot_error_alone(parted.error, "", m->text);
-    memcpy(name, m->text + parted.name, parted.length);
-    name[parted.length] = 0;
-    memcpy(text, parted.name > 0 ? m->text : ".", parted.name > 0 ? parted.name : 1);
-    text[parted.name > 0 ? parted.name : 1] = 0;
-    struct making above = *m;
-    above.text = text;
-    above.from = m->from >= 0 ? fcntl(m->from, F_DUPFD_CLOEXEC, 0) : INROOT_NONE;
-    if (m->from >= 0 && above.from < 0)
-        return inroot_error_alone(errno, "", text);
-    int dir = make_directories(&above, m->above);
-    go_from(&above, INROOT_NONE);
-    m->links = above.links;
-    m->tries = above.tries;
-    return dir;
-}
-
-/* Something stands at the file's name by now: goes on where it leads, or once more. 0 or -errno. */
-static int met(struct making *m, int dir, const char *name)
-{
-    if (m->follows) {
-        int failed = follow(m, dir, name, "");
-        if (failed == 0)
-            return 0;
-        close(dir);
-        return failed == -EINVAL || failed == -ENOENT ? again(m) : failed;
-    }
-    char text[INROOT_ROOM];
-    const struct inroot_request asked = {
-        .op = INROOT_ASK_READLINK, .flags = m->flags, .first = name, .second = "", .from = dir + 1,
-    };
-    ssize_t length = inroot_carry_out(m->root, &asked, text);
-    close(dir);
-    if (length >= 0)
-        return inroot_error_alone(ENOENT, "MakeFile", name);
-    return length == -EINVAL || length == -ENOENT ? again(m) : (int)length;
-}
-
-/* What is there, unless it is a directory. */
-static int find_file(const struct making *m)
-{
-    enum inroot_kind kind = INROOT_KIND_FILE;
-    const struct inroot_request asked = {
-        .op = INROOT_ASK_RESOLVE,
-        .flags = m->flags,
-        .first = m->text,
-        .second = "",
-        .from = from_of(m),
-        .opened = &kind,
-    };
-    int fd = inroot_carry_out_alone(m->root, &asked);
-    if (fd < 0 || kind != INROOT_KIND_DIR)
-        return fd;
-    close(fd);
-    return inroot_error_alone(EISDIR, "", m->text);
-}
-
-static int make_file(struct making *m)
-{
-    char name[NAME_MAX + 1];
-    for (;;) {
-        int fd = find_file(m);
-        if (fd != -ENOENT || m->text[0] == 0)
-            return fd;
-        int dir = make_above(m, name);
-        if (dir < 0)
-            return dir;
-        fd = ask(m, INROOT_ASK_MKFILE, name, S_IFREG | m->mode, dir + 1, true);
-        if (fd == -EEXIST) {
-            fd = met(m, dir, name);
-            if (fd == 0)
-                continue;
-            return fd;
-        }
-        close(dir);
-        return fd;
-    }
 }
 
 /* ---- the calls */
 
-/* What a call makes by the paths' own text; its flags are looked at first. */
-static int run(int root, const char *path, mode_t mode, mode_t above, int flags, int (*make)(struct making *m))
+static struct inroot_outcome find(const struct work *w)
+{
+    enum inroot_kind kind = INROOT_KIND_FILE;
+    const struct inroot_request asked = {
+        .op = INROOT_ASK_RESOLVE, .flags = w->flags, .first = w->part, .second = "", .from = (int)w->making.from, .opened = &kind,
+    };
+    struct inroot_outcome outcome = outcome_of(inroot_carry_out_alone(w->root, &asked));
+    outcome.directory = kind == INROOT_KIND_DIR;
+    return outcome;
+}
+
+static struct inroot_outcome split(const struct work *w)
+{
+    struct inroot_parted parted;
+    inroot_split((const unsigned char *)w->part, w->making.size, false, &parted);
+    return (struct inroot_outcome){.error = parted.error, .rest = parted.name};
+}
+
+static struct inroot_outcome make_directories(const struct work *w, const char *path, mode_t mode)
+{
+    const struct inroot_request asked = {
+        .op = INROOT_ASK_MKDIR_ALL, .flags = w->flags, .first = path, .second = "", .bits = mode, .from = (int)w->making.from,
+        .directory = true,
+    };
+    return outcome_of(inroot_carry_out_alone(w->root, &asked));
+}
+
+static struct inroot_outcome open_partial(const struct work *w, char *path)
+{
+    size_t rest;
+    struct inroot_outcome outcome = outcome_of(inroot_partial(w->root, (int)w->making.from, path, w->flags, true, &rest));
+    outcome.rest = rest;
+    return outcome;
+}
+
+static struct inroot_outcome create(const struct work *w)
+{
+    const struct inroot_request asked = {
+        .op = INROOT_ASK_MKFILE, .flags = w->flags, .first = w->part, .second = "", .bits = S_IFREG | w->mode,
+        .from = (int)w->making.from, .gives = true,
+    };
+    return outcome_of(inroot_carry_out_alone(w->root, &asked));
+}
+
+static struct inroot_outcome read_link(const struct work *w, char *text, size_t *text_length)
+{
+    const struct inroot_request asked = {
+        .op = INROOT_ASK_READLINK, .flags = w->flags, .first = w->part, .second = "", .from = (int)w->making.from,
+        .follows = w->making.follows,
+    };
+    ssize_t length = inroot_carry_out(w->root, &asked, text);
+    *text_length = length > 0 ? (size_t)length : 0;
+    return (struct inroot_outcome){.error = length < 0 ? (uint32_t)-length : 0};
+}
+
+/* ---- from one call to the next */
+
+/* Makes the call that comes next; of a link that it reads, the text. */
+static struct inroot_outcome call(struct work *w, char *text, size_t *text_length)
+{
+    char here[] = ".";
+    char *directories = w->part[0] != 0 ? w->part : here;
+    switch (w->making.next) {
+    case INROOT_MAKING_FIND: return find(w);
+    case INROOT_MAKING_SPLIT: return split(w);
+    case INROOT_MAKING_MAKE_ABOVE: return make_directories(w, directories, w->above);
+    case INROOT_MAKING_MAKE: return make_directories(w, w->part, w->mode);
+    case INROOT_MAKING_PARTIAL: return open_partial(w, directories);
+    case INROOT_MAKING_CREATE: return create(w);
+    default: return read_link(w, text, text_length);
+    }
+}
+
+/* Closes a directory that was open, or what the last call gave, unless it is to stay open. */
+static void let_go(const struct inroot_making *now, uint32_t held)
+{
+    if (held != 0 && held != now->base && held != now->from && held != now->gives)
+        close((int)held - 1);
+}
+
+static void set_part(struct work *w)
+{
+    memcpy(w->part, w->path + w->making.start, w->making.size);
+    w->part[w->making.size] = 0;
+}
+
+static void turn(struct work *w)
+{
+    char text[INROOT_ROOM];
+    size_t text_length = 0;
+    const struct inroot_making before = w->making;
+    inroot_wait(before.pause);
+    const struct inroot_outcome outcome = call(w, text, &text_length);
+    inroot_making_next(&w->making, &outcome, (const unsigned char *)text, text_length, (unsigned char *)w->path, INROOT_TEXT_MAX);
+    let_go(&w->making, before.base);
+    if (before.from != before.base)
+        let_go(&w->making, before.from);
+    let_go(&w->making, outcome.descriptor);
+    w->error = outcome.error;
+    set_part(w);
+}
+
+/* The reply: a descriptor or -errno. */
+static int make(struct work *w)
+{
+    set_part(w);
+    while (w->making.next < INROOT_MAKING_ENDS)
+        turn(w);
+    if (w->making.next == INROOT_MAKING_FAILS)
+        return inroot_error_alone((int)w->making.error, inroot_step_name(w->making.step), w->part);
+    return w->making.gives > 0 ? (int)w->making.gives - 1 : -(int)w->error;
+}
+
+/* The flags and modes are looked at first. */
+static int run(int root, const char *path, mode_t mode, mode_t above, int flags, bool file)
 {
     int state;
-    char text[2 * INROOT_TEXT_MAX];
-    struct making m = {
-        .root = root,
-        .from = INROOT_NONE,
-        .flags = flags & ~INROOT_FOLLOW,
-        .follows = flags & INROOT_FOLLOW,
-        .mode = mode,
-        .above = above,
-        .text = text,
-    };
-    inroot_copy(text, path);
+    struct work w = {.root = root, .flags = flags & ~INROOT_FOLLOW, .mode = mode, .above = above};
+    inroot_copy(w.path, path);
     const bool is_mode = ((mode | above) & ~(mode_t)MODE_BITS) == 0;
-    int failed = is_mode ? inroot_check(root, m.flags) : -EINVAL;
+    int failed = is_mode ? inroot_check(root, w.flags) : -EINVAL;
     if (failed)
-        return inroot_error_alone(-failed, "", text);
+        return inroot_error_alone(-failed, "", w.path);
+    inroot_making_begin(strlen(w.path), file, flags & INROOT_FOLLOW, !(flags & INROOT_NO_RETRY), &w.making);
     pthread_setcancelstate(PTHREAD_CANCEL_DISABLE, &state);
-    int result = make(&m);
-    go_from(&m, INROOT_NONE);
+    int result = make(&w);
     pthread_setcancelstate(state, NULL);
     return result;
 }
 
-static int make_all(struct making *m)
-{
-    return make_directories(m, m->mode);
-}
-
 int inroot_mkdir_all(int root, const char *path, mode_t mode, int flags)
 {
-    return run(root, path, mode, 0, flags, make_all);
+    return run(root, path, mode, 0, flags, false);
 }
 
 int inroot_mkfile_all(int root, const char *path, mode_t mode, mode_t above, int flags)
 {
-    return run(root, path, mode, above, flags, make_file);
+    return run(root, path, mode, above, flags, true);
 }

@@ -10,7 +10,6 @@
 #include <pthread.h>
 #include <string.h>
 #include <sys/stat.h>
-#include <time.h>
 #include <unistd.h>
 
 /* The proved library has the numbers of open(2)'s flags, but for these four, which differ between machines. */
@@ -125,9 +124,7 @@ static int read_link(int root, const struct use *use, struct inroot_course *cour
 /* Makes the call that comes next: its descriptor or -errno. */
 static int turn(int root, const struct use *use, struct inroot_course *course, char path[INROOT_TEXT_MAX + 1])
 {
-    const struct timespec pause = {.tv_nsec = course->pause};
-    if (course->pause > 0)
-        nanosleep(&pause, NULL);
+    inroot_wait(course->pause);
     switch (course->next) {
     case INROOT_COURSE_FIND:
         return told(course, open_found(root, use), "", 0, path);
@@ -148,7 +145,7 @@ static int open_or_create(int root, const struct use *use, char path[INROOT_TEXT
         result = turn(root, use, &course, path);
     if (course.next == INROOT_COURSE_ENDS)
         return result;
-    return inroot_error_alone(course.error, course.step == INROOT_STEP_READLINK ? "ReadLink" : "MakeFile", path);
+    return inroot_error_alone(course.error, inroot_step_name(course.step), path);
 }
 
 /* ---- the calls */

@@ -1,9 +1,10 @@
 /*
  * fuzz_texts: the proved library's functions over what the kernel writes, with any bytes: records of getdents64(2), and texts of
- * places. Nothing outside of the bytes is read or written, each call ends, and what it tells is compared with plain C.
+ * places; and which call comes next as all missing parts of a path are made, by any answers. Nothing outside of the bytes is read or
+ * written, each call ends, and what it tells is compared with plain C.
  *
- * For libFuzzer, or with fuzz_main.c for stored cases. A case is bytes: which function, the size of the room or of the texts
- * before the last one, and the bytes.
+ * For libFuzzer, or with fuzz_main.c for stored cases. A case is bytes: which function; the size of the room or of the texts
+ * before the last one, or what is asked for; and the bytes.
  */
 #define _GNU_SOURCE
 #include "../calls.h"
@@ -140,10 +141,103 @@ static void places(size_t size, const uint8_t *bytes, size_t length)
     free(path);
 }
 
+/* ---- which call comes next. The answers are the bytes, over and over. */
+
+enum { MOST_CALLS = 360, MOST_LINKS = 40, PATH = 4095 };
+
+struct answers {
+    const uint8_t *bytes;
+    size_t length, at;
+};
+
+static uint8_t one_of(struct answers *from)
+{
+    return from->length == 0 ? 0 : from->bytes[from->at++ % from->length];
+}
+
+/* A call gives a number that is held nowhere else, or an error; and a text of any length. */
+static struct inroot_outcome answer(struct answers *from, uint32_t number, unsigned char *text, size_t *length)
+{
+    static const uint32_t errors[] = {0, ENOENT, 0, EEXIST, 0, EINVAL, 0, EACCES};
+    uint8_t first = one_of(from), second = one_of(from);
+    struct inroot_outcome outcome = {.error = errors[first & 7], .directory = (first & 0xf8) == 0xf8};
+    outcome.descriptor = outcome.error == 0 ? number : 0;
+    outcome.rest = second == 0xff ? SIZE_MAX : second;
+    *length = second > 0xf0 ? (size_t)(second & 15) * 300 : second % 24;
+    for (size_t at = 0; at < *length; at++)
+        text[at] = one_of(from);
+    return outcome;
+}
+
+/* The path that the link's text makes, by plain C: its length. */
+static size_t led(const struct inroot_making *was, const unsigned char *path, const unsigned char *text, size_t length,
+                  unsigned char *to)
+{
+    size_t at = was->length;
+    if (was->next == INROOT_MAKING_READ_LINK) {
+        at = was->cut < was->above ? was->cut : was->above;
+        at += name_length(path + at, was->above - at);
+        while (at < was->above && path[at] == '/')
+            at++;
+    }
+    memcpy(to, text, length);
+    if (at == was->length)
+        return length;
+    to[length] = '/';
+    memcpy(to + length + 1, path + at, was->length - at);
+    return length + 1 + was->length - at;
+}
+
+/* What is due is within the path, and names just what was open or has just been given. */
+static void must_go_on(const struct inroot_making *was, const struct inroot_making *now, uint32_t number)
+{
+    MUST(now->next >= INROOT_MAKING_FIND && now->next <= INROOT_MAKING_FAILS && now->links <= MOST_LINKS);
+    MUST(now->length <= PATH + 1 && now->above <= now->length && now->start + now->size <= now->length);
+    MUST(now->base == 0 || now->base == was->base || now->base == was->from);
+    MUST(now->from == 0 || now->from == was->from || now->from == was->base || now->from == number);
+    MUST(now->gives == 0 || (now->gives == number && now->next == INROOT_MAKING_ENDS));
+    MUST((now->next == INROOT_MAKING_FAILS) == (now->error != 0));
+    if (now->next >= INROOT_MAKING_ENDS)
+        MUST(now->base == 0 && now->from == 0 && now->length == was->length);
+    if (!now->follows)
+        MUST(now->next != INROOT_MAKING_PARTIAL && now->next != INROOT_MAKING_READ_LINK && now->links == 0);
+    MUST(now->file ? now->next != INROOT_MAKING_MAKE : now->next == INROOT_MAKING_MAKE || now->next == INROOT_MAKING_PARTIAL ||
+         now->next == INROOT_MAKING_READ_LINK || now->next >= INROOT_MAKING_ENDS);
+}
+
+static void makings(size_t asked, const uint8_t *bytes, size_t length)
+{
+    struct answers from = {bytes, length, 0};
+    size_t path_length = asked >> 3, text_length, calls = 0;
+    unsigned char *room = malloc(PATH), *text = malloc(PATH + 1024), *wanted = malloc(3 * PATH), *before = malloc(PATH);
+    struct inroot_making now;
+    if (room == NULL || text == NULL || wanted == NULL || before == NULL)
+        abort();
+    for (size_t at = 0; at < PATH; at++)
+        room[at] = at < path_length ? one_of(&from) : 0xa5;
+    for (inroot_making_begin(path_length, asked & 1, asked & 2, asked & 4, &now); now.next < INROOT_MAKING_ENDS; calls++) {
+        const struct inroot_making was = now;
+        struct inroot_outcome outcome = answer(&from, (uint32_t)calls + 1, text, &text_length);
+        memcpy(before, room, PATH);
+        inroot_making_next(&now, &outcome, text, text_length, room, PATH);
+        must_go_on(&was, &now, outcome.descriptor);
+        if (now.links > was.links)
+            MUST(led(&was, before, text, text_length, wanted) == now.length && memcmp(room, wanted, now.length) == 0);
+        else
+            MUST(memcmp(room, before, PATH) == 0);
+    }
+    MUST(calls <= MOST_CALLS);
+    free(room);
+    free(text);
+    free(wanted);
+    free(before);
+}
+
 int LLVMFuzzerTestOneInput(const uint8_t *data, size_t size)
 {
+    static void (*const all[])(size_t size, const uint8_t *bytes, size_t length) = {records, places, makings};
     if (size < 2)
         return 0;
-    (data[0] & 1 ? places : records)(data[1], data + 2, size - 2);
+    all[data[0] % 3](data[1], data + 2, size - 2);
     return 0;
 }

@@ -21,6 +21,10 @@ static char outside[PATH_MAX];
 static void (*meanwhile)(int turn);
 static int turns, most_turns;
 
+/* An entry is always there as a file is to be made, and gone right afterwards; and how often one was to be made. */
+static bool is_taken;
+static int creations;
+
 static void let_others(void)
 {
     if (meanwhile != NULL && turns < most_turns)
@@ -38,6 +42,11 @@ int __wrap_openat(int dir, const char *name, int flags, ...)
     va_end(more);
     if (flags & O_CREAT)
         let_others();
+    creations += (flags & O_CREAT) != 0;
+    if (is_taken && flags & O_CREAT) {
+        errno = EEXIST;
+        return -1;
+    }
     return __real_openat(dir, name, flags, mode);
 }
 
@@ -218,6 +227,50 @@ static void chains(int at)
     }
 }
 
+/* A link to `end`, whose text has so many bytes: slashes between a dot and the name. Gives 0 where no link may be so long. */
+static int make_long_link(const char *name, size_t length)
+{
+    char text[PATH_MAX];
+    memset(text, '/', length);
+    text[0] = '.';
+    memcpy(text + length - 3, "end", 4);
+    int failed = symlinkat(text, root, name);
+    expect(failed == 0 || errno == ENAMETOOLONG, "a link of %zu bytes", length);
+    return failed == 0;
+}
+
+/* The last call failed so, about this entry. */
+static void told(int got, int error, const char *step, const char *rest, const char *what)
+{
+    struct inroot_error why;
+    gives(got, -error, "%s", what);
+    gives(inroot_last_error(&why), 0, "%s: its last error", what);
+    gives(why.error, error, "%s: the error", what);
+    gives_text(why.step, step, "%s: the step", what);
+    gives_text(why.rest, rest, "%s: what is left", what);
+}
+
+/* A link's text with what comes behind it has 4,095 bytes at most, the file's name with it. */
+static void long_links(int at)
+{
+    static const struct { const char *path; size_t length; bool fits; } cases[] = {
+        {"long", 4095, true}, {"long/", 4095, true}, {"long/x", 4093, true}, {"long/x", 4094, false}, {"long//x", 4093, true},
+    };
+    for (size_t one = 0; one < sizeof cases / sizeof *cases; one++)
+        for (int file = 0; file <= 1; file++) {
+            const char *path = cases[one].path, *name = strchr(path, 'x') ? "end/x" : "end";
+            make_tree();
+            if ((!file || path[strlen(path) - 1] != '/') && make_long_link("long", cases[one].length)) {
+                int fd = file ? inroot_mkfile_all(at, path, 0640, 0711, INROOT_FOLLOW) : inroot_mkdir_all(at, path, 0711, INROOT_FOLLOW);
+                if (cases[one].fits)
+                    finds(fd, name, file ? S_IFREG | 0640 : S_IFDIR | 0711, path);
+                else
+                    told(fd, ENAMETOOLONG, "ReadLink", "long", path);
+            }
+            remove_tree();
+        }
+}
+
 /* ---- others in between */
 
 static void make_it(int turn)
@@ -264,6 +317,29 @@ static int with_others(int at, void (*what)(int turn), int times, int flags)
     return fd;
 }
 
+/* What an error is about that is no single step's: a link that isn't followed, a directory, no name, and others at each try. */
+static void errors(int at)
+{
+    make_tree();
+    told(inroot_mkfile_all(at, "etc/resolv.conf", 0640, 0711, 0), ENOENT, "MakeFile", "resolv.conf", "a link");
+    told(inroot_mkfile_all(at, "a/b", 0640, 0711, INROOT_FOLLOW), EISDIR, "", "a/b", "a directory");
+    told(inroot_mkfile_all(at, "a/new/", 0640, 0711, 0), ENOTDIR, "", "a/new/", "a slash");
+    told(inroot_mkfile_all(at, "a/new/..", 0640, 0711, 0), EINVAL, "", "a/new/..", "no name");
+    gives(mode_of("a/new"), 0, "nothing was made");
+    is_taken = true;
+    for (int follow = 0; follow <= 1; follow++) {
+        const int flags = follow ? INROOT_FOLLOW : 0;
+        creations = 0;
+        told(inroot_mkfile_all(at, "a/n/x", 0640, 0711, flags | INROOT_NO_RETRY), EAGAIN, "MakeDir", "a/n/x", "one try");
+        gives(creations, 1, "files to be made by one try");
+        creations = 0;
+        told(inroot_mkfile_all(at, "a/n/x", 0640, 0711, flags), EAGAIN, "MakeDir", "a/n/x", "all tries");
+        gives(creations, INROOT_TRIES, "files to be made by all tries");
+    }
+    is_taken = false;
+    remove_tree();
+}
+
 static void others(int at)
 {
     make_tree();
@@ -296,6 +372,8 @@ static void each(void)
     directories(at);
     modes(at);
     chains(at);
+    long_links(at);
+    errors(at);
     others(at);
     expect(open_descriptors() == before, "%d descriptors are left", open_descriptors() - before);
 }
