@@ -1,8 +1,15 @@
-//! Calls on both trees, and calls that differ in their handles' numbers alone, by tables.
+//! MkdirAll and RemoveAll among others' steps; calls on both trees, and calls that differ in their handles' numbers
+//! alone; all by tables.
 #![tactic(auto)]
 
 #[cfg(test)]
 mod ahead;
+#[cfg(test)]
+mod bulk_ahead;
+#[cfg(test)]
+mod bulk_calls;
+#[cfg(test)]
+mod bulk_rows;
 #[cfg(test)]
 mod calls;
 #[cfg(test)]
@@ -10,6 +17,12 @@ mod copies;
 #[cfg(test)]
 mod like;
 #[cfg(test)]
+mod mkdir_all;
+#[cfg(test)]
+mod pairs;
+#[cfg(test)]
 mod passes;
+#[cfg(test)]
+mod remove_all;
 #[cfg(test)]
 mod requests;

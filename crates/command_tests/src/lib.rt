@@ -1,5 +1,12 @@
-//! What command lines ask for, and the statuses that the program ends with.
+//! What command lines ask for, and the statuses that the program ends with; walks over both trees that no script makes,
+//! and faults that no script meets.
 #![tactic(auto)]
 
 #[cfg(test)]
 mod commands;
+#[cfg(test)]
+mod faults;
+#[cfg(test)]
+mod reads;
+#[cfg(test)]
+mod walks;

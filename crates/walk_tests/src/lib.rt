@@ -1,6 +1,9 @@
-//! Handles' states, plans, walks, refusals and the plain resolution, by tables of paths and answers.
+//! Handles' states, plans, walks, refusals and the plain resolution, by tables of paths and answers; and callers of the
+//! resolver, each called.
 #![tactic(auto)]
 
+#[cfg(test)]
+mod callers;
 #[cfg(test)]
 mod plain;
 #[cfg(test)]

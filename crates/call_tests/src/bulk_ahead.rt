@@ -1,5 +1,5 @@
 //! The parts that the walk of a bulk call comes to, read where they lie.
-use crate::calls::{Bulk, advance, base_scene, run};
+use crate::bulk_calls::{Bulk, advance, base_scene, run};
 use bulk_ops::{BulkTurn, MkdirAll, RemoveAll};
 use fixtures::PLAIN;
 use path_text::{Errno, Part};

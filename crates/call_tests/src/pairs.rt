@@ -1,5 +1,5 @@
 //! Pairs of bulk calls that are under way, alike but for the numbers of their handles or not.
-use crate::calls::{Bulk, Scene, advance, base_scene, grant, run};
+use crate::bulk_calls::{Bulk, Scene, advance, base_scene, grant, run};
 use bulk_ops::BulkTurn;
 use fixtures::PLAIN;
 use path_text::Errno;

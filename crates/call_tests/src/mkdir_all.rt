@@ -1,7 +1,7 @@
 //! MkdirAll on the plain tree, with another's steps in between, as mkdir(2), path_resolution(7) and openat2(2) tell.
-use crate::calls::{base_scene, called, is_end};
+use crate::bulk_calls::{base_scene, called, is_end};
+use crate::bulk_rows::{QUIET, Row, first_wrong, first_wrong_in_turn};
 use crate::pairs::{Pair, first_wrong_pair};
-use crate::rows::{QUIET, Row, first_wrong, first_wrong_in_turn};
 use bulk_ops::MkdirAll;
 use fixtures::{BENEATH, NO_LINKS, PLAIN};
 use path_text::{Errno, Flags};

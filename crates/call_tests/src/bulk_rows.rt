@@ -1,5 +1,5 @@
 //! Rows of bulk calls: the path, what others do meanwhile, the end, and what is left.
-use crate::calls::{Bulk, Scene, base_scene, called, is_end, others_act};
+use crate::bulk_calls::{Bulk, Scene, base_scene, called, is_end, others_act};
 use fixtures::{PLAIN, names_of};
 use path_text::{Errno, Flags, Names, NoMemory};
 use std::alloc::Global;

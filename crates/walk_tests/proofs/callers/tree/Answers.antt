@@ -1,5 +1,5 @@
 use Rattle.example_callers.proofs.Rooted.{second_root}
-use Rattle.example_tests.proofs.callers.tree.Goals as goal
+use Rattle.walk_tests.proofs.callers.tree.Goals as goal
 
 pub returns : goal.returns
 returns c =

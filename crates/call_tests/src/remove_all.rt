@@ -1,8 +1,8 @@
 //! RemoveAll on the plain tree, with another's steps in between, and one that is answered by hand, as unlink(2) and
 //! rmdir(2) tell.
-use crate::calls::{Answers, Scene, base_scene, called, is_end, others_act};
+use crate::bulk_calls::{Answers, Scene, base_scene, called, is_end, others_act};
+use crate::bulk_rows::{QUIET, Row, ends_so, first_wrong, first_wrong_in_turn};
 use crate::pairs::{Pair, first_wrong_pair};
-use crate::rows::{QUIET, Row, ends_so, first_wrong, first_wrong_in_turn};
 use bulk_ops::RemoveAll;
 use fixtures::{BENEATH, NO_LINKS, PLAIN};
 use path_text::{Errno, Names, NoMemory};

@@ -1,5 +1,0 @@
-//! Callers of the resolver, each called.
-#![tactic(auto)]
-
-#[cfg(test)]
-mod callers;
