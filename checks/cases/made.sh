@@ -231,13 +231,14 @@ on_terminal() {
 escape=$'\e'
 answers_on_a_clean_line() {
     local began=$SECONDS typed
-    on_terminal "'$program' explore --states 10000000 <benches/searches/two-remove-mkdir.json" || return
+    on_terminal "'$program' explore --states 10000000 --cuts 4 <benches/searches/remove-two-mkdir-move.json" || return
     typed=$(grep -av '^Script ' "$room/typed")
     if [[ $typed != *$'\rinroot: '* ]] && [ $((SECONDS - began)) -lt 3 ]; then
         skip 'progress on a terminal' 'the search ended before any was told'
-    else
-        [[ $typed =~ inroot:\ [0-9]+\ of\ at\ most\ 10000000\ states,\ turn\ [0-9]+,\ [0-9]+\ seconds$escape ]] || return
+        [[ $typed == 'schedules '* ]]
+        return
     fi
+    [[ $typed =~ inroot:\ [0-9]+\ of\ at\ most\ 10000000\ states,\ turn\ [0-9]+,\ [0-9]+\ seconds$escape ]] || return
     [[ ${typed##*"$escape"\[K} == 'schedules '* ]] && [[ ${typed%"$escape"\[K*} != *schedules* ]]
 }
 # draws_on_terminal LINE WORDS..: of the picture of an attack, with these words before the program
