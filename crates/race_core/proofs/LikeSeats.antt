@@ -16,7 +16,8 @@ use Rattle.race_core.specs.declared.report.Outcome.{Outcome}
 use Rattle.race_core.specs.declared.report.Outcome.TheVariants as outcomes
 use Rattle.race_core.specs.declared.seat.Seat.{Seat}
 use Rattle.race_core.specs.Ledgers.{LedgerView}
-use Rattle.race_core.specs.Renamed.{numbers_by, root_by, step_by, answer_by, standing_by, op_by, call_by, step_handles, answer_handles, op_handles, planned_by, plans_by, outcome_by, outcomes_by, standings_by, kept_by, ledger_by, seat_by, seats_by, planned_handles, plans_handles, outcome_handles, outcomes_handles, option_handles, standings_handles, kept_handles, ledger_handles, doing_call_handles, LikeSeatsAgree}
+use Rattle.race_core.specs.Renamed.{numbers_by, root_by, step_by, answer_by, standing_by, op_by, call_by, step_handles, answer_handles, op_handles, planned_by, plans_by, outcome_by, outcomes_by, standings_by, kept_by, ledger_by, seat_by, seats_by, planned_handles, plans_handles, outcome_handles, outcomes_handles, option_handles, standings_handles, kept_handles, ledger_handles, doing_call_handles, LikeSeats, LikeSeatsAgree}
+use Rattle.race_core.specs.WithoutOutcomes.{without_outcomes}
 use Rattle.root_ops.proofs.LikeCalls.{like_answers_agree, like_requests_agree, like_calls_agree}
 use Rattle.race_core.proofs.LikeLists.{KeepsHandles, Agree, AgreeFirst, agree_first, all_agree_first}
 
@@ -251,3 +252,29 @@ like_seats_agree f g s t like same =
     let first = ledger_first f g s.ledger t.ledger (doing_call_handles s.doing) (doing_call_handles t.doing) (ap (λ (seat : Seat). seat.ledger) like) same in
     let doing = doing_agree f g s.doing t.doing (ap (λ (seat : Seat). seat.doing) like) first.1 in
     same_seats (ledger_by f s.ledger) (ledger_by g t.ledger) first.0 (option_map (call_by f) s.doing) (option_map (call_by g) t.doing) doing
+
+-- ---- seats without outcomes
+
+none_by : (f : ℕ → ℕ) (xs : List Outcome) → [] ≡ outcomes_by f xs → xs ≡ []
+none_by f [] none = refl
+none_by f (x ∷ xs) none = cc
+
+pub like_without : (x y : Seat) → y.ledger.outcomes ≡ []
+    → ledger_by (λ h. 0) (record x.ledger { outcomes = [] }) ≡ ledger_by (λ h. 0) (record y.ledger { outcomes = [] })
+    → option_map (call_by (λ h. 0)) x.doing ≡ option_map (call_by (λ h. 0)) y.doing → LikeSeats (without_outcomes x) y
+like_without x y none like doing =
+    same_seats (ledger_by (λ h. 0) (record x.ledger { outcomes = [] })) (ledger_by (λ h. 0) y.ledger)
+    (like ∙ ap (λ (told : List Outcome). ledger_by (λ h. 0) (record y.ledger { outcomes = told })) (sym none))
+    (option_map (call_by (λ h. 0)) x.doing) (option_map (call_by (λ h. 0)) y.doing) doing
+
+pub none_told : (x y : Seat) → LikeSeats (without_outcomes x) y → y.ledger.outcomes ≡ []
+none_told x y like = none_by (λ h. 0) y.ledger.outcomes (ap (λ (s : Seat). s.ledger.outcomes) like)
+
+pub ledgers_without : (x y : Seat) → LikeSeats (without_outcomes x) y
+    → ledger_by (λ h. 0) (record x.ledger { outcomes = [] }) ≡ ledger_by (λ h. 0) (record y.ledger { outcomes = [] })
+ledgers_without x y like =
+    ap (λ (s : Seat). s.ledger) like
+    ∙ ap (λ (told : List Outcome). ledger_by (λ h. 0) (record y.ledger { outcomes = told })) (none_told x y like)
+
+pub calls_without : (x y : Seat) → LikeSeats (without_outcomes x) y → option_map (call_by (λ h. 0)) x.doing ≡ option_map (call_by (λ h. 0)) y.doing
+calls_without x y like = ap (λ (s : Seat). s.doing) like

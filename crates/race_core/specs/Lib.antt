@@ -15,3 +15,4 @@ pub mod WorldLaws
 pub mod Worlds
 pub mod Renamed
 pub mod WorkedRun
+pub mod WithoutOutcomes

@@ -1,5 +1,6 @@
 //! Copies of what an actor has to do, and of what came of it.
-ghost use Rattle.std.specs.Prelude.{◌≡◌, IfOk};
+ghost use Rattle.std.specs.Prelude.{◌≡◌, [], IfOk};
+ghost use Rattle.race_core.specs.WithoutOutcomes.{without_outcomes};
 
 use crate::ledger::Ledger;
 use crate::plan::Planned;
@@ -7,6 +8,7 @@ use crate::report::Outcomes;
 use crate::seat::Seat;
 use handles::Standing;
 use path_text::NoMemory;
+use root_ops::Call;
 use std::alloc::Global;
 use std::collections::VecDeque;
 
@@ -19,11 +21,27 @@ impl Seat {
     {
         // The call comes last, since it can't be let go.
         let ledger = self.ledger.copy(alloc)?;
-        let doing = match &self.doing {
-            Some(call) => Some(call.copy(alloc)?),
-            None => None,
-        };
+        let doing = copy_doing(alloc, &self.doing)?;
         Ok(Seat { ledger, doing })
+    }
+
+    /// The same without what came of the calls that ended. NoMemory where room was refused.
+    pub(crate) fn copy_without_outcomes(&self, alloc: Global) -> Result<Seat, NoMemory>
+        ensures { IfOk result (λ copy. copy ≡ without_outcomes self.now) }
+    {
+        let ledger = self.ledger.copy_without_outcomes(alloc)?;
+        let doing = copy_doing(alloc, &self.doing)?;
+        Ok(Seat { ledger, doing })
+    }
+}
+
+// An equal call under way, if there is one.
+fn copy_doing(alloc: Global, doing: &Option<Call>) -> Result<Option<Call>, NoMemory>
+    ensures { IfOk result (λ copy. copy ≡ doing.now) }
+{
+    match doing {
+        Some(call) => Ok(Some(call.copy(alloc)?)),
+        None => Ok(None),
     }
 }
 
@@ -32,10 +50,19 @@ impl Ledger {
     fn copy(&self, alloc: Global) -> Result<Ledger, NoMemory>
         ensures { IfOk result (λ copy. copy ≡ self.now) }
     {
+        let mut copy = self.copy_without_outcomes(alloc)?;
+        copy.outcomes = copy_outcomes(alloc, &self.outcomes)?;
+        Ok(copy)
+    }
+
+    // The same without outcomes.
+    fn copy_without_outcomes(&self, alloc: Global) -> Result<Ledger, NoMemory>
+        ensures { IfOk result (λ copy. copy ≡ record self.now { outcomes = [] }) }
+    {
         Ok(Ledger {
             root: self.root,
             to_come: copy_calls(alloc, &self.to_come)?,
-            outcomes: copy_outcomes(alloc, &self.outcomes)?,
+            outcomes: Outcomes::new(alloc),
             standings: copy_standings(alloc, self.standings.as_slice())?,
             kept: copy_kept(alloc, self.kept.as_slice())?,
         })

@@ -35,12 +35,13 @@ mod world_laws;
 pub use book::{Book, LINES_MAX, OpenRefusal};
 pub use copy_tree::CopyTree;
 pub use laws::{free_lines_never_rise, world_limits_are_numbers};
-pub use like::like_outcomes;
+pub use like::{is_like_outcome, like_outcomes};
 pub use like_laws::like_seats_agree;
 pub use opening::ACTORS_MAX;
 pub use plan::{ActorPlan, Planned, Plans, Ref};
 pub use report::{Outcome, Outcomes, Report, WorldFault};
 pub use run_laws::{reports_with_memory_are_one, turns_join_runs};
+pub use seat::Seat;
 pub use world::World;
 pub use world_laws::{
     actors_calls_stand_in_order, calls_have_windows, calls_tell_in_reports,

@@ -7,7 +7,7 @@ mod ledgers;
 mod seats;
 mod worlds;
 
-pub use ledgers::like_outcomes;
+pub use ledgers::{is_like_outcome, like_outcomes};
 use path_text::NoMemory;
 use std::collections::VecDeque;
 use tree_model::HandleNo;

@@ -11,8 +11,9 @@ use root_ops::{Call, CallTurn};
 use std::alloc::Global;
 use tree_model::Tree;
 
-/// What an actor has to do, and its call under way. It can't be let go while one is.
-pub(crate) struct Seat {
+/// What an actor has to do and what came of it, and its call under way. It can't be let go while one is: a world gives
+/// it up.
+pub struct Seat {
     pub(crate) ledger: Ledger,
     pub(crate) doing: Option<Call>,
 }

@@ -13,6 +13,7 @@ use std::marker::Model;
 use tree_model::Tree;
 
 mod copy;
+mod seats;
 
 /// A tree, and actors who take turns on it: a turn is one due step of the actor's call under way, or of its next
 /// one. It can't be let go: `run` goes to its end. Contracts see it as a `WorldView`.

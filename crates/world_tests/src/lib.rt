@@ -27,6 +27,8 @@ mod reports;
 #[cfg(test)]
 mod schedules;
 #[cfg(test)]
+mod seats;
+#[cfg(test)]
 mod told;
 #[cfg(test)]
 mod worlds;

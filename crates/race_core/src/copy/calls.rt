@@ -21,8 +21,8 @@ impl Planned {
 }
 
 impl Outcome {
-    // An equal outcome.
-    pub(crate) fn copy(&self, alloc: Global) -> Result<Outcome, NoMemory>
+    /// An equal outcome. NoMemory where its room was refused.
+    pub fn copy(&self, alloc: Global) -> Result<Outcome, NoMemory>
         ensures { IfOk result (λ copy. copy ≡ self.now) }
     {
         Ok(match self {

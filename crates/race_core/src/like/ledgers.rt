@@ -133,18 +133,10 @@ impl Like for Ledger {
 
     ghost handles = { ledger_handles };
 
-    #[tactic(auto, using(crate::proofs::LikeSeats::plans_map, crate::proofs::LikeSeats::outcomes_map, crate::proofs::LikeSeats::standings_map, crate::proofs::LikeSeats::kept_map))]
+    #[tactic(auto, using(crate::proofs::LikeSeats::outcomes_map))]
     fn is_like(&self, other: &Ledger) -> bool {
-        if !like_roots(&self.root, &other.root) || !like_queues(&self.to_come, &other.to_come) {
-            return false;
-        }
-        if !like_all(self.outcomes.as_slice(), other.outcomes.as_slice()) {
-            return false;
-        }
-        if !like_all(self.standings.as_slice(), other.standings.as_slice()) {
-            return false;
-        }
-        like_all(self.kept.as_slice(), other.kept.as_slice())
+        self.is_like_beside_outcomes(other)
+            && like_all(self.outcomes.as_slice(), other.outcomes.as_slice())
     }
 
     fn push_handles(&self, into: &mut Vec<HandleNo>) -> Result<(), NoMemory> {
@@ -154,6 +146,31 @@ impl Like for Ledger {
         push_all(self.standings.as_slice(), into)?;
         push_all(self.kept.as_slice(), into)
     }
+}
+
+impl Ledger {
+    /// Whether all but the outcomes is the same but for the numbers of handles. Takes no memory.
+    #[tactic(auto, using(crate::proofs::LikeSeats::plans_map, crate::proofs::LikeSeats::standings_map, crate::proofs::LikeSeats::kept_map))]
+    pub(crate) fn is_like_beside_outcomes(&self, other: &Ledger) -> bool
+        ensures { IsTrue result
+            ↔ (ledger_by (λ h. 0) (record self.now { outcomes = [] })
+            ≡ ledger_by (λ h. 0) (record other.now { outcomes = [] })) }
+    {
+        if !like_roots(&self.root, &other.root) || !like_queues(&self.to_come, &other.to_come) {
+            return false;
+        }
+        if !like_all(self.standings.as_slice(), other.standings.as_slice()) {
+            return false;
+        }
+        like_all(self.kept.as_slice(), other.kept.as_slice())
+    }
+}
+
+/// Whether a call ended in the same way as another, but for the numbers of handles.
+pub fn is_like_outcome(outcome: &Outcome, other: &Outcome) -> bool
+    ensures { IsTrue result ↔ (outcome_by (λ h. 0) outcome.now ≡ outcome_by (λ h. 0) other.now) }
+{
+    outcome.is_like(other)
 }
 
 /// Whether the calls ended in the same way, one by one, but for the numbers of handles.

@@ -1,6 +1,8 @@
 //! Whether two actors are the same but for the numbers of their handles.
+ghost use Rattle.std.specs.Prelude.{◌↔◌, IsTrue};
 ghost use Rattle.std.specs.Option.{option_map};
-ghost use Rattle.race_core.specs.Renamed.{call_by, doing_call_handles, seat_by, seat_handles};
+ghost use Rattle.race_core.specs.Renamed.{call_by, doing_call_handles, seat_by, seat_handles, LikeSeats};
+ghost use Rattle.race_core.specs.WithoutOutcomes.{without_outcomes};
 
 use super::Like;
 use crate::seat::Seat;
@@ -41,5 +43,20 @@ impl Like for Seat {
     fn push_handles(&self, into: &mut Vec<HandleNo>) -> Result<(), NoMemory> {
         self.ledger.push_handles(into)?;
         self.doing.push_handles(into)
+    }
+}
+
+impl Seat {
+    /// Whether it is the same as another, which has no outcomes, but for its outcomes and the numbers of handles.
+    pub(crate) fn is_like_without_outcomes(&self, other: &Seat) -> bool
+        ensures { IsTrue result ↔ LikeSeats (without_outcomes self.now) other.now }
+    {
+        if !other.ledger.outcomes.is_empty() {
+            return false;
+        }
+        if !self.ledger.is_like_beside_outcomes(&other.ledger) {
+            return false;
+        }
+        self.doing.is_like(&other.doing)
     }
 }
