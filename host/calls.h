@@ -1,7 +1,8 @@
 /*
- * calls.h: the proved library's twenty-eight functions, and what passes between it and a driver. The numbers and bytes are those
- * of crates/c_protocol, place_protocol, open_or_make, make_through_links, remove_by_calls, kernel_text and system_calls, whose
- * contracts say what they stand for. A program that makes calls includes inroot.h, and not this.
+ * calls.h: the proved library's twenty-nine functions, and what passes between it and a driver. The numbers and bytes
+ * are those of crates/c_protocol, place_protocol, open_or_make, make_through_links, remove_by_calls, list_directory,
+ * kernel_text and system_calls, whose contracts say what they stand for. A program that makes calls includes inroot.h,
+ * and not this.
  */
 #ifndef INROOT_CALLS_H
 #define INROOT_CALLS_H
@@ -156,21 +157,6 @@ void inroot_split(const unsigned char *path, size_t path_length, bool takes_slas
 bool inroot_is_refusal(uint8_t what, uint8_t mode, size_t text, uint32_t error);
 
 /* ---- what the kernel's texts say. None of these needs a call under way. */
-
-/* So many bytes of names were taken; there is no room for the next one; or the number of the next record's error, or 0. */
-struct inroot_taken {
-    size_t used;
-    bool full;
-    uint8_t error;
-};
-
-/*
- * Takes the names of records of getdents64(2), but for `.` and `..`, to the beginning of the room, a slash before each. It ends
- * with the records, at a name for which there is no room, or at the first error: EIO of what is no record or no name,
- * ENAMETOOLONG of a name over 255 bytes.
- */
-void inroot_take_names(const unsigned char *records, size_t records_length, unsigned char *room, size_t size,
-                       struct inroot_taken *taken);
 
 /* So many bytes of names lie in the room; or an error's number, or 0. */
 struct inroot_sorted {
@@ -376,6 +362,44 @@ void inroot_making_begin(size_t path_length, bool file, bool follows, bool may_r
  */
 void inroot_making_next(struct inroot_making *making, const struct inroot_outcome *outcome, const unsigned char *text,
                         size_t text_length, unsigned char *room, size_t size);
+
+/* ---- which system call comes next, as the names of a directory are read. These take no memory. */
+
+/*
+ * The directory is opened: openat(2) of `.` with O_RDONLY, O_DIRECTORY and O_CLOEXEC; the descriptor of a directory
+ * above is let go; records are read: getdents64(2); the directory is closed; the names are sorted. If it ENDS, they
+ * were sorted. If it FAILS, there is an error.
+ */
+enum inroot_listing_next {
+    INROOT_LISTING_OPEN = 1, INROOT_LISTING_SPARE, INROOT_LISTING_READ, INROOT_LISTING_CLOSE, INROOT_LISTING_SORT,
+    INROOT_LISTING_ENDS, INROOT_LISTING_FAILS,
+};
+
+/*
+ * How far it has come. A driver reads what comes NEXT; the SIZE of the room for names, so many bytes of which are
+ * USED; how many bytes of RECORDS it may read at once; and the ERROR if it fails. It leaves all of it alone between
+ * two turns.
+ */
+struct inroot_listing {
+    size_t size, used, records;
+    uint32_t error;
+    uint8_t next;
+};
+
+/*
+ * Begins where a call holds so many bytes of other directories' names. The room's size is a fourth of what is left of
+ * 4 MiB, but 512 bytes at least, and 1 MiB at most.
+ */
+void inroot_listing_begin(size_t held, struct inroot_listing *listing);
+
+/*
+ * Takes what the last demand gave: 0, or an error; any number but 0 says that no descriptor could be let go. And the
+ * records that were read, none at the directory's end. The room has SIZE bytes. The names of the records, but for `.`
+ * and `..`, are laid there behind those of before, a slash before each. Errors of records: EIO of what is no record or
+ * no name, ENAMETOOLONG of a name over 255 bytes.
+ */
+void inroot_listing_next(struct inroot_listing *listing, uint32_t error, const unsigned char *records,
+                         size_t records_length, unsigned char *room, size_t size);
 
 /* ---- which call comes next, as an entry is removed with all below it by several. These take no memory. */
 

@@ -1,7 +1,8 @@
 /*
- * listing.c: the names of a directory's entries, in the order of their bytes, a slash before each. For a large directory
- * they are a part: the others' turn comes when the call finds that it isn't empty. So a tree takes bounded memory,
- * however many entries a directory has.
+ * listing.c: the names of a directory's entries, in the order of their bytes, a slash before each. For a large
+ * directory they are a part: the others' turn comes when the call finds that it isn't empty. So a tree takes bounded
+ * memory, however many entries a directory has. The proved library says how large a part is, which system call comes
+ * next, and which names the kernel's records have.
  */
 #define _GNU_SOURCE
 #include "driver.h"
@@ -12,93 +13,88 @@
 #include <sys/syscall.h>
 #include <unistd.h>
 
-enum {
-    ALL_NAMES = 4 << 20,     /* bytes of names that a call holds, but for the least parts */
-    LEAST_PART = 512,        /* the least part of a directory's: two names of any length */
-    MOST_PART = 1 << 20,
-    RECORDS = 32768,         /* what getdents64(2) gives at once */
-    FEW_RECORDS = 4096,
+/* A directory that is being listed. */
+struct listing {
+    struct inroot_driver *d;
+    uint64_t handle;
+    int fd, dir;                   /* the handle's descriptor; and one by which the directory is read */
+    struct inroot_listing course;
+    unsigned char *records, *names;
+    size_t got;                    /* so many bytes of records were read last */
 };
 
-/* Names, a slash before each. */
-struct part {
-    unsigned char *text;
-    size_t used, size;
-};
-
-/* Reads names until the part is full, or there are no more. A directory that is gone has none. Gives 0 or -errno. */
-static int read_names(int dir, struct part *part)
+static uint32_t read_records(struct listing *l)
 {
-    size_t size = part->size < RECORDS ? FEW_RECORDS : RECORDS;
-    unsigned char *records = malloc(size);
-    int error = records == NULL ? ENOMEM : 0;
-    for (bool more = true; more && error == 0;) {
-        struct inroot_taken taken = {0};
-        long got = syscall(SYS_getdents64, dir, records, size);
-        if (got < 0 && errno == EINTR)
-            continue;
-        if (got > 0)
-            inroot_take_names(records, (size_t)got, part->text + part->used, part->size - part->used, &taken);
-        part->used += taken.used;
-        more = got > 0 && !taken.full;
-        error = got < 0 && errno != ENOENT ? errno : taken.error;
-    }
-    free(records);
-    return -error;
-}
-
-/* Keeps the names in order. */
-static int keep_sorted(struct inroot_driver *d, const struct part *part)
-{
-    struct inroot_sorted sorted;
-    unsigned char *text = malloc(part->used + 1);
-    if (text == NULL)
-        return -ENOMEM;
-    inroot_sort_names(part->text, part->used, text, part->used + 1, &sorted);
-    if (sorted.error) {
-        free(text);
-        return -sorted.error;
-    }
-    free(d->names);
-    d->names = (char *)text;
-    d->names_length = sorted.length;
+    long got = syscall(SYS_getdents64, l->dir, l->records, l->course.records);
+    if (got < 0)
+        return (uint32_t)errno;
+    l->got = (size_t)got;
     return 0;
 }
 
-/* Takes a fourth of what is left, so that each level of a tree gets its part. */
-static size_t size_of_part(const struct inroot_driver *d)
+/* Keeps the names in order. */
+static uint32_t keep_sorted(const struct listing *l)
 {
-    size_t size = d->listed < ALL_NAMES ? (ALL_NAMES - d->listed) / 4 : 0;
-    return size < LEAST_PART ? LEAST_PART : size > MOST_PART ? MOST_PART : size;
+    struct inroot_sorted sorted;
+    size_t size = l->course.used + 1;
+    unsigned char *text = malloc(size);
+    if (text == NULL)
+        return ENOMEM;
+    inroot_sort_names(l->names, l->course.used, text, size, &sorted);
+    if (sorted.error) {
+        free(text);
+        return sorted.error;
+    }
+    free(l->d->names);
+    l->d->names = (char *)text;
+    l->d->names_length = sorted.length;
+    return 0;
 }
 
-/* Opens the directory for reading. If no descriptor is left, spares one of a directory above. */
-static int open_to_read(struct inroot_driver *d, uint64_t handle, int fd)
+/* Does what comes next. Gives 0 or an error's number. */
+static uint32_t turn(struct listing *l)
 {
-    int dir;
-    do
-        dir = openat(fd, ".", O_RDONLY | O_DIRECTORY | O_CLOEXEC);
-    while (dir < 0 && (errno == EINTR || ((errno == EMFILE || errno == ENFILE) && inroot_handles_spare(d, handle))));
-    return dir < 0 ? -errno : dir;
+    switch (l->course.next) {
+    case INROOT_LISTING_OPEN:
+        l->dir = openat(l->fd, ".", O_RDONLY | O_DIRECTORY | O_CLOEXEC);
+        return l->dir < 0 ? (uint32_t)errno : 0;
+    case INROOT_LISTING_SPARE:
+        return inroot_handles_spare(l->d, l->handle) ? 0 : EMFILE;
+    case INROOT_LISTING_READ:
+        return read_records(l);
+    case INROOT_LISTING_CLOSE:
+        close(l->dir);
+        return 0;
+    default:
+        return keep_sorted(l);
+    }
+}
+
+/* Takes turns with the library. */
+static void list(struct listing *l)
+{
+    l->names = l->records + l->course.records;
+    while (l->course.next < INROOT_LISTING_ENDS) {
+        uint32_t error = turn(l);
+        inroot_listing_next(&l->course, error, l->records, l->got, l->names, l->course.size);
+    }
 }
 
 struct inroot_result inroot_list(struct inroot_driver *d, uint64_t handle)
 {
-    int fd;
-    int error = inroot_handles_fd(d, handle, &fd);
-    int dir = error ? -error : open_to_read(d, handle, fd);
-    if (dir < 0)
-        return inroot_unmade(d, -dir);
-    struct part part = {.size = size_of_part(d)};
-    part.text = malloc(part.size);
-    error = part.text == NULL ? -ENOMEM : read_names(dir, &part);
-    close(dir);
-    if (error == 0)
-        error = keep_sorted(d, &part);
-    free(part.text);
+    struct listing l = {.d = d, .handle = handle};
+    int error = inroot_handles_fd(d, handle, &l.fd);
     if (error)
-        return inroot_unmade(d, -error);
-    inroot_handles_slot(d, handle)->listed = (uint32_t)part.used;
-    d->listed += part.used;
+        return inroot_unmade(d, error);
+    inroot_listing_begin(d->listed, &l.course);
+    l.records = malloc(l.course.records + l.course.size);
+    if (l.records == NULL)
+        return inroot_unmade(d, ENOMEM);
+    list(&l);
+    free(l.records);
+    if (l.course.next == INROOT_LISTING_FAILS)
+        return inroot_unmade(d, (int)l.course.error);
+    inroot_handles_slot(d, handle)->listed = (uint32_t)l.course.used;
+    d->listed += l.course.used;
     return (struct inroot_result){.what = INROOT_ANSWER_LISTED};
 }

@@ -2,7 +2,8 @@
  * depths: trees that are deeper than one of the proved calls goes, twice over, and a directory with more names than a
  * call holds. They are removed whole; where others take the deep part away meanwhile, the call doesn't follow it; and where
  * the kernel refuses to remove the deepest, nothing stays open.
- * To be linked with --wrap=openat.
+ * A directory in one whose names are held gets less room for its own.
+ * To be linked with --wrap=openat and --wrap=malloc.
  *
  * usage: depths DIR. Exits 0 where that holds. 78: no right to be filtered, so that a part is left out.
  */
@@ -41,6 +42,18 @@ static int my_openat(int dir, const char *name, int flags, mode_t mode)
 }
 
 INSTEAD_OF_OPENAT(my_openat)
+
+/* So often a call asked for the memory of a directory of the largest part: its names, and what getdents64(2) gives. */
+static int largest_parts;
+
+void *__real_malloc(size_t size);
+void *__wrap_malloc(size_t size);
+
+void *__wrap_malloc(size_t size)
+{
+    largest_parts += size == (1 << 20) + 32768;
+    return __real_malloc(size);
+}
 
 /* Directories within one another, below `t`; each of those from this one on has a file, whose name comes first. */
 static void dig(int levels, int files_from)
@@ -83,7 +96,11 @@ static void large(void)
         snprintf(name, sizeof name, "t/%0250d", one);
         sure(mknodat(root, name, S_IFREG | 0600, 0), name);
     }
-    is_removed("a large directory", NAMES + 1);
+    sure(mkdirat(root, "t/!", 0755), "t/!");
+    largest_parts = 0;
+    is_removed("a large directory", NAMES + 2);
+    /* The names of the large one are held as the small one is listed. */
+    expect(largest_parts == 2, "a large directory in two parts: %d largest ones", largest_parts);
 }
 
 /* How many levels it is below the root. */

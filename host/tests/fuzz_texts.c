@@ -78,18 +78,18 @@ static void must_sort(const unsigned char *text, size_t size)
 
 static void records(size_t size, const uint8_t *bytes, size_t length)
 {
-    struct inroot_taken taken;
+    struct inroot_listing listing = {.size = size, .records = length, .next = INROOT_LISTING_READ};
     unsigned char *given = copy_of(bytes, length), *room = malloc(size + 1);
     if (room == NULL)
         abort();
     memset(room, 0xa5, size + 1);
-    inroot_take_names(given, length, room, size, &taken);
-    MUST(taken.used <= size && (taken.error == 0 || taken.error == EIO || taken.error == ENAMETOOLONG));
-    MUST(!(taken.full && taken.error));
-    for (size_t at = taken.used; at <= size; at++)
+    inroot_listing_next(&listing, 0, given, length, room, size);
+    MUST(listing.used <= size && (listing.error == 0 || listing.error == EIO || listing.error == ENAMETOOLONG));
+    MUST(listing.next == INROOT_LISTING_CLOSE || (listing.next == INROOT_LISTING_READ && listing.error == 0 && length > 0));
+    for (size_t at = listing.used; at <= size; at++)
         MUST(room[at] == 0xa5);
-    must_be_names(room, taken.used, false);
-    must_sort(room, taken.used);
+    must_be_names(room, listing.used, false);
+    must_sort(room, listing.used);
     free(given);
     free(room);
 }

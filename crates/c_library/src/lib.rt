@@ -1,5 +1,6 @@
-//! The functions by which a C program makes calls: a static library of twenty-eight exports, over `c_protocol`,
-//! `place_protocol`, `open_or_make`, `make_through_links`, `remove_by_calls`, `kernel_text` and `system_calls`.
+//! The functions by which a C program makes calls: a static library of twenty-nine exports, over `c_protocol`,
+//! `place_protocol`, `open_or_make`, `make_through_links`, `remove_by_calls`, `list_directory`, `kernel_text` and
+//! `system_calls`.
 //!
 //! Each export is the function of that name of one of these, with its clauses. What a C program owes is said in
 //! `host/calls.h`: what is kept is empty (zero) before the first call, and is left alone between two turns.
@@ -15,7 +16,6 @@ ghost use Rattle.c_protocol.specs.Refusals.{is_refusal};
 ghost use Rattle.c_protocol.specs.Runs.{ComeNext, IsRun};
 ghost use Rattle.c_protocol.specs.Split.{IsParted};
 ghost use Rattle.c_protocol.specs.Turns.{call_of, IsBegun, IsNext, IsTold};
-ghost use Rattle.kernel_text.specs.Listing.{IsTaken, Sorts};
 ghost use Rattle.place_protocol.specs.Told.{begun, facts_after_number, question_of, TellsNext};
 ghost use Rattle.place_protocol.specs.Texts.{texts_of};
 ghost use Rattle.path_text.specs.declared.path.TheConstants.{TEXT_MAX};
@@ -27,10 +27,10 @@ ghost use Rattle.system_calls.specs.Objects.{is_node, is_same_object, kind_of};
 ghost use Rattle.system_calls.specs.Opening.{opening_of, reopen_flags};
 ghost use Rattle.system_calls.specs.Tries.{next_try};
 
+mod listings;
 mod removals;
 
 use c_protocol::{Ahead, Answered, Asked, Kept, Left, Parted, Ran, Told};
-use kernel_text::{Sorted, Taken};
 use make_through_links::{Making, Outcome};
 use open_or_make::Course;
 use place_protocol::{Answer, Facts};
@@ -155,27 +155,6 @@ pub extern "C" fn inroot_is_refusal(what: u8, mode: u8, text: usize, error: u32)
     ensures { result ≡ is_refusal what mode text error }
 {
     c_protocol::is_refusal(what, mode, text, error)
-}
-
-/// Takes the names of records of getdents64(2): `kernel_text::take_names`.
-#[unsafe(no_mangle)]
-pub extern "C" fn inroot_take_names(records: &[u8], room: &mut [u8], taken: &mut Taken)
-    ensures { IsTaken records.now room.old room.new taken.new }
-{
-    *taken = kernel_text::take_names(records, room);
-}
-
-/// Sorts names by their bytes: `kernel_text::sort_names`.
-#[unsafe(no_mangle)]
-pub extern "C" fn inroot_sort_names(
-    alloc: Global,
-    text: &[u8],
-    room: &mut [u8],
-    sorted: &mut Sorted,
-)
-    ensures { Sorts text.now room.old room.new sorted.new }
-{
-    *sorted = kernel_text::sort_names(alloc, text, room);
 }
 
 /// What a call on a path does by flags of open(2): `system_calls::opening_of`.

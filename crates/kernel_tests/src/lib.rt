@@ -9,6 +9,8 @@ mod c_turns;
 #[cfg(test)]
 mod courses;
 #[cfg(test)]
+mod listings;
+#[cfg(test)]
 mod makings;
 #[cfg(test)]
 mod objects;
