@@ -1,3 +1,4 @@
+pub mod FailureLemmas
 pub mod HistoryLemmas
 pub mod MakingLemmas
 pub mod PathLemmas

@@ -1,4 +1,4 @@
-use Rattle.make_through_links.proofs.PromiseLemmas.{gives_up, loops, too_long, why}
+use Rattle.make_through_links.proofs.FailureLemmas.{gives_up, loops, too_long, why}
 use Rattle.make_through_links.proofs.laws.why_it_fails.Goals as goal
 
 pub returns-clause-why : goal.returns-clause-why
