@@ -9,7 +9,7 @@ _inroot() {
         replay) words='--json --schedule --strict --help' ;;
         draw) words='--svg --html --all --width --color --schedule --strict --help' ;;
         run) words='--workers --strict --help' ;;
-        explore) words='--actor --cuts --begin --html --part --merge --states --memory --jobs --outside --when --never --always --strict --help' ;;
+        explore) words='--actor --cuts --begin --html --part --merge --states --memory --outside --when --never --always --strict --help' ;;
         esac
     fi
     mapfile -t COMPREPLY < <(compgen -W "$words" -- "$word")

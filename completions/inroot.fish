@@ -26,7 +26,6 @@ complete -c inroot -n '__fish_seen_subcommand_from explore' -l part -d 'Print a 
 complete -c inroot -n '__fish_seen_subcommand_from explore' -l merge -d 'Print what such lines make together'
 complete -c inroot -n '__fish_seen_subcommand_from explore' -l states -x -d 'Give up past so many states'
 complete -c inroot -n '__fish_seen_subcommand_from explore' -l memory -x -d 'Give up where more megabytes are taken'
-complete -c inroot -n '__fish_seen_subcommand_from explore' -l jobs -x -d 'Search on at most so many threads'
 complete -c inroot -n '__fish_seen_subcommand_from explore' -l outside -d 'Count steps outside of the root'
 complete -c inroot -n '__fish_seen_subcommand_from explore' -l when -x -d 'Take schedules by which a report has this line'
 complete -c inroot -n '__fish_seen_subcommand_from explore' -l never -x -d 'Whether no report has this line'

@@ -75,7 +75,6 @@ pub record IsExploration (matches : ArgMatches) (options : Options) : Type 0 whe
   pub cuts : option_map (λ text. text.now) options.cuts ≡ first_value (found_of matches) (codes "cuts")
   pub begin : option_map (λ text. text.now) options.begin ≡ first_value (found_of matches) (codes "begin")
   pub states : option_map (λ text. text.now) options.states ≡ first_value (found_of matches) (codes "states")
-  pub jobs : option_map (λ text. text.now) options.jobs ≡ first_value (found_of matches) (codes "jobs")
   pub memory : option_map (λ text. text.now) options.memory ≡ first_value (found_of matches) (codes "memory")
   pub outside : IsOption matches (codes "outside") options.outside
   pub when : texts_in options.when.now ≡ texts_given matches (codes "when")

@@ -57,8 +57,6 @@ const MERGE: &str = "merge";
 
 const STATES: &str = "states";
 
-const JOBS: &str = "jobs";
-
 const MEMORY: &str = "memory";
 
 const OUTSIDE: &str = "outside";
@@ -252,8 +250,7 @@ const EXPLORING: &str =
 Prints how many schedules there are, how many different states they go through, how many
 turns the longest has, and a block for each outcome: how many schedules lead to it, and
 one that replay takes, with how many calls it cuts. A line has TEXT where it is TEXT, or
-begins with TEXT and a blank, as 'reply 0 0 fault' or 'held 0 1'. What is printed is the
-same on any number of threads.
+begins with TEXT and a blank, as 'reply 0 0 fault' or 'held 0 1'.
 
 Example:
   inroot explore --actor 0 < examples/attacks/moved-out.json";
@@ -296,13 +293,6 @@ fn with_numbers<'a>(alloc: Global, command: Command<'a>) -> Result<Command<'a>, 
         ArgAction::Set,
         "Give up past N different states: 1 to 10000000, or 100000",
     );
-    let jobs = valued(
-        alloc,
-        JOBS,
-        "N",
-        ArgAction::Set,
-        "Search on at most N threads: 1 to 64, or 1",
-    );
     let memory = valued(
         alloc,
         MEMORY,
@@ -310,12 +300,7 @@ fn with_numbers<'a>(alloc: Global, command: Command<'a>) -> Result<Command<'a>, 
         ArgAction::Set,
         "Give up where more than N MB are taken: 1 to 1000000, of 1000000 bytes",
     );
-    command
-        .arg(actor)?
-        .arg(cuts)?
-        .arg(states)?
-        .arg(memory)?
-        .arg(jobs)
+    command.arg(actor)?.arg(cuts)?.arg(states)?.arg(memory)
 }
 
 // Adds the options of `explore` that say which schedules there are, and what is printed of them.
@@ -528,7 +513,6 @@ fn exploration_asked<'m>(matches: &'m ArgMatches<'_>) -> Options<'m>
         cuts: matches.get_str(CUTS),
         begin: matches.get_str(BEGIN),
         states: matches.get_str(STATES),
-        jobs: matches.get_str(JOBS),
         memory: matches.get_str(MEMORY),
         outside: matches.get_flag(OUTSIDE),
         when: texts_of(matches, WHEN),

@@ -25,7 +25,6 @@ fn ends_with_its_statuses(rt: HostRuntime) {
         (Err(Fault::PropertyFails), 1),
         (Err(Fault::Options(OptionFault::Cuts)), 2),
         (Err(Fault::Options(OptionFault::Begin)), 2),
-        (Err(Fault::Options(OptionFault::Jobs)), 2),
         (Err(Fault::Options(OptionFault::NoMemory)), 4),
         (Err(Fault::Explore(ExploreFault::NoSuchActor(0))), 4),
         (Err(Fault::Explore(ExploreFault::NoSuchLine(0))), 4),
@@ -178,7 +177,6 @@ fn asks_explored(alloc: Global, words: &[&str], want: Options) -> bool {
         && options.cuts == want.cuts
         && options.begin == want.begin
         && options.states == want.states
-        && options.jobs == want.jobs
         && options.memory == want.memory
         && options.outside == want.outside
         && options.when == want.when
@@ -202,8 +200,6 @@ fn reads_what_is_to_be_explored(rt: HostRuntime) {
         "--begin",
         "0,1*2",
         "--states=7",
-        "--jobs",
-        "4",
         "--memory",
         "512",
         "--outside",
@@ -217,7 +213,6 @@ fn reads_what_is_to_be_explored(rt: HostRuntime) {
         cuts: Some("1"),
         begin: Some("0,1*2"),
         states: Some("7"),
-        jobs: Some("4"),
         memory: Some("512"),
         outside: true,
         when: &["row"],

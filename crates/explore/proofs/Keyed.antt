@@ -4,4 +4,3 @@ pub mod OneTurn
 pub mod SameKeys
 pub mod KnownTurn
 pub mod Found
-pub mod Running

@@ -1,13 +1,15 @@
 -- What an actor holds by the handles that it knows, and the parts that are kept with it.
-use Rattle.std.specs.Prelude.{◌≡◌, ◌⊎◌, ◌<◌, ℕ, List, Bool, length, map, Some, slice_get}
+use Rattle.std.specs.Prelude.{◌≡◌, ◌⊎◌, ◌<◌, ⊤, ℕ, List, [], ◌∷◌, Bool, length, map, Some, slice_get}
 use Rattle.tree_model.specs.State.{State}
 use Rattle.tree_model.specs.Steps.{held, held_count}
 use Rattle.race_core.specs.Book.{tree_now}
 use Rattle.race_core.specs.declared.seat.Seat.{Seat}
-use Rattle.race_core.specs.Renamed.{seat_handles}
+use Rattle.race_core.specs.declared.report.Outcome.{Outcome}
+use Rattle.race_core.specs.Renamed.{outcomes_by, seat_handles, LikeSeats}
+use Rattle.race_core.specs.WithoutOutcomes.{without_outcomes}
 use Rattle.race_core.specs.Worlds.{WorldView, is_busy_at, is_within_at}
 use Rattle.explore.specs.declared.handle_tables.HandleTable.{HandleTable}
-use Rattle.explore.specs.Local.{actor_of, SamePartAt}
+use Rattle.explore.specs.Local.{actor_of}
 use Rattle.explore.specs.Paired.{AreAt, IsApartBefore}
 
 -- ---- handle tables
@@ -44,21 +46,44 @@ pub record LikeHandleTables (handle_table other : HandleTable) : Type 0 where
 
 -- ---- parts
 
--- a world in which an actor has a part, what it holds there, and whether it is busy and within a call
+-- What is kept of an actor's part: its seat without outcomes, the places of these among those that were met, what it
+-- holds, and whether it is busy and within a call.
 pub record PartView : Type 0 where
-  pub world : WorldView
+  pub seat : Seat
+  pub outcomes : List ℕ
   pub handle_table : HandleTable
   pub busy : Bool
   pub within : Bool
 
--- it tells of the actor of that number
-pub record IsPartOf (actor : ℕ) (part : PartView) : Type 0 where
-  pub handle_table : HasHandleTable part.world actor part.handle_table
-  pub busy : part.busy ≡ is_busy_at part.world.seats actor
-  pub within : part.within ≡ is_within_at part.world.seats actor
+-- the outcomes are those at these places of a table
+abbrev pub AreNamed : List Outcome → List ℕ → List Outcome → Type 0
+AreNamed table [] [] = ⊤
+AreNamed table [] (outcome ∷ outcomes) = ⊥
+AreNamed table (at ∷ places) [] = ⊥
+AreNamed table (at ∷ places) (outcome ∷ outcomes) = (slice_get table at ≡ Some outcome) × AreNamed table places outcomes
 
--- so does each, and no two are the same
-pub record ArePartsOf (actor : ℕ) (parts : List PartView) : Type 0 where
-  pub each : (k : ℕ) (part : PartView) → slice_get parts k ≡ Some part → IsPartOf actor part
+-- so are those of the actor of that number in the world, with 0 for each number of a handle
+abbrev pub HasOutcomes : List Outcome → WorldView → ℕ → List ℕ → Type 0
+HasOutcomes table w actor places = (seat : Seat) → slice_get w.seats actor ≡ Some seat
+    → AreNamed table places (outcomes_by (λ h. 0) seat.ledger.outcomes)
+
+-- it is the part of the actor of that number in the world, but for the numbers of handles in the seat
+pub record IsPartOf (table : List Outcome) (w : WorldView) (actor : ℕ) (part : PartView) : Type 0 where
+  pub handle_table : HasHandleTable w actor part.handle_table
+  pub outcomes : HasOutcomes table w actor part.outcomes
+  pub seat : LikeSeats (without_outcomes handle_table.seat) part.seat
+  pub busy : part.busy ≡ is_busy_at w.seats actor
+  pub within : part.within ≡ is_within_at w.seats actor
+
+-- the two are the same but for the numbers of handles
+pub record AreLikeParts (part other : PartView) : Type 0 where
+  pub seat : LikeSeats part.seat other.seat
+  pub outcomes : part.outcomes ≡ other.outcomes
+  pub handle_table : LikeHandleTables part.handle_table other.handle_table
+
+-- each is the actor's part in a world, and no two are the same
+pub record ArePartsOf (actor : ℕ) (table : List Outcome) (parts : List PartView) : Type 0 where
+  pub each : (k : ℕ) (part : PartView) → slice_get parts k ≡ Some part
+      → (w : WorldView) × IsPartOf table w actor part
   pub once : (k l : ℕ) (part other : PartView) → slice_get parts k ≡ Some part → slice_get parts l ≡ Some other
-      → SamePartAt part.world other.world actor → k ≡ l
+      → AreLikeParts part other → k ≡ l

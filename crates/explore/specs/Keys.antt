@@ -4,11 +4,13 @@ use Rattle.std.specs.Int.{from_bool}
 use Rattle.tree_model.specs.declared.inode.Inode.{Inode}
 use Rattle.tree_model.specs.StepLaws.{open_count}
 use Rattle.race_core.specs.Book.{tree_now}
+use Rattle.race_core.specs.declared.report.Outcome.{Outcome}
 use Rattle.race_core.specs.Worlds.{WorldView}
 use Rattle.explore.specs.declared.keys.Effect.{Effect}
 use Rattle.explore.specs.declared.keys.Key.{Key}
 use Rattle.explore.specs.declared.keys.Own.{Own}
 use Rattle.explore.specs.Fingerprint.{mixed}
+use Rattle.explore.specs.HandleTables.{PartView, IsPartOf}
 use Rattle.explore.specs.Layers.{Keeps}
 use Rattle.explore.specs.Local.{SamePartAt, AreNumbered, AreAllGiven}
 use Rattle.explore.specs.Distinct.{AreEachOnce}
@@ -16,21 +18,25 @@ use Rattle.explore.specs.Outside.{roots_of, outside_of}
 
 -- ---- components
 
--- The parts that the actor of that number had in some worlds: of each part a world in which it has that part.
+-- What is kept of the parts that the actor of that number had in some worlds, and the outcomes that its calls had
+-- there.
 pub record PartsView : Type 0 where
   pub actor : ℕ
-  pub worlds : List WorldView
+  pub outcomes : List Outcome
+  pub parts : List PartView
 
--- in this world it has the part at that place
+-- In this world it has the part at that place: what is kept there is its part in a world in which it is the same.
 pub record IsPartIn (row : PartsView) (v : WorldView) (at : ℕ) : Type 0 where
+  pub part : PartView
+  pub there : slice_get row.parts at ≡ Some part
   pub other : WorldView
-  pub there : slice_get row.worlds at ≡ Some other
+  pub is : IsPartOf row.outcomes other row.actor part
   pub same : SamePartAt v other row.actor
 
--- no two of the parts are the same
+-- where it has the same part in two worlds, it has it at one place
 abbrev pub AreApartParts : PartsView → Type 0
-AreApartParts row = (k l : ℕ) (v other : WorldView) → slice_get row.worlds k ≡ Some v
-    → slice_get row.worlds l ≡ Some other → SamePartAt v other row.actor → k ≡ l
+AreApartParts row = (k l : ℕ) (v w : WorldView) → IsPartIn row v k → IsPartIn row w l → SamePartAt v w row.actor
+    → k ≡ l
 
 -- the lists of nodes that were met, and the parts of each actor; and whether changes outside of roots are told
 pub record ComponentsView : Type 0 where
@@ -49,11 +55,17 @@ pub record AreInterned (lists : List (List Inode)) (parts : List PartsView) : Ty
   pub lists_once : AreEachOnce lists
   pub parts_once : (i : ℕ) (row : PartsView) → slice_get parts i ≡ Some row → AreApartParts row
 
--- each row has what it had, and maybe more
+-- the row has what it had, and maybe more
+pub record HasMore (row more : PartsView) : Type 0 where
+  pub actor : more.actor ≡ row.actor
+  pub outcomes : Keeps row.outcomes more.outcomes
+  pub parts : Keeps row.parts more.parts
+
+-- and so has each row
 pub record AreMoreParts (old new : List PartsView) : Type 0 where
   pub many : length new ≡ length old
   pub each : (i : ℕ) (row : PartsView) → slice_get old i ≡ Some row
-      → (more : PartsView) × ((slice_get new i ≡ Some more) × ((more.actor ≡ row.actor) × Keeps row.worlds more.worlds))
+      → (more : PartsView) × ((slice_get new i ≡ Some more) × HasMore row more)
 
 -- what was met keeps its place
 pub record Grows (old new : ComponentsView) : Type 0 where

@@ -29,4 +29,3 @@ pub mod Marked
 pub mod Distinct
 pub mod HandleTables
 pub mod States
-pub mod Runs

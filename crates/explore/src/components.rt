@@ -11,19 +11,20 @@ use crate::keys::Key;
 use crate::nodes::NodeLists;
 use crate::parts::Parts;
 use path_text::NoMemory;
-use race_core::{CopyTree, World};
+use race_core::World;
 use std::alloc::Global;
 use std::marker::Model;
 use tree_model::{Inode, OpenHandle, Tree};
 
-/// The lists of nodes and the actors' parts that were met. Contracts see them as a `ComponentsView`.
-pub(crate) struct Components<T: Tree> {
+/// The lists of nodes and the actors' parts that were met. They can't be let go, as `Parts`. Contracts see them as a
+/// `ComponentsView`.
+pub(crate) struct Components {
     told: bool,
     lists: NodeLists,
-    parts: Vec<Parts<T>>,
+    parts: Vec<Parts>,
 }
 
-impl<T: Tree> Model for Components<T> {
+impl Model for Components {
     ghost use Rattle.explore.specs.Keys.{ComponentsView, AreInterned};
 
     ghost Value = { ComponentsView };
@@ -34,7 +35,7 @@ impl<T: Tree> Model for Components<T> {
 }
 
 // No part yet of so many actors. NoMemory where room was refused.
-fn no_parts<T: Tree>(alloc: Global, actors: usize) -> Result<Vec<Parts<T>>, NoMemory>
+fn no_parts(alloc: Global, actors: usize) -> Result<Vec<Parts>, NoMemory>
     requires { actors ≤ ACTORS_MAX }
     ensures rows { IfOk result (λ parts. AreRows parts.items actors) }
     ensures apart { IfOk result (λ parts. (i : ℕ) (row : PartsView) → slice_get parts.items i ≡ Some row
@@ -51,10 +52,10 @@ fn no_parts<T: Tree>(alloc: Global, actors: usize) -> Result<Vec<Parts<T>>, NoMe
     Ok(parts)
 }
 
-impl<T: Tree> Components<T> {
+impl Components {
     /// None yet, of worlds of so many actors; changes outside of roots are told or not. NoMemory where room was
     /// refused.
-    pub(crate) fn new(alloc: Global, told: bool, actors: usize) -> Result<Components<T>, NoMemory>
+    pub(crate) fn new(alloc: Global, told: bool, actors: usize) -> Result<Components, NoMemory>
         requires { actors ≤ ACTORS_MAX }
         ensures rows { IfOk result (λ components. AreRows components.parts actors) }
         ensures told { IfOk result (λ components. components.told ≡ told) }
@@ -123,12 +124,10 @@ impl<T: Tree> Components<T> {
         self.lists.are_once();
         place
     }
-}
 
-impl<T: CopyTree + Drop> Components<T> {
     /// The place of the part that the actor has in that world, in whose tree these handles were given; it is put after
     /// the others where it wasn't met. NoMemory where room was refused.
-    pub(crate) fn put_part(
+    pub(crate) fn put_part<T: Tree>(
         &mut self,
         alloc: Global,
         world: &World<T>,
@@ -148,18 +147,16 @@ impl<T: CopyTree + Drop> Components<T> {
         parts.are_apart();
         place
     }
-}
 
-impl<T: Tree + Drop> Components<T> {
-    /// Gives up the worlds that configuration for parts.
-    pub(crate) fn give_up(self, alloc: Global) {
+    /// Gives up the seats that are kept of parts, in a world that has no part in them.
+    pub(crate) fn give_up<T: Tree>(self, alloc: Global, scrap: &mut World<T>) {
         let Components {
             told: _,
             lists: _,
             mut parts,
         } = self;
         while let Some(those) = parts.pop() {
-            those.give_up(alloc);
+            those.give_up(alloc, scrap);
         }
         parts.destroy_empty();
     }

@@ -70,12 +70,7 @@ fn is_only(only: Option<u32>, actor: u32) -> bool
 }
 
 /// The cost after a turn of that actor in the world of that key.
-pub(crate) fn cost_by<T: Tree>(
-    components: &Components<T>,
-    key: &Key,
-    cost: Cost,
-    actor: u32,
-) -> Cost
+pub(crate) fn cost_by(components: &Components, key: &Key, cost: Cost, actor: u32) -> Cost
     requires { AreWithin cost (2 ^ 40) }
     ensures { (w v : WorldView) → IsKey components.now w v key.now → result ≡ cost_after v.seats cost actor }
 {
@@ -94,8 +89,8 @@ pub(crate) fn cost_by<T: Tree>(
 
 /// Whether the actor may have the next turn in the world of that key: it has something left to do, its turn leaves the
 /// cuts within the bound, and it is the one who alone may have it, where one is named.
-pub(crate) fn may_go<T: Tree>(
-    components: &Components<T>,
+pub(crate) fn may_go(
+    components: &Components,
     key: &Key,
     cost: Cost,
     bounds: Bounds,

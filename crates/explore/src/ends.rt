@@ -24,7 +24,7 @@ use std::alloc::Global;
 use tree_model::Tree;
 
 /// Whether nobody has anything left to do in the world of that key.
-pub(crate) fn is_over<T: Tree>(components: &Components<T>, key: &Key) -> bool
+pub(crate) fn is_over(components: &Components, key: &Key) -> bool
     ensures { (w v : WorldView) → IsKey components.now w v key.now → IsEnd result v }
 {
     for actor in 0..key.own.len() {

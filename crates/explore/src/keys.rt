@@ -130,7 +130,7 @@ impl Key {
         effect: &Effect,
     ) -> Result<Key, NoMemory>
         requires here { actor < length self.now.own.items }
-        requires few { (n : ℕ) × ((n < 2 ^ 40) × AreFew n self.now) }
+        requires few { (n : ℕ) × ((n < 2 ^ 41) × AreFew n self.now) }
         ensures { IfOk result (λ key. IsKeyAfter self.now actor effect.now key) }
     {
         let mut key = self.copy(alloc)?;

@@ -16,7 +16,7 @@ ghost use Rattle.explore.specs.OutOfMemory.{EndsWell};
 
 use crate::beginnings::Beginnings;
 use crate::components::Components;
-use crate::cost::Cost;
+use crate::cost::{Cost, no_cost};
 use crate::keys::{Effect, Key, Own};
 use crate::layer::Visited;
 use crate::memo::{Memo, MemoKey};
@@ -30,15 +30,20 @@ use std::alloc::Global;
 use std::marker::Model;
 use tree_model::{NUMBERS_MAX, Snapshot, Tree};
 
+// How many turns a run goes on by, so that those that aren't known are remembered too.
+const LEARNT_MAX: u32 = 256;
+
 /// The components that were met and the turns that are known, of worlds after turns from one opening world. Contracts
 /// see them as a `KnownView`.
 pub(crate) struct KnownTurns<T: Tree> {
-    components: Components<T>,
+    components: Components,
     memo: Memo,
     start: Start,
     // Whether all numbers of handles that actors know were given. Only then is a turn its actor's own affair: else
     // another's turn may give such a number.
     are_given: bool,
+    // A world in which the seats that are kept of parts are given up at last.
+    scrap: World<T>,
 }
 
 impl<T: Tree> Model for KnownTurns<T> {
@@ -62,6 +67,8 @@ impl<T: Tree + Drop> KnownTurns<T> {
         told: bool,
         world: &World<T>,
     ) -> Result<KnownTurns<T>, NoMemory>
+    where
+        T: CopyTree,
         requires few { length world.now.seats ≤ ACTORS_MAX }
         requires numbered { AreNumbered world.now.seats }
         requires fresh { world.now.book.events ≡ [] }
@@ -71,8 +78,13 @@ impl<T: Tree + Drop> KnownTurns<T> {
         let tree = world.book().tree().snapshot(alloc)?;
         let numbers = tree.handles().len();
         let are_given = are_given(alloc, world, numbers)?;
+        let scrap = world.copy(alloc)?;
+        let Ok(components) = Components::new(alloc, told, world.actors()) else {
+            scrap.give_up(alloc);
+            return Err(NoMemory);
+        };
         Ok(KnownTurns {
-            components: Components::new(alloc, told, world.actors())?,
+            components,
             memo: Memo::new(alloc),
             start: Start {
                 lines: world.book().lines(),
@@ -80,11 +92,12 @@ impl<T: Tree + Drop> KnownTurns<T> {
                 open_handles: open_count(tree.handles()),
             },
             are_given,
+            scrap,
         })
     }
 
     /// The components.
-    pub(crate) fn components(&self) -> &Components<T>
+    pub(crate) fn components(&self) -> &Components
         ensures { result.now ≡ self.now.components }
     {
         &self.components
@@ -97,15 +110,17 @@ impl<T: Tree + Drop> KnownTurns<T> {
         self.components.are_interned();
     }
 
-    /// Gives up the worlds that configuration for parts.
+    /// Gives up the seats that are kept of parts.
     pub(crate) fn give_up(self, alloc: Global) {
         let KnownTurns {
             components,
             memo: _,
             start: _,
             are_given: _,
+            mut scrap,
         } = self;
-        components.give_up(alloc);
+        components.give_up(alloc, &mut scrap);
+        scrap.give_up(alloc);
     }
 
     // How many lines are free in the world of that key, or 2 where more are.
@@ -148,22 +163,6 @@ impl<T: Tree + Drop> KnownTurns<T> {
             return None;
         }
         self.memo.effect(&self.memo_key(key, actor))
-    }
-
-    /// Whether a turn is its actor's own affair, so that it is remembered.
-    pub(crate) fn are_given(&self) -> bool {
-        self.are_given
-    }
-
-    /// What the actor's turn depends on, if it isn't known what it comes to.
-    pub(crate) fn unknown(&self, key: &Key, actor: usize) -> Option<MemoKey>
-        requires { actor < length key.now.own.items }
-    {
-        let memo_key = self.memo_key(key, actor);
-        match self.memo.effect(&memo_key) {
-            Some(_) => None,
-            None => Some(memo_key),
-        }
     }
 
     // Remembers what the actor's turn from the world of that key comes to. NoMemory where its room was refused.
@@ -256,11 +255,13 @@ impl<T: CopyTree + Drop> KnownTurns<T> {
         requires numbered { AreNumbered world.old.seats }
         requires there { actor < length world.old.seats }
         requires many { length key.now.own.items ≡ length world.old.seats }
-        requires few { (n : ℕ) × ((n < 2 ^ 40) × AreFew n key.now) }
+        requires few { (n : ℕ) × ((n < 2 ^ 41) × AreFew n key.now) }
         requires within { AreWithin cost.old (2 ^ 40) }
         requires tally { IsTally world.old tally.old }
         requires told { tally.old.told ≡ self.old.components.told }
         ensures turned { OnOk result ((luck : Luck) × (world.new ≡ turn luck world.old actor)) }
+        ensures tally { OnOk result (IsTally world.new tally.new) }
+        ensures same_told { OnOk result (tally.new.told ≡ tally.old.told) }
         ensures grows { OnOk result (Grows self.old.components self.new.components) }
         ensures sound { OnOk result ((w : WorldView) → IsSound w self.old
             → IsKey self.old.components w world.old key.now → EndsWell world.new → IsSound w self.new) }
@@ -268,6 +269,7 @@ impl<T: CopyTree + Drop> KnownTurns<T> {
             → IsKey self.old.components w world.old key.now → EndsWell world.new
             → IsKey self.new.components w (turn full world.old actor) next) }
         ensures few { IfOk result (λ next. (n : ℕ) → AreFew n key.now → AreFew (n + 1) next) }
+        ensures many { IfOk result (λ next. length next.own.items ≡ length key.now.own.items) }
     {
         let number = actor as usize;
         let tree = world.book().tree().snapshot(alloc)?;
@@ -283,6 +285,96 @@ impl<T: CopyTree + Drop> KnownTurns<T> {
             self.put_parts(alloc, world, &tree, next.own.as_mut_slice())?;
         }
         Ok(next)
+    }
+
+    // Who goes on from the world of that key: the first actor whose turn isn't known, or else the first that has one.
+    fn next_actor(&self, key: &Key, world: &World<T>) -> Option<u32>
+        requires { length key.now.own.items ≡ length world.now.seats }
+        ensures { IfSome result (λ actor. actor < length world.now.seats) }
+    {
+        let mut next = None;
+        for at in 0..world.actors() {
+            let Ok(actor) = u32::try_from(at) else {
+                break;
+            };
+            if !world.has_turns(actor) {
+                continue;
+            }
+            if self.known_effect(key, at).is_none() {
+                return Some(actor);
+            }
+            if next.is_none() {
+                next = Some(actor);
+            }
+        }
+        next
+    }
+
+    // The same as `key_by`, but that a turn which is known isn't found once more.
+    fn go_on_by(
+        &mut self,
+        alloc: Global,
+        key: &Key,
+        world: &mut World<T>,
+        tally: &mut Tally,
+        actor: u32,
+    ) -> Result<Key, NoMemory>
+        requires rows { AreRows self.old.components.parts (length world.old.seats) }
+        requires numbered { AreNumbered world.old.seats }
+        requires there { actor < length world.old.seats }
+        requires many { length key.now.own.items ≡ length world.old.seats }
+        requires few { (n : ℕ) × ((n < 2 ^ 41) × AreFew n key.now) }
+        requires tally { IsTally world.old tally.old }
+        requires told { tally.old.told ≡ self.old.components.told }
+        ensures turned { OnOk result ((luck : Luck) × (world.new ≡ turn luck world.old actor)) }
+        ensures tally { OnOk result (IsTally world.new tally.new) }
+        ensures same_told { OnOk result (tally.new.told ≡ tally.old.told) }
+        ensures grows { OnOk result (Grows self.old.components self.new.components) }
+        ensures sound { OnOk result ((w : WorldView) → IsSound w self.old
+            → IsKey self.old.components w world.old key.now → EndsWell world.new → IsSound w self.new) }
+        ensures key { IfOk result (λ next. (w : WorldView) → IsSound w self.old
+            → IsKey self.old.components w world.old key.now → EndsWell world.new
+            → IsKey self.new.components w (turn full world.old actor) next) }
+        ensures few { IfOk result (λ next. (n : ℕ) → AreFew n key.now → AreFew (n + 1) next) }
+        ensures many { IfOk result (λ next. length next.own.items ≡ length key.now.own.items) }
+    {
+        let mut cost = no_cost();
+        if let Some(effect) = self.known_effect(key, actor as usize) {
+            take_turn(alloc, world, &mut cost, tally, actor)?;
+            return key.after(alloc, actor as usize, &effect);
+        }
+        self.key_by(alloc, key, world, &mut cost, tally, actor)
+    }
+
+    // Has the world of that key go on by at most so many turns, and remembers those that weren't known; by none where a
+    // turn isn't its actor's own affair. NoMemory where room was refused.
+    fn learn(
+        &mut self,
+        alloc: Global,
+        key: &Key,
+        world: &mut World<T>,
+        tally: &mut Tally,
+    ) -> Result<(), NoMemory>
+        requires rows { AreRows self.old.components.parts (length world.old.seats) }
+        requires numbered { AreNumbered world.old.seats }
+        requires many { length key.now.own.items ≡ length world.old.seats }
+        requires few { (n : ℕ) × ((n ≤ 2 ^ 40) × AreFew n key.now) }
+        requires tally { IsTally world.old tally.old }
+        requires told { tally.old.told ≡ self.old.components.told }
+        ensures well { OnOk result (EndsWell world.new → EndsWell world.old) }
+        ensures grows { OnOk result (Grows self.old.components self.new.components) }
+        ensures sound { OnOk result ((w : WorldView) → IsSound w self.old
+            → IsKey self.old.components w world.old key.now → EndsWell world.new → IsSound w self.new) }
+    {
+        let most = if self.are_given { LEARNT_MAX } else { 0 };
+        let mut key = key.copy(alloc)?;
+        for _turn in 0..most {
+            let Some(actor) = self.next_actor(&key, world) else {
+                break;
+            };
+            key = self.go_on_by(alloc, &key, world, tally, actor)?;
+        }
+        Ok(())
     }
 
     // The key after the actor's turn, found by a run of the world's list and on to the end. NoMemory where memory ran
@@ -328,6 +420,10 @@ impl<T: CopyTree + Drop> KnownTurns<T> {
             world.give_up(alloc);
             return Err(NoMemory);
         };
+        if self.learn(alloc, &key, &mut world, &mut tally).is_err() {
+            world.give_up(alloc);
+            return Err(NoMemory);
+        }
         // Whoever lacked memory tells of it in the end.
         let _report = told(alloc, world)?;
         Ok(key)

@@ -1,6 +1,4 @@
 //! What holds of every call and of all schedules: laws, the contracts of functions without a body.
-ghost use Rattle.std.specs.Prelude.{◌≡◌};
-ghost use Rattle.explore.specs.declared.jobs.TheConstants.{JOBS_MAX};
 ghost use Rattle.explore.specs.Concluded.{FoundClassesHaveLeasts, CountsConclude};
 ghost use Rattle.explore.specs.Search.{ChosenListsStandForAll, ReportsAreOfFullLists, FullListsAreReported};
 ghost use Rattle.explore.specs.Merged.{WordsAreLists};
@@ -41,9 +39,4 @@ pub fn words_are_lists()
 pub fn counts_conclude()
     ensures leasts { FoundClassesHaveLeasts }
     ensures merged { CountsConclude }
-{}
-
-/// A search uses at most 64 threads.
-pub fn jobs_limit_is_a_number()
-    ensures { JOBS_MAX ≡ 64 }
 {}

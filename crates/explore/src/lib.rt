@@ -14,9 +14,8 @@
 //! and a list of turns that leads there (`layer.rt`). What a turn comes to depends on the nodes, the actor's part, and
 //! how full the book is (`world_counts.rt`); so the search remembers it by these (`memo.rt`, `specs/Effects.antt`). It
 //! finds a turn that it doesn't know by a run from the beginning (`replayed.rt`), and on to the end: whoever lacked
-//! memory tells so there (`known_turns.rt`). Where it has several threads, they make the runs for a layer before it is
-//! gone on from (`prefetching.rt`, `runs.rt`). The configurations of lists on the worlds make a graph, and the laws say
-//! that its words are the lists.
+//! memory tells so there. The turns after it that aren't known are found by the same run (`known_turns.rt`). The
+//! configurations of lists on the worlds make a graph, and the laws say that its words are the lists.
 //!
 //! Where it is asked for, what an actor changes outside of its root (`specs/Outside.antt`) is a part of an outcome:
 //! worlds are taken for one then only where each actor has made as many such changes.
@@ -31,7 +30,6 @@ mod ends;
 mod fingerprint;
 mod found;
 mod handle_tables;
-mod jobs;
 mod keys;
 mod known_turns;
 mod laws;
@@ -41,14 +39,13 @@ mod local_laws;
 mod memo;
 mod nodes;
 mod out_of_memory;
+mod outcome_table;
 mod outside;
 mod parts;
 mod passing;
-mod prefetching;
 mod progress;
 mod replayed;
 mod report_laws;
-mod runs;
 mod same;
 mod scene;
 mod search;
@@ -60,10 +57,8 @@ mod world_counts;
 
 pub use beginnings::Beginnings;
 pub use found::{Class, Ending, Findings};
-pub use jobs::{JOBS_MAX, Jobs};
 pub use laws::{
-    chosen_lists_stand_for_all, counts_conclude, jobs_limit_is_a_number, out_of_memory_is_told,
-    words_are_lists,
+    chosen_lists_stand_for_all, counts_conclude, out_of_memory_is_told, words_are_lists,
 };
 pub use limits::{Limits, Scope, SearchFault};
 pub use local_laws::{same_parts_go_alike, turns_are_local};

@@ -1,77 +1,108 @@
 //! The parts that one actor has in worlds, each once: all that its turns depend on beside the nodes.
-ghost use Rattle.std.specs.Prelude.{◌≡◌, ◌↔◌, ◌<◌, [], ◌∷◌, ◌++◌, ℕ, length, IsTrue, IfOk, IfSome, IfNone, OnOk, OnErr};
+ghost use Rattle.std.specs.Prelude.{◌≡◌, ◌↔◌, ◌<◌, [], ℕ, List, length, IsTrue, IfOk, IfSome, IfNone, OnOk};
+ghost use Rattle.race_core.specs.declared.report.Outcome.{Outcome};
 ghost use Rattle.race_core.specs.Book.{tree_now};
 ghost use Rattle.race_core.specs.Worlds.{WorldView, is_busy_at, is_within_at};
-ghost use Rattle.explore.specs.HandleTables.{HasHandleTable};
-ghost use Rattle.explore.specs.Keys.{AreApartParts, IsPartIn};
+ghost use Rattle.explore.specs.Distinct.{AreEachOnce};
+ghost use Rattle.explore.specs.HandleTables.{HasHandleTable, IsPartOf, HasOutcomes};
+ghost use Rattle.explore.specs.Keys.{AreApartParts, HasMore, IsPartIn};
 ghost use Rattle.explore.specs.Layers.{Keeps};
 ghost use Rattle.explore.specs.Local.{AreNumbered, SamePartAt};
 
 use crate::handle_tables::HandleTable;
+use crate::outcome_table::OutcomeTable;
 use path_text::NoMemory;
-use race_core::{CopyTree, World};
+use race_core::{Seat, World};
 use std::alloc::Global;
 use std::marker::Model;
 use tree_model::{OpenHandle, Tree};
 
-/// A world in which the actor has a part, which stands for all such worlds; and what it holds there. Contracts see it
-/// as a `PartView`.
-struct Part<T: Tree> {
-    world: World<T>,
+/// What is kept of an actor's part in a world: nothing of the tree, of the history and of the other actors. Contracts
+/// see it as a `PartView`.
+struct Part {
+    // All that the actor has to do and holds but for the outcomes of its calls.
+    seat: Seat,
+    // The places of these among the outcomes that were met.
+    outcomes: Vec<usize>,
     handle_table: HandleTable,
     // Whether the actor has something left to do, and a call under way.
     busy: bool,
     within: bool,
 }
 
-impl<T: Tree> Model for Part<T> {
+impl Model for Part {
     ghost use Rattle.explore.specs.HandleTables.{PartView};
 
     ghost Value = { PartView };
 
-    ghost view = { λ p. record { world = p.world; handle_table = p.handle_table; busy = p.busy; within = p.within } };
+    ghost view = { λ p. record {
+      seat = p.seat;
+      outcomes = p.outcomes.items;
+      handle_table = p.handle_table;
+      busy = p.busy;
+      within = p.within;
+    } };
 }
 
-/// The parts of the actor of that number, no two of them the same, each known by its place. Contracts see them as a
-/// `PartsView`.
-pub(crate) struct Parts<T: Tree> {
+/// The parts of the actor of that number, no two of them the same, each known by its place. They can't be let go: the
+/// calls under way in them are given up. Contracts see them as a `PartsView`.
+pub(crate) struct Parts {
     actor: u32,
-    parts: Vec<Part<T>>,
+    outcomes: OutcomeTable,
+    parts: Vec<Part>,
 }
 
-impl<T: Tree> Model for Parts<T> {
-    ghost use Rattle.std.specs.Prelude.{map};
-    ghost use Rattle.explore.specs.HandleTables.{PartView, ArePartsOf};
+impl Model for Parts {
+    ghost use Rattle.explore.specs.HandleTables.{ArePartsOf};
     ghost use Rattle.explore.specs.Keys.{PartsView};
 
     ghost Value = { PartsView };
 
-    ghost view = { λ p. record { actor = p.actor; worlds = map (λ (part : PartView). part.world) p.parts.items } };
+    ghost view = { λ p. record { actor = p.actor; outcomes = p.outcomes; parts = p.parts.items } };
 
-    ghost invariant = { λ p. ArePartsOf p.actor p.parts.items };
+    ghost invariant = { λ p. ArePartsOf p.actor p.outcomes p.parts.items };
 }
 
-impl<T: Tree> Part<T> {
-    // Whether the actor of that number, who holds that in the world, has this part there.
-    fn is_in(&self, world: &World<T>, handle_table: &HandleTable, actor: u32) -> bool
-        requires here { HasHandleTable world.now actor handle_table.now }
-        requires there { HasHandleTable self.now.world actor self.now.handle_table }
-        ensures { IsTrue result ↔ SamePartAt world.now self.now.world actor }
+// Whether the same places stand in both.
+fn same_places(places: &[usize], others: &[usize]) -> bool
+    ensures { IsTrue result ↔ (places.now ≡ others.now) }
+{
+    places == others
+}
+
+impl Part {
+    // Whether the actor of that number, which holds that, and whose calls ended with the outcomes at those places, has
+    // this part in the world.
+    fn is_in<T: Tree>(
+        &self,
+        world: &World<T>,
+        outcomes: &[usize],
+        handle_table: &HandleTable,
+        actor: u32,
+    ) -> bool
+        requires { HasHandleTable world.now actor handle_table.now }
+        ensures { (table : List Outcome) (v : WorldView) → AreEachOnce table
+            → HasOutcomes table world.now actor outcomes.now → IsPartOf table v actor self.now
+            → (IsTrue result ↔ SamePartAt world.now v actor) }
     {
+        if !same_places(outcomes, self.outcomes.as_slice()) {
+            return false;
+        }
         if !handle_table.is_like(&self.handle_table) {
             return false;
         }
-        world.is_like_at(&self.world, actor as usize)
+        world.is_like_seat(actor as usize, &self.seat)
     }
 }
 
-impl<T: Tree> Parts<T> {
+impl Parts {
     /// No part yet.
-    pub(crate) fn new(alloc: Global, actor: u32) -> Parts<T>
-        ensures { result ≡ record { actor = actor; worlds = [] } }
+    pub(crate) fn new(alloc: Global, actor: u32) -> Parts
+        ensures { result ≡ record { actor = actor; outcomes = []; parts = [] } }
     {
         Parts {
             actor,
+            outcomes: OutcomeTable::new(alloc),
             parts: Vec::new(alloc),
         }
     }
@@ -100,84 +131,74 @@ impl<T: Tree> Parts<T> {
     pub(crate) fn are_apart(&self)
         ensures { AreApartParts self.now }
     {
-        let _ = &self.parts;
+        self.outcomes.are_once();
     }
 
     // How many there are.
     fn len(&self) -> usize
-        ensures { result ≡ length self.now.worlds }
+        ensures { result ≡ length self.now.parts }
     {
         self.parts.len()
     }
 
-    // The place of the part that the actor, who holds that, has in the world. Where there is none, no part is the same.
-    fn place_of(&self, world: &World<T>, handle_table: &HandleTable) -> Option<usize>
-        requires { HasHandleTable world.now self.now.actor handle_table.now }
+    // The place of the part that the actor, which holds that, and whose calls ended with the outcomes at those places,
+    // has in the world. Where there is none, no part is the same.
+    fn place_of<T: Tree>(
+        &self,
+        world: &World<T>,
+        outcomes: &[usize],
+        handle_table: &HandleTable,
+    ) -> Option<usize>
+        requires handle_table { HasHandleTable world.now self.now.actor handle_table.now }
+        requires outcomes { HasOutcomes self.now.outcomes world.now self.now.actor outcomes.now }
         ensures there { IfSome result (λ at. IsPartIn self.now world.now at) }
         ensures nowhere { IfNone result ((at : ℕ) → IsPartIn self.now world.now at → ⊥) }
     {
+        self.outcomes.are_once();
         for at in 0..self.parts.len() {
             let part = &self.parts[at];
-            if part.is_in(world, handle_table, self.actor) {
+            if part.is_in(world, outcomes, handle_table, self.actor) {
                 return Some(at);
             }
         }
         None
     }
 
-    // Puts a new part, which the actor, who holds that, has in the world, after the others. The world comes back where
-    // room was refused.
-    fn push(&mut self, world: World<T>, handle_table: HandleTable) -> Result<(), World<T>>
-        requires handle_table { HasHandleTable world self.old.actor handle_table }
-        requires new { (at : ℕ) → IsPartIn self.old world at → ⊥ }
+    // Puts a new part after the others: the one that the actor, who holds that, and whose calls ended with the outcomes
+    // at those places, has in the world. NoMemory where its room was refused.
+    fn push<T: Tree>(
+        &mut self,
+        alloc: Global,
+        world: &World<T>,
+        outcomes: Vec<usize>,
+        handle_table: HandleTable,
+    ) -> Result<(), NoMemory>
+        requires handle_table { HasHandleTable world.now self.old.actor handle_table }
+        requires outcomes { HasOutcomes self.old.outcomes world.now self.old.actor outcomes.items }
+        requires new { (at : ℕ) → IsPartIn self.old world.now at → ⊥ }
         ensures actor { self.new.actor ≡ self.old.actor }
-        ensures added { OnOk result (self.new.worlds ≡ self.old.worlds ++ world ∷ []) }
-        ensures kept { OnErr result (self.new.worlds ≡ self.old.worlds) }
+        ensures outcomes { self.new.outcomes ≡ self.old.outcomes }
+        ensures keeps { Keeps self.old.parts self.new.parts }
+        ensures there { OnOk result (IsPartIn self.new world.now (length self.old.parts)) }
     {
-        let (busy, within) = (
-            world.has_turns(self.actor),
-            world.is_within_call(self.actor),
-        );
-        if self.parts.reserve(1).is_err() {
-            return Err(world);
-        }
+        let actor = self.actor;
+        let (busy, within) = (world.has_turns(actor), world.is_within_call(actor));
+        self.parts.reserve(1)?;
+        // The seat comes last, since it can't be let go.
+        let seat = world.seat_without_outcomes(alloc, actor as usize)?;
         self.parts.push_reserved(Part {
-            world,
+            seat,
+            outcomes,
             handle_table,
             busy,
             within,
         });
         Ok(())
     }
-}
-
-impl<T: CopyTree + Drop> Parts<T> {
-    // Puts it there, of a copy of the world. NoMemory where room was refused.
-    fn add(
-        &mut self,
-        alloc: Global,
-        world: &World<T>,
-        handle_table: HandleTable,
-    ) -> Result<(), NoMemory>
-        requires handle_table { HasHandleTable world.now self.old.actor handle_table }
-        requires new { (at : ℕ) → IsPartIn self.old world.now at → ⊥ }
-        ensures actor { self.new.actor ≡ self.old.actor }
-        ensures added { OnOk result (self.new.worlds ≡ self.old.worlds ++ world.now ∷ []) }
-        ensures kept { OnErr result (self.new.worlds ≡ self.old.worlds) }
-    {
-        let copy = world.copy(alloc)?;
-        match self.push(copy, handle_table) {
-            Ok(()) => Ok(()),
-            Err(copy) => {
-                copy.give_up(alloc);
-                Err(NoMemory)
-            }
-        }
-    }
 
     /// The place of the part that the actor has in that world, in whose tree these handles were given; it is put after
-    /// the others where none is the same. NoMemory where its room was refused: the parts are as they were then.
-    pub(crate) fn put(
+    /// the others where none is the same. NoMemory where room was refused: there is no new part then.
+    pub(crate) fn put<T: Tree>(
         &mut self,
         alloc: Global,
         world: &World<T>,
@@ -186,35 +207,36 @@ impl<T: CopyTree + Drop> Parts<T> {
         requires opened { opened.now ≡ (tree_now world.now.book).handles }
         requires there { self.old.actor < length world.now.seats }
         requires numbered { AreNumbered world.now.seats }
-        ensures actor { self.new.actor ≡ self.old.actor }
-        ensures keeps { Keeps self.old.worlds self.new.worlds }
+        ensures more { HasMore self.old self.new }
         ensures there { IfOk result (λ at. IsPartIn self.new world.now at) }
     {
         let handle_table = HandleTable::of(alloc, world, opened, self.actor)?;
-        if let Some(at) = self.place_of(world, &handle_table) {
+        let ended = world.outcomes(self.actor as usize);
+        let outcomes = self.outcomes.put_all(alloc, ended)?;
+        if let Some(at) = self.place_of(world, outcomes.as_slice(), &handle_table) {
             return Ok(at);
         }
         let at = self.len();
-        self.add(alloc, world, handle_table)?;
+        self.push(alloc, world, outcomes, handle_table)?;
         Ok(at)
     }
-}
 
-impl<T: Tree + Drop> Parts<T> {
-    /// Gives up the worlds that configuration for the parts.
-    pub(crate) fn give_up(self, alloc: Global) {
+    /// Gives up the seats that are kept, in a world that has no part in them.
+    pub(crate) fn give_up<T: Tree>(self, alloc: Global, scrap: &mut World<T>) {
         let Parts {
             actor: _,
+            outcomes: _,
             mut parts,
         } = self;
         while let Some(part) = parts.pop() {
             let Part {
-                world,
+                seat,
+                outcomes: _,
                 handle_table: _,
                 busy: _,
                 within: _,
             } = part;
-            world.give_up(alloc);
+            scrap.give_up_seat(alloc, seat);
         }
         parts.destroy_empty();
     }

@@ -28,13 +28,11 @@ use crate::cost::no_cost;
 use crate::edges::{all_edges, all_go_on};
 use crate::ends::graph_nodes_of;
 use crate::found::{Class, Findings};
-use crate::jobs::Jobs;
 use crate::keys::Key;
 use crate::known_turns::KnownTurns;
 use crate::layer::{ACTORS_IN_PLACE, Configuration, Layer, Visited};
 use crate::limits::{Bounds, Limits, Scope, SearchFault};
 use crate::passing::{Passed, go_on};
-use crate::prefetching::prefetch;
 use crate::progress::Progress;
 use crate::replayed::{ended, replay, turns_of};
 use crate::transitions::{Choice, listed};
@@ -43,8 +41,6 @@ use race_core::{ACTORS_MAX, CopyTree, World};
 use schedule_graph::{Count, Graph};
 use smallvec::SmallVec;
 use std::alloc::Global;
-use std::marker::{Send, Sync};
-use std::thread::Threads;
 use tree_model::Tree;
 
 // Whether the world of a layer that came first goes to its end with memory for it.
@@ -174,10 +170,8 @@ fn spread(
 //
 // Errors: TooManyStates where it would have more than so many; NoMemory where room was refused, and where the actor
 // who alone may have the turn can't have it: memory ran short on the way then.
-fn pass<T: CopyTree + Drop + Send, B: Beginnings<T>, R: Threads + Sync>(
+fn pass<T: CopyTree + Drop, B: Beginnings<T>>(
     alloc: Global,
-    threads: &R,
-    jobs: Jobs,
     beginnings: &B,
     bounds: Bounds,
     room: u64,
@@ -207,8 +201,7 @@ fn pass<T: CopyTree + Drop + Send, B: Beginnings<T>, R: Threads + Sync>(
         → states + room ≡ limits.states → IfErr result (WhyNot (B.opening beginnings.now) limits) }
 {
     let (transitions, choices) = listed(alloc, bounds, turns.components(), layer)?;
-    let (worlds, transitions) = (layer.worlds.as_slice(), transitions.as_slice());
-    prefetch(alloc, threads, jobs, beginnings, worlds, transitions, turns)?;
+    let transitions = transitions.as_slice();
     let passed = go_on(alloc, beginnings, room, layer, transitions, turns, classes)?;
     turns.are_interned();
     let Passed {
@@ -241,10 +234,8 @@ fn pass<T: CopyTree + Drop + Send, B: Beginnings<T>, R: Threads + Sync>(
 //
 // Errors: TooManyTurns where a list has more turns than the limit; TooManyStates where there are more states than the
 // limit; NoMemory where room was refused.
-fn layers<T: CopyTree + Drop + Send, B: Beginnings<T>, P: Progress, R: Threads + Sync>(
+fn layers<T: CopyTree + Drop, B: Beginnings<T>, P: Progress>(
     alloc: Global,
-    threads: &R,
-    jobs: Jobs,
     beginnings: &B,
     limits: &Limits,
     progress: &mut P,
@@ -276,7 +267,7 @@ fn layers<T: CopyTree + Drop + Send, B: Beginnings<T>, P: Progress, R: Threads +
         let room = limits.states - states;
         let bounds = limits.scope.bounds(graph.depth());
         let (next, more) = pass(
-            alloc, threads, jobs, beginnings, bounds, room, &layer, turns, graph, classes,
+            alloc, beginnings, bounds, room, &layer, turns, graph, classes,
         )?;
         layer = next;
         states += more;
@@ -296,10 +287,8 @@ fn layers<T: CopyTree + Drop + Send, B: Beginnings<T>, P: Progress, R: Threads +
 //
 // Errors: TooManyActors over 64; TooManyTurns where a list has more turns than the limit; TooManyStates where there
 // are more states than the limit; NoMemory where room was refused.
-fn search<T: CopyTree + Drop + Send, B: Beginnings<T>, P: Progress, R: Threads + Sync>(
+fn search<T: CopyTree + Drop, B: Beginnings<T>, P: Progress>(
     alloc: Global,
-    threads: &R,
-    jobs: Jobs,
     beginnings: &B,
     limits: &Limits,
     progress: &mut P,
@@ -322,7 +311,7 @@ fn search<T: CopyTree + Drop + Send, B: Beginnings<T>, P: Progress, R: Threads +
     }
     let (mut turns, key) = begun(alloc, beginnings, limits.scope.outside)?;
     let states = layers(
-        alloc, threads, jobs, beginnings, limits, progress, key, &mut turns, graph, classes,
+        alloc, beginnings, limits, progress, key, &mut turns, graph, classes,
     );
     turns.give_up(alloc);
     states
@@ -378,16 +367,14 @@ fn told_classes<T: Tree + Drop, B: Beginnings<T>>(
 /// Goes through every full list of turns of that scope, and tells each outcome once, with the number of its lists
 /// and the least of them. Of worlds in which each actor has the same part, on the same nodes, one is gone on from;
 /// where changes outside of roots are told, of those in which each actor has made as many. After each layer `progress`
-/// is told how many states there were. It uses at most so many threads; with one it starts none. What is found doesn't
-/// depend on their number. Where the lists are to begin with some turns, these are taken first in a world of their own.
+/// is told how many states there were. Where the lists are to begin with some turns, these are taken first in a world
+/// of their own.
 ///
 /// Errors: TooManyActors over 64; NotBusy and TooManyCuts of the first turn that the lists are to begin with and can't;
 /// TooManyTurns where a list has more turns than the limit; TooManyStates where there are more states than the limit;
 /// NoMemory where room was refused, in a world's run too. There are no findings then.
-pub fn explore<T: CopyTree + Drop + Send, B: Beginnings<T>, P: Progress, R: Threads + Sync>(
+pub fn explore<T: CopyTree + Drop, B: Beginnings<T>, P: Progress>(
     alloc: Global,
-    threads: &R,
-    jobs: Jobs,
     beginnings: &B,
     limits: &Limits,
     progress: &mut P,
@@ -403,8 +390,6 @@ pub fn explore<T: CopyTree + Drop + Send, B: Beginnings<T>, P: Progress, R: Thre
     let mut classes = Vec::new(alloc);
     let states = search(
         alloc,
-        threads,
-        jobs,
         beginnings,
         limits,
         progress,

@@ -19,7 +19,6 @@ use crate::limits::Bounds;
 use path_text::NoMemory;
 use smallvec::SmallVec;
 use std::alloc::Global;
-use tree_model::Tree;
 
 /// An actor's turn from a world, and the first configuration on it from which the actor may go.
 #[derive(Clone, Copy, Debug, Default, PartialEq, Eq)]
@@ -77,12 +76,12 @@ fn transition_at(
 
 // All who may have the next turn from the configuration at that place, on the world of that key, with that cost. The
 // world's transitions grow by theirs. NoMemory where room was refused.
-fn choices_at<T: Tree>(
+fn choices_at(
     alloc: Global,
     bounds: Bounds,
     configuration: usize,
     cost: Cost,
-    components: &Components<T>,
+    components: &Components,
     key: &Key,
     transitions: &mut SmallVec<Transition, ACTORS_IN_PLACE>,
 ) -> Result<SmallVec<Choice, ACTORS_IN_PLACE>, NoMemory>
@@ -127,10 +126,10 @@ fn no_transitions(
 
 /// The transitions from each world of the layer, and of each configuration all who may have the next turn. NoMemory
 /// where room was refused.
-pub(crate) fn listed<T: Tree>(
+pub(crate) fn listed(
     alloc: Global,
     bounds: Bounds,
-    components: &Components<T>,
+    components: &Components,
     layer: &Layer,
 ) -> Result<
     (

@@ -2,9 +2,8 @@
 use Rattle.std.specs.Prelude.{⊤, ◌≡◌, ◌<◌, ◌≤◌, ◌^◌, ◌⊎◌, ℕ, List, [], ◌∷◌, ◌++◌, Bool, true, false, length, map, decimal, Option, Some, None}
 use Rattle.std.specs.Borrow.{Bor}
 use Rattle.std.specs.List.{list_all}
-use Rattle.explore.specs.declared.jobs.Jobs.{Jobs}
 use Rattle.outcome_text.specs.declared.asked.OptionFault.{OptionFault}
-use Rattle.outcome_text.specs.declared.asked.OptionFault.TheVariants.{Actor, Cuts, Begin, States, Jobs as JobsOption, Memory, Text, NoMemory}
+use Rattle.outcome_text.specs.declared.asked.OptionFault.TheVariants.{Actor, Cuts, Begin, States, Memory, Text, NoMemory}
 use Rattle.outcome_text.specs.declared.asked.Options.{Options}
 use Rattle.explore_command.specs.declared.gauge.TheConstants.{MEMORY_MAX}
 use Rattle.explore_command.specs.declared.options.TheConstants.{CUTS_MAX, STATES_MAX, STATES}
@@ -50,13 +49,6 @@ IsNoBegin None = ⊥
 IsNoBegin (Some text) = ((turns : List Turns) → SaysTurns text.now turns → ⊥)
     ⊎ ((turns : List Turns) × (SaysTurns text.now turns × (TURNS_MAX < length (turns_of turns))))
 
--- no number of threads, or the one that the text says
-abbrev pub SaysJobs : Option (Bor (List ℕ)) → Option Jobs → Type 0
-SaysJobs None None = ⊤
-SaysJobs None (Some jobs) = ⊥
-SaysJobs (Some text) None = ⊥
-SaysJobs (Some text) (Some jobs) = text.now ≡ decimal jobs.count
-
 -- no limit of megabytes, or the one that the text says
 abbrev pub SaysMemory : Option (Bor (List ℕ)) → Option ℕ → Type 0
 SaysMemory None None = ⊤
@@ -96,7 +88,6 @@ pub record AreAsked (options : Options) (asked : Asked) : Type 0 where
   pub begin : SaysBegin options.begin asked.limits.scope.begin.items
   pub states : SaysMost options.states asked.limits.states
   pub turns : asked.limits.turns ≡ TURNS_MAX
-  pub jobs : SaysJobs options.jobs asked.jobs
   pub memory : SaysMemory options.memory asked.memory
   pub outside : asked.limits.scope.outside ≡ options.outside
   pub properties : asked.properties.items ≡ properties_asked options
@@ -118,14 +109,11 @@ IsOptionFault options Begin =
 IsOptionFault options States =
     IsSaid (SaysActors options) × IsSaid (SaysCuts options.cuts) × IsSaid (SaysBegin options.begin)
     × IsUnsaid (SaysMost options.states)
-IsOptionFault options JobsOption =
-    IsSaid (SaysActors options) × IsSaid (SaysCuts options.cuts) × IsSaid (SaysBegin options.begin)
-    × IsSaid (SaysMost options.states) × IsUnsaid (SaysJobs options.jobs)
 IsOptionFault options Memory =
     IsSaid (SaysActors options) × IsSaid (SaysCuts options.cuts) × IsSaid (SaysBegin options.begin)
-    × IsSaid (SaysMost options.states) × IsSaid (SaysJobs options.jobs) × IsUnsaid (SaysMemory options.memory)
+    × IsSaid (SaysMost options.states) × IsUnsaid (SaysMemory options.memory)
 IsOptionFault options Text =
     IsSaid (SaysActors options) × IsSaid (SaysCuts options.cuts) × IsSaid (SaysBegin options.begin)
-    × IsSaid (SaysMost options.states) × IsSaid (SaysJobs options.jobs) × IsSaid (SaysMemory options.memory)
+    × IsSaid (SaysMost options.states) × IsSaid (SaysMemory options.memory)
     × (are_properties options.outside (property_texts options) ≡ false)
 IsOptionFault options NoMemory = ⊤

@@ -21,7 +21,7 @@ mod seal;
 mod search;
 mod waiter;
 
-pub use explore::{JOBS_MAX, Jobs, Progress, Silent};
+pub use explore::{Progress, Silent};
 pub use gauge::{Gauge, MEGABYTE, MEMORY_MAX, peak_in};
 pub use laws::{
     explore_limits_are_numbers, outcomes_without_cuts_are_of_whole_calls,

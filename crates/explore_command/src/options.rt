@@ -2,12 +2,12 @@
 ghost use Rattle.std.specs.Prelude.{◌≡◌, ◌≢◌, ◌≤◌, ◌<◌, ◌++◌, ℕ, true, false, length, replicate, OnOk, IfOk, MatchOption, MatchResult, decimal};
 ghost use Rattle.scripts.specs.Turns.{turns_of};
 ghost use Rattle.outcome_text.specs.declared.asked.OptionFault.TheVariants as option_fault;
-ghost use Rattle.explore_command.specs.Options.{AllSay, SaysCuts, SaysBegin, IsNoBegin, SaysMost, SaysJobs, SaysMemory, IsUnsaid, are_properties, properties_by, property_texts, properties_asked, AreAsked, IsOptionFault};
+ghost use Rattle.explore_command.specs.Options.{AllSay, SaysCuts, SaysBegin, IsNoBegin, SaysMost, SaysMemory, IsUnsaid, are_properties, properties_by, property_texts, properties_asked, AreAsked, IsOptionFault};
 ghost use Rattle.outcome_text.specs.Asked.{texts_in};
 
 use crate::gauge::MEMORY_MAX;
 use crate::search::{Asked, TURNS_MAX};
-use explore::{JOBS_MAX, Jobs, Limits, Scope};
+use explore::{Limits, Scope};
 use outcome_text::{OptionFault, Options, Property, Rule, read_property};
 use path_text::NoMemory;
 use scripts::{Turns, number_of, read_turns};
@@ -121,23 +121,6 @@ fn states_in(text: Option<&str>) -> Result<u64, OptionFault>
     }
 }
 
-// How many threads a text says, if there is a text.
-fn jobs_in(text: Option<&str>) -> Result<Option<Jobs>, OptionFault>
-    ensures { MatchResult result (SaysJobs text.entry)
-        (λ fault. (fault ≡ option_fault.Jobs) × IsUnsaid (SaysJobs text.entry)) }
-{
-    let Some(text) = text else {
-        return Ok(None);
-    };
-    let Some(number) = number_within(text, 1, JOBS_MAX as u32) else {
-        return Err(OptionFault::Jobs);
-    };
-    match Jobs::new(number as usize) {
-        Some(jobs) => Ok(Some(jobs)),
-        None => unreachable!(),
-    }
-}
-
 // How many megabytes a text says, if there is a text.
 fn memory_in(text: Option<&str>) -> Result<Option<u32>, OptionFault>
     ensures { MatchResult result (SaysMemory text.entry)
@@ -203,10 +186,10 @@ fn properties_in(alloc: Global, options: &Options) -> Result<Vec<Property>, Opti
 /// `always`.
 ///
 /// Errors, in this order: `Actor` where one of `actors` is no number below 2^32; `Cuts` where `cuts` is no number up
-/// to 1,000,000; `States` where `states` is no number from 1 to 10,000,000; `Jobs` where `jobs` is no number from 1 to
-/// 64; `Memory` where `memory` is no number from 1 to 1,000,000; `Text` where one of `when`, `never` or `always` is no
-/// property's (`read_property`); `NoMemory` where room was refused, whatever else is wrong. Numbers are written in
-/// decimal digits, with no zero before them.
+/// to 1,000,000; `Begin` where `begin` says no turns, or more than 100,000; `States` where `states` is no number from 1
+/// to 10,000,000; `Memory` where `memory` is no number from 1 to 1,000,000; `Text` where one of `when`, `never` or
+/// `always` is no property's (`read_property`); `NoMemory` where room was refused, whatever else is wrong. Numbers are
+/// written in decimal digits, with no zero before them.
 pub fn read_asked(alloc: Global, options: Options) -> Result<Asked, OptionFault>
     ensures { MatchResult result (AreAsked options.entry) (IsOptionFault options.entry) }
 {
@@ -216,7 +199,6 @@ pub fn read_asked(alloc: Global, options: Options) -> Result<Asked, OptionFault>
     let cuts = cuts_in(options.cuts)?;
     let begin = begin_in(alloc, options.begin)?;
     let states = states_in(options.states)?;
-    let jobs = jobs_in(options.jobs)?;
     let memory = memory_in(options.memory)?;
     let properties = properties_in(alloc, &options)?;
     let scope = Scope {
@@ -232,7 +214,6 @@ pub fn read_asked(alloc: Global, options: Options) -> Result<Asked, OptionFault>
     Ok(Asked {
         named,
         limits,
-        jobs,
         memory,
         properties,
     })

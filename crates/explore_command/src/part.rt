@@ -8,12 +8,11 @@ ghost use Rattle.outcome_text.specs.Unfound.{unfound_by};
 ghost use Rattle.explore.specs.Opened.{opened_world};
 
 use crate::gauge::{Bounded, Gauge, look, told_over};
-use crate::search::{Asked, check, jobs_of, told_in};
-use explore::{Jobs, Limits, Progress, Scene, Scope, SearchFault, Silent, explore};
+use crate::search::{Asked, check, told_in};
+use explore::{Limits, Progress, Scene, Scope, SearchFault, Silent, explore};
 use outcome_text::{ExploreFault, Part};
 use path_text::NoMemory;
 use std::alloc::Global;
-use std::thread::Threads;
 
 /// Adds one more.
 pub(crate) fn add<T: Drop>(all: &mut Vec<T>, one: T) -> Result<(), NoMemory>
@@ -33,9 +32,8 @@ fn copy_of(alloc: Global, turns: &[u32]) -> Result<Vec<u32>, NoMemory>
 }
 
 // Whether a list can begin with these turns: a search that may go through no world only sees to that.
-fn may_begin<R: Threads + Sync>(
+fn may_begin(
     alloc: Global,
-    threads: &R,
     scene: &Scene,
     limits: &Limits,
     begin: Vec<u32>,
@@ -53,7 +51,7 @@ fn may_begin<R: Threads + Sync>(
         turns: limits.turns,
         scope,
     };
-    match explore(alloc, threads, Jobs::one(), scene, &none, &mut Silent) {
+    match explore(alloc, scene, &none, &mut Silent) {
         Ok(_) | Err(SearchFault::TooManyStates | SearchFault::TooManyTurns) => Ok(true),
         Err(SearchFault::NotBusy(_) | SearchFault::TooManyCuts(_)) => Ok(false),
         Err(SearchFault::TooManyActors | SearchFault::NoMemory) => Err(NoMemory),
@@ -61,9 +59,8 @@ fn may_begin<R: Threads + Sync>(
 }
 
 // Who might have the turn after these: nobody is left out who can have it.
-fn who_might<R: Threads + Sync>(
+fn who_might(
     alloc: Global,
-    threads: &R,
     scene: &Scene,
     limits: &Limits,
     turns: &[u32],
@@ -77,7 +74,7 @@ fn who_might<R: Threads + Sync>(
     for actor in 0..scene.plans.len() as u32 {
         let mut begin = copy_of(alloc, turns)?;
         add(&mut begin, actor)?;
-        if may_begin(alloc, threads, scene, limits, begin)? {
+        if may_begin(alloc, scene, limits, begin)? {
             add(&mut might, actor)?;
         }
     }
@@ -85,9 +82,8 @@ fn who_might<R: Threads + Sync>(
 }
 
 // Who might have each of the first turns that are asked for, so many.
-fn all_might<R: Threads + Sync>(
+fn all_might(
     alloc: Global,
-    threads: &R,
     scene: &Scene,
     limits: &Limits,
     turns: usize,
@@ -102,20 +98,14 @@ fn all_might<R: Threads + Sync>(
     let begin = limits.scope.begin.as_slice();
     let mut all = Vec::new(alloc);
     for at in 0..turns {
-        let might = who_might(alloc, threads, scene, limits, &begin[..at])?;
+        let might = who_might(alloc, scene, limits, &begin[..at])?;
         add(&mut all, might)?;
     }
     Ok(all)
 }
 
 // The part of no lists, whose turn at that place can't be taken.
-fn no_lists<R: Threads + Sync>(
-    alloc: Global,
-    threads: &R,
-    scene: &Scene,
-    limits: &Limits,
-    at: usize,
-) -> Result<Part, NoMemory>
+fn no_lists(alloc: Global, scene: &Scene, limits: &Limits, at: usize) -> Result<Part, NoMemory>
     requires actors { length scene.now.plans.items ≤ MOST_ACTORS }
     requires barred { IsBarredAt (opened_world scene.now.tree scene.now.plans.items scene.now.lines) limits.now
         limits.now.scope.begin.items at }
@@ -136,7 +126,7 @@ fn no_lists<R: Threads + Sync>(
     };
     Ok(Part {
         begin,
-        might: all_might(alloc, threads, scene, limits, turns)?,
+        might: all_might(alloc, scene, limits, turns)?,
         lists: 0,
         turns: 0,
         all: Vec::new(alloc),
@@ -145,9 +135,8 @@ fn no_lists<R: Threads + Sync>(
 
 // The part of the lists that begin with the turns that are asked for. Errors as of `explore`. Where the gauge says too
 // much, there is no memory.
-fn searched<R: Threads + Sync, G: Gauge, P: Progress>(
+fn searched<G: Gauge, P: Progress>(
     alloc: Global,
-    threads: &R,
     scene: &Scene,
     asked: &Asked,
     gauge: &G,
@@ -164,25 +153,18 @@ fn searched<R: Threads + Sync, G: Gauge, P: Progress>(
         gauge,
         memory: asked.memory,
     };
-    let found = match explore(
-        alloc,
-        threads,
-        jobs_of(asked.jobs),
-        &bounded,
-        limits,
-        progress,
-    ) {
+    let found = match explore(alloc, &bounded, limits, progress) {
         Ok(found) => found,
         Err(SearchFault::NotBusy(at)) => {
-            return Ok(no_lists(alloc, threads, scene, limits, at)?);
+            return Ok(no_lists(alloc, scene, limits, at)?);
         }
         Err(SearchFault::TooManyCuts(at)) => {
-            return Ok(no_lists(alloc, threads, scene, limits, at)?);
+            return Ok(no_lists(alloc, scene, limits, at)?);
         }
         Err(fault) => return Err(fault),
     };
     let begin = copy_of(alloc, limits.scope.begin.as_slice())?;
-    let might = all_might(alloc, threads, scene, limits, begin.len())?;
+    let might = all_might(alloc, scene, limits, begin.len())?;
     Ok(Part {
         begin,
         might,
@@ -194,9 +176,8 @@ fn searched<R: Threads + Sync, G: Gauge, P: Progress>(
 
 /// Goes through the lists that begin with the turns that are asked for: gives each outcome, and how the lists begin.
 /// Errors as of `survey_scene`, but that turns which can't be taken make a part of no lists.
-pub fn part_of_scene<R: Threads + Sync, G: Gauge, P: Progress>(
+pub fn part_of_scene<G: Gauge, P: Progress>(
     alloc: Global,
-    threads: &R,
     scene: &Scene,
     asked: &Asked,
     gauge: &G,
@@ -210,7 +191,7 @@ pub fn part_of_scene<R: Threads + Sync, G: Gauge, P: Progress>(
 {
     check(alloc, scene, asked)?;
     look(gauge, asked.memory)?;
-    match searched(alloc, threads, scene, asked, gauge, progress) {
+    match searched(alloc, scene, asked, gauge, progress) {
         Ok(part) => {
             look(gauge, asked.memory)?;
             Ok(part)

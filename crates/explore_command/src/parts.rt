@@ -12,15 +12,13 @@ use outcome_text::ExploreFault;
 use scripts::{RunFault, TurnOrder, read_scene, read_script};
 use std::alloc::Global;
 use std::io::{Read, Write};
-use std::thread::Threads;
 
 /// Reads a script, goes through the schedules that begin with the turns that are asked for, and writes what they come
 /// to as a line of JSON that `merge_parts` reads, and that ends with its digest.
 ///
 /// Errors as of `explore_script`, but that turns which can't be taken make a part of no schedules.
-pub fn explore_part<Rt: Threads + Sync, R: Read, W: Write, G: Gauge, P: Waiter>(
+pub fn explore_part<R: Read, W: Write, G: Gauge, P: Waiter>(
     alloc: Global,
-    threads: &Rt,
     reader: &mut R,
     writer: &mut W,
     asked: &Asked,
@@ -36,7 +34,7 @@ pub fn explore_part<Rt: Threads + Sync, R: Read, W: Write, G: Gauge, P: Waiter>(
         return Err(ExploreFault::Run(RunFault::BookFull));
     }
     let scene = Scene { tree, plans, lines };
-    let explored = part_of_scene(alloc, threads, &scene, asked, gauge, progress);
+    let explored = part_of_scene(alloc, &scene, asked, gauge, progress);
     progress.over();
     let part = match explored {
         Ok(part) => part,

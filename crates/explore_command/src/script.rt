@@ -12,14 +12,12 @@ use outcome_text::{ExploreFault, Survey};
 use scripts::{RunFault, Scenario, TurnOrder, read_scene};
 use std::alloc::Global;
 use std::io::{Read, Write};
-use std::thread::Threads;
 use tree_list::ListTree;
 
 // All schedules of what a script says gone through. Errors as of `explore_script`, but for those of reading and
 // writing.
-fn surveyed<Rt: Threads + Sync, G: Gauge, P: Progress>(
+fn surveyed<G: Gauge, P: Progress>(
     alloc: Global,
-    threads: &Rt,
     scenario: Scenario,
     tree: ListTree,
     asked: &Asked,
@@ -40,7 +38,7 @@ fn surveyed<Rt: Threads + Sync, G: Gauge, P: Progress>(
         return Err(ExploreFault::Run(RunFault::BookFull));
     }
     let scene = Scene { tree, plans, lines };
-    match survey_scene(alloc, threads, &scene, asked, gauge, progress) {
+    match survey_scene(alloc, &scene, asked, gauge, progress) {
         Ok(survey) => Ok(survey),
         Err(fault) => Err(fault),
     }
@@ -49,7 +47,7 @@ fn surveyed<Rt: Threads + Sync, G: Gauge, P: Progress>(
 /// Reads a script, goes through all schedules of its world, those with at most so many cuts that begin with the turns
 /// that are asked for, and writes what they come to. The script's own schedule is checked and not used. The result is
 /// whether no property fails. On the way `progress` gets the number of worlds so far, and then that the search is
-/// over. What is written is the same on any number of threads.
+/// over.
 ///
 /// Errors, in this order: those of `read_scenario`; `BookFull` where the script gives its book fewer lines than it
 /// has actors; `NoSuchActor` of the first that is named and isn't there; `NoSuchLine` of the first property that
@@ -59,9 +57,8 @@ fn surveyed<Rt: Threads + Sync, G: Gauge, P: Progress>(
 /// `TooManyStates` where there are more worlds than are gone through, `TooManyTurns` where a schedule has more turns
 /// than the limit, and `TooMuchMemory`, whichever is met first; `NoMemory`; `WriteFailed`. Nothing is written before
 /// the text is whole.
-pub fn explore_script<Rt: Threads + Sync, R: Read, W: Write, G: Gauge, P: Waiter>(
+pub fn explore_script<R: Read, W: Write, G: Gauge, P: Waiter>(
     alloc: Global,
-    threads: &Rt,
     reader: &mut R,
     writer: &mut W,
     asked: &Asked,
@@ -73,7 +70,7 @@ pub fn explore_script<Rt: Threads + Sync, R: Read, W: Write, G: Gauge, P: Waiter
         (WhyTooMuch (G.may_say gauge.now)) }
 {
     let (scenario, tree) = read_scene(alloc, reader, &TurnOrder::OfScript)?;
-    let explored = surveyed(alloc, threads, scenario, tree, asked, gauge, progress);
+    let explored = surveyed(alloc, scenario, tree, asked, gauge, progress);
     progress.over();
     let survey = explored?;
     match writer.write_all(survey.text.as_slice()) {

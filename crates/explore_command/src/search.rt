@@ -1,5 +1,5 @@
 //! All schedules of a world gone through, and the text of their outcomes.
-ghost use Rattle.std.specs.Prelude.{◌≡◌, ◌≤◌, length, find, nat_le, IfErr, IfOk, IfSome, MatchResult};
+ghost use Rattle.std.specs.Prelude.{◌≡◌, ◌≤◌, length, find, nat_le, IfErr, IfOk, MatchResult};
 ghost use Rattle.race_core.specs.declared.opening.TheConstants.{ACTORS_MAX as MOST_ACTORS};
 ghost use Rattle.explore_command.specs.Surveyed.{IsOfThese, IsTelling, IsSurveyWith, WhyNoSurvey};
 ghost use Rattle.outcome_text.specs.Conditions.{counted};
@@ -10,11 +10,10 @@ ghost use Rattle.explore_command.specs.Gauge.{IsOfNoGauge, SaysNoMore, WhyTooMuc
 
 use crate::classes::tell_all;
 use crate::gauge::{Bounded, Gauge, look, told_over};
-use explore::{Class, Findings, Jobs, Limits, Progress, Scene, SearchFault, explore};
+use explore::{Class, Findings, Limits, Progress, Scene, SearchFault, explore};
 use outcome_text::{ExploreFault, Property, Survey, Told, first_untold, told_in_order};
 use path_text::NoMemory;
 use std::alloc::Global;
-use std::thread::Threads;
 use tree_list::ListTree;
 use tree_model::Tree;
 
@@ -29,8 +28,6 @@ pub struct Asked {
     /// Which lists are gone through, whether it is told how many steps of each actor acted outside of its root, and how
     /// many worlds are gone through at most.
     pub limits: Limits,
-    /// On how many threads they are gone through; with none on one. It makes no difference to what is told.
-    pub jobs: Option<Jobs>,
     /// How many megabytes may be taken at most; with none any number.
     pub memory: Option<u32>,
     /// Which reports count, and properties of each of these, whatever actors are named.
@@ -47,16 +44,6 @@ fn first_foreign(named: &[u32], actors: usize) -> Option<u32>
         }
     }
     None
-}
-
-/// On how many threads worlds are gone through: on as many as are asked for, or on one.
-pub(crate) fn jobs_of(asked: Option<Jobs>) -> Jobs
-    ensures { IfSome asked (λ jobs. result ≡ jobs) }
-{
-    if let Some(jobs) = asked {
-        return jobs;
-    }
-    Jobs::one()
 }
 
 /// What the text says of each outcome that was found. NoMemory where room was refused.
@@ -112,9 +99,8 @@ pub(crate) fn check(alloc: Global, scene: &Scene, asked: &Asked) -> Result<(), E
 
 // All lists gone through, and the text of what was found. Errors as of `explore`. Where the gauge says too much, there
 // is no memory.
-fn searched<R: Threads + Sync, G: Gauge, P: Progress>(
+fn searched<G: Gauge, P: Progress>(
     alloc: Global,
-    threads: &R,
     scene: &Scene,
     asked: &Asked,
     gauge: &G,
@@ -126,13 +112,12 @@ fn searched<R: Threads + Sync, G: Gauge, P: Progress>(
         (IsSurveyWith asked.now scene.now.tree scene.now.plans.items scene.now.lines)
         (λ fault. WhyNoSurvey asked.now scene.now.tree scene.now.plans.items scene.now.lines (unfound_by fault)) }
 {
-    let jobs = jobs_of(asked.jobs);
     let bounded = Bounded {
         scene,
         gauge,
         memory: asked.memory,
     };
-    match explore(alloc, threads, jobs, &bounded, &asked.limits, progress) {
+    match explore(alloc, &bounded, &asked.limits, progress) {
         Ok(found) => Ok(survey_of(alloc, scene, asked, found)?),
         Err(fault) => Err(fault),
     }
@@ -144,9 +129,9 @@ fn searched<R: Threads + Sync, G: Gauge, P: Progress>(
 /// whether each property holds of every one. Where a property is a condition, only the lists whose report has its line
 /// count. The outcomes that are told of come beside, in the order of their least lists. Outcomes are compared with
 /// their new nodes numbered anew, so these numbers make no difference between them. The number of steps that acted
-/// outside does, where it is asked for. The number of threads makes none. On the way `progress` gets the number of
-/// worlds so far. Where a limit of memory is asked for, `gauge` is looked at first, then before each world that is
-/// made, and after all; it isn't looked at otherwise.
+/// outside does, where it is asked for. On the way `progress` gets the number of worlds so far. Where a limit of memory
+/// is asked for, `gauge` is looked at first, then before each world that is made, and after all; it isn't looked at
+/// otherwise.
 ///
 /// Errors, in this order: `NoSuchActor` of the first that is named and isn't there; `NoSuchLine` of the first
 /// property that names an actor who isn't there, a call that its actor doesn't have, or a reply that begins with other
@@ -154,9 +139,8 @@ fn searched<R: Threads + Sync, G: Gauge, P: Progress>(
 /// says more already than the limit; `NotBusy` and `TooManyCuts` of the first turn of the beginning that can't be
 /// taken; `TooManyStates` and `TooManyTurns` beyond the limits, and `TooMuchMemory`, whichever is met first; `NoMemory`
 /// where room was refused, and where the world can't be made.
-pub fn survey_scene<R: Threads + Sync, G: Gauge, P: Progress>(
+pub fn survey_scene<G: Gauge, P: Progress>(
     alloc: Global,
-    threads: &R,
     scene: &Scene,
     asked: &Asked,
     gauge: &G,
@@ -171,7 +155,7 @@ pub fn survey_scene<R: Threads + Sync, G: Gauge, P: Progress>(
 {
     check(alloc, scene, asked)?;
     look(gauge, asked.memory)?;
-    match searched(alloc, threads, scene, asked, gauge, progress) {
+    match searched(alloc, scene, asked, gauge, progress) {
         Ok(survey) => {
             look(gauge, asked.memory)?;
             Ok(survey)

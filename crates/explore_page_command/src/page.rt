@@ -16,7 +16,6 @@ use path_text::NoMemory;
 use scripts::{RunFault, Scenario, TurnOrder, read_scene};
 use std::alloc::Global;
 use std::io::{Read, Write};
-use std::thread::Threads;
 use step_text::Output;
 use tree_list::ListTree;
 
@@ -28,9 +27,8 @@ struct Exploration {
 }
 
 // The page of all schedules of what a script says. Errors as of `explore_page`, but for those of reading and writing.
-fn explored<Rt: Threads + Sync, G: Gauge, P: Progress>(
+fn explored<G: Gauge, P: Progress>(
     alloc: Global,
-    threads: &Rt,
     scenario: Scenario,
     tree: ListTree,
     asked: &Asked,
@@ -54,7 +52,7 @@ fn explored<Rt: Threads + Sync, G: Gauge, P: Progress>(
         return Err(ExplorePageFault::Explore(ExploreFault::Run(RunFault::BookFull)));
     }
     let scene = Scene { tree, plans, lines };
-    let survey = match survey_scene(alloc, threads, &scene, asked, gauge, progress) {
+    let survey = match survey_scene(alloc, &scene, asked, gauge, progress) {
         Ok(survey) => survey,
         Err(fault) => return Err(ExplorePageFault::Explore(fault)),
     };
@@ -76,9 +74,8 @@ fn explored<Rt: Threads + Sync, G: Gauge, P: Progress>(
 /// that follow it of `explore_script`; `TooManyLines` where a run that is played has more than 2,000 events, or its
 /// picture more than 2,000 lines; `NoMemory`; `WriteFailed`. Nothing is written before the page is whole.
 #[tactic(auto, using(crate::proofs::Pages::text_some))]
-pub fn explore_page<Rt: Threads + Sync, R: Read, W: Write, G: Gauge, P: Waiter>(
+pub fn explore_page<R: Read, W: Write, G: Gauge, P: Waiter>(
     alloc: Global,
-    threads: &Rt,
     reader: &mut R,
     writer: &mut W,
     asked: &Asked,
@@ -91,7 +88,7 @@ pub fn explore_page<Rt: Threads + Sync, R: Read, W: Write, G: Gauge, P: Waiter>(
         (WhyPageTookTooMuch (G.may_say gauge.now)) }
 {
     let (scenario, tree) = read_scene(alloc, reader, &TurnOrder::OfScript)?;
-    let shown = explored(alloc, threads, scenario, tree, asked, gauge, progress);
+    let shown = explored(alloc, scenario, tree, asked, gauge, progress);
     progress.over();
     let shown = shown?;
     match writer.write_all(shown.page.as_slice()) {

@@ -13,8 +13,8 @@ pub record AreOne (classes : List ClassView) (lists turns : ℕ) (others : List 
   pub longest : turns ≡ long
   pub told : IsPermutation classes others
 
--- Two answers to what a search is asked for are one. So however it is carried out, on however many threads, what it
--- tells of the lists is the same but for the order of the classes.
+-- Two answers to what a search is asked for are one. So however it is carried out, what it tells of the lists is the
+-- same but for the order of the classes.
 abbrev pub AnswersAreOne : Type 0
 AnswersAreOne = (w : WorldView) (scope : Scope) (classes others : List ClassView) (lists turns many long : ℕ)
     → IsMerged w scope classes lists turns → IsMerged w scope others many long

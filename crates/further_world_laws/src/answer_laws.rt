@@ -4,8 +4,8 @@ ghost use Rattle.further_world_laws.specs.Parts.{AllBeginningsCover, PartsMakeTh
 
 /// There is one answer to what all schedules of a world come to, or those with few cuts. Two answers of which
 /// `IsMerged` of `explore` holds tell the same: as many lists, as many turns in the longest, and the same outcomes,
-/// each with the same least list, report and number of lists. So however a search is carried out, on however many
-/// threads, it tells the same but for the order of its classes and the number of its states.
+/// each with the same least list, report and number of lists. So however a search is carried out, it tells the same but
+/// for the order of its classes and the number of its states.
 pub fn answers_are_one()
     ensures { AnswersAreOne }
 {}

@@ -139,7 +139,7 @@ fn judged(holds: bool) -> Result<(), Fault> {
     }
 }
 
-/// Does it, over a script. Only `run` and `explore` start threads.
+/// Does it, over a script. Only `run` starts threads.
 fn perform<R: Threads + Wait + Sync, S: Read>(
     rt: &HostRuntime,
     threads: &R,
@@ -179,13 +179,13 @@ fn perform<R: Threads + Wait + Sync, S: Read>(
             let mut waiting = Waiting::new(rt, asked.limits.states);
             let taken = Taken::new(rt);
             let (told, wait) = (&mut output, &mut waiting);
-            return judged(explore_script(alloc, threads, script, told, asked, &taken, wait)?);
+            return judged(explore_script(alloc, script, told, asked, &taken, wait)?);
         }
         Task::ExplorePage(asked) => {
             let mut waiting = Waiting::new(rt, asked.limits.states);
             let taken = Taken::new(rt);
             let (told, wait) = (&mut output, &mut waiting);
-            return match explore_page(alloc, threads, script, told, asked, &taken, wait) {
+            return match explore_page(alloc, script, told, asked, &taken, wait) {
                 Ok(holds) => judged(holds),
                 Err(ExplorePageFault::Explore(fault)) => Err(Fault::from(fault)),
                 Err(ExplorePageFault::Draw(fault)) => Err(Fault::from(fault)),
@@ -195,7 +195,7 @@ fn perform<R: Threads + Wait + Sync, S: Read>(
             let mut waiting = Waiting::new(rt, asked.limits.states);
             let taken = Taken::new(rt);
             let (told, wait) = (&mut output, &mut waiting);
-            explore_part(alloc, threads, script, told, asked, &taken, wait)?;
+            explore_part(alloc, script, told, asked, &taken, wait)?;
         }
         Task::Merge => return judged(merge_parts(alloc, script, &mut output)?),
     }

@@ -12,7 +12,6 @@ pub struct Options<'a> {
     pub cuts: Option<&'a str>,
     pub begin: Option<&'a str>,
     pub states: Option<&'a str>,
-    pub jobs: Option<&'a str>,
     pub memory: Option<&'a str>,
     pub outside: bool,
     pub when: &'a [&'a str],
@@ -31,8 +30,6 @@ pub enum OptionFault {
     Begin,
     #[error("--states is a number from 1 to 10000000")]
     States,
-    #[error("--jobs is a number from 1 to 64")]
-    Jobs,
     #[error("--memory is a number from 1 to 1000000")]
     Memory,
     #[error("--when, --never and --always take a line's beginning: reply, row or held, or outside with --outside, and words after it")]

@@ -5,7 +5,6 @@ use explore_command::{Gauge, Silent, explore_part, explore_script, peak_in};
 use outcome_text::ExploreFault;
 use std::alloc::Global;
 use std::test::Fail;
-use std::thread::Threads;
 
 /// A gauge that says so many bytes, or nothing.
 #[derive(Drop)]
@@ -45,18 +44,18 @@ const CASES: [Case; 7] = [
 ];
 
 /// Whether a search, or the search of a part, ends as it should, and nothing is written before a fault.
-fn ends_so<R: Threads + Sync>(alloc: Global, threads: &R, case: &Case, part: bool) -> Option<bool> {
+fn ends_so(alloc: Global, case: &Case, part: bool) -> Option<bool> {
     let (memory, bytes, wanted) = case;
-    let mut asked = asked_of(alloc, &all_within(None), "1", "")?;
+    let mut asked = asked_of(alloc, &all_within(None), "")?;
     asked.memory = *memory;
     let gauge = Says { bytes: *bytes };
     let mut reader = REMOVED.as_bytes();
     let mut text = Vec::new(alloc);
     let (told, wait) = (&mut text, &mut Silent);
     let ended = if part {
-        explore_part(alloc, threads, &mut reader, told, &asked, &gauge, wait)
+        explore_part(alloc, &mut reader, told, &asked, &gauge, wait)
     } else {
-        match explore_script(alloc, threads, &mut reader, told, &asked, &gauge, wait) {
+        match explore_script(alloc, &mut reader, told, &asked, &gauge, wait) {
             Ok(_) => Ok(()),
             Err(fault) => Err(fault),
         }
@@ -65,9 +64,9 @@ fn ends_so<R: Threads + Sync>(alloc: Global, threads: &R, case: &Case, part: boo
 }
 
 /// The place of the first case, from 0, that ends otherwise.
-fn first_wrong<R: Threads + Sync>(alloc: Global, threads: &R, part: bool) -> Option<usize> {
+fn first_wrong(alloc: Global, part: bool) -> Option<usize> {
     for (at, case) in CASES.iter().enumerate() {
-        if ends_so(alloc, threads, case, part) != Some(true) {
+        if ends_so(alloc, case, part) != Some(true) {
             return Some(at);
         }
     }
@@ -77,7 +76,7 @@ fn first_wrong<R: Threads + Sync>(alloc: Global, threads: &R, part: bool) -> Opt
 #[test]
 fn searches_end_by_their_gauge(rt: HostRuntime) -> Result<(), Fail> {
     for part in [false, true] {
-        assert_eq!(rt; first_wrong(rt.alloc(), &rt, part), None);
+        assert_eq!(rt; first_wrong(rt.alloc(), part), None);
     }
     Ok(())
 }

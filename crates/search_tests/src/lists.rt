@@ -1,8 +1,6 @@
 //! What searches find, beside what each list of turns comes to in a world of its own.
 use crate::scenes::{REMOVED, TWO_MAKE, TWO_RESOLVE, scene_of};
-use explore::{
-    Beginnings, Class, Findings, Jobs, Limits, Scene, Scope, SearchFault, Silent, explore,
-};
+use explore::{Beginnings, Class, Findings, Limits, Scene, Scope, SearchFault, Silent, explore};
 use fixtures::{PLAIN, standing_of};
 use path_text::NoMemory;
 use race_core::{Outcomes, Planned, Report, World, like_outcomes};
@@ -10,7 +8,6 @@ use root_ops::{Op, Request};
 use scripts::RunFault;
 use std::alloc::Global;
 use std::test::Fail;
-use std::thread::Threads;
 use tree_list::ListTree;
 use tree_model::{Actor, Tree, same_nodes};
 
@@ -141,11 +138,7 @@ fn are_counted(
 }
 
 /// What is found of all lists.
-fn found<R: Threads + Sync>(
-    alloc: Global,
-    threads: &R,
-    scene: &Scene,
-) -> Result<Findings<ListTree>, SearchFault> {
+fn found(alloc: Global, scene: &Scene) -> Result<Findings<ListTree>, SearchFault> {
     let limits = Limits {
         states: 1_000,
         turns: 100,
@@ -155,29 +148,24 @@ fn found<R: Threads + Sync>(
             begin: Vec::new(alloc),
         },
     };
-    explore(alloc, threads, Jobs::one(), scene, &limits, &mut Silent)
+    explore(alloc, scene, &limits, &mut Silent)
 }
 
 /// Whether the search finds what the lists come to, each by itself.
-fn is_found<R: Threads + Sync>(
-    alloc: Global,
-    threads: &R,
-    scene: &Scene,
-    size: Size,
-) -> Result<bool, NoMemory> {
-    match found(alloc, threads, scene) {
+fn is_found(alloc: Global, scene: &Scene, size: Size) -> Result<bool, NoMemory> {
+    match found(alloc, scene) {
         Ok(found) => are_counted(alloc, scene, size, &found),
         Err(_) => Ok(false),
     }
 }
 
 /// The place of the first case, from 0, of which something else is found.
-fn first_wrong<R: Threads + Sync>(alloc: Global, threads: &R) -> Result<Option<usize>, RunFault> {
+fn first_wrong(alloc: Global) -> Result<Option<usize>, RunFault> {
     for (at, case) in CASES.iter().enumerate() {
         let (script, lines, size) = case;
         let mut scene = scene_of(alloc, script)?;
         scene.lines = *lines;
-        if !is_found(alloc, threads, &scene, *size)? {
+        if !is_found(alloc, &scene, *size)? {
             return Ok(Some(at));
         }
     }
@@ -186,7 +174,7 @@ fn first_wrong<R: Threads + Sync>(alloc: Global, threads: &R) -> Result<Option<u
 
 #[test]
 fn each_list_comes_to_what_is_found(rt: HostRuntime) -> Result<(), Fail> {
-    assert_eq!(rt; first_wrong(rt.alloc(), &rt)?, None);
+    assert_eq!(rt; first_wrong(rt.alloc())?, None);
     Ok(())
 }
 
@@ -203,17 +191,17 @@ fn scene_of_a_number(alloc: Global) -> Option<Scene> {
 }
 
 /// How many outcomes there are, if what is found is what the lists come to.
-fn outcomes_of_a_number<R: Threads + Sync>(alloc: Global, threads: &R) -> Option<usize> {
+fn outcomes_of_a_number(alloc: Global) -> Option<usize> {
     let scene = scene_of_a_number(alloc)?;
-    if !is_found(alloc, threads, &scene, (5, 32)).ok()? {
+    if !is_found(alloc, &scene, (5, 32)).ok()? {
         return None;
     }
-    let found = found(alloc, threads, &scene).ok()?;
+    let found = found(alloc, &scene).ok()?;
     Some(found.classes.len())
 }
 
 // The handle is closed, or it isn't the actor's.
 #[test]
 fn numbers_that_were_not_given_are_told_apart(rt: HostRuntime) {
-    assert_eq!(rt; outcomes_of_a_number(rt.alloc(), &rt), Some(2));
+    assert_eq!(rt; outcomes_of_a_number(rt.alloc()), Some(2));
 }

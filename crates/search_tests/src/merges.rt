@@ -6,7 +6,6 @@ use outcome_text::{ExploreFault, MergeFault, Part, SearchFault, merge};
 use scripts::{RunFault, ScriptFault};
 use std::alloc::Global;
 use std::io::{self, ErrorKind, Read};
-use std::thread::Threads;
 
 /// A beginning, who might have each of its turns, and how many schedules begin so.
 type Begun = (&'static [u32], &'static [&'static [u32]], u64);
@@ -196,23 +195,19 @@ const LINES: [Lines; 18] = [
 ];
 
 /// Parts as lines.
-fn lines_of<R: Threads + Sync>(alloc: Global, threads: &R, parts: &[Line]) -> Option<Vec<u8>> {
+fn lines_of(alloc: Global, parts: &[Line]) -> Option<Vec<u8>> {
     let mut lines = Vec::new(alloc);
     for (script, cuts, begin) in parts {
-        let asked = asked_of(alloc, &all_within(*cuts), "1", *begin)?;
-        add_part(alloc, threads, &mut lines, script, &asked)?;
+        let asked = asked_of(alloc, &all_within(*cuts), *begin)?;
+        add_part(alloc, &mut lines, script, &asked)?;
     }
     Some(lines)
 }
 
 /// Why lines make no whole, if they make none. Then nothing may be written, and else something is.
-fn fault_of<R: Threads + Sync>(
-    alloc: Global,
-    threads: &R,
-    lines: &Lines,
-) -> Option<Option<MergeFault>> {
+fn fault_of(alloc: Global, lines: &Lines) -> Option<Option<MergeFault>> {
     let (parts, more, _) = lines;
-    let mut text = lines_of(alloc, threads, parts)?;
+    let mut text = lines_of(alloc, parts)?;
     text.extend_from_slice(more.as_bytes()).ok()?;
     let mut reader = text.as_slice();
     let mut written: Vec<u8> = Vec::new(alloc);
@@ -225,10 +220,10 @@ fn fault_of<R: Threads + Sync>(
 }
 
 /// The place of the first lines, from 0, that make a whole otherwise than is wanted, or make none.
-fn first_wrong<R: Threads + Sync>(alloc: Global, threads: &R) -> Option<usize> {
+fn first_wrong(alloc: Global) -> Option<usize> {
     for (at, lines) in LINES.iter().enumerate() {
         let (_, _, wanted) = lines;
-        if fault_of(alloc, threads, lines) != Some(*wanted) {
+        if fault_of(alloc, lines) != Some(*wanted) {
             return Some(at);
         }
     }
@@ -237,7 +232,7 @@ fn first_wrong<R: Threads + Sync>(alloc: Global, threads: &R) -> Option<usize> {
 
 #[test]
 fn lines_that_make_no_whole_are_refused(rt: HostRuntime) {
-    assert_eq!(rt; first_wrong(rt.alloc(), &rt), None);
+    assert_eq!(rt; first_wrong(rt.alloc()), None);
 }
 
 /// Whether lines of which these bits of that byte are changed are refused as none that were written, or as changed, and
@@ -255,8 +250,8 @@ fn is_refused(alloc: Global, lines: &[u8], at: usize, bits: u8) -> Option<bool> 
 }
 
 /// The place of the first byte of two parts' lines of which a bit may be changed: of each byte another bit.
-fn first_taken<R: Threads + Sync>(alloc: Global, threads: &R) -> Option<usize> {
-    let lines = lines_of(alloc, threads, &[LINE_1, LINE_0])?;
+fn first_taken(alloc: Global) -> Option<usize> {
+    let lines = lines_of(alloc, &[LINE_1, LINE_0])?;
     for (at, _) in lines.iter().enumerate() {
         if is_refused(alloc, &lines, at, 1 << (at % 8)) != Some(true) {
             return Some(at);
@@ -267,8 +262,8 @@ fn first_taken<R: Threads + Sync>(alloc: Global, threads: &R) -> Option<usize> {
 
 #[test]
 fn a_changed_bit_of_each_byte_is_seen(rt: HostRuntime) {
-    assert!(rt; lines_of(rt.alloc(), &rt, &[LINE_1, LINE_0]).is_some());
-    assert_eq!(rt; first_taken(rt.alloc(), &rt), None);
+    assert!(rt; lines_of(rt.alloc(), &[LINE_1, LINE_0]).is_some());
+    assert_eq!(rt; first_taken(rt.alloc()), None);
 }
 
 /// A script, what is asked of it, the most states, and why no part is told.
@@ -312,15 +307,14 @@ const UNTOLD: [Untold; 5] = [
 ];
 
 /// Why no part is told, if nothing is written.
-fn untold<R: Threads + Sync>(alloc: Global, threads: &R, case: &Untold) -> Option<ExploreFault> {
+fn untold(alloc: Global, case: &Untold) -> Option<ExploreFault> {
     let (script, question, states, _) = case;
-    let mut asked = asked_of(alloc, question, "1", "")?;
+    let mut asked = asked_of(alloc, question, "")?;
     asked.limits.states = *states;
     let mut reader = script.as_bytes();
     let mut written: Vec<u8> = Vec::new(alloc);
     let told = explore_part(
         alloc,
-        threads,
         &mut reader,
         &mut written,
         &asked,
@@ -331,10 +325,10 @@ fn untold<R: Threads + Sync>(alloc: Global, threads: &R, case: &Untold) -> Optio
 }
 
 /// The place of the first of these, from 0, that is told, or untold for another reason.
-fn first_told<R: Threads + Sync>(alloc: Global, threads: &R) -> Option<usize> {
+fn first_told(alloc: Global) -> Option<usize> {
     for (at, case) in UNTOLD.iter().enumerate() {
         let (_, _, _, wanted) = case;
-        if untold(alloc, threads, case) != Some(*wanted) {
+        if untold(alloc, case) != Some(*wanted) {
             return Some(at);
         }
     }
@@ -343,7 +337,7 @@ fn first_told<R: Threads + Sync>(alloc: Global, threads: &R) -> Option<usize> {
 
 #[test]
 fn parts_are_refused_as_scripts_are(rt: HostRuntime) {
-    assert_eq!(rt; first_told(rt.alloc(), &rt), None);
+    assert_eq!(rt; first_told(rt.alloc()), None);
 }
 
 /// A reader of a text, a few bytes at a time, whose second read fails.
@@ -382,8 +376,8 @@ fn made_halting(
 }
 
 /// Whether an interrupted read is tried again, and another one that fails ends the merge.
-fn reads_whole<R: Threads + Sync>(alloc: Global, threads: &R) -> Option<bool> {
-    let lines = lines_of(alloc, threads, [LINE_1, LINE_0].as_slice())?;
+fn reads_whole(alloc: Global) -> Option<bool> {
+    let lines = lines_of(alloc, [LINE_1, LINE_0].as_slice())?;
     let (text, _) = merged(alloc, &lines)?;
     let (again, _) = made_halting(alloc, &lines, ErrorKind::Interrupted).ok()?;
     let failed = made_halting(alloc, &lines, ErrorKind::ConnectionReset).err();
@@ -391,8 +385,8 @@ fn reads_whole<R: Threads + Sync>(alloc: Global, threads: &R) -> Option<bool> {
 }
 
 /// Why no whole is written into a room of 20 bytes.
-fn unwritten<R: Threads + Sync>(alloc: Global, threads: &R) -> Option<MergeFault> {
-    let lines = lines_of(alloc, threads, [LINE_1, LINE_0].as_slice())?;
+fn unwritten(alloc: Global) -> Option<MergeFault> {
+    let lines = lines_of(alloc, [LINE_1, LINE_0].as_slice())?;
     let mut reader = lines.as_slice();
     let mut room = [0u8; 20];
     let mut writer = room.as_mut_slice();
@@ -401,13 +395,13 @@ fn unwritten<R: Threads + Sync>(alloc: Global, threads: &R) -> Option<MergeFault
 
 #[test]
 fn merges_end_where_reads_and_writes_fail(rt: HostRuntime) {
-    assert_eq!(rt; reads_whole(rt.alloc(), &rt), Some(true));
-    assert_eq!(rt; unwritten(rt.alloc(), &rt), Some(MergeFault::WriteFailed));
+    assert_eq!(rt; reads_whole(rt.alloc()), Some(true));
+    assert_eq!(rt; unwritten(rt.alloc()), Some(MergeFault::WriteFailed));
 }
 
 /// Why no part is told of a script whose second read fails.
-fn unread_part<R: Threads + Sync>(alloc: Global, threads: &R) -> Option<ExploreFault> {
-    let asked = asked_of(alloc, &all_within(None), "1", "0")?;
+fn unread_part(alloc: Global) -> Option<ExploreFault> {
+    let asked = asked_of(alloc, &all_within(None), "0")?;
     let mut reader = Halting {
         text: REMOVED.as_bytes(),
         kind: ErrorKind::ConnectionReset,
@@ -416,7 +410,6 @@ fn unread_part<R: Threads + Sync>(alloc: Global, threads: &R) -> Option<ExploreF
     let mut written: Vec<u8> = Vec::new(alloc);
     explore_part(
         alloc,
-        threads,
         &mut reader,
         &mut written,
         &asked,
@@ -427,14 +420,13 @@ fn unread_part<R: Threads + Sync>(alloc: Global, threads: &R) -> Option<ExploreF
 }
 
 /// Why no part is written into a room of 20 bytes.
-fn unwritten_part<R: Threads + Sync>(alloc: Global, threads: &R) -> Option<ExploreFault> {
-    let asked = asked_of(alloc, &all_within(None), "1", "0")?;
+fn unwritten_part(alloc: Global) -> Option<ExploreFault> {
+    let asked = asked_of(alloc, &all_within(None), "0")?;
     let mut reader = REMOVED.as_bytes();
     let mut room = [0u8; 20];
     let mut writer = room.as_mut_slice();
     explore_part(
         alloc,
-        threads,
         &mut reader,
         &mut writer,
         &asked,
@@ -448,6 +440,6 @@ fn unwritten_part<R: Threads + Sync>(alloc: Global, threads: &R) -> Option<Explo
 fn parts_end_where_reads_and_writes_fail(rt: HostRuntime) {
     let read = ExploreFault::Run(RunFault::ReadFailed);
     let write = ExploreFault::Run(RunFault::WriteFailed);
-    assert_eq!(rt; unread_part(rt.alloc(), &rt), Some(read));
-    assert_eq!(rt; unwritten_part(rt.alloc(), &rt), Some(write));
+    assert_eq!(rt; unread_part(rt.alloc()), Some(read));
+    assert_eq!(rt; unwritten_part(rt.alloc()), Some(write));
 }

@@ -1,5 +1,5 @@
 //! What is asked by the texts of options. Which texts are none are command lines of `explore`.
-use explore_command::{Jobs, read_asked};
+use explore_command::read_asked;
 use outcome_text::{OptionFault, Options, Rule, replies_have_heads};
 use std::alloc::Global;
 use std::test::Fail;
@@ -9,7 +9,6 @@ const NONE: Options<'static> = Options {
     cuts: None,
     begin: None,
     states: None,
-    jobs: None,
     memory: None,
     outside: false,
     when: &[],
@@ -22,7 +21,6 @@ const ALL: Options<'static> = Options {
     cuts: Some("1000000"),
     begin: Some("1,0*2"),
     states: Some("1"),
-    jobs: Some("64"),
     memory: Some("1000000"),
     outside: true,
     when: &["outside 1 0"],
@@ -41,7 +39,6 @@ fn reads_all(alloc: Global) -> Result<bool, OptionFault> {
             && asked.limits.scope.cuts == Some(1_000_000)
             && asked.limits.scope.begin.as_slice() == [1, 0, 0].as_slice()
             && asked.limits.states == 1
-            && asked.jobs == Jobs::new(64)
             && asked.memory == Some(1_000_000)
             && asked.limits.scope.outside
             && rules == [Rule::When, Rule::Never, Rule::Always, Rule::Always],
@@ -55,7 +52,6 @@ fn reads_none(alloc: Global) -> Result<bool, OptionFault> {
             && asked.limits.scope.cuts.is_none()
             && asked.limits.scope.begin.is_empty()
             && asked.limits.states == 100_000
-            && asked.jobs.is_none()
             && asked.memory.is_none(),
     )
 }

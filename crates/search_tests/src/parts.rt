@@ -1,6 +1,6 @@
 //! Parts of searches: what each tells, and that parts which have all schedules make what the whole search writes.
 use crate::scenes::{CARRIED_OUT, MOVED_OUT, REMOVED, THREE_MAKE, TWO_MAKE, TWO_RESOLVE, scene_of};
-use explore::{Jobs, Scene, explore};
+use explore::{Scene, explore};
 use explore_command::{
     Asked, Silent, explore_part, explore_script, merge_parts, part_of_scene, read_asked,
     survey_scene,
@@ -9,7 +9,6 @@ use outcome_text::{Options, Part, Survey, merge};
 use race_core::ACTORS_MAX;
 use std::alloc::Global;
 use std::test::Fail;
-use std::thread::Threads;
 
 /// The actors that are named, the most cuts, whether steps outside of roots are counted, and the properties by `never`
 /// and by `always`.
@@ -105,13 +104,8 @@ const COVERS: [Cover; 5] = [
     &["0,2", "2", "0,0", "1", "0,1"],
 ];
 
-/// What is asked of the schedules that begin so, on so many threads.
-pub fn asked_of(
-    alloc: Global,
-    question: &Question,
-    jobs: &'static str,
-    begin: &'static str,
-) -> Option<Asked> {
+/// What is asked of the schedules that begin so.
+pub fn asked_of(alloc: Global, question: &Question, begin: &'static str) -> Option<Asked> {
     let (actors, cuts, outside, never, always) = question;
     let when: &'static [&'static str] = &[];
     let options = Options {
@@ -119,7 +113,6 @@ pub fn asked_of(
         cuts: *cuts,
         begin: if begin.is_empty() { None } else { Some(begin) },
         states: None,
-        jobs: Some(jobs),
         memory: None,
         outside: *outside,
         when,
@@ -130,39 +123,18 @@ pub fn asked_of(
 }
 
 /// Adds a part of what is asked of a script as a line.
-pub fn add_part<R: Threads + Sync>(
-    alloc: Global,
-    threads: &R,
-    lines: &mut Vec<u8>,
-    script: &str,
-    asked: &Asked,
-) -> Option<()> {
+pub fn add_part(alloc: Global, lines: &mut Vec<u8>, script: &str, asked: &Asked) -> Option<()> {
     let mut reader = script.as_bytes();
-    explore_part(
-        alloc,
-        threads,
-        &mut reader,
-        lines,
-        asked,
-        &Silent,
-        &mut Silent,
-    )
-    .ok()
+    explore_part(alloc, &mut reader, lines, asked, &Silent, &mut Silent).ok()
 }
 
 /// The parts of a cover as lines, in the cover's order.
-fn lines_of<R: Threads + Sync>(
-    alloc: Global,
-    threads: &R,
-    case: &Case,
-    jobs: &'static str,
-    cover: Cover,
-) -> Option<Vec<u8>> {
+fn lines_of(alloc: Global, case: &Case, cover: Cover) -> Option<Vec<u8>> {
     let (script, question, _) = case;
     let mut lines = Vec::new(alloc);
     for begin in cover {
-        let asked = asked_of(alloc, question, jobs, *begin)?;
-        add_part(alloc, threads, &mut lines, script, &asked)?;
+        let asked = asked_of(alloc, question, *begin)?;
+        add_part(alloc, &mut lines, script, &asked)?;
     }
     Some(lines)
 }
@@ -176,26 +148,12 @@ pub fn merged(alloc: Global, lines: &[u8]) -> Option<(Vec<u8>, bool)> {
 }
 
 /// What the whole search writes, and whether no property fails.
-fn whole<R: Threads + Sync>(
-    alloc: Global,
-    threads: &R,
-    case: &Case,
-    jobs: &'static str,
-) -> Option<(Vec<u8>, bool)> {
+fn whole(alloc: Global, case: &Case) -> Option<(Vec<u8>, bool)> {
     let (script, question, _) = case;
-    let asked = asked_of(alloc, question, jobs, "")?;
+    let asked = asked_of(alloc, question, "")?;
     let mut reader = script.as_bytes();
     let mut text = Vec::new(alloc);
-    let holds = explore_script(
-        alloc,
-        threads,
-        &mut reader,
-        &mut text,
-        &asked,
-        &Silent,
-        &mut Silent,
-    )
-    .ok()?;
+    let holds = explore_script(alloc, &mut reader, &mut text, &asked, &Silent, &mut Silent).ok()?;
     Some((text, holds))
 }
 
@@ -208,29 +166,18 @@ fn is_without_states(text: &[u8], other: &[u8]) -> Option<bool> {
 }
 
 /// Whether the parts of a cover make what the whole search writes, and properties hold as is wanted.
-fn makes_whole<R: Threads + Sync>(
-    alloc: Global,
-    threads: &R,
-    case: &Case,
-    jobs: &'static str,
-    cover: Cover,
-) -> Option<bool> {
+fn makes_whole(alloc: Global, case: &Case, cover: Cover) -> Option<bool> {
     let (_, _, wanted) = case;
-    let (written, holds) = whole(alloc, threads, case, jobs)?;
-    let lines = lines_of(alloc, threads, case, jobs, cover)?;
+    let (written, holds) = whole(alloc, case)?;
+    let lines = lines_of(alloc, case, cover)?;
     let (text, hold) = merged(alloc, &lines)?;
     Some(is_without_states(&text, &written)? && holds == *wanted && hold == *wanted)
 }
 
 /// The place of the first cover, from 0, whose parts make something else.
-fn wrong_cover<R: Threads + Sync>(
-    alloc: Global,
-    threads: &R,
-    case: &Case,
-    jobs: &'static str,
-) -> Option<usize> {
+fn wrong_cover(alloc: Global, case: &Case) -> Option<usize> {
     for (at, cover) in COVERS.iter().enumerate() {
-        if makes_whole(alloc, threads, case, jobs, *cover) != Some(true) {
+        if makes_whole(alloc, case, *cover) != Some(true) {
             return Some(at);
         }
     }
@@ -238,13 +185,9 @@ fn wrong_cover<R: Threads + Sync>(
 }
 
 /// The place of the first case, from 0, of which the parts of a cover make something else, and of that cover.
-fn first_wrong<R: Threads + Sync>(
-    alloc: Global,
-    threads: &R,
-    jobs: &'static str,
-) -> Option<(usize, usize)> {
+fn first_wrong(alloc: Global) -> Option<(usize, usize)> {
     for (at, case) in CASES.iter().enumerate() {
-        if let Some(place) = wrong_cover(alloc, threads, case, jobs) {
+        if let Some(place) = wrong_cover(alloc, case) {
             return Some((at, place));
         }
     }
@@ -253,36 +196,24 @@ fn first_wrong<R: Threads + Sync>(
 
 #[test]
 fn parts_make_what_the_whole_search_writes(rt: HostRuntime) -> Result<(), Fail> {
-    for jobs in ["1", "3"] {
-        assert_eq!(rt; first_wrong(rt.alloc(), &rt, jobs), None);
-    }
+    assert_eq!(rt; first_wrong(rt.alloc()), None);
     Ok(())
 }
 
 /// What is told of a part, where there may be so many actors.
-fn part_of<R: Threads + Sync>(
-    alloc: Global,
-    threads: &R,
-    scene: &Scene,
-    asked: &Asked,
-) -> Option<Part> {
+fn part_of(alloc: Global, scene: &Scene, asked: &Asked) -> Option<Part> {
     if scene.plans.len() > ACTORS_MAX {
         return None;
     }
-    part_of_scene(alloc, threads, scene, asked, &Silent, &mut Silent).ok()
+    part_of_scene(alloc, scene, asked, &Silent, &mut Silent).ok()
 }
 
 /// What is told of the whole, where there may be so many actors.
-fn survey_of<R: Threads + Sync>(
-    alloc: Global,
-    threads: &R,
-    scene: &Scene,
-    asked: &Asked,
-) -> Option<Survey> {
+fn survey_of(alloc: Global, scene: &Scene, asked: &Asked) -> Option<Survey> {
     if scene.plans.len() > ACTORS_MAX {
         return None;
     }
-    survey_scene(alloc, threads, scene, asked, &Silent, &mut Silent).ok()
+    survey_scene(alloc, scene, asked, &Silent, &mut Silent).ok()
 }
 
 /// A script, the most cuts, and a beginning; who might have each of its turns, up to the first that can't be taken; and
@@ -333,19 +264,19 @@ fn are_same(rows: &[Vec<u32>], others: &[&[u32]]) -> bool {
 }
 
 /// Whether the part of a row is told as the row wants.
-fn is_told<R: Threads + Sync>(alloc: Global, threads: &R, row: &Row) -> Option<bool> {
+fn is_told(alloc: Global, row: &Row) -> Option<bool> {
     let (script, cuts, begin, might, numbers) = row;
     let scene = scene_of(alloc, script).ok()?;
-    let asked = asked_of(alloc, &all_within(*cuts), "1", *begin)?;
-    let part = part_of(alloc, threads, &scene, &asked)?;
+    let asked = asked_of(alloc, &all_within(*cuts), *begin)?;
+    let part = part_of(alloc, &scene, &asked)?;
     let told = (part.lists, part.turns, part.all.len());
     Some(are_same(&part.might, might) && told == *numbers)
 }
 
 /// The place of the first row, from 0, whose part is told otherwise.
-fn first_wrong_row<R: Threads + Sync>(alloc: Global, threads: &R) -> Option<usize> {
+fn first_wrong_row(alloc: Global) -> Option<usize> {
     for (at, row) in ROWS.iter().enumerate() {
-        if is_told(alloc, threads, row) != Some(true) {
+        if is_told(alloc, row) != Some(true) {
             return Some(at);
         }
     }
@@ -354,7 +285,7 @@ fn first_wrong_row<R: Threads + Sync>(alloc: Global, threads: &R) -> Option<usiz
 
 #[test]
 fn parts_tell_who_might_have_turns(rt: HostRuntime) {
-    assert_eq!(rt; first_wrong_row(rt.alloc(), &rt), None);
+    assert_eq!(rt; first_wrong_row(rt.alloc()), None);
 }
 
 /// A script, and how the text begins that its parts make.
@@ -370,16 +301,11 @@ const HEADS: [Head; 5] = [
 ];
 
 /// The parts of a cover.
-fn parts_of<R: Threads + Sync>(
-    alloc: Global,
-    threads: &R,
-    scene: &Scene,
-    cover: Cover,
-) -> Option<Vec<Part>> {
+fn parts_of(alloc: Global, scene: &Scene, cover: Cover) -> Option<Vec<Part>> {
     let mut parts = Vec::new(alloc);
     for begin in cover {
-        let asked = asked_of(alloc, &all_within(None), "1", *begin)?;
-        parts.push(part_of(alloc, threads, scene, &asked)?).ok()?;
+        let asked = asked_of(alloc, &all_within(None), *begin)?;
+        parts.push(part_of(alloc, scene, &asked)?).ok()?;
     }
     Some(parts)
 }
@@ -394,19 +320,14 @@ fn all_lists(parts: &[Part]) -> u64 {
 }
 
 /// Whether the parts of a cover have as many schedules as the whole search finds, and make its text.
-fn comes_to<R: Threads + Sync>(
-    alloc: Global,
-    threads: &R,
-    head: &Head,
-    cover: Cover,
-) -> Option<bool> {
+fn comes_to(alloc: Global, head: &Head, cover: Cover) -> Option<bool> {
     let (script, begins) = head;
     let scene = scene_of(alloc, script).ok()?;
-    let asked = asked_of(alloc, &all_within(None), "1", "")?;
+    let asked = asked_of(alloc, &all_within(None), "")?;
     let limits = &asked.limits;
-    let found = explore(alloc, threads, Jobs::one(), &scene, limits, &mut Silent).ok()?;
-    let survey = survey_of(alloc, threads, &scene, &asked)?;
-    let parts = parts_of(alloc, threads, &scene, cover)?;
+    let found = explore(alloc, &scene, limits, &mut Silent).ok()?;
+    let survey = survey_of(alloc, &scene, &asked)?;
+    let parts = parts_of(alloc, &scene, cover)?;
     let lists = all_lists(&parts);
     let made = merge(alloc, parts, &asked.properties).ok()?;
     let text = made.text.as_slice();
@@ -415,9 +336,9 @@ fn comes_to<R: Threads + Sync>(
 }
 
 /// The place of the first cover, from 0, whose parts come to something else.
-fn wrong_parts<R: Threads + Sync>(alloc: Global, threads: &R, head: &Head) -> Option<usize> {
+fn wrong_parts(alloc: Global, head: &Head) -> Option<usize> {
     for (at, cover) in COVERS.iter().enumerate() {
-        if comes_to(alloc, threads, head, *cover) != Some(true) {
+        if comes_to(alloc, head, *cover) != Some(true) {
             return Some(at);
         }
     }
@@ -427,7 +348,7 @@ fn wrong_parts<R: Threads + Sync>(alloc: Global, threads: &R, head: &Head) -> Op
 #[test]
 fn parts_have_all_schedules(rt: HostRuntime) -> Result<(), Fail> {
     for head in HEADS.iter() {
-        assert_eq!(rt; wrong_parts(rt.alloc(), &rt, head), None);
+        assert_eq!(rt; wrong_parts(rt.alloc(), head), None);
     }
     Ok(())
 }

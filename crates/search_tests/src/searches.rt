@@ -1,15 +1,11 @@
 //! Limits of searches, who is told how far they come, and how many states there are. What searches find are outputs of
 //! `explore`.
 use crate::scenes::{CARRIED_OUT, MOVED_OUT, REMOVED, TWO_RESOLVE, scene_of};
-use explore::{
-    Class, Findings, JOBS_MAX, Jobs, Limits, Progress, Scene, Scope, SearchFault, Silent, explore,
-};
+use explore::{Limits, Progress, Scene, Scope, SearchFault, explore};
 use path_text::NoMemory;
 use scripts::RunFault;
 use std::alloc::Global;
 use std::test::Fail;
-use std::thread::Threads;
-use tree_list::ListTree;
 
 /// The last number of states that was told.
 #[derive(Drop)]
@@ -76,45 +72,28 @@ const SEARCHES: [Search; 12] = [
 ];
 
 /// What is found, with 0 states where the last number that was told is another one.
-fn found<R: Threads + Sync>(
-    alloc: Global,
-    threads: &R,
-    jobs: Jobs,
-    scene: &Scene,
-    limits: &Limits,
-) -> Result<Found, SearchFault> {
+fn found(alloc: Global, scene: &Scene, limits: &Limits) -> Result<Found, SearchFault> {
     let mut last = Last(0);
-    let found = explore(alloc, threads, jobs, scene, limits, &mut last)?;
+    let found = explore(alloc, scene, limits, &mut last)?;
     let states = if last.0 == found.states { last.0 } else { 0 };
     Ok((found.lists, states, found.turns, found.classes.len()))
 }
 
-/// The place of the first search, from 0, that finds something else with so many threads.
-fn first_wrong<R: Threads + Sync>(
-    alloc: Global,
-    threads: &R,
-    jobs: Jobs,
-) -> Result<Option<usize>, RunFault> {
+/// The place of the first search, from 0, that finds something else.
+fn first_wrong(alloc: Global) -> Result<Option<usize>, RunFault> {
     for (at, (script, states, turns, which, wanted)) in SEARCHES.iter().enumerate() {
         let scene = scene_of(alloc, script)?;
         let limits = limits_of(alloc, *states, *turns, *which, [].as_slice())?;
-        if found(alloc, threads, jobs, &scene, &limits) != *wanted {
+        if found(alloc, &scene, &limits) != *wanted {
             return Ok(Some(at));
         }
     }
     Ok(None)
 }
 
-/// So many threads, or one where there may not be so many.
-fn jobs_of(count: usize) -> Jobs {
-    Jobs::new(count).unwrap_or(Jobs::one())
-}
-
 #[test]
 fn searches_keep_to_limits(rt: HostRuntime) -> Result<(), Fail> {
-    for count in [1, 2, 4, 64] {
-        assert_eq!(rt; first_wrong(rt.alloc(), &rt, jobs_of(count))?, None);
-    }
+    assert_eq!(rt; first_wrong(rt.alloc())?, None);
     Ok(())
 }
 
@@ -140,14 +119,11 @@ const PARTS: [Part; 9] = [
 ];
 
 /// The place of the first part, from 0, of which something else is found.
-fn first_wrong_part<R: Threads + Sync>(
-    alloc: Global,
-    threads: &R,
-) -> Result<Option<usize>, RunFault> {
+fn first_wrong_part(alloc: Global) -> Result<Option<usize>, RunFault> {
     for (at, (script, turns, which, begin, wanted)) in PARTS.iter().enumerate() {
         let scene = scene_of(alloc, script)?;
         let limits = limits_of(alloc, 1_000, *turns, *which, begin)?;
-        let got = found(alloc, threads, Jobs::one(), &scene, &limits);
+        let got = found(alloc, &scene, &limits);
         if got != *wanted {
             return Ok(Some(at));
         }
@@ -157,73 +133,6 @@ fn first_wrong_part<R: Threads + Sync>(
 
 #[test]
 fn lists_begin_as_is_asked_for(rt: HostRuntime) -> Result<(), Fail> {
-    assert_eq!(rt; first_wrong_part(rt.alloc(), &rt)?, None);
-    Ok(())
-}
-
-/// So many threads, and whether there may be so many.
-const JOBS: [(usize, bool); 5] = [
-    (0, false),
-    (1, true),
-    (4, true),
-    (JOBS_MAX, true),
-    (JOBS_MAX + 1, false),
-];
-
-#[test]
-fn threads_are_bounded(rt: HostRuntime) -> Result<(), Fail> {
-    for (count, wanted) in JOBS {
-        let jobs = Jobs::new(count);
-        assert_eq!(rt; jobs.is_some(), wanted);
-        if let Some(jobs) = jobs {
-            assert_eq!(rt; jobs.count(), count);
-        }
-    }
-    Ok(())
-}
-
-/// Whether the two have the same least list, and as many lists.
-fn are_same_classes(class: &Class<ListTree>, other: &Class<ListTree>) -> bool {
-    class.least.turns == other.least.turns && class.lists == other.lists
-}
-
-/// Whether the same was found, class by class.
-fn are_same_findings(one: &Findings<ListTree>, other: &Findings<ListTree>) -> bool {
-    if one.classes.len() != other.classes.len() || one.states != other.states {
-        return false;
-    }
-    for (class, another) in one.classes.iter().zip(other.classes.iter()) {
-        if !are_same_classes(class, another) {
-            return false;
-        }
-    }
-    one.lists == other.lists && one.turns == other.turns
-}
-
-/// Whether the search finds the same with so many threads as with one.
-fn finds_the_same<R: Threads + Sync>(
-    alloc: Global,
-    threads: &R,
-    count: usize,
-    script: &str,
-) -> Result<bool, RunFault> {
-    let scene = scene_of(alloc, script)?;
-    let all = || limits_of(alloc, 1_000, 100, OUTSIDE, [].as_slice());
-    let (one, many) = (Jobs::one(), jobs_of(count));
-    let alone = explore(alloc, threads, one, &scene, &all()?, &mut Silent);
-    let found = explore(alloc, threads, many, &scene, &all()?, &mut Silent);
-    Ok(match (&alone, &found) {
-        (Ok(alone), Ok(found)) => are_same_findings(alone, found),
-        _ => false,
-    })
-}
-
-#[test]
-fn threads_make_no_difference(rt: HostRuntime) -> Result<(), Fail> {
-    for script in [REMOVED, MOVED_OUT, CARRIED_OUT] {
-        for count in [2, 3, 4] {
-            assert_eq!(rt; finds_the_same(rt.alloc(), &rt, count, script)?, true);
-        }
-    }
+    assert_eq!(rt; first_wrong_part(rt.alloc())?, None);
     Ok(())
 }

@@ -3,7 +3,7 @@
 use Rattle.std.specs.Prelude.{◌≡◌, ◌≤◌, ◌<◌, ◌⊎◌, ℕ, suc, ◌+◌, List, [], ◌∷◌, Bool, true, false, length, map, nat_lt, Some, Result, Ok, Err, IfOk, OnOk, slice_get, slice_set, slice_index_or, refl}
 use Rattle.std.specs.Int.{from_bool}
 use Rattle.std.specs.List.{All}
-use Rattle.std.proofs.Common.{sym, ap, ◌∙◌, subst, ⊎_elim, arith}
+use Rattle.std.proofs.Common.{sym, ap, ◌∙◌, subst, ⊎_elim, length-set, arith}
 use Rattle.std.proofs.Math.ListN.{get_or-map}
 use Rattle.std.proofs.lemmas.Bool.{cases_eq}
 use Rattle.std.proofs.Math.Seq.{map-set_same}
@@ -24,7 +24,7 @@ use Rattle.explore.specs.declared.memo.Entry.{Entry}
 use Rattle.explore.specs.declared.world_counts.Counts.{Counts}
 use Rattle.explore.specs.Alike.{full, after_turns}
 use Rattle.explore.specs.Effects.{AreCountsIn, AreCompared, IsEffectFrom, IsMemoKeyOf, IsRemembered, KnownView, IsSound}
-use Rattle.explore.specs.Keys.{ComponentsView, Grows, IsPartAt, IsKey, IsKeyAfter, AreSameKeysButParts, AreFew, outside_in, own_after}
+use Rattle.explore.specs.Keys.{ComponentsView, Grows, IsPartAt, IsKey, IsKeyAfter, AreSameKeys, AreSameKeysButParts, AreFew, outside_in, own_after}
 use Rattle.explore.specs.Layers.{VisitedView, IsReplayed, point_of}
 use Rattle.explore.specs.Local.{AreNumbered}
 use Rattle.explore.specs.Outside.{outside_after, outside_from, outside_of, roots_from}
@@ -128,6 +128,18 @@ few_after n key next i effect lt few after = record {
     elsewhere j own ne there =
         let few_still : own.outside ≤ n = few.outside j own (sym (set_other key.own.items i new j ne) ∙ there) in
         omega arith
+
+pub length_after : (key next : Key) (i : ℕ) (effect : Effect) → IsKeyAfter key i effect next
+    → length next.own.items ≡ length key.own.items
+length_after key next i effect after = ap length after.own ∙ length-set key.own.items i _
+
+pub few_copied : (n : ℕ) (key copy : Key) → AreSameKeys copy key → AreFew n key → AreFew n copy
+few_copied n key copy same few = record {
+  events = subst (λ k. k ≤ n) (sym same.events) few.events;
+  opened = subst (λ k. k ≤ n) (sym same.opened) few.opened;
+  closed = subst (λ k. k ≤ n) (sym same.closed) few.closed;
+  outside = λ j own there. few.outside j own (subst (λ (os : List Own). slice_get os j ≡ Some own) same.own there);
+}
 
 pub few_again : (n : ℕ) (mid next : Key) → AreSameKeysButParts mid next → AreFew n mid → AreFew n next
 few_again n mid next same few = record {

@@ -10,15 +10,15 @@ use Rattle.explore.specs.declared.memo.Entry.{Entry}
 use Rattle.explore.specs.Alike.{full}
 use Rattle.explore.specs.Effects.{HasGrown, IsEffectFrom, IsMemoKeyOf, IsRemembered, KnownView, IsSound}
 use Rattle.explore.specs.Keys.{PartsView, ComponentsView, AreRows, Grows, IsPartAt, IsKey, outside_in}
-use Rattle.explore.specs.Local.{SamePartAt}
 use Rattle.explore.specs.Outside.{roots_of, outside_of}
 use Rattle.explore.proofs.Alike.PairedLists.{there_is, there_was}
+use Rattle.explore.proofs.Parted.Parts.{more_itself, more_on, in_more}
 
 pub grows_same : {c : ComponentsView} → Grows c c
 grows_same = record {
   told = refl;
   lists = λ k x e. e;
-  parts = record { many = refl; each = λ i row e. (row, (e, (refl, λ k x e. e))) };
+  parts = record { many = refl; each = λ i row e. (row, (e, more_itself row)) };
 }
 
 pub grows_on : {a b c : ComponentsView} → Grows a b → Grows b c → Grows a c
@@ -30,7 +30,7 @@ grows_on first second = record {
     each = λ i row e.
         let more = first.parts.each i row e in
         let most = second.parts.each i more.0 more.1.0 in
-        (most.0, (most.1.0, (most.1.1.0 ∙ more.1.1.0, λ k x e. most.1.1.1 k x (more.1.1.1 k x e))));
+        (most.0, (most.1.0, more_on row more.0 most.0 more.1.1 most.1.1));
   };
 }
 
@@ -42,21 +42,13 @@ rows_grow {c} {d} grows rows = record {
       let old = there_is c.parts i within in
       let more = grows.parts.each i old.0 old.1 in
       let same : more.0 ≡ row = same_Some more.0 row (sym more.1.0 ∙ e) in
-      ap (λ (r : PartsView). r.actor) (sym same) ∙ (more.1.1.0 ∙ rows.own i old.0 old.1);
+      ap (λ (r : PartsView). r.actor) (sym same) ∙ (more.1.1.actor ∙ rows.own i old.0 old.1);
 }
 
 pub part_grows : {c d : ComponentsView} {v : WorldView} {i at : ℕ} → Grows c d → IsPartAt c v i at → IsPartAt d v i at
 part_grows {v = v} {i} {at} grows part =
     let more = grows.parts.each i part.row part.there in
-    record {
-      row = more.0;
-      there = more.1.0;
-      is = record {
-        other = part.is.other;
-        there = more.1.1.1 at part.is.other part.is.there;
-        same = subst (λ n. SamePartAt v part.is.other n) (sym more.1.1.0) part.is.same;
-      };
-    }
+    record { row = more.0; there = more.1.0; is = in_more part.row more.0 v at more.1.1 part.is }
 
 pub key_grows : {c d : ComponentsView} {w v : WorldView} {key : Key} → Grows c d → IsKey c w v key → IsKey d w v key
 key_grows {c} {d} {w} {v} {key} grows is =

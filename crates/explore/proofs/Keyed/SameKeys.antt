@@ -10,35 +10,16 @@ use Rattle.race_core.specs.Worlds.{WorldView, turn}
 use Rattle.explore.specs.declared.keys.Key.{Key}
 use Rattle.explore.specs.declared.keys.Own.{Own}
 use Rattle.explore.specs.Alike.{full}
+use Rattle.explore.specs.HandleTables.{PartView, IsPartOf}
 use Rattle.explore.specs.Keys.{PartsView, IsPartIn, ComponentsView, AreRows, AreInterned, IsPartAt, IsKey, AreSameKeys, AreSameKeysButOutside, outside_in}
 use Rattle.explore.specs.Local.{actor_of, SamePart, SamePartAt, AreGiven, AreAllGiven, AreNumbered, SameParts}
 use Rattle.explore.specs.Same.{IsSame}
 use Rattle.explore.proofs.Alike.PairedLists.{there_is, there_was}
 use Rattle.explore.proofs.Local.OutsideSame.{same_worlds_act}
-use Rattle.explore.proofs.Local.Parts.{one_actor, part_itself, part_back, part_join, number_there}
+use Rattle.explore.proofs.Local.Parts.{one_actor, part_itself, number_there}
+use Rattle.explore.proofs.Parted.Parts.{at_back, at_join, one_kept}
 
 -- ---- one actor's part
-
-pub at_back : {u v : WorldView} {i : ℕ} → SamePartAt u v i → SamePartAt v u i
-at_back {u} {v} at = record {
-  here = at.there;
-  there = at.here;
-  is_here = at.is_there;
-  is_there = at.is_here;
-  part = part_back (tree_now u.book) (tree_now v.book) at.here at.there at.part;
-}
-
-pub at_join : {u v o : WorldView} {i : ℕ} → SamePartAt u v i → SamePartAt v o i → SamePartAt u o i
-at_join {u} {v} {o} first second =
-    let one : first.there ≡ second.here = same_Some first.there second.here (sym first.is_there ∙ second.is_here) in
-    record {
-      here = first.here;
-      there = second.there;
-      is_here = first.is_here;
-      is_there = second.is_there;
-      part = part_join (tree_now u.book) (tree_now v.book) (tree_now o.book) first.here second.here second.there
-          (subst (λ y. SamePart (tree_now u.book) (tree_now v.book) first.here y) one first.part) second.part;
-    }
 
 -- the numbers of handles were given in both trees
 pub part_given : (s t : State) (x y : Seat) → SamePart s t x y → AreGiven s x → AreGiven t y
@@ -56,8 +37,11 @@ one_part c u v i at actors rows here there =
     let row : there.row ≡ here.row = same_Some there.row here.row (sym there.there ∙ here.there) in
     let is : IsPartIn here.row v at = subst (λ row. IsPartIn row v at) row there.is in
     let own : here.row.actor ≡ i = rows.own i here.row here.there in
-    let other : is.other ≡ here.is.other = same_Some is.other here.is.other (sym is.there ∙ here.is.there) in
-    at_join (at_actor i own here.is) (at_back (subst (λ o. SamePartAt v o i) other (at_actor i own is)))
+    let part : is.part ≡ here.is.part = same_Some is.part here.is.part (sym is.there ∙ here.is.there) in
+    let kept : IsPartOf here.row.outcomes is.other here.row.actor here.is.part = subst (λ (p : PartView). IsPartOf here.row.outcomes is.other here.row.actor p) part is.is in
+    let others : SamePartAt here.is.other is.other i =
+    subst (λ n. SamePartAt here.is.other is.other n) own (one_kept here.row.outcomes here.is.other is.other here.row.actor here.is.part here.is.is kept) in
+    at_join (at_actor i own here.is) (at_join others (at_back (at_actor i own is)))
 
 -- the part is at its place for all worlds where it is the same
 pub part_of_same : (c : ComponentsView) (u v : WorldView) (i at actors : ℕ) → AreRows c.parts actors → SamePartAt u v i → IsPartAt c v i at → IsPartAt c u i at
@@ -67,8 +51,10 @@ part_of_same c u v i at actors rows same part =
       row = part.row;
       there = part.there;
       is = record {
-        other = part.is.other;
+        part = part.is.part;
         there = part.is.there;
+        other = part.is.other;
+        is = part.is.is;
         same = at_join (subst (λ n. SamePartAt u v n) (sym own) same) part.is.same;
       };
     }
@@ -138,11 +124,22 @@ key_of_same c w u v key is same =
           row = part.row;
           there = part.there;
           is = record {
-            other = part.is.other;
+            part = part.is.part;
             there = part.is.there;
+            other = part.is.other;
+            is = part.is.is;
             same = at_join (at_back (same.parts.parts part.row.actor lt)) part.is.same;
           };
         }
+
+pub keys_back : (key other : Key) → AreSameKeys key other → AreSameKeys other key
+keys_back key other same = record {
+  nodes = sym same.nodes;
+  events = sym same.events;
+  opened = sym same.opened;
+  closed = sym same.closed;
+  own = sym same.own;
+}
 
 -- a key and one with the same numbers are keys of one world
 pub key_again : (c : ComponentsView) (w v : WorldView) (key other : Key) → AreSameKeys key other → IsKey c w v key → IsKey c w v other
@@ -225,8 +222,7 @@ module _ (c : ComponentsView) (w u v : WorldView) (key other : Key) (rows : AreR
           let row : two.row ≡ one.row = same_Some two.row one.row (sym two.there ∙ one.there) in
           let is : IsPartIn one.row v its.part = subst (λ (r : PartsView). IsPartIn r v its.part) row two.is in
           let lt : one.row.actor < length u.seats = there_was u.seats one.row.actor one.is.same.here one.is.same.is_here in
-          met.parts_once i one.row one.there own.part its.part one.is.other is.other one.is.there is.there
-          (at_join (at_back one.is.same) (at_join (same.parts one.row.actor lt) is.same))
+          met.parts_once i one.row one.there own.part its.part u v one.is is (same.parts one.row.actor lt)
 
 -- each actor has the same part in a world as in itself
 pub same_itself : (w : WorldView) → AreNumbered w.seats → SameParts w w

@@ -6,10 +6,11 @@ use Rattle.std.proofs.lemmas.List.{length-append}
 use Rattle.tree_model.specs.declared.inode.Inode.{Inode}
 use Rattle.race_core.specs.Worlds.{WorldView}
 use Rattle.schedule_graph.proofs.Spreading.{get_set}
-use Rattle.explore.specs.Layers.{Keeps}
-use Rattle.explore.specs.Keys.{PartsView, AreApartParts, AreInterned, ComponentsView, AreRows, AreMoreParts, IsPartIn, IsPartAt}
+use Rattle.explore.specs.HandleTables.{PartView}
+use Rattle.explore.specs.Keys.{PartsView, AreApartParts, AreInterned, ComponentsView, AreRows, HasMore, AreMoreParts, IsPartIn, IsPartAt}
 use Rattle.explore.proofs.Lists.Indices.{within_some}
 use Rattle.explore.proofs.Lists.Told.{get_push}
+use Rattle.explore.proofs.Parted.Parts.{more_itself}
 
 pub rows_push : (parts new : List PartsView) (row : PartsView) (n : ℕ) → new ≡ parts ++ row ∷ [] → AreRows parts n → row.actor ≡ n → AreRows new (n + 1)
 rows_push parts new row n e rows is = record {
@@ -26,26 +27,24 @@ rows_more old new n more rows = record {
       let lt : i < length new = slice_get_within new i row e in
       let was = within_some old i (omega (arith, lt, more.many)) in
       let is = more.each i was.0 was.1 in
-      ap (λ (r : PartsView). r.actor) (same_Some row is.0 (sym e ∙ is.1.0)) ∙ (is.1.1.0 ∙ rows.own i was.0 was.1);
+      ap (λ (r : PartsView). r.actor) (same_Some row is.0 (sym e ∙ is.1.0)) ∙ (is.1.1.actor ∙ rows.own i was.0 was.1);
 }
 
 -- one row has more, and the others stay
-set_more : (rows : List PartsView) (i : ℕ) (old new : PartsView) → slice_get rows i ≡ Some old → new.actor ≡ old.actor → Keeps old.worlds new.worlds
+set_more : (rows : List PartsView) (i : ℕ) (old new : PartsView) → slice_get rows i ≡ Some old → HasMore old new
     → (k : ℕ) (row : PartsView) → slice_get rows k ≡ Some row
-    → (more : PartsView) × ((slice_get (slice_set rows i new) k ≡ Some more) × ((more.actor ≡ row.actor) × Keeps row.worlds more.worlds))
-set_more [] i old new e actor keeps k row q = absurd (none-some old e)
-set_more (r ∷ rs) zero old new e actor keeps zero row q =
-    let same : old ≡ row = same_Some old row (sym e ∙ q) in
-    (new, (refl, (subst (λ (o : PartsView). new.actor ≡ o.actor) same actor, subst (λ (o : PartsView). Keeps o.worlds new.worlds) same keeps)))
-set_more (r ∷ rs) zero old new e actor keeps (suc k) row q = (row, (q, (refl, (λ m x h. h))))
-set_more (r ∷ rs) (suc i) old new e actor keeps zero row q = (row, (q, (refl, (λ m x h. h))))
-set_more (r ∷ rs) (suc i) old new e actor keeps (suc k) row q = set_more rs i old new e actor keeps k row q
+    → (more : PartsView) × ((slice_get (slice_set rows i new) k ≡ Some more) × HasMore row more)
+set_more [] i old new e has k row q = absurd (none-some old e)
+set_more (r ∷ rs) zero old new e has zero row q = (new, (refl, subst (λ (o : PartsView). HasMore o new) (same_Some old row (sym e ∙ q)) has))
+set_more (r ∷ rs) zero old new e has (suc k) row q = (row, (q, more_itself row))
+set_more (r ∷ rs) (suc i) old new e has zero row q = (row, (q, more_itself row))
+set_more (r ∷ rs) (suc i) old new e has (suc k) row q = set_more rs i old new e has k row q
 
-pub row_put : (rows : List PartsView) (i : ℕ) (row new : PartsView) → i < length rows → row ≡ get_or rows i row → new.actor ≡ row.actor → Keeps row.worlds new.worlds
+pub row_put : (rows : List PartsView) (i : ℕ) (row new : PartsView) → i < length rows → row ≡ get_or rows i row → HasMore row new
     → AreMoreParts rows (slice_set rows i new)
-row_put rows i row new lt e actor keeps = record {
+row_put rows i row new lt e has = record {
   many = length-set rows i new;
-  each = set_more rows i row new (slice_get_read rows (length rows) i row refl lt e) actor keeps;
+  each = set_more rows i row new (slice_get_read rows (length rows) i row refl lt e) has;
 }
 
 -- the part that the actor of that number has in the world of that key
@@ -58,9 +57,9 @@ part_by c v i at row is e = subst (λ (r : PartsView). IsPartIn r v at) (same_So
 abbrev pub AreApartRows : List PartsView → Type 0
 AreApartRows rows = (i : ℕ) (row : PartsView) → slice_get rows i ≡ Some row → AreApartParts row
 
-pub apart_push : (parts new : List PartsView) (row : PartsView) → new ≡ parts ++ row ∷ [] → AreApartRows parts → row.worlds ≡ [] → AreApartRows new
+pub apart_push : (parts new : List PartsView) (row : PartsView) → new ≡ parts ++ row ∷ [] → AreApartRows parts → row.parts ≡ [] → AreApartRows new
 apart_push parts new row e apart none i one q = ⊎_elim (λ h. apart i one h)
-    (λ h k l v other there its same. absurd (none-some v (ap (λ (ws : List WorldView). slice_get ws k) (sym (ap (λ (r : PartsView). r.worlds) h.1 ∙ none)) ∙ there)))
+    (λ h k l v w here there same. absurd (none-some here.part (ap (λ (ps : List PartView). slice_get ps k) (sym (ap (λ (r : PartsView). r.parts) h.1 ∙ none)) ∙ here.there)))
     (get_push parts row i one (subst (λ (ps : List PartsView). slice_get ps i ≡ Some one) e q))
 
 pub interned_put : (lists : List (List Inode)) (rows : List PartsView) (i : ℕ) (new : PartsView) → AreMoreParts rows (slice_set rows i new) → AreApartParts new → AreInterned lists rows

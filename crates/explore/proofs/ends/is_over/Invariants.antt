@@ -4,4 +4,4 @@ use Rattle.explore.specs.Keys.{IsKey}
 use Rattle.explore.proofs.ends.is_over.Given as goal
 
 abbrev pub invariant-loop-actor : goal.invariant-loop-actor
-invariant-loop-actor g l = (w v : WorldView) → IsKey l.components w v l.key → (i : ℕ) → i < l.actor → is_busy_at v.seats i ≡ false
+invariant-loop-actor l = (w v : WorldView) → IsKey l.components w v l.key → (i : ℕ) → i < l.actor → is_busy_at v.seats i ≡ false

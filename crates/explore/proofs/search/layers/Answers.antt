@@ -38,7 +38,7 @@ layers-init g c =
     }
 
 pub pass-requires-clause-on : goal.pass-requires-clause-on
-pass-requires-clause-on g c = λ κs under.
+pass-requires-clause-on g c =
     let w : WorldView = g.B.Beginnings.opening c.args.beginnings.now in
     let scope : Scope = c.args.limits.now.scope in
     subst (λ (told : Bool). AreOn (length c.layers.graph) (layer_of w told c.layers.layer)) (sym c.layers.invariant.told)

@@ -1,29 +1,22 @@
-use Rattle.std.proofs.Common.{◌∙◌, ℕ, Bool, List, length, sym, ap, subst, rules, arith}
-use Rattle.smallvec.specs.SmallVec.{SmallVec}
+use Rattle.std.proofs.Common.{◌∙◌, ℕ, length, sym, ap, subst, rules, arith}
 use Rattle.explore.specs.declared.layer.Layer.{Layer}
-use Rattle.explore.specs.declared.layer.Visited.{Visited}
-use Rattle.explore.specs.declared.transitions.Transition.{Transition}
 use Rattle.explore.specs.Effects.{KnownView}
 use Rattle.explore.specs.Explored.{WhyNot}
-use Rattle.explore.specs.Kept.{layer_of, AreKeys}
-use Rattle.explore.specs.Keys.{ComponentsView, Grows}
-use Rattle.explore.specs.Layers.{AreOn, IsPassed}
-use Rattle.explore.specs.Runs.{AreLayers, AreTheirs}
+use Rattle.explore.specs.Kept.{AreKeys}
+use Rattle.explore.specs.Keys.{ComponentsView}
 use Rattle.explore.proofs.Counts.PassedOn.{ToPass, are, expansion, is_expansion, are_fit, are_apart, end_classes_on, is_passed, next_kept, next_counted}
-use Rattle.explore.proofs.Keyed.Running.{kept_grows, counted_grows, layers_kept, are_theirs}
 use Rattle.explore.proofs.Layers.Kept.{keys_few, views_many}
 use Rattle.explore.proofs.search.pass.Given.{Over}
 use Rattle.explore.proofs.search.pass.Goals as goal
-use Rattle.explore.proofs.search.pass.Goals.{In_ok-prefetch}
+use Rattle.explore.proofs.search.pass.Goals.{In_ok-transitions}
 
--- the layer and its transitions, by what is known once it was learnt from
-abbrev start : (g : Over) (c : In_ok-prefetch g) → ToPass
+-- the layer and its transitions
+abbrev start : (g : Over) (c : In_ok-transitions g) → ToPass
 start g c =
     let w = g.B.Beginnings.opening c.args.beginnings.now in
-    let known : KnownView = c.prefetch.new.turns in
+    let known : KnownView = c.args.turns.now in
     let layer : Layer = c.args.layer.now in
     let n : ℕ = length c.args.graph.now in
-    let grows : Grows c.args.turns.now.components known.components = c.in_ok-prefetch.ensures.grows in
     let told = known.components.told in record {
       w = w;
       n = n;
@@ -32,8 +25,8 @@ start g c =
       layer = layer;
       found = c.args.classes.now.items;
       short = c.requires.few;
-      kept = kept_grows w n c.args.turns.now known layer grows c.in_ok-prefetch.ensures.sound c.requires.kept;
-      on = subst (λ (told : Bool). AreOn n (layer_of w told layer)) (sym grows.told) c.requires.on;
+      kept = c.requires.kept;
+      on = c.requires.on;
       components = c.components.result.now;
       keys = subst (λ (c : ComponentsView). AreKeys c w layer) (sym c.components.ensures) c.requires.kept.keys;
       transitions = c.in_ok-transitions.transitions.items;
@@ -59,25 +52,24 @@ listed-requires-clause-on g c = λ s configuration there.
 
 pub go_on-requires : goal.go_on-requires
 go_on-requires g c =
-    let s : ToPass = start g (goal.at.go_on-requires g c).In_ok-prefetch in
+    let s : ToPass = start g (goal.at.go_on-requires g c).In_ok-transitions in
     record { expansion = (expansion s, is_expansion s c.as_slice-transitions.result.now c.as_slice-transitions.ensures.value) }
 
 pub returns-in_err-passed-clause-err : goal.returns-in_err-passed-clause-err
 returns-in_err-passed-clause-err g c = λ limits states bounds counted room.
-    let s : ToPass = start g (goal.at.returns-in_err-passed-clause-err g c).In_ok-prefetch in
+    let s : ToPass = start g (goal.at.returns-in_err-passed-clause-err g c).In_ok-transitions in
     let why : WhyNot (g.B.Beginnings.opening c.args.beginnings.now) limits c.in_err-passed.field-0.0 =
-    c.in_err-passed.ensures.err limits (expansion s) states (is_expansion s c.as_slice-transitions.result.now c.as_slice-transitions.ensures.value) bounds
-    (counted_grows s.w limits.scope s.n states c.args.turns.now.components s.known.components s.layer c.in_ok-prefetch.ensures.grows counted) room in
+    c.in_err-passed.ensures.err limits (expansion s) states (is_expansion s c.as_slice-transitions.result.now c.as_slice-transitions.ensures.value) bounds counted room in
     search rules
 
 pub all_go_on-requires-clause-many : goal.all_go_on-requires-clause-many
 all_go_on-requires-clause-many g c =
-    let s : ToPass = start g (goal.at.all_go_on-requires-clause-many g c).In_ok-prefetch in
+    let s : ToPass = start g (goal.at.all_go_on-requires-clause-many g c).In_ok-transitions in
     ap length c.as_slice-choices.ensures.value ∙ ((are s).many ∙ ap length (sym c.as_slice-those.ensures.value))
 
 pub all_go_on-requires-clause-on : goal.all_go_on-requires-clause-on
 all_go_on-requires-clause-on g c =
-    let s : ToPass = start g (goal.at.all_go_on-requires-clause-on g c).In_ok-prefetch in
+    let s : ToPass = start g (goal.at.all_go_on-requires-clause-on g c).In_ok-transitions in
     let came = c.in_ok-passed.ensures.expanded (expansion s) (is_expansion s c.as_slice-transitions.result.now c.as_slice-transitions.ensures.value) in
     end_classes_on s c.go_on.new.turns c.in_ok-passed.passed.known c.in_ok-passed.passed.end_classes.items c.in_ok-passed.passed.places.items c.go_on.new.classes.items came
     c.as_slice-those.result.now c.as_slice-choices.result.now c.as_slice-places.result.now c.as_slice-end_classes.result.now c.as_slice-those.ensures.value c.as_slice-choices.ensures.value
@@ -85,12 +77,12 @@ all_go_on-requires-clause-on g c =
 
 pub spread-requires-clause-many : goal.spread-requires-clause-many
 spread-requires-clause-many g c =
-    let s : ToPass = start g (goal.at.spread-requires-clause-many g c).In_ok-prefetch in
+    let s : ToPass = start g (goal.at.spread-requires-clause-many g c).In_ok-transitions in
     ap length c.as_slice-choices.ensures.value ∙ ((are s).many ∙ ap length (sym c.as_slice-those.ensures.value))
 
 pub spread-requires-clause-fit : goal.spread-requires-clause-fit
 spread-requires-clause-fit g c =
-    let s : ToPass = start g (goal.at.spread-requires-clause-fit g c).In_ok-prefetch in
+    let s : ToPass = start g (goal.at.spread-requires-clause-fit g c).In_ok-transitions in
     let came = c.in_ok-passed.ensures.expanded (expansion s) (is_expansion s c.as_slice-transitions.result.now c.as_slice-transitions.ensures.value) in
     are_fit s c.go_on.new.turns c.in_ok-passed.passed.known c.in_ok-passed.passed.end_classes.items c.in_ok-passed.passed.places.items c.go_on.new.classes.items came
     c.as_slice-those.result.now c.as_slice-choices.result.now c.as_slice-places.result.now c.as_slice-end_classes.result.now c.as_slice-those.ensures.value c.as_slice-choices.ensures.value
@@ -98,7 +90,7 @@ spread-requires-clause-fit g c =
 
 pub spread-requires-clause-apart : goal.spread-requires-clause-apart
 spread-requires-clause-apart g c =
-    let s : ToPass = start g (goal.at.spread-requires-clause-apart g c).In_ok-prefetch in
+    let s : ToPass = start g (goal.at.spread-requires-clause-apart g c).In_ok-transitions in
     let came = c.in_ok-passed.ensures.expanded (expansion s) (is_expansion s c.as_slice-transitions.result.now c.as_slice-transitions.ensures.value) in
     are_apart s c.go_on.new.turns c.in_ok-passed.passed.known c.in_ok-passed.passed.end_classes.items c.in_ok-passed.passed.places.items c.go_on.new.classes.items came
     c.as_slice-those.result.now c.as_slice-choices.result.now c.as_slice-places.result.now c.as_slice-end_classes.result.now c.as_slice-those.ensures.value c.as_slice-choices.ensures.value
@@ -106,7 +98,7 @@ spread-requires-clause-apart g c =
 
 pub spread-requires-clause-on : goal.spread-requires-clause-on
 spread-requires-clause-on g c =
-    let s : ToPass = start g (goal.at.spread-requires-clause-on g c).In_ok-prefetch in
+    let s : ToPass = start g (goal.at.spread-requires-clause-on g c).In_ok-transitions in
     let came = c.in_ok-passed.ensures.expanded (expansion s) (is_expansion s c.as_slice-transitions.result.now c.as_slice-transitions.ensures.value) in
     end_classes_on s c.go_on.new.turns c.in_ok-passed.passed.known c.in_ok-passed.passed.end_classes.items c.in_ok-passed.passed.places.items c.go_on.new.classes.items came
     c.as_slice-those.result.now c.as_slice-choices.result.now c.as_slice-places.result.now c.as_slice-end_classes.result.now c.as_slice-those.ensures.value c.as_slice-choices.ensures.value
@@ -114,13 +106,13 @@ spread-requires-clause-on g c =
 
 pub returns-clause-told : goal.returns-clause-told
 returns-clause-told g c =
-    let s : ToPass = start g (goal.at.returns-clause-told g c).In_ok-prefetch in
+    let s : ToPass = start g (goal.at.returns-clause-told g c).In_ok-transitions in
     let came = c.in_ok-passed.ensures.expanded (expansion s) (is_expansion s c.as_slice-transitions.result.now c.as_slice-transitions.ensures.value) in
-    came.0.grows.told ∙ c.in_ok-prefetch.ensures.grows.told
+    came.0.grows.told
 
 pub returns-clause-kept : goal.returns-clause-kept
 returns-clause-kept g c =
-    let s : ToPass = start g (goal.at.returns-clause-kept g c).In_ok-prefetch in
+    let s : ToPass = start g (goal.at.returns-clause-kept g c).In_ok-transitions in
     let came = c.in_ok-passed.ensures.expanded (expansion s) (is_expansion s c.as_slice-transitions.result.now c.as_slice-transitions.ensures.value) in
     let new : Layer = record { worlds = c.into_worlds-worlds.result; configurations = c.in_ok-configurations.configurations } in
     let spread = c.in_ok-configurations.ensures in
@@ -128,35 +120,9 @@ returns-clause-kept g c =
     c.as_slice-those.result.now c.as_slice-choices.result.now c.as_slice-places.result.now c.as_slice-end_classes.result.now c.as_slice-those.ensures.value c.as_slice-choices.ensures.value
     c.as_slice-places.ensures.value c.as_slice-end_classes.ensures.value new c.into_worlds-worlds.ensures spread.0 spread.1.1.1.0
 
-pub prefetch-requires-clause-layer : goal.prefetch-requires-clause-layer
-prefetch-requires-clause-layer g c = λ κs within.
-    let w = g.B.Beginnings.opening c.args.beginnings.now in
-    subst (λ (xs : List Visited). AreLayers c.args.turns.now.components w xs) (sym c.as_slice-worlds.ensures.value)
-    (layers_kept w (length c.args.graph.now) c.args.turns.now c.args.layer.now c.requires.few c.requires.kept)
-
-pub prefetch-requires-clause-many : goal.prefetch-requires-clause-many
-prefetch-requires-clause-many g c = λ κs within.
-    let w = g.B.Beginnings.opening c.args.beginnings.now in
-    let told = c.args.turns.now.components.told in
-    let layer : Layer = c.args.layer.now in
-    let keys = subst (λ (c : ComponentsView). AreKeys c w layer) (sym c.components.ensures) c.requires.kept.keys in
-    ap length c.as_slice-transitions.ensures.value
-    ∙ ((c.in_ok-transitions.ensures.transitions w told keys).many ∙ (views_many w told layer.worlds.items ∙ ap length (sym c.as_slice-worlds.ensures.value)))
-
-pub prefetch-requires-clause-theirs : goal.prefetch-requires-clause-theirs
-prefetch-requires-clause-theirs g c = λ κs within.
-    let w = g.B.Beginnings.opening c.args.beginnings.now in
-    let told = c.args.turns.now.components.told in
-    let layer : Layer = c.args.layer.now in
-    let keys = subst (λ (c : ComponentsView). AreKeys c w layer) (sym c.components.ensures) c.requires.kept.keys in
-    let theirs = are_theirs w (length c.args.graph.now) c.args.turns.now layer c.requires.kept c.args.bounds told c.in_ok-transitions.transitions.items
-    (c.in_ok-transitions.ensures.transitions w told keys) in
-    subst (λ (xs : List Visited). AreTheirs xs c.as_slice-transitions.result.now) (sym c.as_slice-worlds.ensures.value)
-    (subst (λ (ms : List (SmallVec Transition)). AreTheirs layer.worlds.items ms) (sym c.as_slice-transitions.ensures.value) theirs)
-
 pub returns-clause-passed : goal.returns-clause-passed
 returns-clause-passed g c =
-    let s : ToPass = start g (goal.at.returns-clause-passed g c).In_ok-prefetch in
+    let s : ToPass = start g (goal.at.returns-clause-passed g c).In_ok-transitions in
     let came = c.in_ok-passed.ensures.expanded (expansion s) (is_expansion s c.as_slice-transitions.result.now c.as_slice-transitions.ensures.value) in
     let new : Layer = record { worlds = c.into_worlds-worlds.result; configurations = c.in_ok-configurations.configurations } in
     let spread = c.in_ok-configurations.ensures in
@@ -167,19 +133,18 @@ returns-clause-passed g c =
       spread.1.0,
       (
         spread.1.1.0,
-        subst (λ (told : Bool). IsPassed s.bounds s.n (layer_of s.w told s.layer) (layer_of s.w told new) spread.1.0.items s.found c.go_on.new.classes.items)
-            c.in_ok-prefetch.ensures.grows.told passed,
+        passed,
       ),
     )
 
 pub returns-clause-counted : goal.returns-clause-counted
 returns-clause-counted g c = λ scope states bounds counted.
-    let s : ToPass = start g (goal.at.returns-clause-counted g c).In_ok-prefetch in
+    let s : ToPass = start g (goal.at.returns-clause-counted g c).In_ok-transitions in
     let came = c.in_ok-passed.ensures.expanded (expansion s) (is_expansion s c.as_slice-transitions.result.now c.as_slice-transitions.ensures.value) in
     let new : Layer = record { worlds = c.into_worlds-worlds.result; configurations = c.in_ok-configurations.configurations } in
     let spread = c.in_ok-configurations.ensures in
     next_counted s c.go_on.new.turns c.in_ok-passed.passed.known c.in_ok-passed.passed.end_classes.items c.in_ok-passed.passed.places.items c.go_on.new.classes.items came
     c.as_slice-those.result.now c.as_slice-choices.result.now c.as_slice-places.result.now c.as_slice-end_classes.result.now c.as_slice-those.ensures.value c.as_slice-choices.ensures.value
     c.as_slice-places.ensures.value c.as_slice-end_classes.ensures.value new c.into_worlds-worlds.ensures spread.0 spread.1.1.1.0 scope states c.in_ok-passed.passed.states bounds
-    (counted_grows s.w scope s.n states c.args.turns.now.components s.known.components s.layer c.in_ok-prefetch.ensures.grows counted)
+    counted
     c.are_interned.ensures c.in_ok-passed.ensures.states

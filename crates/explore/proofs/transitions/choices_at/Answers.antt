@@ -9,7 +9,7 @@ use Rattle.explore.proofs.transitions.choices_at.Goals as goal
 use Rattle.explore.proofs.transitions.choices_at.Goals.{then-may_go+in_ok-at+in_ok-push, else-may_go}
 
 pub loop-number-preserved : goal.loop-number-preserved
-loop-number-preserved g c =
+loop-number-preserved c =
     let bounds = c.args.bounds in
     let n : ℕ = c.loop-number.number in
     let was = c.loop-number.invariant in
@@ -48,7 +48,7 @@ loop-number-preserved g c =
     ]
 
 pub returns-clause-choices : goal.returns-clause-choices
-returns-clause-choices g c = λ w v key.
+returns-clause-choices c = λ w v key.
     let many = key.many in
     choices_all c.args.bounds (record { world = v; cost = c.args.cost }) c.loop-number.transitions.items c.loop-number.number c.loop-number.choices.items
     (omega (arith, c.len-number-end.ensures.value, c.loop-number.auto.number-end, c.loop-number-test.false, many)) (c.loop-number.invariant.choices w v key)

@@ -9,7 +9,7 @@ use Rattle.explore.proofs.Layers.Choosing.{AreChoicesBelow}
 use Rattle.explore.proofs.transitions.choices_at.Given as goal
 
 abbrev pub invariant-loop-number : goal.invariant-loop-number
-invariant-loop-number g l = record {
+invariant-loop-number l = record {
   keeps : Keeps l.fn.transitions.items l.transitions.items;
   new : (w v : WorldView) → IsKey l.components w v l.key → (j : ℕ) (one : Transition) → slice_get l.transitions.items j ≡ Some one
       → (slice_get l.fn.transitions.items j ≡ Some one) ⊎ IsOneOf l.bounds l.configuration (record { world = v; cost = l.cost }) one;

@@ -15,7 +15,7 @@ use Rattle.explore.proofs.Layers.Kept.{view_at}
 use Rattle.explore.proofs.transitions.listed.Goals as goal
 
 pub loop-at-preserved : goal.loop-at-preserved
-loop-at-preserved g c =
+loop-at-preserved c =
     let bounds = c.args.bounds in
     let s : ℕ = c.loop-at.at in
     let was = c.loop-at.invariant in
@@ -52,7 +52,7 @@ loop-at-preserved g c =
     }
 
 pub returns-clause-choices : goal.returns-clause-choices
-returns-clause-choices g c = λ w told keys.
+returns-clause-choices c = λ w told keys.
     let was = c.loop-at.invariant in
     let many = was.many in record {
       many = omega (arith, many, c.loop-at-test.false, c.loop-at.auto.at-end, c.len-at-end.ensures, c.args.layer.now.configurations.ok.0);

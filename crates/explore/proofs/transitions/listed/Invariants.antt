@@ -5,7 +5,7 @@ use Rattle.explore.specs.Transitions.{AreFirstChoices, AreTransitions}
 use Rattle.explore.proofs.transitions.listed.Given as goal
 
 abbrev pub invariant-loop-at : goal.invariant-loop-at
-invariant-loop-at g l = record {
+invariant-loop-at l = record {
   many : length l.all.items ≡ l.at;
   rows : length l.transitions.items ≡ length l.layer.worlds.items;
   transitions : (w : WorldView) (told : Bool) → AreKeys l.components w l.layer → AreTransitions l.bounds (layer_of w told l.layer) l.transitions.items;

@@ -8,7 +8,7 @@ use Rattle.explore_command.proofs.WhoMight.{one_turn_more}
 use Rattle.explore_command.proofs.part.all_might.Goals as goal
 
 pub loop-at-preserved : goal.loop-at-preserved
-loop-at-preserved g c =
+loop-at-preserved c =
     let scene = c.args.scene.now in
     let w = opened_world scene.tree scene.plans.items scene.lines in
     let limits = c.args.limits.now in

@@ -5,7 +5,7 @@ use Rattle.explore_command.proofs.part.all_might.Given as goal
 
 -- it is told of the turns so far
 abbrev pub invariant-loop-at : goal.invariant-loop-at
-invariant-loop-at g l = record {
+invariant-loop-at l = record {
   each : AreEachWhoMight (opened_world l.scene.tree l.scene.plans.items l.scene.lines) l.limits (length l.scene.plans.items) l.limits.scope.begin.items l.all.items;
   many : length l.all.items ≡ l.at;
 }

@@ -7,7 +7,7 @@ use Rattle.explore_command.proofs.part.no_lists.Goals as goal
 use Rattle.explore_command.proofs.part.no_lists.Goals.{then-at-len, else-at-len}
 
 pub returns-clause-far : goal.returns-clause-far
-returns-clause-far g c =
+returns-clause-far c =
     let scene = c.args.scene.now in
     let w = opened_world scene.tree scene.plans.items scene.lines in
     let limits = c.args.limits.now in

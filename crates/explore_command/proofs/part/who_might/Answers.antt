@@ -10,7 +10,7 @@ use Rattle.explore_command.proofs.part.who_might.Goals as goal
 use Rattle.explore_command.proofs.part.who_might.Goals.{then-branch+in_ok-add-2, else-branch}
 
 pub loop-actor-preserved : goal.loop-actor-preserved
-loop-actor-preserved g c =
+loop-actor-preserved c =
     let scene = c.args.scene.now in
     let w = opened_world scene.tree scene.plans.items scene.lines in
     let limits = c.args.limits.now in
@@ -34,4 +34,4 @@ loop-actor-preserved g c =
     ]
 
 pub returns : goal.returns
-returns g c = λ actor lt. c.loop-actor.invariant actor (omega (arith, lt, c.args.scene.now.plans.ok))
+returns c = λ actor lt. c.loop-actor.invariant actor (omega (arith, lt, c.args.scene.now.plans.ok))

@@ -4,4 +4,4 @@ use Rattle.explore_command.proofs.part.who_might.Given as goal
 
 -- of the actors so far nobody is left out
 abbrev pub invariant-loop-actor : goal.invariant-loop-actor
-invariant-loop-actor g l = AreWhoMight (opened_world l.scene.tree l.scene.plans.items l.scene.lines) l.limits l.actor l.turns l.might.items
+invariant-loop-actor l = AreWhoMight (opened_world l.scene.tree l.scene.plans.items l.scene.lines) l.limits l.actor l.turns l.might.items

@@ -7,7 +7,7 @@ use Rattle.explore.proofs.Parted.Rows.{part_by}
 use Rattle.explore.proofs.components.Components.is_within_call.Goals as goal
 
 pub returns-in_default-get : goal.returns-in_default-get
-returns-in_default-get g c = λ w v is.
+returns-in_default-get c = λ w v is.
     let own = c.in-Some.own.now in
     let found = c.in-Some.ensures.lookup in
     let there : slice_get c.args.key.now.own.items c.args.actor ≡ Some own =
@@ -18,7 +18,7 @@ returns-in_default-get g c = λ w v is.
     absurd (none-some part.row (sym (subst (λ rows. slice_get rows c.args.actor ≡ None) (c.deref-2.ensures.value ∙ ap (λ (k : ComponentsView). k.parts) c.self.view_is) past) ∙ part.there))
 
 pub returns : goal.returns
-returns g c = λ w v is.
+returns c = λ w v is.
     let own = c.in-Some.own.now in
     let row = c.in-Some-get.parts.now in
     let found = c.in-Some.ensures.lookup in

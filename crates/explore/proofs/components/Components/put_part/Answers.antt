@@ -11,7 +11,7 @@ invariant_of-self g c =
     let parts = c.self.inside.parts.items in
     let many : length parts ≡ length c.args.self.now.parts = ap (λ (k : ComponentsView). length k.parts) c.self.view_is in
     let more : AreMoreParts parts (slice_set parts c.args.actor c.put-place.new.self) =
-    row_put parts c.args.actor c.index_mut-parts.result.now c.put-place.new.self (omega (arith, many)) c.index_mut-parts.ensures.value c.put-place.ensures.actor c.put-place.ensures.keeps in
+    row_put parts c.args.actor c.index_mut-parts.result.now c.put-place.new.self (omega (arith, many)) c.index_mut-parts.ensures.value c.put-place.ensures.more in
     interned_put c.self.inside.lists parts c.args.actor c.put-place.new.self more c.are_apart.ensures c.self.invariant
 
 pub returns-clause-grows : goal.returns-clause-grows
@@ -19,7 +19,7 @@ returns-clause-grows g c =
     let parts = c.self.inside.parts.items in
     let many : length parts ≡ length c.args.self.now.parts = ap (λ (k : ComponentsView). length k.parts) c.self.view_is in
     let more : AreMoreParts parts (slice_set parts c.args.actor c.put-place.new.self) =
-    row_put parts c.args.actor c.index_mut-parts.result.now c.put-place.new.self (omega (arith, many)) c.index_mut-parts.ensures.value c.put-place.ensures.actor c.put-place.ensures.keeps in
+    row_put parts c.args.actor c.index_mut-parts.result.now c.put-place.new.self (omega (arith, many)) c.index_mut-parts.ensures.value c.put-place.ensures.more in
     subst (λ (k : ComponentsView). Grows k (record { told = c.self.inside.told; lists = c.self.inside.lists; parts = slice_set parts c.args.actor c.put-place.new.self })) c.self.view_is
     (record { told = refl; lists = λ k x e. e; parts = more })
 
@@ -28,7 +28,7 @@ returns-clause-rows g c = λ n rows.
     let parts = c.self.inside.parts.items in
     let many : length parts ≡ length c.args.self.now.parts = ap (λ (k : ComponentsView). length k.parts) c.self.view_is in
     let more : AreMoreParts parts (slice_set parts c.args.actor c.put-place.new.self) =
-    row_put parts c.args.actor c.index_mut-parts.result.now c.put-place.new.self (omega (arith, many)) c.index_mut-parts.ensures.value c.put-place.ensures.actor c.put-place.ensures.keeps in
+    row_put parts c.args.actor c.index_mut-parts.result.now c.put-place.new.self (omega (arith, many)) c.index_mut-parts.ensures.value c.put-place.ensures.more in
     rows_more parts (slice_set parts c.args.actor c.put-place.new.self) n more (subst (λ (k : ComponentsView). AreRows k.parts n) (sym c.self.view_is) rows)
 
 pub returns-clause-part : goal.returns-clause-part

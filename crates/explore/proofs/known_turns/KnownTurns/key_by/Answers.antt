@@ -10,7 +10,7 @@ use Rattle.explore.specs.Keys.{AreRows, AreFew, Grows, IsKey, IsPartAt}
 use Rattle.explore.specs.Local.{AreNumbered}
 use Rattle.explore.specs.Points.{Point}
 use Rattle.explore.specs.OutOfMemory.{EndsWell}
-use Rattle.explore.proofs.Keyed.Found.{effect_found, few_after, few_again, sound_mid, sound_whole, key_known, key_whole}
+use Rattle.explore.proofs.Keyed.Found.{effect_found, few_after, few_again, length_after, sound_mid, sound_whole, key_known, key_whole}
 use Rattle.explore.proofs.Keyed.Growing.{grows_on, key_grows, rows_grow}
 use Rattle.explore.proofs.Keyed.OneTurn.{numbered_stays}
 use Rattle.explore.proofs.Lists.Turning.{turn_actors}
@@ -61,6 +61,17 @@ returns-clause-few g c = λ n few.
             closed = sym (ap (λ (k : Key). k.closed) w.next-is);
             outside = sym (ap (map (λ (o : Own). o.outside)) own ∙ (w.in_ok-put_parts.ensures.outside ∙ ap (map (λ (o : Own). o.outside)) w.as_mut_slice.ensures.value));
           }) mid
+    ]
+
+pub returns-clause-many : goal.returns-clause-many
+returns-clause-many g c =
+    let set : length c.in_ok-next.next.own.items ≡ length c.args.key.now.own.items = length_after c.args.key.now c.in_ok-next.next c.args.actor c.in_ok-effect.effect c.in_ok-next.ensures in
+    elim c.if-self.branch [
+      | then-self+in_ok-remember w ↦ ap (λ (k : Key). length k.own.items) w.next-is ∙ set
+      | else-self+in_ok-put_parts w ↦
+          let long : length w.put_parts.new.own ≡ length c.in_ok-next.next.own.items = w.put_parts.auto.own ∙ ap length w.as_mut_slice.ensures.value in
+          ap (λ (k : Key). length k.own.items) w.next-is
+          ∙ (ap length (items-with_items c.in_ok-next.next.own w.put_parts.new.own long) ∙ (long ∙ set))
     ]
 
 pub returns-clause-sound : goal.returns-clause-sound

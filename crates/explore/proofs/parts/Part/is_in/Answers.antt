@@ -1,36 +1,39 @@
 use Rattle.std.proofs.Common.{sym, ◌∙◌, subst}
 use Rattle.std.proofs.lemmas.Bool.{true≢false, false≢true}
 use Rattle.std.proofs.lemmas.Option.{slice_get_within}
-use Rattle.explore.specs.HandleTables.{HasHandleTable, PartView}
-use Rattle.explore.specs.Local.{SamePartAt}
-use Rattle.explore.proofs.Parted.Parts.{same_of, seats_of, handle_tables_of}
+use Rattle.explore.specs.HandleTables.{PartView, IsPartOf}
+use Rattle.explore.proofs.Parted.Parts.{mine_like, like_mine}
 use Rattle.explore.proofs.parts.Part.is_in.Goals as goal
 
-pub returns-then-not-is_like : goal.returns-then-not-is_like
-returns-then-not-is_like g c =
-    let w = c.args.world.now in
-    let there : HasHandleTable c.self.inside.world c.args.actor c.self.inside.handle_table = subst (λ (p : PartView). HasHandleTable p.world c.args.actor p.handle_table) (sym c.self.view_is) c.requires.there in (
+pub returns-then-not-same_places : goal.returns-then-not-same_places
+returns-then-not-same_places g c = λ table v once are is.
+    let its = subst (λ (p : PartView). IsPartOf table v c.args.actor p) (sym c.self.view_is) is in
+    let like = mine_like table c.args.world.now v c.args.actor c.args.outcomes.now c.args.handle_table.now _ once c.requires are its in (
       (λ t. absurd (false≢true t)),
-      (λ same. absurd (true≢false (sym (c.is_like.ensures.1 (handle_tables_of w c.self.inside.world c.args.actor c.args.handle_table.now c.self.inside.handle_table c.requires.here there
-          (subst (λ (p : PartView). SamePartAt w p.world c.args.actor) (sym c.self.view_is) same))) ∙ c.if-not-is_like.true))),
+      (λ same. absurd (true≢false (sym (c.same_places.ensures.1 ((like same).outcomes ∙ sym c.as_slice.ensures.value)) ∙ c.if-not-same_places.true))),
     )
 
-pub is_like_at-requires-clause-here : goal.is_like_at-requires-clause-here
-is_like_at-requires-clause-here g c = slice_get_within c.args.world.now.seats c.args.actor c.requires.here.seat c.requires.here.there
+pub returns-then-not-is_like : goal.returns-then-not-is_like
+returns-then-not-is_like g c = λ table v once are is.
+    let its = subst (λ (p : PartView). IsPartOf table v c.args.actor p) (sym c.self.view_is) is in
+    let like = mine_like table c.args.world.now v c.args.actor c.args.outcomes.now c.args.handle_table.now _ once c.requires are its in (
+      (λ t. absurd (false≢true t)),
+      (λ same. absurd (true≢false (sym (c.is_like.ensures.1 (like same).handle_table) ∙ c.if-not-is_like.true))),
+    )
 
-pub is_like_at-requires-clause-there : goal.is_like_at-requires-clause-there
-is_like_at-requires-clause-there g c =
-    let there : HasHandleTable c.self.inside.world c.args.actor c.self.inside.handle_table = subst (λ (p : PartView). HasHandleTable p.world c.args.actor p.handle_table) (sym c.self.view_is) c.requires.there in
-    slice_get_within c.self.inside.world.seats c.args.actor there.seat there.there
+pub is_like_seat-requires : goal.is_like_seat-requires
+is_like_seat-requires g c = slice_get_within c.args.world.now.seats c.args.actor c.requires.seat c.requires.there
 
 pub returns : goal.returns
-returns g c =
-    let w = c.args.world.now in
-    let v = c.self.inside.world in
-    let there : HasHandleTable v c.args.actor c.self.inside.handle_table = subst (λ (p : PartView). HasHandleTable p.world c.args.actor p.handle_table) (sym c.self.view_is) c.requires.there in
-    let like = c.is_like_at.ensures c.requires.here.seat there.seat c.requires.here.there there.there in (
-      (λ t. subst (λ (p : PartView). SamePartAt w p.world c.args.actor) c.self.view_is
-          (same_of w v c.args.actor c.args.handle_table.now c.self.inside.handle_table c.requires.here there (c.is_like.ensures.0 c.if-not-is_like.false) (like.0 t))),
-      (λ same. like.1 (seats_of w v c.args.actor c.args.handle_table.now c.self.inside.handle_table c.requires.here there
-          (subst (λ (p : PartView). SamePartAt w p.world c.args.actor) (sym c.self.view_is) same))),
+returns g c = λ table v once are is.
+    let its = subst (λ (p : PartView). IsPartOf table v c.args.actor p) (sym c.self.view_is) is in
+    let like = mine_like table c.args.world.now v c.args.actor c.args.outcomes.now c.args.handle_table.now _ once c.requires are its in
+    let same = like_mine table c.args.world.now v c.args.actor c.args.outcomes.now c.args.handle_table.now _ once c.requires are its in
+    let seats = c.is_like_seat.ensures c.requires.seat c.requires.there in (
+      (λ t. same (record {
+        seat = seats.0 t;
+        outcomes = c.same_places.ensures.0 c.if-not-same_places.false ∙ c.as_slice.ensures.value;
+        handle_table = c.is_like.ensures.0 c.if-not-is_like.false;
+      })),
+      (λ p. seats.1 (like p).seat),
     )
