@@ -294,23 +294,23 @@ module _ (layers : List (Vec Node)) (k s : ℕ) (edges : SmallVec Edge) (are : A
     up : suc j ≡ j + 1
     up = omega arith
 
-    pub spread_not : (after : List Count) → after ≡ next → length next ≤ (get_or items j d).to → IsSpread layers k s items (j + 1) after
-    spread_not after kept past =
+    pub spread_not : (to : ℕ) → to ≡ (get_or items j d).to → (after : List Count) → after ≡ next → length next ≤ to → IsSpread layers k s items (j + 1) after
+    spread_not to at after kept past =
         subst (λ (cs : List Count). IsSpread layers k s items (j + 1) cs) (sym kept)
         (subst (λ n. IsSpread layers k s items n next) up
         (subst (λ (xs : List Edge). IsSpread layers k s xs (suc j) next) (sym same)
-        (spread_past layers k s edges goes (layer_apart layers k s edges are goes) j (get_or items j d) there next past
+        (spread_past layers k s edges goes (layer_apart layers k s edges are goes) j (get_or items j d) there next (subst (λ t. length next ≤ t) at past)
         (subst (λ (xs : List Edge). IsSpread layers k s xs j next) same is))))
 
-    pub spread_on : (m : Count) (r : Rank) → IsCount (rank layers) (LeadsTo layers k s) m → m.least ≡ Some r → (after : List Count) (e n : Count)
-        → after ≡ slice_set next (get_or items j d).to n → n ≡ added (get_or next (get_or items j d).to e) m.words (went r (get_or items j d))
-        → (get_or items j d).to < length next → IsSpread layers k s items (j + 1) after
-    spread_on m r count least after e n set is_added within =
+    pub spread_on : (to : ℕ) → to ≡ (get_or items j d).to → (m : Count) (r : Rank) → IsCount (rank layers) (LeadsTo layers k s) m → m.least ≡ Some r → (after : List Count) (e n : Count)
+        → after ≡ slice_set next to n → n ≡ added (get_or next to e) m.words (went r (get_or items j d))
+        → to < length next → IsSpread layers k s items (j + 1) after
+    spread_on to at m r count least after e n set is_added within =
         let c : Count = get_or next (get_or items j d).to e in
         subst (λ (cs : List Count). IsSpread layers k s items (j + 1) cs)
-        (sym (set ∙ ap (slice_set next (get_or items j d).to) is_added))
+        (sym (set ∙ (ap (λ t. slice_set next t n) at ∙ ap (slice_set next (get_or items j d).to) (is_added ∙ ap (λ t. added (get_or next t e) m.words (went r (get_or items j d))) at))))
         (subst (λ i. IsSpread layers k s items i (slice_set next (get_or items j d).to (added c m.words (went r (get_or items j d))))) up
         (subst (λ (xs : List Edge). IsSpread layers k s xs (suc j) (slice_set next (get_or items j d).to (added c m.words (went r (get_or items j d))))) (sym same)
         (spread_there layers k s edges goes (layer_apart layers k s edges are goes) j (get_or items j d) there m r count least next c
-        (slice_get-get_or next (get_or items j d).to e within)
+        (slice_get-get_or next (get_or items j d).to e (subst (λ t. t < length next) at within))
         (subst (λ (xs : List Edge). IsSpread layers k s xs j next) same is))))

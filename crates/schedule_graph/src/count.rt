@@ -14,7 +14,7 @@ use std::marker::Model;
 pub const COUNT_CAP: u64 = 1_000_000_000_000_000_000;
 
 /// So many labels of a least word lie in its value. Where it has more, all are in an allocation.
-pub const LABELS_IN_PLACE: usize = 96;
+pub const LABELS_IN_PLACE: usize = 64;
 
 /// A word, and what it is ordered by. Contracts see it as a `Rank`.
 #[derive(Debug, Drop)]

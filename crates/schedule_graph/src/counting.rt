@@ -9,12 +9,21 @@ use crate::graph::Node;
 use path_text::NoMemory;
 use std::alloc::Global;
 
-// As many counts of nothing.
-fn blank(alloc: Global, width: usize) -> Result<Vec<Count>, NoMemory>
+// How many nodes the widest layer has. All tables get room for so many: so a table fits where one was given back.
+fn widest(layers: &[Vec<Node>]) -> usize {
+    let mut most = 0;
+    for layer in layers {
+        most = layer.len().max(most);
+    }
+    most
+}
+
+// As many counts of nothing, with room for so many.
+fn blank(alloc: Global, room: usize, width: usize) -> Result<Vec<Count>, NoMemory>
     ensures { IfOk result (λ counts. counts.items
         ≡ replicate width (record { words = 0; longest = 0; least = None })) }
 {
-    let mut counts = Vec::with_capacity(alloc, width)?;
+    let mut counts = Vec::with_capacity(alloc, room)?;
     for _ in 0..width {
         counts.push(Count::none())?;
     }
@@ -38,12 +47,12 @@ fn node_at(layers: &[Vec<Node>], k: usize, s: usize) -> &Node
 }
 
 // What leads to each node of the first layer: the word of no labels to the first one.
-fn first_table(alloc: Global, layers: &[Vec<Node>]) -> Result<Vec<Count>, NoMemory>
+fn first_table(alloc: Global, layers: &[Vec<Node>], room: usize) -> Result<Vec<Count>, NoMemory>
     ensures width { IfOk result (λ table. length table.items ≡ width_at layers.now 0) }
     ensures table { IfOk result (λ table. IsTable layers.now 0 table.items) }
 {
     let width = width_at(layers, 0);
-    let mut table = blank(alloc, width)?;
+    let mut table = blank(alloc, room, width)?;
     if width > 0 {
         table[0].add(1, Least::start(alloc));
     }
@@ -73,8 +82,9 @@ fn spread(
         return Ok(());
     };
     for edge in edges.as_slice() {
-        if edge.to < next.len() {
-            next[edge.to].add_by(alloc, count.words, least, edge)?;
+        let to = edge.to.number();
+        if to < next.len() {
+            next[to].add_by(alloc, count.words, least, edge)?;
         }
     }
     Ok(())
@@ -112,6 +122,7 @@ fn tell(
 fn passed(
     alloc: Global,
     layers: &[Vec<Node>],
+    room: usize,
     k: usize,
     table: &[Count],
     counts: &mut Counts,
@@ -126,7 +137,7 @@ fn passed(
     ensures classes { OnOk result (length counts.new.classes.items ≡ length counts.old.classes.items) }
     ensures counts { OnOk result (AreTold layers.now (suc k) 0 counts.new) }
 {
-    let mut next = blank(alloc, width_at(layers, k + 1))?;
+    let mut next = blank(alloc, room, width_at(layers, k + 1))?;
     for (s, count) in table.iter().enumerate() {
         spread(alloc, layers, k, s, count, next.as_mut_slice())?;
         tell(alloc, layers, k, s, count, counts)?;
@@ -145,12 +156,13 @@ pub(crate) fn count_layers(
     ensures counts { IfOk result (λ counts. AreCounts layers.now counts) }
 {
     let mut counts = Counts {
-        classes: blank(alloc, classes)?,
+        classes: blank(alloc, classes, classes)?,
         all: Count::none(),
     };
-    let mut table = first_table(alloc, layers)?;
+    let room = widest(layers);
+    let mut table = first_table(alloc, layers, room)?;
     for k in 0..layers.len() {
-        table = passed(alloc, layers, k, table.as_slice(), &mut counts)?;
+        table = passed(alloc, layers, room, k, table.as_slice(), &mut counts)?;
     }
     Ok(counts)
 }

@@ -15,5 +15,5 @@ mod laws;
 
 pub use count::{COUNT_CAP, Count, Counts, LABELS_IN_PLACE, Least, is_not_after};
 pub use fault::SearchFault;
-pub use graph::{EDGES_IN_PLACE, Edge, Graph, Node};
+pub use graph::{EDGES_IN_PLACE, Edge, Graph, Node, Place};
 pub use laws::count_cap_is_a_number;

@@ -3,7 +3,9 @@ ghost use Rattle.std.specs.Prelude.{Some, IfOk};
 ghost use Rattle.schedule_graph.specs.Words.{AreApart, IsLayer, edges_from};
 
 use path_text::NoMemory;
-use schedule_graph::{COUNT_CAP, Count, Counts, EDGES_IN_PLACE, Edge, Graph, Node, is_not_after};
+use schedule_graph::{
+    COUNT_CAP, Count, Counts, EDGES_IN_PLACE, Edge, Graph, Node, Place, is_not_after,
+};
 use smallvec::SmallVec;
 use std::alloc::Global;
 use std::test::Fail;
@@ -115,7 +117,7 @@ fn edges_of(
             label,
             cut: *mark % 2 == 1,
             change: *mark >= 2,
-            to: *to,
+            to: Place::of(*to),
         })?;
     }
     Ok(edges)
@@ -261,4 +263,30 @@ fn first_out_of_order() -> Option<usize> {
 #[test]
 fn words_are_in_order(rt: HostRuntime) {
     assert_eq!(rt; first_out_of_order(), None);
+}
+
+/// Numbers around the bound of a half, and the ends of the range.
+const NUMBERS: [usize; 7] = [
+    0,
+    1,
+    4_294_967_295,
+    4_294_967_296,
+    4_294_967_297,
+    1_311_768_467_463_790_320,
+    18_446_744_073_709_551_615,
+];
+
+/// The first number that isn't the one of its place.
+fn first_other_number() -> Option<usize> {
+    for number in NUMBERS {
+        if Place::of(number).number() != number {
+            return Some(number);
+        }
+    }
+    None
+}
+
+#[test]
+fn a_place_is_its_number(rt: HostRuntime) {
+    assert_eq!(rt; first_other_number(), None);
 }

@@ -1,7 +1,9 @@
-use Rattle.std.proofs.Common.{◌∙◌, ap, Some, arith}
+use Rattle.std.proofs.Common.{◌∙◌, ap, get_or, Some, arith}
+use Rattle.schedule_graph.specs.declared.graph.Edge.{Edge}
+use Rattle.schedule_graph.specs.Adding.{went, added}
 use Rattle.schedule_graph.proofs.Spreading.{spread_ends, spread_unreached, spread_begun, spread_ended, spread_not, spread_on, cuts_fit}
 use Rattle.schedule_graph.proofs.counting.spread.Goals as goal
-use Rattle.schedule_graph.proofs.counting.spread.Goals.{then-edge-next+in_ok-add_by, else-edge-next}
+use Rattle.schedule_graph.proofs.counting.spread.Goals.{then-to-next+in_ok-add_by, else-to-next}
 
 pub returns-in_default : goal.returns-in_default
 returns-in_default c =
@@ -30,16 +32,18 @@ add_by-requires-clause-labels c =
 
 pub loop-edge-preserved : goal.loop-edge-preserved
 loop-edge-preserved c =
-    elim c.if-edge-next.branch [
-      | then-edge-next+in_ok-add_by w ↦
+    elim c.if-to-next.branch [
+      | then-to-next+in_ok-add_by w ↦
           spread_on c.args.layers.now c.args.k c.args.s c.in-Goes.edges c.requires.layers (c.node_at.ensures ∙ ap (λ x. Some x) c.in-Goes.is)
           c.as_slice-edge-items.result.now c.as_slice-edge-items.ensures
-          c.loop-edge.next c.loop-edge.edge-index c.loop-edge-test.true _ c.loop-edge.invariant c.args.count.now c.in-Some.least c.requires.count c.in-Some.is
-          c.if-edge-next.next w.index-next-edge.result w.add_by.new.self w.next-is w.in_ok-add_by.ensures w.if-edge-next.true
-      | else-edge-next w ↦
+          c.loop-edge.next c.loop-edge.edge-index c.loop-edge-test.true _ c.loop-edge.invariant c.number-to.result (c.number-to.ensures ∙ ap (λ (e : Edge). e.to) c.edge-item.is) c.args.count.now c.in-Some.least c.requires.count c.in-Some.is
+          c.if-to-next.next w.index-next-to.result w.add_by.new.self w.next-is
+          (w.in_ok-add_by.ensures ∙ ap (λ (e : Edge). added (get_or c.loop-edge.next c.number-to.result w.index-next-to.result) c.args.count.now.words (went c.in-Some.least e)) c.edge-item.is)
+          w.if-to-next.true
+      | else-to-next w ↦
           spread_not c.args.layers.now c.args.k c.args.s c.in-Goes.edges c.requires.layers (c.node_at.ensures ∙ ap (λ x. Some x) c.in-Goes.is)
           c.as_slice-edge-items.result.now c.as_slice-edge-items.ensures
-          c.loop-edge.next c.loop-edge.edge-index c.loop-edge-test.true _ c.loop-edge.invariant c.if-edge-next.next w.next-is w.if-edge-next.false
+          c.loop-edge.next c.loop-edge.edge-index c.loop-edge-test.true _ c.loop-edge.invariant c.number-to.result (c.number-to.ensures ∙ ap (λ (e : Edge). e.to) c.edge-item.is) c.if-to-next.next w.next-is w.if-to-next.false
     ]
 
 pub returns : goal.returns
